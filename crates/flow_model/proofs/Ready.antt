@@ -4,6 +4,7 @@ use Rattle.std.proofs.lemmas.Bool.Decides.{nat_tests}
 use Rattle.flow_packet.specs.Tree.{Tree, kind_of, id_of}
 use Rattle.flow_packet.specs.Hands.{packet_at}
 use Rattle.flow_packet.specs.Ids.{maker_of, ordinal_of}
+use Rattle.flow_packet.specs.Edits.{hands_limit}
 use Rattle.flow_packet.specs.Held.{Held, Sound, without_packet}
 use Rattle.flow_component.specs.declared.Answer.{Answer}
 use Rattle.flow_component.specs.declared.Answer.TheVariants as answers
@@ -16,7 +17,7 @@ use Rattle.flow_model.specs.declared.Stage.TheVariants as stages
 use Rattle.flow_model.specs.States.{Process, Channel, State, outlets}
 use Rattle.flow_model.specs.Events.{Event, Starts, Finishes, Gets, Takes_text, Hears_end, Sends, Learns, Sleeps, Closes, event_of}
 use Rattle.flow_model.specs.Turns.{process_after, limited, closing, closing_on, turn_limit}
-use Rattle.flow_model.specs.Works.{judged, sending, nests, hands_limit, worked}
+use Rattle.flow_model.specs.Works.{judged, sending, nests, worked}
 use Rattle.flow_model.specs.Places.{OnePlaceCounted, made_count, made_by}
 use Rattle.flow_model.specs.Valid.{ReadyAt, IsNested, SmallCapacities}
 use Rattle.flow_model.proofs.Inverse.{explains}

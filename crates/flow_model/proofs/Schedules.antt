@@ -4,7 +4,7 @@ use Rattle.std.proofs.lemmas.Bool.Decides.{nat_tests}
 use Rattle.flow_packet.specs.Tree.{Tree, kind_of}
 use Rattle.flow_packet.specs.Hands.{packet_at}
 use Rattle.flow_packet.specs.Held.{Held}
-use Rattle.flow_packet.specs.Edits.{ComesBy}
+use Rattle.flow_packet.specs.Edits.{ComesBy, hands_limit}
 use Rattle.flow_packet.proofs.Comes.{Keeps, MakesOne, comes}
 use Rattle.flow_component.specs.declared.Answer.{Answer}
 use Rattle.flow_component.specs.declared.Answer.TheVariants as answers
@@ -18,7 +18,7 @@ use Rattle.flow_model.specs.declared.Stage.TheVariants as stages
 use Rattle.flow_model.specs.States.{Process, Channel, State, change_at, changed}
 use Rattle.flow_model.specs.Events.{Event, Starts, Finishes, Gets, Takes_text, Hears_end, Sends, Learns, Sleeps, Closes, Look, looks, stage_event}
 use Rattle.flow_model.specs.Turns.{process_after, channel_after, channels_after, limited, closing, closing_on, turn_limit, Turn}
-use Rattle.flow_model.specs.Works.{judged, sending, nests, hands_limit, worked, Work}
+use Rattle.flow_model.specs.Works.{judged, sending, nests, worked, Work}
 use Rattle.flow_model.specs.Schedules.{Settles, WorksLead, LeadsBy, Leads, Journal, Step, Turned, Worked, Reaches}
 use Rattle.flow_model.specs.Places.{OnePlaceCounted}
 use Rattle.flow_model.specs.Valid.{ReadyAt, owed, least_left, GoodProcess, SmallCapacities, Valid}
@@ -214,7 +214,7 @@ maker-comes : (old new : Held) → Keeps old new ⊎ MakesOne old new → (new.m
 maker-comes old new (inl keeps) = (keeps.maker, omega (arith, keeps.made))
 maker-comes old new (inr one) = (one.maker, omega (arith, one.made))
 
-comes-of : {K : Type 0} (shape : Shape) (uses : ℕ → Bool) (old : Held) (outcome : Outcome K) → Obeys shape uses old outcome → ComesBy old (held_after outcome)
+pub comes-of : {K : Type 0} (shape : Shape) (uses : ℕ → Bool) (old : Held) (outcome : Outcome K) → Obeys shape uses old outcome → ComesBy old (held_after outcome)
 comes-of shape uses old (Wishes part held wish) obeys = obeys.0
 comes-of shape uses old (Fails part held cause) obeys = obeys.0
 

@@ -1,0 +1,130 @@
+-- What a running net keeps holds at the start, and every turn and every work keeps it.
+use Rattle.std.proofs.Common.{◌≡◌, ℕ, ◌+◌, ◌<◌, ◌≤◌, Bool, List, [], ◌∷◌, length, Some, refl, ap, arith, sym, subst, ◌∙◌, slice_get, slice_set, length-append, ◌⊎◌, inl, inr}
+use Rattle.flow_packet.specs.declared.packet.Kind.TheVariants as kinds
+use Rattle.flow_packet.specs.Tree.{Tree, id_of, packet_of}
+use Rattle.flow_packet.specs.Edits.{hands_limit}
+use Rattle.flow_packet.specs.Held.{Held, next_id}
+use Rattle.flow_packet.proofs.Roots.{length-without, few-comes}
+use Rattle.flow_component.specs.declared.Answer.{Answer}
+use Rattle.flow_component.specs.declared.Answer.TheVariants as answers
+use Rattle.flow_component.specs.declared.Shape.{Shape}
+use Rattle.flow_component.specs.Laws.{Outcome, Wishes, Fails, held_after, Obeys, StaysReady, IsSteady}
+use Rattle.flow_model.specs.declared.Stage.{Stage}
+use Rattle.flow_model.specs.declared.Stage.TheVariants as stages
+use Rattle.flow_model.specs.States.{Process, Channel, State}
+use Rattle.flow_model.specs.Events.{Event, Starts, Finishes, Gets, Takes_text, Hears_end, Sends, Learns, Sleeps, Closes, event_of}
+use Rattle.flow_model.specs.Turns.{process_after, Turn}
+use Rattle.flow_model.specs.Works.{worked, Work}
+use Rattle.flow_model.specs.Schedules.{Settles, WorksLead, LeadsBy, Leads, Journal, Step, Turned, Worked, Reaches}
+use Rattle.flow_model.specs.Plans.{Plan, start_of, StartsWell}
+use Rattle.flow_model.specs.Valid.{ReadyAt, IsGranted}
+use Rattle.flow_model.specs.Fit.{Fit, FewAtRoot}
+use Rattle.flow_model.proofs.Lists.{slice_get-set_same, slice_get-set_other, same_or_not}
+use Rattle.flow_model.proofs.Inverse.{explains}
+use Rattle.flow_model.proofs.Places.{held-worked}
+use Rattle.flow_model.proofs.Ready.{sound-hands}
+use Rattle.flow_model.proofs.Schedules.{Valid-turn, Valid-work, comes-of}
+use Rattle.flow_model.proofs.Blocks.{AllFit-turn, AllFit-work, AllFit-start}
+use Rattle.flow_model.proofs.Start.{Valid-start, start-process}
+
+-- a turn leaves at most 4,096 packets at the root: what is received finds room
+few-after : {K : Type 0} (channels : List Channel) (x : Process K) (n : ℕ) (e : Event) → event_of channels x n ≡ Some e → IsGranted x x.stage → length x.held.packets ≤ hands_limit → length (process_after x e).held.packets ≤ hands_limit
+few-after channels x n Starts is granted few = few
+few-after channels x n Finishes is granted few = few
+few-after channels x n (Gets port c packet) is granted few =
+    let from = explains channels x n (Gets port c packet) is in
+    let room = subst (IsGranted x) from.stage granted in
+    omega (arith, room.1, length-append x.held.packets (packet ∷ []))
+few-after channels x n (Takes_text port text) is granted few =
+    let from = explains channels x n (Takes_text port text) is in
+    let room = subst (IsGranted x) from.stage granted in
+    omega (arith, room.1, length-append x.held.packets (packet_of (next_id x.held) kinds.Normal text [] ∷ []))
+few-after channels x n (Hears_end port) is granted few = few
+few-after channels x n (Sends port c packet) is granted few = omega (arith, few, length-without x.held.packets (id_of packet))
+few-after channels x n (Learns port level) is granted few = few
+few-after channels x n Sleeps is granted few = few
+few-after channels x n (Closes output c) is granted few = few
+
+-- the other processes hold what they held
+few-set : {K : Type 0} (processes : List (Process K)) (p : ℕ) (x y : Process K) → slice_get processes p ≡ Some x → FewAtRoot processes → length y.held.packets ≤ hands_limit → FewAtRoot (slice_set processes p y)
+few-set {K} processes p x y there old new q z is = elim (same_or_not q p) [
+  | inl same ↦ (let h : Some y ≡ Some z = sym (ap (slice_get (slice_set processes p y)) same ∙ slice_get-set_same processes p x y there) ∙ is in
+      let y_is : y ≡ z = cc in subst (λ (w : Process K). length w.held.packets ≤ hands_limit) y_is new)
+  | inr other ↦ old q z (sym (slice_get-set_other processes p q y other) ∙ is)
+]
+
+-- a turn keeps it
+pub Fit-turn : {K : Type 0} (shape_of : K → Shape) (uses : K → ℕ → Bool) (ready : K → Held → Answer → Type 0) (s : State K) (p : ℕ) (event : Event) (s' : State K) → Turn s p event s' → Fit shape_of uses ready s → Fit shape_of uses ready s'
+Fit-turn shape_of uses ready s p event s' turn fit =
+    let x = turn.kept.before in
+    let there = turn.kept.there in
+    record {
+      valid = Valid-turn ready s p event s' turn fit.valid;
+      all_fit = AllFit-turn shape_of uses s p event s' turn fit.all_fit;
+      few = rw turn.kept.processes (few-set s.kept.processes p x (process_after x event) there fit.few
+      (few-after s.kept.channels x turn.kept.level event turn.kept.happens (fit.all_fit p x there).granted (fit.few p x there)));
+    }
+
+-- at the start nothing is held
+few-start : {K : Type 0} (plan : Plan) (parts : List K) → FewAtRoot (start_of plan parts).kept.processes
+few-start {K} plan parts p x is =
+    let none : x.held.packets ≡ [] = ap (λ (z : Process K). z.held.packets) (start-process plan parts p x is).is in
+    rw none (omega arith)
+
+-- it holds at the start of a plan with components that fit
+pub Fit-start : {K : Type 0} (shape_of : K → Shape) (uses : K → ℕ → Bool) (ready : K → Held → Answer → Type 0) (plan : Plan) (parts : List K) → StartsWell shape_of uses ready plan parts → Fit shape_of uses ready (start_of plan parts)
+Fit-start shape_of uses ready plan parts well = record {
+  valid = Valid-start ready shape_of uses plan parts well;
+  all_fit = AllFit-start shape_of uses ready plan parts well;
+  few = few-start plan parts;
+}
+
+-- along every schedule, of components that keep the laws
+module _ {K : Type 0} (shape_of : K → Shape) (uses : K → ℕ → Bool) (ready : K → Held → Answer → Type 0) (next : K → Held → Answer → Outcome K → Type 0)
+    (obeys : (part : K) (held : Held) (answer : Answer) (outcome : Outcome K) → ready part held answer → next part held answer outcome → Obeys (shape_of part) (uses part) held outcome)
+    (stays : (part : K) (held : Held) (answer : Answer) (outcome : Outcome K) → ready part held answer → next part held answer outcome → StaysReady ready outcome)
+    (steady : (part : K) (held : Held) (answer : Answer) (outcome : Outcome K) → next part held answer outcome → IsSteady shape_of uses part outcome) where
+  -- a work keeps it
+  pub Fit-work : (s : State K) (p : ℕ) (s' : State K) → Work next s p s' → Fit shape_of uses ready s → Fit shape_of uses ready s'
+  Fit-work s p s' work fit =
+      let x = work.before in
+      let there = work.kept.there in
+      let told = work.kept.told in
+      let was = fit.valid.each p x there in
+      let below : x.held.made < 4294967296 = omega (arith, was.made, was.turns) in
+      let sound = sound-hands s p x there was.maker below fit.valid.one_place in
+      let now : ready x.part x.held work.kept.answer = subst (ReadyAt (ready x.part) x.held) told was.is_ready sound in
+      let lawful = obeys x.part x.held work.kept.answer work.outcome now work.kept.comes in
+      let few : length (worked x work.outcome).held.packets ≤ hands_limit =
+      subst (λ (h : Held). length h.packets ≤ hands_limit) (sym (held-worked x work.outcome)) (few-comes x.held (held_after work.outcome) (comes-of (shape_of x.part) (uses x.part) x.held work.outcome lawful) (fit.few p x there)) in
+      record {
+        valid = Valid-work ready next shape_of uses obeys stays s p s' work fit.valid;
+        all_fit = AllFit-work shape_of uses next s p s' work lawful (steady x.part x.held work.kept.answer work.outcome work.kept.comes) fit.all_fit;
+        few = rw work.kept.processes (few-set s.kept.processes p x (worked x work.outcome) there fit.few few);
+      }
+
+  -- doing a pending work, or none, keeps it
+  pub Fit-settles : (s : State K) (p : ℕ) (s' : State K) → Settles next s p s' → Fit shape_of uses ready s → Fit shape_of uses ready s'
+  Fit-settles s p s' (inl none) fit = subst (Fit shape_of uses ready) (sym none.1) fit
+  Fit-settles s p s' (inr work) fit = Fit-work s p s' work fit
+
+  -- works keep it
+  pub Fit-works : (s : State K) (ps : List ℕ) (s' : State K) → WorksLead next s ps s' → Fit shape_of uses ready s → Fit shape_of uses ready s'
+  Fit-works s [] s' is fit = subst (Fit shape_of uses ready) (sym is) fit
+  Fit-works s (p ∷ ps) s' lead fit = Fit-works lead.0 ps s' lead.2 (Fit-work s p lead.0 lead.1 fit)
+
+  -- every list of turns and works keeps it
+  pub Fit-reaches : (s : State K) (steps : List Step) (s' : State K) → Fit shape_of uses ready s → Reaches next s steps s' → Fit shape_of uses ready s'
+  Fit-reaches s [] s' fit is = subst (Fit shape_of uses ready) (sym is) fit
+  Fit-reaches s (Turned p seen ∷ steps) s' fit reaches = Fit-reaches reaches.1 steps s' (Fit-turn shape_of uses ready s p reaches.0 reaches.1 reaches.2 fit) reaches.4
+  Fit-reaches s (Worked p ∷ steps) s' fit reaches = Fit-reaches reaches.0 steps s' (Fit-work s p reaches.0 reaches.1 fit) reaches.2
+
+  Fit-leads_by : (s : State K) (turns seen : List ℕ) (s' : State K) → Fit shape_of uses ready s → LeadsBy next s turns seen s' → Fit shape_of uses ready s'
+  Fit-leads_by s [] seen s' fit is = subst (Fit shape_of uses ready) (sym is.1) fit
+  Fit-leads_by s (p ∷ turns) seen s' fit leads =
+      let whole = leads.3 in
+      Fit-leads_by leads.1 turns leads.2 s' (Fit-settles whole.0 p leads.1 whole.2 (Fit-turn shape_of uses ready s p leads.0 whole.0 whole.1 fit)) leads.5
+
+  -- every schedule keeps it
+  pub Fit-leads : (s : State K) (journal : Journal) (s' : State K) → Fit shape_of uses ready s → Leads next s journal s' → Fit shape_of uses ready s'
+  Fit-leads s journal s' fit leads = Fit-leads_by s journal.turns journal.seen s' fit leads
