@@ -1,0 +1,58 @@
+-- What a plan is seen as.
+use Rattle.std.specs.Prelude.{◌≡◌, ℕ, ◌+◌, ◌<◌, ◌≤◌, ◌==◌, if◌then◌else◌, Bool, true, false, List, [], ◌∷◌, ◌++◌, map, filter, length, Option, Some, None, slice_get, codes}
+use Rattle.std.specs.List.{flat_map, range_with_len}
+use Rattle.std.specs.Fmt.{decimal}
+use Rattle.flow_net.specs.declared.kind.PortClass.{PortClass}
+use Rattle.flow_net.specs.declared.kind.PortClass.TheVariants.{Stream, Number, Fields, File}
+use Rattle.flow_net.specs.declared.kind.PortSpec.{PortSpec}
+use Rattle.flow_net.specs.declared.kind.PortRef.{PortRef}
+use Rattle.flow_net.specs.declared.plan.Process.{Process}
+use Rattle.flow_net.specs.declared.plan.Connection.{Connection}
+use Rattle.flow_net.specs.declared.plan.PortRow.{PortRow}
+use Rattle.flow_net.specs.declared.plan.PortTable.{PortTable}
+
+-- A network before it runs: its processes and connections in order, and the ports of each process.
+pub record Network : Type 0 where
+  pub processes : List Process
+  pub connections : List Connection
+  pub tables : List PortTable
+
+-- A port that carries packets.
+abbrev pub is_stream : PortClass → Bool
+is_stream Stream = true
+is_stream (Number least most) = false
+is_stream Fields = false
+is_stream File = false
+
+-- The numbered elements of a port: of a stream array each by its number, of another stream port the port alone, of an option port none.
+abbrev pub elements_of : PortRow → List PortRef
+elements_of row =
+    if is_stream row.spec.class then (if row.spec.array then map (λ e. record { name = row.spec.name; element = Some e }) (range_with_len 0 row.elements) else record { name = row.spec.name; element = None } ∷ []) else []
+
+-- The ports on one side of a process by their numbers: the elements of each port in the order of the table.
+abbrev pub ports_of : List PortRow → List PortRef
+ports_of rows = flat_map elements_of rows
+
+abbrev pub spelled_element : Option ℕ → List ℕ
+spelled_element None = []
+spelled_element (Some e) = codes "[" ++ decimal e ++ codes "]"
+
+-- A port as a report spells it: its name, with the element of an array in brackets.
+abbrev pub spelled : PortRef → List ℕ
+spelled port = port.name ++ spelled_element port.element
+
+-- Input number i of process p is this port.
+abbrev pub IsInput : Network → ℕ → ℕ → PortRef → Type 0
+IsInput network p i port = (table : PortTable) × (slice_get network.tables p ≡ Some table) × (slice_get (ports_of table.inputs) i ≡ Some port)
+
+-- Output number o of process p is this port.
+abbrev pub IsOutput : Network → ℕ → ℕ → PortRef → Type 0
+IsOutput network p o port = (table : PortTable) × (slice_get network.tables p ≡ Some table) × (slice_get (ports_of table.outputs) o ≡ Some port)
+
+-- Process p has an input of this number.
+abbrev pub HasInput : Network → ℕ → ℕ → Type 0
+HasInput network p i = (process : Process) × (slice_get network.processes p ≡ Some process) × (i < process.inputs)
+
+-- Process p has an output of this number.
+abbrev pub HasOutput : Network → ℕ → ℕ → Type 0
+HasOutput network p o = (process : Process) × (slice_get network.processes p ≡ Some process) × (o < process.outputs)

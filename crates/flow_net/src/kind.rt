@@ -1,0 +1,37 @@
+//! Kinds of processes, and how a port is named.
+use flow_items::{Items, Text};
+
+/// What a port carries. A stream port carries packets. An option port is given one text before the
+/// network runs: a decimal number within bounds, a list of field lengths, or the name of a file.
+#[derive(Clone, Copy, Debug, PartialEq, Eq)]
+pub enum PortClass {
+    Stream,
+    Number { least: u64, most: u64 },
+    Fields,
+    File,
+}
+
+/// A port in the table of its kind. An array port has elements, numbered from 0. A port that is needed
+/// has to be connected, or given its text.
+#[derive(Debug, Drop)]
+pub struct PortSpec {
+    pub name: Text,
+    pub class: PortClass,
+    pub array: bool,
+    pub needed: bool,
+}
+
+/// A kind of process, with its ports on both sides in the order of their numbers.
+#[derive(Debug, Drop)]
+pub struct KindSpec {
+    pub name: Text,
+    pub inputs: Items<PortSpec>,
+    pub outputs: Items<PortSpec>,
+}
+
+/// A port as a network names it. An array port that is named without an element means element 0.
+#[derive(Debug, Drop, PartialEq, Eq)]
+pub struct PortRef {
+    pub name: Text,
+    pub element: Option<u32>,
+}

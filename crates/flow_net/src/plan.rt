@@ -1,0 +1,86 @@
+//! A plan: what a network is before it runs.
+ghost use Rattle.std.specs.Prelude.{◌≡◌, ◌<◌, ◌++◌, [], ◌∷◌, length, Some, IfOk, slice_get};
+ghost use Rattle.std.specs.Option.{option_map};
+
+use crate::kind::PortSpec;
+use flow_items::{Items, Text};
+use std::alloc::{AllocError, Global};
+use std::marker::Model;
+
+/// An output of a process, by numbers.
+#[derive(Clone, Copy, Debug, PartialEq, Eq)]
+pub struct Sender {
+    pub process: u32,
+    pub output: u32,
+}
+
+/// A process: its name and kind, its options by the places of their ports in the kind's table, its
+/// initial texts by input number, and its numbers of inputs and outputs.
+///
+/// Inputs are numbered in the order of the kind's stream ports with arrays written out, and outputs in
+/// the order of its output ports. An output that isn't connected keeps its number.
+#[derive(Debug, Drop)]
+pub struct Process {
+    pub name: Text,
+    pub kind: Text,
+    pub options: Items<(u32, Text)>,
+    pub initials: Items<(u32, Text)>,
+    pub inputs: u32,
+    pub outputs: u32,
+}
+
+/// A connection: the input that receives from it, its capacity, and its senders in the order in which
+/// they were connected.
+#[derive(Debug, Drop)]
+pub struct Connection {
+    pub receiver: u32,
+    pub input: u32,
+    pub capacity: u32,
+    pub senders: Items<Sender>,
+}
+
+/// A port of a process, with the number of its elements.
+#[derive(Drop)]
+pub struct PortRow {
+    pub spec: PortSpec,
+    pub elements: u32,
+}
+
+/// The ports of a process, in the order of its kind's table.
+#[derive(Drop)]
+pub struct PortTable {
+    pub inputs: Items<PortRow>,
+    pub outputs: Items<PortRow>,
+}
+
+/// A network before it runs. A `Plan` in hand is a valid network.
+#[derive(Drop)]
+pub struct Plan {
+    pub(crate) processes: Vec<Process>,
+    pub(crate) connections: Vec<Connection>,
+    pub(crate) tables: Vec<PortTable>,
+}
+
+impl Model for Plan {
+    ghost use Rattle.flow_net.specs.Network.{Network};
+
+    ghost Value = { Network };
+
+    ghost view = { λ p. record { processes = p.processes.items; connections = p.connections.items; tables = p.tables.items } };
+}
+
+impl Plan {
+    /// The processes, in the order of their numbers.
+    pub fn processes(&self) -> &[Process]
+        ensures { result.now ≡ self.now.processes }
+    {
+        self.processes.as_slice()
+    }
+
+    /// The connections, in the order in which they were first named.
+    pub fn connections(&self) -> &[Connection]
+        ensures { result.now ≡ self.now.connections }
+    {
+        self.connections.as_slice()
+    }
+}
