@@ -1,0 +1,9 @@
+use Rattle.flow_model.specs.Plans.{start_of}
+use Rattle.flow_model.proofs.Fits.{Fit-start, Fit-leads}
+use Rattle.flow_model.proofs.Judging.{one-verdict}
+use Rattle.flow_model.proofs.laws.every_schedule_ends_in_one_verdict.Goals as goal
+
+pub returns : goal.returns
+returns g c = λ plan parts journal s well leads.
+    one-verdict g.K.Component.shape_of g.K.Component.uses g.K.Component.ready s
+    (Fit-leads g.K.Component.shape_of g.K.Component.uses g.K.Component.ready g.K.Component.next g.met.K.Component.obeys g.met.K.Component.stays_ready g.met.K.Component.steady (start_of plan parts) journal s (Fit-start g.K.Component.shape_of g.K.Component.uses g.K.Component.ready plan parts well) leads)

@@ -1,0 +1,43 @@
+//! What holds of every schedule: each law is the contract of a function that does nothing.
+ghost use Rattle.flow_model.specs.Laws.{KeepsPackets, KeepsOrder, KeepsPrefixes, KeepsOpen, KeepsFew, HasOneVerdict, RoundRobinLeads, IsOneRoundRobin, HasPrefixes, TurnsAreSchedule};
+
+use flow_component::Component;
+
+/// After every schedule from the start of a plan whose components fit, whatever these choose, each packet is in one place and
+/// each connection is in order; and so it is after every prefix, and after every list of turns and works.
+pub fn every_schedule_keeps_the_packets<K: Component>()
+    ensures one_place { KeepsPackets K.shape_of K.uses K.ready K.next }
+    ensures in_order { KeepsOrder K.shape_of K.uses K.ready K.next }
+    ensures prefixes { KeepsPrefixes K.shape_of K.uses K.ready K.next }
+    ensures while_open { KeepsOpen K.shape_of K.uses K.ready K.next }
+{}
+
+/// After every schedule from such a start no process holds more than 4,096 packets at the root of its hands.
+pub fn every_schedule_keeps_the_hands_limit<K: Component>()
+    ensures { KeepsFew K.shape_of K.uses K.ready K.next }
+{}
+
+/// After every schedule from such a start exactly one verdict holds.
+pub fn every_schedule_ends_in_one_verdict<K: Component>()
+    ensures { HasOneVerdict K.shape_of K.uses K.ready K.next }
+{}
+
+/// A round robin is a schedule.
+pub fn round_robins_are_schedules<K: Component>()
+    ensures { RoundRobinLeads K.next }
+{}
+
+/// From a state there is at most one round robin, where components come to one result.
+pub fn there_is_one_round_robin<K: Component>()
+    ensures { IsOneRoundRobin K.next }
+{}
+
+/// A schedule has a prefix of each length.
+pub fn schedules_have_prefixes<K: Component>()
+    ensures { HasPrefixes K.next }
+{}
+
+/// Turns and works in any order are, with the pending works done, a schedule.
+pub fn turns_and_works_are_schedules<K: Component>()
+    ensures { TurnsAreSchedule K.next }
+{}
