@@ -1,16 +1,13 @@
 -- What a running net keeps holds at the start, and every turn and every work keeps it.
-use Rattle.std.proofs.Common.{◌≡◌, ℕ, ◌+◌, ◌<◌, ◌≤◌, Bool, List, [], ◌∷◌, length, Some, refl, ap, arith, sym, subst, ◌∙◌, slice_get, slice_set, length-append, ◌⊎◌, inl, inr}
+use Rattle.std.proofs.Common.{◌≡◌, ℕ, ◌<◌, ◌≤◌, Bool, List, [], ◌∷◌, length, Some, ap, arith, sym, subst, ◌∙◌, slice_get, slice_set, length-append, inl, inr}
 use Rattle.flow_packet.specs.declared.packet.Kind.TheVariants as kinds
-use Rattle.flow_packet.specs.Tree.{Tree, id_of, packet_of}
+use Rattle.flow_packet.specs.Tree.{id_of, packet_of}
 use Rattle.flow_packet.specs.Edits.{hands_limit}
 use Rattle.flow_packet.specs.Held.{Held, next_id}
 use Rattle.flow_packet.proofs.Roots.{length-without, few-comes}
 use Rattle.flow_component.specs.declared.Answer.{Answer}
-use Rattle.flow_component.specs.declared.Answer.TheVariants as answers
 use Rattle.flow_component.specs.declared.Shape.{Shape}
-use Rattle.flow_component.specs.Laws.{Outcome, Wishes, Fails, held_after, Obeys, StaysReady, IsSteady}
-use Rattle.flow_model.specs.declared.Stage.{Stage}
-use Rattle.flow_model.specs.declared.Stage.TheVariants as stages
+use Rattle.flow_component.specs.Laws.{Outcome, held_after, Obeys, StaysReady, IsSteady}
 use Rattle.flow_model.specs.States.{Process, Channel, State}
 use Rattle.flow_model.specs.Events.{Event, Starts, Finishes, Gets, Takes_text, Hears_end, Sends, Learns, Sleeps, Closes, event_of}
 use Rattle.flow_model.specs.Turns.{process_after, Turn}
@@ -26,6 +23,7 @@ use Rattle.flow_model.proofs.Ready.{sound-hands}
 use Rattle.flow_model.proofs.Schedules.{Valid-turn, Valid-work, comes-of}
 use Rattle.flow_model.proofs.Blocks.{AllFit-turn, AllFit-work, AllFit-start}
 use Rattle.flow_model.proofs.Start.{Valid-start, start-process}
+use Rattle.flow_model.proofs.Leaving.{OpenSendersTell-turn, OpenSendersTell-work, OpenSendersTell-start}
 
 -- a turn leaves at most 4,096 packets at the root: what is received finds room
 few-after : {K : Type 0} (channels : List Channel) (x : Process K) (n : ℕ) (e : Event) → event_of channels x n ≡ Some e → IsGranted x x.stage → length x.held.packets ≤ hands_limit → length (process_after x e).held.packets ≤ hands_limit
@@ -62,7 +60,8 @@ Fit-turn shape_of uses ready s p event s' turn fit =
       valid = Valid-turn ready s p event s' turn fit.valid;
       all_fit = AllFit-turn shape_of uses s p event s' turn fit.all_fit;
       few = rw turn.kept.processes (few-set s.kept.processes p x (process_after x event) there fit.few
-      (few-after s.kept.channels x turn.kept.level event turn.kept.happens (fit.all_fit p x there).granted (fit.few p x there)));
+          (few-after s.kept.channels x turn.kept.level event turn.kept.happens (fit.all_fit p x there).granted (fit.few p x there)));
+      senders = OpenSendersTell-turn s p event s' turn fit.senders;
     }
 
 -- at the start nothing is held
@@ -77,6 +76,7 @@ Fit-start shape_of uses ready plan parts well = record {
   valid = Valid-start ready shape_of uses plan parts well;
   all_fit = AllFit-start shape_of uses ready plan parts well;
   few = few-start plan parts;
+  senders = OpenSendersTell-start shape_of uses ready plan parts well;
 }
 
 -- along every schedule, of components that keep the laws
@@ -101,6 +101,7 @@ module _ {K : Type 0} (shape_of : K → Shape) (uses : K → ℕ → Bool) (read
         valid = Valid-work ready next shape_of uses obeys stays s p s' work fit.valid;
         all_fit = AllFit-work shape_of uses next s p s' work lawful (steady x.part x.held work.kept.answer work.outcome work.kept.comes) fit.all_fit;
         few = rw work.kept.processes (few-set s.kept.processes p x (worked x work.outcome) there fit.few few);
+        senders = OpenSendersTell-work next s p s' work fit.senders;
       }
 
   -- doing a pending work, or none, keeps it

@@ -1,6 +1,5 @@
 -- In each state one verdict holds, and one only.
-use Rattle.std.proofs.Common.{◌≡◌, ◌≢◌, ℕ, List, [], ◌∷◌, Option, Some, None, Bool, true, false, refl, ap, sym, subst, ◌∙◌, zero, suc, ◌⊎◌, inl, inr, IsSome, slice_get}
-use Rattle.std.specs.Prelude.{option_and_then}
+use Rattle.std.proofs.Common.{◌≡◌, ◌≢◌, ℕ, List, [], ◌∷◌, Option, Some, None, Bool, refl, ap, sym, subst, ◌∙◌, zero, suc, ◌⊎◌, inl, inr, IsSome, slice_get}
 use Rattle.flow_packet.specs.Held.{Held}
 use Rattle.flow_component.specs.declared.Answer.{Answer}
 use Rattle.flow_component.specs.declared.Fail.{Fail}
@@ -10,7 +9,7 @@ use Rattle.flow_model.specs.declared.Stage.TheVariants as stages
 use Rattle.flow_model.specs.declared.Block.{Block}
 use Rattle.flow_model.specs.States.{Process, Channel, State}
 use Rattle.flow_model.specs.Events.{Event, looks, event_from, event_of, stage_event}
-use Rattle.flow_model.specs.Verdicts.{HasNoTurn, exact_level, block_of, Quiet, AllEnded, SomeFailed, IsFinished, IsFailed, IsDeadlock, IsRunning, OneVerdict}
+use Rattle.flow_model.specs.Verdicts.{exact_level, block_of, Quiet, AllEnded, SomeFailed, OneVerdict}
 use Rattle.flow_model.specs.Fit.{Fit}
 use Rattle.flow_model.proofs.Blocks.{IsOverOrOwes, turn-or-block, block-no_turn}
 

@@ -18,17 +18,17 @@ use Rattle.flow_packet.specs.Hands.{packet_at}
 use Rattle.flow_packet.specs.Edits.{hands_limit}
 use Rattle.flow_model.specs.declared.Stage.{Stage}
 use Rattle.flow_model.specs.declared.Stage.TheVariants as stages
-use Rattle.flow_model.specs.States.{Sender, is_sender, without_sender, Process, Channel, State, Outlet, outlets, outlets_from, output_at, change_at, changed}
+use Rattle.flow_model.specs.States.{Sender, is_sender, without_sender, Process, Channel, State, Outlet, outlets, outlets_from, change_at, changed}
 use Rattle.flow_model.specs.Events.{Event, Starts, Finishes, Gets, Takes_text, Hears_end, Sends, Learns, Sleeps, Closes, Look, looks, stage_event, event_of}
 use Rattle.flow_model.specs.Turns.{process_after, channel_after, channels_after, limited, closing, closing_on, turn_limit, Turn}
 use Rattle.flow_model.specs.Works.{judged, sending, nests, worked, Work}
-use Rattle.flow_model.specs.Plans.{Plan, PlanProcess, PlanConnection, sends_at, process_at_start, processes_at_start, channel_at_start, start_of, IsWired, StartsWell}
-use Rattle.flow_model.specs.Valid.{HasToClose, IsOpenSender, SendersOpen, IsFailedStage, IsLeftOpen, AllDifferent, OpenSendersTell, EndedLeftClosed}
+use Rattle.flow_model.specs.Plans.{Plan, PlanProcess, PlanConnection, sends_at, process_at_start, processes_at_start, start_of, IsWired, StartsWell}
+use Rattle.flow_model.specs.Valid.{HasToClose, IsOpenSender, IsFailedStage, IsLeftOpen, AllDifferent, OpenSendersTell, EndedLeftClosed}
 use Rattle.flow_model.proofs.Lists.{slice_get-set_same, slice_get-set_other, same_or_not}
 use Rattle.flow_model.proofs.Inverse.{explains}
 use Rattle.flow_model.proofs.Order.{outputs-after, outputs-worked}
 use Rattle.flow_model.proofs.Senders.{both-true, SendersOpen-turn, SendersOpen-work}
-use Rattle.flow_model.proofs.Start.{start-process, start-channel, start-senders}
+use Rattle.flow_model.proofs.Start.{start-channel, start-senders}
 
 -- two senders that pass the test are the same
 same-sender : (a b : Sender) → is_sender a b ≡ true → a ≡ b
@@ -338,9 +338,10 @@ place-open sender (s ∷ senders) (suc k) is = or-right (is_sender sender s) (li
 -- a list in which no sender has two places has none twice
 places-different : (senders : List Sender) → ((k l : ℕ) (s : Sender) → slice_get senders k ≡ Some s → slice_get senders l ≡ Some s → k ≡ l) → AllDifferent senders
 places-different [] once = tt
-places-different (s ∷ senders) once =
-    ((λ goes. (let at = open-place s senders goes in let same = once 0 (suc at.0) s refl at.1 in omega (arith, same))),
-    places-different senders (λ k l t is at. (let same = once (suc k) (suc l) t is at in omega (arith, same))))
+places-different (s ∷ senders) once = (
+  (λ goes. (let at = open-place s senders goes in let same = once 0 (suc at.0) s refl at.1 in omega (arith, same))),
+  places-different senders (λ k l t is at. (let same = once (suc k) (suc l) t is at in omega (arith, same))),
+)
 
 -- the connected output of an output that has a connection
 outlet-found : (k : ℕ) (os : List (Option ℕ)) (m c : ℕ) → slice_get os m ≡ Some (Some c) → (j : ℕ) × (slice_get (outlets_from k os) j ≡ Some (let o : Outlet = record { output = k + m; connection = c } in o))

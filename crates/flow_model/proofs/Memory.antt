@@ -4,7 +4,6 @@ use Rattle.std.specs.List.{flat_map}
 use Rattle.flow_packet.specs.declared.packet.Kind.TheVariants as kinds
 use Rattle.flow_packet.specs.Tree.{packet_of}
 use Rattle.flow_packet.specs.Held.{next_id}
-use Rattle.flow_component.specs.Happenings.{Happening}
 use Rattle.flow_model.specs.States.{Process, Past, Put, Entry, entry_of, got_by, got_at, sent_by, sent_at}
 use Rattle.flow_model.specs.Events.{Event, Starts, Finishes, Gets, Takes_text, Hears_end, Sends, Learns, Sleeps, Closes}
 use Rattle.flow_model.specs.Turns.{heard, put_after, past_after}

@@ -1,5 +1,5 @@
 -- From a state there is at most one round robin, where components come to one result.
-use Rattle.std.proofs.Common.{◌≡◌, ◌≢◌, ℕ, List, [], ◌∷◌, ◌++◌, length, Option, Some, None, Bool, true, false, cond, refl, ap, sym, subst, ◌∙◌, zero, suc, inl, inr, slice_get, slice_set, nat_le, ◌&&◌}
+use Rattle.std.proofs.Common.{◌≡◌, ℕ, List, [], ◌∷◌, ◌++◌, length, Option, Some, None, Bool, true, false, cond, refl, ap, sym, subst, ◌∙◌, zero, suc, inl, inr, slice_get, slice_set, nat_le, ◌&&◌}
 use Rattle.std.specs.Prelude.{option_and_then}
 use Rattle.flow_packet.specs.Held.{Held}
 use Rattle.flow_component.specs.declared.Answer.{Answer}
@@ -7,12 +7,12 @@ use Rattle.flow_component.specs.declared.Wish.TheVariants as wishes
 use Rattle.flow_component.specs.Laws.{Outcome, held_after}
 use Rattle.flow_model.specs.declared.Stage.{Stage}
 use Rattle.flow_model.specs.declared.Stage.TheVariants as stages
-use Rattle.flow_model.specs.States.{Process, Channel, Kept, Past, State, output_at}
+use Rattle.flow_model.specs.States.{Process, Kept, State, output_at}
 use Rattle.flow_model.specs.Events.{Event, Learns, Look, looks, level_at, told_level, stage_event, event_of, seen_by}
-use Rattle.flow_model.specs.Turns.{Turn, process_after, channels_after, past_after}
+use Rattle.flow_model.specs.Turns.{Turn, process_after, past_after}
 use Rattle.flow_model.specs.Works.{Work, worked, past_worked}
-use Rattle.flow_model.specs.Schedules.{IsThought, IsThoughtStage, Settles, Journal, no_turns, then_turns}
-use Rattle.flow_model.specs.Verdicts.{HasNoTurn, exact_level, exact_level_for}
+use Rattle.flow_model.specs.Schedules.{IsThoughtStage, Settles, Journal, no_turns, then_turns}
+use Rattle.flow_model.specs.Verdicts.{HasNoTurn, exact_level_for}
 use Rattle.flow_model.specs.Robin.{IsExact, ExactTurn, TurnsOf, Burst, PassBelow, Pass, Passes, joined, RoundRobin, OneResult}
 
 -- a told level is the number that was given

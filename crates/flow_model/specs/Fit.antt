@@ -5,14 +5,16 @@ use Rattle.flow_packet.specs.Held.{Held}
 use Rattle.flow_component.specs.declared.Answer.{Answer}
 use Rattle.flow_component.specs.declared.Shape.{Shape}
 use Rattle.flow_model.specs.States.{Process, State}
-use Rattle.flow_model.specs.Valid.{Valid, AllFit}
+use Rattle.flow_model.specs.Valid.{Valid, AllFit, OpenSendersTell}
 
 -- No process holds more than 4,096 packets at the root of its hands.
 abbrev pub FewAtRoot : {K : Type 0} → List (Process K) → Type 0
 FewAtRoot {K} processes = (p : ℕ) (x : Process K) → slice_get processes p ≡ Some x → length x.held.packets ≤ hands_limit
 
--- The state is valid, each component fits its process and each wish that stands can be granted, and all hands are within their limit.
+-- The state is valid, each component fits its process and each wish that stands can be granted, all hands are within their limit,
+-- and the open senders are those that still have to close or that a failed process leaves open.
 pub record Fit {K : Type 0} (shape_of : K → Shape) (uses : K → ℕ → Bool) (ready : K → Held → Answer → Type 0) (s : State K) : Type 0 where
   pub valid : Valid ready s
   pub all_fit : AllFit shape_of uses s.kept.processes
   pub few : FewAtRoot s.kept.processes
+  pub senders : OpenSendersTell s.kept

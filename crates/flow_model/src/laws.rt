@@ -1,5 +1,5 @@
 //! What holds of every schedule: each law is the contract of a function that does nothing.
-ghost use Rattle.flow_model.specs.Laws.{KeepsPackets, KeepsOrder, KeepsPrefixes, KeepsOpen, KeepsFew, HasOneVerdict, RoundRobinLeads, IsOneRoundRobin, HasPrefixes, TurnsAreSchedule};
+ghost use Rattle.flow_model.specs.Laws.{KeepsPackets, KeepsOrder, KeepsPrefixes, KeepsOpen, KeepsFew, HasOneVerdict, KeepsOpenSenders, LeavesClosed, KeepsTotals, RoundRobinLeads, IsOneRoundRobin, HasPrefixes, TurnsAreSchedule};
 
 use flow_component::Component;
 
@@ -15,6 +15,18 @@ pub fn every_schedule_keeps_the_packets<K: Component>()
 /// After every schedule from such a start no process holds more than 4,096 packets at the root of its hands.
 pub fn every_schedule_keeps_the_hands_limit<K: Component>()
     ensures { KeepsFew K.shape_of K.uses K.ready K.next }
+{}
+
+/// After every schedule from such a start the open senders of each connection are the outputs that still have to be closed, or
+/// that a failed process leaves open; a process that has ended left its outputs closed.
+pub fn every_schedule_keeps_the_senders<K: Component>()
+    ensures open_senders { KeepsOpenSenders K.shape_of K.uses K.ready K.next }
+    ensures ended { LeavesClosed K.shape_of K.uses K.ready K.next }
+{}
+
+/// After every schedule from such a start the packets made are as many as those left and those dropped.
+pub fn every_schedule_keeps_the_totals<K: Component>()
+    ensures { KeepsTotals K.shape_of K.uses K.ready K.next }
 {}
 
 /// After every schedule from such a start exactly one verdict holds.
