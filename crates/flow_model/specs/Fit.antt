@@ -1,4 +1,4 @@
--- What a running net keeps of each state that it stands for.
+-- What a running net keeps of each state that it stands for. (This project's own.)
 use Rattle.std.specs.Prelude.{◌≡◌, ℕ, ◌≤◌, Bool, List, length, Some, slice_get}
 use Rattle.flow_packet.specs.Edits.{hands_limit}
 use Rattle.flow_packet.specs.Held.{Held}
