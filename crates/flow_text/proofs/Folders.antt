@@ -74,7 +74,7 @@ module _ (files : List Stored) (place room : ℕ) (d new : Stored) (is : d ≡ g
   grown-set bytes grown =
       held-new
       ∙ ap (λ all. replaced (string_bytes w.file.0) all (held (map named files)))
-          (grown ∙ ap (λ (e : Stored). e.1.items ++ bytes) (file-is files place room d is w))
+      (grown ∙ ap (λ (e : Stored). e.1.items ++ bytes) (file-is files place room d is w))
       ∙ ap (λ o. appended_at o (string_bytes w.file.0) bytes (held (map named files))) (sym (held-at files place room w))
       ∙ ap (λ o. appended_to o bytes (held (map named files))) (sym (name-at files place room w))
 
@@ -133,8 +133,8 @@ emptied-push files name room new none new_name no_bytes roomy =
     let stored : slice_get (files ++ new ∷ []) (length files) ≡ Some new = slice_get-push files new in
     let all : map named (files ++ new ∷ []) ≡ map named files ++ named new ∷ [] = map-append named files (new ∷ []) in
     let first : IsFirst (map named files ++ named new ∷ []) name (length files) =
-        subst (λ (i : ℕ). IsFirst (map named files ++ named new ∷ []) name i) (length-map files named)
-            (IsFirst-push (map named files) name (named new) none new_name) in
+    subst (λ (i : ℕ). IsFirst (map named files ++ named new ∷ []) name i) (length-map files named)
+    (IsFirst-push (map named files) name (named new) none new_name) in
     record {
       writable = record {
         file = new;

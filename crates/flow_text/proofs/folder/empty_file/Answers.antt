@@ -11,8 +11,8 @@ returns-in_ok-push-in-None-clause-ok c =
     let absent : held (map named old) name ≡ None = subst (λ (files : List Stored). held (map named files) name ≡ None) c.deref.ensures.value c.in-None.ensures in
     let at : c.len-place.result ≡ length old = c.len-place.ensures ∙ c.args.files.now.ok.0 in
     subst (λ files. Emptied old files name c.args.room c.len-place.result) (sym c.in_ok-push-in-None.ensures.items)
-        (subst (λ place. Emptied old (old ++ new ∷ []) name c.args.room place) (sym at)
-        (emptied-push old name c.args.room new absent c.in_ok-name-in-None.ensures.ok c.in_ok-bytes.ensures.items c.in_ok-bytes.ensures.capacity))
+    (subst (λ place. Emptied old (old ++ new ∷ []) name c.args.room place) (sym at)
+    (emptied-push old name c.args.room new absent c.in_ok-name-in-None.ensures.ok c.in_ok-bytes.ensures.items c.in_ok-bytes.ensures.capacity))
 
 pub returns-in-Some-clause-ok : goal.returns-in-Some-clause-ok
 returns-in-Some-clause-ok c =

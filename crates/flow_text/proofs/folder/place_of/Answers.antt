@@ -16,7 +16,7 @@ returns-then-eq c =
     let same : bytes_eq text c.args.name.now ≡ true = sym c.eq.ensures ∙ c.if-eq.true in
     let is : text ≡ c.args.name.now = (bytes_eq-Decides text c.args.name.now).0 same in
     let at : text ≡ (get_or (map named files) c.loop-place.place (named d)).0 =
-        c.as_str.ensures.value ∙ ap (λ e. string_bytes e.0) c.index-files-place.is ∙ ap (λ (e : Named). e.0) (sym (get_or-map named files c.loop-place.place d)) in
+    c.as_str.ensures.value ∙ ap (λ e. string_bytes e.0) c.index-files-place.is ∙ ap (λ (e : Named). e.0) (sym (get_or-map named files c.loop-place.place d)) in
     let lt : c.loop-place.place < length (map named files) = omega (arith, length-map files named) in
     record {
       within = c.loop-place-test.true;
@@ -29,8 +29,8 @@ loop-place-preserved c =
     let files = c.args.files.now in
     let text = c.as_str.result.now in
     let at : text ≡ (get_or (map named files) c.loop-place.place (named d)).0 =
-        c.as_str.ensures.value ∙ ap (λ e. string_bytes e.0) c.index-files-place.is ∙ ap (λ (e : Named). e.0) (sym (get_or-map named files c.loop-place.place d)) in
+    c.as_str.ensures.value ∙ ap (λ e. string_bytes e.0) c.index-files-place.is ∙ ap (λ (e : Named). e.0) (sym (get_or-map named files c.loop-place.place d)) in
     let differ : bytes_eq (get_or (map named files) c.loop-place.place (named d)).0 c.args.name.now ≡ false =
-        ap (λ t. bytes_eq t c.args.name.now) (sym at) ∙ sym c.eq.ensures ∙ c.if-eq.false in
+    ap (λ t. bytes_eq t c.args.name.now) (sym at) ∙ sym c.eq.ensures ∙ c.if-eq.false in
     let lt : c.loop-place.place < length (map named files) = omega (arith, length-map files named) in
     rw add-one (none-more (map named files) c.args.name.now c.loop-place.place (named d) c.loop-place.invariant lt differ)

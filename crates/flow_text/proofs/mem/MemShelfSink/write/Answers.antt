@@ -11,10 +11,10 @@ pub returns-then-is_listed-clause-exact : goal.returns-then-is_listed-clause-exa
 returns-then-is_listed-clause-exact c =
     let bytes = c.args.bytes.now in
     let fails : WriteFails (the_view c.self.inside) bytes = elim c.then-is_listed.branch [
-      then-is_listed-via-then-is_listed w ↦ inl (listed c.is_listed.result c.deref.result.now c.self.inside.write_fails.items
-        c.saturating_add-self-inside.result _ c.is_listed.ensures.0 w.if-is_listed.true c.deref.ensures.value c.saturating_add-self-inside.ensures)
-    | then-is_listed-via-else-is_listed+then-is_stuck w ↦ inr (stuck w.is_stuck.result (length bytes) c.min-n.result c.self.inside.piece _
-        w.is_stuck.ensures.0 w.if-is_stuck.true (search rules) c.self.invariant.0)
+      | then-is_listed-via-then-is_listed w ↦ inl (listed c.is_listed.result c.deref.result.now c.self.inside.write_fails.items
+          c.saturating_add-self-inside.result _ c.is_listed.ensures.0 w.if-is_listed.true c.deref.ensures.value c.saturating_add-self-inside.ensures)
+      | then-is_listed-via-else-is_listed+then-is_stuck w ↦ inr (stuck w.is_stuck.result (length bytes) c.min-n.result c.self.inside.piece _
+          w.is_stuck.ensures.0 w.if-is_stuck.true (search rules) c.self.invariant.0)
     ] in
     (subst (λ (s : Shelved). WriteFails s bytes) c.self.view_is fails, search rules)
 
@@ -25,8 +25,7 @@ returns-clause-writes c =
     let n = c.saturating_add-self-inside.result in
     let f = c.append.new.self in
     let old = the_view c.self.inside in
-    let state = outside-write old f n written c.append.ensures.state c.append.ensures.grown c.append.ensures.taken in
-    (
+    let state = outside-write old f n written c.append.ensures.state c.append.ensures.grown c.append.ensures.taken in (
       subst (λ (s : Shelved). outside_of (record old { files = f.files; created = f.created; room = f.room; writes = n }) ≡ after_write (outside_of s) written)
           c.self.view_is state,
       grind (arith, common_steps),

@@ -16,10 +16,9 @@ returns-clause-reads c =
     let number = c.saturating_add-self-inside.result in
     let count : at + n - at ≡ n = omega arith in
     let is : new ≡ take n (drop at l) =
-        c.copy_from_slice.ensures.after
-        ∙ ap (λ k. take k (drop at c.deref-2.result.now)) count
-        ∙ ap (λ (xs : List ℕ). take n (drop at xs)) c.deref-2.ensures.value in
-    (
+    c.copy_from_slice.ensures.after
+    ∙ ap (λ k. take k (drop at c.deref-2.result.now)) count
+    ∙ ap (λ (xs : List ℕ). take n (drop at xs)) c.deref-2.ensures.value in (
       subst (λ (s : Shelved). outside_of (record old { left = drop (at + n) l; reads = number }) ≡ after_read (outside_of s) (Some (drop (at + n) l)))
           c.self.view_is refl,
       subst (λ (s : Shelved). s.left ≡ take n (new ++ drop n c.args.buf.now) ++ drop (at + n) l)
