@@ -1,5 +1,5 @@
 //! Values in order, which contracts see as a list.
-ghost use Rattle.std.specs.Prelude.{◌≡◌, ◌==◌, [], ◌∷◌, ◌++◌, length, ◌<◌, ◌^◌, OnOk, IfErr};
+ghost use Rattle.std.specs.Prelude.{◌≡◌, ◌==◌, [], ◌∷◌, ◌++◌, length, slice_set, ◌<◌, ◌^◌, OnOk, IfErr};
 ghost use Rattle.std.specs.Slice.Iter.{iter_rest, iter_steps};
 ghost use Rattle.std.specs.Iterator.Adapters.{IterYieldsInOrder};
 ghost use Rattle.std.specs.Iterator.Runs.{EveryRun, ItemsMapTo};
@@ -80,6 +80,16 @@ impl<T> Items<T> {
         ensures err { IfErr result (λ e. (e.value ≡ item) × (self.new ≡ self.old)) }
     {
         self.items.push(item)
+    }
+}
+
+impl<T: Drop> Items<T> {
+    /// Puts a value in the place of another.
+    pub fn set(&mut self, index: usize, item: T)
+        requires { index < length self.old }
+        ensures { self.new ≡ slice_set self.old index item }
+    {
+        self.items[index] = item;
     }
 }
 

@@ -1,2 +1,6 @@
+pub mod Calls
+pub mod Drafts
+pub mod Initials
 pub mod Network
+pub mod Options
 pub mod Thin

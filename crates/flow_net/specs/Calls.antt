@@ -1,0 +1,176 @@
+-- What each call of a builder makes of what it holds, and which fault it gives first.
+use Rattle.std.specs.Prelude.{◌≡◌, ℕ, zero, suc, ◌+◌, ◌<◌, ◌≤◌, ◌==◌, ◌&&◌, nat_le, if◌then◌else◌, Bool, true, false, List, [], ◌∷◌, ◌++◌, length, replicate, slice_set, Option, Some, None, Ok, Err, slice_get, position, is_some}
+use Rattle.std.specs.declared.result.Result.{Result}
+use Rattle.std.specs.Option.{option_and_then, option_map, option_map_or, ok_or}
+use Rattle.std.specs.List.{find}
+use Rattle.std.specs.Str.{bytes_eq}
+use Rattle.flow_net.specs.declared.draft.End.{End}
+use Rattle.flow_net.specs.declared.draft.Binding.{Binding}
+use Rattle.flow_net.specs.declared.draft.Binding.TheVariants.{Free, Receives, Sends, Given}
+use Rattle.flow_net.specs.declared.draft.Port.{Port}
+use Rattle.flow_net.specs.declared.draft.Begun.{Begun}
+use Rattle.flow_net.specs.declared.draft.Link.{Link}
+use Rattle.flow_net.specs.declared.fault.Many.TheVariants as many
+use Rattle.flow_net.specs.declared.fault.PlanFault.{PlanFault}
+use Rattle.flow_net.specs.declared.fault.PlanFault.TheVariants.{SameName, UnknownKind, UnknownProcess, PortUnknown, NeedsInitial, Capacity, PortTaken, TooMany}
+use Rattle.flow_net.specs.declared.kind.KindSpec.{KindSpec}
+use Rattle.flow_net.specs.declared.kind.PortSpec.{PortSpec}
+use Rattle.flow_net.specs.declared.kind.PortRef.{PortRef}
+use Rattle.flow_net.specs.declared.kind.PortClass.TheVariants.{Stream}
+use Rattle.flow_net.specs.Network.{is_stream}
+use Rattle.flow_net.specs.Drafts.{Draft, ◌>>=◌, refused_if, updated, binding_at, bound, is_free, is_given, receives, process_named, port_named, element_named, is_stream_at}
+
+-- The kind of this name.
+abbrev pub kind_named : List KindSpec → List ℕ → Option KindSpec
+kind_named kinds name = find (λ (kind : KindSpec). bytes_eq kind.name name) kinds
+
+-- A port of a new process: nothing is bound. An output carries packets, whatever its class says.
+abbrev pub fresh_port : ℕ → Bool → ℕ → PortSpec → Port
+fresh_port process input place spec = record {
+  process = process;
+  input = input;
+  place = place;
+  spec = if input then spec else record spec { class = Stream };
+  elements = replicate (if spec.array then 512 else 1) Free;
+}
+
+-- The ports of a table from this place on.
+abbrev pub fresh_ports : ℕ → Bool → ℕ → List PortSpec → List Port
+fresh_ports process input place [] = []
+fresh_ports process input place (spec ∷ specs) = fresh_port process input place spec ∷ fresh_ports process input (place + 1) specs
+
+-- The draft with one more process, and its ports: the inputs and then the outputs of its kind.
+abbrev pub with_process : Draft → List ℕ → KindSpec → Draft
+with_process draft name kind = record draft {
+  processes = draft.processes ++ record { number = length draft.processes; name = name; kind = kind.name; texts = [] } ∷ [];
+  ports = draft.ports ++ (fresh_ports (length draft.processes) true 0 kind.inputs ++ fresh_ports (length draft.processes) false 0 kind.outputs);
+}
+
+-- What naming a process makes of the draft.
+abbrev pub after_process : Draft → List ℕ → List ℕ → Result Draft PlanFault
+after_process draft name kind = do
+  new ← refused_if (is_some (process_named draft.processes name)) (SameName name)
+  spec ← ok_or (kind_named draft.kinds kind) (UnknownKind name kind)
+  room ← refused_if (nat_le 128 (length draft.processes)) (TooMany many.Processes)
+  Ok (with_process draft name spec)
+
+-- The process of a name, or that there is none.
+abbrev pub process_of_name : List Begun → List ℕ → Result ℕ PlanFault
+process_of_name processes name = ok_or (process_named processes name) (UnknownProcess name)
+
+-- The element of a port at this place, as it is written.
+abbrev pub end_at : List Port → Option ℕ → ℕ → Option End
+end_at ports element place = option_and_then (λ (port : Port). option_map (λ e. record { port = place; element = e }) (element_named port.spec.array element)) (slice_get ports place)
+
+-- The element that a network names, on this side of this process.
+abbrev pub end_named : List Port → ℕ → Bool → PortRef → Option End
+end_named ports number input port = option_and_then (end_at ports port.element) (port_named ports number input port.name)
+
+-- The element that a network names, or that there is none.
+abbrev pub end_of_port : List Port → ℕ → Bool → List ℕ → PortRef → Result End PlanFault
+end_of_port ports number input process port = ok_or (end_named ports number input port) (PortUnknown process port)
+
+-- Both ends of a connection, as a network names them.
+abbrev pub ends_of : List Begun → List Port → List ℕ → PortRef → List ℕ → PortRef → Result (End × End) PlanFault
+ends_of processes ports from out to into = do
+  sender ← process_of_name processes from
+  receiver ← process_of_name processes to
+  output ← end_of_port ports sender false from out
+  input ← end_of_port ports receiver true to into
+  Ok (output, input)
+
+-- A capacity is from 1 to 1,024.
+abbrev pub allowed_capacity : Option ℕ → Result (Unit {0}) PlanFault
+allowed_capacity None = Ok tt
+allowed_capacity (Some n) = refused_if (if nat_le 1 n && nat_le n 1024 then false else true) (Capacity n)
+
+-- An element is bound.
+abbrev pub is_taken : Option Binding → Bool
+is_taken None = false
+is_taken (Some binding) = if is_free binding then false else true
+
+-- An element has a text.
+abbrev pub has_text : Option Binding → Bool
+has_text None = false
+has_text (Some binding) = is_given binding
+
+-- The connection into an element.
+abbrev pub link_into : List Port → End → Option ℕ
+link_into ports end = option_and_then receives (binding_at ports end)
+
+-- The capacity that a connection was given before.
+abbrev pub capacity_before : List Link → Option ℕ → Option ℕ
+capacity_before links link = option_and_then (λ c. option_and_then (λ (l : Link). l.capacity) (slice_get links c)) link
+
+-- A capacity that is given again is the same.
+abbrev pub same_capacity : Option ℕ → Option ℕ → Result (Unit {0}) PlanFault
+same_capacity (Some before) (Some n) = refused_if (if before == n then false else true) (Capacity n)
+same_capacity (Some before) None = Ok tt
+same_capacity None n = Ok tt
+
+-- A connection has its 65,535 senders.
+abbrev pub has_all_senders : Option Link → Bool
+has_all_senders None = false
+has_all_senders (Some link) = nat_le 65535 (length link.senders)
+
+-- There are 512 connections and this would be one more, or the connection has its 65,535 senders.
+abbrev pub is_full : List Link → Option ℕ → Bool
+is_full links None = nat_le 512 (length links)
+is_full links (Some c) = has_all_senders (slice_get links c)
+
+-- Whether two ends may be joined.
+abbrev pub may_join : List Port → List Link → List ℕ → PortRef → List ℕ → PortRef → Option ℕ → End → End → Result (Unit {0}) PlanFault
+may_join ports links from out to into capacity output input = do
+  stream ← refused_if (if is_stream_at ports input then false else true) (NeedsInitial to into)
+  allowed ← allowed_capacity capacity
+  unbound ← refused_if (is_taken (binding_at ports output)) (PortTaken from out)
+  ungiven ← refused_if (has_text (binding_at ports input)) (PortTaken to into)
+  agreed ← same_capacity (capacity_before links (link_into ports input)) capacity
+  refused_if (is_full links (link_into ports input)) (TooMany many.Connections)
+
+-- The capacity that was given first.
+abbrev pub first_given : Option ℕ → Option ℕ → Option ℕ
+first_given (Some before) n = Some before
+first_given None n = n
+
+-- The place of the next sender.
+abbrev pub next_sender : Option Link → ℕ
+next_sender None = 0
+next_sender (Some link) = length link.senders
+
+-- The draft with an output joined to an input: by a new connection where the input has none, and else as the last sender of the one that it has.
+abbrev pub joined : Draft → End → End → Option ℕ → Option ℕ → Draft
+joined draft out into capacity None = record draft {
+  ports = bound (bound draft.ports into (Receives (length draft.links))) out (Sends (length draft.links) 0);
+  links = draft.links ++ record { into = into; capacity = capacity; senders = out ∷ [] } ∷ [];
+}
+joined draft out into capacity (Some c) = record draft {
+  ports = bound draft.ports out (Sends c (next_sender (slice_get draft.links c)));
+  links = updated (λ (link : Link). record link { capacity = first_given link.capacity capacity; senders = link.senders ++ out ∷ [] }) draft.links c;
+}
+
+-- What connecting an output to an input makes of the draft.
+abbrev pub after_connect : Draft → List ℕ → PortRef → Option ℕ → List ℕ → PortRef → Result Draft PlanFault
+after_connect draft from out capacity to into = do
+  ends ← ends_of draft.processes draft.ports from out to into
+  allowed ← may_join draft.ports draft.links from out to into capacity ends.0 ends.1
+  Ok (joined draft ends.0 ends.1 capacity (link_into draft.ports ends.1))
+
+-- The input that a text is for: it is there, and nothing is bound to it.
+abbrev pub input_for : List Begun → List Port → List ℕ → PortRef → Result End PlanFault
+input_for processes ports to into = do
+  receiver ← process_of_name processes to
+  input ← end_of_port ports receiver true to into
+  unbound ← refused_if (is_taken (binding_at ports input)) (PortTaken to into)
+  Ok input
+
+-- The number of an element's process.
+abbrev pub process_at : List Port → End → ℕ
+process_at ports end = option_map_or (λ (port : Port). port.process) (slice_get ports end.port) 0
+
+-- The draft with a text at an input: it is the last of its process's texts.
+abbrev pub given : Draft → End → List ℕ → Draft
+given draft input text = record draft {
+  ports = bound draft.ports input Given;
+  processes = updated (λ (begun : Begun). record begun { texts = begun.texts ++ (input, text) ∷ [] }) draft.processes (process_at draft.ports input);
+}

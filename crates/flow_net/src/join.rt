@@ -1,0 +1,239 @@
+//! Joining an output to an input, and giving an input a text.
+ghost use Rattle.std.specs.Prelude.{◌≡◌, ◌∷◌, ◌++◌, [], ◌<◌, ◌≤◌, ◌^◌, length, IsSome, IfOk, OnOk, OnErr, Some, None, slice_get};
+ghost use Rattle.flow_net.specs.Drafts.{Answers, binding_at, bound, updated};
+ghost use Rattle.flow_net.specs.declared.draft.Link.{Link};
+ghost use Rattle.flow_net.specs.declared.draft.Begun.{Begun};
+ghost use Rattle.flow_net.specs.Calls.{allowed_capacity, same_capacity, capacity_before, is_full, may_join, is_taken, has_text, link_into, first_given, next_sender};
+
+use crate::draft::{Begun, Binding, End, Link, Port};
+use crate::fault::{Many, PlanFault, PlanStop};
+use crate::find;
+use crate::kind::PortRef;
+use flow_items::{Items, Text};
+use std::alloc::{AllocError, Global};
+
+fn allowed_capacity(capacity: Option<u32>) -> Result<(), PlanStop>
+    ensures { Answers (allowed_capacity capacity) result }
+{
+    match capacity {
+        None => Ok(()),
+        Some(n) => {
+            if n >= 1 && n <= 1024 {
+                Ok(())
+            } else {
+                Err(PlanStop::Fault(PlanFault::Capacity(n)))
+            }
+        }
+    }
+}
+
+fn same_capacity(before: Option<u32>, capacity: Option<u32>) -> Result<(), PlanStop>
+    ensures { Answers (same_capacity before capacity) result }
+{
+    match (before, capacity) {
+        (Some(before), Some(n)) => {
+            if before == n {
+                Ok(())
+            } else {
+                Err(PlanStop::Fault(PlanFault::Capacity(n)))
+            }
+        }
+        _ => Ok(()),
+    }
+}
+
+fn capacity_before(links: &[Link], link: Option<u32>) -> Option<u32>
+    ensures { result ≡ capacity_before links.now link }
+{
+    match link {
+        None => None,
+        Some(c) => match links.get(c as usize) {
+            None => None,
+            Some(link) => link.capacity,
+        },
+    }
+}
+
+fn is_full(links: &[Link], link: Option<u32>) -> bool
+    ensures { result ≡ is_full links.now link }
+{
+    match link {
+        None => links.len() >= 512,
+        Some(c) => match links.get(c as usize) {
+            None => false,
+            Some(link) => link.senders.len() >= 65_535,
+        },
+    }
+}
+
+fn is_taken(binding: Option<Binding>) -> bool
+    ensures { result ≡ is_taken binding }
+{
+    match binding {
+        None => false,
+        Some(Binding::Free) => false,
+        Some(_) => true,
+    }
+}
+
+fn has_text(binding: Option<Binding>) -> bool
+    ensures { result ≡ has_text binding }
+{
+    matches!(binding, Some(Binding::Given))
+}
+
+fn taken_fault(alloc: Global, process: &[u8], port: &PortRef) -> Result<PlanFault, AllocError>
+    ensures { IfOk result (λ fault. fault ≡ PlanFault.PortTaken process.now port.now) }
+{
+    let process = Text::from_slice(alloc, process)?;
+    let port = port.copy(alloc)?;
+    Ok(PlanFault::PortTaken(process, port))
+}
+
+fn initial_fault(alloc: Global, process: &[u8], port: &PortRef) -> Result<PlanFault, AllocError>
+    ensures { IfOk result (λ fault. fault ≡ PlanFault.NeedsInitial process.now port.now) }
+{
+    let process = Text::from_slice(alloc, process)?;
+    let port = port.copy(alloc)?;
+    Ok(PlanFault::NeedsInitial(process, port))
+}
+
+/// Whether two ends may be joined, or the first thing that is against it.
+pub fn may_join(
+    alloc: Global,
+    ports: &[Port],
+    links: &[Link],
+    from: &[u8],
+    out: &PortRef,
+    to: &[u8],
+    into: &PortRef,
+    capacity: Option<u32>,
+    output: End,
+    input: End,
+) -> Result<(), PlanStop>
+    ensures { Answers (may_join ports.now links.now from.now out.now to.now into.now capacity output input) result }
+{
+    if !find::is_stream_at(ports, input) {
+        return Err(PlanStop::Fault(initial_fault(alloc, to, into)?));
+    }
+    allowed_capacity(capacity)?;
+    if is_taken(find::binding_at(ports, output)) {
+        return Err(PlanStop::Fault(taken_fault(alloc, from, out)?));
+    }
+    if has_text(find::binding_at(ports, input)) {
+        return Err(PlanStop::Fault(taken_fault(alloc, to, into)?));
+    }
+    let link = find::link_into(ports, input);
+    same_capacity(capacity_before(links, link), capacity)?;
+    if is_full(links, link) {
+        return Err(PlanStop::Fault(PlanFault::TooMany(Many::Connections)));
+    }
+    Ok(())
+}
+
+fn bind(ports: &mut [Port], end: End, binding: Binding)
+    requires { IsSome (binding_at ports.old end) }
+    ensures { ports.new ≡ bound ports.old end binding }
+{
+    let port = &mut ports[end.port as usize];
+    port.elements.set(end.element as usize, binding);
+}
+
+/// A new connection, with its first sender.
+pub fn open_link(
+    alloc: Global,
+    ports: &mut [Port],
+    links: &mut Vec<Link>,
+    out: End,
+    into: End,
+    capacity: Option<u32>,
+) -> Result<(), AllocError>
+    requires few { length links.old.items ≤ 512 }
+    requires output { IsSome (binding_at ports.old out) }
+    requires input { IsSome (binding_at ports.old into) }
+    ensures links { OnOk result (links.new.items ≡ links.old.items ++ record { into = into; capacity = capacity; senders = out ∷ [] } ∷ []) }
+    ensures ports { OnOk result (ports.new ≡ bound (bound ports.old into (Binding.Receives (length links.old.items))) out (Binding.Sends (length links.old.items) 0)) }
+    ensures same_links { OnErr result (links.new.items ≡ links.old.items) }
+    ensures same_ports { OnErr result (ports.new ≡ ports.old) }
+{
+    let number = links.len() as u32;
+    let senders = Items::of(vec![in alloc; out]?);
+    links.push(Link {
+        into,
+        capacity,
+        senders,
+    })?;
+    bind(ports, into, Binding::Receives(number));
+    bind(ports, out, Binding::Sends(number, 0));
+    Ok(())
+}
+
+fn first_given(before: Option<u32>, capacity: Option<u32>) -> Option<u32>
+    ensures { result ≡ first_given before capacity }
+{
+    match before {
+        Some(before) => Some(before),
+        None => capacity,
+    }
+}
+
+fn add_sender(
+    links: &mut [Link],
+    number: u32,
+    out: End,
+    capacity: Option<u32>,
+) -> Result<u32, AllocError>
+    requires there { number < length links.old }
+    requires room { (link : Link) → slice_get links.old number ≡ Some link → length link.senders ≤ 65535 }
+    ensures place { IfOk result (λ place. place ≡ next_sender (slice_get links.old number)) }
+    ensures links { OnOk result (links.new ≡ updated (λ (link : Link). record link { capacity = first_given link.capacity capacity; senders = link.senders ++ out ∷ [] }) links.old number) }
+    ensures same { OnErr result (links.new ≡ links.old) }
+{
+    let link = &mut links[number as usize];
+    let place = link.senders.len() as u32;
+    link.senders.push(out)?;
+    link.capacity = first_given(link.capacity, capacity);
+    Ok(place)
+}
+
+/// One more sender of a connection.
+pub fn extend_link(
+    ports: &mut [Port],
+    links: &mut [Link],
+    number: u32,
+    out: End,
+    capacity: Option<u32>,
+) -> Result<(), AllocError>
+    requires there { number < length links.old }
+    requires room { (link : Link) → slice_get links.old number ≡ Some link → length link.senders ≤ 65535 }
+    requires output { IsSome (binding_at ports.old out) }
+    ensures links { OnOk result (links.new ≡ updated (λ (link : Link). record link { capacity = first_given link.capacity capacity; senders = link.senders ++ out ∷ [] }) links.old number) }
+    ensures ports { OnOk result (ports.new ≡ bound ports.old out (Binding.Sends number (next_sender (slice_get links.old number)))) }
+    ensures same_links { OnErr result (links.new ≡ links.old) }
+    ensures same_ports { OnErr result (ports.new ≡ ports.old) }
+{
+    let place = add_sender(links, number, out, capacity)?;
+    bind(ports, out, Binding::Sends(number, place));
+    Ok(())
+}
+
+/// A text at an input, as the last of its process's.
+pub fn give(
+    processes: &mut [Begun],
+    ports: &mut [Port],
+    process: u32,
+    input: End,
+    text: Text,
+) -> Result<(), AllocError>
+    requires there { process < length processes.old }
+    requires input { IsSome (binding_at ports.old input) }
+    ensures processes { OnOk result (processes.new ≡ updated (λ (begun : Begun). record begun { texts = begun.texts ++ (input, text) ∷ [] }) processes.old process) }
+    ensures ports { OnOk result (ports.new ≡ bound ports.old input Binding.Given) }
+    ensures same_processes { OnErr result (processes.new ≡ processes.old) }
+    ensures same_ports { OnErr result (ports.new ≡ ports.old) }
+{
+    let begun = &mut processes[process as usize];
+    begun.texts.push((input, text))?;
+    bind(ports, input, Binding::Given);
+    Ok(())
+}
