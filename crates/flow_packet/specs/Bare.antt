@@ -1,6 +1,5 @@
 -- Bare packets stand in the places of those that were taken.
 use Rattle.std.specs.Prelude.{◌≡◌, ℕ, List, [], slice_set}
-
 use Rattle.flow_packet.specs.Tree.{Tree, chains_of}
 
 -- The packet has no chains.

@@ -1,6 +1,6 @@
 -- Each packet of a queue weighs less than the queue.
-use Rattle.std.specs.Prelude.{◌≡◌, ℕ, zero, suc, ◌+◌, ◌≤◌, List, [], ◌∷◌, length, take, drop, All, refl}
-use Rattle.std.proofs.Common.{arith, ap, sym, subst}
+use Rattle.std.specs.Prelude.{◌≡◌, ℕ, zero, suc, ◌+◌, ◌≤◌, List, [], ◌∷◌, take, drop, All, refl}
+use Rattle.std.proofs.Common.{arith}
 use denote.Param.Weighed.{most}
 use Rattle.flow_packet.specs.Tree.{Tree, node, Chains, no_chains, chain, from_chains, to_trees, weight, weight_of_chains, weight_of_trees}
 use Rattle.flow_packet.specs.Bare.{IsBare}

@@ -1,5 +1,4 @@
 use Rattle.std.proofs.Common.{◌≡◌, ◌+◌, ◌-◌, ◌++◌, ◌∷◌, [], suc, drop, take, arith, ap, sym, ◌∙◌, ℕ}
-use Rattle.flow_packet.specs.Tree.{Tree}
 use Rattle.flow_packet.proofs.Queues.{one_less}
 use Rattle.flow_packet.proofs.packet.drop_taken.Goals as goal
 
