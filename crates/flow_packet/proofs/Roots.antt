@@ -30,8 +30,13 @@ few-edited held (Makes kind text) opens few = omega (arith, opens, length-append
 few-edited held (Drops id) opens few = omega (arith, few, length-without held.packets id)
 few-edited held (Attaches root chain child) opens few = omega (arith, few, length-without held.packets child, length-put_into (without held.packets child) root chain (packet_at held.packets child))
 few-edited held (Detaches root chain) opens few =
-    omega (arith, opens.1, length-append (detached held.packets root chain) (take 1 (chain_of_root held.packets root chain)),
-      length-update held.packets root (λ r. with_chains r (detach_from (chains_of r) chain)), length-take_one (chain_of_root held.packets root chain))
+    omega (
+      arith,
+      opens.1,
+      length-append (detached held.packets root chain) (take 1 (chain_of_root held.packets root chain)),
+      length-update held.packets root (λ r. with_chains r (detach_from (chains_of r) chain)),
+      length-take_one (chain_of_root held.packets root chain),
+    )
 
 few-edits : (edits : List Edit) (old new : Held) → Edits old edits new → length old.packets ≤ hands_limit → length new.packets ≤ hands_limit
 few-edits [] old new follow few = omega (arith, few, ap (λ (h : Held). length h.packets) follow)

@@ -1,0 +1,5 @@
+pub mod Roots
+pub mod Comings
+pub mod Dropping
+pub mod Lone
+pub mod Lifting
