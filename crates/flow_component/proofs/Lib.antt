@@ -3,3 +3,4 @@ pub mod Comings
 pub mod Dropping
 pub mod Lone
 pub mod Lifting
+pub mod Loopers

@@ -1,0 +1,4 @@
+pub mod ReadLines
+pub mod ReadLinesLaws
+pub mod WriteLines
+pub mod WriteLinesLaws

@@ -1,0 +1,41 @@
+-- The component that sends the lines of a file. Its state is the lines that are left.
+use Rattle.std.specs.Prelude.{◌≡◌, ℕ, suc, ◌≤◌, ◌==◌, List, [], ◌∷◌, length, drop, slice_range, nat_lt, if◌then◌else◌}
+use Rattle.std.specs.Str.Lines.{lines}
+use Rattle.flow_packet.specs.declared.packet.Kind.TheVariants.{Normal}
+use Rattle.flow_packet.specs.Held.{Held, next_id, with_made}
+use Rattle.flow_component.specs.declared.Answer.{Answer}
+use Rattle.flow_component.specs.declared.Answer.TheVariants as answers
+use Rattle.flow_component.specs.declared.Wish.TheVariants.{Deactivate}
+use Rattle.flow_component.specs.declared.Fail.TheVariants.{TextLimit}
+use Rattle.flow_component.specs.Laws.{Outcome, Wishes, Fails}
+use Rattle.flow_component.specs.Ports.{send_first}
+
+-- How many bytes stand before the first line feed.
+abbrev pub line_length : List ℕ → ℕ
+line_length [] = 0
+line_length (b ∷ bs) = if b == 10 then 0 else suc (line_length bs)
+
+-- The lines from a place on are the piece from there to end, and then those from next on.
+pub record IsNextLine (bytes : List ℕ) (from end next : ℕ) : Type 0 where
+  pub order : from ≤ end
+  pub within : end ≤ length bytes
+  pub in_file : next ≤ length bytes
+  pub first : lines (drop from bytes) ≡ slice_range bytes from end ∷ lines (drop next bytes)
+
+-- It makes a Normal packet of the next line and sends it, and deactivates where there is no line. A line that is too long for a packet is a failure.
+abbrev pub reads : Held → List (List ℕ) → Outcome (List (List ℕ))
+reads held [] = Wishes [] held Deactivate
+reads held (line ∷ left) =
+    if nat_lt 1048576 (length line) then Fails (line ∷ left) held (TextLimit (length line)) else Wishes left (with_made held Normal line) (send_first (next_id held))
+
+-- Told to start, or that its line was sent, it reads the next line.
+abbrev pub ReadLinesNext : List (List ℕ) → Held → Answer → Outcome (List (List ℕ)) → Type 0
+ReadLinesNext left held answer outcome = outcome ≡ reads held left
+
+-- It is started and told that its line was sent, each time with empty hands.
+abbrev pub ReadLinesReady : List (List ℕ) → Held → Answer → Type 0
+ReadLinesReady left held answers.Start = held.packets ≡ []
+ReadLinesReady left held (answers.Got id) = ⊥
+ReadLinesReady left held answers.End = ⊥
+ReadLinesReady left held answers.Sent = held.packets ≡ []
+ReadLinesReady left held (answers.Level n) = ⊥

@@ -1,0 +1,130 @@
+//! The component that sends the lines of a file.
+
+ghost use Rattle.std.specs.Prelude.{◌≡◌, ◌+◌, ◌<◌, ◌≤◌, length, drop, IfNone, IfSome, []};
+ghost use Rattle.std.specs.Str.Lines.{lines};
+ghost use Rattle.flow_component.specs.Resumes.{Resumes};
+ghost use Rattle.flow_parts.specs.ReadLines.{line_length, IsNextLine};
+
+use flow_component::{Answer, Component, Fail, Port, Shape, Stop, Wish};
+use flow_packet::{Hands, HandsStop, Kind};
+use std::marker::Model;
+
+/// Makes a Normal packet of each line of its file, and sends it. In clauses it is the lines that are left.
+///
+/// A line ends at a line feed, which isn't part of it, and neither is a carriage return directly before
+/// that. Bytes after the last line feed are a line where there are any.
+#[derive(Drop)]
+pub struct ReadLines {
+    file: Vec<u8>,
+    taken: usize,
+}
+
+impl Model for ReadLines {
+    ghost use Rattle.std.specs.Prelude.{List, ℕ, ◌≤◌, drop, length};
+    ghost use Rattle.std.specs.Str.Lines.{lines};
+
+    ghost Value = { List (List ℕ) };
+
+    ghost view = { λ r. lines (drop r.taken r.file.items) };
+
+    ghost invariant = { λ r. r.taken ≤ length r.file.items };
+}
+
+// The place of the next line feed, or the end.
+fn line_end(bytes: &[u8], from: usize) -> usize
+    requires { from ≤ length bytes.now }
+    ensures most { result ≤ length bytes.now }
+    ensures run { result ≡ from + line_length (drop from bytes.now) }
+{
+    let mut at = from;
+    while at < bytes.len() && bytes[at] != b'\n' {
+        at += 1;
+    }
+    at
+}
+
+// The end of the next line, and where the line after it begins.
+fn next_line(bytes: &[u8], from: usize) -> Option<(usize, usize)>
+    requires { from ≤ length bytes.now }
+    ensures none { IfNone result (lines (drop from bytes.now) ≡ []) }
+    ensures some { IfSome result (λ place. IsNextLine bytes.now from place.0 place.1) }
+{
+    if from == bytes.len() {
+        return None;
+    }
+    let end = line_end(bytes, from);
+    if end == bytes.len() {
+        return Some((end, end));
+    }
+    if from < end && bytes[end - 1] == b'\r' {
+        return Some((end - 1, end + 1));
+    }
+    Some((end, end + 1))
+}
+
+impl ReadLines {
+    ghost use Rattle.flow_parts.specs.ReadLines.{reads};
+
+    /// The component on the lines of this file. Takes no memory.
+    pub fn new(file: Vec<u8>) -> ReadLines
+        ensures { result ≡ lines file.items }
+    {
+        ReadLines { file, taken: 0 }
+    }
+
+    fn read(&mut self, hands: &mut Hands) -> Result<Wish, Stop>
+        requires empty { hands.old.packets ≡ [] }
+        requires room { hands.old.made < 4294967295 }
+        ensures { Resumes (λ left held _ outcome. outcome ≡ reads held left) self.old hands.old Answer.Sent result self.new hands.new }
+    {
+        let Some((end, next)) = next_line(&self.file, self.taken) else {
+            return Ok(Wish::Deactivate);
+        };
+        match hands.make(Kind::Normal, &self.file[self.taken..end]) {
+            Ok(line) => {
+                self.taken = next;
+                Ok(Wish::Send(Port(0), line))
+            }
+            Err(HandsStop::TextLimit(length)) => Err(Stop::Fail(Fail::TextLimit(length))),
+            Err(HandsStop::HandsLimit) => unreachable!(),
+            Err(HandsStop::NoMemory) => Err(Stop::NoMemory),
+        }
+    }
+}
+
+impl Component for ReadLines {
+    ghost use Rattle.flow_component.specs.Ports.{none_to_one, uses_first};
+    ghost use Rattle.flow_parts.specs.ReadLines.{ReadLinesReady, ReadLinesNext};
+    ghost use Rattle.flow_parts.specs.ReadLinesLaws.{read_lines_obeys, read_lines_stays_ready, read_lines_steady};
+
+    ghost shape_of = { λ _. none_to_one };
+
+    ghost uses = { λ _. uses_first };
+
+    ghost ready = { ReadLinesReady };
+
+    ghost next = { ReadLinesNext };
+
+    ghost obeys = { read_lines_obeys };
+
+    ghost stays_ready = { read_lines_stays_ready };
+
+    ghost steady = { read_lines_steady };
+
+    fn shape(&self) -> Shape {
+        Shape {
+            inputs: 0,
+            outputs: 1,
+        }
+    }
+
+    fn resume(&mut self, hands: &mut Hands, answer: Answer) -> Result<Wish, Stop> {
+        match answer {
+            Answer::Start => self.read(hands),
+            Answer::Sent => self.read(hands),
+            Answer::Got(_) => unreachable!(),
+            Answer::End => unreachable!(),
+            Answer::Level(_) => unreachable!(),
+        }
+    }
+}
