@@ -1,0 +1,2 @@
+pub mod Passthru
+pub mod PassthruLaws

@@ -1,0 +1,6 @@
+//! Components on streams of packets.
+#![tactic(auto)]
+
+mod passthru;
+
+pub use passthru::Passthru;
