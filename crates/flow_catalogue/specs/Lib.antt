@@ -1,0 +1,5 @@
+pub mod Std
+pub mod StdLaws
+pub mod Kinds
+pub mod Processes
+pub mod Files
