@@ -1,2 +1,3 @@
 pub mod Bindings
 pub mod Places
+pub mod Fresh

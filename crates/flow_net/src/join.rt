@@ -3,7 +3,7 @@ ghost use Rattle.std.specs.Prelude.{◌≡◌, ◌∷◌, ◌++◌, [], ◌<◌,
 ghost use Rattle.flow_net.specs.Drafts.{Answers, binding_at, bound, updated};
 ghost use Rattle.flow_net.specs.declared.draft.Link.{Link};
 ghost use Rattle.flow_net.specs.declared.draft.Begun.{Begun};
-ghost use Rattle.flow_net.specs.Calls.{allowed_capacity, same_capacity, capacity_before, is_full, may_join, is_taken, has_text, link_into, first_given, next_sender};
+ghost use Rattle.flow_net.specs.Calls.{allowed_capacity, same_capacity, capacity_before, is_full, may_join, is_taken, has_text, link_into, first_given, next_sender, next_text};
 
 use crate::draft::{Begun, Binding, End, Link, Port};
 use crate::fault::{Many, PlanFault, PlanStop};
@@ -79,7 +79,7 @@ fn is_taken(binding: Option<Binding>) -> bool
 fn has_text(binding: Option<Binding>) -> bool
     ensures { result ≡ has_text binding }
 {
-    matches!(binding, Some(Binding::Given))
+    matches!(binding, Some(Binding::Given(_)))
 }
 
 fn taken_fault(alloc: Global, process: &[u8], port: &PortRef) -> Result<PlanFault, AllocError>
@@ -228,12 +228,13 @@ pub fn give(
     requires there { process < length processes.old }
     requires input { IsSome (binding_at ports.old input) }
     ensures processes { OnOk result (processes.new ≡ updated (λ (begun : Begun). record begun { texts = begun.texts ++ (input, text) ∷ [] }) processes.old process) }
-    ensures ports { OnOk result (ports.new ≡ bound ports.old input Binding.Given) }
+    ensures ports { OnOk result (ports.new ≡ bound ports.old input (Binding.Given (next_text (slice_get processes.old process)))) }
     ensures same_processes { OnErr result (processes.new ≡ processes.old) }
     ensures same_ports { OnErr result (ports.new ≡ ports.old) }
 {
     let begun = &mut processes[process as usize];
+    let place = begun.texts.len() as u64;
     begun.texts.push((input, text))?;
-    bind(ports, input, Binding::Given);
+    bind(ports, input, Binding::Given(place));
     Ok(())
 }

@@ -1,6 +1,7 @@
 //! Plans of networks: processes with their options and initial texts, and the connections between them.
 #![tactic(auto)]
 
+mod begin;
 mod builder;
 mod draft;
 mod fault;
