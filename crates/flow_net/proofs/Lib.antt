@@ -1,3 +1,7 @@
 pub mod Bindings
 pub mod Places
 pub mod Fresh
+pub mod Spaces
+pub mod Wiring
+pub mod Steps
+pub mod Listing

@@ -152,15 +152,25 @@ abbrev pub next_sender : Option Link → ℕ
 next_sender None = 0
 next_sender (Some link) = length link.senders
 
--- The draft with an output joined to an input: by a new connection where the input has none, and else as the last sender of the one that it has.
-abbrev pub joined : Draft → End → End → Option ℕ → Option ℕ → Draft
-joined draft out into capacity None = record draft {
-  ports = bound (bound draft.ports into (Receives (length draft.links))) out (Sends (length draft.links) 0);
-  links = draft.links ++ record { into = into; capacity = capacity; senders = out ∷ [] } ∷ [];
-}
-joined draft out into capacity (Some c) = record draft {
-  ports = bound draft.ports out (Sends c (next_sender (slice_get draft.links c)));
-  links = updated (λ (link : Link). record link { capacity = first_given link.capacity capacity; senders = link.senders ++ out ∷ [] }) draft.links c;
+-- A connection with one more sender, and its capacity where it had none.
+abbrev pub with_sender : End → Option ℕ → Link → Link
+with_sender out capacity link = record link { capacity = first_given link.capacity capacity; senders = link.senders ++ out ∷ [] }
+
+-- The connections after an output was joined to an input: a new one where the input has none, and else one more sender of the one that it has.
+abbrev pub joined_links : List Link → End → End → Option ℕ → Option ℕ → List Link
+joined_links links out into capacity None = links ++ record { into = into; capacity = capacity; senders = out ∷ [] } ∷ []
+joined_links links out into capacity (Some c) = updated (with_sender out capacity) links c
+
+-- The ports after an output was joined to an input: both are bound to the connection.
+abbrev pub joined_ports : List Port → List Link → End → End → Option ℕ → List Port
+joined_ports ports links out into None = bound (bound ports into (Receives (length links))) out (Sends (length links) 0)
+joined_ports ports links out into (Some c) = bound ports out (Sends c (next_sender (slice_get links c)))
+
+-- The draft with an output joined to an input.
+abbrev pub joined : Draft → End → End → Option ℕ → Draft
+joined draft out into capacity = record draft {
+  ports = joined_ports draft.ports draft.links out into (link_into draft.ports into);
+  links = joined_links draft.links out into capacity (link_into draft.ports into);
 }
 
 -- What connecting an output to an input makes of the draft.
@@ -168,7 +178,7 @@ abbrev pub after_connect : Draft → List ℕ → PortRef → Option ℕ → Lis
 after_connect draft from out capacity to into = do
   ends ← ends_of draft.processes draft.ports from out to into
   allowed ← may_join draft.ports draft.links from out to into capacity ends.0 ends.1
-  Ok (joined draft ends.0 ends.1 capacity (link_into draft.ports ends.1))
+  Ok (joined draft ends.0 ends.1 capacity)
 
 -- The input that a text is for: it is there, and nothing is bound to it.
 abbrev pub input_for : List Begun → List Port → List ℕ → PortRef → Result End PlanFault
@@ -187,9 +197,13 @@ abbrev pub next_text : Option Begun → ℕ
 next_text None = 0
 next_text (Some begun) = length begun.texts
 
+-- A process with one more text.
+abbrev pub with_text : End → List ℕ → Begun → Begun
+with_text input text begun = record begun { texts = begun.texts ++ (input, text) ∷ [] }
+
 -- The draft with a text at an input: it is the last of its process's texts.
 abbrev pub given : Draft → End → List ℕ → Draft
 given draft input text = record draft {
   ports = bound draft.ports input (Given (next_text (slice_get draft.processes (process_at draft.ports input))));
-  processes = updated (λ (begun : Begun). record begun { texts = begun.texts ++ (input, text) ∷ [] }) draft.processes (process_at draft.ports input);
+  processes = updated (with_text input text) draft.processes (process_at draft.ports input);
 }

@@ -103,9 +103,10 @@ element_named true (Some e) = if nat_le e 511 then Some e else None
 element_named false None = Some 0
 element_named false (Some e) = None
 
+abbrev pub is_stream_port : Option Port → Bool
+is_stream_port None = false
+is_stream_port (Some port) = is_stream port.spec.class
+
 -- The class of an element's port is Stream.
 abbrev pub is_stream_at : List Port → End → Bool
-is_stream_at ports end = is_stream_port (slice_get ports end.port) where
-  is_stream_port : Option Port → Bool
-  is_stream_port None = false
-  is_stream_port (Some port) = is_stream port.spec.class
+is_stream_at ports end = is_stream_port (slice_get ports end.port)

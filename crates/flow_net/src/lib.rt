@@ -8,6 +8,7 @@ mod fault;
 mod find;
 mod join;
 mod kind;
+mod options;
 mod plan;
 mod thin;
 
