@@ -5,3 +5,5 @@ pub mod Spaces
 pub mod Wiring
 pub mod Steps
 pub mod Listing
+pub mod Ends
+pub mod SoundJoins
