@@ -24,6 +24,10 @@ use Rattle.flow_net.specs.Drafts.{Draft, ◌>>=◌, refused_if, updated, binding
 abbrev pub kind_named : List KindSpec → List ℕ → Option KindSpec
 kind_named kinds name = find (λ (kind : KindSpec). bytes_eq kind.name name) kinds
 
+-- The number of elements that a port has room for.
+abbrev pub room_of : Bool → ℕ
+room_of array = if array then 512 else 1
+
 -- A port of a new process: nothing is bound. An output carries packets, whatever its class says.
 abbrev pub fresh_port : ℕ → Bool → ℕ → PortSpec → Port
 fresh_port process input place spec = record {
@@ -31,7 +35,7 @@ fresh_port process input place spec = record {
   input = input;
   place = place;
   spec = if input then spec else record spec { class = Stream };
-  elements = replicate (if spec.array then 512 else 1) Free;
+  elements = replicate (room_of spec.array) Free;
 }
 
 -- The ports of a table from this place on.
@@ -39,19 +43,29 @@ abbrev pub fresh_ports : ℕ → Bool → ℕ → List PortSpec → List Port
 fresh_ports process input place [] = []
 fresh_ports process input place (spec ∷ specs) = fresh_port process input place spec ∷ fresh_ports process input (place + 1) specs
 
+-- A process before it has a text.
+abbrev pub begun_as : ℕ → List ℕ → List ℕ → Begun
+begun_as number name kind = record { number = number; name = name; kind = kind; texts = [] }
+
 -- The draft with one more process, and its ports: the inputs and then the outputs of its kind.
 abbrev pub with_process : Draft → List ℕ → KindSpec → Draft
 with_process draft name kind = record draft {
-  processes = draft.processes ++ record { number = length draft.processes; name = name; kind = kind.name; texts = [] } ∷ [];
+  processes = draft.processes ++ begun_as (length draft.processes) name kind.name ∷ [];
   ports = draft.ports ++ (fresh_ports (length draft.processes) true 0 kind.inputs ++ fresh_ports (length draft.processes) false 0 kind.outputs);
 }
+
+-- The kind of a new process: its name is new, its kind is there, and there are fewer than 128 processes.
+abbrev pub kind_for : List KindSpec → List Begun → List ℕ → List ℕ → Result KindSpec PlanFault
+kind_for kinds processes name kind = do
+  new ← refused_if (is_some (process_named processes name)) (SameName name)
+  spec ← ok_or (kind_named kinds kind) (UnknownKind name kind)
+  room ← refused_if (nat_le 128 (length processes)) (TooMany many.Processes)
+  Ok spec
 
 -- What naming a process makes of the draft.
 abbrev pub after_process : Draft → List ℕ → List ℕ → Result Draft PlanFault
 after_process draft name kind = do
-  new ← refused_if (is_some (process_named draft.processes name)) (SameName name)
-  spec ← ok_or (kind_named draft.kinds kind) (UnknownKind name kind)
-  room ← refused_if (nat_le 128 (length draft.processes)) (TooMany many.Processes)
+  spec ← kind_for draft.kinds draft.processes name kind
   Ok (with_process draft name spec)
 
 -- The process of a name, or that there is none.
@@ -138,15 +152,25 @@ abbrev pub next_sender : Option Link → ℕ
 next_sender None = 0
 next_sender (Some link) = length link.senders
 
--- The draft with an output joined to an input: by a new connection where the input has none, and else as the last sender of the one that it has.
-abbrev pub joined : Draft → End → End → Option ℕ → Option ℕ → Draft
-joined draft out into capacity None = record draft {
-  ports = bound (bound draft.ports into (Receives (length draft.links))) out (Sends (length draft.links) 0);
-  links = draft.links ++ record { into = into; capacity = capacity; senders = out ∷ [] } ∷ [];
-}
-joined draft out into capacity (Some c) = record draft {
-  ports = bound draft.ports out (Sends c (next_sender (slice_get draft.links c)));
-  links = updated (λ (link : Link). record link { capacity = first_given link.capacity capacity; senders = link.senders ++ out ∷ [] }) draft.links c;
+-- A connection with one more sender, and its capacity where it had none.
+abbrev pub with_sender : End → Option ℕ → Link → Link
+with_sender out capacity link = record link { capacity = first_given link.capacity capacity; senders = link.senders ++ out ∷ [] }
+
+-- The connections after an output was joined to an input: a new one where the input has none, and else one more sender of the one that it has.
+abbrev pub joined_links : List Link → End → End → Option ℕ → Option ℕ → List Link
+joined_links links out into capacity None = links ++ record { into = into; capacity = capacity; senders = out ∷ [] } ∷ []
+joined_links links out into capacity (Some c) = updated (with_sender out capacity) links c
+
+-- The ports after an output was joined to an input: both are bound to the connection.
+abbrev pub joined_ports : List Port → List Link → End → End → Option ℕ → List Port
+joined_ports ports links out into None = bound (bound ports into (Receives (length links))) out (Sends (length links) 0)
+joined_ports ports links out into (Some c) = bound ports out (Sends c (next_sender (slice_get links c)))
+
+-- The draft with an output joined to an input.
+abbrev pub joined : Draft → End → End → Option ℕ → Draft
+joined draft out into capacity = record draft {
+  ports = joined_ports draft.ports draft.links out into (link_into draft.ports into);
+  links = joined_links draft.links out into capacity (link_into draft.ports into);
 }
 
 -- What connecting an output to an input makes of the draft.
@@ -154,7 +178,7 @@ abbrev pub after_connect : Draft → List ℕ → PortRef → Option ℕ → Lis
 after_connect draft from out capacity to into = do
   ends ← ends_of draft.processes draft.ports from out to into
   allowed ← may_join draft.ports draft.links from out to into capacity ends.0 ends.1
-  Ok (joined draft ends.0 ends.1 capacity (link_into draft.ports ends.1))
+  Ok (joined draft ends.0 ends.1 capacity)
 
 -- The input that a text is for: it is there, and nothing is bound to it.
 abbrev pub input_for : List Begun → List Port → List ℕ → PortRef → Result End PlanFault
@@ -168,9 +192,18 @@ input_for processes ports to into = do
 abbrev pub process_at : List Port → End → ℕ
 process_at ports end = option_map_or (λ (port : Port). port.process) (slice_get ports end.port) 0
 
+-- The place of the next text.
+abbrev pub next_text : Option Begun → ℕ
+next_text None = 0
+next_text (Some begun) = length begun.texts
+
+-- A process with one more text.
+abbrev pub with_text : End → List ℕ → Begun → Begun
+with_text input text begun = record begun { texts = begun.texts ++ (input, text) ∷ [] }
+
 -- The draft with a text at an input: it is the last of its process's texts.
 abbrev pub given : Draft → End → List ℕ → Draft
 given draft input text = record draft {
-  ports = bound draft.ports input Given;
-  processes = updated (λ (begun : Begun). record begun { texts = begun.texts ++ (input, text) ∷ [] }) draft.processes (process_at draft.ports input);
+  ports = bound draft.ports input (Given (next_text (slice_get draft.processes (process_at draft.ports input))));
+  processes = updated (with_text input text) draft.processes (process_at draft.ports input);
 }

@@ -1,5 +1,5 @@
 -- What a builder holds: the processes so far with all their ports, and the connections so far.
-use Rattle.std.specs.Prelude.{◌≡◌, ℕ, zero, suc, ◌+◌, ◌<◌, ◌≤◌, ◌==◌, ◌&&◌, nat_le, if◌then◌else◌, Bool, true, false, List, [], ◌∷◌, ◌++◌, length, replicate, slice_set, Option, Some, None, Ok, Err, slice_get, position}
+use Rattle.std.specs.Prelude.{◌↔◌, ◌≡◌, ℕ, zero, suc, ◌+◌, ◌<◌, ◌≤◌, ◌==◌, ◌&&◌, nat_le, if◌then◌else◌, Bool, true, false, List, [], ◌∷◌, ◌++◌, length, replicate, slice_set, Option, Some, None, Ok, Err, slice_get, position}
 use Rattle.std.specs.declared.result.Result.{Result}
 use Rattle.std.specs.Option.{option_and_then, option_map}
 use Rattle.std.specs.Str.{bytes_eq}
@@ -63,10 +63,10 @@ abbrev pub is_free : Binding → Bool
 is_free Free = true
 is_free (Receives c) = false
 is_free (Sends c k) = false
-is_free Given = false
+is_free (Given k) = false
 
 abbrev pub is_given : Binding → Bool
-is_given Given = true
+is_given (Given k) = true
 is_given Free = false
 is_given (Receives c) = false
 is_given (Sends c k) = false
@@ -76,7 +76,7 @@ abbrev pub receives : Binding → Option ℕ
 receives (Receives c) = Some c
 receives Free = None
 receives (Sends c k) = None
-receives Given = None
+receives (Given k) = None
 
 abbrev pub same : Bool → Bool → Bool
 same true true = true
@@ -103,9 +103,10 @@ element_named true (Some e) = if nat_le e 511 then Some e else None
 element_named false None = Some 0
 element_named false (Some e) = None
 
+abbrev pub is_stream_port : Option Port → Bool
+is_stream_port None = false
+is_stream_port (Some port) = is_stream port.spec.class
+
 -- The class of an element's port is Stream.
 abbrev pub is_stream_at : List Port → End → Bool
-is_stream_at ports end = is_stream_port (slice_get ports end.port) where
-  is_stream_port : Option Port → Bool
-  is_stream_port None = false
-  is_stream_port (Some port) = is_stream port.spec.class
+is_stream_at ports end = is_stream_port (slice_get ports end.port)

@@ -3,4 +3,5 @@ pub mod Drafts
 pub mod Initials
 pub mod Network
 pub mod Options
+pub mod Sound
 pub mod Thin

@@ -1,14 +1,19 @@
 //! A network that is named call by call.
-ghost use Rattle.std.specs.Prelude.{◌≡◌, [], ◌∷◌, ◌++◌, length, MatchOption, IfSome, IfOk, OnErr, Some, None, true, false};
-ghost use Rattle.std.specs.Option.{option_copied, option_map};
-ghost use Rattle.flow_net.specs.Drafts.{Answers, Becomes, binding_at, bound, process_named, port_named, refused_if};
-ghost use Rattle.flow_net.specs.Calls.{after_process, after_connect, process_of_name, end_of_port, end_named, kind_named, fresh_ports, fresh_port};
+ghost use Rattle.std.specs.Prelude.{◌≡◌, []};
+ghost use Rattle.flow_net.specs.Drafts.{Becomes};
+ghost use Rattle.flow_net.specs.Calls.{after_process, after_connect};
+ghost use Rattle.flow_net.specs.Initials.{AfterInitial};
+ghost use Rattle.flow_net.specs.Sound.{IsTable};
 
-use crate::draft::{Begun, Binding, End, Link, Port};
-use crate::fault::{Many, PlanFault, PlanStop};
-use crate::kind::{KindSpec, PortClass, PortRef, PortSpec};
-use flow_items::{Items, Text};
-use std::alloc::{AllocError, Global};
+use crate::begin;
+use crate::draft::{Begun, Link, Port};
+use crate::fault::{PlanFault, PlanStop};
+use crate::find;
+use crate::join;
+use crate::kind::{KindSpec, PortRef};
+use crate::options;
+use flow_items::Text;
+use std::alloc::Global;
 use std::marker::Model;
 
 /// Builds a plan from the names of its processes, connections and texts. A call that is refused leaves
@@ -24,8 +29,73 @@ pub struct PlanBuilder {
 
 impl Model for PlanBuilder {
     ghost use Rattle.flow_net.specs.Drafts.{Draft};
+    ghost use Rattle.flow_net.specs.Sound.{IsSound};
 
     ghost Value = { Draft };
 
     ghost view = { λ b. record { kinds = b.kinds.items; processes = b.processes.items; ports = b.ports.items; links = b.links.items } };
+
+    ghost invariant = { λ b. IsSound (record { kinds = b.kinds.items; processes = b.processes.items; ports = b.ports.items; links = b.links.items }) };
+}
+
+impl PlanBuilder {
+    /// A builder over a table of kinds that holds nothing yet. Takes no memory.
+    pub fn new(alloc: Global, kinds: Vec<KindSpec>) -> Self
+        requires { IsTable kinds.items }
+        ensures { result ≡ record { kinds = kinds.items; processes = []; ports = []; links = [] } }
+    {
+        PlanBuilder {
+            alloc,
+            kinds,
+            processes: Vec::new(alloc),
+            ports: Vec::new(alloc),
+            links: Vec::new(alloc),
+        }
+    }
+
+    /// Names a process and its kind.
+    pub fn process(&mut self, name: &[u8], kind: &[u8]) -> Result<(), PlanStop>
+        ensures { Becomes (after_process self.old name.now kind.now) result self.old self.new }
+    {
+        let alloc = self.alloc;
+        let spec = begin::kind_for(
+            alloc,
+            self.kinds.as_slice(),
+            self.processes.as_slice(),
+            name,
+            kind,
+        )?;
+        begin::begin(alloc, &mut self.processes, &mut self.ports, name, spec)?;
+        Ok(())
+    }
+
+    /// Connects an output to an input. Two calls with one input give one connection with two senders.
+    pub fn connect(
+        &mut self,
+        from: &[u8],
+        out: &PortRef,
+        capacity: Option<u32>,
+        to: &[u8],
+        into: &PortRef,
+    ) -> Result<(), PlanStop>
+        ensures { Becomes (after_connect self.old from.now out.now capacity to.now into.now) result self.old self.new }
+    {
+        let alloc = self.alloc;
+        let ports = self.ports.as_slice();
+        let links = self.links.as_slice();
+        let (output, input) =
+            find::ends(alloc, self.processes.as_slice(), ports, from, out, to, into)?;
+        join::may_join(
+            alloc, ports, links, from, out, to, into, capacity, output, input,
+        )?;
+        join::join(
+            alloc,
+            &mut self.ports,
+            &mut self.links,
+            output,
+            input,
+            capacity,
+        )?;
+        Ok(())
+    }
 }

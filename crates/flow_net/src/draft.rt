@@ -18,8 +18,8 @@ pub enum Binding {
     Receives(u32),
     /// An output that sends to the connection of this number, as its sender of this place.
     Sends(u32, u32),
-    /// An input that has a text.
-    Given,
+    /// An input that has the text of this place among its process's.
+    Given(u64),
 }
 
 /// A port of a process, with what each of its elements is bound to. An array has all its elements from

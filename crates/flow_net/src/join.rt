@@ -1,9 +1,7 @@
 //! Joining an output to an input, and giving an input a text.
-ghost use Rattle.std.specs.Prelude.{◌≡◌, ◌∷◌, ◌++◌, [], ◌<◌, ◌≤◌, ◌^◌, length, IsSome, IfOk, OnOk, OnErr, Some, None, slice_get};
+ghost use Rattle.std.specs.Prelude.{◌≡◌, ◌∷◌, ◌++◌, [], ◌<◌, ◌≤◌, ◌^◌, length, IsSome, IfOk, OnOk, OnErr, Some, None, ℕ, false, slice_get};
 ghost use Rattle.flow_net.specs.Drafts.{Answers, binding_at, bound, updated};
-ghost use Rattle.flow_net.specs.declared.draft.Link.{Link};
-ghost use Rattle.flow_net.specs.declared.draft.Begun.{Begun};
-ghost use Rattle.flow_net.specs.Calls.{allowed_capacity, same_capacity, capacity_before, is_full, may_join, is_taken, has_text, link_into, first_given, next_sender};
+ghost use Rattle.flow_net.specs.Calls.{allowed_capacity, same_capacity, capacity_before, is_full, may_join, is_taken, has_text, link_into, first_given, next_sender, next_text, with_sender, with_text, joined_links, joined_ports};
 
 use crate::draft::{Begun, Binding, End, Link, Port};
 use crate::fault::{Many, PlanFault, PlanStop};
@@ -79,7 +77,7 @@ fn is_taken(binding: Option<Binding>) -> bool
 fn has_text(binding: Option<Binding>) -> bool
     ensures { result ≡ has_text binding }
 {
-    matches!(binding, Some(Binding::Given))
+    matches!(binding, Some(Binding::Given(_)))
 }
 
 fn taken_fault(alloc: Global, process: &[u8], port: &PortRef) -> Result<PlanFault, AllocError>
@@ -131,30 +129,30 @@ pub fn may_join(
     Ok(())
 }
 
-fn bind(ports: &mut [Port], end: End, binding: Binding)
-    requires { IsSome (binding_at ports.old end) }
-    ensures { ports.new ≡ bound ports.old end binding }
+fn bind(ports: &mut Vec<Port>, end: End, binding: Binding)
+    requires { IsSome (binding_at ports.old.items end) }
+    ensures { ports.new.items ≡ bound ports.old.items end binding }
 {
     let port = &mut ports[end.port as usize];
     port.elements.set(end.element as usize, binding);
 }
 
-/// A new connection, with its first sender.
-pub fn open_link(
+// A new connection, with its first sender.
+fn open_link(
     alloc: Global,
-    ports: &mut [Port],
+    ports: &mut Vec<Port>,
     links: &mut Vec<Link>,
     out: End,
     into: End,
     capacity: Option<u32>,
 ) -> Result<(), AllocError>
     requires few { length links.old.items ≤ 512 }
-    requires output { IsSome (binding_at ports.old out) }
-    requires input { IsSome (binding_at ports.old into) }
-    ensures links { OnOk result (links.new.items ≡ links.old.items ++ record { into = into; capacity = capacity; senders = out ∷ [] } ∷ []) }
-    ensures ports { OnOk result (ports.new ≡ bound (bound ports.old into (Binding.Receives (length links.old.items))) out (Binding.Sends (length links.old.items) 0)) }
+    requires output { IsSome (binding_at ports.old.items out) }
+    requires input { IsSome (binding_at ports.old.items into) }
+    ensures links { OnOk result (links.new.items ≡ joined_links links.old.items out into capacity None) }
+    ensures ports { OnOk result (ports.new.items ≡ joined_ports ports.old.items links.old.items out into None) }
     ensures same_links { OnErr result (links.new.items ≡ links.old.items) }
-    ensures same_ports { OnErr result (ports.new ≡ ports.old) }
+    ensures same_ports { OnErr result (ports.new.items ≡ ports.old.items) }
 {
     let number = links.len() as u32;
     let senders = Items::of(vec![in alloc; out]?);
@@ -178,62 +176,90 @@ fn first_given(before: Option<u32>, capacity: Option<u32>) -> Option<u32>
 }
 
 fn add_sender(
-    links: &mut [Link],
+    links: &mut Vec<Link>,
     number: u32,
     out: End,
     capacity: Option<u32>,
 ) -> Result<u32, AllocError>
-    requires there { number < length links.old }
-    requires room { (link : Link) → slice_get links.old number ≡ Some link → length link.senders ≤ 65535 }
-    ensures place { IfOk result (λ place. place ≡ next_sender (slice_get links.old number)) }
-    ensures links { OnOk result (links.new ≡ updated (λ (link : Link). record link { capacity = first_given link.capacity capacity; senders = link.senders ++ out ∷ [] }) links.old number) }
-    ensures same { OnErr result (links.new ≡ links.old) }
+    requires there { number < length links.old.items }
+    requires room { is_full links.old.items (Some number) ≡ false }
+    ensures place { IfOk result (λ place. place ≡ next_sender (slice_get links.old.items number)) }
+    ensures links { OnOk result (links.new.items ≡ updated (with_sender out capacity) links.old.items number) }
+    ensures same { OnErr result (links.new.items ≡ links.old.items) }
 {
     let link = &mut links[number as usize];
-    let place = link.senders.len() as u32;
+    let place = link.senders.len();
     link.senders.push(out)?;
     link.capacity = first_given(link.capacity, capacity);
-    Ok(place)
+    Ok(place as u32)
 }
 
-/// One more sender of a connection.
-pub fn extend_link(
-    ports: &mut [Port],
-    links: &mut [Link],
+// One more sender of a connection.
+fn extend_link(
+    ports: &mut Vec<Port>,
+    links: &mut Vec<Link>,
     number: u32,
     out: End,
+    into: End,
     capacity: Option<u32>,
 ) -> Result<(), AllocError>
-    requires there { number < length links.old }
-    requires room { (link : Link) → slice_get links.old number ≡ Some link → length link.senders ≤ 65535 }
-    requires output { IsSome (binding_at ports.old out) }
-    ensures links { OnOk result (links.new ≡ updated (λ (link : Link). record link { capacity = first_given link.capacity capacity; senders = link.senders ++ out ∷ [] }) links.old number) }
-    ensures ports { OnOk result (ports.new ≡ bound ports.old out (Binding.Sends number (next_sender (slice_get links.old number)))) }
-    ensures same_links { OnErr result (links.new ≡ links.old) }
-    ensures same_ports { OnErr result (ports.new ≡ ports.old) }
+    requires there { number < length links.old.items }
+    requires room { is_full links.old.items (Some number) ≡ false }
+    requires output { IsSome (binding_at ports.old.items out) }
+    ensures links { OnOk result (links.new.items ≡ joined_links links.old.items out into capacity (Some number)) }
+    ensures ports { OnOk result (ports.new.items ≡ joined_ports ports.old.items links.old.items out into (Some number)) }
+    ensures same_links { OnErr result (links.new.items ≡ links.old.items) }
+    ensures same_ports { OnErr result (ports.new.items ≡ ports.old.items) }
 {
     let place = add_sender(links, number, out, capacity)?;
     bind(ports, out, Binding::Sends(number, place));
     Ok(())
 }
 
+/// Joins an output to an input: by a new connection where the input has none, and else as the last sender
+/// of the one that it has.
+pub fn join(
+    alloc: Global,
+    ports: &mut Vec<Port>,
+    links: &mut Vec<Link>,
+    out: End,
+    into: End,
+    capacity: Option<u32>,
+) -> Result<(), AllocError>
+    requires few { length links.old.items ≤ 512 }
+    requires output { IsSome (binding_at ports.old.items out) }
+    requires input { IsSome (binding_at ports.old.items into) }
+    requires there { (c : ℕ) → link_into ports.old.items into ≡ Some c → c < length links.old.items }
+    requires room { is_full links.old.items (link_into ports.old.items into) ≡ false }
+    ensures links { OnOk result (links.new.items ≡ joined_links links.old.items out into capacity (link_into ports.old.items into)) }
+    ensures ports { OnOk result (ports.new.items ≡ joined_ports ports.old.items links.old.items out into (link_into ports.old.items into)) }
+    ensures same_links { OnErr result (links.new.items ≡ links.old.items) }
+    ensures same_ports { OnErr result (ports.new.items ≡ ports.old.items) }
+{
+    match find::link_into(ports.as_slice(), into) {
+        None => open_link(alloc, ports, links, out, into, capacity),
+        Some(link) => extend_link(ports, links, link, out, into, capacity),
+    }
+}
+
 /// A text at an input, as the last of its process's.
 pub fn give(
-    processes: &mut [Begun],
-    ports: &mut [Port],
+    processes: &mut Vec<Begun>,
+    ports: &mut Vec<Port>,
     process: u32,
     input: End,
     text: Text,
 ) -> Result<(), AllocError>
-    requires there { process < length processes.old }
-    requires input { IsSome (binding_at ports.old input) }
-    ensures processes { OnOk result (processes.new ≡ updated (λ (begun : Begun). record begun { texts = begun.texts ++ (input, text) ∷ [] }) processes.old process) }
-    ensures ports { OnOk result (ports.new ≡ bound ports.old input Binding.Given) }
-    ensures same_processes { OnErr result (processes.new ≡ processes.old) }
-    ensures same_ports { OnErr result (ports.new ≡ ports.old) }
+    requires there { process < length processes.old.items }
+    requires input { IsSome (binding_at ports.old.items input) }
+    ensures processes { OnOk result (processes.new.items ≡ updated (with_text input text) processes.old.items process) }
+    ensures ports { OnOk result (ports.new.items ≡ bound ports.old.items input (Binding.Given (next_text (slice_get processes.old.items process)))) }
+    ensures same_processes { OnErr result (processes.new.items ≡ processes.old.items) }
+    ensures same_ports { OnErr result (ports.new.items ≡ ports.old.items) }
 {
     let begun = &mut processes[process as usize];
+    let place = begun.texts.len() as u64;
     begun.texts.push((input, text))?;
-    bind(ports, input, Binding::Given);
+    bind(ports, input, Binding::Given(place));
     Ok(())
 }

@@ -1,12 +1,14 @@
 //! Plans of networks: processes with their options and initial texts, and the connections between them.
 #![tactic(auto)]
 
+mod begin;
 mod builder;
 mod draft;
 mod fault;
 mod find;
 mod join;
 mod kind;
+mod options;
 mod plan;
 mod thin;
 

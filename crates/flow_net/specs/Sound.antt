@@ -1,0 +1,87 @@
+-- What holds of every draft.
+use Rattle.std.specs.Prelude.{◌≡◌, ℕ, ◌+◌, ◌*◌, ◌<◌, ◌≤◌, ◌==◌, ◌&&◌, ◌^◌, if◌then◌else◌, Bool, true, false, List, length, Option, Some, None, slice_get}
+use Rattle.std.specs.Option.{option_and_then, option_map, option_map_or}
+use Rattle.flow_net.specs.declared.draft.End.{End}
+use Rattle.flow_net.specs.declared.draft.Binding.{Binding}
+use Rattle.flow_net.specs.declared.draft.Binding.TheVariants.{Free, Receives, Sends, Given}
+use Rattle.flow_net.specs.declared.draft.Port.{Port}
+use Rattle.flow_net.specs.declared.draft.Begun.{Begun}
+use Rattle.flow_net.specs.declared.draft.Link.{Link}
+use Rattle.flow_net.specs.declared.kind.KindSpec.{KindSpec}
+use Rattle.flow_net.specs.declared.kind.PortSpec.{PortSpec}
+use Rattle.flow_net.specs.declared.kind.PortClass.{PortClass}
+use Rattle.flow_net.specs.declared.kind.PortClass.TheVariants.{Stream}
+use Rattle.flow_net.specs.Drafts.{Draft, binding_at, is_stream_at}
+use Rattle.flow_net.specs.Calls.{process_at, room_of}
+use Rattle.flow_net.specs.Options.{FitsPort}
+
+-- An input port is needed, and so is an array; there are at most 4,096 ports on each side, whose names differ.
+pub record IsKind (kind : KindSpec) : Type 0 where
+  pub inputs_needed : (i : ℕ) (spec : PortSpec) → slice_get kind.inputs i ≡ Some spec → spec.needed ≡ true
+  pub arrays_needed : (i : ℕ) (spec : PortSpec) → slice_get kind.outputs i ≡ Some spec → spec.array ≡ true → spec.needed ≡ true
+  pub few_inputs : length kind.inputs ≤ 4096
+  pub few_outputs : length kind.outputs ≤ 4096
+
+-- A table of kinds: each is one, and no two have one name, nor two ports on one side of a kind.
+pub record IsTable (kinds : List KindSpec) : Type 0 where
+  pub kind : (k : ℕ) (kind : KindSpec) → slice_get kinds k ≡ Some kind → IsKind kind
+  pub names : (k l : ℕ) (kind other : KindSpec) → slice_get kinds k ≡ Some kind → slice_get kinds l ≡ Some other → kind.name ≡ other.name → k ≡ l
+  pub inputs : (k i j : ℕ) (kind : KindSpec) (spec other : PortSpec) → slice_get kinds k ≡ Some kind → slice_get kind.inputs i ≡ Some spec → slice_get kind.inputs j ≡ Some other → spec.name ≡ other.name → i ≡ j
+  pub outputs : (k i j : ℕ) (kind : KindSpec) (spec other : PortSpec) → slice_get kinds k ≡ Some kind → slice_get kind.outputs i ≡ Some spec → slice_get kind.outputs j ≡ Some other → spec.name ≡ other.name → i ≡ j
+
+-- A port of one of this many processes: an input and an array are needed, and an output carries packets.
+pub record IsPort (processes : ℕ) (port : Port) : Type 0 where
+  pub process : port.process < processes
+  pub room : length port.elements ≡ room_of port.spec.array
+  pub input : port.input ≡ true → port.spec.needed ≡ true
+  pub array : port.spec.array ≡ true → port.spec.needed ≡ true
+  pub output : port.input ≡ false → port.spec.class ≡ Stream
+
+-- The element into which a connection leads.
+abbrev pub into_of : List Link → ℕ → Option End
+into_of links c = option_map (λ (link : Link). link.into) (slice_get links c)
+
+-- The sender of a connection at a place.
+abbrev pub sender_at : List Link → ℕ → ℕ → Option End
+sender_at links c k = option_and_then (λ (link : Link). slice_get link.senders k) (slice_get links c)
+
+-- The text of a process at a place, with its element.
+abbrev pub text_at : List Begun → ℕ → ℕ → Option (End × List ℕ)
+text_at processes p k = option_and_then (λ (begun : Begun). slice_get begun.texts k) (slice_get processes p)
+
+-- An element is bound to a connection exactly where the connection names it, and to a text exactly where its process has the text.
+pub record IsListed (ports : List Port) (processes : List Begun) (links : List Link) : Type 0 where
+  pub receives : (end : End) (c : ℕ) → binding_at ports end ≡ Some (Receives c) → into_of links c ≡ Some end
+  pub received : (end : End) (c : ℕ) → into_of links c ≡ Some end → binding_at ports end ≡ Some (Receives c)
+  pub sends : (end : End) (c k : ℕ) → binding_at ports end ≡ Some (Sends c k) → sender_at links c k ≡ Some end
+  pub sent : (end : End) (c k : ℕ) → sender_at links c k ≡ Some end → binding_at ports end ≡ Some (Sends c k)
+  pub has : (end : End) (k : ℕ) → binding_at ports end ≡ Some (Given k) → option_map (λ (text : End × List ℕ). text.0) (text_at processes (process_at ports end) k) ≡ Some end
+  pub given : (p k : ℕ) (end : End) (text : List ℕ) → text_at processes p k ≡ Some (end, text) → (binding_at ports end ≡ Some (Given k)) × (process_at ports end ≡ p)
+
+-- The side of an element's port.
+abbrev pub is_input_at : List Port → End → Option Bool
+is_input_at ports end = option_map (λ (port : Port). port.input) (slice_get ports end.port)
+
+-- Inputs receive and are given texts of their class, and outputs send.
+pub record IsSided (ports : List Port) (processes : List Begun) (links : List Link) : Type 0 where
+  pub into : (c : ℕ) (end : End) → into_of links c ≡ Some end → (is_input_at ports end ≡ Some true) × (is_stream_at ports end ≡ true)
+  pub sender : (c k : ℕ) (end : End) → sender_at links c k ≡ Some end → is_input_at ports end ≡ Some false
+  pub text : (p k : ℕ) (end : End) (text : List ℕ) → text_at processes p k ≡ Some (end, text) → (is_input_at ports end ≡ Some true) × FitsPort (slice_get ports end.port) text × (length text ≤ 1048576)
+
+-- What a connection may have: a capacity from 1 to 1,024, and up to 65,535 senders.
+pub record IsLink (link : Link) : Type 0 where
+  pub capacity : (n : ℕ) → link.capacity ≡ Some n → (1 ≤ n) × (n ≤ 1024)
+  pub senders : length link.senders ≤ 65535
+
+-- What holds of every draft.
+pub record IsSound (draft : Draft) : Type 0 where
+  pub kinds : IsTable draft.kinds
+  pub few_processes : length draft.processes ≤ 128
+  pub few_ports : length draft.ports ≤ 8192 * length draft.processes
+  pub few_links : length draft.links ≤ 512
+  pub numbers : (p : ℕ) (begun : Begun) → slice_get draft.processes p ≡ Some begun → begun.number ≡ p
+  pub names : (p q : ℕ) (begun other : Begun) → slice_get draft.processes p ≡ Some begun → slice_get draft.processes q ≡ Some other → begun.name ≡ other.name → p ≡ q
+  pub ports : (g : ℕ) (port : Port) → slice_get draft.ports g ≡ Some port → IsPort (length draft.processes) port
+  pub links : (c : ℕ) (link : Link) → slice_get draft.links c ≡ Some link → IsLink link
+  pub listed : IsListed draft.ports draft.processes draft.links
+  pub sided : IsSided draft.ports draft.processes draft.links

@@ -1,0 +1,91 @@
+//! The texts that option ports take.
+ghost use Rattle.std.specs.Prelude.{◌≡◌, ◌≢◌, ◌≤◌, ◌==◌, ◌+◌, ◌<◌, ◌↔◌, length, IsTrue, count_by, position, ◌∷◌, [], IfSome, IfNone, slice_get};
+ghost use Rattle.std.specs.List.{All, slice_split};
+ghost use Rattle.flow_net.specs.Options.{IsNumberWithin, IsFields, IsFileName, IsOfClass, FitsPort};
+
+use crate::draft::{End, Port};
+use crate::kind::PortClass;
+use flow_text::decimal;
+
+fn is_number(text: &[u8], least: u64, most: u64) -> bool
+    ensures { IsTrue result ↔ IsNumberWithin least most text.now }
+{
+    decimal(text, least, most).is_some()
+}
+
+fn spaces(text: &[u8]) -> usize
+    ensures { result ≡ count_by (λ b. b == 32) text.now }
+{
+    text.iter().filter(|b| **b == b' ').count()
+}
+
+fn space(text: &[u8]) -> Option<usize>
+    ensures { result ≡ position (λ b. b == 32) text.now }
+{
+    text.iter().position(|b| *b == b' ')
+}
+
+// The first part, and the text behind the space that ends it.
+fn first_part(text: &[u8]) -> Option<(&[u8], &[u8])>
+    ensures first { IfSome result (λ p. slice_split (λ b. b == 32) text.now ≡ p.0.now ∷ slice_split (λ b. b == 32) p.1.now) }
+    ensures shorter { IfSome result (λ p. length p.1.now < length text.now) }
+    ensures last { IfNone result (slice_split (λ b. b == 32) text.now ≡ text.now ∷ []) }
+{
+    match space(text) {
+        None => None,
+        Some(end) => Some((&text[..end], &text[end + 1..])),
+    }
+}
+
+// Whether each part between spaces is a length.
+fn all_lengths(text: &[u8]) -> bool
+    ensures { IsTrue result ↔ All (IsNumberWithin 1 255) (slice_split (λ b. b == 32) text.now) }
+{
+    let mut rest = text;
+    'parts: while let Some((part, after)) = first_part(rest) {
+        if !is_number(part, 1, 255) {
+            return false;
+        }
+        rest = after;
+    }
+    is_number(rest, 1, 255)
+}
+
+fn is_fields(text: &[u8]) -> bool
+    ensures { IsTrue result ↔ IsFields text.now }
+{
+    spaces(text) < 8 && all_lengths(text)
+}
+
+fn has_no_zero(text: &[u8]) -> bool
+    ensures { IsTrue result ↔ All (λ b. b ≢ 0) text.now }
+{
+    text.iter().all(|b| *b != 0)
+}
+
+fn is_file_name(text: &[u8]) -> bool
+    ensures { IsTrue result ↔ IsFileName text.now }
+{
+    !text.is_empty() && text.len() <= 255 && str::from_utf8(text).is_ok() && has_no_zero(text)
+}
+
+fn is_of_class(class: PortClass, text: &[u8]) -> bool
+    ensures { IsTrue result ↔ IsOfClass class text.now }
+{
+    match class {
+        PortClass::Stream => true,
+        PortClass::Number { least, most } => is_number(text, least, most),
+        PortClass::Fields => is_fields(text),
+        PortClass::File => is_file_name(text),
+    }
+}
+
+/// Whether a text is of the class of an element's port.
+pub fn fits(ports: &[Port], end: End, text: &[u8]) -> bool
+    ensures { IsTrue result ↔ FitsPort (slice_get ports.now end.port) text.now }
+{
+    match ports.get(end.port as usize) {
+        None => false,
+        Some(port) => is_of_class(port.spec.class, text),
+    }
+}
