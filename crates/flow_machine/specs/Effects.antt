@@ -1,5 +1,5 @@
 -- What an effect does to the process that makes a turn.
-use Rattle.std.specs.Prelude.{◌≡◌, ℕ, ◌<◌, Bool, true, false, List, [], ◌∷◌, ◌++◌, ◌-◌, Option, Some, None, slice_get, slice_set, slice_index}
+use Rattle.std.specs.Prelude.{◌≡◌, ℕ, ◌<◌, Bool, true, false, List, [], ◌∷◌, ◌++◌, ◌-◌, ◌+◌, ◌^◌, length, IsTrue, Option, Some, None, slice_get, slice_set, slice_index}
 use Rattle.flow_packet.specs.declared.packet.Kind.{Kind}
 use Rattle.flow_packet.specs.Tree.{Tree, kind_of}
 use Rattle.flow_packet.specs.Hands.{packet_at}
@@ -13,6 +13,7 @@ use Rattle.flow_model.specs.declared.Stage.TheVariants as stages
 use Rattle.flow_model.specs.States.{Input, From, Text, Process}
 use Rattle.flow_model.specs.Events.{Event, Starts, Finishes, Gets, Takes_text, Hears_end, Learns, Sleeps, Closes, is_fresh}
 use Rattle.flow_model.specs.Turns.{process_after, at_stage, depth_after}
+use Rattle.flow_model.specs.Works.{nests}
 use Rattle.flow_machine.specs.Values.{BodyValue}
 use Rattle.flow_machine.specs.declared.answers.Effect.{Effect}
 use Rattle.flow_machine.specs.declared.answers.Effect.TheVariants as effects
@@ -43,6 +44,11 @@ text_event port false input = Hears_end port
 abbrev pub depths_sent : List ℕ → ℕ → Option Kind → List ℕ
 depths_sent depths port (Some kind) = slice_set depths port (depth_after kind (slice_index depths port))
 depths_sent depths port None = depths
+
+-- A packet of this kind, if there is one, may be sent there: the port is there, and the packet nests.
+abbrev pub CanDeepen : List ℕ → ℕ → Option Kind → Type 0
+CanDeepen depths port (Some kind) = (port < length depths) × (slice_index depths port + 1 < 2 ^ 32) × IsTrue (nests kind (slice_index depths port))
+CanDeepen depths port None = Unit {0}
 
 -- The process after its turn, where the packet that it sends, if any, has left its hands already: what the turns of the machine do to it. A
 -- process after a turn doesn't depend on the number of the connection.

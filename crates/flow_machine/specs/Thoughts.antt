@@ -87,7 +87,13 @@ HasNotFailed (stages.Failed cause) = ⊥
 abbrev pub Thinks : {K : Type 0} → (K → Held → Answer → Outcome K → Type 0) → BodyValue K → Thought → BodyValue K → Type 0
 Thinks next old thoughts.Wishing new = SettlesBody next old new × IsSet new × HasNotFailed new.process.stage
 Thinks next old (thoughts.Failed cause) new = SettlesBody next old new × (new.process.stage ≡ stages.Failed cause)
-Thinks next old thoughts.NoMemory new = SameBody old new ⊎ (WorkedBody next old new × HasNotFailed new.process.stage)
+Thinks next old thoughts.NoMemory new = (SameBody old new ⊎ WorkedBody next old new) × HasNotFailed new.process.stage
+
+-- The same of a body whose work is done: it takes the room of its next turn.
+abbrev pub Prepares : {K : Type 0} → BodyValue K → Thought → BodyValue K → Type 0
+Prepares old thoughts.Wishing new = SameBody old new × IsSet new × HasNotFailed new.process.stage
+Prepares old (thoughts.Failed cause) new = SameBody old new × (new.process.stage ≡ stages.Failed cause)
+Prepares old thoughts.NoMemory new = SameBody old new × HasNotFailed new.process.stage
 
 -- Stamps, level numbers and a packet under way stay.
 pub record KeepsTurns {K : Type 0} (old new : BodyValue K) : Type 0 where

@@ -8,7 +8,7 @@ ghost use Rattle.flow_model.specs.Works.{nests};
 ghost use Rattle.flow_model.specs.declared.Stage.TheVariants.{Wishing, Idle};
 ghost use Rattle.flow_component.specs.declared.Wish.TheVariants.{Receive, Send, Deactivate, Level};
 ghost use Rattle.flow_machine.specs.Outlets.{closing_in};
-ghost use Rattle.flow_machine.specs.Effects.{effected, levels_by, IsEffectFor, WishesReceive, WishesSend, WishesLevel, WishesText, IsClosing, TakesTurn, port_at, id_sent};
+ghost use Rattle.flow_machine.specs.Effects.{effected, levels_by, IsEffectFor, WishesReceive, WishesSend, WishesLevel, WishesText, IsClosing, TakesTurn, port_at, depths_sent, CanDeepen};
 ghost use Rattle.flow_machine.specs.Thoughts.{HasRoom};
 
 use super::Body;
@@ -58,6 +58,17 @@ fn deepened(kind: Kind, depth: u32) -> u32
         Kind::Normal => depth,
         Kind::Open => depth + 1,
         Kind::Close => depth - 1,
+    }
+}
+
+/// The depth of an output to which a packet of this kind was sent, if one was.
+fn deepen(depths: &mut [u32], port: Port, kind: Option<Kind>)
+    requires { CanDeepen depths.old port.0 kind }
+    ensures { depths.new ≡ depths_sent depths.old port.0 kind }
+{
+    if let Some(kind) = kind {
+        let depth = depths[port.0 as usize];
+        depths[port.0 as usize] = deepened(kind, depth);
     }
 }
 
@@ -188,10 +199,7 @@ impl<K: Component> Body<K> {
         ensures { TakesTurn self.old Effect.Sent stamp self.new }
     {
         let port = wished_port(self.stage);
-        if let Some(kind) = self.leaving {
-            let depth = &mut self.depths[port.0 as usize];
-            *depth = deepened(kind, *depth);
-        }
+        deepen(&mut self.depths, port, self.leaving);
         self.leaving = None;
         add_stamp(&mut self.stamps, stamp);
         self.stage = limited_stage(self.stamps.len(), Stage::Told(Answer::Sent));
@@ -223,10 +231,11 @@ impl<K: Component> Body<K> {
         ensures { TakesTurn self.old Effect.Closed stamp self.new }
     {
         add_stamp(&mut self.stamps, stamp);
-        let stage = match self.stage {
-            Stage::Closing(place) => closing_stage(&self.outputs, place + 1),
-            _ => unreachable!(),
+        let stage = self.stage;
+        let Stage::Closing(place) = stage else {
+            unreachable!()
         };
-        self.stage = limited_stage(self.stamps.len(), stage);
+        let next = closing_stage(&self.outputs, place + 1);
+        self.stage = limited_stage(self.stamps.len(), next);
     }
 }

@@ -3,9 +3,9 @@ ghost use Rattle.std.specs.Prelude.{◌≡◌, ◌↔◌, None, OnOk};
 ghost use Rattle.std.specs.Bool.{OnTrue, OnFalse};
 ghost use Rattle.flow_packet.specs.Held.{held_of};
 ghost use Rattle.flow_model.specs.Works.{judged};
-ghost use Rattle.flow_model.specs.declared.Stage.TheVariants.{Told, Failed};
-ghost use Rattle.flow_component.specs.declared.Fail.{Fail};
-ghost use Rattle.flow_machine.specs.Thoughts.{Thinks, KeepsTurns, HasRoom, WorkedBody, SameBody, SendsHeld};
+ghost use Rattle.flow_model.specs.Schedules.{IsThoughtStage};
+ghost use Rattle.flow_model.specs.declared.Stage.TheVariants.{Told};
+ghost use Rattle.flow_machine.specs.Thoughts.{Thinks, KeepsTurns, HasRoom, WorkedBody, SameBody, SendsHeld, HasNotFailed, Prepares};
 
 use super::Body;
 use crate::answers::Thought;
@@ -52,14 +52,26 @@ impl<K: Component> Body<K> {
         requires { self.old.leaving ≡ None }
         ensures thinks { Thinks K.next self.old result self.new }
         ensures keeps { KeepsTurns self.old self.new }
-        ensures failed { (cause : Fail) → (result ≡ Thought.Failed cause) ↔ (self.new.process.stage ≡ Failed cause) }
     {
-        if let Stage::Told(answer) = self.stage {
-            gate.pass(self.number);
-            if !self.work(answer) {
-                return Thought::NoMemory;
-            }
+        let stage = self.stage;
+        let Stage::Told(answer) = stage else {
+            return self.prepare();
+        };
+        gate.pass(self.number);
+        if self.work(answer) {
+            self.prepare()
+        } else {
+            Thought::NoMemory
         }
+    }
+
+    /// Takes the room of the next turn, if there is to be one.
+    fn prepare(&mut self) -> Thought
+        requires whole { self.old.leaving ≡ None }
+        requires thought { IsThoughtStage self.old.process.stage }
+        ensures prepares { Prepares self.old result self.new }
+        ensures keeps { KeepsTurns self.old self.new }
+    {
         match self.stage {
             Stage::Failed(cause) => Thought::Failed(cause),
             Stage::Ended => Thought::Wishing,
@@ -74,8 +86,8 @@ impl<K: Component> Body<K> {
     fn work(&mut self, answer: Answer) -> bool
         requires whole { self.old.leaving ≡ None }
         requires told { self.old.process.stage ≡ Told answer }
-        ensures worked { OnTrue result (WorkedBody K.next self.old self.new) }
-        ensures unchanged { OnFalse result (SameBody self.old self.new) }
+        ensures worked { OnTrue result (WorkedBody K.next self.old self.new × IsThoughtStage self.new.process.stage) }
+        ensures unchanged { OnFalse result (SameBody self.old self.new × HasNotFailed self.new.process.stage) }
         ensures keeps { KeepsTurns self.old self.new }
     {
         match self.part.resume(&mut self.hands, answer) {

@@ -1,0 +1,4 @@
+pub mod OutletLemmas
+pub mod Standing
+pub mod Thinking
+pub mod InletLemmas
