@@ -1,5 +1,6 @@
 -- What status and wish ask for.
-use Rattle.std.specs.Prelude.{ℕ, List, Option, Some, None, slice_get, unwrap_or}
+use Rattle.std.specs.Prelude.{◌≡◌, ℕ, List, Option, Some, None, slice_get}
+use Rattle.flow_component.specs.declared.Fail.{Fail}
 use Rattle.flow_component.specs.declared.Port.{Port}
 use Rattle.flow_component.specs.declared.Wish.{Wish}
 use Rattle.flow_component.specs.declared.Wish.TheVariants as wishes
@@ -56,3 +57,16 @@ stage_case x (stages.Failed cause) = Some (cases.Over overs.Failed)
 
 abbrev pub case_of : {K : Type 0} → Process K → Option Case
 case_of x = stage_case x x.stage
+
+-- What it takes to be a case.
+abbrev pub CaseIs : {K : Type 0} → Process K → Case → Type 0
+CaseIs x cases.Idle = x.stage ≡ stages.Idle
+CaseIs x (cases.Receive c port) = (x.stage ≡ stages.Wishing (wishes.Receive port)) × (slice_get x.inputs port.0 ≡ Some (From c))
+CaseIs x (cases.Initial port) = (text : List ℕ) × (x.stage ≡ stages.Wishing (wishes.Receive port)) × (slice_get x.inputs port.0 ≡ Some (Text text))
+CaseIs x (cases.Send c port) = (id : ℕ) × (x.stage ≡ stages.Wishing (wishes.Send port id)) × (output_at x port.0 ≡ Some c)
+CaseIs x (cases.Level c port) = (x.stage ≡ stages.Wishing (wishes.Level port)) × (output_at x port.0 ≡ Some c)
+CaseIs x cases.Deactivate = x.stage ≡ stages.Wishing wishes.Deactivate
+CaseIs x (cases.Close c) = (i : ℕ) × (outlet : Outlet) × (x.stage ≡ stages.Closing i) × (slice_get (outlets x) i ≡ Some outlet) × (outlet.connection ≡ c)
+CaseIs x (cases.Over overs.Ended) = x.stage ≡ stages.Ended
+CaseIs x (cases.Over overs.Failed) = (cause : Fail) × (x.stage ≡ stages.Failed cause)
+CaseIs x (cases.Over overs.Starved) = ⊥

@@ -178,3 +178,6 @@ channel_code =
     code_by (List Tree × (ℕ × (ℕ × (ℕ × ℕ)))) (coded× (coded_list tree_code) (coded× coded_ℕ (coded× coded_ℕ (coded× coded_ℕ coded_ℕ))))
     (λ c. (c.packets, (c.capacity, (c.open_senders, (c.puts, c.takes)))))
     (λ p. record { packets = p.0; capacity = p.1.0; open_senders = p.1.1.0; puts = p.1.1.1.0; takes = p.1.1.1.1 }) (λ _. refl)
+
+abbrev pub net_code : {K : Type 0} → Coded K → Coded (NetValue K)
+net_code {K} k = code_by (List (BodyValue K) × List ChannelShown) (coded× (coded_list (body_code k)) (coded_list channel_code)) (λ n. (n.bodies, n.channels)) (λ p. record { bodies = p.0; channels = p.1 }) (λ _. refl)

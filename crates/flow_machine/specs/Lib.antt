@@ -9,3 +9,7 @@ pub mod Effects
 pub mod Bodies
 pub mod Thoughts
 pub mod Outlets
+pub mod Nets
+pub mod Logs
+pub mod FitNets
+pub mod NetSteps

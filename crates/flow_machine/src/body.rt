@@ -18,6 +18,7 @@ use flow_packet::packet::{Kind, Packet, PacketId};
 use std::marker::Model;
 
 mod effect;
+mod idle;
 mod think;
 
 

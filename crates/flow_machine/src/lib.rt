@@ -5,6 +5,7 @@ mod answers;
 mod body;
 mod channel;
 mod inlet;
+mod net;
 mod outlets;
 
 pub use answers::{Case, Effect, Over, Status, Thought, Turn};
