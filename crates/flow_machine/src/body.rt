@@ -13,8 +13,8 @@ use crate::inlet::Inlet;
 use crate::outlets::{outlet_at, output_at};
 use flow_component::{Component, Port, Wish};
 use flow_model::Stage;
-use flow_packet::hands::Hands;
-use flow_packet::packet::{Kind, Packet, PacketId};
+use flow_packet::Hands;
+use flow_packet::{Kind, Packet, PacketId};
 use std::marker::Model;
 
 mod effect;

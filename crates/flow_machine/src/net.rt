@@ -12,7 +12,10 @@ use flow_model::Block;
 use std::marker::Model;
 
 mod pair;
+mod solo;
 mod turns;
+
+pub use solo::{Closed, solo};
 
 /// A network: its processes and its connections.
 pub struct Net<K: Component> {
