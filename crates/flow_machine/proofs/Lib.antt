@@ -8,3 +8,4 @@ pub mod NetTurns
 pub mod PlanLemmas
 pub mod LogLemmas
 pub mod FitLemmas
+pub mod SoloLemmas

@@ -6,7 +6,7 @@ use Rattle.flow_component.specs.declared.Shape.{Shape}
 use Rattle.flow_component.specs.Laws.{Outcome}
 use Rattle.flow_model.specs.States.{State}
 use Rattle.flow_model.specs.Events.{Event, event_from}
-use Rattle.flow_model.specs.Schedules.{Journal, SettlesAll, WorksLead}
+use Rattle.flow_model.specs.Schedules.{Journal, no_turns, SettlesAll, WorksLead}
 use Rattle.flow_model.specs.Robin.{TurnsOf, Burst, PassBelow, Passes, joined, RoundRobin}
 use Rattle.flow_model.specs.Verdicts.{Quiet}
 use Rattle.flow_model.specs.Stands.{StandsForOpen}
@@ -67,6 +67,13 @@ pass_below next n journal s s' = PassBelow next n s journal s'
 
 abbrev pub some_passes : {K : Type 0} → (K → Held → Answer → Outcome K → Type 0) → Journal → State K → State K → Type 0
 some_passes next journal s s' = (passes : List Journal) × (journal ≡ joined passes) × Passes next s passes s'
+
+-- Works of some processes, without a turn; all works that were to come.
+abbrev pub some_works : {K : Type 0} → (K → Held → Answer → Outcome K → Type 0) → Journal → State K → State K → Type 0
+some_works next journal s s' = (journal ≡ no_turns) × ((works : List ℕ) × WorksLead next s works s')
+
+abbrev pub all_settled : {K : Type 0} → (K → Held → Answer → Outcome K → Type 0) → Journal → State K → State K → Type 0
+all_settled next journal s s' = (journal ≡ no_turns) × SettlesAll next s s'
 
 -- A round robin: the pending works are done, and then each process takes turns until it has none, round and round, until no process has one.
 abbrev pub round_robin : {K : Type 0} → (K → Held → Answer → Outcome K → Type 0) → Journal → State K → State K → Type 0

@@ -108,7 +108,9 @@ impl<K: Component> Body<K> {
 
     /// The stamps of its turns, in order.
     pub fn turns(&self) -> &[u32]
-        ensures { result.now ≡ self.now.stamps }
+        ensures stamps { result.now ≡ self.now.stamps }
+        ensures count { length result.now ≡ self.now.process.turns }
+        ensures few { length result.now ≤ 8388608 }
     {
         &self.stamps
     }

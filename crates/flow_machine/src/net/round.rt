@@ -1,16 +1,15 @@
 //! One thread runs a network: each process takes turns until it has none, round and round.
-ghost use Rattle.std.specs.Prelude.{◌≡◌, ◌<◌, ◌≤◌, length, [], OnOk, IfOk, ℕ};
+ghost use Rattle.std.specs.Prelude.{◌≡◌, ◌<◌, ◌≤◌, ◌+◌, length, [], OnOk, IfOk};
 ghost use Rattle.std.specs.Bool.{OnTrue, OnFalse};
-ghost use Rattle.flow_machine.specs.Values.{NetValue};
 ghost use Rattle.flow_machine.specs.NetSteps.{IsSetIn};
 ghost use Rattle.flow_machine.specs.Starts.{AllSet};
 ghost use Rattle.flow_machine.specs.Logs.{turns_made};
-ghost use Rattle.flow_machine.specs.Solo.{Goes, GoesOn, MakesTurn, SettlesNet, SetBelow, burst_of, pass_below, round_robin};
+ghost use Rattle.flow_machine.specs.Solo.{Goes, MakesTurn, SettlesNet, all_settled, burst_of, pass_below, round_robin};
 
 use super::Net;
 use crate::answers::{Thought, Turn};
 use flow_component::{Component, NoGate};
-use std::alloc::{AllocError, Global};
+use std::alloc::Global;
 
 /// A run that is over: the network, and the processes whose thoughts found no memory.
 pub struct Closed<K: Component> {
@@ -34,23 +33,14 @@ impl<K: Component> Closed<K> {
 }
 
 impl<K: Component> Net<K> {
-    /// How many turns were made.
-    fn turn_count(&self) -> u32
-        ensures { result ≡ turns_made self.now }
-    {
-        let mut count = 0;
-        for process in 0..self.processes() {
-            count += self.body(process).turns().len() as u32;
-        }
-        count
-    }
-
     /// Makes a turn of a process, if it has one. Takes no memory.
     fn make_turn(&mut self, process: u32, stamp: u32) -> bool
         requires in_range { process < length self.old.bodies }
         requires set { IsSetIn self.old process }
         requires next { stamp ≡ turns_made self.old }
-        ensures { MakesTurn self.old process stamp result self.new }
+        ensures turn { MakesTurn self.old process stamp result self.new }
+        ensures next { OnTrue result (turns_made self.new ≡ stamp + 1) }
+        ensures few { turns_made self.new ≤ 1073741824 }
     {
         match self.turn(process, stamp) {
             Turn::Made(_) => true,
@@ -63,6 +53,8 @@ impl<K: Component> Net<K> {
     fn settle(&mut self, process: u32) -> bool
         requires { process < length self.old.bodies }
         ensures settles { OnTrue result (SettlesNet K.next self.old process self.new) }
+        ensures len { length self.new.bodies ≡ length self.old.bodies }
+        ensures turns { turns_made self.new ≡ turns_made self.old }
     {
         match self.think(process, &NoGate) {
             Thought::Wishing => true,
@@ -74,6 +66,9 @@ impl<K: Component> Net<K> {
     /// Does all pending works. An error is the first process that found no memory.
     fn settle_all(&mut self) -> Result<(), u32>
         ensures set { OnOk result (AllSet self.new.bodies) }
+        ensures goes { OnOk result (Goes K.shape_of K.uses K.ready (all_settled K.next) self.old (turns_made self.old) self.new (turns_made self.old)) }
+        ensures len { length self.new.bodies ≡ length self.old.bodies }
+        ensures turns { turns_made self.new ≡ turns_made self.old }
     {
         for process in 0..self.processes() {
             if !self.settle(process) {
@@ -88,8 +83,10 @@ impl<K: Component> Net<K> {
         requires in_range { process < length self.old.bodies }
         requires set { AllSet self.old.bodies }
         requires next { stamp.old ≡ turns_made self.old }
+        requires few { stamp.old ≤ 1073741824 }
         ensures set { OnOk result (AllSet self.new.bodies) }
         ensures next { OnOk result (stamp.new ≡ turns_made self.new) }
+        ensures few { OnOk result (stamp.new ≤ 1073741824) }
         ensures len { length self.new.bodies ≡ length self.old.bodies }
         ensures goes { OnOk result (Goes K.shape_of K.uses K.ready (burst_of K.next process) self.old stamp.old self.new stamp.new) }
     {
@@ -106,8 +103,10 @@ impl<K: Component> Net<K> {
     fn pass(&mut self, stamp: &mut u32) -> Result<bool, u32>
         requires set { AllSet self.old.bodies }
         requires next { stamp.old ≡ turns_made self.old }
+        requires few { stamp.old ≤ 1073741824 }
         ensures set { OnOk result (AllSet self.new.bodies) }
         ensures next { OnOk result (stamp.new ≡ turns_made self.new) }
+        ensures few { OnOk result (stamp.new ≤ 1073741824) }
         ensures len { length self.new.bodies ≡ length self.old.bodies }
         ensures goes { OnOk result (Goes K.shape_of K.uses K.ready (pass_below K.next (length self.old.bodies)) self.old stamp.old self.new stamp.new) }
         ensures moved { IfOk result (λ moved. OnTrue moved (stamp.old < stamp.new) × OnFalse moved (stamp.new ≡ stamp.old)) }
@@ -124,7 +123,7 @@ impl<K: Component> Net<K> {
         ensures { OnOk result (Goes K.shape_of K.uses K.ready (round_robin K.next) self.old (turns_made self.old) self.new (turns_made self.new)) }
     {
         self.settle_all()?;
-        let mut stamp = self.turn_count();
+        let mut stamp = self.turns_made();
         while self.pass(&mut stamp)? {}
         Ok(())
     }
