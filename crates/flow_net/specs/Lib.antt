@@ -1,2 +1,7 @@
+pub mod Calls
+pub mod Drafts
+pub mod Initials
 pub mod Network
+pub mod Options
+pub mod Sound
 pub mod Thin

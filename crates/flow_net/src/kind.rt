@@ -1,5 +1,8 @@
 //! Kinds of processes, and how a port is named.
+ghost use Rattle.std.specs.Prelude.{◌≡◌, IfOk};
+
 use flow_items::{Items, Text};
+use std::alloc::{AllocError, Global};
 
 /// What a port carries. A stream port carries packets. An option port is given one text before the
 /// network runs: a decimal number within bounds, a list of field lengths, or the name of a file.
@@ -34,4 +37,17 @@ pub struct KindSpec {
 pub struct PortRef {
     pub name: Text,
     pub element: Option<u32>,
+}
+
+impl PortRef {
+    /// A copy of this name.
+    pub fn copy(&self, alloc: Global) -> Result<Self, AllocError>
+        ensures { IfOk result (λ port. port ≡ self.now) }
+    {
+        let name = self.name.copy(alloc)?;
+        Ok(PortRef {
+            name,
+            element: self.element,
+        })
+    }
 }
