@@ -1,3 +1,5 @@
 pub mod Many
 pub mod Step
+pub mod Stops
 pub mod Thin
+pub mod Words
