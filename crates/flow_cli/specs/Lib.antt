@@ -1,4 +1,5 @@
 pub mod Many
+pub mod Parts
 pub mod Step
 pub mod Stops
 pub mod Thin
