@@ -19,9 +19,12 @@ pub fn read_parts<F: Shelf>(alloc: Global, shelf: &mut F, plan: &Plan) -> Result
 {
     let mut parts = Vec::new(alloc);
     for process in 0..plan.processes().len() {
-        match read_part(alloc, shelf, plan, process as u32) {
-            Ok(part) => parts.push(part)?,
+        let part = match read_part(alloc, shelf, plan, process as u32) {
+            Ok(part) => part,
             Err(stop) => return Err(stop),
+        };
+        if parts.push(part).is_err() {
+            return Err(Stop::NoMemory);
         }
     }
     Ok(parts)

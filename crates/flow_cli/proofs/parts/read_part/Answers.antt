@@ -1,4 +1,0 @@
-use Rattle.flow_cli.proofs.parts.read_part.Goals as goal
-
-pub returns : goal.returns
-returns g c = ?
