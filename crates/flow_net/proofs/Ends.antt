@@ -83,7 +83,7 @@ IsThere-named ports n process input port end all is =
             owner = ap (λ (o : Option Port). option_map_or (λ (q : Port). q.process) o 0) here ∙ eqb_true p.process process sided.0;
           })
 
-ok_or_ok : {A : Type 0} (o : Option A) (fault : PlanFault) (x : A) → ok_or o fault ≡ Ok x → o ≡ Some x
+pub ok_or_ok : {A : Type 0} (o : Option A) (fault : PlanFault) (x : A) → ok_or o fault ≡ Ok x → o ≡ Some x
 ok_or_ok None fault x is = absurd (cc)
 ok_or_ok (Some y) fault x is = let inner : y ≡ x = cc in ap Some inner
 

@@ -7,3 +7,5 @@ pub mod Steps
 pub mod Listing
 pub mod Ends
 pub mod SoundJoins
+pub mod SoundBegins
+pub mod SoundGives

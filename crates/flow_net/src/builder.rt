@@ -1,5 +1,5 @@
 //! A network that is named call by call.
-ghost use Rattle.std.specs.Prelude.{◌≡◌, []};
+ghost use Rattle.std.specs.Prelude.{◌≡◌, ◌≤◌, [], length};
 ghost use Rattle.flow_net.specs.Drafts.{Becomes};
 ghost use Rattle.flow_net.specs.Calls.{after_process, after_connect};
 ghost use Rattle.flow_net.specs.Initials.{AfterInitial};
@@ -9,6 +9,7 @@ use crate::begin;
 use crate::draft::{Begun, Link, Port};
 use crate::fault::{PlanFault, PlanStop};
 use crate::find;
+use crate::give;
 use crate::join;
 use crate::kind::{KindSpec, PortRef};
 use crate::options;
@@ -95,6 +96,32 @@ impl PlanBuilder {
             output,
             input,
             capacity,
+        )?;
+        Ok(())
+    }
+
+    /// Gives an input its text: to a stream port an initial packet, to an option port its value.
+    pub fn initial(&mut self, text: &[u8], to: &[u8], into: &PortRef) -> Result<(), PlanStop>
+        requires { length text.now ≤ 1048576 }
+        ensures { AfterInitial self.old text.now to.now into.now result self.new }
+    {
+        let alloc = self.alloc;
+        let ports = self.ports.as_slice();
+        let input = match give::input_for(alloc, self.processes.as_slice(), ports, to, into) {
+            Ok(input) => input,
+            Err(stop) => return Err(stop),
+        };
+        if !options::fits(ports, input, text) {
+            return Err(PlanStop::Fault(give::option_fault(alloc, to, into)?));
+        }
+        let process = give::process_at(ports, input);
+        let text = Text::from_slice(alloc, text)?;
+        give::give(
+            &mut self.processes,
+            &mut self.ports,
+            process,
+            input,
+            text,
         )?;
         Ok(())
     }

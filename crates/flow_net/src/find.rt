@@ -94,7 +94,8 @@ pub fn is_stream_at(ports: &[Port], end: End) -> bool
     }
 }
 
-fn found_process(alloc: Global, processes: &[Begun], name: &[u8]) -> Result<u32, PlanStop>
+/// The process of a name, or that there is none.
+pub fn found_process(alloc: Global, processes: &[Begun], name: &[u8]) -> Result<u32, PlanStop>
     requires { length processes.now ≤ 128 }
     ensures { Answers (process_of_name processes.now name.now) result }
 {
@@ -107,7 +108,8 @@ fn found_process(alloc: Global, processes: &[Begun], name: &[u8]) -> Result<u32,
     }
 }
 
-fn found_end(
+/// The element that a network names, or that there is none.
+pub fn found_end(
     alloc: Global,
     ports: &[Port],
     number: u32,

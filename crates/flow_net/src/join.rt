@@ -1,9 +1,9 @@
-//! Joining an output to an input, and giving an input a text.
+//! Joining an output to an input.
 ghost use Rattle.std.specs.Prelude.{◌≡◌, ◌∷◌, ◌++◌, [], ◌<◌, ◌≤◌, ◌^◌, length, IsSome, IfOk, OnOk, OnErr, Some, None, ℕ, false, slice_get};
 ghost use Rattle.flow_net.specs.Drafts.{Answers, binding_at, bound, updated};
-ghost use Rattle.flow_net.specs.Calls.{allowed_capacity, same_capacity, capacity_before, is_full, may_join, is_taken, has_text, link_into, first_given, next_sender, next_text, with_sender, with_text, joined_links, joined_ports};
+ghost use Rattle.flow_net.specs.Calls.{allowed_capacity, same_capacity, capacity_before, is_full, may_join, is_taken, has_text, link_into, first_given, next_sender, with_sender, joined_links, joined_ports};
 
-use crate::draft::{Begun, Binding, End, Link, Port};
+use crate::draft::{Binding, End, Link, Port};
 use crate::fault::{Many, PlanFault, PlanStop};
 use crate::find;
 use crate::kind::PortRef;
@@ -64,7 +64,8 @@ fn is_full(links: &[Link], link: Option<u32>) -> bool
     }
 }
 
-fn is_taken(binding: Option<Binding>) -> bool
+/// Whether an element is bound.
+pub fn is_taken(binding: Option<Binding>) -> bool
     ensures { result ≡ is_taken binding }
 {
     match binding {
@@ -80,7 +81,8 @@ fn has_text(binding: Option<Binding>) -> bool
     matches!(binding, Some(Binding::Given(_)))
 }
 
-fn taken_fault(alloc: Global, process: &[u8], port: &PortRef) -> Result<PlanFault, AllocError>
+/// That a port is taken.
+pub fn taken_fault(alloc: Global, process: &[u8], port: &PortRef) -> Result<PlanFault, AllocError>
     ensures { IfOk result (λ fault. fault ≡ PlanFault.PortTaken process.now port.now) }
 {
     let process = Text::from_slice(alloc, process)?;
@@ -129,7 +131,8 @@ pub fn may_join(
     Ok(())
 }
 
-fn bind(ports: &mut Vec<Port>, end: End, binding: Binding)
+/// Binds an element.
+pub fn bind(ports: &mut Vec<Port>, end: End, binding: Binding)
     requires { IsSome (binding_at ports.old.items end) }
     ensures { ports.new.items ≡ bound ports.old.items end binding }
 {
@@ -240,26 +243,4 @@ pub fn join(
         None => open_link(alloc, ports, links, out, into, capacity),
         Some(link) => extend_link(ports, links, link, out, into, capacity),
     }
-}
-
-/// A text at an input, as the last of its process's.
-pub fn give(
-    processes: &mut Vec<Begun>,
-    ports: &mut Vec<Port>,
-    process: u32,
-    input: End,
-    text: Text,
-) -> Result<(), AllocError>
-    requires there { process < length processes.old.items }
-    requires input { IsSome (binding_at ports.old.items input) }
-    ensures processes { OnOk result (processes.new.items ≡ updated (with_text input text) processes.old.items process) }
-    ensures ports { OnOk result (ports.new.items ≡ bound ports.old.items input (Binding.Given (next_text (slice_get processes.old.items process)))) }
-    ensures same_processes { OnErr result (processes.new.items ≡ processes.old.items) }
-    ensures same_ports { OnErr result (ports.new.items ≡ ports.old.items) }
-{
-    let begun = &mut processes[process as usize];
-    let place = begun.texts.len() as u64;
-    begun.texts.push((input, text))?;
-    bind(ports, input, Binding::Given(place));
-    Ok(())
 }

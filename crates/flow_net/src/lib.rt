@@ -6,6 +6,7 @@ mod builder;
 mod draft;
 mod fault;
 mod find;
+mod give;
 mod join;
 mod kind;
 mod options;

@@ -1,7 +1,7 @@
 use Rattle.std.proofs.Common.{◌≡◌, ◌∷◌, ◌++◌, [], refl, sym, ap, ◌∙◌, rules, arith}
 use Rattle.flow_net.specs.Calls.{with_text}
 use Rattle.flow_net.proofs.Places.{slice_set-updated}
-use Rattle.flow_net.proofs.join.give.Goals as goal
+use Rattle.flow_net.proofs.give.give.Goals as goal
 
 pub returns-clause-processes : goal.returns-clause-processes
 returns-clause-processes c =
