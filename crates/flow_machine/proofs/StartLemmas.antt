@@ -17,6 +17,7 @@ use Rattle.flow_model.specs.Stands.{bodies_from, channels_from}
 use Rattle.flow_model.proofs.Start.{port-at, Valid-start}
 use Rattle.flow_model.proofs.Blocks.{AllFit-start}
 use Rattle.flow_model.proofs.Fits.{Fit-start}
+use Rattle.flow_machine.proofs.Lists.{element-there, nothing-there}
 use Rattle.flow_machine.specs.Values.{BodyValue, NetValue, shown_body}
 use Rattle.flow_machine.specs.Bodies.{StandsWell}
 use Rattle.flow_machine.specs.PlanOf.{plan_of, sender_of, connection_of, leads_to, comes_from}
@@ -112,11 +113,6 @@ turns-none : {K : Type 0} (bodies : List (BodyValue K)) → ((p : ℕ) (b : Body
 turns-none [] none = refl
 turns-none {K} (b ∷ bodies) none = sum_by-cons (λ (x : BodyValue K). x.process.turns) b bodies ∙ omega (arith, none 0 b refl, turns-none bodies (λ p x is. none (suc p) x is))
 
-pub element-there : {A : Type 0} (xs : List A) (i : ℕ) → i < length xs → (x : A) × (slice_get xs i ≡ Some x)
-element-there [] i within = absurd (omega (arith, within))
-element-there (x ∷ xs) zero within = (x, refl)
-element-there (x ∷ xs) (suc i) within = element-there xs i (omega (arith, within))
-
 -- each body is a process of the plan that starts
 record Begun {K : Type 0} (plan : Plan) (p : ℕ) (b : BodyValue K) : Type 0 where
   spec : PlanProcess
@@ -175,22 +171,6 @@ first-is (y ∷ xs) (suc n) v x there is = first-is xs n v x there is
 pub first-of : {A : Type 0} (xs ys : List A) (n : ℕ) (v x : A) → ys ≡ drop n xs → slice_get xs n ≡ Some x → v ≡ get_or ys 0 v → v ≡ x
 first-of {A} xs ys n v x is there first = first-is xs n v x there (first ∙ ap (λ (zs : List A). get_or zs 0 v) is)
 
-pub nothing-there : {A : Type 0} (i : ℕ) (x : A) → slice_get [] i ≡ Some x → ⊥
-nothing-there i x is = absurd (cc)
-
-pub some-same : {A : Type 0} (x y : A) → Some x ≡ Some y → x ≡ y
-some-same x y is = cc
-
--- an element of a list with one more
-pub last-or : {A : Type 0} (xs : List A) (y : A) (i : ℕ) (z : A) → slice_get (xs ++ y ∷ []) i ≡ Some z → (slice_get xs i ≡ Some z) ⊎ ((i ≡ length xs) × (y ≡ z))
-last-or [] y zero z is = inr (refl, (let h : y ≡ z = cc in h))
-last-or [] y (suc i) z is = absurd (cc)
-last-or (x ∷ xs) y zero z is = inl is
-last-or (x ∷ xs) y (suc i) z is = elim (last-or xs y i z is) [
-  | inl h ↦ inl h
-  | inr h ↦ inr (let e : suc i ≡ length (x ∷ xs) = omega (arith, h.0) in (e, h.1))
-]
-
 pub starts-same : {K : Type 0} (plan : Plan) (p p' : ℕ) (q q' : PlanProcess) (part part' : K) (b b' : BodyValue K) → p ≡ p' → q ≡ q' → part ≡ part' → b ≡ b' → StartsBody (process_at_start plan p q part) b → StartsBody (process_at_start plan p' q' part') b'
 starts-same {K} plan p p' q q' part part' b b' places specs parts bodies start =
     subst (λ (x : BodyValue K). StartsBody (process_at_start plan p' q' part') x) bodies
@@ -226,6 +206,7 @@ module _ {K : Type 0} (shape_of : K → Shape) (uses : K → ℕ → Bool) (read
         log = [];
         logs = λ p b is. (let s = (each p b is).starts in (s.stamps, s.levels));
         total = sym none;
+        each = λ n turn is. absurd (nothing-there n turn is);
         few = omega (arith, start.count, well.wired.few);
         whole = λ p b is. (each p b is).starts.leaving;
         wired = λ p b is. (let s = each p b is in wired-start network p s.spec s.part b s.starts.process);

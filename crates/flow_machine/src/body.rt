@@ -1,7 +1,7 @@
 //! A process of a network that runs.
 ghost use Rattle.std.specs.Prelude.{◌≡◌, ℕ, ◌+◌, ◌-◌, ◌^◌, ◌<◌, ◌≤◌, ◌↔◌, [], ◌∷◌, ◌++◌, length, IsTrue, IfOk, IfSome, None, Some};
 ghost use Rattle.flow_packet.specs.Tree.{id_of, kind_of};
-ghost use Rattle.flow_packet.specs.Held.{without_packet};
+ghost use Rattle.flow_packet.specs.Held.{held_of, without_packet};
 ghost use Rattle.flow_packet.specs.Hands.{packet_at};
 ghost use Rattle.flow_model.specs.Schedules.{IsThoughtStage};
 ghost use Rattle.flow_model.specs.declared.Stage.TheVariants.{Wishing};
@@ -105,6 +105,14 @@ impl<K: Component> Body<K> {
         ensures { result.now ≡ self.now.process.part }
     {
         &self.part
+    }
+
+    /// The packets that it owns and holds.
+    pub fn hands(&self) -> &Hands
+        ensures held { held_of result.now ≡ self.now.process.held }
+        ensures dropped { result.now.dropped ≡ self.now.dropped }
+    {
+        &self.hands
     }
 
     /// The stamps of its turns, in order.

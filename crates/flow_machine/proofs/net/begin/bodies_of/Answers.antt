@@ -6,7 +6,8 @@ use Rattle.flow_machine.specs.Values.{BodyValue}
 use Rattle.flow_machine.specs.PlanOf.{plan_of, process_of}
 use Rattle.flow_machine.specs.Starts.{StartsBody}
 use Rattle.flow_machine.proofs.Standings.{get-map}
-use Rattle.flow_machine.proofs.StartLemmas.{stands-start, element-there, rest-drops, first-of, last-or, starts-same, nothing-there, some-same}
+use Rattle.flow_machine.proofs.Lists.{element-there, last-or, nothing-there, some-same}
+use Rattle.flow_machine.proofs.StartLemmas.{stands-start, rest-drops, first-of, starts-same}
 use Rattle.flow_machine.proofs.net.begin.bodies_of.Goals as goal
 
 pub overflow_cast-process-end : goal.overflow_cast-process-end
