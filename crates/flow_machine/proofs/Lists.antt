@@ -21,4 +21,3 @@ last-or (x ∷ xs) y (suc i) z is = elim (last-or xs y i z is) [
   | inl h ↦ inl h
   | inr h ↦ inr (let e : suc i ≡ length (x ∷ xs) = omega (arith, h.0) in (e, h.1))
 ]
-

@@ -1,7 +1,7 @@
 -- A net at its start.
-use Rattle.std.proofs.Common.{◌≡◌, ℕ, ◌+◌, ◌<◌, ◌≤◌, Bool, true, false, cond, List, [], ◌∷◌, length, map, replicate, Option, Some, None, suc, zero, refl, ap, sym, subst, ◌∙◌, arith, nat_eq, slice_get, slice_index, get_or, drop, add-one, ◌++◌, ◌⊎◌, inl, inr}
-use Rattle.std.specs.Prelude.{◌^◌, position, option_and_then}
-use Rattle.std.specs.List.{sum_by, range_with_len, list_any}
+use Rattle.std.proofs.Common.{◌≡◌, ℕ, ◌+◌, ◌<◌, ◌≤◌, Bool, true, false, cond, List, [], ◌∷◌, length, map, replicate, Option, Some, None, suc, zero, refl, ap, sym, subst, ◌∙◌, arith, nat_eq, slice_get, slice_index, get_or, drop, add-one}
+use Rattle.std.specs.Prelude.{◌^◌, option_and_then}
+use Rattle.std.specs.List.{sum_by, range_with_len}
 use Rattle.std.proofs.lemmas.List.{length-map}
 use Rattle.std.proofs.lemmas.List.Sums.{sum_by-cons}
 use Rattle.std.proofs.lemmas.List.Quantifiers.{position-Some}
@@ -12,7 +12,7 @@ use Rattle.flow_net.specs.Network.{Network}
 use Rattle.flow_component.specs.declared.Answer.{Answer}
 use Rattle.flow_component.specs.declared.Shape.{Shape}
 use Rattle.flow_model.specs.States.{Input, From, Text, Process, output_at}
-use Rattle.flow_model.specs.Plans.{Plan, PlanProcess, PlanConnection, text_at, connected_or, receives_at, sends_at, input_at, process_at_start, processes_at_start, channel_at_start, start_of, IsWired, StartsWell}
+use Rattle.flow_model.specs.Plans.{Plan, PlanProcess, PlanConnection, text_at, connected_or, receives_at, sends_at, input_at, process_at_start, processes_at_start, channel_at_start, start_of, StartsWell}
 use Rattle.flow_model.specs.Stands.{bodies_from, channels_from}
 use Rattle.flow_model.proofs.Start.{port-at, Valid-start}
 use Rattle.flow_model.proofs.Blocks.{AllFit-start}
@@ -21,7 +21,6 @@ use Rattle.flow_machine.proofs.Lists.{element-there, nothing-there}
 use Rattle.flow_machine.specs.Values.{BodyValue, NetValue, shown_body}
 use Rattle.flow_machine.specs.Bodies.{StandsWell}
 use Rattle.flow_machine.specs.PlanOf.{plan_of, sender_of, connection_of, leads_to, comes_from}
-use Rattle.flow_machine.specs.Logs.{turns_made}
 use Rattle.flow_machine.specs.FitNets.{IsWiredBody, FitNet}
 use Rattle.flow_machine.specs.Starts.{StartsBody, StartsBodies, StartsNet, channel_begun}
 

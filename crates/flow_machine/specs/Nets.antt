@@ -1,6 +1,5 @@
 -- What the calls of nets do.
-use Rattle.std.specs.Prelude.{◌≡◌, ℕ, ◌<◌, ◌&&◌, nat_le, Bool, true, false, List, [], ◌∷◌, ◌++◌, map, length, Option, Some, None, slice_get, slice_set, option_and_then, unwrap_or, IfSome}
-
+use Rattle.std.specs.Prelude.{◌≡◌, ℕ, ◌&&◌, nat_le, Bool, true, false, List, [], ◌∷◌, ◌++◌, map, length, Option, Some, None, slice_get, slice_set, option_and_then, unwrap_or, IfSome}
 use Rattle.flow_packet.specs.Tree.{Tree}
 use Rattle.flow_packet.specs.Hands.{packet_at}
 use Rattle.flow_packet.specs.Held.{Sound, with_packet}
@@ -21,7 +20,6 @@ use Rattle.flow_machine.specs.Effects.{id_sent}
 use Rattle.flow_machine.specs.declared.answers.Case.{Case}
 use Rattle.flow_machine.specs.declared.answers.Turn.{Turn as Answer}
 use Rattle.flow_machine.specs.declared.answers.Turn.TheVariants as answers
-use Rattle.flow_machine.specs.declared.answers.Over.{Over}
 use Rattle.flow_machine.specs.declared.answers.Over.TheVariants as overs
 
 -- The connections, as a process sees them.

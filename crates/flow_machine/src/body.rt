@@ -13,15 +13,13 @@ use crate::inlet::Inlet;
 use crate::outlets::{outlet_at, output_at};
 use flow_component::{Component, Port, Wish};
 use flow_model::Stage;
-use flow_packet::Hands;
-use flow_packet::{Kind, Packet, PacketId};
+use flow_packet::{Hands, Kind, Packet, PacketId};
 use std::marker::Model;
 
 mod begin;
 mod effect;
 mod idle;
 mod think;
-
 
 /// A process: it runs a component.
 pub struct Body<K: Component> {

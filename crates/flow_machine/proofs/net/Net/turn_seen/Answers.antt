@@ -1,7 +1,6 @@
-use Rattle.std.proofs.Common.{rules, ◌≡◌, ◌<◌, refl, sym, ◌∙◌, ap, Some, None, Option, slice_get, get_or, length, subst, List, ℕ}
+use Rattle.std.proofs.Common.{rules, ◌≡◌, sym, ◌∙◌, ap}
 use Rattle.std.proofs.lemmas.List.{with_items_is}
-use Rattle.std.specs.Vec.{with_items}
-use Rattle.flow_machine.specs.Values.{BodyValue, NetValue}
+use Rattle.flow_machine.specs.Values.{NetValue}
 use Rattle.flow_machine.specs.Nets.{SeesNet}
 use Rattle.flow_machine.specs.Logs.{turns_made}
 use Rattle.flow_machine.proofs.FitLemmas.{fit-seen}

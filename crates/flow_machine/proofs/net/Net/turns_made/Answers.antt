@@ -1,7 +1,3 @@
-use Rattle.std.proofs.Common.{rules, ◌≡◌, ◌∙◌, ap, sym, subst, ◌≤◌, List}
-use Rattle.std.specs.Prelude.{sum_by}
-use Rattle.flow_machine.specs.Values.{BodyValue, NetValue}
-use Rattle.flow_machine.specs.Logs.{turns_made}
 use Rattle.flow_machine.proofs.FitLemmas.{turns-most}
 use Rattle.flow_machine.proofs.net.Net.turns_made.Goals as goal
 

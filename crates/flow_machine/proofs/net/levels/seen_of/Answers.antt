@@ -1,22 +1,12 @@
-use Rattle.std.proofs.Common.{rules, ◌≡◌, ◌∙◌, sym, ap, refl, subst, ◌<◌, ◌≤◌, ℕ, List, length, Some, None, Option, slice_get, get_or, arith}
+use Rattle.std.proofs.Common.{◌≡◌, Some, slice_get, get_or}
 use Rattle.std.proofs.lemmas.Option.{slice_get-get_or}
-use Rattle.flow_component.specs.declared.Wish.TheVariants as wishes
-use Rattle.flow_component.specs.declared.Port.{Port}
-use Rattle.flow_model.specs.declared.Stage.{Stage}
-use Rattle.flow_model.specs.declared.Stage.TheVariants as stages
-use Rattle.flow_model.specs.declared.Block.TheVariants as blocks
-use Rattle.flow_model.specs.Schedules.{IsThoughtStage}
-use Rattle.flow_model.specs.Events.{Event, received, sent, told_level, idle_event, stage_event}
-use Rattle.flow_model.specs.Verdicts.{exact_level, waits_for}
-use Rattle.flow_model.specs.Stands.{ChannelShown, look_shown}
 use Rattle.flow_machine.specs.Values.{BodyValue, NetValue}
-use Rattle.flow_machine.specs.Thoughts.{IsSet, IsSetAt, HasRoom}
-use Rattle.flow_machine.specs.Answers.{CaseIs, case_of}
-use Rattle.flow_machine.specs.Nets.{packet_wished, looks_of, TurnsNet, is_asking, asks_level}
+use Rattle.flow_machine.specs.Thoughts.{IsSet}
+use Rattle.flow_machine.specs.Answers.{case_of}
+use Rattle.flow_machine.specs.Nets.{asks_level}
 use Rattle.flow_machine.specs.declared.answers.Case.TheVariants as cases
-use Rattle.flow_machine.proofs.NetTurns.{case-is, if_some, some_if, pair-net, receives, waits-receive, sends, waits-send, learns, told-on, set-thought, set-same, learned-some}
-use Rattle.flow_machine.proofs.FitLemmas.{level-fits}
-use Rattle.flow_machine.proofs.BlockLemmas.{block-there, waits-none, block-event, waits-initial, waits-level, waits-deactivate, waits-close, waits-over, wished-there, sends-full, asks-case, within-both, made-only}
+use Rattle.flow_machine.proofs.NetTurns.{case-is, if_some, some_if, set-thought}
+use Rattle.flow_machine.proofs.BlockLemmas.{asks-case}
 use Rattle.flow_machine.proofs.net.levels.seen_of.Goals as goal
 
 pub case-requires-clause-whole : goal.case-requires-clause-whole

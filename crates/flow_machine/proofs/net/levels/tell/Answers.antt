@@ -1,22 +1,16 @@
-use Rattle.std.proofs.Common.{rules, ◌≡◌, ◌∙◌, sym, ap, refl, subst, ◌<◌, ◌≤◌, ℕ, List, length, Some, None, Option, slice_get, slice_set, get_or, arith}
+use Rattle.std.proofs.Common.{◌≡◌, ◌∙◌, sym, ap, refl, subst, ◌<◌, List, length, Some, slice_get, slice_set, get_or}
 use Rattle.std.proofs.lemmas.Option.{slice_get-get_or}
-use Rattle.flow_component.specs.declared.Wish.TheVariants as wishes
-use Rattle.flow_component.specs.declared.Port.{Port}
-use Rattle.flow_model.specs.declared.Stage.{Stage}
-use Rattle.flow_model.specs.declared.Stage.TheVariants as stages
 use Rattle.flow_model.specs.declared.Block.TheVariants as blocks
-use Rattle.flow_model.specs.Schedules.{IsThoughtStage}
-use Rattle.flow_model.specs.Events.{Event, received, sent, told_level, idle_event, stage_event}
-use Rattle.flow_model.specs.Verdicts.{exact_level, waits_for}
+use Rattle.flow_model.specs.Events.{told_level}
 use Rattle.flow_model.specs.Stands.{ChannelShown, look_shown}
 use Rattle.flow_machine.specs.Values.{BodyValue, NetValue}
-use Rattle.flow_machine.specs.Thoughts.{IsSet, IsSetAt, HasRoom}
+use Rattle.flow_machine.specs.Thoughts.{IsSet, IsSetAt}
 use Rattle.flow_machine.specs.Answers.{CaseIs, case_of}
-use Rattle.flow_machine.specs.Nets.{packet_wished, looks_of, TurnsNet, is_asking, asks_level}
+use Rattle.flow_machine.specs.Nets.{TurnsNet}
 use Rattle.flow_machine.specs.declared.answers.Case.TheVariants as cases
-use Rattle.flow_machine.proofs.NetTurns.{case-is, if_some, some_if, pair-net, receives, waits-receive, sends, waits-send, learns, told-on, set-thought, set-same, learned-some}
+use Rattle.flow_machine.proofs.NetTurns.{case-is, if_some, pair-net, learns, told-on, set-same, learned-some}
 use Rattle.flow_machine.proofs.FitLemmas.{level-fits}
-use Rattle.flow_machine.proofs.BlockLemmas.{block-there, waits-none, block-event, waits-initial, waits-level, waits-deactivate, waits-close, waits-over, wished-there, sends-full, asks-case, within-both, made-only}
+use Rattle.flow_machine.proofs.BlockLemmas.{within-both, made-only}
 use Rattle.flow_machine.proofs.Lists.{element-there}
 use Rattle.flow_machine.proofs.net.levels.tell.Goals as goal
 
@@ -99,8 +93,9 @@ returns g c =
     let lies = within-both (length ch.packets) c.args.level ch.capacity (sym c.allows.ensures ∙ c.if-not-allows.false) in
     let never = learned-some c.args.port.0 c.args.level ch lies.0 lies.1 in
     let told = told_level c.args.port.0 c.args.level (Some (look_shown ch)) in
-    let happens = learns c.args.channels.now b.process c.args.level c.args.connection c.args.port ch is.0 is.1 at_c in
-    (made-only told blocks.Dormant c.args.stamp b c.learn.new.body ch ch c.learn.result never (c.learn.ensures blocks.Dormant),
+    let happens = learns c.args.channels.now b.process c.args.level c.args.connection c.args.port ch is.0 is.1 at_c in (
+      made-only told blocks.Dormant c.args.stamp b c.learn.new.body ch ch c.learn.result never (c.learn.ensures blocks.Dormant),
       subst (λ (cs : List ChannelShown). TurnsNet net c.args.process c.args.level c.args.stamp c.learn.result (record { bodies = slice_set c.args.bodies.now c.args.process c.learn.new.body; channels = cs })) (set-same c.args.channels.now c.args.connection ch at_c)
-      (pair-net c.args.bodies.now c.args.channels.now c.args.process c.args.connection c.args.level c.args.stamp b c.learn.new.body ch ch told blocks.Dormant c.learn.result
-      at_p at_c happens (λ e here. told-on c.args.connection c.args.port.0 c.args.level ch e here) (λ none. absurd (never none)) (c.learn.ensures blocks.Dormant)))
+          (pair-net c.args.bodies.now c.args.channels.now c.args.process c.args.connection c.args.level c.args.stamp b c.learn.new.body ch ch told blocks.Dormant c.learn.result
+          at_p at_c happens (λ e here. told-on c.args.connection c.args.port.0 c.args.level ch e here) (λ none. absurd (never none)) (c.learn.ensures blocks.Dormant)),
+    )
