@@ -1,0 +1,9 @@
+pub mod OutletLemmas
+pub mod Standing
+pub mod Thinking
+pub mod InletLemmas
+pub mod Pairs
+pub mod Standings
+pub mod NetTurns
+pub mod LogLemmas
+pub mod FitLemmas

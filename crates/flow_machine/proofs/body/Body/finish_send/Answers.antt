@@ -1,0 +1,29 @@
+use Rattle.std.proofs.Common.{rules, ◌≡◌, ◌∙◌, sym, ap, None, Some, Option, subst, refl, ℕ, length, List}
+use Rattle.flow_packet.specs.Held.{held_of, Held}
+use Rattle.flow_packet.specs.declared.packet.Kind.{Kind}
+use Rattle.flow_component.specs.Laws.{Outcome, Wishes, Fails}
+use Rattle.flow_model.specs.declared.Stage.{Stage}
+use Rattle.flow_model.specs.declared.Stage.TheVariants as stages
+use Rattle.flow_model.specs.States.{Process}
+use Rattle.flow_model.specs.Works.{judged, worked}
+use Rattle.flow_machine.specs.Values.{BodyValue}
+use Rattle.std.proofs.lemmas.List.{with_items_is}
+use Rattle.flow_machine.specs.Bodies.{StandsWell, HasLeft, IsBody}
+use Rattle.flow_machine.specs.Views.{process_shown}
+use Rattle.flow_machine.proofs.Standing.{stands-worked, stands-text, stands-sent, stands-closing, closing-fits, may-deepen, turn-left}
+use Rattle.flow_machine.proofs.body.Body.finish_send.Goals as goal
+
+pub deepen-requires : goal.deepen-requires
+deepen-requires g c =
+    let x : Process g.row.K.Denot = process_shown c.self.inside in
+    let some : c.self.inside.leaving ≡ Some c.requires.effect.0 = ap (λ (b : BodyValue g.row.K.Denot). b.leaving) c.self.view_is ∙ c.requires.effect.1 in
+    let left : HasLeft g.K.Component.shape_of g.K.Component.uses g.K.Component.ready c.requires.effect.0 x = subst (IsBody g.K.Component.shape_of g.K.Component.uses g.K.Component.ready x) some c.self.invariant in
+    rw (c.deref_mut.ensures.value, c.wished_port-port.ensures, some) (may-deepen g.K.Component.shape_of g.K.Component.uses g.K.Component.ready c.requires.effect.0 x left)
+
+pub invariant_of-self : goal.invariant_of-self
+invariant_of-self g c =
+    let x : Process g.row.K.Denot = process_shown c.self.inside in
+    let some : c.self.inside.leaving ≡ Some c.requires.effect.0 = ap (λ (b : BodyValue g.row.K.Denot). b.leaving) c.self.view_is ∙ c.requires.effect.1 in
+    let left : HasLeft g.K.Component.shape_of g.K.Component.uses g.K.Component.ready c.requires.effect.0 x = subst (IsBody g.K.Component.shape_of g.K.Component.uses g.K.Component.ready x) some c.self.invariant in
+    let depths = with_items_is c.self.inside.depths c.deepen.new.depths (search rules) in
+    rw (depths, c.limited_stage-self-inside.ensures, c.len.ensures, c.add_stamp.ensures.len, c.deepen.ensures, c.deref_mut.ensures.value, c.wished_port-port.ensures, some) (stands-sent g.K.Component.shape_of g.K.Component.uses g.K.Component.ready c.requires.effect.0 x left)

@@ -1,0 +1,33 @@
+use Rattle.std.proofs.Common.{rules, ◌≡◌, ◌<◌, refl, sym, ◌∙◌, ap, Some, slice_get, get_or, length, subst, List, slice_set}
+use Rattle.std.proofs.lemmas.List.{with_items_is}
+use Rattle.std.proofs.lemmas.Option.{slice_get_read}
+use Rattle.std.specs.Vec.{with_items}
+use Rattle.flow_model.specs.Stands.{ChannelShown}
+use Rattle.flow_machine.specs.Values.{BodyValue, NetValue}
+use Rattle.flow_machine.specs.NetSteps.{ThinksNet}
+use Rattle.flow_machine.proofs.FitLemmas.{fit-think}
+use Rattle.flow_machine.proofs.net.Net.think.Goals as goal
+
+pub think-requires : goal.think-requires
+think-requires g c =
+    let within : c.args.process < length c.self.inside.bodies.items = subst (λ (n : NetValue g.row.K.Denot). c.args.process < length n.bodies) (sym c.self.view_is) c.requires in
+    let there : slice_get c.self.inside.bodies.items c.args.process ≡ Some c.index_mut.result.now = slice_get_read c.self.inside.bodies.items (length c.self.inside.bodies.items) c.args.process c.index_mut.result.now refl within c.index_mut.ensures.value in
+    c.self.invariant.whole c.args.process c.index_mut.result.now there
+
+pub invariant_of-self : goal.invariant_of-self
+invariant_of-self g c =
+    let within : c.args.process < length c.self.inside.bodies.items = subst (λ (n : NetValue g.row.K.Denot). c.args.process < length n.bodies) (sym c.self.view_is) c.requires in
+    let there : slice_get c.self.inside.bodies.items c.args.process ≡ Some c.index_mut.result.now = slice_get_read c.self.inside.bodies.items (length c.self.inside.bodies.items) c.args.process c.index_mut.result.now refl within c.index_mut.ensures.value in
+    let old : NetValue g.row.K.Denot = record { bodies = c.self.inside.bodies.items; channels = c.self.inside.channels.items } in
+    let new : NetValue g.row.K.Denot = record { bodies = slice_set c.self.inside.bodies.items c.args.process c.think.new.self; channels = c.self.inside.channels.items } in
+    let thinks : ThinksNet g.K.Component.next old c.args.process c.think.result new = record { before = c.index_mut.result.now; after = c.think.new.self; there = there; thinks = c.think.ensures.thinks; keeps = c.think.ensures.keeps; bodies = refl; channels = refl } in
+    fit-think g.K.Component.shape_of g.K.Component.uses g.K.Component.ready g.K.Component.next g.met.K.Component.obeys g.met.K.Component.stays_ready g.met.K.Component.steady old c.args.process c.think.result new thinks c.self.invariant
+
+pub returns : goal.returns
+returns g c =
+    let within : c.args.process < length c.self.inside.bodies.items = subst (λ (n : NetValue g.row.K.Denot). c.args.process < length n.bodies) (sym c.self.view_is) c.requires in
+    let there : slice_get c.self.inside.bodies.items c.args.process ≡ Some c.index_mut.result.now = slice_get_read c.self.inside.bodies.items (length c.self.inside.bodies.items) c.args.process c.index_mut.result.now refl within c.index_mut.ensures.value in
+    let old : NetValue g.row.K.Denot = record { bodies = c.self.inside.bodies.items; channels = c.self.inside.channels.items } in
+    let new : NetValue g.row.K.Denot = record { bodies = slice_set c.self.inside.bodies.items c.args.process c.think.new.self; channels = c.self.inside.channels.items } in
+    let thinks : ThinksNet g.K.Component.next old c.args.process c.think.result new = record { before = c.index_mut.result.now; after = c.think.new.self; there = there; thinks = c.think.ensures.thinks; keeps = c.think.ensures.keeps; bodies = refl; channels = refl } in
+    rw (← c.self.view_is) thinks

@@ -1,0 +1,6 @@
+use Rattle.std.proofs.Common.{rules, ◌≡◌, ◌∙◌, sym, ap, refl, ◌<◌, length}
+use Rattle.flow_machine.proofs.Pairs.{got, heard, sent-off, learned, started, finished}
+use Rattle.flow_machine.proofs.net.pair.learn.Goals as goal
+
+pub returns : goal.returns
+returns g c = λ block. learned c.args.body.now c.effect.new.self c.args.channel.now c.args.port c.args.level c.args.stamp block c.requires.stage c.requires.least c.requires.most c.effect.ensures

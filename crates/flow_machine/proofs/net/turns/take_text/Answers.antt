@@ -1,0 +1,51 @@
+use Rattle.std.proofs.Common.{rules, ◌≡◌, ◌∙◌, sym, ap, refl, subst, ◌<◌, ◌≤◌, ℕ, List, length, Some, None, Option, slice_get, get_or}
+use Rattle.std.proofs.lemmas.Option.{slice_get-get_or}
+use Rattle.flow_component.specs.declared.Wish.TheVariants as wishes
+use Rattle.flow_model.specs.declared.Stage.TheVariants as stages
+use Rattle.flow_model.specs.declared.Block.TheVariants as blocks
+use Rattle.flow_model.specs.Events.{Event, received, sent, told_level}
+use Rattle.flow_model.specs.Stands.{ChannelShown, look_shown}
+use Rattle.flow_machine.specs.Values.{BodyValue, NetValue}
+use Rattle.flow_machine.specs.Thoughts.{IsSet, IsSetAt, HasRoom}
+use Rattle.flow_machine.specs.Answers.{CaseIs, case_of}
+use Rattle.flow_machine.specs.Nets.{packet_wished, looks_of}
+use Rattle.flow_machine.specs.declared.answers.Case.TheVariants as cases
+use Rattle.flow_machine.proofs.NetTurns.{case-is, if_some, some_if, pair-net, alone-net, blocks-by, receives, received-on, waits-receive, sends, sent-on, waits-send, learns, told-on, exact, level-there}
+use Rattle.flow_machine.proofs.FitLemmas.{sound-got, turns-most}
+use Rattle.flow_model.specs.Verdicts.{exact_level}
+use Rattle.flow_machine.specs.Nets.{level_of}
+use Rattle.std.proofs.Common.{arith}
+use Rattle.flow_model.specs.Events.{Sleeps, stage_event, idle_event}
+use Rattle.flow_model.specs.Verdicts.{waits_for}
+use Rattle.flow_machine.specs.declared.answers.Effect.TheVariants as effects
+use Rattle.flow_machine.proofs.Pairs.{body-turn}
+use Rattle.flow_machine.proofs.NetTurns.{idle-alone, text-turn}
+use Rattle.flow_machine.proofs.net.turns.take_text.Goals as goal
+
+pub effect-requires-clause-room : goal.effect-requires-clause-room
+effect-requires-clause-room g c =
+    let net : NetValue g.row.K.Denot = record { bodies = c.args.bodies.now; channels = c.args.channels.now } in
+    let b : BodyValue g.row.K.Denot = get_or c.args.bodies.now c.args.process c.index-bodies-process.result in
+    let at_p : slice_get c.args.bodies.now c.args.process ≡ Some b = slice_get-get_or _ _ _ c.requires.in_range in
+    let is : CaseIs b.process (cases.Initial c.args.port) = case-is b.process (cases.Initial c.args.port) (if_some (slice_get c.args.bodies.now c.args.process) (λ (x : BodyValue g.row.K.Denot). case_of x.process ≡ Some (cases.Initial c.args.port)) b at_p c.requires.case) in
+    let set : IsSet b = if_some (slice_get c.args.bodies.now c.args.process) (λ (x : BodyValue g.row.K.Denot). IsSet x) b at_p c.requires.set in
+    subst (IsSetAt b) is.1 set
+
+pub effect-requires-clause-effect : goal.effect-requires-clause-effect
+effect-requires-clause-effect g c =
+    let net : NetValue g.row.K.Denot = record { bodies = c.args.bodies.now; channels = c.args.channels.now } in
+    let b : BodyValue g.row.K.Denot = get_or c.args.bodies.now c.args.process c.index-bodies-process.result in
+    let at_p : slice_get c.args.bodies.now c.args.process ≡ Some b = slice_get-get_or _ _ _ c.requires.in_range in
+    let is : CaseIs b.process (cases.Initial c.args.port) = case-is b.process (cases.Initial c.args.port) (if_some (slice_get c.args.bodies.now c.args.process) (λ (x : BodyValue g.row.K.Denot). case_of x.process ≡ Some (cases.Initial c.args.port)) b at_p c.requires.case) in
+    let set : IsSet b = if_some (slice_get c.args.bodies.now c.args.process) (λ (x : BodyValue g.row.K.Denot). IsSet x) b at_p c.requires.set in
+    (c.requires.fit.whole c.args.process b at_p, (c.args.port, is.0, is.1, is.2))
+
+pub returns : goal.returns
+returns g c =
+    let net : NetValue g.row.K.Denot = record { bodies = c.args.bodies.now; channels = c.args.channels.now } in
+    let b : BodyValue g.row.K.Denot = get_or c.args.bodies.now c.args.process c.index-bodies-process.result in
+    let at_p : slice_get c.args.bodies.now c.args.process ≡ Some b = slice_get-get_or _ _ _ c.requires.in_range in
+    let is : CaseIs b.process (cases.Initial c.args.port) = case-is b.process (cases.Initial c.args.port) (if_some (slice_get c.args.bodies.now c.args.process) (λ (x : BodyValue g.row.K.Denot). case_of x.process ≡ Some (cases.Initial c.args.port)) b at_p c.requires.case) in
+    let set : IsSet b = if_some (slice_get c.args.bodies.now c.args.process) (λ (x : BodyValue g.row.K.Denot). IsSet x) b at_p c.requires.set in
+    let n = level_of net c.args.process in
+    (refl, text-turn b c.effect.new.self c.args.channels.now c.args.bodies.now c.args.process n c.args.stamp c.args.port is.0 at_p is.1 is.2 c.effect.ensures)

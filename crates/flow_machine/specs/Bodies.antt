@@ -1,0 +1,42 @@
+-- What holds of each body.
+use Rattle.std.specs.Prelude.{◌≡◌, ℕ, ◌<◌, ◌≤◌, ◌^◌, Bool, List, length, Option, Some, None, slice_get, slice_index}
+use Rattle.flow_packet.specs.declared.packet.Kind.{Kind}
+use Rattle.flow_packet.specs.Tree.{Tree, kind_of}
+use Rattle.flow_packet.specs.Hands.{packet_at}
+use Rattle.flow_packet.specs.Held.{Held, Sound, without_packet}
+use Rattle.flow_component.specs.declared.Port.{Port}
+use Rattle.flow_component.specs.declared.Answer.{Answer}
+use Rattle.flow_component.specs.declared.Wish.TheVariants as wishes
+use Rattle.flow_component.specs.declared.Shape.{Shape}
+use Rattle.flow_model.specs.declared.Stage.TheVariants as stages
+use Rattle.flow_model.specs.States.{Text, Process}
+use Rattle.flow_model.specs.Valid.{GoodProcess, FitProcess}
+use Rattle.flow_machine.specs.Values.{BodyValue}
+
+-- A process alone stands well: its component is ready and fits, its wish can be granted, it keeps within its turns, its hands are sound, no
+-- output is nested deeper than it had turns, and its initial texts are short.
+pub record StandsWell {K : Type 0} (shape_of : K → Shape) (uses : K → ℕ → Bool) (ready : K → Held → Answer → Type 0) (x : Process K) : Type 0 where
+  pub good : GoodProcess ready x.held.maker x
+  pub fit : FitProcess shape_of uses x
+  pub sound : Sound x.held
+  pub fresh : length x.fresh ≡ length x.inputs
+  pub deep : (port : ℕ) → slice_index x.depths port ≤ x.turns
+  pub short : (i : ℕ) (text : List ℕ) → slice_get x.inputs i ≡ Some (Text text) → length text ≤ 1048576
+  pub few : length x.outputs < 2 ^ 32
+
+-- A packet of this kind has left the hands of a process that stood well, and the turn that sends it isn't over.
+pub record HasLeft {K : Type 0} (shape_of : K → Shape) (uses : K → ℕ → Bool) (ready : K → Held → Answer → Type 0) (kind : Kind) (x : Process K) : Type 0 where
+  pub before : Process K
+  pub port : Port
+  pub packet : Tree
+  pub id : ℕ
+  pub stood : StandsWell shape_of uses ready before
+  pub wished : before.stage ≡ stages.Wishing (wishes.Send port id)
+  pub found : packet_at before.held.packets id ≡ Some packet
+  pub is_kind : kind_of packet ≡ kind
+  pub is : x ≡ record before { held = without_packet before.held id }
+
+-- Each body is a process that stands well, but for a packet that has just left it.
+abbrev pub IsBody : {K : Type 0} → (K → Shape) → (K → ℕ → Bool) → (K → Held → Answer → Type 0) → Process K → Option Kind → Type 0
+IsBody shape_of uses ready x None = StandsWell shape_of uses ready x
+IsBody shape_of uses ready x (Some kind) = HasLeft shape_of uses ready kind x

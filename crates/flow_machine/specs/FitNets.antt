@@ -1,0 +1,28 @@
+-- What holds of each net.
+use Rattle.std.specs.Prelude.{◌≡◌, ℕ, ◌<◌, ◌≤◌, Bool, List, length, None, Some, slice_get}
+use Rattle.flow_packet.specs.Held.{Held}
+use Rattle.flow_component.specs.declared.Answer.{Answer}
+use Rattle.flow_component.specs.declared.Shape.{Shape}
+use Rattle.flow_model.specs.States.{From, State, output_at}
+use Rattle.flow_model.specs.Stands.{ChannelShown, StandsForOpen}
+use Rattle.flow_model.specs.Fit.{Fit}
+use Rattle.flow_machine.specs.Values.{BodyValue, NetValue, shown_net}
+use Rattle.flow_machine.specs.Logs.{Logged, Logs, turns_made}
+
+-- Each connection that a body has at a port is there.
+pub record IsWiredBody {K : Type 0} (channels : ℕ) (b : BodyValue K) : Type 0 where
+  pub inputs : (i c : ℕ) → slice_get b.process.inputs i ≡ Some (From c) → c < channels
+  pub outputs : (o c : ℕ) → output_at b.process o ≡ Some c → c < channels
+
+-- A net stands for some state of the machine in which all is well, and its bodies remember all turns that were made.
+pub record FitNet {K : Type 0} (shape_of : K → Shape) (uses : K → ℕ → Bool) (ready : K → Held → Answer → Type 0) (net : NetValue K) : Type 0 where
+  pub state : State K
+  pub fit : Fit shape_of uses ready state
+  pub stands : StandsForOpen (shown_net net) state
+  pub log : List Logged
+  pub logs : Logs log net
+  pub total : length log ≡ turns_made net
+  pub few : length net.bodies ≤ 128
+  pub whole : (p : ℕ) (b : BodyValue K) → slice_get net.bodies p ≡ Some b → b.leaving ≡ None
+  pub wired : (p : ℕ) (b : BodyValue K) → slice_get net.bodies p ≡ Some b → IsWiredBody (length net.channels) b
+  pub puts : (c : ℕ) (channel : ChannelShown) → slice_get net.channels c ≡ Some channel → channel.puts ≤ length log

@@ -1,0 +1,15 @@
+-- What stands at the inputs of a body.
+use Rattle.std.specs.Prelude.{Bool, true, false}
+use Rattle.flow_model.specs.States.{Input, From, Text}
+use Rattle.flow_machine.specs.declared.inlet.Inlet.{Inlet}
+use Rattle.flow_machine.specs.declared.inlet.Inlet.TheVariants as inlets
+
+-- The input of the machine that it is.
+abbrev pub input_shown : Inlet → Input
+input_shown (inlets.Connection c) = From c
+input_shown (inlets.Text text) = Text text.items
+
+-- It is an initial text.
+abbrev pub is_text : Inlet → Bool
+is_text (inlets.Connection c) = false
+is_text (inlets.Text text) = true

@@ -1,0 +1,15 @@
+pub mod Values
+pub mod Texts
+pub mod Inlets
+pub mod Views
+pub mod Codes
+pub mod Rooms
+pub mod Answers
+pub mod Effects
+pub mod Bodies
+pub mod Thoughts
+pub mod Outlets
+pub mod Nets
+pub mod Logs
+pub mod FitNets
+pub mod NetSteps

@@ -1,0 +1,31 @@
+-- How contracts see bodies and nets.
+use Rattle.std.specs.Prelude.{ℕ, List, map, Option}
+use Rattle.flow_packet.specs.declared.packet.Kind.{Kind}
+use Rattle.flow_model.specs.States.{Process}
+use Rattle.flow_model.specs.Stands.{BodyShown, ChannelShown, NetShown}
+
+-- A body: its process; how many packets it dropped, as far as that is counted; the kind of a packet that has left it while the turn that
+-- sends it is not over; the stamps of its turns; the level numbers that it was told, each with the stamp of its turn; and the room that
+-- it has for its next turn: places for packets, stamps and level numbers, and a copy of an initial text.
+pub record BodyValue (K : Type 0) : Type 0 where
+  pub process : Process K
+  pub dropped : ℕ
+  pub leaving : Option Kind
+  pub stamps : List ℕ
+  pub levels : List (ℕ × ℕ)
+  pub places : ℕ
+  pub stamp_room : ℕ
+  pub level_room : ℕ
+  pub copy : Option (List ℕ)
+
+-- A net: its bodies and its connections.
+pub record NetValue (K : Type 0) : Type 0 where
+  pub bodies : List (BodyValue K)
+  pub channels : List ChannelShown
+
+-- What is shown of a body and of a net to the states that they stand for.
+abbrev pub shown_body : {K : Type 0} → BodyValue K → BodyShown K
+shown_body body = record { process = body.process; dropped = body.dropped }
+
+abbrev pub shown_net : {K : Type 0} → NetValue K → NetShown K
+shown_net net = record { bodies = map shown_body net.bodies; channels = net.channels }

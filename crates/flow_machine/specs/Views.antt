@@ -1,0 +1,35 @@
+-- What the fields of a body show.
+use Rattle.std.specs.Prelude.{ℕ, ◌-◌, List, map, length, Option, Some, None, vec_len, vec_capacity}
+use Rattle.std.specs.Option.{option_map}
+use Rattle.flow_packet.specs.Held.{held_of}
+use Rattle.flow_model.specs.States.{Process}
+use Rattle.flow_machine.specs.Inlets.{input_shown}
+use Rattle.flow_machine.specs.Values.{BodyValue}
+use Rattle.flow_machine.specs.declared.body.Body.TheInside.{Inside}
+
+-- The process that a body is.
+abbrev pub process_shown : {K : Type 0} → Inside K → Process K
+process_shown b = record {
+  stage = b.stage;
+  has_run = b.has_run;
+  part = b.part;
+  held = held_of b.hands;
+  fresh = b.fresh.items;
+  depths = b.depths.items;
+  turns = vec_len b.stamps;
+  inputs = map input_shown b.inlets.items;
+  outputs = b.outputs.items;
+}
+
+abbrev pub body_shown : {K : Type 0} → Inside K → BodyValue K
+body_shown b = record {
+  process = process_shown b;
+  dropped = b.hands.dropped;
+  leaving = b.leaving;
+  stamps = b.stamps.items;
+  levels = b.levels.items;
+  places = b.hands.spare;
+  stamp_room = vec_capacity b.stamps - vec_len b.stamps;
+  level_room = vec_capacity b.levels - vec_len b.levels;
+  copy = option_map (λ text. text.items) b.copy;
+}

@@ -1,0 +1,241 @@
+//! The turns of a process, as far as it alone changes.
+ghost use Rattle.std.specs.Prelude.{◌≡◌, ℕ, ◌+◌, ◌-◌, ◌^◌, ◌<◌, ◌≤◌, [], ◌∷◌, ◌++◌, length, None, Some, IsTrue, not, map, slice_set, false, vec_len, vec_capacity};
+ghost use Rattle.flow_packet.specs.Held.{Sound, with_packet};
+ghost use Rattle.flow_model.specs.States.{outlets_from};
+ghost use Rattle.flow_model.specs.Events.{Starts, Finishes, Gets, Takes_text, Hears_end, Learns, Sleeps, Closes, is_connected};
+ghost use Rattle.flow_model.specs.Turns.{process_after, limited, turn_limit, depth_after};
+ghost use Rattle.flow_model.specs.Works.{nests};
+ghost use Rattle.flow_model.specs.declared.Stage.TheVariants.{Wishing, Idle};
+ghost use Rattle.flow_component.specs.declared.Wish.TheVariants.{Receive, Send, Deactivate, Level};
+ghost use Rattle.flow_machine.specs.Outlets.{closing_in};
+ghost use Rattle.flow_machine.specs.Effects.{effected, levels_by, IsEffectFor, WishesReceive, WishesSend, WishesLevel, WishesText, IsClosing, TakesTurn, port_at, depths_sent, CanDeepen};
+ghost use Rattle.flow_machine.specs.Thoughts.{HasRoom};
+
+use super::Body;
+use crate::answers::Effect;
+use crate::inlet::{Inlet, freshen};
+use crate::outlets::outlet_count;
+use flow_component::{Answer, Component, Fail, Port, Wish};
+use flow_model::Stage;
+use flow_packet::packet::{Kind, Packet};
+
+const TURN_LIMIT: usize = 8_388_608;
+
+/// A process that made its last turn fails by it, unless it has ended.
+fn limited_stage(turns: usize, stage: Stage) -> Stage
+    ensures { result ≡ limited turns stage }
+{
+    match stage {
+        Stage::Ended => Stage::Ended,
+        _ => {
+            if turns == TURN_LIMIT {
+                Stage::Failed(Fail::TurnLimit)
+            } else {
+                stage
+            }
+        }
+    }
+}
+
+/// It closes the connected output at this place, or has ended where there is none.
+fn closing_stage(outputs: &[Option<u32>], place: u32) -> Stage
+    ensures { result ≡ closing_in outputs.now place }
+{
+    if (place as usize) < outlet_count(outputs) {
+        Stage::Closing(place)
+    } else {
+        Stage::Ended
+    }
+}
+
+/// The depth of an output after a packet of this kind.
+fn deepened(kind: Kind, depth: u32) -> u32
+    requires room { depth + 1 < 2 ^ 32 }
+    requires nests { IsTrue (nests kind depth) }
+    ensures { result ≡ depth_after kind depth }
+{
+    match kind {
+        Kind::Normal => depth,
+        Kind::Open => depth + 1,
+        Kind::Close => depth - 1,
+    }
+}
+
+/// The depth of an output to which a packet of this kind was sent, if one was.
+fn deepen(depths: &mut [u32], port: Port, kind: Option<Kind>)
+    requires { CanDeepen depths.old port.0 kind }
+    ensures { depths.new ≡ depths_sent depths.old port.0 kind }
+{
+    if let Some(kind) = kind {
+        let depth = depths[port.0 as usize];
+        depths[port.0 as usize] = deepened(kind, depth);
+    }
+}
+
+/// The port that the wish at this stage names, and 0 where it names none.
+fn wished_port(stage: Stage) -> Port
+    ensures { result.0 ≡ port_at stage }
+{
+    match stage {
+        Stage::Wishing(wish) => match wish {
+            Wish::Receive(port) => port,
+            Wish::Send(port, _) => port,
+            Wish::Level(port) => port,
+            Wish::Deactivate => Port(0),
+        },
+        _ => Port(0),
+    }
+}
+
+/// The text at a port isn't fresh any more.
+fn use_up(fresh: &mut [bool], port: Port)
+    ensures { fresh.new ≡ slice_set fresh.old port.0 false }
+{
+    if (port.0 as usize) < fresh.len() {
+        fresh[port.0 as usize] = false;
+    }
+}
+
+/// Adds a stamp where there is room for it.
+fn add_stamp(stamps: &mut Vec<u32>, stamp: u32)
+    requires { vec_len stamps.old < vec_capacity stamps.old }
+    ensures items { stamps.new.items ≡ stamps.old.items ++ stamp ∷ [] }
+    ensures len { vec_len stamps.new ≡ vec_len stamps.old + 1 }
+{
+    stamps.push(stamp).unwrap();
+}
+
+/// Adds a level number with its stamp where there is room for it.
+fn add_level(levels: &mut Vec<(u32, u16)>, stamp: u32, level: u16)
+    requires { vec_len levels.old < vec_capacity levels.old }
+    ensures { levels.new.items ≡ levels.old.items ++ (stamp, level) ∷ [] }
+{
+    levels.push((stamp, level)).unwrap();
+}
+
+impl<K: Component> Body<K> {
+    /// Changes the process alone, as a turn with this effect does. Takes no memory: the room of the turn is used up.
+    pub fn effect(&mut self, effect: Effect, stamp: u32)
+        requires room { HasRoom self.old }
+        requires effect { IsEffectFor self.old.process self.old.leaving effect }
+        ensures { TakesTurn self.old effect stamp self.new }
+    {
+        match effect {
+            Effect::Start => self.start(stamp),
+            Effect::ToClosing => self.begin_closing(stamp),
+            Effect::Got(packet) => self.get(packet, stamp),
+            Effect::End => self.hear_end(stamp),
+            Effect::Initial => self.receive_text(stamp),
+            Effect::Sent => self.finish_send(stamp),
+            Effect::Level(level) => self.learn(level, stamp),
+            Effect::Deactivate => self.deactivate(stamp),
+            Effect::Closed => self.close(stamp),
+        }
+    }
+
+    fn start(&mut self, stamp: u32)
+        requires room { HasRoom self.old }
+        requires effect { IsEffectFor self.old.process self.old.leaving Effect.Start }
+        ensures { TakesTurn self.old Effect.Start stamp self.new }
+    {
+        freshen(&mut self.fresh, &self.inlets);
+        add_stamp(&mut self.stamps, stamp);
+        self.stage = limited_stage(self.stamps.len(), Stage::Told(Answer::Start));
+    }
+
+    fn begin_closing(&mut self, stamp: u32)
+        requires room { HasRoom self.old }
+        requires effect { IsEffectFor self.old.process self.old.leaving Effect.ToClosing }
+        ensures { TakesTurn self.old Effect.ToClosing stamp self.new }
+    {
+        add_stamp(&mut self.stamps, stamp);
+        let stage = closing_stage(&self.outputs, 0);
+        self.stage = limited_stage(self.stamps.len(), stage);
+    }
+
+    fn get(&mut self, packet: Packet, stamp: u32)
+        requires room { HasRoom self.old }
+        requires effect { IsEffectFor self.old.process self.old.leaving (Effect.Got packet) }
+        ensures { TakesTurn self.old (Effect.Got packet) stamp self.new }
+    {
+        let id = packet.id();
+        self.hands.put(packet);
+        add_stamp(&mut self.stamps, stamp);
+        self.stage = limited_stage(self.stamps.len(), Stage::Told(Answer::Got(id)));
+    }
+
+    fn hear_end(&mut self, stamp: u32)
+        requires room { HasRoom self.old }
+        requires effect { IsEffectFor self.old.process self.old.leaving Effect.End }
+        ensures { TakesTurn self.old Effect.End stamp self.new }
+    {
+        add_stamp(&mut self.stamps, stamp);
+        self.stage = limited_stage(self.stamps.len(), Stage::Told(Answer::End));
+    }
+
+    fn receive_text(&mut self, stamp: u32)
+        requires room { HasRoom self.old }
+        requires effect { IsEffectFor self.old.process self.old.leaving Effect.Initial }
+        ensures { TakesTurn self.old Effect.Initial stamp self.new }
+    {
+        let port = wished_port(self.stage);
+        match self.copy.take() {
+            Some(text) => {
+                let id = self.hands.make_normal(text);
+                use_up(&mut self.fresh, port);
+                add_stamp(&mut self.stamps, stamp);
+                self.stage = limited_stage(self.stamps.len(), Stage::Told(Answer::Got(id)));
+            }
+            None => {
+                add_stamp(&mut self.stamps, stamp);
+                self.stage = limited_stage(self.stamps.len(), Stage::Told(Answer::End));
+            }
+        }
+    }
+
+    fn finish_send(&mut self, stamp: u32)
+        requires room { HasRoom self.old }
+        requires effect { IsEffectFor self.old.process self.old.leaving Effect.Sent }
+        ensures { TakesTurn self.old Effect.Sent stamp self.new }
+    {
+        let port = wished_port(self.stage);
+        deepen(&mut self.depths, port, self.leaving);
+        self.leaving = None;
+        add_stamp(&mut self.stamps, stamp);
+        self.stage = limited_stage(self.stamps.len(), Stage::Told(Answer::Sent));
+    }
+
+    fn learn(&mut self, level: u32, stamp: u32)
+        requires room { HasRoom self.old }
+        requires effect { IsEffectFor self.old.process self.old.leaving (Effect.Level level) }
+        ensures { TakesTurn self.old (Effect.Level level) stamp self.new }
+    {
+        add_level(&mut self.levels, stamp, level as u16);
+        add_stamp(&mut self.stamps, stamp);
+        self.stage = limited_stage(self.stamps.len(), Stage::Told(Answer::Level(level)));
+    }
+
+    fn deactivate(&mut self, stamp: u32)
+        requires room { HasRoom self.old }
+        requires effect { IsEffectFor self.old.process self.old.leaving Effect.Deactivate }
+        ensures { TakesTurn self.old Effect.Deactivate stamp self.new }
+    {
+        self.has_run = true;
+        add_stamp(&mut self.stamps, stamp);
+        self.stage = limited_stage(self.stamps.len(), Stage::Idle);
+    }
+
+    fn close(&mut self, stamp: u32)
+        requires room { HasRoom self.old }
+        requires effect { IsEffectFor self.old.process self.old.leaving Effect.Closed }
+        ensures { TakesTurn self.old Effect.Closed stamp self.new }
+    {
+        add_stamp(&mut self.stamps, stamp);
+        let stage = self.stage;
+        let Stage::Closing(place) = stage else {
+            unreachable!()
+        };
+        let next = closing_stage(&self.outputs, place + 1);
+        self.stage = limited_stage(self.stamps.len(), next);
+    }
+}

@@ -1,0 +1,122 @@
+//! The work of a process's component, ahead of its turn.
+ghost use Rattle.std.specs.Prelude.{◌≡◌, ◌↔◌, None, OnOk};
+ghost use Rattle.std.specs.Bool.{OnTrue, OnFalse};
+ghost use Rattle.flow_packet.specs.Held.{held_of};
+ghost use Rattle.flow_model.specs.Works.{judged};
+ghost use Rattle.flow_model.specs.Schedules.{IsThoughtStage};
+ghost use Rattle.flow_model.specs.declared.Stage.TheVariants.{Told};
+ghost use Rattle.flow_machine.specs.Thoughts.{Thinks, KeepsTurns, HasRoom, WorkedBody, SameBody, SendsHeld, HasNotFailed, Prepares};
+
+use super::Body;
+use crate::answers::Thought;
+use crate::inlet::next_text;
+use flow_component::{Answer, Component, Fail, Gate, Stop, Wish};
+use flow_model::Stage;
+use flow_packet::hands::Hands;
+use flow_packet::packet::Kind;
+use std::alloc::AllocError;
+
+/// The packets that hands may hold at their root.
+const HANDS_LIMIT: usize = 4096;
+
+/// Where a wish leaves a process: it can't send a close packet at depth 0, and can't receive while its hands are full.
+fn judged_stage(depths: &[u32], hands: &Hands, wish: Wish) -> Stage
+    requires { SendsHeld hands.now.packets wish }
+    ensures { result ≡ judged depths.now (held_of hands.now) wish }
+{
+    match wish {
+        Wish::Receive(_) => {
+            if hands.packets().len() < HANDS_LIMIT {
+                Stage::Wishing(wish)
+            } else {
+                Stage::Failed(Fail::HandsLimit)
+            }
+        }
+        Wish::Send(port, id) => {
+            let depth = depths.get(port.0 as usize).copied().unwrap_or(0);
+            if depth == 0 && hands.kind(id) == Kind::Close {
+                Stage::Failed(Fail::Unnested(port))
+            } else {
+                Stage::Wishing(wish)
+            }
+        }
+        Wish::Level(_) => Stage::Wishing(wish),
+        Wish::Deactivate => Stage::Wishing(wish),
+    }
+}
+
+impl<K: Component> Body<K> {
+    /// Does the pending work, if any, and takes the room of the next turn. Without memory the same thought may be had again. The gate is passed
+    /// before each resume of the component.
+    pub fn think<G: Gate>(&mut self, gate: &G) -> Thought
+        requires { self.old.leaving ≡ None }
+        ensures thinks { Thinks K.next self.old result self.new }
+        ensures keeps { KeepsTurns self.old self.new }
+    {
+        let stage = self.stage;
+        let Stage::Told(answer) = stage else {
+            return self.prepare();
+        };
+        gate.pass(self.number);
+        if self.work(answer) {
+            self.prepare()
+        } else {
+            Thought::NoMemory
+        }
+    }
+
+    /// Takes the room of the next turn, if there is to be one.
+    fn prepare(&mut self) -> Thought
+        requires whole { self.old.leaving ≡ None }
+        requires thought { IsThoughtStage self.old.process.stage }
+        ensures prepares { Prepares self.old result self.new }
+        ensures keeps { KeepsTurns self.old self.new }
+    {
+        match self.stage {
+            Stage::Failed(cause) => Thought::Failed(cause),
+            Stage::Ended => Thought::Wishing,
+            _ => match self.make_room() {
+                Ok(()) => Thought::Wishing,
+                Err(_) => Thought::NoMemory,
+            },
+        }
+    }
+
+    /// Does the pending work. False: there was no memory, and nothing has changed.
+    fn work(&mut self, answer: Answer) -> bool
+        requires whole { self.old.leaving ≡ None }
+        requires told { self.old.process.stage ≡ Told answer }
+        ensures worked { OnTrue result (WorkedBody K.next self.old self.new × IsThoughtStage self.new.process.stage) }
+        ensures unchanged { OnFalse result (SameBody self.old self.new × HasNotFailed self.new.process.stage) }
+        ensures keeps { KeepsTurns self.old self.new }
+    {
+        match self.part.resume(&mut self.hands, answer) {
+            Ok(wish) => {
+                self.stage = judged_stage(&self.depths, &self.hands, wish);
+                true
+            }
+            Err(Stop::Fail(cause)) => {
+                self.stage = Stage::Failed(cause);
+                true
+            }
+            Err(Stop::NoMemory) => false,
+        }
+    }
+
+    /// Takes the room of the next turn.
+    fn make_room(&mut self) -> Result<(), AllocError>
+        requires { self.old.leaving ≡ None }
+        ensures same { SameBody self.old self.new }
+        ensures keeps { KeepsTurns self.old self.new }
+        ensures room { OnOk result (HasRoom self.new) }
+    {
+        self.copy = None;
+        self.hands.reserve(1)?;
+        self.stamps.reserve(1)?;
+        self.levels.reserve(1)?;
+        if let Stage::Wishing(Wish::Receive(port)) = self.stage {
+            self.copy = next_text(&self.inlets, &self.fresh, port)?;
+        }
+        Ok(())
+    }
+}

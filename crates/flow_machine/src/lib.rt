@@ -1,0 +1,14 @@
+//! Networks on one thread: bodies, which are processes that run a component; channels, which are connections; and nets of them.
+#![tactic(auto)]
+
+mod answers;
+mod body;
+mod channel;
+mod inlet;
+mod net;
+mod outlets;
+
+pub use answers::{Case, Effect, Over, Status, Thought, Turn};
+pub use body::Body;
+pub use channel::Channel;
+pub use flow_model::{Block, Stage};

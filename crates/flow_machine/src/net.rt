@@ -1,0 +1,93 @@
+//! A network that runs.
+ghost use Rattle.std.specs.Prelude.{◌≡◌, ◌<◌, ◌^◌, ◌≤◌, length, None, Some, slice_get, slice_set, IfSome};
+ghost use Rattle.flow_machine.specs.Nets.{block_at, level_of, TurnsNet};
+ghost use Rattle.flow_machine.specs.NetSteps.{IsSetIn, ThinksNet};
+ghost use Rattle.flow_machine.specs.Logs.{turns_made};
+
+use crate::answers::{Case, Effect, Over, Thought, Turn};
+use crate::body::Body;
+use crate::channel::Channel;
+use flow_component::{Component, Gate, Port};
+use flow_model::Block;
+use std::marker::Model;
+
+mod pair;
+mod turns;
+
+/// A network: its processes and its connections.
+pub struct Net<K: Component> {
+    bodies: Vec<Body<K>>,
+    channels: Vec<Channel>,
+}
+
+impl<K: Component> Model for Net<K> {
+    ghost use Rattle.flow_machine.specs.Values.{NetValue};
+    ghost use Rattle.flow_machine.specs.Codes.{net_code};
+    ghost use Rattle.flow_machine.specs.FitNets.{FitNet};
+
+    ghost Value = { NetValue K };
+
+    ghost coded = { net_code K.code };
+
+    ghost view = { λ n. record { bodies = n.bodies.items; channels = n.channels.items } };
+
+    ghost invariant = { λ n. FitNet K.shape_of K.uses K.ready (record { bodies = n.bodies.items; channels = n.channels.items }) };
+}
+
+impl<K: Component> Net<K> {
+    /// How many processes it has.
+    pub fn processes(&self) -> u32
+        ensures count { result ≡ length self.now.bodies }
+        ensures few { result ≤ 128 }
+    {
+        self.bodies.len() as u32
+    }
+
+    pub fn body(&self, process: u32) -> &Body<K>
+        requires { process < length self.now.bodies }
+        ensures { slice_get self.now.bodies process ≡ Some result.now }
+    {
+        &self.bodies[process as usize]
+    }
+
+    pub fn channel(&self, connection: u32) -> &Channel
+        requires { connection < length self.now.channels }
+        ensures { slice_get self.now.channels connection ≡ Some result.now }
+    {
+        &self.channels[connection as usize]
+    }
+
+    /// Does the pending work of a process, if any, and takes the room of its next turn.
+    pub fn think<G: Gate>(&mut self, process: u32, gate: &G) -> Thought
+        requires { process < length self.old.bodies }
+        ensures { ThinksNet K.next self.old process result self.new }
+    {
+        self.bodies[process as usize].think(gate)
+    }
+
+    /// A turn of a process, if it has one. A level turn sees the exact length. Takes no memory.
+    pub fn turn(&mut self, process: u32, stamp: u32) -> Turn
+        requires in_range { process < length self.old.bodies }
+        requires set { IsSetIn self.old process }
+        requires next { stamp ≡ turns_made self.old }
+        ensures turns { TurnsNet self.old process (level_of self.old process) stamp result self.new }
+    {
+        turns::turn_of(&mut self.bodies, &mut self.channels, process, stamp)
+    }
+
+    /// Gives the run up, and spends all that it holds.
+    pub fn discard(self) {
+        let Net {
+            mut bodies,
+            mut channels,
+        } = self;
+        while let Some(body) = bodies.pop() {
+            body.discard();
+        }
+        bodies.destroy_empty();
+        while let Some(channel) = channels.pop() {
+            channel.discard();
+        }
+        channels.destroy_empty();
+    }
+}

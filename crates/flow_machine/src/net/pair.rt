@@ -1,0 +1,119 @@
+//! Turns of a body at one connection.
+ghost use Rattle.std.specs.Prelude.{◌≡◌, ◌<◌, ◌≤◌, ◌^◌, ◌-◌, ℕ, length, map, Some, None};
+ghost use Rattle.flow_component.specs.declared.Wish.TheVariants.{Receive, Send, Level};
+ghost use Rattle.flow_model.specs.Events.{received, sent, told_level, idle_event, Closes};
+ghost use Rattle.flow_model.specs.Stands.{look_shown};
+ghost use Rattle.flow_model.specs.declared.Stage.TheVariants.{Wishing, Idle, Closing};
+ghost use Rattle.flow_model.specs.declared.Block.{Block};
+ghost use Rattle.flow_model.specs.declared.Block.TheVariants.{Empty, Full, Dormant};
+ghost use Rattle.flow_machine.specs.Effects.{IsClosing};
+ghost use Rattle.flow_machine.specs.Thoughts.{HasRoom};
+ghost use Rattle.flow_machine.specs.Nets.{PairTurns, AloneTurns, GetsSound, SendsAt, packet_wished};
+
+use crate::answers::{Effect, Turn};
+use crate::body::Body;
+use crate::channel::Channel;
+use flow_component::{Component, Port};
+use flow_model::Block;
+
+/// A receive takes the oldest packet; where there is none and no sender is open, it hears the end.
+pub(crate) fn receive<K: Component>(
+    body: &mut Body<K>,
+    channel: &mut Channel,
+    connection: u32,
+    port: Port,
+    stamp: u32,
+) -> Turn
+    requires whole { body.old.leaving ≡ None }
+    requires stage { body.old.process.stage ≡ Wishing (Receive port) }
+    requires room { HasRoom body.old }
+    requires sound { GetsSound body.old.process channel.old.packets }
+    ensures { PairTurns (received port.0 connection channel.old.packets channel.old.open_senders) (Empty connection port) stamp body.old channel.old result body.new channel.new }
+{
+    if channel.holds_packet() {
+        let packet = channel.take();
+        body.effect(Effect::Got(packet), stamp);
+        return Turn::Made(stamp);
+    }
+    if channel.open_senders() == 0 {
+        body.effect(Effect::End, stamp);
+        return Turn::Made(stamp);
+    }
+    Turn::Blocked(Block::Empty { connection, port })
+}
+
+/// A send puts the packet of the wish where the connection has fewer packets than it takes.
+pub(crate) fn send<K: Component>(
+    body: &mut Body<K>,
+    channel: &mut Channel,
+    connection: u32,
+    port: Port,
+    stamp: u32,
+) -> Turn
+    requires whole { body.old.leaving ≡ None }
+    requires stage { SendsAt body.old.process.stage port }
+    requires room { HasRoom body.old }
+    requires counted { channel.old.puts < 2 ^ 64 - 1 }
+    ensures { PairTurns (sent port.0 connection (packet_wished body.old.process) (Some (look_shown channel.old))) (Full connection port) stamp body.old channel.old result body.new channel.new }
+{
+    if channel.has_room() {
+        let packet = body.outgoing();
+        channel.put(packet);
+        body.effect(Effect::Sent, stamp);
+        return Turn::Made(stamp);
+    }
+    Turn::Blocked(Block::Full { connection, port })
+}
+
+/// A process that asks for a level is told a number from the packets that there are to the capacity.
+pub(crate) fn learn<K: Component>(
+    body: &mut Body<K>,
+    channel: &Channel,
+    port: Port,
+    level: u32,
+    stamp: u32,
+) -> Turn
+    requires whole { body.old.leaving ≡ None }
+    requires stage { body.old.process.stage ≡ Wishing (Level port) }
+    requires room { HasRoom body.old }
+    requires least { length channel.now.packets ≤ level }
+    requires most { level ≤ channel.now.capacity }
+    requires small { channel.now.capacity < 65536 }
+    ensures { (block : Block) → PairTurns (told_level port.0 level (Some (look_shown channel.now))) block stamp body.old channel.now result body.new channel.now }
+{
+    let _ = channel;
+    body.effect(Effect::Level(level), stamp);
+    Turn::Made(stamp)
+}
+
+/// One more of its connected outputs is closed.
+pub(crate) fn close<K: Component>(body: &mut Body<K>, channel: &mut Channel, connection: u32, stamp: u32) -> Turn
+    requires whole { body.old.leaving ≡ None }
+    requires stage { IsClosing body.old.process.stage }
+    requires room { HasRoom body.old }
+    requires open { 0 < channel.old.open_senders }
+    ensures { (output : ℕ) (block : Block) → PairTurns (Some (Closes output connection)) block stamp body.old channel.old result body.new channel.new }
+{
+    channel.close_one();
+    body.effect(Effect::Closed, stamp);
+    let _ = connection;
+    Turn::Made(stamp)
+}
+
+/// An idle process starts, or goes to its end, or is dormant.
+pub(crate) fn wake<K: Component>(body: &mut Body<K>, channels: &[Channel], stamp: u32) -> Turn
+    requires whole { body.old.leaving ≡ None }
+    requires stage { body.old.process.stage ≡ Idle }
+    requires room { HasRoom body.old }
+    ensures { AloneTurns (idle_event (map look_shown channels.now) body.old.process) Dormant stamp body.old result body.new }
+{
+    if body.can_start(channels) {
+        body.effect(Effect::Start, stamp);
+        return Turn::Made(stamp);
+    }
+    if body.has_ended(channels) {
+        body.effect(Effect::ToClosing, stamp);
+        return Turn::Made(stamp);
+    }
+    Turn::Blocked(Block::Dormant)
+}
