@@ -74,7 +74,7 @@ by-place {K} bodies p b b' P there here others q x is = elim (same_or_not q p) [
   | inr other ↦ others q x other (sym (slice_get-set_other bodies p q b' other) ∙ is)
 ]
 
-turns-set : {K : Type 0} (bodies : List (BodyValue K)) (p : ℕ) (b b' : BodyValue K) → slice_get bodies p ≡ Some b → sum_by (λ (x : BodyValue K). x.process.turns) (slice_set bodies p b') + b.process.turns ≡ sum_by (λ (x : BodyValue K). x.process.turns) bodies + b'.process.turns
+pub turns-set : {K : Type 0} (bodies : List (BodyValue K)) (p : ℕ) (b b' : BodyValue K) → slice_get bodies p ≡ Some b → sum_by (λ (x : BodyValue K). x.process.turns) (slice_set bodies p b') + b.process.turns ≡ sum_by (λ (x : BodyValue K). x.process.turns) bodies + b'.process.turns
 turns-set {K} bodies p b b' there = sum_by-slice_set (λ (x : BodyValue K). x.process.turns) bodies p b b' there
 
 length-change : {A : Type 0} (xs : List A) (i : ℕ) (f : A → A) → length (change_at xs i f) ≡ length xs
@@ -268,16 +268,19 @@ module _ {K : Type 0} (shape_of : K → Shape) (uses : K → ℕ → Bool) (read
   state-worked : State K → ℕ → Process K → Outcome K → State K
   state-worked s p x outcome = record { kept = record { processes = slice_set s.kept.processes p (worked x outcome); channels = s.kept.channels }; past = past_worked s.past p x.held (held_after outcome) }
 
-  -- a state that a net stood for goes on by the work of a body, if there was one
-  pub goes-think : (old : NetValue K) (p : ℕ) (before after : BodyValue K) (new : NetValue K) → slice_get old.bodies p ≡ Some before → SameBody before after ⊎ WorkedBody next before after → new.bodies ≡ slice_set old.bodies p after → new.channels ≡ old.channels
-      → (s : State K) → Fit shape_of uses ready s → StandsForOpen (shown_net old) s → (s' : State K) × ((SameBody before after × (s' ≡ s)) ⊎ (WorkedBody next before after × Work next s p s')) × Fit shape_of uses ready s' × StandsForOpen (shown_net new) s'
-  unfolding state-worked
-  goes-think old p before after new there (inl same) bodies channels s fit stands =
+  -- a state that a net stood for, where nothing that is shown changed
+  pub goes-same : (old : NetValue K) (p : ℕ) (before after : BodyValue K) (new : NetValue K) → slice_get old.bodies p ≡ Some before → SameBody before after → new.bodies ≡ slice_set old.bodies p after → new.channels ≡ old.channels → (s : State K) → StandsForOpen (shown_net old) s → StandsForOpen (shown_net new) s
+  goes-same old p before after new there same bodies channels s stands =
       let shown_same : shown_body after ≡ shown_body before = λ i. record { process = same.process i; dropped = same.dropped i } in
       let all : map shown_body new.bodies ≡ map shown_body old.bodies =
       ap (map shown_body) bodies ∙ map-set shown_body old.bodies p after ∙ ap (slice_set (map shown_body old.bodies) p) shown_same ∙ set-same (map shown_body old.bodies) p (shown_body before) (get-map shown_body old.bodies p before there) in
-      (s, inl (same, refl), fit, (let both : shown_net new ≡ shown_net old = λ i. record { bodies = all i; channels = channels i } in both) ∙ stands)
-  goes-think old p before after new there (inr work) bodies channels s fit stands =
+      (let both : shown_net new ≡ shown_net old = λ i. record { bodies = all i; channels = channels i } in both) ∙ stands
+
+  -- a state that a net stood for goes on by the work of a body
+  pub goes-work : (old : NetValue K) (p : ℕ) (before after : BodyValue K) (new : NetValue K) → slice_get old.bodies p ≡ Some before → WorkedBody next before after → new.bodies ≡ slice_set old.bodies p after → new.channels ≡ old.channels
+      → (s : State K) → Fit shape_of uses ready s → StandsForOpen (shown_net old) s → (s' : State K) × Work next s p s' × Fit shape_of uses ready s' × StandsForOpen (shown_net new) s'
+  unfolding state-worked
+  goes-work old p before after new there work bodies channels s fit stands =
       let x = before.process in
       let outcome = work.outcome in
       let at = process-in old s p before stands there in
@@ -293,10 +296,15 @@ module _ {K : Type 0} (shape_of : K → Shape) (uses : K → ℕ → Bool) (read
       ap (map shown_body) bodies ∙ map-set shown_body old.bodies p after ∙ ap (slice_set (map shown_body old.bodies) p) body
       ∙ sym (change_at-some (map shown_body old.bodies) p (body_worked outcome) (shown_body before) (get-map shown_body old.bodies p before there)) in
       let f : NetShown K → NetShown K = λ n. record { bodies = change_at n.bodies p (body_worked outcome); channels = n.channels } in
-      (s', inr (work, step), Fit-work shape_of uses ready next obeys stays steady s p s' step fit,
+      (s', step, Fit-work shape_of uses ready next obeys stays steady s p s' step fit,
         (let both : shown_net new ≡ f (shown_net old) = λ i. record { bodies = all i; channels = channels i } in both) ∙ ap f stands ∙ sym (shown-work next s p s' step works below sound))
 
-  same-turns : (before after : BodyValue K) → SameBody before after ⊎ WorkedBody next before after → (after.process.turns ≡ before.process.turns) × (after.process.inputs ≡ before.process.inputs) × (after.process.outputs ≡ before.process.outputs)
+  pub goes-think : (old : NetValue K) (p : ℕ) (before after : BodyValue K) (new : NetValue K) → slice_get old.bodies p ≡ Some before → SameBody before after ⊎ WorkedBody next before after → new.bodies ≡ slice_set old.bodies p after → new.channels ≡ old.channels
+      → (s : State K) → Fit shape_of uses ready s → StandsForOpen (shown_net old) s → (s' : State K) × Fit shape_of uses ready s' × StandsForOpen (shown_net new) s'
+  goes-think old p before after new there (inl same) bodies channels s fit stands = (s, fit, goes-same old p before after new there same bodies channels s stands)
+  goes-think old p before after new there (inr work) bodies channels s fit stands = let g = goes-work old p before after new there work bodies channels s fit stands in (g.0, g.2, g.3)
+
+  pub same-turns : (before after : BodyValue K) → SameBody before after ⊎ WorkedBody next before after → (after.process.turns ≡ before.process.turns) × (after.process.inputs ≡ before.process.inputs) × (after.process.outputs ≡ before.process.outputs)
   same-turns before after (inl same) = (ap (λ (x : Process K). x.turns) same.process, ap (λ (x : Process K). x.inputs) same.process, ap (λ (x : Process K). x.outputs) same.process)
   same-turns before after (inr work) = (ap (λ (x : Process K). x.turns) work.process ∙ turns-worked before.process work.outcome, ap (λ (x : Process K). x.inputs) work.process ∙ inputs-worked before.process work.outcome, ap (λ (x : Process K). x.outputs) work.process ∙ outputs-worked before.process work.outcome)
 
@@ -309,8 +317,8 @@ module _ {K : Type 0} (shape_of : K → Shape) (uses : K → ℕ → Bool) (read
       let same = same-turns b think.after step in
       record {
         state = after.0;
-        fit = after.2;
-        stands = after.3;
+        fit = after.1;
+        stands = after.2;
         log = fit.log;
         logs = subst (λ (bs : List (BodyValue K)). Logs fit.log (record { bodies = bs; channels = new.channels })) (sym think.bodies)
         (by-place old.bodies p b think.after (λ q x. (x.stamps ≡ stamps_of q 0 fit.log) × (x.levels ≡ levels_of q 0 fit.log)) think.there

@@ -5,5 +5,7 @@ pub mod InletLemmas
 pub mod Pairs
 pub mod Standings
 pub mod NetTurns
+pub mod PlanLemmas
 pub mod LogLemmas
 pub mod FitLemmas
+pub mod SoloLemmas

@@ -13,3 +13,6 @@ pub mod Nets
 pub mod Logs
 pub mod FitNets
 pub mod NetSteps
+pub mod PlanOf
+pub mod Starts
+pub mod Solo

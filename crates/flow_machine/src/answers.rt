@@ -2,7 +2,7 @@
 
 use flow_component::{Fail, Port};
 use flow_model::Block;
-use flow_packet::packet::Packet;
+use flow_packet::Packet;
 
 /// Where a process stands, as Morrison names it; `Closing` and its number are this project's own.
 #[derive(Clone, Copy, Debug, PartialEq, Eq)]

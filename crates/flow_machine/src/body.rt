@@ -13,8 +13,8 @@ use crate::inlet::Inlet;
 use crate::outlets::{outlet_at, output_at};
 use flow_component::{Component, Port, Wish};
 use flow_model::Stage;
-use flow_packet::hands::Hands;
-use flow_packet::packet::{Kind, Packet, PacketId};
+use flow_packet::Hands;
+use flow_packet::{Kind, Packet, PacketId};
 use std::marker::Model;
 
 mod effect;
@@ -108,7 +108,9 @@ impl<K: Component> Body<K> {
 
     /// The stamps of its turns, in order.
     pub fn turns(&self) -> &[u32]
-        ensures { result.now ≡ self.now.stamps }
+        ensures stamps { result.now ≡ self.now.stamps }
+        ensures count { length result.now ≡ self.now.process.turns }
+        ensures few { length result.now ≤ 8388608 }
     {
         &self.stamps
     }

@@ -3,7 +3,7 @@ ghost use Rattle.std.specs.Prelude.{◌≡◌, ℕ, ◌+◌, ◌-◌, ◌^◌, �
 ghost use Rattle.flow_model.specs.Events.{holds_packet, is_over};
 ghost use Rattle.flow_model.specs.Stands.{look_shown};
 
-use flow_packet::packet::Packet;
+use flow_packet::Packet;
 use std::alloc::{AllocError, Global};
 use std::collections::VecDeque;
 use std::marker::Model;

@@ -7,8 +7,10 @@ mod channel;
 mod inlet;
 mod net;
 mod outlets;
+mod start;
 
 pub use answers::{Case, Effect, Over, Status, Thought, Turn};
 pub use body::Body;
 pub use channel::Channel;
 pub use flow_model::{Block, Stage};
+pub use net::{Closed, Net, solo};

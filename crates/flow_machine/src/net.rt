@@ -1,18 +1,20 @@
 //! A network that runs.
-ghost use Rattle.std.specs.Prelude.{◌≡◌, ◌<◌, ◌^◌, ◌≤◌, length, None, Some, slice_get, slice_set, IfSome};
-ghost use Rattle.flow_machine.specs.Nets.{block_at, level_of, TurnsNet};
+ghost use Rattle.std.specs.Prelude.{◌≡◌, ◌<◌, ◌^◌, ◌≤◌, length, None, Some, slice_get, IfSome, sum_by};
+ghost use Rattle.flow_machine.specs.Nets.{level_of, TurnsNet};
 ghost use Rattle.flow_machine.specs.NetSteps.{IsSetIn, ThinksNet};
 ghost use Rattle.flow_machine.specs.Logs.{turns_made};
 
-use crate::answers::{Case, Effect, Over, Thought, Turn};
+use crate::answers::{Thought, Turn};
 use crate::body::Body;
 use crate::channel::Channel;
-use flow_component::{Component, Gate, Port};
-use flow_model::Block;
+use flow_component::{Component, Gate};
 use std::marker::Model;
 
 mod pair;
+mod round;
 mod turns;
+
+pub use round::{Closed, solo};
 
 /// A network: its processes and its connections.
 pub struct Net<K: Component> {
@@ -32,6 +34,18 @@ impl<K: Component> Model for Net<K> {
     ghost view = { λ n. record { bodies = n.bodies.items; channels = n.channels.items } };
 
     ghost invariant = { λ n. FitNet K.shape_of K.uses K.ready (record { bodies = n.bodies.items; channels = n.channels.items }) };
+}
+
+/// The turns of these processes together.
+fn count_turns<K: Component>(bodies: &[Body<K>]) -> u32
+    requires { sum_by (λ b. b.process.turns) bodies.now ≤ 1073741824 }
+    ensures { result ≡ sum_by (λ b. b.process.turns) bodies.now }
+{
+    let mut count = 0;
+    for body in bodies {
+        count += body.turns().len() as u32;
+    }
+    count
 }
 
 impl<K: Component> Net<K> {
@@ -71,8 +85,17 @@ impl<K: Component> Net<K> {
         requires set { IsSetIn self.old process }
         requires next { stamp ≡ turns_made self.old }
         ensures turns { TurnsNet self.old process (level_of self.old process) stamp result self.new }
+        ensures few { turns_made self.new ≤ 1073741824 }
     {
         turns::turn_of(&mut self.bodies, &mut self.channels, process, stamp)
+    }
+
+    /// How many turns were made.
+    pub fn turns_made(&self) -> u32
+        ensures turns { result ≡ turns_made self.now }
+        ensures few { result ≤ 1073741824 }
+    {
+        count_turns(&self.bodies)
     }
 
     /// Gives the run up, and spends all that it holds.

@@ -17,7 +17,7 @@ use crate::inlet::{Inlet, freshen};
 use crate::outlets::outlet_count;
 use flow_component::{Answer, Component, Fail, Port, Wish};
 use flow_model::Stage;
-use flow_packet::packet::{Kind, Packet};
+use flow_packet::{Kind, Packet};
 
 const TURN_LIMIT: usize = 8_388_608;
 

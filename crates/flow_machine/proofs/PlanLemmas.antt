@@ -1,0 +1,58 @@
+-- Looking connections up in a plan.
+use Rattle.std.proofs.Common.{◌≡◌, ℕ, ◌+◌, ◌<◌, ◌≤◌, Bool, true, false, cond, List, [], ◌∷◌, length, map, drop, drop-cons, get_or, Option, Some, None, suc, zero, nat_lt, refl, ap, sym, ◌∙◌, arith, add-one, option_map}
+use Rattle.std.specs.Prelude.{position, not}
+use Rattle.std.specs.List.{prefix_len}
+use Rattle.std.proofs.lemmas.Bool.Decides.{nat_tests}
+
+-- the first place from here on, or one later
+pub position-cons : {A : Type 0} (p : A → Bool) (x : A) (xs : List A) → position p (x ∷ xs) ≡ cond {A = Option ℕ} (p x) (Some 0) (option_map suc (position p xs))
+position-cons p x xs = by (p x)
+  where
+    later : (n m : ℕ) (b : Bool) → nat_lt n m ≡ b → cond {A = Option ℕ} (nat_lt (1 + n) (suc m)) (Some (1 + n)) None ≡ option_map suc (cond b (Some n) None)
+    later n m true t = let h : nat_lt (1 + n) (suc m) ≡ true = grind (arith, nat_tests) in rw h (ap (λ k. Some k) (let e : 1 + n ≡ suc n = omega arith in e))
+    later n m false t = let h : nat_lt (1 + n) (suc m) ≡ false = grind (arith, nat_tests) in rw h refl
+
+    first : (m : ℕ) → cond {A = Option ℕ} (nat_lt 0 (suc m)) (Some 0) None ≡ Some 0
+    first m = let h : nat_lt 0 (suc m) ≡ true = grind (arith, nat_tests) in rw h refl
+
+    by : (b : Bool) → cond {A = Option ℕ} (nat_lt (cond (not b) (1 + prefix_len (λ y. not (p y)) xs) 0) (suc (length xs))) (Some (cond (not b) (1 + prefix_len (λ y. not (p y)) xs) 0)) None ≡ cond {A = Option ℕ} b (Some 0) (option_map suc (position p xs))
+    by true = first (length xs)
+    by false = later (prefix_len (λ y. not (p y)) xs) (length xs) (nat_lt (prefix_len (λ y. not (p y)) xs) (length xs)) refl
+
+drop-here : {A : Type 0} (xs : List A) (i : ℕ) (x : A) → i < length xs → x ≡ get_or xs i x → drop i xs ≡ x ∷ drop (i + 1) xs
+drop-here {A} xs i x within is = drop-cons xs i x within ∙ ap (λ (y : A). y ∷ drop (suc i) xs) (sym is) ∙ ap (λ n. x ∷ drop n xs) (sym (add-one i))
+
+-- so many places on
+abbrev pub later : ℕ → Option ℕ → Option ℕ
+later n found = option_map (λ k. n + k) found
+
+later-zero : (found : Option ℕ) → later 0 found ≡ found
+later-zero None = refl
+later-zero (Some k) = ap (λ m. Some m) (let e : 0 + k ≡ k = omega arith in e)
+
+later-suc : (n : ℕ) (found : Option ℕ) → later n (option_map suc found) ≡ later (n + 1) found
+later-suc n None = refl
+later-suc n (Some k) = ap (λ m. Some m) (let e : n + suc k ≡ n + 1 + k = omega arith in e)
+
+pub position-start : {A B : Type 0} (p : B → Bool) (f : A → B) (xs : List A) → later 0 (position p (map f (drop 0 xs))) ≡ position p (map f xs)
+position-start p f xs = later-zero (position p (map f xs))
+
+-- where the one at place i doesn't pass, it is one after it
+pub position-next : {A B : Type 0} (p : B → Bool) (f : A → B) (xs : List A) (i : ℕ) (x : A) → i < length xs → x ≡ get_or xs i x → p (f x) ≡ false → later i (position p (map f (drop i xs))) ≡ later (i + 1) (position p (map f (drop (i + 1) xs)))
+position-next {A} {B} p f xs i x within is fails =
+    ap (λ (ys : List A). later i (position p (map f ys))) (drop-here xs i x within is) ∙ ap (later i) (position-cons p (f x) (map f (drop (i + 1) xs)) ∙ ap (λ (b : Bool). cond {A = Option ℕ} b (Some 0) (option_map suc (position p (map f (drop (i + 1) xs))))) fails)
+    ∙ later-suc i (position p (map f (drop (i + 1) xs)))
+
+pub position-here : {A B : Type 0} (p : B → Bool) (f : A → B) (xs : List A) (i : ℕ) (x : A) → i < length xs → x ≡ get_or xs i x → p (f x) ≡ true → later i (position p (map f (drop i xs))) ≡ Some i
+position-here {A} {B} p f xs i x within is passes =
+    ap (λ (ys : List A). later i (position p (map f ys))) (drop-here xs i x within is) ∙ ap (later i) (position-cons p (f x) (map f (drop (i + 1) xs)) ∙ ap (λ (b : Bool). cond {A = Option ℕ} b (Some 0) (option_map suc (position p (map f (drop (i + 1) xs))))) passes)
+    ∙ ap (λ m. Some m) (let e : i + 0 ≡ i = omega arith in e)
+
+drop-over : {A : Type 0} (xs : List A) (i : ℕ) → length xs ≤ i → drop i xs ≡ []
+drop-over [] zero over = refl
+drop-over [] (suc i) over = refl
+drop-over (x ∷ xs) zero over = absurd (omega (arith, over))
+drop-over (x ∷ xs) (suc i) over = drop-over xs i (omega (arith, over))
+
+pub position-over : {A B : Type 0} (p : B → Bool) (f : A → B) (xs : List A) (i : ℕ) → length xs ≤ i → later i (position p (map f (drop i xs))) ≡ None
+position-over {A} p f xs i over = ap (λ (ys : List A). later i (position p (map f ys))) (drop-over xs i over)

@@ -1,0 +1,434 @@
+-- Bursts, passes and rounds, one turn after another.
+use Rattle.std.proofs.Common.{◌≡◌, ◌≢◌, ℕ, ◌+◌, ◌-◌, ◌*◌, ◌<◌, ◌≤◌, Bool, true, false, List, [], ◌∷◌, ◌++◌, length, map, Option, Some, None, suc, zero, refl, ap, sym, subst, ◌∙◌, arith, slice_get, slice_set, length-set, length-append, append_assoc, append-nil, add-one, ◌⊎◌, inl, inr}
+use Rattle.std.specs.Prelude.{option_and_then, IfSome, sum_by}
+use Rattle.std.specs.List.{flat_map}
+use Rattle.std.specs.Bool.{OnTrue, OnFalse}
+use Rattle.flow_packet.specs.Held.{Held}
+use Rattle.flow_component.specs.declared.Answer.{Answer}
+use Rattle.flow_component.specs.declared.Fail.{Fail}
+use Rattle.flow_component.specs.declared.Shape.{Shape}
+use Rattle.flow_component.specs.declared.Wish.TheVariants as wishes
+use Rattle.flow_component.specs.Laws.{Outcome, Wishes, Fails, Obeys, StaysReady, IsSteady}
+use Rattle.flow_model.specs.declared.Stage.{Stage}
+use Rattle.flow_model.specs.declared.Stage.TheVariants as stages
+use Rattle.flow_model.specs.declared.Block.{Block}
+use Rattle.flow_model.specs.States.{Process, State}
+use Rattle.flow_model.specs.Events.{Event, Starts, Finishes, Gets, Takes_text, Hears_end, Sends, Learns, Sleeps, Closes, Look, looks, event_from, event_of, stage_event, seen_by, level_at}
+use Rattle.flow_model.specs.Turns.{Turn}
+use Rattle.flow_model.specs.Works.{Work, worked}
+use Rattle.flow_model.proofs.Schedules.{turns-after}
+use Rattle.flow_model.specs.Schedules.{Journal, no_turns, then_turns, Settles, SettlesAll, WorksLead, IsThought, IsThoughtStage, IsClosed}
+use Rattle.flow_model.specs.Robin.{IsExact, ExactTurn, TurnsOf, Burst, PassBelow, Pass, Passes, joined, RoundRobin}
+use Rattle.flow_model.specs.Verdicts.{HasNoTurn, Quiet, block_of, exact_level, exact_level_for}
+use Rattle.flow_model.specs.Stands.{BodyShown, ChannelShown, NetShown, show_body, bodies_from, look_shown, StandsForOpen}
+use Rattle.flow_model.specs.Fit.{Fit}
+use Rattle.flow_model.proofs.Inverse.{explains}
+use Rattle.flow_model.proofs.Stands.{looks-shown}
+use Rattle.flow_model.proofs.Blocks.{block-no_turn}
+use Rattle.flow_model.proofs.Lists.{slice_get-set_same, slice_get-set_other, same_or_not}
+use Rattle.flow_machine.specs.Values.{BodyValue, NetValue, shown_body, shown_net}
+use Rattle.flow_machine.specs.declared.answers.Turn.{Turn as Turning}
+use Rattle.flow_machine.specs.declared.answers.Turn.TheVariants as turns
+use Rattle.flow_machine.specs.declared.answers.Over.{Over}
+use Rattle.flow_machine.specs.declared.answers.Over.TheVariants as overs
+use Rattle.flow_machine.specs.declared.answers.Thought.{Thought}
+use Rattle.flow_machine.specs.declared.answers.Thought.TheVariants as thoughts
+use Rattle.flow_machine.specs.Nets.{looks_of, BodyTurn, NetTurn, TurnsNet, block_at, level_of, IsAt, HasFailed, levels_told}
+use Rattle.flow_machine.specs.NetSteps.{ThinksNet, IsSetIn}
+use Rattle.flow_machine.specs.Thoughts.{SettlesBody, WorkedBody, SameBody, KeepsTurns, IsSet, IsSetAt}
+use Rattle.flow_machine.specs.Logs.{Logged, journal_of, Remembers, stamps_of, levels_of, turns_made}
+use Rattle.flow_machine.specs.Starts.{AllSet}
+use Rattle.flow_machine.specs.Solo.{GoesOn, GoesBy, Goes, HasNoTurnIn, MakesTurn, SettlesNet, SetBelow, turns_of, burst_of, pass_below, some_passes, some_works, all_settled, round_robin}
+use Rattle.flow_machine.proofs.Standings.{get-map, process-in, happens-in}
+use Rattle.flow_machine.proofs.NetTurns.{if_some, level-there, set-thought}
+use Rattle.flow_machine.proofs.LogLemmas.{stamps_of-append, levels_of-append, stamps-own, stamps-other, levels-own, levels-other}
+use Rattle.flow_machine.proofs.FitLemmas.{goes-by, goes-same, goes-work, thinks-step, turns-set}
+
+-- journals of logs
+map-append : (log more : List Logged) → map (λ (t : Logged). t.process) (log ++ more) ≡ map (λ (t : Logged). t.process) log ++ map (λ (t : Logged). t.process) more
+map-append [] more = refl
+map-append (t ∷ log) more = ap (λ xs. t.process ∷ xs) (map-append log more)
+
+seen-append : (log more : List Logged) → flat_map (λ (t : Logged). t.seen) (log ++ more) ≡ flat_map (λ (t : Logged). t.seen) log ++ flat_map (λ (t : Logged). t.seen) more
+seen-append [] more = refl
+seen-append (t ∷ log) more = ap (λ xs. t.seen ++ xs) (seen-append log more) ∙ sym (append_assoc t.seen (flat_map (λ (u : Logged). u.seen) log) (flat_map (λ (u : Logged). u.seen) more))
+
+pub journal_of-append : (log more : List Logged) → journal_of (log ++ more) ≡ then_turns (journal_of log) (journal_of more)
+journal_of-append log more = λ i. record { turns = map-append log more i; seen = seen-append log more i }
+
+get-exists : {A : Type 0} (xs : List A) (i : ℕ) → i < length xs → (x : A) × (slice_get xs i ≡ Some x)
+get-exists [] i below = absurd (omega (arith, below))
+get-exists (x ∷ xs) zero below = (x, refl)
+get-exists (x ∷ xs) (suc i) below = get-exists xs i (omega (arith, below))
+
+get-within : {A : Type 0} (xs : List A) (i : ℕ) (x : A) → slice_get xs i ≡ Some x → i < length xs
+get-within [] i x is = absurd (cc)
+get-within (y ∷ xs) zero x is = omega arith
+get-within (y ∷ xs) (suc i) x is = omega (arith, get-within xs i x is)
+
+body-from : {K : Type 0} (dropped : ℕ → List ℕ) (k : ℕ) (bodies : List (BodyValue K)) (xs : List (Process K)) (p : ℕ) (x : Process K) → map shown_body bodies ≡ bodies_from dropped k xs → slice_get xs p ≡ Some x → (b : BodyValue K) × (slice_get bodies p ≡ Some b) × (b.process ≡ x)
+body-from dropped k bodies [] p x same is = absurd (cc)
+body-from dropped k [] (y ∷ xs) p x same is = absurd (cc)
+body-from dropped k (b ∷ bodies) (y ∷ xs) zero x same is = (b, refl, (let h : y ≡ x = cc in let e : shown_body b ≡ show_body dropped k y = cc in ap (λ (s : BodyShown _). s.process) e ∙ h))
+body-from dropped k (b ∷ bodies) (y ∷ xs) (suc p) x same is = (let h : map shown_body bodies ≡ bodies_from dropped (k + 1) xs = cc in body-from dropped (k + 1) bodies xs p x h is)
+
+-- the body of a process of a state that the net stands for
+pub body-of : {K : Type 0} (net : NetValue K) (s : State K) (p : ℕ) (x : Process K) → StandsForOpen (shown_net net) s → slice_get s.kept.processes p ≡ Some x → (b : BodyValue K) × (slice_get net.bodies p ≡ Some b) × (b.process ≡ x)
+body-of {K} net s p x stands is = body-from s.past.dropped 0 net.bodies s.kept.processes p x (ap (λ (n : NetShown K). n.bodies) stands) is
+
+-- a process that is blocked or over has no turn
+pub answer-turn : {K : Type 0} (old : NetValue K) (p stamp : ℕ) (s : ℕ) (new : NetValue K) → TurnsNet old p (level_of old p) stamp (turns.Made s) new → MakesTurn old p stamp true new
+answer-turn old p stamp s new made = made.1
+
+pub blocked-turn : {K : Type 0} (old : NetValue K) (p stamp : ℕ) (block : Block) (new : NetValue K) → TurnsNet old p (level_of old p) stamp (turns.Blocked block) new → MakesTurn old p stamp false new
+blocked-turn {K} old p stamp block new blocked = (λ b n there. block-no_turn (looks_of old.channels) b.process block n (sym (ap (λ (o : Option (BodyValue K)). option_and_then (λ (x : BodyValue K). block_of (looks_of old.channels) x.process) o) there) ∙ blocked.0), blocked.1)
+
+pub over-turn : {K : Type 0} (old : NetValue K) (p stamp : ℕ) (over : Over) (new : NetValue K) → TurnsNet old p (level_of old p) stamp (turns.Over over) new → MakesTurn old p stamp false new
+over-turn {K} old p stamp overs.Ended new over = (λ b n there. ap (stage_event (looks_of old.channels) b.process n) (if_some (slice_get old.bodies p) (λ (x : BodyValue K). x.process.stage ≡ stages.Ended) b there over.0), over.1)
+over-turn {K} old p stamp overs.Failed new over = (λ b n there. ap (stage_event (looks_of old.channels) b.process n) (if_some (slice_get old.bodies p) (λ (x : BodyValue K). HasFailed x.process.stage) b there over.0).1, over.1)
+over-turn old p stamp overs.Starved new never = absurd never
+
+-- after a thought that found memory the process is settled
+pub settles-wishing : {K : Type 0} (next : K → Held → Answer → Outcome K → Type 0) (old : NetValue K) (p : ℕ) (new : NetValue K) → ThinksNet next old p thoughts.Wishing new → SettlesNet next old p new
+settles-wishing next old p new think = record { before = think.before; after = think.after; there = think.there; settles = think.thinks.0; set = think.thinks.1; keeps = think.keeps; bodies = think.bodies; channels = think.channels }
+
+pub settles-failed : {K : Type 0} (next : K → Held → Answer → Outcome K → Type 0) (old : NetValue K) (p : ℕ) (cause : Fail) (new : NetValue K) → ThinksNet next old p (thoughts.Failed cause) new → SettlesNet next old p new
+settles-failed next old p cause new think = record {
+  before = think.before; after = think.after; there = think.there; settles = think.thinks.0; set = subst (IsSetAt think.after) (sym think.thinks.1) tt; keeps = think.keeps; bodies = think.bodies; channels = think.channels;
+}
+
+settles-step : {K : Type 0} (next : K → Held → Answer → Outcome K → Type 0) (old new : BodyValue K) → SettlesBody next old new → SameBody old new ⊎ WorkedBody next old new
+settles-step next old new (inl same) = inl same.1
+settles-step next old new (inr work) = inr work
+
+-- a level turn saw the exact length
+exact-turn : {K : Type 0} (net : NetValue K) (s : State K) (p : ℕ) (b : BodyValue K) (e : Event) → StandsForOpen (shown_net net) s → slice_get net.bodies p ≡ Some b → event_from (looks_of net.channels) b.process (level_of net p) ≡ Some e → IsExact s.kept b.process e
+exact-turn net s p b Starts stands there happens = tt
+exact-turn net s p b Finishes stands there happens = tt
+exact-turn net s p b (Gets port c packet) stands there happens = tt
+exact-turn net s p b (Takes_text port text) stands there happens = tt
+exact-turn net s p b (Hears_end port) stands there happens = tt
+exact-turn net s p b (Sends port c packet) stands there happens = tt
+exact-turn net s p b Sleeps stands there happens = tt
+exact-turn net s p b (Closes output c) stands there happens = tt
+exact-turn {K} net s p b (Learns port level) stands there happens =
+    let at = explains s.kept.channels b.process (level_of net p) (Learns port level) (sym (happens-in net s b.process (level_of net p) stands) ∙ happens) in
+    let exactly : exact_level (looks_of net.channels) b.process ≡ level_at (looks_of net.channels) b.process at.wished.0 = ap (exact_level_for (looks_of net.channels) b.process) at.stage in
+    let same : looks_of net.channels ≡ looks s.kept.channels = ap (λ (n : NetShown K). map look_shown n.channels) stands ∙ looks-shown s.past.put 0 s.kept.channels in
+    at.seen ∙ level-there net p b there ∙ exactly ∙ ap (λ (ls : List Look). level_at ls b.process at.wished.0) same ∙ ap (level_at (looks s.kept.channels) b.process) at.names
+
+TurnsOf-more : {K : Type 0} (next : K → Held → Answer → Outcome K → Type 0) (p : ℕ) (s : State K) (ts seen : List ℕ) (mid : State K) (e : Event) (s' : State K) → TurnsOf next p s ts seen mid → ExactTurn next mid p e s' → TurnsOf next p s (ts ++ p ∷ []) (seen ++ (seen_by e ++ [])) s'
+TurnsOf-more {K} next p s [] seen mid e s' go turn =
+    let seen_is : seen_by e ++ [] ≡ seen ++ (seen_by e ++ []) = ap (λ (ns : List ℕ). ns ++ (seen_by e ++ [])) (sym go.0) in
+    (refl, (e, s', [], subst (λ (m : State K). ExactTurn next m p e s') go.1 turn, sym seen_is, (refl, refl)))
+TurnsOf-more next p s (q ∷ ts) seen mid e s' go turn =
+    let more = go.1 in
+    (go.0, (more.0, more.1, more.2 ++ (seen_by e ++ []), more.3, ap (λ (ns : List ℕ). ns ++ (seen_by e ++ [])) more.4 ∙ append_assoc (seen_by more.0) more.2 (seen_by e ++ []), TurnsOf-more next p more.1 ts more.2 mid e s' more.5 turn))
+
+-- what bodies remember of a turn more
+remember-turn : {K : Type 0} (next : K → Held → Answer → Outcome K → Type 0) (old mid tn new : NetValue K) (p n m k : ℕ) (log : List Logged) (e : Event) → Remembers n old.bodies log mid.bodies → m ≡ n + length log → NetTurn mid p k e m tn → SettlesNet next tn p new
+    → Remembers n old.bodies (log ++ record { process = p; seen = seen_by e } ∷ []) new.bodies
+remember-turn {K} next old mid tn new p n m k log e remembers at turn settle q b b' was is = elim (same_or_not q p) [
+  | inl same ↦ (let one : Logged = record { process = p; seen = seen_by e } in
+      let here : Some settle.after ≡ Some b' = sym (slice_get-set_same tn.bodies p settle.before settle.after settle.there) ∙ ap (λ (bs : List (BodyValue K)). slice_get bs p) (sym settle.bodies) ∙ ap (slice_get new.bodies) (sym same) ∙ is in
+      let after_is : settle.after ≡ b' = cc in
+      let between : Some turn.after ≡ Some settle.before = sym (slice_get-set_same mid.bodies p turn.before turn.after turn.there) ∙ ap (λ (bs : List (BodyValue K)). slice_get bs p) (sym turn.bodies) ∙ settle.there in
+      let before_is : turn.after ≡ settle.before = cc in
+      let first = remembers p b turn.before (ap (slice_get old.bodies) (sym same) ∙ was) turn.there in
+      let stamps : b'.stamps ≡ b.stamps ++ stamps_of p n (log ++ one ∷ []) =
+      ap (λ (x : BodyValue K). x.stamps) (sym after_is) ∙ settle.keeps.stamps ∙ ap (λ (x : BodyValue K). x.stamps) (sym before_is) ∙ turn.turn.stamps ∙ ap (λ (xs : List ℕ). xs ++ m ∷ []) first.0
+      ∙ append_assoc b.stamps (stamps_of p n log) (m ∷ []) ∙ ap (λ (z : ℕ). b.stamps ++ (stamps_of p n log ++ z ∷ [])) at ∙ ap (λ (xs : List ℕ). b.stamps ++ (stamps_of p n log ++ xs)) (sym (stamps-own p (n + length log) (seen_by e)))
+      ∙ ap (λ (xs : List ℕ). b.stamps ++ xs) (sym (stamps_of-append p n log (one ∷ []))) in
+      let levels : b'.levels ≡ b.levels ++ levels_of p n (log ++ one ∷ []) =
+      ap (λ (x : BodyValue K). x.levels) (sym after_is) ∙ settle.keeps.levels ∙ ap (λ (x : BodyValue K). x.levels) (sym before_is) ∙ turn.turn.levels ∙ ap (λ (xs : List (ℕ × ℕ)). xs ++ levels_told e m) first.1
+      ∙ append_assoc b.levels (levels_of p n log) (levels_told e m) ∙ ap (λ (z : ℕ). b.levels ++ (levels_of p n log ++ levels_told e z)) at ∙ ap (λ (xs : List (ℕ × ℕ)). b.levels ++ (levels_of p n log ++ xs)) (sym (levels-own p (n + length log) e))
+      ∙ ap (λ (xs : List (ℕ × ℕ)). b.levels ++ xs) (sym (levels_of-append p n log (one ∷ []))) in
+      (stamps ∙ ap (λ (r : ℕ). b.stamps ++ stamps_of r n (log ++ one ∷ [])) (sym same), levels ∙ ap (λ (r : ℕ). b.levels ++ levels_of r n (log ++ one ∷ [])) (sym same)))
+  | inr other ↦ (let one : Logged = record { process = p; seen = seen_by e } in
+      let there : slice_get mid.bodies q ≡ Some b' = sym (slice_get-set_other mid.bodies p q turn.after other) ∙ ap (λ (bs : List (BodyValue K)). slice_get bs q) (sym turn.bodies) ∙ sym (slice_get-set_other tn.bodies p q settle.after other) ∙ ap (λ (bs : List (BodyValue K)). slice_get bs q) (sym settle.bodies) ∙ is in
+      let first = remembers q b b' was there in
+      let none : stamps_of q n (log ++ one ∷ []) ≡ stamps_of q n log = stamps_of-append q n log (one ∷ []) ∙ ap (λ (xs : List ℕ). stamps_of q n log ++ xs) (stamps-other q p (n + length log) (seen_by e) other) ∙ append-nil (stamps_of q n log) in
+      let no_level : levels_of q n (log ++ one ∷ []) ≡ levels_of q n log = levels_of-append q n log (one ∷ []) ∙ ap (λ (xs : List (ℕ × ℕ)). levels_of q n log ++ xs) (levels-other q p (n + length log) (seen_by e) other) ∙ append-nil (levels_of q n log) in
+      (first.0 ∙ ap (λ (xs : List ℕ). b.stamps ++ xs) (sym none), first.1 ∙ ap (λ (xs : List (ℕ × ℕ)). b.levels ++ xs) (sym no_level)))
+]
+
+-- memories follow one another
+remember-then : {K : Type 0} (a b c : List (BodyValue K)) (n m : ℕ) (log more : List Logged) → Remembers n a log b → m ≡ n + length log → Remembers m b more c → length b ≡ length c → Remembers n a (log ++ more) c
+remember-then {K} a b c n m log more first at rest len p x z was is =
+    let y = get-exists b p (omega (arith, get-within c p z is, len)) in
+    let f = first p x y.0 was y.1 in
+    let r = rest p y.0 z y.1 is in
+    (r.0 ∙ ap (λ (xs : List ℕ). xs ++ stamps_of p m more) f.0 ∙ append_assoc x.stamps (stamps_of p n log) (stamps_of p m more) ∙ ap (λ (k : ℕ). x.stamps ++ (stamps_of p n log ++ stamps_of p k more)) at ∙ ap (λ (xs : List ℕ). x.stamps ++ xs) (sym (stamps_of-append p n log more)),
+      r.1 ∙ ap (λ (xs : List (ℕ × ℕ)). xs ++ levels_of p m more) f.1 ∙ append_assoc x.levels (levels_of p n log) (levels_of p m more) ∙ ap (λ (k : ℕ). x.levels ++ (levels_of p n log ++ levels_of p k more)) at ∙ ap (λ (xs : List (ℕ × ℕ)). x.levels ++ xs) (sym (levels_of-append p n log more)))
+
+pub remember-none : {K : Type 0} (n : ℕ) (bodies : List (BodyValue K)) → Remembers n bodies [] bodies
+remember-none {K} n bodies p b b' was is =
+    let h : Some b ≡ Some b' = sym was ∙ is in
+    let same : b ≡ b' = cc in
+    (ap (λ (x : BodyValue K). x.stamps) (sym same) ∙ sym (append-nil b.stamps), ap (λ (x : BodyValue K). x.levels) (sym same) ∙ sym (append-nil b.levels))
+
+Passes-more : {K : Type 0} (next : K → Held → Answer → Outcome K → Type 0) (s : State K) (passes : List Journal) (mid : State K) (pass : Journal) (s' : State K) → Passes next s passes mid → pass.turns ≢ [] → Pass next mid pass s' → Passes next s (passes ++ pass ∷ []) s'
+Passes-more {K} next s [] mid pass s' go some turn = (some, (s', subst (λ (m : State K). Pass next m pass s') go turn, refl))
+Passes-more next s (first ∷ passes) mid pass s' go some turn = (go.0, (go.1.0, go.1.1, Passes-more next go.1.0 passes mid pass s' go.1.2 some turn))
+
+joined-more : (passes : List Journal) (pass : Journal) → joined (passes ++ pass ∷ []) ≡ then_turns (joined passes) pass
+joined-more [] pass = λ i. record { turns = append-nil pass.turns i; seen = append-nil pass.seen i }
+joined-more (first ∷ passes) pass =
+    ap (then_turns first) (joined-more passes pass)
+    ∙ (λ i. record { turns = sym (append_assoc first.turns (joined passes).turns pass.turns) i; seen = sym (append_assoc first.seen (joined passes).seen pass.seen) i })
+
+empty-front : {A : Type 0} (xs ys : List A) → xs ++ ys ≡ [] → (xs ≡ []) × (ys ≡ [])
+empty-front [] ys is = (refl, is)
+empty-front (x ∷ xs) ys is = absurd (cc)
+
+-- a pass without a turn changes nothing, and no process has a turn
+quiet-pass : {K : Type 0} (next : K → Held → Answer → Outcome K → Type 0) (n : ℕ) (s : State K) (journal : Journal) (s' : State K) → journal ≡ no_turns → PassBelow next n s journal s' → (s' ≡ s) × ((p : ℕ) → p < n → HasNoTurn s.kept p)
+quiet-pass next zero s journal s' none pass = (pass.1, λ p below. absurd (omega (arith, below)))
+quiet-pass {K} next (suc n) s journal s' none (front, back, mid, parts, first, burst) =
+    let both : then_turns front back ≡ no_turns = sym parts ∙ none in
+    let ts = empty-front front.turns back.turns (ap (λ (j : Journal). j.turns) both) in
+    let ns = empty-front front.seen back.seen (ap (λ (j : Journal). j.seen) both) in
+    let front_none : front ≡ no_turns = λ i. record { turns = ts.0 i; seen = ns.0 i } in
+    let rest = quiet-pass next n s front mid front_none first in
+    let last = no-turns back.turns back.seen burst.0 ts.1 in
+    let same : s' ≡ s = last ∙ rest.0 in
+    (same, λ p below. elim (same_or_not p n) [
+      | inl here ↦ subst (λ (q : ℕ). HasNoTurn s.kept q) (sym here) (subst (λ (t : State K). HasNoTurn t.kept n) same burst.1)
+      | inr other ↦ rest.1 p (omega (arith, below, other))
+    ])
+  where
+    no-turns : (ts seen : List ℕ) → TurnsOf next n mid ts seen s' → ts ≡ [] → s' ≡ mid
+    no-turns [] seen go is = go.1
+    no-turns (t ∷ ts) seen go is = absurd (cc)
+
+bodies-length : {K : Type 0} (bodies : List (BodyValue K)) → length bodies ≡ length (map shown_body bodies)
+bodies-length [] = refl
+bodies-length (b ∷ bodies) = omega (arith, bodies-length bodies)
+
+shown-length : {K : Type 0} (dropped : ℕ → List ℕ) (k : ℕ) (xs : List (Process K)) → length (bodies_from dropped k xs) ≡ length xs
+shown-length dropped k [] = refl
+shown-length dropped k (x ∷ xs) = omega (arith, shown-length dropped (k + 1) xs)
+
+module _ {K : Type 0} (shape_of : K → Shape) (uses : K → ℕ → Bool) (ready : K → Held → Answer → Type 0) (next : K → Held → Answer → Outcome K → Type 0)
+    (obeys : (part : K) (held : Held) (answer : Answer) (outcome : Outcome K) → ready part held answer → next part held answer outcome → Obeys (shape_of part) (uses part) held outcome)
+    (stays : (part : K) (held : Held) (answer : Answer) (outcome : Outcome K) → ready part held answer → next part held answer outcome → StaysReady ready outcome)
+    (steady : (part : K) (held : Held) (answer : Answer) (outcome : Outcome K) → next part held answer outcome → IsSteady shape_of uses part outcome) where
+  abbrev Goes' : (Journal → State K → State K → Type 0) → NetValue K → ℕ → NetValue K → ℕ → Type 0
+  Goes' way old n new m = Goes shape_of uses ready way old n new m
+
+  -- a settled process, in a state
+  settle-state : (old : NetValue K) (p : ℕ) (new : NetValue K) → SettlesNet next old p new → (s : State K) → Fit shape_of uses ready s → StandsForOpen (shown_net old) s → (s' : State K) × Settles next s p s' × Fit shape_of uses ready s' × StandsForOpen (shown_net new) s'
+  settle-state old p new settle s fit stands = by settle.settles
+    where
+      by : SettlesBody next settle.before settle.after → (s' : State K) × Settles next s p s' × Fit shape_of uses ready s' × StandsForOpen (shown_net new) s'
+      by (inl same) =
+          let thought : IsThought s.kept p = λ x is. (let h : Some settle.before.process ≡ Some x = sym (process-in old s p settle.before stands settle.there) ∙ is in let e : settle.before.process ≡ x = cc in subst (λ (y : Process K). IsThoughtStage y.stage) e same.0) in
+          (s, inl (thought, refl), fit, goes-same shape_of uses ready next obeys stays steady old p settle.before settle.after new settle.there same.1 settle.bodies settle.channels s stands)
+      by (inr work) =
+          let g = goes-work shape_of uses ready next obeys stays steady old p settle.before settle.after new settle.there work settle.bodies settle.channels s fit stands in
+          (g.0, inr g.1, g.2, g.3)
+
+  -- a turn and what follows are a whole turn of the machine, which saw the exact length
+  whole-state : (old : NetValue K) (p m : ℕ) (e : Event) (mid new : NetValue K) → NetTurn old p (level_of old p) e m mid → SettlesNet next mid p new → (s : State K) → Fit shape_of uses ready s → StandsForOpen (shown_net old) s
+      → (s' : State K) × ExactTurn next s p e s' × Fit shape_of uses ready s' × StandsForOpen (shown_net new) s'
+  whole-state old p m e mid new turn settle s fit stands =
+      let t = goes-by shape_of uses ready old p (level_of old p) e m mid turn s fit stands in
+      let g = settle-state mid p new settle t.0 t.2 t.3 in
+      let b = turn.before in
+      let h : Some b.process ≡ Some t.1.kept.before = sym (process-in old s p b stands turn.there) ∙ t.1.kept.there in
+      let same : b.process ≡ t.1.kept.before = cc in
+      (g.0, record { mid = t.0; turn = t.1; exact = subst (λ (x : Process K). IsExact s.kept x e) same (exact-turn old s p b e stands turn.there turn.happens); settles = g.1 }, g.2, g.3)
+
+  -- a burst goes on by a whole turn
+  pub burst-more : (start old mid new : NetValue K) (p n m : ℕ) → Goes' (turns_of next p) start n old m → MakesTurn old p m true mid → SettlesNet next mid p new → Goes' (turns_of next p) start n new (m + 1)
+  burst-more start old mid new p n m goes made settle =
+      let log = goes.0 in
+      let e = made.0 in
+      let turn = made.1 in
+      let one : Logged = record { process = p; seen = seen_by e } in
+      let by = goes.2 in
+      (log ++ one ∷ [], omega (arith, goes.1, length-append log (one ∷ [])), record {
+        remembers = remember-turn next start old mid new p n m (level_of old p) log e by.remembers goes.1 turn settle;
+        states = λ s fit stands.
+            let g = by.states s fit stands in
+            let w = whole-state old p m e mid new turn settle g.0 g.2 g.3 in
+            let journal = journal_of-append log (one ∷ []) in
+            (w.0, subst (λ (j : Journal). TurnsOf next p s j.turns j.seen w.0) (sym journal) (TurnsOf-more next p s (journal_of log).turns (journal_of log).seen g.0 e w.0 g.1 w.1), w.2, w.3);
+      })
+
+  pub burst-none : (start : NetValue K) (p n : ℕ) → Goes' (turns_of next p) start n start n
+  burst-none start p n = ([], omega arith, record { remembers = remember-none n start.bodies; states = λ s fit stands. (s, (refl, refl), fit, stands) })
+
+  no-turn-state : (net : NetValue K) (p : ℕ) (s : State K) → StandsForOpen (shown_net net) s → HasNoTurnIn net p → HasNoTurn s.kept p
+  no-turn-state net p s stands none x n is =
+      let b = body-of net s p x stands is in
+      subst (λ (y : Process K). event_of s.kept.channels y n ≡ None) b.2 (sym (happens-in net s b.0.process n stands) ∙ none b.0 n b.1)
+
+  -- a burst ends where there is no turn
+  pub burst-ends : (start old new : NetValue K) (p n m : ℕ) → Goes' (turns_of next p) start n old m → MakesTurn old p m false new → Goes' (burst_of next p) start n new m
+  burst-ends start old new p n m goes none = subst (λ (net : NetValue K). Goes' (burst_of next p) start n net m) (sym none.1) (goes.0, goes.1, record {
+    remembers = goes.2.remembers;
+    states = λ s fit stands. let g = goes.2.states s fit stands in (g.0, (g.1, no-turn-state old p g.0 g.3 none.0), g.2, g.3);
+  })
+
+  pub pass-none : (start : NetValue K) (n : ℕ) → Goes' (pass_below next 0) start n start n
+  pass-none start n = ([], omega arith, record { remembers = remember-none n start.bodies; states = λ s fit stands. (s, (refl, refl), fit, stands) })
+
+  -- a pass goes on by a burst
+  pub pass-more : (start old new : NetValue K) (p n m k : ℕ) → length old.bodies ≡ length new.bodies → Goes' (pass_below next p) start n old m → Goes' (burst_of next p) old m new k → Goes' (pass_below next (p + 1)) start n new k
+  pass-more start old new p n m k len goes burst = (goes.0 ++ burst.0, omega (arith, goes.1, burst.1, length-append goes.0 burst.0), record {
+    remembers = remember-then start.bodies old.bodies new.bodies n m goes.0 burst.0 goes.2.remembers goes.1 burst.2.remembers len;
+    states = λ s fit stands.
+        let g = goes.2.states s fit stands in
+        let h = burst.2.states g.0 g.2 g.3 in
+        let to : PassBelow next (suc p) s (journal_of (goes.0 ++ burst.0)) h.0 = (journal_of goes.0, journal_of burst.0, g.0, journal_of-append goes.0 burst.0, g.1, h.1) in
+        (h.0, subst (λ (z : ℕ). PassBelow next z s (journal_of (goes.0 ++ burst.0)) h.0) (sym (add-one p)) to, h.2, h.3);
+  })
+
+  processes-length : (net : NetValue K) (s : State K) → StandsForOpen (shown_net net) s → length net.bodies ≡ length s.kept.processes
+  processes-length net s stands = bodies-length net.bodies ∙ ap (λ (n : NetShown K). length n.bodies) stands ∙ shown-length s.past.dropped 0 s.kept.processes
+
+  pub passes-none : (start : NetValue K) (n : ℕ) → Goes' (some_passes next) start n start n
+  passes-none start n = ([], omega arith, record { remembers = remember-none n start.bodies; states = λ s fit stands. (s, ([], refl, refl), fit, stands) })
+
+  some-turns : (log : List Logged) → 0 < length log → (journal_of log).turns ≢ []
+  some-turns [] some = λ h. omega (arith, some)
+  some-turns (t ∷ log) some = λ h. cc
+
+  -- a round goes on by a pass that has a turn
+  pub round-more : (start old new : NetValue K) (n m k : ℕ) → length old.bodies ≡ length new.bodies → Goes' (some_passes next) start n old m → Goes' (pass_below next (length old.bodies)) old m new k → m < k → Goes' (some_passes next) start n new k
+  round-more start old new n m k len goes pass some = (goes.0 ++ pass.0, omega (arith, goes.1, pass.1, length-append goes.0 pass.0), record {
+    remembers = remember-then start.bodies old.bodies new.bodies n m goes.0 pass.0 goes.2.remembers goes.1 pass.2.remembers len;
+    states = λ s fit stands.
+        let g = goes.2.states s fit stands in
+        let h = pass.2.states g.0 g.2 g.3 in
+        let whole : Pass next g.0 (journal_of pass.0) h.0 = subst (λ (z : ℕ). PassBelow next z g.0 (journal_of pass.0) h.0) (processes-length old g.0 g.3) h.1 in
+        let moved = some-turns pass.0 (omega (arith, pass.1, some)) in
+        (h.0, (g.1.0 ++ journal_of pass.0 ∷ [], journal_of-append goes.0 pass.0 ∙ ap (λ (j : Journal). then_turns j (journal_of pass.0)) g.1.1 ∙ sym (joined-more g.1.0 (journal_of pass.0)), Passes-more next s g.1.0 g.0 (journal_of pass.0) h.0 g.1.2 moved whole), h.2, h.3);
+  })
+
+  no-log : (log : List Logged) → length log ≡ 0 → log ≡ []
+  no-log [] is = refl
+  no-log (t ∷ log) is = absurd (omega (arith, is))
+
+  all-thought : (net : NetValue K) (s : State K) → StandsForOpen (shown_net net) s → AllSet net.bodies → (p : ℕ) (x : Process K) → slice_get s.kept.processes p ≡ Some x → IsThoughtStage x.stage
+  all-thought net s stands set p x is =
+      let b = body-of net s p x stands is in
+      subst (λ (y : Process K). IsThoughtStage y.stage) b.2 (set-thought b.0 b.0.process.stage (set p b.0 b.1))
+
+  not-told : (stage : Stage) (answer : Answer) → IsThoughtStage stage → stage ≢ stages.Told answer
+  not-told stage answer thought = λ is. subst IsThoughtStage is thought
+
+  -- a round ends by a pass without a turn
+  pub round-ends : (first start old new : NetValue K) (n k m : ℕ) → length start.bodies ≡ length first.bodies → length old.bodies ≡ length start.bodies → length new.bodies ≡ length old.bodies → AllSet new.bodies → Goes' (all_settled next) first n start n → Goes' (some_passes next) start n old m
+      → Goes' (pass_below next (length old.bodies)) old m new k → k ≡ m → Goes' (round_robin next) first n new k
+  round-ends first start old new n k m len0 len1 len2 set settled goes pass none =
+      let front_none : settled.0 ≡ [] = no-log settled.0 (omega (arith, settled.1)) in
+      let last_none : pass.0 ≡ [] = no-log pass.0 (omega (arith, pass.1, none)) in
+      let whole : Remembers n start.bodies (goes.0 ++ pass.0) new.bodies = remember-then start.bodies old.bodies new.bodies n m goes.0 pass.0 goes.2.remembers goes.1 pass.2.remembers (sym len2) in
+      let log_is : settled.0 ++ (goes.0 ++ pass.0) ≡ goes.0 = ap (λ (l : List Logged). l ++ (goes.0 ++ pass.0)) front_none ∙ ap (λ (l : List Logged). goes.0 ++ l) last_none ∙ append-nil goes.0 in
+      let remembers : Remembers n first.bodies (settled.0 ++ (goes.0 ++ pass.0)) new.bodies = remember-then first.bodies start.bodies new.bodies n n settled.0 (goes.0 ++ pass.0) settled.2.remembers settled.1 whole (sym (len2 ∙ len1)) in
+      (goes.0, none ∙ goes.1, record {
+        remembers = subst (λ (l : List Logged). Remembers n first.bodies l new.bodies) log_is remembers;
+        states = λ s fit stands.
+            let t = settled.2.states s fit stands in
+            let g = goes.2.states t.0 t.2 t.3 in
+            let h = pass.2.states g.0 g.2 g.3 in
+            let passed : Pass next g.0 (journal_of pass.0) h.0 = subst (λ (z : ℕ). PassBelow next z g.0 (journal_of pass.0) h.0) (processes-length old g.0 g.3) h.1 in
+            let empty : journal_of pass.0 ≡ no_turns = ap journal_of last_none in
+            let still = quiet-pass next (length g.0.kept.processes) g.0 (journal_of pass.0) h.0 empty passed in
+            let last : Pass next h.0 no_turns h.0 = subst (λ (j : Journal). Pass next h.0 j h.0) empty (subst (λ (u : State K). Pass next u (journal_of pass.0) h.0) (sym still.0) passed) in
+            (h.0, (t.0, t.1.1, record { passes = g.1.0; parts = g.1.1; go = subst (λ (u : State K). Passes next t.0 g.1.0 u) (sym still.0) g.1.2; last = last },
+                record {
+                  thought = λ p x is answer. not-told x.stage answer (all-thought new h.0 h.3 set p x is);
+                  still = λ p. subst (λ (u : State K). HasNoTurn u.kept p) (sym still.0) (quiet-at g.0 p still.1);
+                }), h.2, h.3);
+      })
+    where
+      quiet-at : (s : State K) (p : ℕ) → ((q : ℕ) → q < length s.kept.processes → HasNoTurn s.kept q) → HasNoTurn s.kept p
+      quiet-at s p all x n is = all p (get-within s.kept.processes p x is) x n is
+
+  -- pending works, one process after another
+  pub works-none : (start : NetValue K) (n : ℕ) → Goes' (some_works next) start n start n
+  works-none start n = ([], omega arith, record { remembers = remember-none n start.bodies; states = λ s fit stands. (s, (refl, ([], refl)), fit, stands) })
+
+  works-then : (s : State K) (ps : List ℕ) (mid : State K) (p : ℕ) (s' : State K) → WorksLead next s ps mid → Settles next mid p s' → (qs : List ℕ) × WorksLead next s qs s'
+  works-then s [] mid p s' go (inl none) = ([], none.1 ∙ go)
+  works-then s [] mid p s' go (inr work) = (p ∷ [], (s', subst (λ (m : State K). Work next m p s') go work, refl))
+  works-then s (q ∷ ps) mid p s' go settles = let r = works-then go.0 ps mid p s' go.2 settles in (q ∷ r.0, (go.0, go.1, r.1))
+
+  remember-keeps : (old new : NetValue K) (p n : ℕ) → SettlesNet next old p new → Remembers n old.bodies [] new.bodies
+  remember-keeps old new p n settle q b b' was is = elim (same_or_not q p) [
+    | inl same ↦ (let here : Some settle.after ≡ Some b' = sym (slice_get-set_same old.bodies p settle.before settle.after settle.there) ∙ ap (λ (bs : List (BodyValue K)). slice_get bs p) (sym settle.bodies) ∙ ap (slice_get new.bodies) (sym same) ∙ is in
+        let after_is : settle.after ≡ b' = cc in
+        let there : Some settle.before ≡ Some b = sym settle.there ∙ ap (slice_get old.bodies) (sym same) ∙ was in
+        let before_is : settle.before ≡ b = cc in
+        (ap (λ (x : BodyValue K). x.stamps) (sym after_is) ∙ settle.keeps.stamps ∙ ap (λ (x : BodyValue K). x.stamps) before_is ∙ sym (append-nil b.stamps),
+          ap (λ (x : BodyValue K). x.levels) (sym after_is) ∙ settle.keeps.levels ∙ ap (λ (x : BodyValue K). x.levels) before_is ∙ sym (append-nil b.levels)))
+    | inr other ↦ (let h : Some b ≡ Some b' = sym was ∙ sym (slice_get-set_other old.bodies p q settle.after other) ∙ ap (λ (bs : List (BodyValue K)). slice_get bs q) (sym settle.bodies) ∙ is in
+        let same : b ≡ b' = cc in
+        (ap (λ (x : BodyValue K). x.stamps) (sym same) ∙ sym (append-nil b.stamps), ap (λ (x : BodyValue K). x.levels) (sym same) ∙ sym (append-nil b.levels)))
+  ]
+
+  pub works-more : (start old new : NetValue K) (p n : ℕ) → length old.bodies ≡ length new.bodies → Goes' (some_works next) start n old n → SettlesNet next old p new → Goes' (some_works next) start n new n
+  works-more start old new p n len goes settle =
+      let none : goes.0 ≡ [] = no-log goes.0 (omega (arith, goes.1)) in
+      ([], omega arith, record {
+        remembers = subst (λ (l : List Logged). Remembers n start.bodies l new.bodies) (ap (λ (l : List Logged). l ++ []) none)
+            (remember-then start.bodies old.bodies new.bodies n n goes.0 [] goes.2.remembers goes.1 (remember-keeps old new p n settle) len);
+        states = λ s fit stands.
+            let g = goes.2.states s fit stands in
+            let w = settle-state old p new settle g.0 g.2 g.3 in
+            (w.0, (refl, works-then s g.1.1.0 g.0 p w.0 g.1.1.1 w.1), w.2, w.3);
+      })
+
+  pub works-all : (start new : NetValue K) (n : ℕ) → Goes' (some_works next) start n new n → AllSet new.bodies → Goes' (all_settled next) start n new n
+  works-all start new n goes set = (goes.0, goes.1, record {
+    remembers = goes.2.remembers;
+    states = λ s fit stands.
+        let g = goes.2.states s fit stands in
+        (g.0, (g.1.0, record { works = g.1.1.0; lead = g.1.1.1; closed = λ p x is. all-thought new g.0 g.3 set p x is }), g.2, g.3);
+  })
+
+-- which processes are set
+pub set-after : {K : Type 0} (next : K → Held → Answer → Outcome K → Type 0) (old mid new : NetValue K) (p k m : ℕ) (e : Event) → AllSet old.bodies → NetTurn old p k e m mid → SettlesNet next mid p new → AllSet new.bodies
+set-after {K} next old mid new p k m e set turn settle q b is = elim (same_or_not q p) [
+  | inl same ↦ (let here : Some settle.after ≡ Some b = sym (slice_get-set_same mid.bodies p settle.before settle.after settle.there) ∙ ap (λ (bs : List (BodyValue K)). slice_get bs p) (sym settle.bodies) ∙ ap (slice_get new.bodies) (sym same) ∙ is in
+      let after_is : settle.after ≡ b = cc in subst (λ (x : BodyValue K). IsSet x) after_is settle.set)
+  | inr other ↦ set q b (sym (slice_get-set_other old.bodies p q turn.after other) ∙ ap (λ (bs : List (BodyValue K)). slice_get bs q) (sym turn.bodies) ∙ sym (slice_get-set_other mid.bodies p q settle.after other) ∙ ap (λ (bs : List (BodyValue K)). slice_get bs q) (sym settle.bodies) ∙ is)
+]
+
+pub set-more : {K : Type 0} (next : K → Held → Answer → Outcome K → Type 0) (old new : NetValue K) (p : ℕ) → SetBelow p old.bodies → SettlesNet next old p new → SetBelow (p + 1) new.bodies
+set-more {K} next old new p set settle q b below is = elim (same_or_not q p) [
+  | inl same ↦ (let here : Some settle.after ≡ Some b = sym (slice_get-set_same old.bodies p settle.before settle.after settle.there) ∙ ap (λ (bs : List (BodyValue K)). slice_get bs p) (sym settle.bodies) ∙ ap (slice_get new.bodies) (sym same) ∙ is in
+      let after_is : settle.after ≡ b = cc in subst (λ (x : BodyValue K). IsSet x) after_is settle.set)
+  | inr other ↦ set q b (omega (arith, below, other)) (sym (slice_get-set_other old.bodies p q settle.after other) ∙ ap (λ (bs : List (BodyValue K)). slice_get bs q) (sym settle.bodies) ∙ is)
+]
+
+pub set-all : {K : Type 0} (n : ℕ) (bodies : List (BodyValue K)) → length bodies ≤ n → SetBelow n bodies → AllSet bodies
+set-all n bodies most set p b is = set p b (omega (arith, get-within bodies p b is, most)) is
+
+pub set-in : {K : Type 0} (net : NetValue K) (p : ℕ) → AllSet net.bodies → IsSetIn net p
+set-in {K} net p set = by (slice_get net.bodies p) refl
+  where
+    by : (found : Option (BodyValue K)) → slice_get net.bodies p ≡ found → IfSome found (λ (b : BodyValue K). IsSet b)
+    by (Some b) is = set p b is
+    by None is = tt
+
+pub turn-count : {K : Type 0} (old : NetValue K) (p k : ℕ) (e : Event) (m : ℕ) (new : NetValue K) → NetTurn old p k e m new → turns_made new ≡ turns_made old + 1
+turn-count {K} old p k e m new turn =
+    let ts : turn.after.process.turns ≡ turn.before.process.turns + 1 = ap (λ (x : Process K). x.turns) turn.turn.process ∙ turns-after turn.before.process e in
+    omega (arith, ts, ap (λ (bs : List (BodyValue K)). sum_by (λ (x : BodyValue K). x.process.turns) bs) turn.bodies, turns-set old.bodies p turn.before turn.after turn.there)
+
+turns-worked : {K : Type 0} (x : Process K) (outcome : Outcome K) → (worked x outcome).turns ≡ x.turns
+turns-worked x (Wishes part held wish) = refl
+turns-worked x (Fails part held cause) = refl
+
+pub think-count : {K : Type 0} (next : K → Held → Answer → Outcome K → Type 0) (old : NetValue K) (p : ℕ) (t : Thought) (new : NetValue K) → ThinksNet next old p t new → turns_made new ≡ turns_made old
+think-count {K} next old p t new think =
+    let ts : think.after.process.turns ≡ think.before.process.turns = by (thinks-step next think.before t think.after think.thinks) in
+    omega (arith, ts, ap (λ (bs : List (BodyValue K)). sum_by (λ (x : BodyValue K). x.process.turns) bs) think.bodies, turns-set old.bodies p think.before think.after think.there)
+  where
+    by : SameBody think.before think.after ⊎ WorkedBody next think.before think.after → think.after.process.turns ≡ think.before.process.turns
+    by (inl same) = ap (λ (x : Process K). x.turns) same.process
+    by (inr work) = ap (λ (x : Process K). x.turns) work.process ∙ turns-worked think.before.process work.outcome

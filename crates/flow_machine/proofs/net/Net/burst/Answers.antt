@@ -1,0 +1,44 @@
+use Rattle.std.proofs.Common.{rules, ◌≡◌, ◌<◌, ◌≤◌, ◌+◌, ◌-◌, ℕ, List, length, length-set, arith, refl, sym, ◌∙◌, ap, subst, true, false}
+use Rattle.std.specs.Bool.{OnTrue, OnFalse}
+use Rattle.flow_machine.specs.Values.{BodyValue, NetValue}
+use Rattle.flow_machine.specs.Nets.{level_of}
+use Rattle.flow_machine.specs.Logs.{turns_made}
+use Rattle.flow_machine.specs.Starts.{AllSet}
+use Rattle.flow_machine.specs.Solo.{Goes, MakesTurn, SettlesNet, SetBelow, turns_of, burst_of, pass_below, some_passes, some_works, all_settled, round_robin}
+use Rattle.flow_machine.proofs.SoloLemmas.{answer-turn, blocked-turn, over-turn, settles-wishing, settles-failed, burst-none, burst-more, burst-ends, pass-none, pass-more, passes-none, round-more, round-ends, works-none, works-more, works-all, set-after, set-more, set-all, set-in, turn-count, think-count}
+use Rattle.flow_machine.proofs.net.Net.burst.Goals as goal
+
+pub loop-stamp-init : goal.loop-stamp-init
+loop-stamp-init g c = record { set = c.requires.set; len = refl; next = c.requires.next; few = c.requires.few; goes = burst-none g.K.Component.shape_of g.K.Component.uses g.K.Component.ready g.K.Component.next g.met.K.Component.obeys g.met.K.Component.stays_ready g.met.K.Component.steady c.args.self.now c.args.process c.args.stamp.now }
+
+pub loop-stamp-preserved : goal.loop-stamp-preserved
+loop-stamp-preserved g c =
+    let made = rw c.loop-stamp-test.true at c.make_turn.ensures.turn in
+    let next : turns_made c.make_turn.new.self ≡ c.loop-stamp.stamp + 1 = rw c.loop-stamp-test.true at c.make_turn.ensures.next in
+    let settle = rw c.if-not-settle.false at c.settle.ensures.settles in
+    let inv = c.loop-stamp.invariant in
+    record {
+      set = set-after g.K.Component.next c.loop-stamp.self c.make_turn.new.self c.settle.new.self c.args.process (level_of c.loop-stamp.self c.args.process) c.loop-stamp.stamp made.0 inv.set made.1 settle;
+      len = c.settle.ensures.len ∙ ap length made.1.bodies ∙ length-set c.loop-stamp.self.bodies c.args.process made.1.after ∙ inv.len;
+      next = sym next ∙ sym c.settle.ensures.turns;
+      few = omega (arith, next, c.make_turn.ensures.few);
+      goes = burst-more g.K.Component.shape_of g.K.Component.uses g.K.Component.ready g.K.Component.next g.met.K.Component.obeys g.met.K.Component.stays_ready g.met.K.Component.steady c.args.self.now c.loop-stamp.self c.make_turn.new.self c.settle.new.self c.args.process c.args.stamp.now c.loop-stamp.stamp inv.goes made settle;
+    }
+
+pub loop-stamp-smaller : goal.loop-stamp-smaller
+loop-stamp-smaller g c =
+    let made = rw c.loop-stamp-test.true at c.make_turn.ensures.turn in
+    let next : turns_made c.make_turn.new.self ≡ c.loop-stamp.stamp + 1 = rw c.loop-stamp-test.true at c.make_turn.ensures.next in
+    omega (arith, next, c.make_turn.ensures.few)
+
+pub returns : goal.returns
+returns g c =
+    let none = rw c.loop-stamp-test.false at c.make_turn.ensures.turn in
+    let inv = c.loop-stamp.invariant in
+    record {
+      set = subst (λ (net : NetValue g.row.K.Denot). AllSet net.bodies) (sym none.1) inv.set;
+      next = inv.next ∙ ap turns_made (sym none.1);
+      few = inv.few;
+      len = ap (λ (net : NetValue g.row.K.Denot). length net.bodies) none.1 ∙ inv.len;
+      goes = burst-ends g.K.Component.shape_of g.K.Component.uses g.K.Component.ready g.K.Component.next g.met.K.Component.obeys g.met.K.Component.stays_ready g.met.K.Component.steady c.args.self.now c.loop-stamp.self c.make_turn.new.self c.args.process c.args.stamp.now c.loop-stamp.stamp inv.goes none;
+    }

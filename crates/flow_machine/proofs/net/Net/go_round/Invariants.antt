@@ -1,0 +1,19 @@
+use Rattle.std.proofs.Common.{rules, ◌≡◌, ◌<◌, ◌≤◌, ◌+◌, ◌-◌, ℕ, List, length, arith, refl, sym, ◌∙◌, ap, subst, true, false}
+use Rattle.std.specs.Bool.{OnTrue, OnFalse}
+use Rattle.flow_machine.specs.Values.{BodyValue, NetValue}
+use Rattle.flow_machine.specs.Logs.{turns_made}
+use Rattle.flow_machine.specs.Starts.{AllSet}
+use Rattle.flow_machine.specs.Solo.{Goes, MakesTurn, SettlesNet, SetBelow, turns_of, burst_of, pass_below, some_passes, some_works, all_settled, round_robin}
+use Rattle.flow_machine.proofs.net.Net.go_round.Given as goal
+
+abbrev pub invariant-loop : goal.invariant-loop
+invariant-loop g l = record {
+  set : AllSet l.self.bodies;
+  len : length l.self.bodies ≡ length l.initial.self.bodies;
+  next : l.stamp ≡ turns_made l.self;
+  few : l.stamp ≤ 1073741824;
+  goes : Goes g.K.Component.shape_of g.K.Component.uses g.K.Component.ready (some_passes g.K.Component.next) l.initial.self l.initial.stamp l.self l.stamp;
+}
+
+abbrev pub decreases-loop : goal.decreases-loop
+decreases-loop g l = 1073741824 - l.stamp

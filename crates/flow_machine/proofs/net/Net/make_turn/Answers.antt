@@ -1,0 +1,23 @@
+use Rattle.std.proofs.Common.{rules, ◌≡◌, ◌<◌, ◌≤◌, ◌+◌, ◌-◌, ℕ, List, length, length-set, arith, refl, sym, ◌∙◌, ap, subst, true, false}
+use Rattle.std.specs.Bool.{OnTrue, OnFalse}
+use Rattle.flow_machine.specs.Values.{BodyValue, NetValue}
+use Rattle.flow_machine.specs.Nets.{level_of}
+use Rattle.flow_machine.specs.Logs.{turns_made}
+use Rattle.flow_machine.specs.Starts.{AllSet}
+use Rattle.flow_machine.specs.Solo.{Goes, MakesTurn, SettlesNet, SetBelow, turns_of, burst_of, pass_below, some_passes, some_works, all_settled, round_robin}
+use Rattle.flow_machine.proofs.SoloLemmas.{answer-turn, blocked-turn, over-turn, settles-wishing, settles-failed, burst-none, burst-more, burst-ends, pass-none, pass-more, passes-none, round-more, round-ends, works-none, works-more, works-all, set-after, set-more, set-all, set-in, turn-count, think-count}
+use Rattle.flow_machine.proofs.net.Net.make_turn.Goals as goal
+
+pub returns-in-Made-clause-turn : goal.returns-in-Made-clause-turn
+returns-in-Made-clause-turn g c = c.in-Made.ensures.turns.1
+
+pub returns-in-Made-clause-next : goal.returns-in-Made-clause-next
+returns-in-Made-clause-next g c =
+    let made = c.in-Made.ensures.turns.1 in
+    turn-count c.args.self.now c.args.process (level_of c.args.self.now c.args.process) made.0 c.args.stamp c.turn.new.self made.1 ∙ ap (λ (n : ℕ). n + 1) (sym c.requires.next)
+
+pub returns-in-Blocked-clause-turn : goal.returns-in-Blocked-clause-turn
+returns-in-Blocked-clause-turn g c = blocked-turn c.args.self.now c.args.process c.args.stamp c.in-Blocked.field-0 c.turn.new.self c.in-Blocked.ensures.turns
+
+pub returns-in-Over-clause-turn : goal.returns-in-Over-clause-turn
+returns-in-Over-clause-turn g c = over-turn c.args.self.now c.args.process c.args.stamp c.in-Over.field-0 c.turn.new.self c.in-Over.ensures.turns

@@ -1,0 +1,30 @@
+use Rattle.std.proofs.Common.{rules, ◌≡◌, ◌<◌, ◌≤◌, ◌+◌, ◌-◌, ℕ, List, length, length-set, arith, refl, sym, ◌∙◌, ap, subst, true, false}
+use Rattle.std.specs.Bool.{OnTrue, OnFalse}
+use Rattle.flow_machine.specs.Values.{BodyValue, NetValue}
+use Rattle.flow_machine.specs.Nets.{level_of}
+use Rattle.flow_machine.specs.Logs.{turns_made}
+use Rattle.flow_machine.specs.Starts.{AllSet}
+use Rattle.flow_machine.specs.Solo.{Goes, MakesTurn, SettlesNet, SetBelow, turns_of, burst_of, pass_below, some_passes, some_works, all_settled, round_robin}
+use Rattle.flow_machine.proofs.SoloLemmas.{answer-turn, blocked-turn, over-turn, settles-wishing, settles-failed, burst-none, burst-more, burst-ends, pass-none, pass-more, passes-none, round-more, round-ends, works-none, works-more, works-all, set-after, set-more, set-all, set-in, turn-count, think-count}
+use Rattle.flow_machine.proofs.net.Net.pass.Goals as goal
+
+pub loop-process-init : goal.loop-process-init
+loop-process-init g c = record { set = c.requires.set; len = refl; next = c.requires.next; few = c.requires.few; grown = omega arith; goes = pass-none g.K.Component.shape_of g.K.Component.uses g.K.Component.ready g.K.Component.next g.met.K.Component.obeys g.met.K.Component.stays_ready g.met.K.Component.steady c.args.self.now c.args.stamp.now }
+
+pub loop-process-preserved : goal.loop-process-preserved
+loop-process-preserved g c =
+    let inv = c.loop-process.invariant in
+    let e = c.in_ok-burst.ensures in
+    record {
+      set = e.set;
+      len = e.len ∙ inv.len;
+      next = e.next;
+      few = e.few;
+      grown = omega (arith, inv.grown, e.goes.1);
+      goes = pass-more g.K.Component.shape_of g.K.Component.uses g.K.Component.ready g.K.Component.next g.met.K.Component.obeys g.met.K.Component.stays_ready g.met.K.Component.steady c.args.self.now c.loop-process.self c.burst.new.self c.loop-process.process c.args.stamp.now c.loop-process.stamp c.burst.new.stamp (sym e.len) inv.goes e.goes;
+    }
+
+pub returns-clause-goes : goal.returns-clause-goes
+returns-clause-goes g c =
+    let all : c.loop-process.process ≡ length c.args.self.now.bodies = omega (arith, c.loop-process-test.false, c.loop-process.auto.process-end, c.processes-process-end.ensures.count) in
+    subst (λ (n : ℕ). Goes g.K.Component.shape_of g.K.Component.uses g.K.Component.ready (pass_below g.K.Component.next n) c.args.self.now c.args.stamp.now c.loop-process.self c.loop-process.stamp) all c.loop-process.invariant.goes

@@ -1,0 +1,30 @@
+use Rattle.std.proofs.Common.{rules, ◌≡◌, ◌<◌, ◌≤◌, ◌+◌, ◌-◌, ℕ, List, length, length-set, arith, refl, sym, ◌∙◌, ap, subst, true, false}
+use Rattle.std.specs.Bool.{OnTrue, OnFalse}
+use Rattle.flow_machine.specs.Values.{BodyValue, NetValue}
+use Rattle.flow_machine.specs.Nets.{level_of}
+use Rattle.flow_machine.specs.Logs.{turns_made}
+use Rattle.flow_machine.specs.Starts.{AllSet}
+use Rattle.flow_machine.specs.Solo.{Goes, MakesTurn, SettlesNet, SetBelow, turns_of, burst_of, pass_below, some_passes, some_works, all_settled, round_robin}
+use Rattle.flow_machine.proofs.SoloLemmas.{answer-turn, blocked-turn, over-turn, settles-wishing, settles-failed, burst-none, burst-more, burst-ends, pass-none, pass-more, passes-none, round-more, round-ends, works-none, works-more, works-all, set-after, set-more, set-all, set-in, turn-count, think-count}
+use Rattle.flow_machine.proofs.net.Net.settle_all.Goals as goal
+
+pub loop-process-init : goal.loop-process-init
+loop-process-init g c = record { set = λ p b below. absurd (omega (arith, below)); len = refl; turns = refl; goes = works-none g.K.Component.shape_of g.K.Component.uses g.K.Component.ready g.K.Component.next g.met.K.Component.obeys g.met.K.Component.stays_ready g.met.K.Component.steady c.args.self.now (turns_made c.args.self.now) }
+
+pub loop-process-preserved : goal.loop-process-preserved
+loop-process-preserved g c =
+    let settle = rw c.if-not-settle.false at c.settle.ensures.settles in
+    let inv = c.loop-process.invariant in
+    record {
+      set = set-more g.K.Component.next c.loop-process.self c.settle.new.self c.loop-process.process inv.set settle;
+      len = c.settle.ensures.len ∙ inv.len;
+      turns = c.settle.ensures.turns ∙ inv.turns;
+      goes = works-more g.K.Component.shape_of g.K.Component.uses g.K.Component.ready g.K.Component.next g.met.K.Component.obeys g.met.K.Component.stays_ready g.met.K.Component.steady c.args.self.now c.loop-process.self c.settle.new.self c.loop-process.process (turns_made c.args.self.now) (sym c.settle.ensures.len) inv.goes settle;
+    }
+
+pub returns : goal.returns
+returns g c =
+    let inv = c.loop-process.invariant in
+    let all : length c.loop-process.self.bodies ≤ c.loop-process.process = omega (arith, inv.len, c.loop-process-test.false, c.processes-process-end.ensures.count) in
+    let set = set-all c.loop-process.process c.loop-process.self.bodies all inv.set in
+    record { set = set; goes = works-all g.K.Component.shape_of g.K.Component.uses g.K.Component.ready g.K.Component.next g.met.K.Component.obeys g.met.K.Component.stays_ready g.met.K.Component.steady c.args.self.now c.loop-process.self (turns_made c.args.self.now) inv.goes set; len = inv.len; turns = inv.turns }

@@ -1,0 +1,15 @@
+use Rattle.std.proofs.Common.{rules, ◌≡◌, ◌<◌, ◌≤◌, ◌+◌, ◌-◌, ℕ, List, length, arith, refl, sym, ◌∙◌, ap, subst, true, false}
+use Rattle.std.specs.Bool.{OnTrue, OnFalse}
+use Rattle.flow_machine.specs.Values.{BodyValue, NetValue}
+use Rattle.flow_machine.specs.Logs.{turns_made}
+use Rattle.flow_machine.specs.Starts.{AllSet}
+use Rattle.flow_machine.specs.Solo.{Goes, MakesTurn, SettlesNet, SetBelow, turns_of, burst_of, pass_below, some_passes, some_works, all_settled, round_robin}
+use Rattle.flow_machine.proofs.net.Net.settle_all.Given as goal
+
+abbrev pub invariant-loop-process : goal.invariant-loop-process
+invariant-loop-process g l = record {
+  set : SetBelow l.process l.self.bodies;
+  len : length l.self.bodies ≡ length l.fn.self.bodies;
+  turns : turns_made l.self ≡ turns_made l.fn.self;
+  goes : Goes g.K.Component.shape_of g.K.Component.uses g.K.Component.ready (some_works g.K.Component.next) l.fn.self (turns_made l.fn.self) l.self (turns_made l.fn.self);
+}

@@ -1,0 +1,12 @@
+use Rattle.std.proofs.Common.{rules, ◌≡◌, ◌∙◌, ap, sym, subst, ◌≤◌, List}
+use Rattle.std.specs.Prelude.{sum_by}
+use Rattle.flow_machine.specs.Values.{BodyValue, NetValue}
+use Rattle.flow_machine.specs.Logs.{turns_made}
+use Rattle.flow_machine.proofs.FitLemmas.{turns-most}
+use Rattle.flow_machine.proofs.net.Net.turns_made.Goals as goal
+
+pub count_turns-requires : goal.count_turns-requires
+count_turns-requires g c = rw c.deref.ensures.value (turns-most g.K.Component.shape_of g.K.Component.uses g.K.Component.ready (record { bodies = c.self.inside.bodies.items; channels = c.self.inside.channels.items }) c.self.invariant)
+
+pub returns-clause-few : goal.returns-clause-few
+returns-clause-few g c = rw (c.count_turns.ensures, c.deref.ensures.value) (turns-most g.K.Component.shape_of g.K.Component.uses g.K.Component.ready (record { bodies = c.self.inside.bodies.items; channels = c.self.inside.channels.items }) c.self.invariant)

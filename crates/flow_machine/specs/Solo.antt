@@ -1,0 +1,80 @@
+-- What one thread does with a net: turns of each process in turn, until none has one.
+use Rattle.std.specs.Prelude.{◌≡◌, ◌≢◌, ℕ, ◌+◌, ◌<◌, ◌≤◌, Bool, true, false, List, [], ◌∷◌, length, Option, None, Some, slice_get, slice_set}
+use Rattle.flow_packet.specs.Held.{Held}
+use Rattle.flow_component.specs.declared.Answer.{Answer}
+use Rattle.flow_component.specs.declared.Shape.{Shape}
+use Rattle.flow_component.specs.Laws.{Outcome}
+use Rattle.flow_model.specs.States.{State}
+use Rattle.flow_model.specs.Events.{Event, event_from}
+use Rattle.flow_model.specs.Schedules.{Journal, no_turns, SettlesAll, WorksLead}
+use Rattle.flow_model.specs.Robin.{TurnsOf, Burst, PassBelow, Passes, joined, RoundRobin}
+use Rattle.flow_model.specs.Verdicts.{Quiet}
+use Rattle.flow_model.specs.Stands.{StandsForOpen}
+use Rattle.flow_model.specs.Fit.{Fit}
+use Rattle.flow_machine.specs.Values.{BodyValue, NetValue, shown_net}
+use Rattle.flow_machine.specs.Nets.{looks_of, NetTurn, level_of}
+use Rattle.flow_machine.specs.Thoughts.{SettlesBody, KeepsTurns, IsSet}
+use Rattle.flow_machine.specs.Logs.{Logged, journal_of, Remembers, turns_made}
+use Rattle.flow_machine.specs.Starts.{AllSet}
+
+-- Each fit state that a net stood for goes on in this way to one that it stands for afterwards.
+abbrev pub GoesOn : {K : Type 0} → (K → Shape) → (K → ℕ → Bool) → (K → Held → Answer → Type 0) → (State K → State K → Type 0) → NetValue K → NetValue K → Type 0
+GoesOn {K} shape_of uses ready way old new = (s : State K) → Fit shape_of uses ready s → StandsForOpen (shown_net old) s → (s' : State K) × way s s' × Fit shape_of uses ready s' × StandsForOpen (shown_net new) s'
+
+-- A net goes on by these turns, the first of which has stamp n: its bodies remember them, beside what they remembered, and its states go on in
+-- this way.
+pub record GoesBy {K : Type 0} (shape_of : K → Shape) (uses : K → ℕ → Bool) (ready : K → Held → Answer → Type 0) (way : Journal → State K → State K → Type 0) (old : NetValue K) (n : ℕ) (log : List Logged) (new : NetValue K) : Type 0 where
+  pub remembers : Remembers n old.bodies log new.bodies
+  pub states : GoesOn shape_of uses ready (way (journal_of log)) old new
+
+-- The same by some turns, after which m turns have been made.
+abbrev pub Goes : {K : Type 0} → (K → Shape) → (K → ℕ → Bool) → (K → Held → Answer → Type 0) → (Journal → State K → State K → Type 0) → NetValue K → ℕ → NetValue K → ℕ → Type 0
+Goes shape_of uses ready way old n new m = (log : List Logged) × (m ≡ n + length log) × GoesBy shape_of uses ready way old n log new
+
+-- Process p has no turn, whatever number a level turn would see.
+abbrev pub HasNoTurnIn : {K : Type 0} → NetValue K → ℕ → Type 0
+HasNoTurnIn {K} net p = (b : BodyValue K) (n : ℕ) → slice_get net.bodies p ≡ Some b → event_from (looks_of net.channels) b.process n ≡ None
+
+-- Whether a turn of process p was made: it was the machine's, or nothing changed and there is none.
+abbrev pub MakesTurn : {K : Type 0} → NetValue K → ℕ → ℕ → Bool → NetValue K → Type 0
+MakesTurn old p stamp true new = (event : Event) × NetTurn old p (level_of old p) event stamp new
+MakesTurn old p stamp false new = HasNoTurnIn old p × (new ≡ old)
+
+-- The pending work of process p is done, if there was any, and it is set.
+pub record SettlesNet {K : Type 0} (next : K → Held → Answer → Outcome K → Type 0) (old : NetValue K) (p : ℕ) (new : NetValue K) : Type 0 where
+  pub before : BodyValue K
+  pub after : BodyValue K
+  pub there : slice_get old.bodies p ≡ Some before
+  pub settles : SettlesBody next before after
+  pub set : IsSet after
+  pub keeps : KeepsTurns before after
+  pub bodies : new.bodies ≡ slice_set old.bodies p after
+  pub channels : new.channels ≡ old.channels
+
+-- The processes below p are set.
+abbrev pub SetBelow : {K : Type 0} → ℕ → List (BodyValue K) → Type 0
+SetBelow {K} n bodies = (p : ℕ) (b : BodyValue K) → p < n → slice_get bodies p ≡ Some b → IsSet b
+
+-- Turns of p alone; a burst of p; a pass over the processes below p; passes that have turns.
+abbrev pub turns_of : {K : Type 0} → (K → Held → Answer → Outcome K → Type 0) → ℕ → Journal → State K → State K → Type 0
+turns_of next p journal s s' = TurnsOf next p s journal.turns journal.seen s'
+
+abbrev pub burst_of : {K : Type 0} → (K → Held → Answer → Outcome K → Type 0) → ℕ → Journal → State K → State K → Type 0
+burst_of next p journal s s' = Burst next p s journal s'
+
+abbrev pub pass_below : {K : Type 0} → (K → Held → Answer → Outcome K → Type 0) → ℕ → Journal → State K → State K → Type 0
+pass_below next n journal s s' = PassBelow next n s journal s'
+
+abbrev pub some_passes : {K : Type 0} → (K → Held → Answer → Outcome K → Type 0) → Journal → State K → State K → Type 0
+some_passes next journal s s' = (passes : List Journal) × (journal ≡ joined passes) × Passes next s passes s'
+
+-- Works of some processes, without a turn; all works that were to come.
+abbrev pub some_works : {K : Type 0} → (K → Held → Answer → Outcome K → Type 0) → Journal → State K → State K → Type 0
+some_works next journal s s' = (journal ≡ no_turns) × ((works : List ℕ) × WorksLead next s works s')
+
+abbrev pub all_settled : {K : Type 0} → (K → Held → Answer → Outcome K → Type 0) → Journal → State K → State K → Type 0
+all_settled next journal s s' = (journal ≡ no_turns) × SettlesAll next s s'
+
+-- A round robin: the pending works are done, and then each process takes turns until it has none, round and round, until no process has one.
+abbrev pub round_robin : {K : Type 0} → (K → Held → Answer → Outcome K → Type 0) → Journal → State K → State K → Type 0
+round_robin {K} next journal s s' = (t : State K) × SettlesAll next s t × RoundRobin next t journal s' × Quiet s'

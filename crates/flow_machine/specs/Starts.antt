@@ -1,0 +1,26 @@
+-- How a net starts.
+use Rattle.std.specs.Prelude.{◌≡◌, ℕ, List, [], None, Some, slice_get}
+use Rattle.flow_model.specs.States.{Process}
+use Rattle.flow_model.specs.Plans.{Plan, start_of}
+use Rattle.flow_model.specs.Stands.{StandsForOpen}
+use Rattle.flow_machine.specs.Values.{BodyValue, NetValue, shown_net}
+use Rattle.flow_machine.specs.Thoughts.{IsSet}
+
+-- A body that has made no turn is this process, and is set for its first turn.
+pub record StartsBody {K : Type 0} (x : Process K) (b : BodyValue K) : Type 0 where
+  pub process : b.process ≡ x
+  pub dropped : b.dropped ≡ 0
+  pub leaving : b.leaving ≡ None
+  pub stamps : b.stamps ≡ []
+  pub levels : b.levels ≡ []
+  pub set : IsSet b
+
+-- Every process of the net is set.
+abbrev pub AllSet : {K : Type 0} → List (BodyValue K) → Type 0
+AllSet {K} bodies = (p : ℕ) (b : BodyValue K) → slice_get bodies p ≡ Some b → IsSet b
+
+-- A net that has just started: it stands for the start state of the plan with these components, each process is set, and no turn was made.
+pub record StartsNet {K : Type 0} (plan : Plan) (parts : List K) (net : NetValue K) : Type 0 where
+  pub stands : StandsForOpen (shown_net net) (start_of plan parts)
+  pub set : AllSet net.bodies
+  pub unmade : (p : ℕ) (b : BodyValue K) → slice_get net.bodies p ≡ Some b → (b.stamps ≡ []) × (b.levels ≡ [])
