@@ -2,5 +2,9 @@
 #![tactic(auto)]
 
 mod depth;
+mod pairs;
+#[cfg(test)]
+mod tests;
 
 pub use depth::Depth;
+pub use pairs::substreams;

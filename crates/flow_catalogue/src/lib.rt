@@ -4,6 +4,8 @@
 mod process;
 mod standard;
 mod table;
+#[cfg(test)]
+mod tests;
 
 pub use process::{FileUse, file_of, make};
 pub use standard::Std;

@@ -1,3 +1,3 @@
 pub mod Outputs
-pub mod Parts
+pub mod Cuts
 pub mod ThinLines

@@ -1,3 +1,6 @@
 pub mod Many
+pub mod Parts
 pub mod Step
+pub mod Stops
 pub mod Thin
+pub mod Words

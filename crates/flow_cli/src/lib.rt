@@ -2,9 +2,15 @@
 #![tactic(auto)]
 
 mod many;
+mod parts;
 mod step;
+mod stop;
 mod thin;
+mod words;
 
-pub use many::write_files;
+pub use many::{Output, write_files};
+pub use parts::{FILE_LIMIT, read_parts};
 pub use step::{FileStop, read_file, write_file};
+pub use stop::{Stop, read_stop, status, text};
 pub use thin::network;
+pub use words::command;

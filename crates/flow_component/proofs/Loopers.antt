@@ -1,5 +1,5 @@
 -- Components that work until the end of their input are ready for whatever may come.
-use Rattle.std.proofs.Common.{ℕ, [], List}
+use Rattle.std.proofs.Common.{ℕ, []}
 use Rattle.flow_packet.specs.declared.packet.Kind.TheVariants.{Normal}
 use Rattle.flow_packet.specs.Tree.{packet_of}
 use Rattle.flow_packet.specs.Held.{Held, next_id}

@@ -34,3 +34,10 @@ all-step p f xs i x within is = ap (λ ys. list_all p (map f ys)) (drop-here xs 
 
 pub all-over : {A B : Type 0} (p : B → Bool) (f : A → B) (xs : List A) (i : ℕ) → length xs ≤ i → list_all p (map f (drop i xs)) ≡ true
 all-over p f xs i over = ap (λ ys. list_all p (map f ys)) (drop-over xs i over)
+
+-- the same with the element read in another way
+pub any-next : {A B : Type 0} (p : B → Bool) (f : A → B) (xs : List A) (i : ℕ) (d : A) → i < length xs → p (f (get_or xs i d)) ≡ false → list_any p (map f (drop i xs)) ≡ list_any p (map f (drop (i + 1) xs))
+any-next {A} p f xs i d within fails = ap (λ (ys : List A). list_any p (map f ys)) (drop-cons xs i d within ∙ ap (λ n. get_or xs i d ∷ drop n xs) (sym (add-one i))) ∙ ap (λ (b : Bool). b || list_any p (map f (drop (i + 1) xs))) fails
+
+pub any-here : {A B : Type 0} (p : B → Bool) (f : A → B) (xs : List A) (i : ℕ) (d : A) → i < length xs → p (f (get_or xs i d)) ≡ true → list_any p (map f (drop i xs)) ≡ true
+any-here {A} p f xs i d within passes = ap (λ (ys : List A). list_any p (map f ys)) (drop-cons xs i d within) ∙ ap (λ (b : Bool). b || list_any p (map f (drop (suc i) xs))) passes

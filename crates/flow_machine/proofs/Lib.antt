@@ -9,3 +9,4 @@ pub mod PlanLemmas
 pub mod LogLemmas
 pub mod FitLemmas
 pub mod SoloLemmas
+mod StartLemmas

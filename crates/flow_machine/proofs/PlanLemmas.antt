@@ -1,6 +1,7 @@
 -- Looking connections up in a plan.
-use Rattle.std.proofs.Common.{◌≡◌, ℕ, ◌+◌, ◌<◌, ◌≤◌, Bool, true, false, cond, List, [], ◌∷◌, length, map, drop, drop-cons, get_or, Option, Some, None, suc, zero, nat_lt, refl, ap, sym, ◌∙◌, arith, add-one, option_map}
-use Rattle.std.specs.Prelude.{position, not}
+use Rattle.std.proofs.Common.{◌≡◌, ℕ, ◌+◌, ◌<◌, ◌≤◌, Bool, true, false, cond, List, [], ◌∷◌, length, map, drop, drop-cons, get_or, Option, Some, None, suc, zero, nat_lt, nat_eq, refl, ap, sym, ◌∙◌, arith, add-one, option_map}
+use Rattle.std.specs.Prelude.{position, not, ◌≢◌, Result, Ok, Err, IfOk}
+use Rattle.flow_model.specs.Plans.{text_at}
 use Rattle.std.specs.List.{prefix_len}
 use Rattle.std.proofs.lemmas.Bool.Decides.{nat_tests}
 
@@ -56,3 +57,17 @@ drop-over (x ∷ xs) (suc i) over = drop-over xs i (omega (arith, over))
 
 pub position-over : {A B : Type 0} (p : B → Bool) (f : A → B) (xs : List A) (i : ℕ) → length xs ≤ i → later i (position p (map f (drop i xs))) ≡ None
 position-over {A} p f xs i over = ap (λ (ys : List A). later i (position p (map f ys))) (drop-over xs i over)
+
+-- the initial text at an input
+pub text-here : (xs : List (ℕ × List ℕ)) (i n : ℕ) (x : ℕ × List ℕ) → i < length xs → x ≡ get_or xs i x → x.0 ≡ n → text_at (drop i xs) n ≡ x.1
+text-here xs i n x within is same = let t : nat_eq x.0 n ≡ true = grind (arith, nat_tests) in ap (λ (ys : List (ℕ × List ℕ)). text_at ys n) (drop-here xs i x within is) ∙ rw t refl
+
+pub text-next : (xs : List (ℕ × List ℕ)) (i n : ℕ) (x : ℕ × List ℕ) → i < length xs → x ≡ get_or xs i x → x.0 ≢ n → text_at (drop i xs) n ≡ text_at (drop (i + 1) xs) n
+text-next xs i n x within is other = let t : nat_eq x.0 n ≡ false = grind (arith, nat_tests) in ap (λ (ys : List (ℕ × List ℕ)). text_at ys n) (drop-here xs i x within is) ∙ rw t refl
+
+pub text-over : (xs : List (ℕ × List ℕ)) (i n : ℕ) → length xs ≤ i → text_at (drop i xs) n ≡ []
+text-over xs i n over = ap (λ (ys : List (ℕ × List ℕ)). text_at ys n) (drop-over xs i over)
+
+pub text-ok : {A E : Type 0} (r : Result A E) (P Q : A → Type 0) → ((v : A) → P v → Q v) → IfOk r P → IfOk r Q
+text-ok (Ok v) P Q f h = f v h
+text-ok (Err e) P Q f h = tt

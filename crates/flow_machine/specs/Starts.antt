@@ -1,8 +1,9 @@
 -- How a net starts.
-use Rattle.std.specs.Prelude.{◌≡◌, ℕ, List, [], None, Some, slice_get}
+use Rattle.std.specs.Prelude.{◌≡◌, ℕ, List, [], None, Some, slice_get, length, map}
 use Rattle.flow_model.specs.States.{Process}
-use Rattle.flow_model.specs.Plans.{Plan, start_of}
-use Rattle.flow_model.specs.Stands.{StandsForOpen}
+use Rattle.flow_model.specs.Plans.{Plan, PlanProcess, process_at_start, start_of}
+use Rattle.flow_net.specs.declared.plan.Connection.{Connection as NetConnection}
+use Rattle.flow_model.specs.Stands.{ChannelShown, StandsForOpen}
 use Rattle.flow_machine.specs.Values.{BodyValue, NetValue, shown_net}
 use Rattle.flow_machine.specs.Thoughts.{IsSet}
 
@@ -18,6 +19,18 @@ pub record StartsBody {K : Type 0} (x : Process K) (b : BodyValue K) : Type 0 wh
 -- Every process of the net is set.
 abbrev pub AllSet : {K : Type 0} → List (BodyValue K) → Type 0
 AllSet {K} bodies = (p : ℕ) (b : BodyValue K) → slice_get bodies p ≡ Some b → IsSet b
+
+-- Bodies that have made no turn are the processes of the plan at their start, each with its component.
+pub record StartsBodies {K : Type 0} (plan : Plan) (parts : List K) (bodies : List (BodyValue K)) : Type 0 where
+  pub count : length bodies ≡ length plan.processes
+  pub each : (p : ℕ) (q : PlanProcess) (part : K) (b : BodyValue K) → slice_get plan.processes p ≡ Some q → slice_get parts p ≡ Some part → slice_get bodies p ≡ Some b → StartsBody (process_at_start plan p q part) b
+
+-- A connection at its start: it is empty, with every sender open, and nothing was put.
+abbrev pub channel_begun : NetConnection → ChannelShown
+channel_begun c = record { packets = []; capacity = c.capacity; open_senders = length c.senders; puts = 0; takes = 0 }
+
+abbrev pub StartsChannels : List NetConnection → List ChannelShown → Type 0
+StartsChannels connections channels = channels ≡ map channel_begun connections
 
 -- A net that has just started: it stands for the start state of the plan with these components, each process is set, and no turn was made.
 pub record StartsNet {K : Type 0} (plan : Plan) (parts : List K) (net : NetValue K) : Type 0 where

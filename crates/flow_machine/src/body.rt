@@ -17,6 +17,7 @@ use flow_packet::Hands;
 use flow_packet::{Kind, Packet, PacketId};
 use std::marker::Model;
 
+mod begin;
 mod effect;
 mod idle;
 mod think;

@@ -4,12 +4,14 @@ ghost use Rattle.flow_machine.specs.Nets.{level_of, TurnsNet};
 ghost use Rattle.flow_machine.specs.NetSteps.{IsSetIn, ThinksNet};
 ghost use Rattle.flow_machine.specs.Logs.{turns_made};
 
+use self::begin::{discard_bodies, discard_channels};
 use crate::answers::{Thought, Turn};
 use crate::body::Body;
 use crate::channel::Channel;
 use flow_component::{Component, Gate};
 use std::marker::Model;
 
+mod begin;
 mod pair;
 mod round;
 mod turns;
@@ -100,17 +102,8 @@ impl<K: Component> Net<K> {
 
     /// Gives the run up, and spends all that it holds.
     pub fn discard(self) {
-        let Net {
-            mut bodies,
-            mut channels,
-        } = self;
-        while let Some(body) = bodies.pop() {
-            body.discard();
-        }
-        bodies.destroy_empty();
-        while let Some(channel) = channels.pop() {
-            channel.discard();
-        }
-        channels.destroy_empty();
+        let Net { bodies, channels } = self;
+        discard_bodies(bodies);
+        discard_channels(channels);
     }
 }

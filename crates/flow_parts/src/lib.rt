@@ -2,6 +2,8 @@
 #![tactic(auto)]
 
 mod read_lines;
+#[cfg(test)]
+mod tests;
 mod write_lines;
 
 pub use read_lines::ReadLines;

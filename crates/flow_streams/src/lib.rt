@@ -2,5 +2,7 @@
 #![tactic(auto)]
 
 mod passthru;
+#[cfg(test)]
+mod tests;
 
 pub use passthru::Passthru;

@@ -66,7 +66,7 @@ impl<K: Component> Body<K> {
     }
 
     /// Takes the room of the next turn, if there is to be one.
-    fn prepare(&mut self) -> Thought
+    pub(crate) fn prepare(&mut self) -> Thought
         requires whole { self.old.leaving ≡ None }
         requires thought { IsThoughtStage self.old.process.stage }
         ensures prepares { Prepares self.old result self.new }

@@ -1,0 +1,29 @@
+//! That the calls succeed with ample memory, and the table's names.
+
+use super::{Std, StdKind, kinds};
+use flow_parts::WriteLines;
+use flow_streams::Passthru;
+use std::test::Fail;
+
+#[test]
+fn the_table_has_the_standard_kinds(rt: HostRuntime) -> Result<(), Fail> {
+    let kinds = kinds(rt.alloc())?;
+    for (spec, name) in kinds.iter().zip([
+        b"ReadLines".as_slice(),
+        b"WriteLines".as_slice(),
+        b"Passthru".as_slice(),
+    ]) {
+        assert_eq!(rt; spec.name.as_slice(), name);
+        assert!(rt; StdKind::named(name).is_some());
+    }
+    assert_eq!(rt; StdKind::named(b"readlines"), None);
+    Ok(())
+}
+
+#[test]
+fn only_a_writer_has_written(rt: HostRuntime) {
+    let writer = Std::WriteLines(WriteLines::new(rt.alloc()));
+    assert_eq!(rt; writer.written().map(|bytes| bytes.len()), Some(0));
+    let passer = Std::Passthru(Passthru::new());
+    assert!(rt; passer.written().is_none());
+}

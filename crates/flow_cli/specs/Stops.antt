@@ -1,0 +1,33 @@
+-- The statuses and the printed texts of stops.
+use Rattle.std.specs.Prelude.{◌≡◌, ℕ, List, [], ◌∷◌, ◌++◌, String, string_bytes, codes, ⊤}
+use Rattle.std.specs.declared.alloc.Global.{Global}
+use Rattle.flow_text.specs.Edge.{Name}
+use Rattle.flow_cli.specs.declared.step.FileStop.{FileStop}
+use Rattle.flow_cli.specs.declared.step.FileStop.TheVariants as file
+use Rattle.flow_cli.specs.declared.stop.Stop.{Stop}
+use Rattle.flow_cli.specs.declared.stop.Stop.TheVariants.{Words, NotBuilt, ReadFault, WriteFault, TooLong, NoMemory}
+
+-- The status with which a stop ends the program.
+abbrev pub status_of : Stop → ℕ
+status_of Words = 2
+status_of NotBuilt = 3
+status_of (ReadFault name) = 6
+status_of (WriteFault name) = 7
+status_of NoMemory = 8
+status_of (TooLong name) = 9
+
+-- The line that is printed for a stop.
+abbrev pub text_of : Stop → List ℕ
+text_of Words = codes "usage: flow [--workers N] [--journal FILE] [--check] [--replay FILE] [--make N] [NETFILE]" ++ 10 ∷ []
+text_of NotBuilt = codes "network refused: not built" ++ 10 ∷ []
+text_of (ReadFault name) = codes "read fault: " ++ string_bytes name ++ 10 ∷ []
+text_of (WriteFault name) = codes "write fault: " ++ string_bytes name ++ 10 ∷ []
+text_of NoMemory = codes "no memory" ++ 10 ∷ []
+text_of (TooLong name) = codes "too long: " ++ string_bytes name ++ 10 ∷ []
+
+-- The stop of a read of this name. Want of memory is free, since the stop keeps the name.
+abbrev pub IsReadStop : FileStop → Name → Stop → Type 0
+IsReadStop file.Fault name (ReadFault read) = string_bytes read ≡ name
+IsReadStop file.TooLong name (TooLong read) = string_bytes read ≡ name
+IsReadStop stop name NoMemory = ⊤
+IsReadStop stop name other = ⊥

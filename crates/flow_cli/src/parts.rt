@@ -1,0 +1,51 @@
+//! The parts of a plan's processes, each reader on what its file holds.
+ghost use Rattle.std.specs.Prelude.{◌≡◌, ◌<◌, length};
+ghost use Rattle.flow_cli.specs.Parts.{IsRunnable, ReadsPart, ReadsParts};
+
+use crate::step::read_file;
+use crate::stop::{Stop, read_stop};
+use flow_catalogue::{FileUse, Std, file_of, make};
+use flow_net::Plan;
+use flow_text::Shelf;
+use std::alloc::Global;
+
+/// A network file and each input file has at most so many bytes. The limit is this project's own.
+pub const FILE_LIMIT: u64 = 16_777_216;
+
+/// Reads the files of the plan's readers in the order of the processes, and makes the part of each process.
+pub fn read_parts<F: Shelf>(alloc: Global, shelf: &mut F, plan: &Plan) -> Result<Vec<Std>, Stop>
+    requires { IsRunnable plan.now }
+    ensures { ReadsParts (F.outside shelf.old) (F.outside shelf.new) plan.now result FILE_LIMIT }
+{
+    let mut parts = Vec::new(alloc);
+    for process in 0..plan.processes().len() {
+        let part = match read_part(alloc, shelf, plan, process as u32) {
+            Ok(part) => part,
+            Err(stop) => return Err(stop),
+        };
+        if parts.push(part).is_err() {
+            return Err(Stop::NoMemory);
+        }
+    }
+    Ok(parts)
+}
+
+// The part of one process.
+fn read_part<F: Shelf>(
+    alloc: Global,
+    shelf: &mut F,
+    plan: &Plan,
+    process: u32,
+) -> Result<Std, Stop>
+    requires runnable { IsRunnable plan.now }
+    requires there { process < length plan.now.processes }
+    ensures { ReadsPart (F.outside shelf.old) (F.outside shelf.new) plan.now process result FILE_LIMIT }
+{
+    match file_of(plan, process) {
+        Some(FileUse::Read(name)) => match read_file(alloc, shelf, name, FILE_LIMIT) {
+            Ok(bytes) => Ok(make(alloc, plan, process, bytes)?),
+            Err(stop) => Err(read_stop(alloc, stop, name)),
+        },
+        _ => Ok(make(alloc, plan, process, Vec::new(alloc))?),
+    }
+}

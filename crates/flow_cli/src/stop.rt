@@ -1,0 +1,82 @@
+//! Why a call stops before its report, and what it prints then.
+ghost use Rattle.std.specs.Prelude.{◌≡◌, ◌++◌, ◌∷◌, [], IfOk};
+ghost use Rattle.flow_cli.specs.Stops.{status_of, text_of, IsReadStop};
+ghost use Rattle.flow_cli.specs.declared.stop.Stop.TheVariants.{NoMemory};
+
+use crate::step::FileStop;
+use std::alloc::{AllocError, Global};
+
+/// Why a call stops. The statuses and texts are this project's own.
+#[derive(Debug, Drop, PartialEq, Eq)]
+pub enum Stop {
+    /// The words are no command line.
+    Words,
+    /// The network file is one that isn't run yet.
+    NotBuilt,
+    /// The file of this name couldn't be read.
+    ReadFault(String),
+    /// The file of this name couldn't be written.
+    WriteFault(String),
+    /// The file of this name is longer than its limit.
+    TooLong(String),
+    NoMemory,
+}
+
+impl From<AllocError> for Stop {
+    ghost from_gives = { λ _ e. e ≡ NoMemory };
+
+    fn from(_: AllocError) -> Self {
+        Stop::NoMemory
+    }
+}
+
+/// The status with which a stop ends the program.
+pub fn status(stop: &Stop) -> u8
+    ensures { result ≡ status_of stop.now }
+{
+    match stop {
+        Stop::Words => 2,
+        Stop::NotBuilt => 3,
+        Stop::ReadFault(_) => 6,
+        Stop::WriteFault(_) => 7,
+        Stop::NoMemory => 8,
+        Stop::TooLong(_) => 9,
+    }
+}
+
+/// The line that is printed for a stop.
+pub fn text(alloc: Global, stop: &Stop) -> Result<Vec<u8>, AllocError>
+    ensures { IfOk result (λ text. text.items ≡ text_of stop.now) }
+{
+    match stop {
+        Stop::Words => line(alloc, b"usage: flow [--workers N] [--journal FILE] [--check] [--replay FILE] [--make N] [NETFILE]", b""),
+        Stop::NotBuilt => line(alloc, b"network refused: not built", b""),
+        Stop::ReadFault(name) => line(alloc, b"read fault: ", name.as_bytes()),
+        Stop::WriteFault(name) => line(alloc, b"write fault: ", name.as_bytes()),
+        Stop::NoMemory => line(alloc, b"no memory", b""),
+        Stop::TooLong(name) => line(alloc, b"too long: ", name.as_bytes()),
+    }
+}
+
+fn line(alloc: Global, head: &[u8], name: &[u8]) -> Result<Vec<u8>, AllocError>
+    ensures { IfOk result (λ text. text.items ≡ head.now ++ name.now ++ 10 ∷ []) }
+{
+    let mut text = head.to_vec(alloc)?;
+    text.extend_from_slice(name)?;
+    text.push(10)?;
+    Ok(text)
+}
+
+/// The stop of a file that wasn't read.
+pub fn read_stop(alloc: Global, stop: FileStop, name: &str) -> Stop
+    ensures { IsReadStop stop name.now result }
+{
+    let Ok(name) = String::from_str(alloc, name) else {
+        return Stop::NoMemory;
+    };
+    match stop {
+        FileStop::Fault => Stop::ReadFault(name),
+        FileStop::TooLong => Stop::TooLong(name),
+        FileStop::NoMemory => Stop::NoMemory,
+    }
+}

@@ -1,0 +1,45 @@
+use Rattle.std.proofs.Common.{◌≡◌, ◌∙◌, ◌<◌, sym, ap, subst, refl, arith, Some, slice_get, List, length, replicate, false}
+use Rattle.std.specs.Prelude.{◌^◌}
+use Rattle.std.proofs.lemmas.Option.{slice_get-get_or}
+use Rattle.flow_net.specs.declared.plan.Process.{Process as NetProcess}
+use Rattle.flow_model.specs.Plans.{process_at_start}
+use Rattle.flow_machine.specs.PlanOf.{plan_of, process_of}
+use Rattle.flow_machine.specs.Starts.{StartsBody}
+use Rattle.flow_machine.proofs.body.Body.begin.Goals as goal
+
+pub invariant_of-body : goal.invariant_of-body
+invariant_of-body g c =
+    let x : NetProcess = c.index-processes-process.result in
+    let within : c.args.process < length c.processes.result.now = subst (λ (ps : List NetProcess). c.args.process < length ps) (sym c.processes.ensures) c.requires.in_range in
+    let there : slice_get c.args.plan.now.processes c.args.process ≡ Some x =
+    ap (λ (ps : List NetProcess). slice_get ps c.args.process) (sym c.processes.ensures) ∙ slice_get-get_or c.processes.result.now c.args.process x within ∙ ap (λ (q : NetProcess). Some q) (sym c.index-processes-process.is) in
+    let inputs = c.in_ok-inlets.ensures x there in
+    let outputs = c.in_ok-outputs.ensures x there in
+    let fresh = c.in_ok-fresh.ensures.items_if_clones_equal (λ y e. e) ∙ ap (λ n. replicate n false) c.places.ensures.is in
+    let depths = c.in_ok-depths.ensures.items_if_clones_equal (λ y e. e) ∙ ap (λ n. replicate n 0) c.places-2.ensures.is in
+    let few : x.outputs < 2 ^ 32 = omega (arith, c.places-2.ensures.is, c.places-2.ensures.small) in
+    rw (inputs, outputs, fresh, depths, c.new.ensures, c.new-2.ensures.len) (c.requires.well x there few)
+
+pub returns-in-Wishing : goal.returns-in-Wishing
+returns-in-Wishing g c = λ x' there'.
+    let x : NetProcess = c.index-processes-process.result in
+    let within : c.args.process < length c.processes.result.now = subst (λ (ps : List NetProcess). c.args.process < length ps) (sym c.processes.ensures) c.requires.in_range in
+    let there : slice_get c.args.plan.now.processes c.args.process ≡ Some x =
+    ap (λ (ps : List NetProcess). slice_get ps c.args.process) (sym c.processes.ensures) ∙ slice_get-get_or c.processes.result.now c.args.process x within ∙ ap (λ (q : NetProcess). Some q) (sym c.index-processes-process.is) in
+    let inputs = c.in_ok-inlets.ensures x there in
+    let outputs = c.in_ok-outputs.ensures x there in
+    let fresh = c.in_ok-fresh.ensures.items_if_clones_equal (λ y e. e) ∙ ap (λ n. replicate n false) c.places.ensures.is in
+    let depths = c.in_ok-depths.ensures.items_if_clones_equal (λ y e. e) ∙ ap (λ n. replicate n 0) c.places-2.ensures.is in
+    let prepared = c.in-Wishing.ensures.prepares in
+    let keeps = c.in-Wishing.ensures.keeps in
+    let starts : StartsBody (process_at_start (plan_of c.args.plan.now) c.args.process (process_of x) c.args.part) c.prepare.new.self = record {
+      process = rw prepared.0.process (rw (inputs, outputs, fresh, depths, c.new.ensures, c.new-2.ensures.len) refl);
+      dropped = rw prepared.0.dropped (rw c.new.ensures refl);
+      leaving = keeps.leaving;
+      stamps = rw keeps.stamps c.new-2.ensures.items;
+      levels = rw keeps.levels c.new-3.ensures.items;
+      set = prepared.1;
+    } in
+    let h : Some x ≡ Some x' = sym there ∙ there' in
+    let same : x ≡ x' = cc in
+    subst (λ (q : NetProcess). StartsBody (process_at_start (plan_of c.args.plan.now) c.args.process (process_of q) c.args.part) c.prepare.new.self) same starts

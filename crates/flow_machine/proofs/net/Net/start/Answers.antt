@@ -1,0 +1,26 @@
+use Rattle.std.proofs.Common.{◌≡◌, ◌∙◌, ◌++◌, ap, sym, subst, arith, List, length, map, Some, slice_get}
+use Rattle.std.proofs.lemmas.List.{length-map}
+use Rattle.flow_net.specs.declared.plan.Connection.{Connection as NetConnection}
+use Rattle.flow_model.specs.Stands.{ChannelShown}
+use Rattle.flow_machine.specs.Values.{BodyValue, NetValue}
+use Rattle.flow_machine.specs.FitNets.{FitNet}
+use Rattle.flow_machine.specs.Starts.{StartsNet, channel_begun}
+use Rattle.flow_machine.specs.PlanOf.{plan_of, sender_of, connection_of}
+use Rattle.flow_machine.proofs.Standings.{get-map}
+use Rattle.flow_machine.proofs.StartLemmas.{starts-net, fit-start}
+use Rattle.flow_machine.proofs.net.Net.start.Goals as goal
+
+pub channels_of-requires : goal.channels_of-requires
+channels_of-requires g c = λ n x is.
+    let there : slice_get c.args.plan.now.connections n ≡ Some x = ap (λ (cs : List NetConnection). slice_get cs n) (sym c.connections.ensures) ∙ is in
+    omega (arith, c.requires.well.wired.few_senders n (connection_of x) (get-map connection_of c.args.plan.now.connections n x there), length-map x.senders sender_of)
+
+pub invariant_of-result : goal.invariant_of-result
+invariant_of-result g c =
+    let channels : c.in_ok-channels.channels.items ≡ map channel_begun c.args.plan.now.connections = c.in_ok-channels.ensures ∙ ap (map channel_begun) c.connections.ensures in
+    rw channels (fit-start g.K.Component.shape_of g.K.Component.uses g.K.Component.ready c.args.plan.now c.args.parts.items c.in-Ok.bodies.items c.requires.well c.in-Ok.ensures)
+
+pub returns-in-Ok : goal.returns-in-Ok
+returns-in-Ok g c =
+    let channels : c.in_ok-channels.channels.items ≡ map channel_begun c.args.plan.now.connections = c.in_ok-channels.ensures ∙ ap (map channel_begun) c.connections.ensures in
+    rw channels (starts-net g.K.Component.shape_of g.K.Component.uses g.K.Component.ready c.args.plan.now c.args.parts.items c.in-Ok.bodies.items c.requires.well c.in-Ok.ensures)

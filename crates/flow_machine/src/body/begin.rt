@@ -1,0 +1,63 @@
+//! A process at its start.
+ghost use Rattle.std.specs.Prelude.{◌≡◌, ◌<◌, ◌^◌, length, IfOk, Some, slice_get};
+ghost use Rattle.flow_net.specs.declared.plan.Process.{Process as NetProcess};
+ghost use Rattle.flow_model.specs.Plans.{process_at_start};
+ghost use Rattle.flow_machine.specs.Bodies.{StandsWell};
+ghost use Rattle.flow_machine.specs.PlanOf.{plan_of, process_of};
+ghost use Rattle.flow_machine.specs.Starts.{StartsBody};
+
+use super::Body;
+use crate::answers::Thought;
+use crate::start::{inlets_of, outputs_of, places};
+use flow_component::Component;
+use flow_model::Stage;
+use flow_net::Plan;
+use flow_packet::Hands;
+use std::alloc::{AllocError, Global};
+
+impl<K: Component> Body<K> {
+    /// A process of a plan that hasn't started, with the room of its first turn.
+    pub(crate) fn begin(
+        alloc: Global,
+        plan: &Plan,
+        process: u32,
+        part: K,
+    ) -> Result<Body<K>, AllocError>
+        requires in_range { process < length plan.now.processes }
+        requires few { length plan.now.connections < 2 ^ 32 }
+        requires well { (x : NetProcess) → slice_get plan.now.processes process ≡ Some x → x.outputs < 2 ^ 32 → StandsWell K.shape_of K.uses K.ready (process_at_start (plan_of plan.now) process (process_of x) part) }
+        ensures { IfOk result (λ body. (x : NetProcess) → slice_get plan.now.processes process ≡ Some x → StartsBody (process_at_start (plan_of plan.now) process (process_of x) part) body) }
+    {
+        let entry = &plan.processes()[process as usize];
+        let inlets = inlets_of(alloc, plan, process)?;
+        let outputs = outputs_of(alloc, plan, process)?;
+        let fresh = vec![in alloc; false; places(entry.inputs)]?;
+        let depths = vec![in alloc; 0; places(entry.outputs)]?;
+        let mut body = Body {
+            number: process,
+            stage: Stage::Idle,
+            has_run: false,
+            part,
+            hands: Hands::new(alloc, process),
+            inlets,
+            fresh,
+            outputs,
+            depths,
+            leaving: None,
+            stamps: Vec::new(alloc),
+            levels: Vec::new(alloc),
+            copy: None,
+        };
+        match body.prepare() {
+            Thought::Wishing => Ok(body),
+            Thought::Failed(_) => {
+                body.discard();
+                Err(AllocError)
+            }
+            Thought::NoMemory => {
+                body.discard();
+                Err(AllocError)
+            }
+        }
+    }
+}

@@ -1,0 +1,98 @@
+//! A network at its start.
+ghost use Rattle.std.specs.Prelude.{◌≡◌, ◌<◌, ◌≤◌, ◌^◌, length, IfOk, ℕ, Some, slice_get};
+ghost use Rattle.flow_net.specs.declared.plan.Connection.{Connection as NetConnection};
+ghost use Rattle.flow_model.specs.Plans.{StartsWell};
+ghost use Rattle.flow_machine.specs.PlanOf.{plan_of};
+ghost use Rattle.flow_machine.specs.Starts.{StartsNet, StartsBodies, StartsChannels};
+
+use super::Net;
+use crate::body::Body;
+use crate::channel::Channel;
+use flow_component::Component;
+use flow_net::{Connection, Plan};
+use std::alloc::{AllocError, Global};
+
+/// Gives bodies up, and spends what they hold.
+pub(crate) fn discard_bodies<K: Component>(bodies: Vec<Body<K>>) {
+    let mut bodies = bodies;
+    while let Some(body) = bodies.pop() {
+        body.discard();
+    }
+    bodies.destroy_empty();
+}
+
+/// Gives channels up, and spends what they hold.
+pub(crate) fn discard_channels(channels: Vec<Channel>) {
+    let mut channels = channels;
+    while let Some(channel) = channels.pop() {
+        channel.discard();
+    }
+    channels.destroy_empty();
+}
+
+/// The connections at their start.
+fn channels_of(alloc: Global, connections: &[Connection]) -> Result<Vec<Channel>, AllocError>
+    requires { (c : ℕ) (x : NetConnection) → slice_get connections.now c ≡ Some x → length x.senders ≤ 65535 }
+    ensures { IfOk result (λ channels. StartsChannels connections.now channels.items) }
+{
+    let mut channels = Vec::with_capacity(alloc, connections.len())?;
+    for connection in connections {
+        let senders = connection.senders.len() as u32;
+        let Ok(channel) = Channel::new(alloc, connection.capacity, senders) else {
+            discard_channels(channels);
+            return Err(AllocError);
+        };
+        if let Err(refused) = channels.push(channel) {
+            refused.value.discard();
+            discard_channels(channels);
+            return Err(AllocError);
+        }
+    }
+    Ok(channels)
+}
+
+/// The processes at their start, each with its component.
+fn bodies_of<K: Component>(
+    alloc: Global,
+    plan: &Plan,
+    parts: Vec<K>,
+) -> Result<Vec<Body<K>>, AllocError>
+    requires well { StartsWell K.shape_of K.uses K.ready (plan_of plan.now) parts.items }
+    requires few { length plan.now.connections ≤ 512 }
+    ensures { IfOk result (λ bodies. StartsBodies (plan_of plan.now) parts.items bodies.items) }
+{
+    let mut parts = parts;
+    let mut bodies = Vec::with_capacity(alloc, plan.processes().len())?;
+    for process in 0..plan.processes().len() as u32 {
+        let part = parts.remove(0);
+        let Ok(body) = Body::begin(alloc, plan, process, part) else {
+            discard_bodies(bodies);
+            return Err(AllocError);
+        };
+        if let Err(refused) = bodies.push(body) {
+            refused.value.discard();
+            discard_bodies(bodies);
+            return Err(AllocError);
+        }
+    }
+    Ok(bodies)
+}
+
+impl<K: Component> Net<K> {
+    /// A network of a plan with these components, one for each process. All processes are idle and set, nothing was made or put, and each connection has
+    /// the places of its capacity.
+    pub fn start(alloc: Global, plan: &Plan, parts: Vec<K>) -> Result<Net<K>, AllocError>
+        requires well { StartsWell K.shape_of K.uses K.ready (plan_of plan.now) parts.items }
+        requires few { length plan.now.connections ≤ 512 }
+        ensures { IfOk result (λ net. StartsNet (plan_of plan.now) parts.items net) }
+    {
+        let channels = channels_of(alloc, plan.connections())?;
+        match bodies_of(alloc, plan, parts) {
+            Ok(bodies) => Ok(Net { bodies, channels }),
+            Err(stop) => {
+                discard_channels(channels);
+                Err(stop)
+            }
+        }
+    }
+}
