@@ -2,7 +2,7 @@
 ghost use Rattle.std.specs.Prelude.{◌≡◌, ◌<◌, ◌^◌, ◌≤◌, length, None, Some, slice_get, IfSome, sum_by};
 ghost use Rattle.flow_machine.specs.Nets.{level_of, TurnsNet};
 ghost use Rattle.flow_machine.specs.NetSteps.{IsSetIn, ThinksNet};
-ghost use Rattle.flow_machine.specs.Logs.{turns_made};
+ghost use Rattle.flow_machine.specs.Logs.{turns_made, HasLog};
 
 use self::begin::{discard_bodies, discard_channels};
 use crate::answers::{Thought, Turn};
@@ -41,7 +41,8 @@ impl<K: Component> Model for Net<K> {
 /// The turns of these processes together.
 fn count_turns<K: Component>(bodies: &[Body<K>]) -> u32
     requires { sum_by (λ b. b.process.turns) bodies.now ≤ 1073741824 }
-    ensures { result ≡ sum_by (λ b. b.process.turns) bodies.now }
+    ensures turns { result ≡ sum_by (λ b. b.process.turns) bodies.now }
+    ensures stamps { result ≡ sum_by (λ b. length b.stamps) bodies.now }
 {
     let mut count = 0;
     for body in bodies {
@@ -96,6 +97,8 @@ impl<K: Component> Net<K> {
     pub fn turns_made(&self) -> u32
         ensures turns { result ≡ turns_made self.now }
         ensures few { result ≤ 1073741824 }
+        ensures stamps { result ≡ sum_by (λ b. length b.stamps) self.now.bodies }
+        ensures log { HasLog self.now }
     {
         count_turns(&self.bodies)
     }
