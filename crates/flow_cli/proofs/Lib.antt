@@ -1,3 +1,5 @@
-pub mod Outputs
+pub mod Befores
+pub mod Chains
 pub mod Cuts
+pub mod Outputs
 pub mod ThinLines

@@ -1,5 +1,6 @@
 pub mod Many
 pub mod Parts
+pub mod Prepare
 pub mod Step
 pub mod Stops
 pub mod Thin

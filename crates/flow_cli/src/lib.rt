@@ -3,6 +3,7 @@
 
 mod many;
 mod parts;
+mod before;
 mod step;
 mod stop;
 mod thin;
@@ -10,6 +11,7 @@ mod words;
 
 pub use many::{Output, write_files};
 pub use parts::{FILE_LIMIT, read_parts};
+pub use before::{Job, prepare};
 pub use step::{FileStop, read_file, write_file};
 pub use stop::{Stop, read_stop, status, text};
 pub use thin::network;
