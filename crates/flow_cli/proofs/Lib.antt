@@ -1,3 +1,4 @@
+pub mod Afters
 pub mod Befores
 pub mod Chains
 pub mod Cuts

@@ -1,3 +1,4 @@
+pub mod After
 pub mod Many
 pub mod Parts
 pub mod Prepare
