@@ -14,9 +14,6 @@ use Rattle.flow_cli.specs.After.{AreOutputs, IsCutShort, WritesOutputs}
 use Rattle.flow_cli.specs.declared.stop.Stop.{Stop}
 use Rattle.flow_cli.specs.declared.stop.Stop.TheVariants.{Words, NotBuilt, ReadFault, WriteFault, TooLong, NoMemory}
 
-
-
-
 cut_at : (before after : Option Files) (outputs : List Filled) (at : ℕ) (name : Name) (bytes : List ℕ) → HoldsPart (after_some outputs at before) after name bytes
     → IfSome before (λ files. IsCutShort files after outputs name)
 cut_at None after outputs at name bytes part = tt
@@ -39,8 +36,7 @@ pub stopped-writing : (old new : Outside) (plan : Network) (outputs : List Fille
     → AreOutputs plan outputs → OnlyWrites old new → name ≡ output.0 → StopsAt old new outputs at output why → IsWriteStop why name stop
     → WritesOutputs {T = Unit {0}} old new plan (Err stop)
 stopped-writing old new plan outputs at output name shelf.Fault (WriteFault written) are only named s w =
-    let same : output.0 ≡ string_bytes written = sym named ∙ sym w in
-    (
+    let same : output.0 ≡ string_bytes written = sym named ∙ sym w in (
       only,
       s.1,
       s.2 ∙ ap Some same,

@@ -4,3 +4,4 @@ pub mod Chains
 pub mod Cuts
 pub mod Outputs
 pub mod ThinLines
+pub mod Tops

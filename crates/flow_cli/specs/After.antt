@@ -10,6 +10,7 @@ use Rattle.flow_text.specs.Edge.{Outside, Name, Files, Rose, replaced, after_wri
 use Rattle.flow_text.specs.WriteAll.{WroteAndFailed}
 use Rattle.flow_net.specs.declared.plan.Process.{Process}
 use Rattle.flow_net.specs.Network.{Network}
+use Rattle.flow_report.specs.Text.{Told, report_text}
 use Rattle.flow_report.specs.declared.report.Verdict.{Verdict}
 use Rattle.flow_report.specs.declared.report.Verdict.TheVariants as verdicts
 use Rattle.flow_cli.specs.Many.{Filled, replaced_all, after_some}
@@ -59,6 +60,10 @@ verdict_status verdicts.FinishedLeft = 1
 verdict_status verdicts.Deadlock = 4
 verdict_status verdicts.Failed = 5
 verdict_status verdicts.Running = 11
+
+-- The text is a report with this verdict.
+abbrev pub IsReport : Verdict → List ℕ → Type 0
+IsReport verdict text = (told : Told) × (told.verdict ≡ verdict) × (text ≡ report_text told)
 
 -- The text was printed, or a write to out failed and the status is 7.
 abbrev pub Prints : Outside → Outside → List ℕ → ℕ → ℕ → Type 0

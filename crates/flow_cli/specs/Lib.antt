@@ -5,4 +5,5 @@ pub mod Prepare
 pub mod Step
 pub mod Stops
 pub mod Thin
+pub mod Top
 pub mod Words

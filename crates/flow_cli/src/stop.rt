@@ -50,7 +50,11 @@ pub fn text(alloc: Global, stop: &Stop) -> Result<Vec<u8>, AllocError>
     ensures { IfOk result (λ text. text.items ≡ text_of stop.now) }
 {
     match stop {
-        Stop::Words => line(alloc, b"usage: flow [--workers N] [--journal FILE] [--check] [--replay FILE] [--make N] [NETFILE]", b""),
+        Stop::Words => line(
+            alloc,
+            b"usage: flow [--workers N] [--journal FILE] [--check] [--replay FILE] [--make N] [NETFILE]",
+            b"",
+        ),
         Stop::NotBuilt => line(alloc, b"network refused: not built", b""),
         Stop::ReadFault(name) => line(alloc, b"read fault: ", name.as_bytes()),
         Stop::WriteFault(name) => line(alloc, b"write fault: ", name.as_bytes()),
