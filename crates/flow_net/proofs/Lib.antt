@@ -9,3 +9,4 @@ pub mod Ends
 pub mod SoundJoins
 pub mod SoundBegins
 pub mod SoundGives
+pub mod Sizes
