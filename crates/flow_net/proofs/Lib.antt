@@ -10,3 +10,5 @@ pub mod SoundJoins
 pub mod SoundBegins
 pub mod SoundGives
 pub mod Sizes
+pub mod Placed
+pub mod Numbers

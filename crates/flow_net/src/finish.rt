@@ -42,8 +42,7 @@ fn count_of(port: &Port) -> u32
 /// The numbers of elements of all ports.
 pub fn counts(alloc: Global, ports: &[Port]) -> Result<Vec<u32>, AllocError>
     requires { (g : ℕ) (port : Port) → slice_get ports.now g ≡ Some port → length port.elements ≤ 512 }
-    ensures count { IfOk result (λ v. v.items ≡ map count_of ports.now) }
-    ensures few { IfOk result (λ v. (g n : ℕ) → slice_get v.items g ≡ Some n → n ≤ 512) }
+    ensures { IfOk result (λ v. v.items ≡ map count_of ports.now) }
 {
     let mut counts = Vec::new(alloc);
     for port in ports {
