@@ -12,3 +12,5 @@ pub mod SoundGives
 pub mod Sizes
 pub mod Placed
 pub mod Numbers
+pub mod PortNames
+pub mod Laying

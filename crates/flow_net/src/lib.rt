@@ -12,6 +12,7 @@ mod give;
 mod join;
 mod kind;
 mod lay;
+mod names;
 mod options;
 mod plan;
 mod thin;

@@ -5,7 +5,9 @@ use Rattle.flow_net.specs.declared.draft.Begun.{Begun}
 use Rattle.flow_net.specs.declared.draft.End.{End}
 use Rattle.flow_net.specs.Drafts.{Draft}
 use Rattle.flow_net.specs.Sound.{IsSound, IsPlaced, into_of, sender_at, text_at}
-use Rattle.flow_net.specs.Finishes.{count_of, capacity_of}
+use Rattle.flow_net.specs.Finishes.{count_of, capacity_of, process_of, table_of}
+use Rattle.flow_net.specs.Network.{LaidOut}
+use Rattle.flow_net.proofs.Laying.{LaidOut-plan}
 use Rattle.flow_net.proofs.Placed.{counts-few, capacity_of-small, into-placed, sender-placed, text-placed}
 use Rattle.flow_net.proofs.builder.PlanBuilder.finish.Goals as goal
 
@@ -43,3 +45,11 @@ pub connections-requires-clause-few : goal.connections-requires-clause-few
 connections-requires-clause-few c =
     let made = c.in_ok-counts.ensures in
     counts-few (length c.self.inside.processes.items) c.self.inside.ports.items c.as_slice-counts.result.now c.self.invariant.ports (c.as_slice-counts.ensures.value ∙ made ∙ ap (map count_of) c.as_slice-ports.ensures.value)
+
+pub invariant_of-result : goal.invariant_of-result
+invariant_of-result c =
+    let processes = c.in_ok-processes.ensures in
+    let tables = c.in_ok-tables.ensures in
+    let made : LaidOut c.in_ok-processes.field-0.items c.in_ok-tables.field-0.items =
+      rw (processes, tables) (subst (λ (xs : List Begun). LaidOut (map (process_of c.as_slice-ports.result.now) xs) (map (table_of c.as_slice-ports.result.now) xs)) (sym c.as_slice-processes.ensures.value) (LaidOut-plan c.as_slice-ports.result.now c.self.inside.processes.items)) in
+    made
