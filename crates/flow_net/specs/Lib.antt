@@ -1,5 +1,6 @@
 pub mod Calls
 pub mod Drafts
+pub mod Finishes
 pub mod Initials
 pub mod Network
 pub mod Options

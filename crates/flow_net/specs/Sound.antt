@@ -41,6 +41,11 @@ pub record IsPort (processes : ℕ) (port : Port) : Type 0 where
 abbrev pub into_of : List Link → ℕ → Option End
 into_of links c = option_map (λ (link : Link). link.into) (slice_get links c)
 
+-- An element that a port may have.
+pub record IsPlaced (ports : List Port) (end : End) : Type 0 where
+  pub port : end.port < length ports
+  pub element : end.element < 512
+
 -- The sender of a connection at a place.
 abbrev pub sender_at : List Link → ℕ → ℕ → Option End
 sender_at links c k = option_and_then (λ (link : Link). slice_get link.senders k) (slice_get links c)

@@ -1,18 +1,23 @@
 //! A network that is named call by call.
 ghost use Rattle.std.specs.Prelude.{◌≡◌, ◌≤◌, [], length};
-ghost use Rattle.flow_net.specs.Drafts.{Becomes};
+ghost use Rattle.flow_net.specs.Drafts.{Answers, Becomes};
 ghost use Rattle.flow_net.specs.Calls.{after_process, after_connect};
 ghost use Rattle.flow_net.specs.Initials.{AfterInitial};
+ghost use Rattle.flow_net.specs.Finishes.{finished};
 ghost use Rattle.flow_net.specs.Sound.{IsTable};
 
 use crate::begin;
+use crate::check;
 use crate::draft::{Begun, Link, Port};
 use crate::fault::{PlanFault, PlanStop};
 use crate::find;
+use crate::finish;
 use crate::give;
 use crate::join;
 use crate::kind::{KindSpec, PortRef};
+use crate::lay;
 use crate::options;
+use crate::plan::Plan;
 use flow_items::Text;
 use std::alloc::Global;
 use std::marker::Model;
@@ -124,5 +129,25 @@ impl PlanBuilder {
             text,
         )?;
         Ok(())
+    }
+
+    /// The plan that the calls described: the processes in their order, the connections in the order in
+    /// which their inputs were first connected, and the senders in the order of the calls.
+    pub fn finish(self) -> Result<Plan, PlanStop>
+        ensures { Answers (finished self) result }
+    {
+        let alloc = self.alloc;
+        let processes = self.processes.as_slice();
+        let ports = self.ports.as_slice();
+        let links = self.links.as_slice();
+        check::check_ports(alloc, processes, ports)?;
+        check::check_sum(links)?;
+        let counts = finish::counts(alloc, ports)?;
+        let counts = counts.as_slice();
+        Ok(Plan {
+            processes: lay::processes(alloc, ports, counts, processes)?,
+            connections: finish::connections(alloc, ports, counts, links)?,
+            tables: lay::tables(alloc, ports, processes)?,
+        })
     }
 }
