@@ -14,3 +14,4 @@ pub mod Placed
 pub mod Numbers
 pub mod PortNames
 pub mod Laying
+pub mod KindTables

@@ -1,7 +1,6 @@
 -- The elements of a draft stand in its ports, which have few.
 use Rattle.std.proofs.Common.{◌≡◌, ℕ, ◌+◌, ◌<◌, ◌≤◌, List, [], ◌∷◌, Option, Some, None, Bool, true, false, map, refl, ap, sym, ◌∙◌, subst, slice_get, length, arith}
 use Rattle.std.specs.Prelude.{◌==◌, if◌then◌else◌, unwrap_or}
-use Rattle.std.specs.Option.{option_map, option_and_then}
 use Rattle.std.proofs.lemmas.Bool.Decides.{nat_tests}
 use Rattle.std.proofs.lemmas.Option.{slice_get_within, slice_get-map}
 use Rattle.flow_net.specs.declared.draft.End.{End}
@@ -13,7 +12,7 @@ use Rattle.flow_net.specs.Network.{is_stream}
 use Rattle.flow_net.specs.Drafts.{Draft, binding_at, is_free}
 use Rattle.flow_net.specs.Calls.{room_of}
 use Rattle.flow_net.specs.Sound.{IsSound, IsPort, IsLink, IsPlaced, into_of, sender_at, text_at}
-use Rattle.flow_net.specs.Finishes.{size_of, elements_in, count_of, capacity_of}
+use Rattle.flow_net.specs.Finishes.{size_of, count_of, capacity_of}
 use Rattle.flow_net.proofs.Steps.{map_some, then_some}
 
 pub size_of-within : (xs : List Binding) → size_of xs ≤ length xs

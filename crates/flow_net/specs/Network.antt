@@ -1,11 +1,10 @@
 -- What a plan is seen as.
-use Rattle.std.specs.Prelude.{◌≡◌, ℕ, ◌+◌, ◌<◌, ◌≤◌, ◌==◌, if◌then◌else◌, Bool, true, false, List, [], ◌∷◌, ◌++◌, map, filter, length, Option, Some, None, slice_get, codes}
+use Rattle.std.specs.Prelude.{◌≡◌, ℕ, ◌<◌, if◌then◌else◌, Bool, true, false, List, [], ◌∷◌, ◌++◌, map, length, Option, Some, None, slice_get, codes}
 use Rattle.std.specs.List.{flat_map, range_with_len}
 use Rattle.std.specs.Option.{option_and_then}
 use Rattle.std.specs.Fmt.{decimal}
 use Rattle.flow_net.specs.declared.kind.PortClass.{PortClass}
 use Rattle.flow_net.specs.declared.kind.PortClass.TheVariants.{Stream, Number, Fields, File}
-use Rattle.flow_net.specs.declared.kind.PortSpec.{PortSpec}
 use Rattle.flow_net.specs.declared.kind.PortRef.{PortRef}
 use Rattle.flow_net.specs.declared.plan.Process.{Process}
 use Rattle.flow_net.specs.declared.plan.Connection.{Connection}

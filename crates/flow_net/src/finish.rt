@@ -57,7 +57,11 @@ fn counted(port: &Port, count: u32, process: u32, input: bool) -> u32
     ensures counted { result ≡ counted process input port.now }
     ensures few { result ≤ count }
 {
-    if is_side(port, process, input) { count } else { 0 }
+    if is_side(port, process, input) {
+        count
+    } else {
+        0
+    }
 }
 
 /// The elements that the first ports have on one side of a process.

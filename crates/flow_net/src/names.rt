@@ -14,13 +14,7 @@ fn numbered(row: &PortRow) -> u32
     ensures { result ≡ length (elements_of row.now) }
 {
     match row.spec.class {
-        PortClass::Stream => {
-            if row.spec.array {
-                row.elements
-            } else {
-                1
-            }
-        }
+        PortClass::Stream => { if row.spec.array { row.elements } else { 1 } }
         _ => 0,
     }
 }

@@ -92,12 +92,7 @@ impl Plan {
     }
 
     /// Spells an input as a report does: the port's name, with the element of an array in brackets.
-    pub fn input_name(
-        &self,
-        alloc: Global,
-        process: u32,
-        input: u32,
-    ) -> Result<Vec<u8>, AllocError>
+    pub fn input_name(&self, alloc: Global, process: u32, input: u32) -> Result<Vec<u8>, AllocError>
         requires { HasInput self.now process input }
         ensures { IfOk result (λ name. option_map spelled (input_port self.now process input) ≡ Some name.items) }
     {

@@ -1,5 +1,4 @@
-use Rattle.std.proofs.Common.{◌≡◌, ◌≤◌, ◌∙◌, Some, ap, sym, arith, get_or, take, slice_get, refl}
-use Rattle.std.specs.List.{sum_by}
+use Rattle.std.proofs.Common.{◌≡◌, ◌≤◌, Some, ap, arith, slice_get, refl}
 use Rattle.std.proofs.lemmas.List.Sums.{sum_by_more}
 use Rattle.std.proofs.lemmas.Option.{slice_get_read}
 use Rattle.flow_net.specs.Finishes.{capacity_of}

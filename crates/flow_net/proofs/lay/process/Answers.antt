@@ -1,4 +1,4 @@
-use Rattle.std.proofs.Common.{◌≡◌, ◌∙◌, Some, ap, sym, List, ℕ, slice_get}
+use Rattle.std.proofs.Common.{◌∙◌, ap, sym, List, ℕ, slice_get}
 use Rattle.flow_net.specs.declared.draft.End.{End}
 use Rattle.flow_net.proofs.lay.process.Goals as goal
 

@@ -1,4 +1,4 @@
-use Rattle.std.proofs.Common.{◌≡◌, ◌<◌, ◌≤◌, ◌+◌, ◌-◌, ◌∙◌, sym, ap, subst, slice_get, get_or, length, drop, arith}
+use Rattle.std.proofs.Common.{◌≡◌, ◌<◌, ◌+◌, ◌-◌, ◌∙◌, sym, ap, slice_get, get_or, length, arith}
 use Rattle.flow_net.specs.declared.plan.PortRow.{PortRow}
 use Rattle.flow_net.specs.Network.{elements_of, ports_of}
 use Rattle.flow_net.proofs.PortNames.{ports_of-here, ports_of-past, length-ports_of-drop}
@@ -12,7 +12,7 @@ returns-then-left-count c =
     let same = ap (λ (r : PortRow). length (elements_of r)) c.row-item.is in
     let here : c.loop-row.left < length (elements_of (get_or rows i row)) = omega (arith, same, c.numbered-count.ensures, c.if-left-count.true) in
     let found : slice_get (ports_of rows) c.args.number ≡ slice_get (elements_of row) c.loop-row.left =
-      sym c.loop-row.invariant.0 ∙ ports_of-here rows i c.loop-row.left row c.loop-row-test.true here ∙ ap (λ (r : PortRow). slice_get (elements_of r) c.loop-row.left) (sym c.row-item.is) in
+    sym c.loop-row.invariant.0 ∙ ports_of-here rows i c.loop-row.left row c.loop-row-test.true here ∙ ap (λ (r : PortRow). slice_get (elements_of r) c.loop-row.left) (sym c.row-item.is) in
     rw found c.element_name.ensures
 
 pub loop-row-preserved : goal.loop-row-preserved

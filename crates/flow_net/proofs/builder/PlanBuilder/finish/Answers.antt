@@ -1,11 +1,9 @@
-use Rattle.std.proofs.Common.{◌≡◌, ◌≤◌, ◌∙◌, Some, ap, sym, subst, ℕ, List, length, slice_get, map}
+use Rattle.std.proofs.Common.{◌∙◌, ap, sym, subst, List, length, slice_get, map}
 use Rattle.flow_net.specs.declared.draft.Port.{Port}
 use Rattle.flow_net.specs.declared.draft.Link.{Link}
 use Rattle.flow_net.specs.declared.draft.Begun.{Begun}
-use Rattle.flow_net.specs.declared.draft.End.{End}
-use Rattle.flow_net.specs.Drafts.{Draft}
-use Rattle.flow_net.specs.Sound.{IsSound, IsPlaced, into_of, sender_at, text_at}
-use Rattle.flow_net.specs.Finishes.{count_of, capacity_of, process_of, table_of}
+use Rattle.flow_net.specs.Sound.{IsPlaced, into_of, sender_at, text_at}
+use Rattle.flow_net.specs.Finishes.{count_of, process_of, table_of}
 use Rattle.flow_net.specs.Network.{LaidOut}
 use Rattle.flow_net.proofs.Laying.{LaidOut-plan}
 use Rattle.flow_net.proofs.Placed.{counts-few, capacity_of-small, into-placed, sender-placed, text-placed}
@@ -18,23 +16,23 @@ check_sum-requires-clause-small c =
 pub processes-requires-clause-there : goal.processes-requires-clause-there
 processes-requires-clause-there c =
     λ p k end text at.
-      subst (λ (ports : List Port). IsPlaced ports end) (sym c.as_slice-ports.ensures.value)
-        (text-placed (record { kinds = c.self.inside.kinds.items; processes = c.self.inside.processes.items; ports = c.self.inside.ports.items; links = c.self.inside.links.items }) c.self.invariant p k end text
-          (ap (λ (xs : List Begun). text_at xs p k) (sym c.as_slice-processes.ensures.value) ∙ at))
+    subst (λ (ports : List Port). IsPlaced ports end) (sym c.as_slice-ports.ensures.value)
+    (text-placed (record { kinds = c.self.inside.kinds.items; processes = c.self.inside.processes.items; ports = c.self.inside.ports.items; links = c.self.inside.links.items }) c.self.invariant p k end text
+    (ap (λ (xs : List Begun). text_at xs p k) (sym c.as_slice-processes.ensures.value) ∙ at))
 
 pub connections-requires-clause-into : goal.connections-requires-clause-into
 connections-requires-clause-into c =
     λ number end at.
-      subst (λ (ports : List Port). IsPlaced ports end) (sym c.as_slice-ports.ensures.value)
-        (into-placed (record { kinds = c.self.inside.kinds.items; processes = c.self.inside.processes.items; ports = c.self.inside.ports.items; links = c.self.inside.links.items }) c.self.invariant number end
-          (ap (λ (xs : List Link). into_of xs number) (sym c.as_slice-links.ensures.value) ∙ at))
+    subst (λ (ports : List Port). IsPlaced ports end) (sym c.as_slice-ports.ensures.value)
+    (into-placed (record { kinds = c.self.inside.kinds.items; processes = c.self.inside.processes.items; ports = c.self.inside.ports.items; links = c.self.inside.links.items }) c.self.invariant number end
+    (ap (λ (xs : List Link). into_of xs number) (sym c.as_slice-links.ensures.value) ∙ at))
 
 pub connections-requires-clause-senders : goal.connections-requires-clause-senders
 connections-requires-clause-senders c =
     λ number k end at.
-      subst (λ (ports : List Port). IsPlaced ports end) (sym c.as_slice-ports.ensures.value)
-        (sender-placed (record { kinds = c.self.inside.kinds.items; processes = c.self.inside.processes.items; ports = c.self.inside.ports.items; links = c.self.inside.links.items }) c.self.invariant number k end
-          (ap (λ (xs : List Link). sender_at xs number k) (sym c.as_slice-links.ensures.value) ∙ at))
+    subst (λ (ports : List Port). IsPlaced ports end) (sym c.as_slice-ports.ensures.value)
+    (sender-placed (record { kinds = c.self.inside.kinds.items; processes = c.self.inside.processes.items; ports = c.self.inside.ports.items; links = c.self.inside.links.items }) c.self.invariant number k end
+    (ap (λ (xs : List Link). sender_at xs number k) (sym c.as_slice-links.ensures.value) ∙ at))
 
 pub processes-requires-clause-few : goal.processes-requires-clause-few
 processes-requires-clause-few c =
@@ -51,5 +49,5 @@ invariant_of-result c =
     let processes = c.in_ok-processes.ensures in
     let tables = c.in_ok-tables.ensures in
     let made : LaidOut c.in_ok-processes.field-0.items c.in_ok-tables.field-0.items =
-      rw (processes, tables) (subst (λ (xs : List Begun). LaidOut (map (process_of c.as_slice-ports.result.now) xs) (map (table_of c.as_slice-ports.result.now) xs)) (sym c.as_slice-processes.ensures.value) (LaidOut-plan c.as_slice-ports.result.now c.self.inside.processes.items)) in
+    rw (processes, tables) (subst (λ (xs : List Begun). LaidOut (map (process_of c.as_slice-ports.result.now) xs) (map (table_of c.as_slice-ports.result.now) xs)) (sym c.as_slice-processes.ensures.value) (LaidOut-plan c.as_slice-ports.result.now c.self.inside.processes.items)) in
     made
