@@ -1,5 +1,5 @@
 -- What a plan says of a process of a standard kind.
-use Rattle.std.specs.Prelude.{◌≡◌, ◌≢◌, ℕ, ◌<◌, List, [], ◌∷◌, Some, slice_get, IsTrue}
+use Rattle.std.specs.Prelude.{◌≡◌, ℕ, ◌<◌, List, [], ◌∷◌, Some, slice_get, IsTrue}
 use Rattle.std.specs.Str.Lines.{lines}
 use Rattle.flow_net.specs.declared.plan.Process.{Process}
 use Rattle.flow_net.specs.Network.{Network}

@@ -1,10 +1,10 @@
 -- The standard components keep the laws of components.
-use Rattle.std.proofs.Common.{◌≡◌, ℕ, List, refl, sym, ap, subst, ◌∙◌}
+use Rattle.std.proofs.Common.{ℕ, List, refl, sym, ap, subst}
 use Rattle.flow_packet.specs.Held.{Held}
 use Rattle.flow_component.specs.declared.Answer.{Answer}
-use Rattle.flow_component.specs.Laws.{Outcome, Obeys, StaysReady, IsSteady, part_after}
+use Rattle.flow_component.specs.Laws.{Outcome, Obeys, StaysReady, IsSteady}
 use Rattle.flow_component.specs.Ports.{none_to_one, one_to_none, uses_none, uses_first}
-use Rattle.flow_component.specs.Outcomes.{IsAtHand, outcome_as}
+use Rattle.flow_component.specs.Outcomes.{IsAtHand}
 use Rattle.flow_component.proofs.Lifting.{Obeys-as, StaysReady-as, part_after-as}
 use Rattle.flow_parts.specs.ReadLines.{reads, ReadLinesReady}
 use Rattle.flow_parts.specs.ReadLinesLaws.{read_lines_obeys, read_lines_stays_ready}

@@ -57,12 +57,7 @@ pub fn file_of(plan: &Plan, process: u32) -> Option<FileUse<'_>>
 
 /// The component of a process, in its first state. A ReadLines gets the bytes of its file; for every
 /// other kind they are let go.
-pub fn make(
-    alloc: Global,
-    plan: &Plan,
-    process: u32,
-    file: Vec<u8>,
-) -> Result<Std, AllocError>
+pub fn make(alloc: Global, plan: &Plan, process: u32, file: Vec<u8>) -> Result<Std, AllocError>
     requires { IsStandard plan.now process }
     ensures made { IfOk result (λ part. IfSome (slice_get plan.now.processes process) (λ p. IsMade p file.items part)) }
     ensures fits { IfOk result (λ part. IfSome (slice_get plan.now.processes process) (λ p. Fits p part)) }

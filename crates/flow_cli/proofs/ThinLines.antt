@@ -42,7 +42,7 @@ both true true e = (refl, refl)
 both true false e = cc
 both false b e = cc
 
-neither : (a b : Bool) → (a || b) ≡ false → (a ≡ false) × (b ≡ false)
+pub neither : (a b : Bool) → (a || b) ≡ false → (a ≡ false) × (b ≡ false)
 neither false false e = (refl, refl)
 neither false true e = cc
 neither true b e = cc

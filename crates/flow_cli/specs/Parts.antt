@@ -38,6 +38,11 @@ pub record IsPart (told : Option Files) (plan : Network) (p : ℕ) (part : Std) 
   pub fits : Fits process part
   pub input : (name : Name) → Reads process name → IfSome told (λ files. files name ≡ Some bytes)
 
+-- The parts are those of the plan's processes, in order.
+pub record AreParts (told : Option Files) (plan : Network) (parts : List Std) : Type 0 where
+  pub count : length parts ≡ length plan.processes
+  pub each : (p : ℕ) (part : Std) → slice_get parts p ≡ Some part → IsPart told plan p part
+
 -- A stop at a file that the plan reads.
 abbrev pub StopsReading : Outside → Outside → Network → Stop → ℕ → Type 0
 StopsReading old new plan (ReadFault read) limit = OnlyReads old new × Rose old.read_faults new.read_faults × (new.last_read_fault ≡ Some (string_bytes read))
@@ -55,6 +60,5 @@ ReadsPart old new plan p (Err stop) limit = StopsReading old new plan stop limit
 
 -- What making all parts does to the outside.
 abbrev pub ReadsParts : Outside → Outside → Network → Result (Vec Std Global) Stop → ℕ → Type 0
-ReadsParts old new plan (Ok parts) limit = OnlyReads old new × (new.read_faults ≡ old.read_faults) × (length parts.items ≡ length plan.processes)
-    × ((p : ℕ) (part : Std) → slice_get parts.items p ≡ Some part → IsPart old.files plan p part)
+ReadsParts old new plan (Ok parts) limit = OnlyReads old new × (new.read_faults ≡ old.read_faults) × AreParts old.files plan parts.items
 ReadsParts old new plan (Err stop) limit = StopsReading old new plan stop limit

@@ -2,6 +2,8 @@
 use Rattle.std.specs.Prelude.{◌≡◌, ℕ, List, [], ◌∷◌, ◌++◌, String, string_bytes, codes, ⊤}
 use Rattle.std.specs.declared.alloc.Global.{Global}
 use Rattle.flow_text.specs.Edge.{Name}
+use Rattle.flow_text.specs.declared.edge.ShelfStop.{ShelfStop}
+use Rattle.flow_text.specs.declared.edge.ShelfStop.TheVariants as shelf
 use Rattle.flow_cli.specs.declared.step.FileStop.{FileStop}
 use Rattle.flow_cli.specs.declared.step.FileStop.TheVariants as file
 use Rattle.flow_cli.specs.declared.stop.Stop.{Stop}
@@ -31,3 +33,9 @@ IsReadStop file.Fault name (ReadFault read) = string_bytes read ≡ name
 IsReadStop file.TooLong name (TooLong read) = string_bytes read ≡ name
 IsReadStop stop name NoMemory = ⊤
 IsReadStop stop name other = ⊥
+
+-- The stop of a write to this name. Want of memory is free, since the stop keeps the name.
+abbrev pub IsWriteStop : ShelfStop → Name → Stop → Type 0
+IsWriteStop shelf.Fault name (WriteFault written) = string_bytes written ≡ name
+IsWriteStop stop name NoMemory = ⊤
+IsWriteStop stop name other = ⊥

@@ -4,6 +4,8 @@ use Rattle.std.specs.List.{list_all, list_any, before_first}
 use Rattle.std.specs.Str.{IsUtf8, bytes_eq}
 use Rattle.std.specs.Str.Lines.{lines}
 use Rattle.std.specs.Char.{is_ascii_alphabetic, is_ascii_alphanumeric}
+use Rattle.flow_net.specs.Network.{Network}
+use Rattle.flow_net.specs.Thin.{chain_of}
 use Rattle.flow_cli.specs.declared.thin.Thin.{Thin}
 
 -- `'FILE' -> FILE NAME`, and what stands behind that.
@@ -66,6 +68,12 @@ pub record IsNamed (t : Thin) : Type 0 where
 pub record IsThin (net : List ℕ) (t : Thin) : Type 0 where
   pub lines_are : lines net ≡ thin_lines t
   pub named : IsNamed t
+
+-- The file is thin, and this is the plan of the chain that it names.
+pub record IsPlanOf (net : List ℕ) (plan : Network) : Type 0 where
+  pub names : Thin
+  pub thin : IsThin net names
+  pub chain : plan ≡ chain_of names.reader names.from names.pass names.writer names.to
 
 -- What five lines name, if they are such a file's: what stands before the first space, or between the quotes.
 abbrev pub names_of : List ℕ → List ℕ → List ℕ → List ℕ → Thin

@@ -31,12 +31,7 @@ pub fn read_parts<F: Shelf>(alloc: Global, shelf: &mut F, plan: &Plan) -> Result
 }
 
 // The part of one process.
-fn read_part<F: Shelf>(
-    alloc: Global,
-    shelf: &mut F,
-    plan: &Plan,
-    process: u32,
-) -> Result<Std, Stop>
+fn read_part<F: Shelf>(alloc: Global, shelf: &mut F, plan: &Plan, process: u32) -> Result<Std, Stop>
     requires runnable { IsRunnable plan.now }
     requires there { process < length plan.now.processes }
     ensures { ReadsPart (F.outside shelf.old) (F.outside shelf.new) plan.now process result FILE_LIMIT }

@@ -1,9 +1,10 @@
 //! Why a call stops before its report, and what it prints then.
 ghost use Rattle.std.specs.Prelude.{◌≡◌, ◌++◌, ◌∷◌, [], IfOk};
-ghost use Rattle.flow_cli.specs.Stops.{status_of, text_of, IsReadStop};
+ghost use Rattle.flow_cli.specs.Stops.{status_of, text_of, IsReadStop, IsWriteStop};
 ghost use Rattle.flow_cli.specs.declared.stop.Stop.TheVariants.{NoMemory};
 
 use crate::step::FileStop;
+use flow_text::ShelfStop;
 use std::alloc::{AllocError, Global};
 
 /// Why a call stops. The statuses and texts are this project's own.
@@ -49,7 +50,11 @@ pub fn text(alloc: Global, stop: &Stop) -> Result<Vec<u8>, AllocError>
     ensures { IfOk result (λ text. text.items ≡ text_of stop.now) }
 {
     match stop {
-        Stop::Words => line(alloc, b"usage: flow [--workers N] [--journal FILE] [--check] [--replay FILE] [--make N] [NETFILE]", b""),
+        Stop::Words => line(
+            alloc,
+            b"usage: flow [--workers N] [--journal FILE] [--check] [--replay FILE] [--make N] [NETFILE]",
+            b"",
+        ),
         Stop::NotBuilt => line(alloc, b"network refused: not built", b""),
         Stop::ReadFault(name) => line(alloc, b"read fault: ", name.as_bytes()),
         Stop::WriteFault(name) => line(alloc, b"write fault: ", name.as_bytes()),
@@ -78,5 +83,18 @@ pub fn read_stop(alloc: Global, stop: FileStop, name: &str) -> Stop
         FileStop::Fault => Stop::ReadFault(name),
         FileStop::TooLong => Stop::TooLong(name),
         FileStop::NoMemory => Stop::NoMemory,
+    }
+}
+
+/// The stop of a file that wasn't written.
+pub fn write_stop(alloc: Global, stop: ShelfStop, name: &str) -> Stop
+    ensures { IsWriteStop stop name.now result }
+{
+    match stop {
+        ShelfStop::NoMemory => Stop::NoMemory,
+        ShelfStop::Fault => match String::from_str(alloc, name) {
+            Ok(name) => Stop::WriteFault(name),
+            Err(_) => Stop::NoMemory,
+        },
     }
 }

@@ -1,9 +1,9 @@
 //! The network files that run today: a reader of lines, a process that passes them on, and a writer of lines.
-ghost use Rattle.std.specs.Prelude.{◌≡◌, ◌==◌, ◌≤◌, ◌&&◌, ◌||◌, ◌∷◌, [], ◌↔◌, true, IfOk, MatchOption, length, nat_le, drop};
+ghost use Rattle.std.specs.Prelude.{◌≡◌, ◌==◌, ◌≤◌, ◌&&◌, ◌||◌, ◌∷◌, [], ◌↔◌, true, IfOk, IfSome, MatchOption, length, nat_le, drop};
 ghost use Rattle.std.specs.List.{before_first, position_or_len, list_all, list_any};
 ghost use Rattle.std.specs.Str.{bytes_eq, IsUtf8};
-ghost use Rattle.flow_cli.specs.Thin.{IsThin, IsNamed, AreNames, IsPlainFile, is_name, is_reserved, begins_with_letter, is_word_byte, file_line, link_line, thin_lines, names_of};
-ghost use Rattle.flow_net.specs.Thin.{chain_of};
+ghost use Rattle.flow_cli.specs.Thin.{IsThin, IsPlanOf, IsNamed, AreNames, IsPlainFile, is_name, is_reserved, begins_with_letter, is_word_byte, file_line, link_line, thin_lines, names_of};
+ghost use Rattle.flow_cli.specs.Parts.{IsRunnable};
 
 use flow_items::Text;
 use flow_net::Plan;
@@ -23,8 +23,8 @@ pub struct Thin {
 /// The plan of a network file, or nothing exactly where the file isn't thin. Which files those are is this
 /// project's own, and the rest of the notation comes later.
 pub fn network(alloc: Global, net: &[u8]) -> Result<Option<Plan>, AllocError>
-    ensures { IfOk result (λ plan. MatchOption plan ((t : _) → IsThin net.now t → ⊥)
-        (λ p. (t : _) × IsThin net.now t × (p ≡ chain_of t.reader t.from t.pass t.writer t.to))) }
+    ensures plan { IfOk result (λ plan. MatchOption plan ((t : _) → IsThin net.now t → ⊥) (IsPlanOf net.now)) }
+    ensures runnable { IfOk result (λ plan. IfSome plan IsRunnable) }
 {
     match named_in(alloc, net)? {
         None => Ok(None),

@@ -38,13 +38,12 @@ use Rattle.flow_machine.specs.declared.answers.Turn.{Turn as Turning}
 use Rattle.flow_machine.specs.declared.answers.Turn.TheVariants as turns
 use Rattle.flow_machine.specs.declared.answers.Over.TheVariants as overs
 use Rattle.flow_machine.specs.Logs.{Logged, Logs, stamps_of, levels_of, turns_made}
-use Rattle.flow_machine.specs.FitNets.{IsLogged, IsWiredBody, FitNet}
+use Rattle.flow_machine.specs.FitNets.{IsWiredBody, FitNet}
 use Rattle.flow_machine.specs.NetSteps.{GoesByTurn, ThinksNet}
 use Rattle.flow_machine.proofs.Standings.{get-map, process-in, channel-in, happens-in}
 use Rattle.flow_machine.proofs.LogLemmas.{stamps_of-append, levels_of-append, stamps-own, stamps-other, levels-own, levels-other}
 use Rattle.std.proofs.lemmas.Option.{slice_get_within}
 use Rattle.flow_machine.proofs.NetTurns.{receives, set-same}
-use Rattle.flow_machine.proofs.Lists.{last-or}
 
 -- the state after a turn
 abbrev pub state_after : {K : Type 0} → State K → ℕ → Process K → Event → State K
@@ -128,27 +127,6 @@ wired-same {K} channels b b' inputs outputs wired = record {
   outputs = λ o c is. wired.outputs o c (ap (λ outs. output_in outs o) (sym outputs) ∙ is);
 }
 
--- a turn sees one number at most
-one-seen : (e : Event) → length (seen_by e) ≤ 1
-one-seen (Learns port level) = omega arith
-one-seen Starts = omega arith
-one-seen Finishes = omega arith
-one-seen (Gets port c packet) = omega arith
-one-seen (Takes_text port text) = omega arith
-one-seen (Hears_end port) = omega arith
-one-seen (Sends port c packet) = omega arith
-one-seen Sleeps = omega arith
-one-seen (Closes output c) = omega arith
-
-abbrev AllLogged : ℕ → List Logged → Type 0
-AllLogged m log = (n : ℕ) (turn : Logged) → slice_get log n ≡ Some turn → IsLogged m turn
-
-logged-more : (m : ℕ) (log : List Logged) (one : Logged) → AllLogged m log → IsLogged m one → AllLogged m (log ++ one ∷ [])
-logged-more m log one all last n turn is = elim (last-or log one n turn is) [
-  | inl old ↦ all n turn old
-  | inr new ↦ subst (IsLogged m) new.1 last
-]
-
 module _ {K : Type 0} (shape_of : K → Shape) (uses : K → ℕ → Bool) (ready : K → Held → Answer → Type 0) where
   -- a state that a net stood for goes on by the turn
   pub goes-by : (old : NetValue K) (p n : ℕ) (e : Event) (stamp : ℕ) (new : NetValue K) → NetTurn old p n e stamp new → GoesByTurn shape_of uses ready old p e new
@@ -182,8 +160,6 @@ module _ {K : Type 0} (shape_of : K → Shape) (uses : K → ℕ → Bool) (read
               (fit.logs q x is).1 ∙ sym (append-nil (levels_of q 0 fit.log)) ∙ ap (λ (xs : List (ℕ × ℕ)). levels_of q 0 fit.log ++ xs) (sym (levels-other q p (0 + length fit.log) (seen_by e) other)) ∙ sym (levels_of-append q 0 fit.log (one ∷ [])),
             )));
         total = omega (arith, len, fit.total, turns, ap (λ (bs : List (BodyValue K)). sum_by (λ (x : BodyValue K). x.process.turns) bs) turn.bodies, turns-set old.bodies p b turn.after turn.there);
-        each = subst (λ (m : ℕ). AllLogged m (fit.log ++ one ∷ [])) (sym (ap length turn.bodies ∙ length-set old.bodies p turn.after))
-            (logged-more (length old.bodies) fit.log one fit.each (record { in_range = slice_get_within old.bodies p b turn.there; one = one-seen e }));
         few = omega (arith, fit.few, ap length turn.bodies, length-set old.bodies p turn.after);
         whole = subst (λ (bs : List (BodyValue K)). (q : ℕ) (x : BodyValue K) → slice_get bs q ≡ Some x → x.leaving ≡ None) (sym turn.bodies) (by-place old.bodies p b turn.after (λ q x. x.leaving ≡ None) turn.there turn.turn.leaving (λ q x other is. fit.whole q x is));
         wired = subst (λ (m : ℕ). (q : ℕ) (x : BodyValue K) → slice_get new.bodies q ≡ Some x → IsWiredBody m x) (sym channels_len)
@@ -360,7 +336,6 @@ module _ {K : Type 0} (shape_of : K → Shape) (uses : K → ℕ → Bool) (read
             (by-place old.bodies p b think.after (λ q x. (x.stamps ≡ stamps_of q 0 fit.log) × (x.levels ≡ levels_of q 0 fit.log)) think.there
             (think.keeps.stamps ∙ (fit.logs p b think.there).0, think.keeps.levels ∙ (fit.logs p b think.there).1) (λ q x other is. fit.logs q x is));
         total = omega (arith, fit.total, same.0, ap (λ (bs : List (BodyValue K)). sum_by (λ (x : BodyValue K). x.process.turns) bs) think.bodies, turns-set old.bodies p b think.after think.there);
-        each = subst (λ (m : ℕ). AllLogged m fit.log) (sym (ap length think.bodies ∙ length-set old.bodies p think.after)) fit.each;
         few = omega (arith, fit.few, ap length think.bodies, length-set old.bodies p think.after);
         whole = subst (λ (bs : List (BodyValue K)). (q : ℕ) (x : BodyValue K) → slice_get bs q ≡ Some x → x.leaving ≡ None) (sym think.bodies) (by-place old.bodies p b think.after (λ q x. x.leaving ≡ None) think.there (think.keeps.leaving ∙ fit.whole p b think.there) (λ q x other is. fit.whole q x is));
         wired = subst (λ (m : ℕ). (q : ℕ) (x : BodyValue K) → slice_get new.bodies q ≡ Some x → IsWiredBody m x) (ap length (sym think.channels))

@@ -205,7 +205,6 @@ module _ {K : Type 0} (shape_of : K → Shape) (uses : K → ℕ → Bool) (read
         log = [];
         logs = λ p b is. (let s = (each p b is).starts in (s.stamps, s.levels));
         total = sym none;
-        each = λ n turn is. absurd (nothing-there n turn is);
         few = omega (arith, start.count, well.wired.few);
         whole = λ p b is. (each p b is).starts.leaving;
         wired = λ p b is. (let s = each p b is in wired-start network p s.spec s.part b s.starts.process);

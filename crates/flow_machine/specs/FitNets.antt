@@ -14,18 +14,6 @@ pub record IsWiredBody {K : Type 0} (channels : ℕ) (b : BodyValue K) : Type 0 
   pub inputs : (i c : ℕ) → slice_get b.process.inputs i ≡ Some (From c) → c < channels
   pub outputs : (o c : ℕ) → output_at b.process o ≡ Some c → c < channels
 
--- A turn in a net with so many processes: it is one of theirs, and it saw one number at most.
-pub record IsLogged (processes : ℕ) (turn : Logged) : Type 0 where
-  pub in_range : turn.process < processes
-  pub one : length turn.seen ≤ 1
-
--- The bodies of a net remember all turns that were made, in the order of their stamps, from 0 on.
-pub record Remembered {K : Type 0} (net : NetValue K) : Type 0 where
-  pub log : List Logged
-  pub logs : Logs log net
-  pub total : length log ≡ turns_made net
-  pub each : (n : ℕ) (turn : Logged) → slice_get log n ≡ Some turn → IsLogged (length net.bodies) turn
-
 -- A net stands for some state of the machine in which all is well, and its bodies remember all turns that were made.
 pub record FitNet {K : Type 0} (shape_of : K → Shape) (uses : K → ℕ → Bool) (ready : K → Held → Answer → Type 0) (net : NetValue K) : Type 0 where
   pub state : State K
@@ -34,7 +22,6 @@ pub record FitNet {K : Type 0} (shape_of : K → Shape) (uses : K → ℕ → Bo
   pub log : List Logged
   pub logs : Logs log net
   pub total : length log ≡ turns_made net
-  pub each : (n : ℕ) (turn : Logged) → slice_get log n ≡ Some turn → IsLogged (length net.bodies) turn
   pub few : length net.bodies ≤ 128
   pub whole : (p : ℕ) (b : BodyValue K) → slice_get net.bodies p ≡ Some b → b.leaving ≡ None
   pub wired : (p : ℕ) (b : BodyValue K) → slice_get net.bodies p ≡ Some b → IsWiredBody (length net.channels) b

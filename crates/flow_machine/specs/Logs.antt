@@ -1,5 +1,5 @@
 -- The turns of a net in the order of their stamps, and what each body remembers of them.
-use Rattle.std.specs.Prelude.{◌≡◌, ℕ, ◌+◌, ◌==◌, if◌then◌else◌, List, [], ◌∷◌, ◌++◌, map, Some, slice_get, sum_by}
+use Rattle.std.specs.Prelude.{length, ◌≡◌, ℕ, ◌+◌, ◌==◌, if◌then◌else◌, List, [], ◌∷◌, ◌++◌, map, Some, slice_get, sum_by}
 use Rattle.std.specs.List.{flat_map}
 use Rattle.flow_model.specs.Schedules.{Journal}
 use Rattle.flow_machine.specs.Values.{BodyValue, NetValue}
@@ -34,3 +34,12 @@ Remembers {K} n old log new = (p : ℕ) (b b' : BodyValue K) → slice_get old p
 -- These are all turns that were made in a net: each body remembers its part, and nothing else.
 abbrev pub Logs : {K : Type 0} → List Logged → NetValue K → Type 0
 Logs {K} log net = (p : ℕ) (b : BodyValue K) → slice_get net.bodies p ≡ Some b → (b.stamps ≡ stamps_of p 0 log) × (b.levels ≡ levels_of p 0 log)
+
+-- These are all turns that were made in a net, in the order of their stamps: each body remembers its part, and there are no more.
+pub record IsLogOf {K : Type 0} (log : List Logged) (net : NetValue K) : Type 0 where
+  pub parts : Logs log net
+  pub total : length log ≡ turns_made net
+
+-- A net has such a list of turns.
+abbrev pub HasLog : {K : Type 0} → NetValue K → Type 0
+HasLog net = (log : List Logged) × IsLogOf log net

@@ -1,10 +1,9 @@
 //! A network that runs.
 ghost use Rattle.std.specs.Prelude.{◌≡◌, ◌<◌, ◌^◌, ◌≤◌, length, None, Some, slice_get, IfSome, sum_by};
 ghost use Rattle.flow_model.specs.Schedules.{IsThoughtStage};
-ghost use Rattle.flow_machine.specs.FitNets.{Remembered};
 ghost use Rattle.flow_machine.specs.Nets.{level_of, block_at, is_asking, asks_level, IsAt, TurnsNet, SeesNet};
 ghost use Rattle.flow_machine.specs.NetSteps.{IsSetIn, ThinksNet};
-ghost use Rattle.flow_machine.specs.Logs.{turns_made};
+ghost use Rattle.flow_machine.specs.Logs.{turns_made, HasLog};
 
 use self::begin::{discard_bodies, discard_channels};
 use crate::answers::{Thought, Turn};
@@ -46,7 +45,8 @@ impl<K: Component> Model for Net<K> {
 /// The turns of these processes together.
 fn count_turns<K: Component>(bodies: &[Body<K>]) -> u32
     requires { sum_by (λ b. b.process.turns) bodies.now ≤ 1073741824 }
-    ensures { result ≡ sum_by (λ b. b.process.turns) bodies.now }
+    ensures turns { result ≡ sum_by (λ b. b.process.turns) bodies.now }
+    ensures stamps { result ≡ sum_by (λ b. length b.stamps) bodies.now }
 {
     let mut count = 0;
     for body in bodies {
@@ -135,8 +135,9 @@ impl<K: Component> Net<K> {
     /// How many turns were made.
     pub fn turns_made(&self) -> u32
         ensures turns { result ≡ turns_made self.now }
-        ensures remembered { Remembered self.now }
         ensures few { result ≤ 1073741824 }
+        ensures stamps { result ≡ sum_by (λ b. length b.stamps) self.now.bodies }
+        ensures log { HasLog self.now }
     {
         count_turns(&self.bodies)
     }

@@ -1,11 +1,11 @@
 -- What elements are bound to, after one was bound.
-use Rattle.std.proofs.Common.{◌≡◌, ◌≢◌, ℕ, List, [], ◌∷◌, Some, refl, ap, sym, subst, zero, suc, inl, inr, ⊎_elim, IsSome, slice_get, slice_set}
+use Rattle.std.proofs.Common.{◌≡◌, ◌≢◌, ℕ, List, [], ◌∷◌, Some, refl, ap, sym, zero, suc, IsSome, slice_get, slice_set}
 use Rattle.std.proofs.lemmas.Bool.{false≢true}
 use Rattle.flow_net.specs.declared.draft.End.{End}
 use Rattle.flow_net.specs.declared.draft.Port.{Port}
 use Rattle.flow_net.specs.declared.draft.Binding.{Binding}
 use Rattle.flow_net.specs.Drafts.{binding_at, bound}
-use Rattle.flow_net.proofs.Places.{same_or_not, slice_get-set_is, slice_get-set_other}
+use Rattle.flow_net.proofs.Places.{slice_get-set_is, slice_get-set_other}
 
 pub binding_at-bound_same : (ports : List Port) (p e : ℕ) (b : Binding) → IsSome (binding_at ports (record { port = p; element = e })) → binding_at (bound ports (record { port = p; element = e }) b) (record { port = p; element = e }) ≡ Some b
 binding_at-bound_same [] p e b there = absurd (false≢true there)

@@ -1,6 +1,6 @@
 -- What is known of an element that was found by its name, and of two that may be joined.
-use Rattle.std.proofs.Common.{◌≡◌, ◌≢◌, ℕ, ◌+◌, ◌<◌, ◌≤◌, List, [], ◌∷◌, ◌++◌, Option, Some, None, Ok, Err, Bool, true, false, cond, refl, ap, sym, ◌∙◌, subst, zero, suc, inl, inr, ◌⊎◌, IsSome, slice_get, get_or, length, arith, eqb, leb}
-use Rattle.std.specs.Prelude.{◌&&◌, ◌==◌, nat_le, if◌then◌else◌, position}
+use Rattle.std.proofs.Common.{◌≡◌, ℕ, ◌<◌, ◌≤◌, List, [], ◌∷◌, Option, Some, None, Ok, Err, Bool, true, false, refl, ap, sym, ◌∙◌, subst, zero, suc, IsSome, slice_get, get_or, length, arith}
+use Rattle.std.specs.Prelude.{◌&&◌, ◌==◌, nat_le, if◌then◌else◌}
 use Rattle.std.specs.declared.result.Result.{Result}
 use Rattle.std.specs.Option.{option_map, option_and_then, option_map_or, ok_or}
 use Rattle.std.specs.Str.{bytes_eq}
@@ -16,8 +16,8 @@ use Rattle.flow_net.specs.declared.draft.Binding.{Binding}
 use Rattle.flow_net.specs.declared.draft.Binding.TheVariants.{Free, Receives, Sends, Given}
 use Rattle.flow_net.specs.declared.fault.PlanFault.{PlanFault}
 use Rattle.flow_net.specs.declared.kind.PortRef.{PortRef}
-use Rattle.flow_net.specs.Drafts.{◌>>=◌, refused_if, binding_at, is_side, same, port_named, element_named, is_free, is_given, receives, is_stream_at}
-use Rattle.flow_net.specs.Calls.{process_at, room_of, end_at, end_named, end_of_port, process_of_name, ends_of, may_join, allowed_capacity, is_taken, has_text, link_into, is_full, has_all_senders, same_capacity, capacity_before, input_for}
+use Rattle.flow_net.specs.Drafts.{◌>>=◌, refused_if, binding_at, is_side, same, port_named, element_named, receives, is_stream_at}
+use Rattle.flow_net.specs.Calls.{process_at, room_of, end_at, end_named, end_of_port, process_of_name, ends_of, may_join, allowed_capacity, is_taken, has_text, link_into, is_full, same_capacity, capacity_before}
 use Rattle.flow_net.specs.Sound.{IsPort, is_input_at}
 use Rattle.flow_net.proofs.Steps.{map_some, then_some}
 
@@ -77,11 +77,11 @@ IsThere-named ports n process input port end all is =
         let sided = and_true (p.process == process) (same p.input input) (and_true (is_side process input p) (bytes_eq p.spec.name port.name) passed).0 in
         let within : e < length p.elements = subst (λ (k : ℕ). e < k) (sym ((all g p here).room)) (element_within p.spec.array port.element e named) in
         subst (IsThere ports process input) whole
-          (record {
-            bound = subst (λ (o : Option Port). IsSome (option_and_then (λ (q : Port). slice_get q.elements e) o)) (sym here) (is_some_within p.elements e within);
-            side = ap (option_map (λ (q : Port). q.input)) here ∙ ap Some (same_true p.input input sided.1);
-            owner = ap (λ (o : Option Port). option_map_or (λ (q : Port). q.process) o 0) here ∙ eqb_true p.process process sided.0;
-          })
+        (record {
+          bound = subst (λ (o : Option Port). IsSome (option_and_then (λ (q : Port). slice_get q.elements e) o)) (sym here) (is_some_within p.elements e within);
+          side = ap (option_map (λ (q : Port). q.input)) here ∙ ap Some (same_true p.input input sided.1);
+          owner = ap (λ (o : Option Port). option_map_or (λ (q : Port). q.process) o 0) here ∙ eqb_true p.process process sided.0;
+        })
 
 pub ok_or_ok : {A : Type 0} (o : Option A) (fault : PlanFault) (x : A) → ok_or o fault ≡ Ok x → o ≡ Some x
 ok_or_ok None fault x is = absurd (cc)
@@ -102,12 +102,12 @@ AreThere-ends processes ports n from out to into ends all is =
     let input = bind_ok (end_of_port ports receiver.0 true to into) _ ends output.2 in
     let pair : ◌≡◌ {A = End × End} (output.0, input.0) ends = cc (input.2) in
     subst (AreThere ports) pair
-      (record {
-        sender = sender.0;
-        receiver = receiver.0;
-        output = IsThere-named ports n sender.0 false out output.0 all (ok_or_ok _ _ output.0 output.1);
-        input = IsThere-named ports n receiver.0 true into input.0 all (ok_or_ok _ _ input.0 input.1);
-      })
+    (record {
+      sender = sender.0;
+      receiver = receiver.0;
+      output = IsThere-named ports n sender.0 false out output.0 all (ok_or_ok _ _ output.0 output.1);
+      input = IsThere-named ports n receiver.0 true into input.0 all (ok_or_ok _ _ input.0 input.1);
+    })
 
 -- What holds of two ends that may be joined.
 pub record MayJoin (ports : List Port) (links : List Link) (capacity : Option ℕ) (output input : End) : Type 0 where

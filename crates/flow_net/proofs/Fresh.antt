@@ -1,5 +1,5 @@
 -- Laws of the ports of a new process.
-use Rattle.std.proofs.Common.{◌≡◌, ℕ, ◌+◌, ◌<◌, List, [], ◌∷◌, ◌++◌, Bool, refl, ap, ◌∙◌, length, take, get_or, arith}
+use Rattle.std.proofs.Common.{◌≡◌, ℕ, ◌+◌, ◌<◌, List, [], ◌∷◌, ◌++◌, Bool, ap, ◌∙◌, length, take, get_or, arith}
 use Rattle.std.proofs.lemmas.List.{take_more, length-take-le}
 use Rattle.flow_net.specs.declared.kind.PortSpec.{PortSpec}
 use Rattle.flow_net.specs.Calls.{fresh_port, fresh_ports}

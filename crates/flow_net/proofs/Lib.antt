@@ -9,3 +9,9 @@ pub mod Ends
 pub mod SoundJoins
 pub mod SoundBegins
 pub mod SoundGives
+pub mod Sizes
+pub mod Placed
+pub mod Numbers
+pub mod PortNames
+pub mod Laying
+pub mod KindTables

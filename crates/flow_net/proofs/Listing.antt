@@ -1,5 +1,5 @@
 -- Bindings still agree with the lists after each step.
-use Rattle.std.proofs.Common.{◌≡◌, ◌≢◌, ℕ, ◌+◌, ◌<◌, ◌≤◌, List, [], ◌∷◌, ◌++◌, Option, Some, None, Bool, true, false, refl, ap, sym, ◌∙◌, subst, inl, inr, ◌⊎◌, slice_get, length}
+use Rattle.std.proofs.Common.{◌≡◌, ◌≢◌, ℕ, ◌≤◌, List, Some, true, false, ap, sym, ◌∙◌, subst, inl, inr, ◌⊎◌, slice_get, length}
 use Rattle.std.specs.Option.{option_map}
 use Rattle.flow_net.specs.declared.draft.End.{End}
 use Rattle.flow_net.specs.declared.draft.Port.{Port}
@@ -34,10 +34,12 @@ IsListed-opened ports after processes links linked n into listed free bound outl
   where
     kept : (end : End) (b : Binding) → binding_at ports end ≡ Some b → b ≢ Free → binding_at after end ≡ Some b
     kept end b is ne = bound.others end (apart ports into end b free is ne) ∙ is
+
     not_into : (end : End) (b : Binding) → binding_at after end ≡ Some b → b ≢ Receives n → end ≢ into
     not_into end b is ne same =
         let both : Some b ≡ Some (Receives n) = sym is ∙ ap (binding_at after) same ∙ bound.at in
         ne (cc)
+
     receives : (end : End) (c : ℕ) → binding_at after end ≡ Some (Receives c) → into_of linked c ≡ Some end
     receives end c h = by (same_end_or_not end into)
       where
@@ -47,12 +49,14 @@ IsListed-opened ports after processes links linked n into listed free bound outl
             let number : c ≡ n = cc in
             ap (into_of linked) number ∙ opens.opened ∙ ap Some (sym same)
         by (inr ne) = opens.keeps c end (listed.receives end c (sym (bound.others end ne) ∙ h))
+
     received : (end : End) (c : ℕ) → into_of linked c ≡ Some end → binding_at after end ≡ Some (Receives c)
     received end c h = by (opens.cases c end h)
       where
         by : (into_of links c ≡ Some end) ⊎ ((c ≡ n) × (into ≡ end)) → binding_at after end ≡ Some (Receives c)
         by (inl old) = kept end (Receives c) (listed.received end c old) (λ e. cc)
         by (inr new) = ap (binding_at after) (sym new.1) ∙ bound.at ∙ ap (λ m. Some (Receives m)) (sym new.0)
+
     has : (end : End) (k : ℕ) → binding_at after end ≡ Some (Given k) → option_map (λ (text : End × List ℕ). text.0) (text_at processes (process_at after end) k) ≡ Some end
     has end k h =
         ap (λ p. option_map (λ (text : End × List ℕ). text.0) (text_at processes p k)) (process_at-same ports after end outlined)
@@ -74,10 +78,12 @@ IsListed-sent ports after processes links linked n k out listed free bound outli
   where
     kept : (end : End) (b : Binding) → binding_at ports end ≡ Some b → b ≢ Free → binding_at after end ≡ Some b
     kept end b is ne = bound.others end (apart ports out end b free is ne) ∙ is
+
     not_out : (end : End) (b : Binding) → binding_at after end ≡ Some b → b ≢ Sends n k → end ≢ out
     not_out end b is ne same =
         let both : Some b ≡ Some (Sends n k) = sym is ∙ ap (binding_at after) same ∙ bound.at in
         ne (cc)
+
     sends : (end : End) (c j : ℕ) → binding_at after end ≡ Some (Sends c j) → sender_at linked c j ≡ Some end
     sends end c j h = by (same_end_or_not end out)
       where
@@ -88,6 +94,7 @@ IsListed-sent ports after processes links linked n k out listed free bound outli
             let place : j ≡ k = cc in
             ap (λ m. sender_at linked m j) number ∙ ap (λ m. sender_at linked n m) place ∙ sends_one.added ∙ ap Some (sym same)
         by (inr ne) = sends_one.keeps c j end (listed.sends end c j (sym (bound.others end ne) ∙ h))
+
     sent : (end : End) (c j : ℕ) → sender_at linked c j ≡ Some end → binding_at after end ≡ Some (Sends c j)
     sent end c j h = by (sends_one.cases c j end h)
       where
@@ -109,10 +116,12 @@ IsListed-given ports after processes texted links p k input text listed free own
   where
     kept : (end : End) (b : Binding) → binding_at ports end ≡ Some b → b ≢ Free → binding_at after end ≡ Some b
     kept end b is ne = bound.others end (apart ports input end b free is ne) ∙ is
+
     not_input : (end : End) (b : Binding) → binding_at after end ≡ Some b → b ≢ Given k → end ≢ input
     not_input end b is ne same =
         let both : Some b ≡ Some (Given k) = sym is ∙ ap (binding_at after) same ∙ bound.at in
         ne (cc)
+
     has : (end : End) (j : ℕ) → binding_at after end ≡ Some (Given j) → option_map (λ (t : End × List ℕ). t.0) (text_at texted (process_at after end) j) ≡ Some end
     has end j h = ap (λ q. option_map (λ (t : End × List ℕ). t.0) (text_at texted q j)) (process_at-same ports after end outlined) ∙ by (same_end_or_not end input)
       where
@@ -128,6 +137,7 @@ IsListed-given ports after processes texted links p k input text listed free own
         by (inr ne) =
             let was = map_some (λ (t : End × List ℕ). t.0) (text_at processes (process_at ports end) j) end (listed.has end j (sym (bound.others end ne) ∙ h)) in
             ap (option_map (λ (t : End × List ℕ). t.0)) (gives.keeps (process_at ports end) j was.0 was.1) ∙ ap Some was.2
+
     given : (q j : ℕ) (end : End) (t : List ℕ) → text_at texted q j ≡ Some (end, t) → (binding_at after end ≡ Some (Given j)) × (process_at after end ≡ q)
     given q j end t h = by (gives.cases q j (end, t) h)
       where
@@ -194,7 +204,8 @@ IsSided-given ports after processes texted links p k input text sided side fits 
             (is_input_at-same ports after end outlined ∙ was.0, FitsPort-same ports after end.port t outlined was.1, was.2)
         by (inr new) =
             let e : input ≡ end = ap (λ (x : End × List ℕ). x.0) new.2 in
-            let words : text ≡ t = ap (λ (x : End × List ℕ). x.1) new.2 in
-            ( is_input_at-same ports after end outlined ∙ ap (is_input_at ports) (sym e) ∙ side
-            , FitsPort-same ports after end.port t outlined (subst (λ (x : End × List ℕ). FitsPort (slice_get ports x.0.port) x.1) new.2 fits)
-            , subst (λ (words : List ℕ). length words ≤ 1048576) words short )
+            let words : text ≡ t = ap (λ (x : End × List ℕ). x.1) new.2 in (
+              is_input_at-same ports after end outlined ∙ ap (is_input_at ports) (sym e) ∙ side,
+              FitsPort-same ports after end.port t outlined (subst (λ (x : End × List ℕ). FitsPort (slice_get ports x.0.port) x.1) new.2 fits),
+              subst (λ (words : List ℕ). length words ≤ 1048576) words short,
+            )

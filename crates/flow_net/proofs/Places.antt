@@ -1,5 +1,5 @@
 -- Laws of lists that change at one place.
-use Rattle.std.proofs.Common.{◌≡◌, ◌≢◌, ℕ, ◌+◌, ◌<◌, List, [], ◌∷◌, ◌++◌, Some, None, true, false, refl, ap, arith, nat_eq, Option, ◌∙◌, sym, Bool, slice_get, slice_set, get_or, suc, zero, length, ◌⊎◌, inl, inr, IsSome}
+use Rattle.std.proofs.Common.{◌≡◌, ◌≢◌, ℕ, List, [], ◌∷◌, Some, true, false, refl, ap, arith, nat_eq, Bool, slice_get, slice_set, get_or, suc, zero, length, ◌⊎◌, inl, inr, IsSome}
 use Rattle.std.specs.Option.{option_map}
 use Rattle.std.proofs.lemmas.Bool.{false≢true}
 use Rattle.std.proofs.lemmas.Bool.Decides.{nat_tests}

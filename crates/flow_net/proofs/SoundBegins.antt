@@ -1,14 +1,12 @@
 -- A draft stays sound when a process begins.
-use Rattle.std.proofs.Common.{◌≡◌, ◌≢◌, ℕ, ◌+◌, ◌*◌, ◌<◌, ◌≤◌, List, [], ◌∷◌, ◌++◌, Option, Some, None, Ok, Bool, true, false, not, cond, ltb, refl, ap, sym, ◌∙◌, subst, zero, suc, inl, inr, ◌⊎◌, slice_get, length, arith, length-append}
+use Rattle.std.proofs.Common.{◌≡◌, ◌≢◌, ℕ, ◌+◌, ◌<◌, ◌≤◌, List, [], ◌∷◌, ◌++◌, Option, Some, None, Ok, Bool, true, false, not, cond, ltb, refl, ap, sym, ◌∙◌, subst, zero, suc, inl, inr, ◌⊎◌, slice_get, length, arith, length-append}
 use Rattle.std.specs.Prelude.{nat_le, position, is_some, replicate}
-use Rattle.std.specs.declared.result.Result.{Result}
 use Rattle.std.specs.List.{find, position_or_len}
 use Rattle.std.specs.Str.{bytes_eq}
 use Rattle.std.specs.Option.{option_map, option_and_then, option_map_or, ok_or}
 use Rattle.std.proofs.lemmas.Bool.{false≢true}
 use Rattle.std.proofs.lemmas.Bool.Decides.{nat_tests}
 use Rattle.std.proofs.lemmas.List.{length-replicate}
-use Rattle.std.proofs.lemmas.Option.{slice_get_within}
 use Rattle.std.proofs.lemmas.Slice.Eq.{bytes_eq-Decides}
 use Rattle.flow_net.specs.declared.draft.End.{End}
 use Rattle.flow_net.specs.declared.draft.Port.{Port}
@@ -16,14 +14,12 @@ use Rattle.flow_net.specs.declared.draft.Link.{Link}
 use Rattle.flow_net.specs.declared.draft.Begun.{Begun}
 use Rattle.flow_net.specs.declared.draft.Binding.{Binding}
 use Rattle.flow_net.specs.declared.draft.Binding.TheVariants.{Free, Receives, Sends, Given}
-use Rattle.flow_net.specs.declared.fault.PlanFault.{PlanFault}
 use Rattle.flow_net.specs.declared.kind.KindSpec.{KindSpec}
 use Rattle.flow_net.specs.declared.kind.PortSpec.{PortSpec}
-use Rattle.flow_net.specs.declared.kind.PortClass.TheVariants.{Stream}
-use Rattle.flow_net.specs.Drafts.{Draft, ◌>>=◌, refused_if, binding_at, process_named, is_stream_at, is_stream_port}
+use Rattle.flow_net.specs.Drafts.{Draft, refused_if, binding_at, process_named, is_stream_port}
 use Rattle.flow_net.specs.Calls.{process_at, room_of, fresh_port, fresh_ports, begun_as, with_process, kind_named, kind_for}
 use Rattle.flow_net.specs.Options.{FitsPort}
-use Rattle.flow_net.specs.Sound.{IsSound, IsKind, IsTable, IsPort, IsListed, IsSided, into_of, sender_at, text_at, is_input_at}
+use Rattle.flow_net.specs.Sound.{IsSound, IsKind, IsPort, IsListed, IsSided, text_at}
 use Rattle.flow_net.proofs.Wiring.{slice_get-append_keeps, slice_get-push_cases}
 use Rattle.flow_net.proofs.Steps.{map_some, then_some}
 use Rattle.flow_net.proofs.Ends.{bind_ok, refused_ok, ok_or_ok}
@@ -44,6 +40,7 @@ none_passes {X} p (y ∷ xs) past i x is = by (p y) refl past (λ h j e. none_pa
     at : p y ≡ false → ((j : ℕ) → slice_get xs j ≡ Some x → p x ≡ false) → (k : ℕ) → slice_get (y ∷ xs) k ≡ Some x → p x ≡ false
     at first rest zero e = let same : y ≡ x = cc in ap p (sym same) ∙ first
     at first rest (suc k) e = rest k e
+
     by : (b : Bool) → p y ≡ b → suc (length xs) ≤ cond (not b) (1 + position_or_len p xs) 0 → (length xs ≤ position_or_len p xs → (j : ℕ) → slice_get xs j ≡ Some x → p x ≡ false) → p x ≡ false
     by true test past rest = absurd (omega arith)
     by false test past rest = at test (rest (omega arith)) i is
@@ -129,9 +126,8 @@ free-fresh n kind g port is = by (slice_get-append_cases (fresh_ports n true 0 k
 
 -- more ports with free elements, and one more process without texts, leave every binding and every text as it was
 module _ (ports more : List Port) (processes : List Begun) (links : List Link) (begun : Begun)
-  (free : (g : ℕ) (port : Port) → slice_get more g ≡ Some port → (e : ℕ) (b : Binding) → slice_get port.elements e ≡ Some b → b ≡ Free)
-  (textless : begun.texts ≡ []) where
-
+    (free : (g : ℕ) (port : Port) → slice_get more g ≡ Some port → (e : ℕ) (b : Binding) → slice_get port.elements e ≡ Some b → b ≡ Free)
+    (textless : begun.texts ≡ []) where
   kept : (end : End) (b : Binding) → binding_at ports end ≡ Some b → binding_at (ports ++ more) end ≡ Some b
   kept end b is =
       let found = then_some (λ (port : Port). slice_get port.elements end.element) (slice_get ports end.port) b is in
@@ -150,6 +146,7 @@ module _ (ports more : List Port) (processes : List Begun) (links : List Link) (
     where
       found : (port : Port) × (slice_get (ports ++ more) end.port ≡ Some port) × (slice_get port.elements end.element ≡ Some b)
       found = then_some (λ (port : Port). slice_get port.elements end.element) (slice_get (ports ++ more) end.port) b is
+
       by : (slice_get ports end.port ≡ Some found.0) ⊎ ((k : ℕ) × (slice_get more k ≡ Some found.0)) → binding_at ports end ≡ Some b
       by (inl old) = ap (option_and_then (λ (port : Port). slice_get port.elements end.element)) old ∙ found.2
       by (inr new) = absurd (ne (free new.0 found.0 new.1 end.element b found.2))
@@ -164,6 +161,7 @@ module _ (ports more : List Port) (processes : List Begun) (links : List Link) (
     where
       found : (b : Begun) × (slice_get (processes ++ begun ∷ []) p ≡ Some b) × (slice_get b.texts k ≡ Some x)
       found = then_some (λ (b : Begun). slice_get b.texts k) (slice_get (processes ++ begun ∷ []) p) x is
+
       by : (slice_get processes p ≡ Some found.0) ⊎ ((p ≡ length processes) × (begun ≡ found.0)) → text_at processes p k ≡ Some x
       by (inl old) = ap (option_and_then (λ (b : Begun). slice_get b.texts k)) old ∙ found.2
       by (inr new) =
@@ -255,22 +253,29 @@ IsSound-begun draft name wanted kind sound ok = record {
   where
     n : ℕ
     n = length draft.processes
+
     begun : Begun
     begun = begun_as n name kind.name
+
     more : List Port
     more = fresh_ports n true 0 kind.inputs ++ fresh_ports n false 0 kind.outputs
+
     chosen : KindFor draft.kinds draft.processes name kind
     chosen = KindFor-ok draft.kinds draft.processes name wanted kind ok
+
     is_kind : IsKind kind
-    is_kind = sound.kinds.kind chosen.place kind chosen.here
+    is_kind = sound.kinds chosen.place kind chosen.here
+
     one_more : length (draft.processes ++ begun ∷ []) ≡ n + 1
     one_more = omega (arith, length-append draft.processes (begun ∷ []))
+
     numbers : (p : ℕ) (b : Begun) → slice_get (draft.processes ++ begun ∷ []) p ≡ Some b → b.number ≡ p
     numbers p b is = by (slice_get-push_cases draft.processes begun b p is)
       where
         by : (slice_get draft.processes p ≡ Some b) ⊎ ((p ≡ length draft.processes) × (begun ≡ b)) → b.number ≡ p
         by (inl old) = sound.numbers p b old
         by (inr last) = sym (ap (λ (x : Begun). x.number) last.1) ∙ sym last.0
+
     names : (p q : ℕ) (b other : Begun) → slice_get (draft.processes ++ begun ∷ []) p ≡ Some b → slice_get (draft.processes ++ begun ∷ []) q ≡ Some other → b.name ≡ other.name → p ≡ q
     names p q b other here there same = by (slice_get-push_cases draft.processes begun b p here) (slice_get-push_cases draft.processes begun other q there)
       where
@@ -279,6 +284,7 @@ IsSound-begun draft name wanted kind sound ok = record {
         by (inl old) (inr last) = absurd (chosen.new p b old (same ∙ sym (ap (λ (x : Begun). x.name) last.1)))
         by (inr last) (inl old) = absurd (chosen.new q other old (sym same ∙ sym (ap (λ (x : Begun). x.name) last.1)))
         by (inr last) (inr end) = last.0 ∙ sym end.0
+
     ports : (g : ℕ) (port : Port) → slice_get (draft.ports ++ more) g ≡ Some port → IsPort (length (draft.processes ++ begun ∷ [])) port
     ports g port is = subst (λ (m : ℕ). IsPort m port) (sym one_more) (by (slice_get-append_cases draft.ports more g port is))
       where

@@ -1,6 +1,6 @@
 -- A draft stays sound when an input is given a text.
-use Rattle.std.proofs.Common.{◌≡◌, ◌≢◌, ℕ, ◌+◌, ◌*◌, ◌<◌, ◌≤◌, List, [], ◌∷◌, ◌++◌, Option, Some, None, Ok, Err, Bool, true, false, refl, ap, sym, ◌∙◌, subst, zero, suc, inl, inr, ◌⊎◌, IsSome, slice_get, length, arith}
-use Rattle.std.specs.Option.{option_map, option_and_then, option_map_or}
+use Rattle.std.proofs.Common.{◌≡◌, ◌≢◌, ℕ, ◌<◌, ◌≤◌, List, [], ◌∷◌, Option, Some, Ok, Err, true, refl, ap, sym, ◌∙◌, subst, zero, suc, inl, inr, ◌⊎◌, slice_get, length, arith}
+use Rattle.std.specs.Option.{option_map, option_map_or}
 use Rattle.flow_net.specs.declared.draft.End.{End}
 use Rattle.flow_net.specs.declared.draft.Port.{Port}
 use Rattle.flow_net.specs.declared.draft.Begun.{Begun}
@@ -34,11 +34,11 @@ IsOpen-for processes ports n to into input all is =
     let same : end.0 ≡ input = cc (unbound.2) in
     let there = IsThere-named ports n receiver.0 true into end.0 all (ok_or_ok _ _ end.0 end.1) in
     subst (IsOpen ports) same
-      (record {
-        receiver = receiver.0;
-        there = there;
-        free = free_at ports end.0 there.bound (refused_ok _ _ unbound.0 unbound.1);
-      })
+    (record {
+      receiver = receiver.0;
+      there = there;
+      free = free_at ports end.0 there.bound (refused_ok _ _ unbound.0 unbound.1);
+    })
 
 pub some_at : {X : Type 0} (xs : List X) (i : ℕ) → i < length xs → (x : X) × (slice_get xs i ≡ Some x)
 some_at [] i within = absurd (omega arith)
@@ -67,32 +67,42 @@ IsSound-given draft text to into input sound ok fits short = record {
   where
     p : ℕ
     p = process_at draft.ports input
+
     chosen : IsOpen draft.ports input
     chosen = IsOpen-for draft.processes draft.ports (length draft.processes) to into input sound.ports ok
+
     found : (b : Begun) × (slice_get draft.processes p ≡ Some b)
     found = some_at draft.processes p (process_at-within draft.ports (length draft.processes) input sound.ports chosen.free)
+
     texted : List Begun
     texted = updated (with_text input text) draft.processes p
+
     after : List Port
     after = bound draft.ports input (Given (next_text (slice_get draft.processes p)))
+
     ports_count : length after ≡ length draft.ports
     ports_count = length-updated _ draft.ports input.port
+
     count : length texted ≡ length draft.processes
     count = length-updated (with_text input text) draft.processes p
+
     gives : GivesOne draft.processes texted p (next_text (slice_get draft.processes p)) input text
     gives = subst (λ (k : ℕ). GivesOne draft.processes texted p k input text) (sym (ap next_text found.1)) (GivesOne-updated draft.processes p found.0 input text found.1)
+
     was : (q : ℕ) (b : Begun) → slice_get texted q ≡ Some b → (old : Begun) × (slice_get draft.processes q ≡ Some old) × (b.number ≡ old.number) × (b.name ≡ old.name)
     was q b is = by (same_or_not q p)
       where
         by : (q ≡ p) ⊎ (q ≢ p) → (old : Begun) × (slice_get draft.processes q ≡ Some old) × (b.number ≡ old.number) × (b.name ≡ old.name)
         by (inl e) =
             let changed : slice_get texted q ≡ option_map (with_text input text) (slice_get draft.processes q) =
-              ap (λ i. slice_get (updated (with_text input text) draft.processes i) q) (sym e) ∙ slice_get-updated_same (with_text input text) draft.processes q in
+            ap (λ i. slice_get (updated (with_text input text) draft.processes i) q) (sym e) ∙ slice_get-updated_same (with_text input text) draft.processes q in
             let old = map_some (with_text input text) (slice_get draft.processes q) b (sym changed ∙ is) in
             (old.0, old.1, sym (ap (λ (x : Begun). x.number) old.2), sym (ap (λ (x : Begun). x.name) old.2))
         by (inr ne) = (b, sym (slice_get-updated_other (with_text input text) draft.processes p q ne) ∙ is, refl, refl)
+
     numbers : (q : ℕ) (b : Begun) → slice_get texted q ≡ Some b → b.number ≡ q
     numbers q b is = let old = was q b is in old.2 ∙ sound.numbers q old.0 old.1
+
     names : (q r : ℕ) (b other : Begun) → slice_get texted q ≡ Some b → slice_get texted r ≡ Some other → b.name ≡ other.name → q ≡ r
     names q r b other here there same =
         let old = was q b here in

@@ -1,27 +1,25 @@
 -- A draft stays sound when an output is joined to an input.
-use Rattle.std.proofs.Common.{◌≡◌, ◌≢◌, ℕ, ◌+◌, ◌*◌, ◌<◌, ◌≤◌, List, [], ◌∷◌, ◌++◌, Option, Some, None, Ok, Bool, true, false, refl, ap, sym, ◌∙◌, subst, zero, suc, inl, inr, ◌⊎◌, IsSome, slice_get, slice_set, length, arith, length-append}
+use Rattle.std.proofs.Common.{◌≡◌, ◌≢◌, ℕ, ◌<◌, ◌≤◌, List, [], ◌∷◌, ◌++◌, Option, Some, None, Ok, true, false, refl, ap, sym, ◌∙◌, subst, inl, inr, ◌⊎◌, IsSome, slice_get, slice_set, length, arith, length-append}
 use Rattle.std.specs.Prelude.{nat_le}
-use Rattle.std.specs.Option.{option_map, option_and_then}
-use Rattle.std.proofs.lemmas.Bool.{false≢true}
+use Rattle.std.specs.Option.{option_map}
 use Rattle.std.proofs.lemmas.Bool.Decides.{nat_tests}
-use Rattle.std.proofs.lemmas.Option.{slice_get_within}
 use Rattle.std.proofs.Math.ListN.{length-set}
 use Rattle.flow_net.specs.declared.draft.End.{End}
 use Rattle.flow_net.specs.declared.draft.Port.{Port}
 use Rattle.flow_net.specs.declared.draft.Link.{Link}
 use Rattle.flow_net.specs.declared.draft.Begun.{Begun}
 use Rattle.flow_net.specs.declared.draft.Binding.{Binding}
-use Rattle.flow_net.specs.declared.draft.Binding.TheVariants.{Free, Receives, Sends, Given}
+use Rattle.flow_net.specs.declared.draft.Binding.TheVariants.{Free, Receives, Sends}
 use Rattle.flow_net.specs.declared.kind.PortRef.{PortRef}
 use Rattle.flow_net.specs.Drafts.{Draft, binding_at, bound, updated}
-use Rattle.flow_net.specs.Calls.{ends_of, may_join, link_into, joined, joined_ports, joined_links, with_sender, first_given, next_sender, is_full, has_all_senders, room_of, is_taken, has_text}
-use Rattle.flow_net.specs.Sound.{IsSound, IsPort, IsLink, IsListed, IsSided, into_of, is_input_at}
+use Rattle.flow_net.specs.Calls.{ends_of, may_join, link_into, joined, joined_ports, joined_links, with_sender, first_given, next_sender, is_full, has_all_senders}
+use Rattle.flow_net.specs.Sound.{IsSound, IsPort, IsLink, IsListed, IsSided, is_input_at}
 use Rattle.flow_net.proofs.Places.{same_or_not, slice_get-updated_same, slice_get-updated_other, length-updated}
-use Rattle.flow_net.proofs.Wiring.{Rebound, Rebound-bound, SameOutline, SameOutline-bound, is_input_at-same, slice_get-push_cases, slice_get-push_end}
+use Rattle.flow_net.proofs.Wiring.{Rebound-bound, SameOutline-bound, is_input_at-same, slice_get-push_cases, slice_get-push_end}
 use Rattle.flow_net.proofs.Bindings.{bound-keeps}
 use Rattle.flow_net.proofs.Steps.{SendsOne, OpensOne-push, SendsOne-updated, map_some}
 use Rattle.flow_net.proofs.Listing.{IsListed-opened, IsListed-sent, IsSided-opened, IsSided-sent}
-use Rattle.flow_net.proofs.Ends.{AreThere, IsThere, AreThere-ends, MayJoin, MayJoin-ok, free_at, link_into-bound, unlinked_free}
+use Rattle.flow_net.proofs.Ends.{AreThere, AreThere-ends, MayJoin, MayJoin-ok, free_at, link_into-bound, unlinked_free}
 
 pub updated-push : {X : Type 0} (f : X → X) (xs : List X) (x : X) → updated f (xs ++ x ∷ []) (length xs) ≡ xs ++ f x ∷ []
 updated-push f [] x = refl
@@ -33,18 +31,19 @@ IsPort-bound n ports end b all g p is = by (same_or_not g end.port)
   where
     change : Port → Port
     change port = record port { elements = slice_set port.elements end.element b }
+
     by : (g ≡ end.port) ⊎ (g ≢ end.port) → IsPort n p
     by (inl e) =
         let was = map_some (λ (port : Port). record port { elements = slice_set port.elements end.element b }) (slice_get ports end.port) p (sym (slice_get-updated_same (λ (port : Port). record port { elements = slice_set port.elements end.element b }) ports end.port) ∙ ap (slice_get (bound ports end b)) (sym e) ∙ is) in
         let port = all end.port was.0 was.1 in
         subst (IsPort n) was.2
-          (record {
-            process = port.process;
-            room = length-set was.0.elements end.element b ∙ port.room;
-            input = port.input;
-            array = port.array;
-            output = port.output;
-          })
+        (record {
+          process = port.process;
+          room = length-set was.0.elements end.element b ∙ port.room;
+          input = port.input;
+          array = port.array;
+          output = port.output;
+        })
     by (inr ne) = all g p (sym (slice_get-updated_other (λ (port : Port). record port { elements = slice_set port.elements end.element b }) ports end.port g ne) ∙ is)
 
 first_given_allowed : (before now : Option ℕ) → ((n : ℕ) → before ≡ Some n → (1 ≤ n) × (n ≤ 1024)) → ((n : ℕ) → now ≡ Some n → (1 ≤ n) × (n ≤ 1024)) → (n : ℕ) → first_given before now ≡ Some n → (1 ≤ n) × (n ≤ 1024)
@@ -61,13 +60,13 @@ IsLink-updated links n link out capacity all here room allowed c l is = by (same
     by : (c ≡ n) ⊎ (c ≢ n) → IsLink l
     by (inl e) =
         let now : Some (with_sender out capacity link) ≡ Some l =
-          sym (ap (option_map (with_sender out capacity)) here) ∙ sym (slice_get-updated_same (with_sender out capacity) links n) ∙ ap (slice_get (updated (with_sender out capacity) links n)) (sym e) ∙ is in
+        sym (ap (option_map (with_sender out capacity)) here) ∙ sym (slice_get-updated_same (with_sender out capacity) links n) ∙ ap (slice_get (updated (with_sender out capacity) links n)) (sym e) ∙ is in
         let whole : with_sender out capacity link ≡ l = cc in
         subst IsLink whole
-          (record {
-            capacity = first_given_allowed link.capacity capacity ((all n link here).capacity) allowed;
-            senders = omega (arith, length-append link.senders (out ∷ []));
-          })
+        (record {
+          capacity = first_given_allowed link.capacity capacity ((all n link here).capacity) allowed;
+          senders = omega (arith, length-append link.senders (out ∷ []));
+        })
     by (inr ne) = all c l (sym (slice_get-updated_other (with_sender out capacity) links n c ne) ∙ is)
 
 pub IsLink-push : (links : List Link) (link : Link) → ((c : ℕ) (l : Link) → slice_get links c ≡ Some l → IsLink l) → IsLink link → (c : ℕ) (l : Link) → slice_get (links ++ link ∷ []) c ≡ Some l → IsLink l
@@ -87,14 +86,13 @@ pub record Joins (ports : List Port) (processes : List Begun) (n : ℕ) (after :
   pub sided : IsSided after processes linked
 
 module _ (ports : List Port) (processes : List Begun) (links : List Link) (n : ℕ) (out into : End) (capacity : Option ℕ)
-  (each_port : (g : ℕ) (p : Port) → slice_get ports g ≡ Some p → IsPort n p)
-  (each_link : (c : ℕ) (l : Link) → slice_get links c ≡ Some l → IsLink l)
-  (few : length links ≤ 512)
-  (listed : IsListed ports processes links)
-  (sided : IsSided ports processes links)
-  (there : AreThere ports (out, into))
-  (may : MayJoin ports links capacity out into) where
-
+    (each_port : (g : ℕ) (p : Port) → slice_get ports g ≡ Some p → IsPort n p)
+    (each_link : (c : ℕ) (l : Link) → slice_get links c ≡ Some l → IsLink l)
+    (few : length links ≤ 512)
+    (listed : IsListed ports processes links)
+    (sided : IsSided ports processes links)
+    (there : AreThere ports (out, into))
+    (may : MayJoin ports links capacity out into) where
   no_sender : (c k : ℕ) → binding_at ports into ≡ Some (Sends c k) → ⊥
   no_sender c k is =
       let side : is_input_at ports into ≡ Some false = sided.sender c k into (listed.sends into c k is) in
@@ -113,32 +111,44 @@ module _ (ports : List Port) (processes : List Begun) (links : List Link) (n : �
     where
       empty : Link
       empty = record { into = into; capacity = None; senders = [] }
+
       whole : Link
       whole = record { into = into; capacity = capacity; senders = out ∷ [] }
+
       space : length links < 512
       space = grind (arith, nat_tests, room)
+
       opened_ports : List Port
       opened_ports = bound ports into (Receives (length links))
+
       opened_links : List Link
       opened_links = links ++ empty ∷ []
+
       after : List Port
       after = bound opened_ports out (Sends (length links) 0)
+
       links_are : updated (with_sender out capacity) opened_links (length links) ≡ links ++ whole ∷ []
       links_are = updated-push (with_sender out capacity) links empty
+
       into_free : binding_at ports into ≡ Some Free
       into_free = unlinked_free ports into there.input.bound unlinked may.ungiven no_sender
+
       apart : out ≢ into
       apart same =
           let one : is_input_at ports out ≡ Some false = there.output.side in
           let two : is_input_at ports into ≡ Some true = there.input.side in
           let both : is_input_at ports out ≡ is_input_at ports into = ap (is_input_at ports) same in
           cc
+
       out_free : binding_at opened_ports out ≡ Some Free
       out_free = (Rebound-bound ports into (Receives (length links)) there.input.bound).others out apart ∙ free_at ports out there.output.bound may.free
+
       out_there : IsSome (binding_at opened_ports out)
       out_there = bound-keeps ports into out (Receives (length links)) there.output.bound
+
       opened_listed : IsListed opened_ports processes opened_links
       opened_listed = IsListed-opened ports opened_ports processes links opened_links (length links) into listed into_free (Rebound-bound ports into (Receives (length links)) there.input.bound) (SameOutline-bound ports into (Receives (length links))) (OpensOne-push links empty refl)
+
       opened_sided : IsSided opened_ports processes opened_links
       opened_sided = IsSided-opened ports opened_ports processes links opened_links (length links) into sided there.input.side may.stream (SameOutline-bound ports into (Receives (length links))) (OpensOne-push links empty refl)
 
@@ -154,16 +164,22 @@ module _ (ports : List Port) (processes : List Begun) (links : List Link) (n : �
     where
       found : (l : Link) × (slice_get links c ≡ Some l) × (l.into ≡ into)
       found = map_some (λ (l : Link). l.into) (slice_get links c) into (listed.receives into c (link_into-bound ports into c linked))
+
       link : Link
       link = found.0
+
       here : slice_get links c ≡ Some link
       here = found.1
+
       full : nat_le 65535 (length link.senders) ≡ false
       full = ap has_all_senders (sym here) ∙ room
+
       space : length link.senders < 65535
       space = grind (arith, nat_tests, full)
+
       after : List Port
       after = bound ports out (Sends c (next_sender (slice_get links c)))
+
       sends : SendsOne links (updated (with_sender out capacity) links c) c (next_sender (slice_get links c)) out
       sends = subst (λ (k : ℕ). SendsOne links (updated (with_sender out capacity) links c) c k out) (sym (ap next_sender here)) (SendsOne-updated links c link out capacity here)
 

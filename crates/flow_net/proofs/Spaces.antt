@@ -1,6 +1,6 @@
 -- The parts between spaces, the first one off.
-use Rattle.std.proofs.Common.{◌≡◌, ◌==◌, ◌↔◌, ℕ, ◌+◌, ◌<◌, ◌≤◌, Bool, true, false, not, cond, subst, sym, List, [], ◌∷◌, length, take, drop, Some, None, position, refl, ◌∙◌, ap, arith, rules, ltb}
-use Rattle.std.specs.List.{All, slice_split, onto_first, position_or_len, before_first, after_first}
+use Rattle.std.proofs.Common.{◌≡◌, ◌==◌, ◌↔◌, ℕ, ◌+◌, ◌<◌, ◌≤◌, Bool, true, false, not, cond, subst, sym, List, [], ◌∷◌, length, take, drop, Some, None, position, refl, ap, arith, ltb}
+use Rattle.std.specs.List.{All, slice_split, onto_first, position_or_len}
 use Rattle.std.proofs.lemmas.List.Elements.{All-nil, All-cons, All-head, All-tail}
 use Rattle.std.proofs.lemmas.List.Splits.{slice_split_first}
 use Rattle.std.proofs.lemmas.Bool.Decides.{nat_tests}

@@ -1,18 +1,14 @@
 -- One connection more, one sender more, one text more: what that changes of the lists, and that bindings still agree with them.
-use Rattle.std.proofs.Common.{◌≡◌, ◌≢◌, ℕ, ◌+◌, ◌<◌, ◌≤◌, List, [], ◌∷◌, ◌++◌, Option, Some, None, Bool, true, false, refl, ap, sym, ◌∙◌, subst, zero, suc, inl, inr, ◌⊎◌, IsSome, slice_get, length, arith}
-use Rattle.std.specs.Option.{option_map, option_and_then, option_map_or}
+use Rattle.std.proofs.Common.{◌≡◌, ◌≢◌, ℕ, List, [], ◌∷◌, ◌++◌, Option, Some, None, refl, ap, sym, ◌∙◌, subst, inl, inr, ◌⊎◌, slice_get, length}
+use Rattle.std.specs.Option.{option_map, option_and_then}
 use Rattle.flow_net.specs.declared.draft.End.{End}
-use Rattle.flow_net.specs.declared.draft.Port.{Port}
 use Rattle.flow_net.specs.declared.draft.Begun.{Begun}
 use Rattle.flow_net.specs.declared.draft.Link.{Link}
-use Rattle.flow_net.specs.declared.draft.Binding.{Binding}
-use Rattle.flow_net.specs.declared.draft.Binding.TheVariants.{Free, Receives, Sends, Given}
-use Rattle.flow_net.specs.Drafts.{binding_at, updated, is_stream_at}
-use Rattle.flow_net.specs.Calls.{process_at, with_sender, with_text, next_sender, next_text}
-use Rattle.flow_net.specs.Options.{FitsPort}
-use Rattle.flow_net.specs.Sound.{IsListed, IsSided, into_of, sender_at, text_at, is_input_at}
+use Rattle.flow_net.specs.Drafts.{updated}
+use Rattle.flow_net.specs.Calls.{with_sender, with_text}
+use Rattle.flow_net.specs.Sound.{into_of, sender_at, text_at}
 use Rattle.flow_net.proofs.Places.{same_or_not, slice_get-updated_same, slice_get-updated_other}
-use Rattle.flow_net.proofs.Wiring.{Rebound, SameOutline, same_end_or_not, process_at-same, is_input_at-same, is_stream_at-same, FitsPort-same, slice_get-append_keeps, slice_get-push_end, slice_get-push_cases}
+use Rattle.flow_net.proofs.Wiring.{slice_get-append_keeps, slice_get-push_end, slice_get-push_cases}
 
 pub map_some : {A B : Type 0} (f : A → B) (o : Option A) (y : B) → option_map f o ≡ Some y → (x : A) × (o ≡ Some x) × (f x ≡ y)
 map_some f None y is = absurd (cc)
@@ -56,23 +52,28 @@ OpensOne-push links link none = record {
     keeps c end is =
         let found = map_some (λ (l : Link). l.into) (slice_get links c) end is in
         ap (option_map (λ (l : Link). l.into)) (slice_get-append_keeps links (link ∷ []) c found.0 found.1) ∙ ap Some found.2
+
     cases : (c : ℕ) (end : End) → into_of (links ++ link ∷ []) c ≡ Some end → (into_of links c ≡ Some end) ⊎ ((c ≡ length links) × (link.into ≡ end))
     cases c end is = by (slice_get-push_cases links link found.0 c found.1)
       where
         found : (x : Link) × (slice_get (links ++ link ∷ []) c ≡ Some x) × (x.into ≡ end)
         found = map_some (λ (l : Link). l.into) (slice_get (links ++ link ∷ []) c) end is
+
         by : (slice_get links c ≡ Some found.0) ⊎ ((c ≡ length links) × (link ≡ found.0)) → (into_of links c ≡ Some end) ⊎ ((c ≡ length links) × (link.into ≡ end))
         by (inl old) = inl (ap (option_map (λ (l : Link). l.into)) old ∙ ap Some found.2)
         by (inr new) = inr (new.0, ap (λ (l : Link). l.into) new.1 ∙ found.2)
+
     sends : (c k : ℕ) (end : End) → sender_at links c k ≡ Some end → sender_at (links ++ link ∷ []) c k ≡ Some end
     sends c k end is =
         let found = then_some (λ (l : Link). slice_get l.senders k) (slice_get links c) end is in
         ap (option_and_then (λ (l : Link). slice_get l.senders k)) (slice_get-append_keeps links (link ∷ []) c found.0 found.1) ∙ found.2
+
     sent : (c k : ℕ) (end : End) → sender_at (links ++ link ∷ []) c k ≡ Some end → sender_at links c k ≡ Some end
     sent c k end is = by (slice_get-push_cases links link found.0 c found.1)
       where
         found : (x : Link) × (slice_get (links ++ link ∷ []) c ≡ Some x) × (slice_get x.senders k ≡ Some end)
         found = then_some (λ (l : Link). slice_get l.senders k) (slice_get (links ++ link ∷ []) c) end is
+
         by : (slice_get links c ≡ Some found.0) ⊎ ((c ≡ length links) × (link ≡ found.0)) → sender_at links c k ≡ Some end
         by (inl old) = ap (option_and_then (λ (l : Link). slice_get l.senders k)) old ∙ found.2
         by (inr new) =
@@ -82,7 +83,6 @@ OpensOne-push links link none = record {
 
 -- the list at a place of a list of lists, after one more was put at its end there
 module _ {X Y : Type 0} (part : X → List Y) (grown : X → X) (y : Y) (grows : (x : X) → part (grown x) ≡ part x ++ y ∷ []) where
-
   nested : List X → ℕ → ℕ → Option Y
   nested xs c j = option_and_then (λ x. slice_get (part x) j) (slice_get xs c)
 
@@ -97,6 +97,7 @@ module _ {X Y : Type 0} (part : X → List Y) (grown : X → X) (y : Y) (grows :
     where
       found : (x : X) × (slice_get xs c ≡ Some x) × (slice_get (part x) j ≡ Some z)
       found = then_some (λ x. slice_get (part x) j) (slice_get xs c) z is
+
       by : (c ≡ n) ⊎ (c ≢ n) → option_and_then (λ x. slice_get (part x) j) (slice_get (updated grown xs n) c) ≡ Some z
       by (inl e) =
           ap (λ i. option_and_then (λ x. slice_get (part x) j) (slice_get (updated grown xs i) c)) (sym e)
@@ -114,9 +115,11 @@ module _ {X Y : Type 0} (part : X → List Y) (grown : X → X) (y : Y) (grows :
           ∙ ap (option_and_then (λ x. slice_get (part x) j)) (sym (ap (option_map grown) here) ∙ sym (slice_get-updated_same grown xs n))
           ∙ ap (λ i. option_and_then (λ x. slice_get (part x) j) (slice_get (updated grown xs n) i)) (sym e)
           ∙ is
+
       last : (c ≡ n) → (slice_get (part x) j ≡ Some z) ⊎ ((j ≡ length (part x)) × (y ≡ z)) → (option_and_then (λ x. slice_get (part x) j) (slice_get xs c) ≡ Some z) ⊎ ((c ≡ n) × (j ≡ length (part x)) × (y ≡ z))
       last e (inl old) = inl (ap (λ i. option_and_then (λ x. slice_get (part x) j) (slice_get xs i)) e ∙ ap (option_and_then (λ x. slice_get (part x) j)) here ∙ old)
       last e (inr new) = inr (e, new.0, new.1)
+
       by : (c ≡ n) ⊎ (c ≢ n) → (option_and_then (λ x. slice_get (part x) j) (slice_get xs c) ≡ Some z) ⊎ ((c ≡ n) × (j ≡ length (part x)) × (y ≡ z))
       by (inl e) = last e (slice_get-push_cases (part x) y z j (at e))
       by (inr ne) = inl (ap (option_and_then (λ x. slice_get (part x) j)) (sym (slice_get-updated_other grown xs n c ne)) ∙ is)
@@ -132,6 +135,7 @@ SendsOne-updated links n link out capacity here = record {
     into_same : (o : Option Link) → option_map (λ (l : Link). l.into) (option_map (with_sender out capacity) o) ≡ option_map (λ (l : Link). l.into) o
     into_same None = refl
     into_same (Some l) = refl
+
     same : (c : ℕ) → into_of (updated (with_sender out capacity) links n) c ≡ into_of links c
     same c = by (same_or_not c n)
       where

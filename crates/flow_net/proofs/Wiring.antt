@@ -1,17 +1,14 @@
 -- What elements are bound to agrees with the lists of connections and texts, also after one more was bound.
-use Rattle.std.proofs.Common.{◌≡◌, ◌≢◌, ℕ, ◌+◌, ◌<◌, ◌≤◌, List, [], ◌∷◌, ◌++◌, Option, Some, None, Bool, true, false, refl, ap, sym, ◌∙◌, subst, zero, suc, inl, inr, ◌⊎◌, IsSome, slice_get, length, arith}
-use Rattle.std.specs.Option.{option_map, option_and_then, option_map_or}
+use Rattle.std.proofs.Common.{◌≡◌, ◌≢◌, ℕ, List, [], ◌∷◌, ◌++◌, Option, Some, None, refl, ap, sym, ◌∙◌, subst, zero, suc, inl, inr, ◌⊎◌, IsSome, slice_get, length}
+use Rattle.std.specs.Option.{option_map, option_map_or}
 use Rattle.flow_net.specs.declared.draft.End.{End}
 use Rattle.flow_net.specs.declared.draft.Port.{Port}
-use Rattle.flow_net.specs.declared.draft.Begun.{Begun}
-use Rattle.flow_net.specs.declared.draft.Link.{Link}
 use Rattle.flow_net.specs.declared.draft.Binding.{Binding}
-use Rattle.flow_net.specs.declared.draft.Binding.TheVariants.{Free, Receives, Sends, Given}
-use Rattle.flow_net.specs.Drafts.{binding_at, bound, updated, is_stream_at, is_stream_port}
-use Rattle.flow_net.specs.Calls.{process_at, with_sender, with_text}
+use Rattle.flow_net.specs.Drafts.{binding_at, bound, is_stream_at, is_stream_port}
+use Rattle.flow_net.specs.Calls.{process_at}
 use Rattle.flow_net.specs.Options.{FitsPort}
-use Rattle.flow_net.specs.Sound.{IsListed, IsSided, into_of, sender_at, text_at, is_input_at}
-use Rattle.flow_net.proofs.Places.{same_or_not, slice_get-updated_same, slice_get-updated_other}
+use Rattle.flow_net.specs.Sound.{is_input_at}
+use Rattle.flow_net.proofs.Places.{same_or_not}
 use Rattle.flow_net.proofs.Bindings.{binding_at-bound_same, binding_at-bound_other}
 
 pub same_end : (e f : End) → e.port ≡ f.port → e.element ≡ f.element → e ≡ f

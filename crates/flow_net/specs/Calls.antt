@@ -1,5 +1,5 @@
 -- What each call of a builder makes of what it holds, and which fault it gives first.
-use Rattle.std.specs.Prelude.{◌≡◌, ℕ, zero, suc, ◌+◌, ◌<◌, ◌≤◌, ◌==◌, ◌&&◌, nat_le, if◌then◌else◌, Bool, true, false, List, [], ◌∷◌, ◌++◌, length, replicate, slice_set, Option, Some, None, Ok, Err, slice_get, position, is_some}
+use Rattle.std.specs.Prelude.{ℕ, ◌+◌, ◌==◌, ◌&&◌, nat_le, if◌then◌else◌, Bool, true, false, List, [], ◌∷◌, ◌++◌, length, replicate, Option, Some, None, Ok, slice_get, is_some}
 use Rattle.std.specs.declared.result.Result.{Result}
 use Rattle.std.specs.Option.{option_and_then, option_map, option_map_or, ok_or}
 use Rattle.std.specs.List.{find}
@@ -17,7 +17,6 @@ use Rattle.flow_net.specs.declared.kind.KindSpec.{KindSpec}
 use Rattle.flow_net.specs.declared.kind.PortSpec.{PortSpec}
 use Rattle.flow_net.specs.declared.kind.PortRef.{PortRef}
 use Rattle.flow_net.specs.declared.kind.PortClass.TheVariants.{Stream}
-use Rattle.flow_net.specs.Network.{is_stream}
 use Rattle.flow_net.specs.Drafts.{Draft, ◌>>=◌, refused_if, updated, binding_at, bound, is_free, is_given, receives, process_named, port_named, element_named, is_stream_at}
 
 -- The kind of this name.

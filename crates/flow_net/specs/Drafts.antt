@@ -1,7 +1,7 @@
 -- What a builder holds: the processes so far with all their ports, and the connections so far.
-use Rattle.std.specs.Prelude.{◌↔◌, ◌≡◌, ℕ, zero, suc, ◌+◌, ◌<◌, ◌≤◌, ◌==◌, ◌&&◌, nat_le, if◌then◌else◌, Bool, true, false, List, [], ◌∷◌, ◌++◌, length, replicate, slice_set, Option, Some, None, Ok, Err, slice_get, position}
+use Rattle.std.specs.Prelude.{◌≡◌, ℕ, zero, suc, ◌==◌, ◌&&◌, nat_le, if◌then◌else◌, Bool, true, false, List, [], ◌∷◌, slice_set, Option, Some, None, Ok, Err, slice_get, position}
 use Rattle.std.specs.declared.result.Result.{Result}
-use Rattle.std.specs.Option.{option_and_then, option_map}
+use Rattle.std.specs.Option.{option_and_then}
 use Rattle.std.specs.Str.{bytes_eq}
 use Rattle.flow_net.specs.declared.draft.End.{End}
 use Rattle.flow_net.specs.declared.draft.Binding.{Binding}
@@ -13,7 +13,6 @@ use Rattle.flow_net.specs.declared.fault.PlanFault.{PlanFault}
 use Rattle.flow_net.specs.declared.fault.PlanStop.{PlanStop}
 use Rattle.flow_net.specs.declared.fault.PlanStop.TheVariants.{Fault, NoMemory}
 use Rattle.flow_net.specs.declared.kind.KindSpec.{KindSpec}
-use Rattle.flow_net.specs.declared.kind.PortClass.TheVariants.{Stream}
 use Rattle.flow_net.specs.Network.{is_stream}
 
 -- The kinds that there are, the processes and their ports in the order of the calls, and the connections in the order in which they were first named.

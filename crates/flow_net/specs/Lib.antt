@@ -1,6 +1,8 @@
 pub mod Calls
 pub mod Drafts
+pub mod Finishes
 pub mod Initials
+pub mod Kinds
 pub mod Network
 pub mod Options
 pub mod Sound

@@ -1,10 +1,10 @@
 -- What a plan is seen as.
-use Rattle.std.specs.Prelude.{◌≡◌, ℕ, ◌+◌, ◌<◌, ◌≤◌, ◌==◌, if◌then◌else◌, Bool, true, false, List, [], ◌∷◌, ◌++◌, map, filter, length, Option, Some, None, slice_get, codes}
+use Rattle.std.specs.Prelude.{◌≡◌, ℕ, ◌<◌, if◌then◌else◌, Bool, true, false, List, [], ◌∷◌, ◌++◌, map, length, Option, Some, None, slice_get, codes}
 use Rattle.std.specs.List.{flat_map, range_with_len}
+use Rattle.std.specs.Option.{option_and_then}
 use Rattle.std.specs.Fmt.{decimal}
 use Rattle.flow_net.specs.declared.kind.PortClass.{PortClass}
 use Rattle.flow_net.specs.declared.kind.PortClass.TheVariants.{Stream, Number, Fields, File}
-use Rattle.flow_net.specs.declared.kind.PortSpec.{PortSpec}
 use Rattle.flow_net.specs.declared.kind.PortRef.{PortRef}
 use Rattle.flow_net.specs.declared.plan.Process.{Process}
 use Rattle.flow_net.specs.declared.plan.Connection.{Connection}
@@ -41,13 +41,20 @@ spelled_element (Some e) = codes "[" ++ decimal e ++ codes "]"
 abbrev pub spelled : PortRef → List ℕ
 spelled port = port.name ++ spelled_element port.element
 
--- Input number i of process p is this port.
-abbrev pub IsInput : Network → ℕ → ℕ → PortRef → Type 0
-IsInput network p i port = (table : PortTable) × (slice_get network.tables p ≡ Some table) × (slice_get (ports_of table.inputs) i ≡ Some port)
+-- The input of this number of a process.
+abbrev pub input_port : Network → ℕ → ℕ → Option PortRef
+input_port network p i = option_and_then (λ (table : PortTable). slice_get (ports_of table.inputs) i) (slice_get network.tables p)
 
--- Output number o of process p is this port.
-abbrev pub IsOutput : Network → ℕ → ℕ → PortRef → Type 0
-IsOutput network p o port = (table : PortTable) × (slice_get network.tables p ≡ Some table) × (slice_get (ports_of table.outputs) o ≡ Some port)
+-- The output of this number of a process.
+abbrev pub output_port : Network → ℕ → ℕ → Option PortRef
+output_port network p o = option_and_then (λ (table : PortTable). slice_get (ports_of table.outputs) o) (slice_get network.tables p)
+
+-- Each process has one table, which has as many inputs and outputs as the process.
+abbrev pub LaidOut : List Process → List PortTable → Type 0
+LaidOut [] [] = Unit {0}
+LaidOut [] (table ∷ tables) = ⊥
+LaidOut (process ∷ processes) [] = ⊥
+LaidOut (process ∷ processes) (table ∷ tables) = (length (ports_of table.inputs) ≡ process.inputs) × (length (ports_of table.outputs) ≡ process.outputs) × LaidOut processes tables
 
 -- Process p has an input of this number.
 abbrev pub HasInput : Network → ℕ → ℕ → Type 0

@@ -1,9 +1,8 @@
 -- The texts that option ports take.
-use Rattle.std.specs.Prelude.{◌≡◌, ◌≢◌, ℕ, ◌≤◌, ◌==◌, List, length, Option, Some, None, slice_get}
+use Rattle.std.specs.Prelude.{◌≢◌, ℕ, ◌≤◌, ◌==◌, List, length, Option, Some, None}
 use Rattle.std.specs.List.{All, slice_split}
 use Rattle.std.specs.Str.{IsUtf8}
 use Rattle.flow_text.specs.Text.{IsPlain, number_of}
-use Rattle.flow_net.specs.declared.draft.End.{End}
 use Rattle.flow_net.specs.declared.draft.Port.{Port}
 use Rattle.flow_net.specs.declared.kind.PortClass.{PortClass}
 use Rattle.flow_net.specs.declared.kind.PortClass.TheVariants.{Stream, Number, Fields, File}

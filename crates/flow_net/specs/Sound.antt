@@ -1,33 +1,24 @@
 -- What holds of every draft.
-use Rattle.std.specs.Prelude.{◌≡◌, ℕ, ◌+◌, ◌*◌, ◌<◌, ◌≤◌, ◌==◌, ◌&&◌, ◌^◌, if◌then◌else◌, Bool, true, false, List, length, Option, Some, None, slice_get}
-use Rattle.std.specs.Option.{option_and_then, option_map, option_map_or}
+use Rattle.std.specs.Prelude.{◌≡◌, ℕ, ◌*◌, ◌<◌, ◌≤◌, Bool, true, false, List, length, Option, Some, slice_get}
+use Rattle.std.specs.Option.{option_and_then, option_map}
 use Rattle.flow_net.specs.declared.draft.End.{End}
-use Rattle.flow_net.specs.declared.draft.Binding.{Binding}
-use Rattle.flow_net.specs.declared.draft.Binding.TheVariants.{Free, Receives, Sends, Given}
+use Rattle.flow_net.specs.declared.draft.Binding.TheVariants.{Receives, Sends, Given}
 use Rattle.flow_net.specs.declared.draft.Port.{Port}
 use Rattle.flow_net.specs.declared.draft.Begun.{Begun}
 use Rattle.flow_net.specs.declared.draft.Link.{Link}
 use Rattle.flow_net.specs.declared.kind.KindSpec.{KindSpec}
 use Rattle.flow_net.specs.declared.kind.PortSpec.{PortSpec}
-use Rattle.flow_net.specs.declared.kind.PortClass.{PortClass}
 use Rattle.flow_net.specs.declared.kind.PortClass.TheVariants.{Stream}
 use Rattle.flow_net.specs.Drafts.{Draft, binding_at, is_stream_at}
 use Rattle.flow_net.specs.Calls.{process_at, room_of}
 use Rattle.flow_net.specs.Options.{FitsPort}
 
--- An input port is needed, and so is an array; there are at most 4,096 ports on each side, whose names differ.
+-- What a builder rests on of a kind: an input port is needed, and so is an array, and there are few of them.
 pub record IsKind (kind : KindSpec) : Type 0 where
   pub inputs_needed : (i : ℕ) (spec : PortSpec) → slice_get kind.inputs i ≡ Some spec → spec.needed ≡ true
   pub arrays_needed : (i : ℕ) (spec : PortSpec) → slice_get kind.outputs i ≡ Some spec → spec.array ≡ true → spec.needed ≡ true
   pub few_inputs : length kind.inputs ≤ 4096
   pub few_outputs : length kind.outputs ≤ 4096
-
--- A table of kinds: each is one, and no two have one name, nor two ports on one side of a kind.
-pub record IsTable (kinds : List KindSpec) : Type 0 where
-  pub kind : (k : ℕ) (kind : KindSpec) → slice_get kinds k ≡ Some kind → IsKind kind
-  pub names : (k l : ℕ) (kind other : KindSpec) → slice_get kinds k ≡ Some kind → slice_get kinds l ≡ Some other → kind.name ≡ other.name → k ≡ l
-  pub inputs : (k i j : ℕ) (kind : KindSpec) (spec other : PortSpec) → slice_get kinds k ≡ Some kind → slice_get kind.inputs i ≡ Some spec → slice_get kind.inputs j ≡ Some other → spec.name ≡ other.name → i ≡ j
-  pub outputs : (k i j : ℕ) (kind : KindSpec) (spec other : PortSpec) → slice_get kinds k ≡ Some kind → slice_get kind.outputs i ≡ Some spec → slice_get kind.outputs j ≡ Some other → spec.name ≡ other.name → i ≡ j
 
 -- A port of one of this many processes: an input and an array are needed, and an output carries packets.
 pub record IsPort (processes : ℕ) (port : Port) : Type 0 where
@@ -40,6 +31,11 @@ pub record IsPort (processes : ℕ) (port : Port) : Type 0 where
 -- The element into which a connection leads.
 abbrev pub into_of : List Link → ℕ → Option End
 into_of links c = option_map (λ (link : Link). link.into) (slice_get links c)
+
+-- An element that a port may have.
+pub record IsPlaced (ports : List Port) (end : End) : Type 0 where
+  pub port : end.port < length ports
+  pub element : end.element < 512
 
 -- The sender of a connection at a place.
 abbrev pub sender_at : List Link → ℕ → ℕ → Option End
@@ -75,7 +71,7 @@ pub record IsLink (link : Link) : Type 0 where
 
 -- What holds of every draft.
 pub record IsSound (draft : Draft) : Type 0 where
-  pub kinds : IsTable draft.kinds
+  pub kinds : (k : ℕ) (kind : KindSpec) → slice_get draft.kinds k ≡ Some kind → IsKind kind
   pub few_processes : length draft.processes ≤ 128
   pub few_ports : length draft.ports ≤ 8192 * length draft.processes
   pub few_links : length draft.links ≤ 512

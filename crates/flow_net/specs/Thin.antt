@@ -1,11 +1,10 @@
 -- The plan of one chain: a reader of lines, a process that passes them on, and a writer of lines.
-use Rattle.std.specs.Prelude.{ℕ, List, [], ◌∷◌, codes, Bool, true, false}
+use Rattle.std.specs.Prelude.{ℕ, List, [], ◌∷◌, codes, true, false}
 use Rattle.flow_net.specs.declared.kind.PortClass.{PortClass}
 use Rattle.flow_net.specs.declared.kind.PortClass.TheVariants.{Stream, File}
 use Rattle.flow_net.specs.declared.plan.Process.{Process}
 use Rattle.flow_net.specs.declared.plan.Connection.{Connection}
 use Rattle.flow_net.specs.declared.plan.PortRow.{PortRow}
-use Rattle.flow_net.specs.declared.plan.PortTable.{PortTable}
 use Rattle.flow_net.specs.Network.{Network}
 
 -- A needed port without elements.

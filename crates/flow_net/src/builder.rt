@@ -1,18 +1,16 @@
 //! A network that is named call by call.
-ghost use Rattle.std.specs.Prelude.{◌≡◌, ◌≤◌, [], length};
-ghost use Rattle.flow_net.specs.Drafts.{Becomes};
+ghost use Rattle.std.specs.Prelude.{◌≡◌, ◌≤◌, [], length, IsTrue};
+ghost use Rattle.flow_net.specs.Drafts.{Answers, Becomes};
 ghost use Rattle.flow_net.specs.Calls.{after_process, after_connect};
 ghost use Rattle.flow_net.specs.Initials.{AfterInitial};
-ghost use Rattle.flow_net.specs.Sound.{IsTable};
+ghost use Rattle.flow_net.specs.Finishes.{finished};
+ghost use Rattle.flow_net.specs.Kinds.{is_table};
 
-use crate::begin;
 use crate::draft::{Begun, Link, Port};
 use crate::fault::{PlanFault, PlanStop};
-use crate::find;
-use crate::give;
-use crate::join;
 use crate::kind::{KindSpec, PortRef};
-use crate::options;
+use crate::plan::Plan;
+use crate::{begin, check, find, finish, give, join, lay, options};
 use flow_items::Text;
 use std::alloc::Global;
 use std::marker::Model;
@@ -42,7 +40,7 @@ impl Model for PlanBuilder {
 impl PlanBuilder {
     /// A builder over a table of kinds that holds nothing yet. Takes no memory.
     pub fn new(alloc: Global, kinds: Vec<KindSpec>) -> Self
-        requires { IsTable kinds.items }
+        requires { IsTrue (is_table kinds.items) }
         ensures { result ≡ record { kinds = kinds.items; processes = []; ports = []; links = [] } }
     {
         PlanBuilder {
@@ -84,8 +82,15 @@ impl PlanBuilder {
         let alloc = self.alloc;
         let ports = self.ports.as_slice();
         let links = self.links.as_slice();
-        let (output, input) =
-            find::ends(alloc, self.processes.as_slice(), ports, from, out, to, into)?;
+        let (output, input) = find::ends(
+            alloc,
+            self.processes.as_slice(),
+            ports,
+            from,
+            out,
+            to,
+            into,
+        )?;
         join::may_join(
             alloc, ports, links, from, out, to, into, capacity, output, input,
         )?;
@@ -116,13 +121,27 @@ impl PlanBuilder {
         }
         let process = give::process_at(ports, input);
         let text = Text::from_slice(alloc, text)?;
-        give::give(
-            &mut self.processes,
-            &mut self.ports,
-            process,
-            input,
-            text,
-        )?;
+        give::give(&mut self.processes, &mut self.ports, process, input, text)?;
         Ok(())
+    }
+
+    /// The plan that the calls described: the processes in their order, the connections in the order in
+    /// which their inputs were first connected, and the senders in the order of the calls.
+    pub fn finish(self) -> Result<Plan, PlanStop>
+        ensures { Answers (finished self) result }
+    {
+        let alloc = self.alloc;
+        let processes = self.processes.as_slice();
+        let ports = self.ports.as_slice();
+        let links = self.links.as_slice();
+        check::check_ports(alloc, processes, ports)?;
+        check::check_sum(links)?;
+        let counts = finish::counts(alloc, ports)?;
+        let counts = counts.as_slice();
+        Ok(Plan {
+            processes: lay::processes(alloc, ports, counts, processes)?,
+            connections: finish::connections(alloc, ports, counts, links)?,
+            tables: lay::tables(alloc, ports, processes)?,
+        })
     }
 }

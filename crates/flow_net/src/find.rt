@@ -27,7 +27,8 @@ pub fn process_named(processes: &[Begun], name: &[u8]) -> Option<usize>
         .position(|begun| begun.name.as_slice() == name)
 }
 
-fn is_side(port: &Port, process: u32, input: bool) -> bool
+/// Whether a port is on this side of this process.
+pub fn is_side(port: &Port, process: u32, input: bool) -> bool
     ensures { result ≡ is_side process input port.now }
 {
     port.process == process && port.input == input

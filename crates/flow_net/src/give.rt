@@ -5,9 +5,8 @@ ghost use Rattle.flow_net.specs.Calls.{input_for, process_at, next_text, with_te
 
 use crate::draft::{Begun, Binding, End, Port};
 use crate::fault::{PlanFault, PlanStop};
-use crate::find;
-use crate::join;
 use crate::kind::PortRef;
+use crate::{find, join};
 use flow_items::Text;
 use std::alloc::{AllocError, Global};
 
@@ -32,11 +31,7 @@ pub fn input_for(
 }
 
 /// That a text isn't of its port's class.
-pub fn option_fault(
-    alloc: Global,
-    process: &[u8],
-    port: &PortRef,
-) -> Result<PlanFault, AllocError>
+pub fn option_fault(alloc: Global, process: &[u8], port: &PortRef) -> Result<PlanFault, AllocError>
     ensures { IfOk result (λ fault. fault ≡ PlanFault.BadOption process.now port.now) }
 {
     let process = Text::from_slice(alloc, process)?;

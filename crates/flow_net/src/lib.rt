@@ -3,12 +3,16 @@
 
 mod begin;
 mod builder;
+mod check;
 mod draft;
 mod fault;
 mod find;
+mod finish;
 mod give;
 mod join;
 mod kind;
+mod lay;
+mod names;
 mod options;
 mod plan;
 mod thin;

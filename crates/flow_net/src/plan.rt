@@ -1,8 +1,7 @@
 //! A plan: what a network is before it runs.
-ghost use Rattle.std.specs.Prelude.{◌≡◌, ◌<◌, ◌++◌, [], ◌∷◌, length, Some, IfOk, slice_get};
-ghost use Rattle.std.specs.Option.{option_map};
 
 use crate::kind::PortSpec;
+use crate::names;
 use flow_items::{Items, Text};
 use std::alloc::{AllocError, Global};
 use std::marker::Model;
@@ -67,9 +66,17 @@ impl Model for Plan {
     ghost Value = { Network };
 
     ghost view = { λ p. record { processes = p.processes.items; connections = p.connections.items; tables = p.tables.items } };
+
+    ghost use Rattle.flow_net.specs.Network.{LaidOut};
+
+    ghost invariant = { λ p. LaidOut p.processes.items p.tables.items };
 }
 
 impl Plan {
+    ghost use Rattle.std.specs.Prelude.{◌≡◌, Some, IfOk};
+    ghost use Rattle.std.specs.Option.{option_map};
+    ghost use Rattle.flow_net.specs.Network.{HasInput, HasOutput, input_port, output_port, spelled};
+
     /// The processes, in the order of their numbers.
     pub fn processes(&self) -> &[Process]
         ensures { result.now ≡ self.now.processes }
@@ -82,5 +89,34 @@ impl Plan {
         ensures { result.now ≡ self.now.connections }
     {
         self.connections.as_slice()
+    }
+
+    /// Spells an input as a report does: the port's name, with the element of an array in brackets.
+    pub fn input_name(&self, alloc: Global, process: u32, input: u32) -> Result<Vec<u8>, AllocError>
+        requires { HasInput self.now process input }
+        ensures { IfOk result (λ name. option_map spelled (input_port self.now process input) ≡ Some name.items) }
+    {
+        names::name_at(
+            alloc,
+            self.tables[process as usize].inputs.as_slice(),
+            input,
+        )
+    }
+
+    /// Spells an output as a report does: the port's name, with the element of an array in brackets.
+    pub fn output_name(
+        &self,
+        alloc: Global,
+        process: u32,
+        output: u32,
+    ) -> Result<Vec<u8>, AllocError>
+        requires { HasOutput self.now process output }
+        ensures { IfOk result (λ name. option_map spelled (output_port self.now process output) ≡ Some name.items) }
+    {
+        names::name_at(
+            alloc,
+            self.tables[process as usize].outputs.as_slice(),
+            output,
+        )
     }
 }

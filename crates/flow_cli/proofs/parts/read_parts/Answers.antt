@@ -5,4 +5,4 @@ pub returns : goal.returns
 returns g c =
     let i = c.loop-process.invariant in
     let same = ap length c.processes-process-end.ensures in
-    (i.only, i.faults, omega arith, i.made)
+    (i.only, i.faults, record { count = omega arith; each = i.made })

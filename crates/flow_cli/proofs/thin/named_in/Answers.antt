@@ -14,7 +14,7 @@ returns c =
     let rows = c.in_ok-rows.rows.items in
     let five : length rows ≡ 5 = grind arith in
     let spelled = five-rows rows c.index.result.now c.index-2.result.now c.index-3.result.now c.index-4.result.now c.index-5.result.now five
-        c.index.ensures c.index-2.ensures c.index-3.ensures c.index-4.ensures c.index-5.ensures in
+    c.index.ensures c.index-2.ensures c.index-3.ensures c.index-4.ensures c.index-5.ensures in
     let all = c.deref.result.now ∷ c.deref-2.result.now ∷ c.deref-3.result.now ∷ c.deref-4.result.now ∷ c.deref-5.result.now ∷ [] in
     let d1 = c.deref.ensures.value in
     let d2 = c.deref-2.ensures.value in

@@ -1,4 +1,4 @@
-use Rattle.std.proofs.Common.{◌≡◌, ◌++◌, ◌∷◌, [], ap, take, get_or, append_assoc, arith}
+use Rattle.std.proofs.Common.{◌∷◌, [], take, get_or, append_assoc, arith}
 use Rattle.flow_net.specs.Calls.{fresh_ports, fresh_port}
 use Rattle.flow_net.proofs.Fresh.{fresh_ports-more}
 use Rattle.flow_net.proofs.begin.add_ports.Goals as goal

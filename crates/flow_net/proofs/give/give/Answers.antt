@@ -1,4 +1,4 @@
-use Rattle.std.proofs.Common.{◌≡◌, ◌∷◌, ◌++◌, [], refl, sym, ap, ◌∙◌, rules, arith}
+use Rattle.std.proofs.Common.{arith}
 use Rattle.flow_net.specs.Calls.{with_text}
 use Rattle.flow_net.proofs.Places.{slice_set-updated}
 use Rattle.flow_net.proofs.give.give.Goals as goal

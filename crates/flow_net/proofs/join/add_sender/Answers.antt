@@ -1,6 +1,5 @@
-use Rattle.std.proofs.Common.{◌≡◌, ◌∷◌, ◌++◌, [], refl, sym, ap, ◌∙◌, rules, arith}
-use Rattle.flow_net.specs.declared.draft.Link.{Link}
-use Rattle.flow_net.specs.Calls.{first_given, with_sender}
+use Rattle.std.proofs.Common.{arith}
+use Rattle.flow_net.specs.Calls.{with_sender}
 use Rattle.flow_net.proofs.Places.{slice_set-updated}
 use Rattle.flow_net.proofs.join.add_sender.Goals as goal
 

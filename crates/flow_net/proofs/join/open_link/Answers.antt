@@ -1,6 +1,3 @@
-use Rattle.std.proofs.Common.{subst, sym, ◌≡◌, List, IsSome}
-use Rattle.flow_net.specs.declared.draft.Port.{Port}
-use Rattle.flow_net.specs.Drafts.{binding_at}
 use Rattle.flow_net.proofs.Bindings.{bound-keeps}
 use Rattle.flow_net.proofs.join.open_link.Goals as goal
 

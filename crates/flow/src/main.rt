@@ -1,0 +1,36 @@
+//! The program `flow NETFILE`: runs the network of a file over real files, and prints the report.
+#![tactic(auto)]
+
+use flow_cli::plain_top;
+use flow_text::{FileShelf, StdSink};
+use std::alloc::{AllocError, Global};
+use std::process::ExitCode;
+use std::{env, io};
+
+/// The status where there is no memory for the words.
+const NO_MEMORY: u8 = 8;
+
+// The words after the program's name. Words that are no text are no command line, as no words are.
+fn words_of(alloc: Global, args: io::Result<env::Args>) -> Result<Vec<String>, AllocError> {
+    let mut words = Vec::new(alloc);
+    match args {
+        Ok(args) => {
+            for word in args.skip(1) {
+                words.push(word)?;
+            }
+            Ok(words)
+        }
+        Err(error) if error.kind() == io::ErrorKind::OutOfMemory => Err(AllocError),
+        Err(_) => Ok(words),
+    }
+}
+
+fn main(rt: HostRuntime) -> ExitCode {
+    let alloc = rt.alloc();
+    let Ok(words) = words_of(alloc, env::args(&rt)) else {
+        return ExitCode::from(NO_MEMORY);
+    };
+    let mut shelf = FileShelf::new(alloc, &rt);
+    let mut out = StdSink::new(&rt);
+    ExitCode::from(plain_top(alloc, &words, &mut shelf, &mut out).status)
+}

@@ -1,0 +1,83 @@
+//! The top call.
+ghost use Rattle.std.specs.Prelude.{◌≡◌, ◌⊎◌, None, Some, IfSome, string_bytes};
+ghost use Rattle.flow_text.specs.Edge.{Rose, Name, after_write};
+ghost use Rattle.flow_cli.specs.Words.{command_of};
+ghost use Rattle.flow_cli.specs.Step.{HoldsMore};
+ghost use Rattle.flow_cli.specs.Prepare.{IsCommand, IsRefused, IsReadName};
+ghost use Rattle.flow_cli.specs.Stops.{text_of};
+ghost use Rattle.flow_cli.specs.Top.{IsCut, PrintsStop, IsOver, EndsWell, IsValid, NoFaults};
+ghost use Rattle.flow_cli.specs.declared.stop.Stop.TheVariants.{Words, NotBuilt, ReadFault, WriteFault, TooLong};
+
+use crate::after::{print, verdict_status};
+use crate::parts::FILE_LIMIT;
+use crate::run::run;
+use crate::stop::{Stop, status, text};
+use flow_text::{Shelf, Sink};
+use std::alloc::Global;
+
+/// How a call ended.
+#[derive(Drop)]
+pub struct Outcome {
+    /// The status with which the program ends.
+    pub status: u8,
+}
+
+/// Does what the program does: runs the network that the words name on one thread, and prints its report,
+/// or why it stopped.
+pub fn plain_top<F: Shelf, O: Sink>(
+    alloc: Global,
+    words: &[String],
+    shelf: &mut F,
+    out: &mut O,
+) -> Outcome
+    // The run came to its end.
+    ensures over { IsOver result.status → EndsWell (F.outside shelf.old) (F.outside shelf.new) (O.outside out.old) (O.outside out.new) words.now result.status }
+
+    // Each other status has its cause.
+    ensures words { result.status ≡ 2 → (command_of words.now ≡ None) × (F.outside shelf.new ≡ F.outside shelf.old)
+        × (O.outside out.new ≡ after_write (O.outside out.old) (text_of Words)) }
+    ensures refused { result.status ≡ 3 → (name : Name) × IsCommand words.now name
+        × ((F.outside shelf.new).files ≡ (F.outside shelf.old).files)
+        × (O.outside out.new ≡ after_write (O.outside out.old) (text_of NotBuilt))
+        × IfSome (F.outside shelf.old).files (λ files. IsRefused files name) }
+    ensures read_fault { result.status ≡ 6 → (name : Name) × IsCommand words.now name
+        × ((F.outside shelf.new).files ≡ (F.outside shelf.old).files)
+        × Rose (F.outside shelf.old).read_faults (F.outside shelf.new).read_faults
+        × ((read : _) × ((F.outside shelf.new).last_read_fault ≡ Some (string_bytes read))
+        × (O.outside out.new ≡ after_write (O.outside out.old) (text_of (ReadFault read)))
+        × IfSome (F.outside shelf.old).files (λ files. IsReadName files name (string_bytes read))) }
+    ensures write_fault { result.status ≡ 7 →
+        Rose (O.outside out.old).write_faults (O.outside out.new).write_faults
+        ⊎ ((name : Name) × IsCommand words.now name × Rose (F.outside shelf.old).write_faults (F.outside shelf.new).write_faults
+        × ((written : _) × ((F.outside shelf.new).last_write_fault ≡ Some (string_bytes written))
+        × (O.outside out.new ≡ after_write (O.outside out.old) (text_of (WriteFault written)))
+        × IfSome (F.outside shelf.old).files (λ files. IsCut files (F.outside shelf.new) name (string_bytes written)))) }
+    ensures too_long { result.status ≡ 9 → (name : Name) × IsCommand words.now name
+        × ((F.outside shelf.new).files ≡ (F.outside shelf.old).files)
+        × ((read : _) × HoldsMore (F.outside shelf.old).files (string_bytes read) FILE_LIMIT
+        × (O.outside out.new ≡ after_write (O.outside out.old) (text_of (TooLong read)))
+        × IfSome (F.outside shelf.old).files (λ files. IsReadName files name (string_bytes read))) }
+
+    // Where no count rose and all is valid, the run comes to its end, or memory is wanting.
+    ensures complete { NoFaults (F.outside shelf.old) (F.outside shelf.new) (O.outside out.old) (O.outside out.new)
+        → IfSome (F.outside shelf.old).files (λ files. IsValid files words.now FILE_LIMIT → IsOver result.status ⊎ (result.status ≡ 8)) }
+{
+    match run(alloc, words, shelf) {
+        Ok(done) => Outcome {
+            status: print(out, &done.report, verdict_status(done.verdict)),
+        },
+        Err(halt) => Outcome {
+            status: print_stop(alloc, out, &halt.stop),
+        },
+    }
+}
+
+/// Prints the text of a stop, and gives the status that comes of it.
+fn print_stop<O: Sink>(alloc: Global, out: &mut O, stop: &Stop) -> u8
+    ensures { PrintsStop (O.outside out.old) (O.outside out.new) stop.now result }
+{
+    match text(alloc, stop) {
+        Ok(text) => print(out, &text, status(stop)),
+        Err(_) => print(out, b"no memory\n", 8),
+    }
+}

@@ -1,0 +1,63 @@
+-- What a table of kinds says of each, and the draft that holds nothing.
+use Rattle.std.proofs.Common.{◌≡◌, ℕ, List, [], ◌∷◌, Option, Some, None, Bool, true, ap, sym, ◌∙◌, zero, suc, slice_get, length, arith}
+use Rattle.std.specs.Prelude.{nat_le, if◌then◌else◌}
+use Rattle.std.specs.List.{list_all}
+use Rattle.std.proofs.lemmas.Bool.Decides.{nat_tests}
+use Rattle.flow_net.specs.declared.kind.KindSpec.{KindSpec}
+use Rattle.flow_net.specs.declared.kind.PortSpec.{PortSpec}
+use Rattle.flow_net.specs.Kinds.{is_kind, is_table, is_needed_array}
+use Rattle.flow_net.specs.Sound.{IsKind, IsSound}
+use Rattle.flow_net.proofs.Ends.{and_true}
+
+all_pass : {X : Type 0} (p : X → Bool) (xs : List X) → list_all p xs ≡ true → (i : ℕ) (x : X) → slice_get xs i ≡ Some x → p x ≡ true
+all_pass p [] all i x is = absurd (cc)
+all_pass p (y ∷ xs) all zero x is = let same : y ≡ x = cc in ap p (sym same) ∙ (and_true (p y) (list_all p xs) all).0
+all_pass p (y ∷ xs) all (suc i) x is = all_pass p xs (and_true (p y) (list_all p xs) all).1 i x is
+
+array_needed : (spec : PortSpec) → is_needed_array spec ≡ true → spec.array ≡ true → spec.needed ≡ true
+array_needed spec is array = ap (λ b. if b then spec.needed else true) (sym array) ∙ is
+
+IsKind-passed : (kind : KindSpec) → is_kind kind ≡ true → IsKind kind
+IsKind-passed kind is =
+    let parts = and_true _ _ is in
+    let needed = and_true (list_all (λ (spec : PortSpec). spec.needed) kind.inputs) (list_all is_needed_array kind.outputs) parts.0 in
+    let rest = and_true _ _ parts.1 in
+    let few = and_true (nat_le (length kind.inputs) 4096) (nat_le (length kind.outputs) 4096) rest.0 in
+    record {
+      inputs_needed = all_pass (λ (spec : PortSpec). spec.needed) kind.inputs needed.0;
+      arrays_needed = λ i spec here array. array_needed spec (all_pass is_needed_array kind.outputs needed.1 i spec here) array;
+      few_inputs = grind (arith, nat_tests, few.0);
+      few_outputs = grind (arith, nat_tests, few.1);
+    }
+
+pub IsKind-each : (kinds : List KindSpec) → is_table kinds ≡ true → (k : ℕ) (kind : KindSpec) → slice_get kinds k ≡ Some kind → IsKind kind
+IsKind-each kinds is k kind here = IsKind-passed kind (all_pass is_kind kinds (and_true (list_all is_kind kinds) _ is).0 k kind here)
+
+none : {X : Type 0} (x : X) → {P : Type 0} → ◌≡◌ {A = Option X} None (Some x) → P
+none x is = absurd (cc)
+
+-- a builder that holds nothing is sound
+pub IsSound-empty : (kinds : List KindSpec) → is_table kinds ≡ true → IsSound (record { kinds = kinds; processes = []; ports = []; links = [] })
+IsSound-empty kinds is = record {
+  kinds = IsKind-each kinds is;
+  few_processes = omega arith;
+  few_ports = omega arith;
+  few_links = omega arith;
+  numbers = λ p begun here. none begun here;
+  names = λ p q begun other here there same. none begun here;
+  ports = λ g port here. none port here;
+  links = λ c link here. none link here;
+  listed = record {
+    receives = λ end c h. none _ h;
+    received = λ end c h. none _ h;
+    sends = λ end c k h. none _ h;
+    sent = λ end c k h. none _ h;
+    has = λ end k h. none _ h;
+    given = λ p k end text h. none _ h;
+  };
+  sided = record {
+    into = λ c end h. none _ h;
+    sender = λ c k end h. none _ h;
+    text = λ p k end text h. none _ h;
+  };
+}

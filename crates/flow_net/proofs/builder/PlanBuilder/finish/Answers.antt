@@ -1,0 +1,53 @@
+use Rattle.std.proofs.Common.{◌∙◌, ap, sym, subst, List, length, slice_get, map}
+use Rattle.flow_net.specs.declared.draft.Port.{Port}
+use Rattle.flow_net.specs.declared.draft.Link.{Link}
+use Rattle.flow_net.specs.declared.draft.Begun.{Begun}
+use Rattle.flow_net.specs.Sound.{IsPlaced, into_of, sender_at, text_at}
+use Rattle.flow_net.specs.Finishes.{count_of, process_of, table_of}
+use Rattle.flow_net.specs.Network.{LaidOut}
+use Rattle.flow_net.proofs.Laying.{LaidOut-plan}
+use Rattle.flow_net.proofs.Placed.{counts-few, capacity_of-small, into-placed, sender-placed, text-placed}
+use Rattle.flow_net.proofs.builder.PlanBuilder.finish.Goals as goal
+
+pub check_sum-requires-clause-small : goal.check_sum-requires-clause-small
+check_sum-requires-clause-small c =
+    λ number link at. (capacity_of-small link (c.self.invariant.links number link (ap (λ (xs : List Link). slice_get xs number) (sym c.as_slice-links.ensures.value) ∙ at))).1
+
+pub processes-requires-clause-there : goal.processes-requires-clause-there
+processes-requires-clause-there c =
+    λ p k end text at.
+    subst (λ (ports : List Port). IsPlaced ports end) (sym c.as_slice-ports.ensures.value)
+    (text-placed (record { kinds = c.self.inside.kinds.items; processes = c.self.inside.processes.items; ports = c.self.inside.ports.items; links = c.self.inside.links.items }) c.self.invariant p k end text
+    (ap (λ (xs : List Begun). text_at xs p k) (sym c.as_slice-processes.ensures.value) ∙ at))
+
+pub connections-requires-clause-into : goal.connections-requires-clause-into
+connections-requires-clause-into c =
+    λ number end at.
+    subst (λ (ports : List Port). IsPlaced ports end) (sym c.as_slice-ports.ensures.value)
+    (into-placed (record { kinds = c.self.inside.kinds.items; processes = c.self.inside.processes.items; ports = c.self.inside.ports.items; links = c.self.inside.links.items }) c.self.invariant number end
+    (ap (λ (xs : List Link). into_of xs number) (sym c.as_slice-links.ensures.value) ∙ at))
+
+pub connections-requires-clause-senders : goal.connections-requires-clause-senders
+connections-requires-clause-senders c =
+    λ number k end at.
+    subst (λ (ports : List Port). IsPlaced ports end) (sym c.as_slice-ports.ensures.value)
+    (sender-placed (record { kinds = c.self.inside.kinds.items; processes = c.self.inside.processes.items; ports = c.self.inside.ports.items; links = c.self.inside.links.items }) c.self.invariant number k end
+    (ap (λ (xs : List Link). sender_at xs number k) (sym c.as_slice-links.ensures.value) ∙ at))
+
+pub processes-requires-clause-few : goal.processes-requires-clause-few
+processes-requires-clause-few c =
+    let made = c.in_ok-counts.ensures in
+    counts-few (length c.self.inside.processes.items) c.self.inside.ports.items c.as_slice-counts.result.now c.self.invariant.ports (c.as_slice-counts.ensures.value ∙ made ∙ ap (map count_of) c.as_slice-ports.ensures.value)
+
+pub connections-requires-clause-few : goal.connections-requires-clause-few
+connections-requires-clause-few c =
+    let made = c.in_ok-counts.ensures in
+    counts-few (length c.self.inside.processes.items) c.self.inside.ports.items c.as_slice-counts.result.now c.self.invariant.ports (c.as_slice-counts.ensures.value ∙ made ∙ ap (map count_of) c.as_slice-ports.ensures.value)
+
+pub invariant_of-result : goal.invariant_of-result
+invariant_of-result c =
+    let processes = c.in_ok-processes.ensures in
+    let tables = c.in_ok-tables.ensures in
+    let made : LaidOut c.in_ok-processes.field-0.items c.in_ok-tables.field-0.items =
+    rw (processes, tables) (subst (λ (xs : List Begun). LaidOut (map (process_of c.as_slice-ports.result.now) xs) (map (table_of c.as_slice-ports.result.now) xs)) (sym c.as_slice-processes.ensures.value) (LaidOut-plan c.as_slice-ports.result.now c.self.inside.processes.items)) in
+    made

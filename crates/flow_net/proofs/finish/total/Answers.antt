@@ -1,0 +1,20 @@
+use Rattle.std.proofs.Common.{◌≡◌, ◌≤◌, ◌<◌, ◌∙◌, Some, ap, arith, get_or, length, slice_get}
+use Rattle.std.proofs.lemmas.List.{length-map}
+use Rattle.std.proofs.lemmas.List.Sums.{sum_by_more}
+use Rattle.std.proofs.lemmas.Option.{slice_get-get_or}
+use Rattle.flow_net.specs.Finishes.{counted, count_of}
+use Rattle.flow_net.proofs.finish.total.Goals as goal
+
+pub loop-g-preserved : goal.loop-g-preserved
+loop-g-preserved c =
+    let ports = c.args.ports.now in
+    let g = c.loop-g.g in
+    let port = c.index-ports-g.result in
+    let within : g < length ports = omega arith in
+    let more = sum_by_more (counted c.args.process c.args.input) ports g port within in
+    let same = ap (counted c.args.process c.args.input) c.index-ports-g.is in
+    let counts = c.args.counts.now in
+    let long : length counts ≡ length ports = ap length c.requires.counts ∙ length-map ports count_of in
+    let here : slice_get counts g ≡ Some (get_or counts g 0) = slice_get-get_or counts g 0 (omega arith) in
+    let small : get_or counts g 0 ≤ 512 = c.requires.few g (get_or counts g 0) here in
+    (omega (arith, more, same, c.loop-g.invariant.0, c.counted-sum.ensures.counted), omega (arith, small, c.loop-g.invariant.1, c.counted-sum.ensures.few))

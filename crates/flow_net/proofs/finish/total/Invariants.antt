@@ -1,0 +1,7 @@
+use Rattle.std.proofs.Common.{◌≡◌, ◌≤◌, ◌*◌, take}
+use Rattle.std.specs.List.{sum_by}
+use Rattle.flow_net.specs.Finishes.{counted}
+use Rattle.flow_net.proofs.finish.total.Given as goal
+
+abbrev pub invariant-loop-g : goal.invariant-loop-g
+invariant-loop-g l = (l.sum ≡ sum_by (counted l.process l.input) (take l.g l.ports)) × (l.sum ≤ 512 * l.g)

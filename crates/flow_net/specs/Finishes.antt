@@ -1,0 +1,143 @@
+-- What is wrong with a draft that is to be a plan, and the plan that it is.
+use Rattle.std.specs.Prelude.{ℕ, ◌+◌, ◌==◌, nat_le, if◌then◌else◌, Bool, true, false, List, [], ◌∷◌, map, take, Option, Some, None, Ok, Err, slice_get, position, unwrap_or}
+use Rattle.std.specs.declared.result.Result.{Result}
+use Rattle.std.specs.List.{sum_by}
+use Rattle.std.specs.Option.{option_map_or}
+use Rattle.flow_net.specs.declared.draft.End.{End}
+use Rattle.flow_net.specs.declared.draft.Binding.{Binding}
+use Rattle.flow_net.specs.declared.draft.Port.{Port}
+use Rattle.flow_net.specs.declared.draft.Begun.{Begun}
+use Rattle.flow_net.specs.declared.draft.Link.{Link}
+use Rattle.flow_net.specs.declared.fault.Many.TheVariants as many
+use Rattle.flow_net.specs.declared.fault.PlanFault.{PlanFault}
+use Rattle.flow_net.specs.declared.fault.PlanFault.TheVariants.{PortMissing, ElementGap, TooMany}
+use Rattle.flow_net.specs.declared.plan.Sender.{Sender}
+use Rattle.flow_net.specs.declared.plan.Process.{Process}
+use Rattle.flow_net.specs.declared.plan.Connection.{Connection}
+use Rattle.flow_net.specs.declared.plan.PortRow.{PortRow}
+use Rattle.flow_net.specs.declared.plan.PortTable.{PortTable}
+use Rattle.flow_net.specs.Network.{Network, is_stream}
+use Rattle.flow_net.specs.Drafts.{Draft, ◌>>=◌, refused_if, is_free, is_side, is_stream_at}
+use Rattle.flow_net.specs.Calls.{process_at}
+
+-- One more than the place of the last element that is bound.
+abbrev pub size_of : List Binding → ℕ
+size_of [] = 0
+size_of (b ∷ bs) = if size_of bs == 0 then (if is_free b then 0 else 1) else size_of bs + 1
+
+-- The name of a process.
+abbrev pub name_of : List Begun → ℕ → List ℕ
+name_of processes p = option_map_or (λ (begun : Begun). begun.name) (slice_get processes p) []
+
+-- The lowest element that isn't bound, among those below one that is.
+abbrev pub gap_fault : List ℕ → Port → Option ℕ → Result (Unit {0}) PlanFault
+gap_fault name port None = Ok tt
+gap_fault name port (Some e) = Err (ElementGap name port.spec.name e)
+
+-- What is wrong with a port: it is needed and nothing is bound to it, or an element below a bound one isn't bound.
+abbrev pub port_fault : List ℕ → Port → Result (Unit {0}) PlanFault
+port_fault name port =
+    if size_of port.elements == 0 then refused_if port.spec.needed (PortMissing name port.spec.name) else gap_fault name port (position is_free (take (size_of port.elements) port.elements))
+
+-- The first port with a fault, in the order of the processes and of their tables.
+abbrev pub first_fault : List Begun → List Port → Result (Unit {0}) PlanFault
+first_fault processes [] = Ok tt
+first_fault processes (port ∷ ports) = port_fault (name_of processes port.process) port >>= λ none. first_fault processes ports
+
+-- The capacity of a connection, which is 10 where none was given.
+abbrev pub capacity_of : Link → ℕ
+capacity_of link = unwrap_or link.capacity 10
+
+-- The capacities of all connections come to 65,536 at most.
+abbrev pub sum_fault : List Link → Result (Unit {0}) PlanFault
+sum_fault links = refused_if (if nat_le (sum_by capacity_of links) 65536 then false else true) (TooMany many.CapacitySum)
+
+-- The number of elements of a port: of an array up to the last that is bound.
+abbrev pub elements_in : Port → ℕ
+elements_in port = if port.spec.array then size_of port.elements else 1
+
+-- The number of elements of a port that have numbers: an option port has none.
+abbrev pub count_of : Port → ℕ
+count_of port = if is_stream port.spec.class then elements_in port else 0
+
+-- The same, of a port on this side of this process, and of another 0.
+abbrev pub counted : ℕ → Bool → Port → ℕ
+counted process input port = if is_side process input port then count_of port else 0
+
+-- The side of an element's port.
+abbrev pub side_at : List Port → End → Bool
+side_at ports end = option_map_or (λ (port : Port). port.input) (slice_get ports end.port) false
+
+-- The number of an element: the elements of the ports before its own on this side of its process, and the elements before it in its own.
+abbrev pub number_of : List Port → End → ℕ
+number_of ports end = sum_by (counted (process_at ports end) (side_at ports end)) (take end.port ports) + end.element
+
+-- The number of inputs, or of outputs, of a process.
+abbrev pub total_of : List Port → ℕ → Bool → ℕ
+total_of ports process input = sum_by (counted process input) ports
+
+abbrev pub sender_of : List Port → End → Sender
+sender_of ports end = record { process = process_at ports end; output = number_of ports end }
+
+abbrev pub connection_of : List Port → Link → Connection
+connection_of ports link = record {
+  receiver = process_at ports link.into;
+  input = number_of ports link.into;
+  capacity = capacity_of link;
+  senders = map (sender_of ports) link.senders;
+}
+
+-- The place of an element's port in the table of its kind.
+abbrev pub place_at : List Port → End → ℕ
+place_at ports end = option_map_or (λ (port : Port). port.place) (slice_get ports end.port) 0
+
+-- The texts at option ports, by the places of the ports, in the order of the calls.
+abbrev pub options_of : List Port → List (End × List ℕ) → List (ℕ × List ℕ)
+options_of ports [] = []
+options_of ports (x ∷ xs) = if is_stream_at ports x.0 then options_of ports xs else (place_at ports x.0, x.1) ∷ options_of ports xs
+
+-- The texts at stream ports, by their input numbers, in the order of the calls.
+abbrev pub initials_of : List Port → List (End × List ℕ) → List (ℕ × List ℕ)
+initials_of ports [] = []
+initials_of ports (x ∷ xs) = if is_stream_at ports x.0 then (number_of ports x.0, x.1) ∷ initials_of ports xs else initials_of ports xs
+
+abbrev pub process_of : List Port → Begun → Process
+process_of ports begun = record {
+  name = begun.name;
+  kind = begun.kind;
+  options = options_of ports begun.texts;
+  initials = initials_of ports begun.texts;
+  inputs = total_of ports begun.number true;
+  outputs = total_of ports begun.number false;
+}
+
+abbrev pub row_of : Port → PortRow
+row_of port = record { spec = port.spec; elements = elements_in port }
+
+-- The ports on one side of a process, in order.
+abbrev pub rows_of : List Port → ℕ → Bool → List PortRow
+rows_of [] process input = []
+rows_of (port ∷ ports) process input = if is_side process input port then row_of port ∷ rows_of ports process input else rows_of ports process input
+
+abbrev pub table_of : List Port → Begun → PortTable
+table_of ports begun = record { inputs = rows_of ports begun.number true; outputs = rows_of ports begun.number false }
+
+-- The plan that a draft is.
+abbrev pub plan_of : Draft → Network
+plan_of draft = record {
+  processes = map (process_of draft.ports) draft.processes;
+  connections = map (connection_of draft.ports) draft.links;
+  tables = map (table_of draft.ports) draft.processes;
+}
+
+-- The first fault of a whole draft.
+abbrev pub draft_fault : Draft → Result (Unit {0}) PlanFault
+draft_fault draft = do
+  ports ← first_fault draft.processes draft.ports
+  sum_fault draft.links
+
+-- What finishing gives: the plan, or the first fault.
+abbrev pub finished : Draft → Result Network PlanFault
+finished draft = do
+  whole ← draft_fault draft
+  Ok (plan_of draft)

@@ -1,0 +1,26 @@
+-- Tables of kinds.
+use Rattle.std.specs.Prelude.{ℕ, ◌&&◌, nat_le, not, if◌then◌else◌, Bool, true, List, [], ◌∷◌, map, length}
+use Rattle.std.specs.List.{list_all, list_any}
+use Rattle.std.specs.Str.{bytes_eq}
+use Rattle.flow_net.specs.declared.kind.KindSpec.{KindSpec}
+use Rattle.flow_net.specs.declared.kind.PortSpec.{PortSpec}
+
+-- No two of these names are the same.
+abbrev pub all_differ : List (List ℕ) → Bool
+all_differ [] = true
+all_differ (name ∷ names) = not (list_any (bytes_eq name) names) && all_differ names
+
+-- An array is needed.
+abbrev pub is_needed_array : PortSpec → Bool
+is_needed_array spec = if spec.array then spec.needed else true
+
+-- A kind: its inputs and its arrays are needed, its ports have different names on each side, and there are at most 4,096 on each.
+abbrev pub is_kind : KindSpec → Bool
+is_kind kind =
+    (list_all (λ (spec : PortSpec). spec.needed) kind.inputs && list_all is_needed_array kind.outputs)
+    && ((nat_le (length kind.inputs) 4096 && nat_le (length kind.outputs) 4096)
+    && (all_differ (map (λ (spec : PortSpec). spec.name) kind.inputs) && all_differ (map (λ (spec : PortSpec). spec.name) kind.outputs)))
+
+-- A table of kinds: each is one, and their names differ.
+abbrev pub is_table : List KindSpec → Bool
+is_table kinds = list_all is_kind kinds && all_differ (map (λ (kind : KindSpec). kind.name) kinds)
