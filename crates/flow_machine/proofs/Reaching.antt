@@ -1,5 +1,5 @@
 -- Nets that go on by turns and works in any order.
-use Rattle.std.proofs.Common.{◌≡◌, ◌≢◌, ℕ, ◌+◌, ◌<◌, ◌≤◌, Bool, true, false, List, [], ◌∷◌, ◌++◌, length, map, Option, Some, None, refl, ap, sym, subst, ◌∙◌, arith, slice_get, slice_set, length-set, length-append, append_assoc, append-nil, ◌⊎◌, inl, inr}
+use Rattle.std.proofs.Common.{◌≡◌, ℕ, Bool, true, false, List, [], ◌∷◌, ◌++◌, length, Some, refl, ap, sym, subst, ◌∙◌, arith, slice_get, slice_set, length-set, length-append, append_assoc, append-nil, ◌⊎◌, inl, inr}
 use Rattle.std.specs.Prelude.{Result, Ok, Err, IsErrAnd, IfErr}
 use Rattle.flow_packet.specs.Held.{Held}
 use Rattle.flow_component.specs.declared.Answer.{Answer}
@@ -7,7 +7,7 @@ use Rattle.flow_component.specs.declared.Shape.{Shape}
 use Rattle.flow_component.specs.Laws.{Outcome, Obeys, StaysReady, IsSteady}
 use Rattle.flow_model.specs.States.{State}
 use Rattle.flow_model.specs.Events.{Event, seen_by}
-use Rattle.flow_model.specs.Schedules.{Journal, no_turns, then_turns, Step, Turned, Worked, Reaches}
+use Rattle.flow_model.specs.Schedules.{then_turns, Step, Turned, Worked, Reaches}
 use Rattle.flow_model.specs.Schedules.{journal_of as steps_journal}
 use Rattle.flow_model.specs.Stands.{StandsForOpen}
 use Rattle.flow_model.specs.Fit.{Fit}
@@ -17,8 +17,8 @@ use Rattle.flow_machine.specs.declared.answers.Thought.{Thought}
 use Rattle.flow_machine.specs.Nets.{NetTurn, level_of}
 use Rattle.flow_machine.specs.NetSteps.{ThinksNet}
 use Rattle.flow_machine.specs.Thoughts.{SameBody, WorkedBody, KeepsTurns}
-use Rattle.flow_machine.specs.Logs.{Logged, journal_of, Remembers, stamps_of, levels_of, turns_made}
-use Rattle.flow_machine.specs.Solo.{Goes, MakesTurn, reached, ReachesNet}
+use Rattle.flow_machine.specs.Logs.{journal_of, Remembers, stamps_of, levels_of, turns_made}
+use Rattle.flow_machine.specs.Solo.{MakesTurn, reached, ReachesNet}
 use Rattle.flow_machine.proofs.LogLemmas.{stamps-own, stamps-other, levels-own, levels-other}
 use Rattle.flow_machine.proofs.FitLemmas.{goes-by, goes-same, goes-work, thinks-step}
 use Rattle.flow_machine.proofs.SoloLemmas.{journal_of-append, remember-none, remember-then, think-count, turn-count}

@@ -1,4 +1,4 @@
-use Rattle.std.proofs.Common.{◌≡◌, ℕ, List, [], ◌∷◌, ◌++◌, ◌∙◌, refl, ap, sym, subst}
+use Rattle.std.proofs.Common.{◌≡◌, ℕ, List, [], ◌∷◌, ◌++◌, ◌∙◌, ap, sym, subst}
 use Rattle.flow_machine.specs.Solo.{StopsAt}
 use Rattle.flow_machine.proofs.Reaching.{reach-none}
 use Rattle.flow_machine.proofs.net.round.solo.Goals as goal
