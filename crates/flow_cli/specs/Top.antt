@@ -12,7 +12,7 @@ use Rattle.flow_cli.specs.Many.{Filled, replaced_all}
 use Rattle.flow_cli.specs.After.{AreOutputs, IsCutShort, Prints, IsReport, verdict_status}
 use Rattle.flow_report.specs.declared.report.Verdict.{Verdict}
 use Rattle.flow_cli.specs.Stops.{status_of, text_of}
-use Rattle.flow_cli.specs.declared.run.Done.{Done}
+use Rattle.flow_cli.specs.declared.engine.Told.{Told}
 use Rattle.flow_cli.specs.declared.run.Halt.{Halt}
 use Rattle.flow_cli.specs.declared.stop.Stop.{Stop}
 use Rattle.flow_cli.specs.declared.stop.Stop.TheVariants.{Words, NotBuilt, ReadFault, WriteFault, TooLong, NoMemory}
@@ -46,8 +46,8 @@ Halts old new words (WriteFault written) limit = (name : Name) × IsCommand word
 Halts old new words NoMemory limit = (new.files ≡ old.files) ⊎ IfSome old.files (λ files. (name : Name) × (written : Name) × IsCut files new name written)
 
 -- What a run does to the shelf.
-abbrev pub Works : Outside → Outside → List (String Global) → Result Done Halt → ℕ → Type 0
-Works old new words (Ok done) limit = (name : Name) × IsCommand words name × IfSome old.files (λ files. IsDone files new name) × IsReport done.verdict done.report.items
+abbrev pub Works : Outside → Outside → List (String Global) → Result Told Halt → ℕ → Type 0
+Works old new words (Ok told) limit = (name : Name) × IsCommand words name × IfSome old.files (λ files. IsDone files new name) × IsReport told.verdict told.report.items
 Works old new words (Err halt) limit = Halts old new words halt.stop limit
 
 -- The text of the stop was printed, or, where there was no memory for it, that of want of memory.

@@ -4,19 +4,11 @@ ghost use Rattle.flow_cli.specs.Top.{Works};
 
 use crate::after::write_outputs;
 use crate::before::prepare;
-use crate::engine::run_net;
+use crate::engine::{Told, run_net};
 use crate::parts::FILE_LIMIT;
 use crate::stop::Stop;
-use flow_report::Verdict;
 use flow_text::Shelf;
 use std::alloc::Global;
-
-/// A run that came to its end.
-#[derive(Drop)]
-pub struct Done {
-    pub verdict: Verdict,
-    pub report: Vec<u8>,
-}
 
 /// A run that stopped.
 #[derive(Drop)]
@@ -25,7 +17,7 @@ pub struct Halt {
 }
 
 /// Does all that comes before the report is printed. No call is made on the shelf after its first fault.
-pub fn run<F: Shelf>(alloc: Global, words: &[String], shelf: &mut F) -> Result<Done, Halt>
+pub fn run<F: Shelf>(alloc: Global, words: &[String], shelf: &mut F) -> Result<Told, Halt>
     ensures { Works (F.outside shelf.old) (F.outside shelf.new) words.now result FILE_LIMIT }
 {
     let job = match prepare(alloc, words, shelf) {
@@ -38,9 +30,9 @@ pub fn run<F: Shelf>(alloc: Global, words: &[String], shelf: &mut F) -> Result<D
         });
     };
     let written = write_outputs(alloc, shelf, &ran);
-    let (verdict, report) = ran.finish();
+    let told = ran.into_told();
     match written {
-        Ok(()) => Ok(Done { verdict, report }),
+        Ok(()) => Ok(told),
         Err(stop) => Err(Halt { stop }),
     }
 }

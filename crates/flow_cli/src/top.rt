@@ -63,8 +63,8 @@ pub fn plain_top<F: Shelf, O: Sink>(
         → IfSome (F.outside shelf.old).files (λ files. IsValid files words.now FILE_LIMIT → IsOver result.status ⊎ (result.status ≡ 8)) }
 {
     match run(alloc, words, shelf) {
-        Ok(done) => Outcome {
-            status: print(out, &done.report, verdict_status(done.verdict)),
+        Ok(told) => Outcome {
+            status: print(out, &told.report, verdict_status(told.verdict)),
         },
         Err(halt) => Outcome {
             status: print_stop(alloc, out, &halt.stop),
