@@ -60,10 +60,10 @@ pub plan-runnable : (net : List ℕ) (plan : Network) → IsPlanOf net plan → 
 plan-runnable net plan is =
     let t = is.names in
     subst (λ (n : Network). IsRunnable n) (sym is.chain)
-        (record {
-          few = omega arith;
-          few_connections = omega arith;
-          standard = chain_standard t is.thin.named.files.0 is.thin.named.files.1;
-          wired = thin-wired;
-          connected = chain_connected t;
-        })
+    (record {
+      few = omega arith;
+      few_connections = omega arith;
+      standard = chain_standard t is.thin.named.files.0 is.thin.named.files.1;
+      wired = thin-wired;
+      connected = chain_connected t;
+    })

@@ -72,7 +72,7 @@ fits_at network p process part fits connected = record {
       let at = port_at (sends_at (plan_of network) p) 0 process.outputs port lt in
       let n : 0 + port ≡ port = omega arith in
       subst (λ (found : Option (Option ℕ)). IsSome (option_and_then (λ (c : Option ℕ). c) found)) (sym at)
-          (subst (λ (m : ℕ). IsSome (sends_at (plan_of network) p m)) (sym n) (connected port lt));
+      (subst (λ (m : ℕ). IsSome (sends_at (plan_of network) p m)) (sym n) (connected port lt));
   can_start = fits.starts;
 }
 
@@ -88,7 +88,7 @@ starts-well told network parts runnable are = record {
       let part : IsPart told network p s.part = are.each p s.part s.part_there in
       let spec = spec_is (slice_get network.processes p) part.process s.spec part.there (sym (slice_get-map process_of network.processes p) ∙ s.spec_there) in
       let is : z ≡ process_at_start (plan_of network) p (process_of part.process) s.part =
-          s.is ∙ ap (λ (m : ℕ). process_at_start (plan_of network) m s.spec s.part) n ∙ ap (λ (x : PlanProcess). process_at_start (plan_of network) p x s.part) (sym spec) in
+      s.is ∙ ap (λ (m : ℕ). process_at_start (plan_of network) m s.spec s.part) n ∙ ap (λ (x : PlanProcess). process_at_start (plan_of network) p x s.part) (sym spec) in
       subst (λ (y : Process Std). FitsProcess std_shape std_uses StdReady y.part y) (sym is)
-          (fits_at network p part.process s.part part.fits (λ o lt. runnable.connected p o part.process part.there lt));
+      (fits_at network p part.process s.part part.fits (λ o lt. runnable.connected p o part.process part.there lt));
 }

@@ -74,9 +74,11 @@ has_connection p i q h lt = at_three (λ k x. (j : ℕ) → j < x.inputs → IsS
     (λ j below. only_first j (λ n. IsSome (receives_at thin_plan 1 n)) below refl)
     (λ j below. only_first j (λ n. IsSome (receives_at thin_plan 2 n)) below refl)
     p q h i lt
+
 pub thin-wired : IsWired thin_plan
 thin-wired = record {
   few = omega arith;
+  few_connections = omega arith;
   receivers = at_two (λ c x. (q : PlanProcess) × (slice_get thin_plan.processes x.receiver ≡ Some q) × (x.input < q.inputs)) c0 c1
       (q1, refl, omega arith) (q2, refl, omega arith);
   one_receiver = λ c d x y hc hd. at_two
@@ -92,9 +94,9 @@ thin-wired = record {
   one_sender = λ c d k l x y s hc hd hk hl. at_two
       (λ c x. (k : ℕ) → slice_get x.senders k ≡ Some s → (d : ℕ) (y : PlanConnection) → slice_get thin_plan.connections d ≡ Some y → (l : ℕ) → slice_get y.senders l ≡ Some s → (c ≡ d) × (k ≡ l)) c0 c1
       (λ k. λ hk. at_two (λ d y. (l : ℕ) → slice_get y.senders l ≡ Some s → (0 ≡ d) × (k ≡ l)) c0 c1
-          (λ l. λ hl. (refl, same_place s0 s k l hk hl)) (λ l. λ hl. absurd (senders_differ (the_one s0 s k hk ∙ sym (the_one s1 s l hl)))))
+      (λ l. λ hl. (refl, same_place s0 s k l hk hl)) (λ l. λ hl. absurd (senders_differ (the_one s0 s k hk ∙ sym (the_one s1 s l hl)))))
       (λ k. λ hk. at_two (λ d y. (l : ℕ) → slice_get y.senders l ≡ Some s → (1 ≡ d) × (k ≡ l)) c0 c1
-          (λ l. λ hl. absurd (senders_differ (the_one s0 s l hl ∙ sym (the_one s1 s k hk)))) (λ l. λ hl. (refl, same_place s1 s k l hk hl)))
+      (λ l. λ hl. absurd (senders_differ (the_one s0 s l hl ∙ sym (the_one s1 s k hk)))) (λ l. λ hl. (refl, same_place s1 s k l hk hl)))
       c x hc k hk d y hd l hl;
   each_input = λ p i q h lt. inl (has_connection p i q h lt);
   not_both = λ p i q h some. at_three (λ p q. IsTrue (list_any (λ (initial : ℕ × List ℕ). initial.0 == i) q.initials) → ⊥) q0 q1 q2
@@ -112,4 +114,3 @@ thin-wired = record {
   same_place a s zero zero h g = refl
   same_place a s zero (suc l) h g = absurd (let bad : None ≡ Some s = g in cc)
   same_place a s (suc k) l h g = absurd (let bad : None ≡ Some s = h in cc)
-

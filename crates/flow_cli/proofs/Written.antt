@@ -26,12 +26,11 @@ test_false false P to no_way = refl
 none_written : (p : Process) → p.kind ≢ codes "WriteLines" → written_by p ≡ []
 none_written p differ =
     ap (λ b. cond b (first_option p.options) [])
-        (test_false (bytes_eq p.kind (codes "WriteLines")) (p.kind ≡ codes "WriteLines") (bytes_eq-Decides p.kind (codes "WriteLines")).0 differ)
+    (test_false (bytes_eq p.kind (codes "WriteLines")) (p.kind ≡ codes "WriteLines") (bytes_eq-Decides p.kind (codes "WriteLines")).0 differ)
 
 one_written : (p : Process) (name : Name) → p.kind ≡ codes "WriteLines" → p.options ≡ (0, name) ∷ [] → written_by p ≡ name ∷ []
 one_written p name kind options =
     ap (λ b. cond b (first_option p.options) []) ((bytes_eq-Decides p.kind (codes "WriteLines")).1 kind) ∙ ap first_option options
-
 
 -- a process of another kind writes no file
 pub none-writes : (found : Option Process) → IfSome found (λ p. UsesFile p None) → IfSome found (λ p. written_by p ≡ [])

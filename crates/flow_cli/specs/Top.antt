@@ -1,5 +1,5 @@
 -- What the top call does, and the cause of each status.
-use Rattle.std.specs.Prelude.{◌≡◌, ◌⊎◌, ℕ, ◌≤◌, List, length, Some, None, Ok, Err, IfSome, String, string_bytes}
+use Rattle.std.specs.Prelude.{◌≡◌, ◌⊎◌, ℕ, ◌≤◌, List, [], length, Some, None, Ok, Err, IfSome, String, string_bytes}
 use Rattle.std.specs.declared.alloc.Global.{Global}
 use Rattle.std.specs.declared.result.Result.{Result}
 use Rattle.flow_text.specs.Edge.{Outside, Name, Files, Rose, after_write}
@@ -12,6 +12,7 @@ use Rattle.flow_cli.specs.Many.{Filled, replaced_all}
 use Rattle.flow_cli.specs.After.{AreOutputs, IsCutShort, Prints, IsReport, verdict_status}
 use Rattle.flow_report.specs.declared.report.Verdict.{Verdict}
 use Rattle.flow_cli.specs.Stops.{status_of, text_of}
+use Rattle.flow_journal.specs.declared.merge.Journal.{Journal}
 use Rattle.flow_cli.specs.declared.engine.Told.{Told}
 use Rattle.flow_cli.specs.declared.run.Halt.{Halt}
 use Rattle.flow_cli.specs.declared.stop.Stop.{Stop}
@@ -32,6 +33,10 @@ pub record IsCut (before : Files) (after : Outside) (name written : Name) : Type
   pub outputs : List Filled
   pub are_outputs : AreOutputs plan outputs
   pub cut : IsCutShort before after.files outputs written
+
+-- No turn was made.
+abbrev pub IsEmptyJournal : Journal → Type 0
+IsEmptyJournal journal = (journal.turns ≡ []) × (journal.seen ≡ [])
 
 -- Each stop has its cause in the words, or in what the shelf held and did.
 abbrev pub Halts : Outside → Outside → List (String Global) → Stop → ℕ → Type 0

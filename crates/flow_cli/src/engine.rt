@@ -11,6 +11,7 @@ ghost use Rattle.flow_catalogue.specs.Std.{std_shape, std_uses, StdReady};
 use crate::before::Job;
 use crate::many::Output;
 use flow_catalogue::{FileUse, Std, file_of};
+use flow_journal::Journal;
 use flow_machine::{Closed, Net, solo};
 use flow_net::Plan;
 use flow_report::{Report, Verdict};
@@ -23,11 +24,12 @@ pub struct Ran {
     pub told: Told,
 }
 
-/// What a run came to: the verdict, and the report.
+/// What a run came to: the verdict, the report, and the journal of its turns.
 #[derive(Drop)]
 pub struct Told {
     pub verdict: Verdict,
     pub report: Vec<u8>,
+    pub journal: Journal,
 }
 
 /// Runs a network on one thread until no process can go on, and makes its report.
@@ -73,6 +75,7 @@ fn told_of(alloc: Global, plan: &Plan, closed: &Closed<Std>) -> Result<Told, All
     Ok(Told {
         verdict: report.verdict(),
         report: report.print()?,
+        journal: Journal::merge(alloc, &closed.net)?,
     })
 }
 

@@ -26,17 +26,17 @@ loop-process-preserved c =
     let same = ap length c.processes-process-end.ensures in
     let lt : k < length ps = omega arith in
     rw add-one (elim c.match-written_name.branch [
-      in-None w ↦
+      | in-None w ↦
           let kept : after ≡ before = ap (λ (v : Vec Output Global). map (λ output. output.0) (map output_of v.items)) w.outputs-is in
           one-more ps k before after [] lt w.in-None.ensures.none c.loop-process.invariant (kept ∙ sym (append-nil before))
-    | in-Some+in_ok-push-in-Some w ↦
+      | in-Some+in_ok-push-in-Some w ↦
           let name = w.in-Some.name.now in
           let new : Output = record { name = w.in-Some.name; bytes = w.written_at-bytes.result } in
           let pushed : after ≡ map (λ output. output.0) (map output_of (c.loop-process.outputs.items ++ new ∷ [])) =
-              ap (λ (v : Vec Output Global). map (λ output. output.0) (map output_of v.items)) w.outputs-is
-              ∙ ap (λ (l : List Output). map (λ output. output.0) (map output_of l)) w.in_ok-push-in-Some.ensures.items in
+          ap (λ (v : Vec Output Global). map (λ output. output.0) (map output_of v.items)) w.outputs-is
+          ∙ ap (λ (l : List Output). map (λ output. output.0) (map output_of l)) w.in_ok-push-in-Some.ensures.items in
           let split : map (λ output. output.0) (map output_of (c.loop-process.outputs.items ++ new ∷ [])) ≡ before ++ name ∷ [] =
-              ap (λ (l : List Filled). map (λ output. output.0) l) (map-append output_of c.loop-process.outputs.items (new ∷ []))
-              ∙ map-append (λ (output : Filled). output.0) (map output_of c.loop-process.outputs.items) (output_of new ∷ []) in
+          ap (λ (l : List Filled). map (λ output. output.0) l) (map-append output_of c.loop-process.outputs.items (new ∷ []))
+          ∙ map-append (λ (output : Filled). output.0) (map output_of c.loop-process.outputs.items) (output_of new ∷ []) in
           one-more ps k before after (name ∷ []) lt w.in-Some.ensures.some c.loop-process.invariant (pushed ∙ split)
     ])
