@@ -1,25 +1,24 @@
 -- Turns and thoughts keep what holds of each net.
-use Rattle.std.proofs.Common.{◌≡◌, ◌≢◌, ℕ, ◌+◌, ◌-◌, ◌*◌, ◌<◌, ◌≤◌, Bool, true, false, List, [], ◌∷◌, ◌++◌, length, map, drop, Option, Some, None, IsTrue, IsSome, suc, zero, refl, ap, sym, subst, ◌∙◌, arith, slice_get, slice_set, length-set, length-append, append-nil, ◌⊎◌, inl, inr}
-use Rattle.std.specs.Prelude.{sum_by, ◌^◌}
+use Rattle.std.proofs.Common.{◌≡◌, ◌≢◌, ℕ, ◌+◌, ◌*◌, ◌<◌, ◌≤◌, Bool, List, [], ◌∷◌, ◌++◌, length, map, Option, Some, None, suc, zero, refl, ap, sym, subst, ◌∙◌, arith, slice_get, slice_set, length-set, length-append, append-nil, ◌⊎◌, inl, inr}
+use Rattle.std.specs.Prelude.{sum_by}
 use Rattle.std.proofs.lemmas.List.{map-set}
 use Rattle.std.proofs.lemmas.List.Sums.{sum_by-cons}
 use Rattle.flow_packet.specs.Tree.{Tree}
-use Rattle.flow_packet.specs.Held.{Held, Sound, with_packet}
+use Rattle.flow_packet.specs.Held.{Held}
 use Rattle.flow_packet.proofs.Comes.{comes}
 use Rattle.flow_component.specs.declared.Port.{Port}
 use Rattle.flow_component.specs.declared.Answer.{Answer}
 use Rattle.flow_component.specs.declared.Wish.TheVariants as wishes
 use Rattle.flow_component.specs.declared.Shape.{Shape}
 use Rattle.flow_component.specs.Laws.{Outcome, Wishes, Fails, held_after, Obeys, StaysReady, IsSteady}
-use Rattle.flow_component.specs.Resumes.{drops_between, dropped_count}
 use Rattle.flow_model.specs.declared.Stage.{Stage}
 use Rattle.flow_model.specs.declared.Stage.TheVariants as stages
-use Rattle.flow_model.specs.States.{Process, Channel, Put, State, From, Outlet, outlets, output_at, change_at, changed}
+use Rattle.flow_model.specs.States.{Process, Channel, Put, State, From, Outlet, outlets, change_at, changed}
 use Rattle.flow_model.specs.Events.{Event, Starts, Finishes, Gets, Takes_text, Hears_end, Sends, Learns, Sleeps, Closes, event_from, received, seen_by}
 use Rattle.flow_model.specs.Turns.{process_after, channels_after, past_after, turn_limit, Turn}
 use Rattle.flow_model.specs.Works.{worked, past_worked, Work}
-use Rattle.flow_model.specs.Stands.{BodyShown, ChannelShown, NetShown, shown, channels_from, body_after, shown_after, all_shown_after, net_after, StandsForOpen}
-use Rattle.flow_model.specs.Valid.{ReadyAt, GoodProcess, HasToClose}
+use Rattle.flow_model.specs.Stands.{ChannelShown, NetShown, channels_from, body_after, shown_after, all_shown_after, net_after, StandsForOpen}
+use Rattle.flow_model.specs.Valid.{ReadyAt, HasToClose}
 use Rattle.flow_model.specs.Fit.{Fit}
 use Rattle.flow_model.proofs.Lists.{change_at-some, slice_get-set_same, slice_get-set_other, same_or_not, sum_by-slice_set}
 use Rattle.flow_model.proofs.Order.{inputs-after, outputs-after, inputs-worked, outputs-worked}
@@ -31,8 +30,8 @@ use Rattle.flow_model.proofs.Senders.{length-without_sender}
 use Rattle.flow_model.proofs.Drops.{shown-work, body_worked}
 use Rattle.flow_machine.specs.Values.{BodyValue, NetValue, shown_body, shown_net}
 use Rattle.flow_machine.specs.Outlets.{output_in}
-use Rattle.flow_machine.specs.Nets.{looks_of, BodyTurn, NetTurn, TurnsNet, GetsSound, levels_told}
-use Rattle.flow_machine.specs.Thoughts.{Thinks, KeepsTurns, WorkedBody, SameBody, SettlesBody}
+use Rattle.flow_machine.specs.Nets.{looks_of, NetTurn, TurnsNet, SeesNet, GetsSound, levels_told}
+use Rattle.flow_machine.specs.Thoughts.{Thinks, WorkedBody, SameBody, SettlesBody}
 use Rattle.flow_machine.specs.declared.answers.Thought.{Thought}
 use Rattle.flow_machine.specs.declared.answers.Thought.TheVariants as thoughts
 use Rattle.flow_machine.specs.declared.answers.Turn.{Turn as Turning}
@@ -43,6 +42,7 @@ use Rattle.flow_machine.specs.FitNets.{IsWiredBody, FitNet}
 use Rattle.flow_machine.specs.NetSteps.{GoesByTurn, ThinksNet}
 use Rattle.flow_machine.proofs.Standings.{get-map, process-in, channel-in, happens-in}
 use Rattle.flow_machine.proofs.LogLemmas.{stamps_of-append, levels_of-append, stamps-own, stamps-other, levels-own, levels-other}
+use Rattle.std.proofs.lemmas.Option.{slice_get_within}
 use Rattle.flow_machine.proofs.NetTurns.{receives, set-same}
 
 -- the state after a turn
@@ -151,19 +151,22 @@ module _ {K : Type 0} (shape_of : K → Shape) (uses : K → ℕ → Bool) (read
         stands = after.3;
         log = fit.log ++ one ∷ [];
         logs = subst (λ (bs : List (BodyValue K)). Logs (fit.log ++ one ∷ []) (record { bodies = bs; channels = new.channels })) (sym turn.bodies)
-        (by-place old.bodies p b turn.after (λ q x. (x.stamps ≡ stamps_of q 0 (fit.log ++ one ∷ [])) × (x.levels ≡ levels_of q 0 (fit.log ++ one ∷ []))) turn.there
-        (turn.turn.stamps ∙ ap (λ (xs : List ℕ). xs ++ stamp ∷ []) (fit.logs p b turn.there).0 ∙ ap (λ (m : ℕ). stamps_of p 0 fit.log ++ m ∷ []) at ∙ ap (λ (xs : List ℕ). stamps_of p 0 fit.log ++ xs) (sym (stamps-own p (0 + length fit.log) (seen_by e))) ∙ sym (stamps_of-append p 0 fit.log (one ∷ [])),
-          turn.turn.levels ∙ ap (λ (xs : List (ℕ × ℕ)). xs ++ levels_told e stamp) (fit.logs p b turn.there).1 ∙ ap (λ (m : ℕ). levels_of p 0 fit.log ++ levels_told e m) at ∙ ap (λ (xs : List (ℕ × ℕ)). levels_of p 0 fit.log ++ xs) (sym (levels-own p (0 + length fit.log) e)) ∙ sym (levels_of-append p 0 fit.log (one ∷ [])))
-        (λ q x other is. ((fit.logs q x is).0 ∙ sym (append-nil (stamps_of q 0 fit.log)) ∙ ap (λ (xs : List ℕ). stamps_of q 0 fit.log ++ xs) (sym (stamps-other q p (0 + length fit.log) (seen_by e) other)) ∙ sym (stamps_of-append q 0 fit.log (one ∷ [])),
-          (fit.logs q x is).1 ∙ sym (append-nil (levels_of q 0 fit.log)) ∙ ap (λ (xs : List (ℕ × ℕ)). levels_of q 0 fit.log ++ xs) (sym (levels-other q p (0 + length fit.log) (seen_by e) other)) ∙ sym (levels_of-append q 0 fit.log (one ∷ [])))));
+            (by-place old.bodies p b turn.after (λ q x. (x.stamps ≡ stamps_of q 0 (fit.log ++ one ∷ [])) × (x.levels ≡ levels_of q 0 (fit.log ++ one ∷ []))) turn.there (
+              turn.turn.stamps ∙ ap (λ (xs : List ℕ). xs ++ stamp ∷ []) (fit.logs p b turn.there).0 ∙ ap (λ (m : ℕ). stamps_of p 0 fit.log ++ m ∷ []) at ∙ ap (λ (xs : List ℕ). stamps_of p 0 fit.log ++ xs) (sym (stamps-own p (0 + length fit.log) (seen_by e))) ∙ sym (stamps_of-append p 0 fit.log (one ∷ [])),
+              turn.turn.levels ∙ ap (λ (xs : List (ℕ × ℕ)). xs ++ levels_told e stamp) (fit.logs p b turn.there).1 ∙ ap (λ (m : ℕ). levels_of p 0 fit.log ++ levels_told e m) at ∙ ap (λ (xs : List (ℕ × ℕ)). levels_of p 0 fit.log ++ xs) (sym (levels-own p (0 + length fit.log) e)) ∙ sym (levels_of-append p 0 fit.log (one ∷ [])),
+            )
+            (λ q x other is. (
+              (fit.logs q x is).0 ∙ sym (append-nil (stamps_of q 0 fit.log)) ∙ ap (λ (xs : List ℕ). stamps_of q 0 fit.log ++ xs) (sym (stamps-other q p (0 + length fit.log) (seen_by e) other)) ∙ sym (stamps_of-append q 0 fit.log (one ∷ [])),
+              (fit.logs q x is).1 ∙ sym (append-nil (levels_of q 0 fit.log)) ∙ ap (λ (xs : List (ℕ × ℕ)). levels_of q 0 fit.log ++ xs) (sym (levels-other q p (0 + length fit.log) (seen_by e) other)) ∙ sym (levels_of-append q 0 fit.log (one ∷ [])),
+            )));
         total = omega (arith, len, fit.total, turns, ap (λ (bs : List (BodyValue K)). sum_by (λ (x : BodyValue K). x.process.turns) bs) turn.bodies, turns-set old.bodies p b turn.after turn.there);
         few = omega (arith, fit.few, ap length turn.bodies, length-set old.bodies p turn.after);
         whole = subst (λ (bs : List (BodyValue K)). (q : ℕ) (x : BodyValue K) → slice_get bs q ≡ Some x → x.leaving ≡ None) (sym turn.bodies) (by-place old.bodies p b turn.after (λ q x. x.leaving ≡ None) turn.there turn.turn.leaving (λ q x other is. fit.whole q x is));
         wired = subst (λ (m : ℕ). (q : ℕ) (x : BodyValue K) → slice_get new.bodies q ≡ Some x → IsWiredBody m x) (sym channels_len)
-        (subst (λ (bs : List (BodyValue K)). (q : ℕ) (x : BodyValue K) → slice_get bs q ≡ Some x → IsWiredBody (length old.channels) x) (sym turn.bodies)
-        (by-place old.bodies p b turn.after (λ q x. IsWiredBody (length old.channels) x) turn.there
-        (wired-same (length old.channels) b turn.after (ap (λ (x : Process K). x.inputs) turn.turn.process ∙ inputs-after b.process e) (ap (λ (x : Process K). x.outputs) turn.turn.process ∙ outputs-after b.process e) (fit.wired p b turn.there))
-        (λ q x other is. fit.wired q x is)));
+            (subst (λ (bs : List (BodyValue K)). (q : ℕ) (x : BodyValue K) → slice_get bs q ≡ Some x → IsWiredBody (length old.channels) x) (sym turn.bodies)
+            (by-place old.bodies p b turn.after (λ q x. IsWiredBody (length old.channels) x) turn.there
+            (wired-same (length old.channels) b turn.after (ap (λ (x : Process K). x.inputs) turn.turn.process ∙ inputs-after b.process e) (ap (λ (x : Process K). x.outputs) turn.turn.process ∙ outputs-after b.process e) (fit.wired p b turn.there))
+            (λ q x other is. fit.wired q x is)));
         puts = puts-now e old.channels new.channels (length fit.log) (length (fit.log ++ one ∷ [])) turn.channels len fit.puts;
       }
     where
@@ -177,6 +180,10 @@ module _ {K : Type 0} (shape_of : K → Shape) (uses : K → ℕ → Bool) (read
   fit-answer old p n stamp (turns.Over overs.Ended) new same next fit = subst (FitNet shape_of uses ready) (sym same.1) fit
   fit-answer old p n stamp (turns.Over overs.Failed) new same next fit = subst (FitNet shape_of uses ready) (sym same.1) fit
   fit-answer old p n stamp (turns.Over overs.Starved) new never next fit = absurd never
+
+  pub fit-seen : (old : NetValue K) (p n stamp : ℕ) (answer : Option Turning) (new : NetValue K) → SeesNet old p n stamp answer new → stamp ≡ turns_made old → FitNet shape_of uses ready old → FitNet shape_of uses ready new
+  fit-seen old p n stamp (Some answer) new sees next fit = fit-answer old p n stamp answer new sees.1 next fit
+  fit-seen old p n stamp None new same next fit = subst (FitNet shape_of uses ready) (sym same.1) fit
 
   -- a packet that is got leaves the hands sound
   pub sound-got : (net : NetValue K) (p c : ℕ) (port : Port) (b : BodyValue K) (channel : ChannelShown) → FitNet shape_of uses ready net → slice_get net.bodies p ≡ Some b → b.process.stage ≡ stages.Wishing (wishes.Receive port) → slice_get b.process.inputs port.0 ≡ Some (From c)
@@ -234,13 +241,15 @@ module _ {K : Type 0} (shape_of : K → Shape) (uses : K → ℕ → Bool) (read
   sender-open net p c i b outlet fit there stage is same =
       let has : HasToClose b.process.stage i = subst (λ (st : Stage). HasToClose st i) (sym stage) (let h : i ≤ i = omega arith in h) in
       let open_one = fit.fit.valid.senders p i b.process outlet (process-in net fit.state p b fit.stands there) is has in
-      let at : slice_get fit.state.kept.channels c ≡ Some open_one.0 = ap (slice_get fit.state.kept.channels) (sym same) ∙ open_one.1 in
-      (omega (arith, get-below fit.state.kept.channels c open_one.0 at, length-channels net fit.state fit.stands), λ ch at_c.
-        (let r = channel-in net fit.state c ch fit.stands at_c in
-        let h : Some r.0 ≡ Some open_one.0 = sym r.1 ∙ at in
-        let r_is : r.0 ≡ open_one.0 = cc in
-        let count : ch.open_senders ≡ length open_one.0.open_senders = ap (λ (x : ChannelShown). x.open_senders) r.2 ∙ ap (λ (x : Channel). length x.open_senders) r_is in
-        omega (arith, count, length-without_sender (record { process = p; output = outlet.output }) open_one.0.open_senders open_one.2)))
+      let at : slice_get fit.state.kept.channels c ≡ Some open_one.0 = ap (slice_get fit.state.kept.channels) (sym same) ∙ open_one.1 in (
+        omega (arith, get-below fit.state.kept.channels c open_one.0 at, length-channels net fit.state fit.stands),
+        λ ch at_c.
+            (let r = channel-in net fit.state c ch fit.stands at_c in
+            let h : Some r.0 ≡ Some open_one.0 = sym r.1 ∙ at in
+            let r_is : r.0 ≡ open_one.0 = cc in
+            let count : ch.open_senders ≡ length open_one.0.open_senders = ap (λ (x : ChannelShown). x.open_senders) r.2 ∙ ap (λ (x : Channel). length x.open_senders) r_is in
+            omega (arith, count, length-without_sender (record { process = p; output = outlet.output }) open_one.0.open_senders open_one.2)),
+      )
 
 turns-worked : {K : Type 0} (x : Process K) (outcome : Outcome K) → (worked x outcome).turns ≡ x.turns
 turns-worked x (Wishes part held wish) = refl
@@ -295,9 +304,12 @@ module _ {K : Type 0} (shape_of : K → Shape) (uses : K → ℕ → Bool) (read
       let all : map shown_body new.bodies ≡ change_at (map shown_body old.bodies) p (body_worked outcome) =
       ap (map shown_body) bodies ∙ map-set shown_body old.bodies p after ∙ ap (slice_set (map shown_body old.bodies) p) body
       ∙ sym (change_at-some (map shown_body old.bodies) p (body_worked outcome) (shown_body before) (get-map shown_body old.bodies p before there)) in
-      let f : NetShown K → NetShown K = λ n. record { bodies = change_at n.bodies p (body_worked outcome); channels = n.channels } in
-      (s', step, Fit-work shape_of uses ready next obeys stays steady s p s' step fit,
-        (let both : shown_net new ≡ f (shown_net old) = λ i. record { bodies = all i; channels = channels i } in both) ∙ ap f stands ∙ sym (shown-work next s p s' step works below sound))
+      let f : NetShown K → NetShown K = λ n. record { bodies = change_at n.bodies p (body_worked outcome); channels = n.channels } in (
+        s',
+        step,
+        Fit-work shape_of uses ready next obeys stays steady s p s' step fit,
+        (let both : shown_net new ≡ f (shown_net old) = λ i. record { bodies = all i; channels = channels i } in both) ∙ ap f stands ∙ sym (shown-work next s p s' step works below sound),
+      )
 
   pub goes-think : (old : NetValue K) (p : ℕ) (before after : BodyValue K) (new : NetValue K) → slice_get old.bodies p ≡ Some before → SameBody before after ⊎ WorkedBody next before after → new.bodies ≡ slice_set old.bodies p after → new.channels ≡ old.channels
       → (s : State K) → Fit shape_of uses ready s → StandsForOpen (shown_net old) s → (s' : State K) × Fit shape_of uses ready s' × StandsForOpen (shown_net new) s'
@@ -321,13 +333,13 @@ module _ {K : Type 0} (shape_of : K → Shape) (uses : K → ℕ → Bool) (read
         stands = after.2;
         log = fit.log;
         logs = subst (λ (bs : List (BodyValue K)). Logs fit.log (record { bodies = bs; channels = new.channels })) (sym think.bodies)
-        (by-place old.bodies p b think.after (λ q x. (x.stamps ≡ stamps_of q 0 fit.log) × (x.levels ≡ levels_of q 0 fit.log)) think.there
-        (think.keeps.stamps ∙ (fit.logs p b think.there).0, think.keeps.levels ∙ (fit.logs p b think.there).1) (λ q x other is. fit.logs q x is));
+            (by-place old.bodies p b think.after (λ q x. (x.stamps ≡ stamps_of q 0 fit.log) × (x.levels ≡ levels_of q 0 fit.log)) think.there
+            (think.keeps.stamps ∙ (fit.logs p b think.there).0, think.keeps.levels ∙ (fit.logs p b think.there).1) (λ q x other is. fit.logs q x is));
         total = omega (arith, fit.total, same.0, ap (λ (bs : List (BodyValue K)). sum_by (λ (x : BodyValue K). x.process.turns) bs) think.bodies, turns-set old.bodies p b think.after think.there);
         few = omega (arith, fit.few, ap length think.bodies, length-set old.bodies p think.after);
         whole = subst (λ (bs : List (BodyValue K)). (q : ℕ) (x : BodyValue K) → slice_get bs q ≡ Some x → x.leaving ≡ None) (sym think.bodies) (by-place old.bodies p b think.after (λ q x. x.leaving ≡ None) think.there (think.keeps.leaving ∙ fit.whole p b think.there) (λ q x other is. fit.whole q x is));
         wired = subst (λ (m : ℕ). (q : ℕ) (x : BodyValue K) → slice_get new.bodies q ≡ Some x → IsWiredBody m x) (ap length (sym think.channels))
-        (subst (λ (bs : List (BodyValue K)). (q : ℕ) (x : BodyValue K) → slice_get bs q ≡ Some x → IsWiredBody (length old.channels) x) (sym think.bodies)
-        (by-place old.bodies p b think.after (λ q x. IsWiredBody (length old.channels) x) think.there (wired-same (length old.channels) b think.after same.1 same.2 (fit.wired p b think.there)) (λ q x other is. fit.wired q x is)));
+            (subst (λ (bs : List (BodyValue K)). (q : ℕ) (x : BodyValue K) → slice_get bs q ≡ Some x → IsWiredBody (length old.channels) x) (sym think.bodies)
+            (by-place old.bodies p b think.after (λ q x. IsWiredBody (length old.channels) x) think.there (wired-same (length old.channels) b think.after same.1 same.2 (fit.wired p b think.there)) (λ q x other is. fit.wired q x is)));
         puts = λ c channel is. fit.puts c channel (ap (λ (cs : List ChannelShown). slice_get cs c) (sym think.channels) ∙ is);
       }

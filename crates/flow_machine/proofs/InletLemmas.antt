@@ -2,7 +2,7 @@
 use Rattle.std.proofs.Common.{◌≡◌, ℕ, ◌+◌, ◌<◌, ◌≤◌, List, [], ◌∷◌, map, length, drop, drop-cons, get_or, add-one, suc, zero, arith, refl, ap, sym, ◌∙◌}
 use Rattle.std.specs.Prelude.{Bool, true, false, not, ◌||◌, ◌&&◌}
 use Rattle.std.specs.List.{list_any, list_all}
-use Rattle.flow_model.specs.States.{Input, From, Text}
+use Rattle.flow_model.specs.States.{Input}
 use Rattle.flow_model.specs.Events.{is_connected}
 use Rattle.flow_machine.specs.declared.inlet.Inlet.{Inlet}
 use Rattle.flow_machine.specs.declared.inlet.Inlet.TheVariants as inlets

@@ -1,3 +1,4 @@
+pub mod Lists
 pub mod OutletLemmas
 pub mod Standing
 pub mod Thinking
@@ -5,6 +6,7 @@ pub mod InletLemmas
 pub mod Pairs
 pub mod Standings
 pub mod NetTurns
+pub mod BlockLemmas
 pub mod PlanLemmas
 pub mod LogLemmas
 pub mod FitLemmas

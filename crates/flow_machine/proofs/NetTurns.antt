@@ -1,25 +1,24 @@
 -- Turns of bodies and connections are turns of the net.
-use Rattle.std.proofs.Common.{◌≡◌, ◌≢◌, ℕ, ◌+◌, ◌-◌, ◌*◌, ◌<◌, ◌≤◌, Bool, true, false, cond, List, [], ◌∷◌, ◌++◌, length, drop, map, Option, Some, None, IsSome, suc, zero, refl, ap, sym, subst, ◌∙◌, arith, slice_get, slice_set, get_or, length-set, nat_lt, nat_le, ◌==◌}
+use Rattle.std.proofs.Common.{◌≡◌, ℕ, ◌≤◌, Bool, true, false, cond, List, [], ◌∷◌, length, Option, Some, None, refl, ap, sym, subst, ◌∙◌, slice_get, slice_set, nat_lt, nat_le, ◌==◌}
 use Rattle.std.specs.Prelude.{option_and_then, is_some, IfSome, unwrap_or, ◌&&◌}
 use Rattle.std.specs.List.{list_all}
 use Rattle.std.proofs.lemmas.List.{set-get_or}
-use Rattle.std.proofs.lemmas.Option.{get_or_from_slice_get, slice_get-get_or}
+use Rattle.std.proofs.lemmas.Option.{get_or_from_slice_get}
 use Rattle.flow_packet.specs.Tree.{Tree}
 use Rattle.flow_packet.specs.Hands.{packet_at}
 use Rattle.flow_component.specs.declared.Port.{Port}
-use Rattle.flow_component.specs.declared.Wish.{Wish}
 use Rattle.flow_component.specs.declared.Wish.TheVariants as wishes
 use Rattle.flow_model.specs.declared.Stage.{Stage}
 use Rattle.flow_model.specs.declared.Stage.TheVariants as stages
 use Rattle.flow_model.specs.declared.Block.{Block}
 use Rattle.flow_model.specs.declared.Block.TheVariants as blocks
-use Rattle.flow_model.specs.States.{Input, From, Text, Process, Outlet, outlets, output_at, change_at, changed}
+use Rattle.flow_model.specs.States.{Input, From, Text, Process, Outlet, outlets, output_at}
 use Rattle.flow_model.specs.Events.{Event, Starts, Finishes, Gets, Takes_text, Hears_end, Sends, Learns, Sleeps, Closes, Look, event_from, stage_event, received, received_from, receive_event, sent, told_level, idle_event, level_in, is_fresh, can_start, has_ended}
 use Rattle.flow_model.specs.Turns.{process_after}
 use Rattle.flow_model.specs.Order.{connection_of}
 use Rattle.flow_model.specs.Verdicts.{block_of, exact_level, exact_level_for, waits_for}
 use Rattle.flow_model.specs.Stands.{ChannelShown, look_shown, shown_after, all_shown_after}
-use Rattle.flow_model.proofs.Lists.{change_at-some, slice_get-set_same, slice_get-set_other, same_or_not}
+use Rattle.flow_model.proofs.Lists.{change_at-some}
 use Rattle.flow_machine.specs.Values.{BodyValue, NetValue}
 use Rattle.flow_machine.specs.declared.answers.Case.{Case}
 use Rattle.flow_machine.specs.declared.answers.Case.TheVariants as cases
@@ -30,7 +29,7 @@ use Rattle.flow_machine.specs.declared.answers.Turn.TheVariants as turns
 use Rattle.flow_machine.specs.Answers.{case_of, stage_case, receive_case, send_case, level_case, close_case, CaseIs}
 use Rattle.flow_machine.specs.declared.answers.Effect.TheVariants as effects
 use Rattle.flow_machine.specs.Effects.{id_sent, port_at, text_event, TakesTurn}
-use Rattle.flow_machine.specs.Nets.{looks_of, BodyTurn, PairTurns, AloneTurns, NetTurn, TurnsNet, block_at, level_of, packet_wished, HasFailed}
+use Rattle.flow_machine.specs.Nets.{looks_of, PairTurns, AloneTurns, NetTurn, TurnsNet, level_of, packet_wished, HasFailed}
 use Rattle.flow_machine.specs.Thoughts.{IsSetAt}
 use Rattle.flow_model.specs.Schedules.{IsThoughtStage}
 use Rattle.flow_machine.proofs.Standings.{get-map}
@@ -108,10 +107,21 @@ pub pair-net : {K : Type 0} (bodies : List (BodyValue K)) (channels : List Chann
     → slice_get bodies p ≡ Some b → slice_get channels c ≡ Some channel → event_from (looks_of channels) b.process n ≡ found → ((event : Event) → found ≡ Some event → IsOn c event)
     → (found ≡ None → block_of (looks_of channels) b.process ≡ Some block) → PairTurns found block stamp b channel answer b' channel'
     → TurnsNet (record { bodies = bodies; channels = channels }) p n stamp answer (record { bodies = slice_set bodies p b'; channels = slice_set channels c channel' })
-pair-net {K} bodies channels p c n stamp b b' channel channel' found block (turns.Made s) at_p at_c happens on blocked made = let t = made.1 in (made.0, (t.0, record {
-  before = b; after = b'; there = at_p; happens = happens ∙ t.1; turn = t.2; bodies = refl;
-  channels = ap (slice_set channels c) t.3 ∙ sym (all-on c channels channel t.0 (on t.0 t.1) at_c);
-}))
+pair-net {K} bodies channels p c n stamp b b' channel channel' found block (turns.Made s) at_p at_c happens on blocked made = let t = made.1 in (
+  made.0,
+  (
+    t.0,
+    record {
+      before = b;
+      after = b';
+      there = at_p;
+      happens = happens ∙ t.1;
+      turn = t.2;
+      bodies = refl;
+      channels = ap (slice_set channels c) t.3 ∙ sym (all-on c channels channel t.0 (on t.0 t.1) at_c);
+    },
+  ),
+)
 pair-net {K} bodies channels p c n stamp b b' channel channel' found block (turns.Blocked w) at_p at_c happens on blocked not_made =
     let bodies_are : slice_set bodies p b' ≡ bodies = ap (slice_set bodies p) not_made.2 ∙ set-same bodies p b at_p in
     let channels_are : slice_set channels c channel' ≡ channels = ap (slice_set channels c) not_made.3 ∙ set-same channels c channel at_c in
@@ -123,10 +133,21 @@ pub alone-net : {K : Type 0} (bodies : List (BodyValue K)) (channels : List Chan
     → slice_get bodies p ≡ Some b → event_from (looks_of channels) b.process n ≡ found → ((event : Event) → found ≡ Some event → all_shown_after event channels ≡ channels)
     → (found ≡ None → block_of (looks_of channels) b.process ≡ Some block) → AloneTurns found block stamp b answer b'
     → TurnsNet (record { bodies = bodies; channels = channels }) p n stamp answer (record { bodies = slice_set bodies p b'; channels = channels })
-alone-net {K} bodies channels p n stamp b b' found block (turns.Made s) at_p happens on blocked made = let t = made.1 in (made.0, (t.0, record {
-  before = b; after = b'; there = at_p; happens = happens ∙ t.1; turn = t.2; bodies = refl;
-  channels = sym (on t.0 t.1);
-}))
+alone-net {K} bodies channels p n stamp b b' found block (turns.Made s) at_p happens on blocked made = let t = made.1 in (
+  made.0,
+  (
+    t.0,
+    record {
+      before = b;
+      after = b';
+      there = at_p;
+      happens = happens ∙ t.1;
+      turn = t.2;
+      bodies = refl;
+      channels = sym (on t.0 t.1);
+    },
+  ),
+)
 alone-net {K} bodies channels p n stamp b b' found block (turns.Blocked w) at_p happens on blocked not_made =
     let bodies_are : slice_set bodies p b' ≡ bodies = ap (slice_set bodies p) not_made.2 ∙ set-same bodies p b at_p in
     (ap (option_and_then (λ (x : BodyValue K). block_of (looks_of channels) x.process)) at_p ∙ blocked not_made.1 ∙ ap (λ v. Some v) (sym not_made.0), λ i. record { bodies = bodies_are i; channels = channels })
@@ -219,16 +240,30 @@ text-turn {K} b b' channels bodies p n stamp port text there stage input takes =
         ∙ ap (λ (t : Bool). process_after b.process (text_event port.0 t (slice_get b.process.inputs port.0))) is ∙ ap (λ (i : Option Input). process_after b.process (text_event port.0 fresh i)) input
 
     by : (fresh : Bool) → is_fresh b.process port.0 ≡ fresh → (event : Event) × NetTurn (record { bodies = bodies; channels = channels }) p n event stamp (record { bodies = slice_set bodies p b'; channels = channels })
-    by true is = (Takes_text port.0 text, record {
-      before = b; after = b'; there = there; happens = happens ∙ ap (λ (t : Bool). cond t (Some (Takes_text port.0 text)) (Some (Hears_end port.0))) is;
-      turn = record { process = process true is; dropped = takes.dropped; leaving = takes.leaving; stamps = takes.stamps; levels = takes.levels };
-      bodies = refl; channels = refl;
-    })
-    by false is = (Hears_end port.0, record {
-      before = b; after = b'; there = there; happens = happens ∙ ap (λ (t : Bool). cond t (Some (Takes_text port.0 text)) (Some (Hears_end port.0))) is;
-      turn = record { process = process false is; dropped = takes.dropped; leaving = takes.leaving; stamps = takes.stamps; levels = takes.levels };
-      bodies = refl; channels = refl;
-    })
+    by true is = (
+      Takes_text port.0 text,
+      record {
+        before = b;
+        after = b';
+        there = there;
+        happens = happens ∙ ap (λ (t : Bool). cond t (Some (Takes_text port.0 text)) (Some (Hears_end port.0))) is;
+        turn = record { process = process true is; dropped = takes.dropped; leaving = takes.leaving; stamps = takes.stamps; levels = takes.levels };
+        bodies = refl;
+        channels = refl;
+      },
+    )
+    by false is = (
+      Hears_end port.0,
+      record {
+        before = b;
+        after = b';
+        there = there;
+        happens = happens ∙ ap (λ (t : Bool). cond t (Some (Takes_text port.0 text)) (Some (Hears_end port.0))) is;
+        turn = record { process = process false is; dropped = takes.dropped; leaving = takes.leaving; stamps = takes.stamps; levels = takes.levels };
+        bodies = refl;
+        channels = refl;
+      },
+    )
 
 -- a process that is over
 pub over-net : {K : Type 0} (net : NetValue K) (p n stamp : ℕ) (b : BodyValue K) (over : Over) → slice_get net.bodies p ≡ Some b → CaseIs b.process (cases.Over over) → TurnsNet net p n stamp (turns.Over over) net

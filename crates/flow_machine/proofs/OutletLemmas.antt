@@ -1,8 +1,8 @@
 -- The connected outputs of a process, counted and found.
-use Rattle.std.proofs.Common.{◌≡◌, ℕ, ◌+◌, ◌<◌, ◌≤◌, cond, List, [], ◌∷◌, length, drop, get_or, Option, Some, None, suc, zero, refl, ap, sym, ◌∙◌, arith, slice_get, drop-cons, add-one, subst}
-use Rattle.std.specs.Prelude.{count_by, is_some, option_map}
+use Rattle.std.proofs.Common.{◌≡◌, ℕ, ◌+◌, ◌<◌, ◌≤◌, cond, List, [], ◌∷◌, length, drop, get_or, Option, Some, None, suc, zero, refl, ap, sym, ◌∙◌, arith, slice_get, drop-cons, add-one}
+use Rattle.std.specs.Prelude.{count_by, is_some}
 use Rattle.std.proofs.lemmas.List.Sums.{sum_by-cons}
-use Rattle.flow_model.specs.States.{Outlet, outlets_from}
+use Rattle.flow_model.specs.States.{outlets_from}
 use Rattle.flow_machine.specs.Outlets.{connection_at}
 
 pub length-outlets : (k : ℕ) (os : List (Option ℕ)) → length (outlets_from k os) ≡ count_by is_some os

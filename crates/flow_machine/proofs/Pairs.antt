@@ -1,5 +1,5 @@
 -- What an effect and a connection's change come to is a turn of the machine.
-use Rattle.std.proofs.Common.{◌≡◌, ℕ, ◌+◌, ◌<◌, ◌≤◌, Bool, true, false, cond, List, [], ◌∷◌, ◌++◌, length, drop, Option, Some, None, nat_lt, nat_le, refl, ap, sym, subst, ◌∙◌, arith}
+use Rattle.std.proofs.Common.{◌≡◌, ℕ, ◌+◌, ◌<◌, ◌≤◌, true, false, List, [], ◌∷◌, ◌++◌, length, drop, Option, Some, nat_lt, nat_le, refl, ap, sym, subst, ◌∙◌, arith}
 use Rattle.std.specs.Prelude.{option_and_then, slice_set, slice_index, IfSome}
 use Rattle.std.specs.List.{list_all}
 use Rattle.std.proofs.lemmas.Bool.Decides.{nat_tests}
@@ -9,13 +9,12 @@ use Rattle.flow_packet.specs.Held.{without_packet}
 use Rattle.flow_component.specs.declared.Port.{Port}
 use Rattle.flow_component.specs.declared.Answer.TheVariants as answers
 use Rattle.flow_component.specs.declared.Wish.TheVariants as wishes
-use Rattle.flow_model.specs.declared.Stage.{Stage}
 use Rattle.flow_model.specs.declared.Stage.TheVariants as stages
 use Rattle.flow_model.specs.declared.Block.{Block}
 use Rattle.flow_model.specs.States.{Process}
-use Rattle.flow_model.specs.Events.{Event, Starts, Finishes, Gets, Hears_end, Sends, Learns, Closes, Look, received, sent, told_level, holds_packet, idle_event, can_start, has_ended}
+use Rattle.flow_model.specs.Events.{Event, Starts, Finishes, Gets, Hears_end, Sends, Learns, Look, received, sent, told_level, holds_packet, idle_event, can_start, has_ended}
 use Rattle.flow_model.specs.Turns.{process_after, at_stage, depth_after}
-use Rattle.flow_model.specs.Stands.{ChannelShown, look_shown, shown_after}
+use Rattle.flow_model.specs.Stands.{ChannelShown, look_shown}
 use Rattle.flow_model.proofs.Counts.{packet_at-id}
 use Rattle.flow_machine.specs.Values.{BodyValue}
 use Rattle.flow_machine.specs.declared.answers.Effect.{Effect}

@@ -1,45 +1,41 @@
 -- Bursts, passes and rounds, one turn after another.
-use Rattle.std.proofs.Common.{◌≡◌, ◌≢◌, ℕ, ◌+◌, ◌-◌, ◌*◌, ◌<◌, ◌≤◌, Bool, true, false, List, [], ◌∷◌, ◌++◌, length, map, Option, Some, None, suc, zero, refl, ap, sym, subst, ◌∙◌, arith, slice_get, slice_set, length-set, length-append, append_assoc, append-nil, add-one, ◌⊎◌, inl, inr}
+use Rattle.std.proofs.Common.{◌≡◌, ◌≢◌, ℕ, ◌+◌, ◌<◌, ◌≤◌, Bool, true, false, List, [], ◌∷◌, ◌++◌, length, map, Option, Some, None, suc, zero, refl, ap, sym, subst, ◌∙◌, arith, slice_get, length-append, append_assoc, append-nil, add-one, ◌⊎◌, inl, inr}
 use Rattle.std.specs.Prelude.{option_and_then, IfSome, sum_by}
 use Rattle.std.specs.List.{flat_map}
-use Rattle.std.specs.Bool.{OnTrue, OnFalse}
 use Rattle.flow_packet.specs.Held.{Held}
 use Rattle.flow_component.specs.declared.Answer.{Answer}
 use Rattle.flow_component.specs.declared.Fail.{Fail}
 use Rattle.flow_component.specs.declared.Shape.{Shape}
-use Rattle.flow_component.specs.declared.Wish.TheVariants as wishes
 use Rattle.flow_component.specs.Laws.{Outcome, Wishes, Fails, Obeys, StaysReady, IsSteady}
 use Rattle.flow_model.specs.declared.Stage.{Stage}
 use Rattle.flow_model.specs.declared.Stage.TheVariants as stages
 use Rattle.flow_model.specs.declared.Block.{Block}
 use Rattle.flow_model.specs.States.{Process, State}
 use Rattle.flow_model.specs.Events.{Event, Starts, Finishes, Gets, Takes_text, Hears_end, Sends, Learns, Sleeps, Closes, Look, looks, event_from, event_of, stage_event, seen_by, level_at}
-use Rattle.flow_model.specs.Turns.{Turn}
 use Rattle.flow_model.specs.Works.{Work, worked}
 use Rattle.flow_model.proofs.Schedules.{turns-after}
-use Rattle.flow_model.specs.Schedules.{Journal, no_turns, then_turns, Settles, SettlesAll, WorksLead, IsThought, IsThoughtStage, IsClosed}
-use Rattle.flow_model.specs.Robin.{IsExact, ExactTurn, TurnsOf, Burst, PassBelow, Pass, Passes, joined, RoundRobin}
-use Rattle.flow_model.specs.Verdicts.{HasNoTurn, Quiet, block_of, exact_level, exact_level_for}
-use Rattle.flow_model.specs.Stands.{BodyShown, ChannelShown, NetShown, show_body, bodies_from, look_shown, StandsForOpen}
+use Rattle.flow_model.specs.Schedules.{Journal, no_turns, then_turns, Settles, WorksLead, IsThought, IsThoughtStage}
+use Rattle.flow_model.specs.Robin.{IsExact, ExactTurn, TurnsOf, PassBelow, Pass, Passes, joined}
+use Rattle.flow_model.specs.Verdicts.{HasNoTurn, block_of, exact_level, exact_level_for}
+use Rattle.flow_model.specs.Stands.{BodyShown, NetShown, show_body, bodies_from, look_shown, StandsForOpen}
 use Rattle.flow_model.specs.Fit.{Fit}
 use Rattle.flow_model.proofs.Inverse.{explains}
 use Rattle.flow_model.proofs.Stands.{looks-shown}
 use Rattle.flow_model.proofs.Blocks.{block-no_turn}
 use Rattle.flow_model.proofs.Lists.{slice_get-set_same, slice_get-set_other, same_or_not}
 use Rattle.flow_machine.specs.Values.{BodyValue, NetValue, shown_body, shown_net}
-use Rattle.flow_machine.specs.declared.answers.Turn.{Turn as Turning}
 use Rattle.flow_machine.specs.declared.answers.Turn.TheVariants as turns
 use Rattle.flow_machine.specs.declared.answers.Over.{Over}
 use Rattle.flow_machine.specs.declared.answers.Over.TheVariants as overs
 use Rattle.flow_machine.specs.declared.answers.Thought.{Thought}
 use Rattle.flow_machine.specs.declared.answers.Thought.TheVariants as thoughts
-use Rattle.flow_machine.specs.Nets.{looks_of, BodyTurn, NetTurn, TurnsNet, block_at, level_of, IsAt, HasFailed, levels_told}
+use Rattle.flow_machine.specs.Nets.{looks_of, NetTurn, TurnsNet, level_of, HasFailed, levels_told}
 use Rattle.flow_machine.specs.NetSteps.{ThinksNet, IsSetIn}
-use Rattle.flow_machine.specs.Thoughts.{SettlesBody, WorkedBody, SameBody, KeepsTurns, IsSet, IsSetAt}
+use Rattle.flow_machine.specs.Thoughts.{SettlesBody, WorkedBody, SameBody, IsSet, IsSetAt}
 use Rattle.flow_machine.specs.Logs.{Logged, journal_of, Remembers, stamps_of, levels_of, turns_made}
 use Rattle.flow_machine.specs.Starts.{AllSet}
-use Rattle.flow_machine.specs.Solo.{GoesOn, GoesBy, Goes, HasNoTurnIn, MakesTurn, SettlesNet, SetBelow, turns_of, burst_of, pass_below, some_passes, some_works, all_settled, round_robin}
-use Rattle.flow_machine.proofs.Standings.{get-map, process-in, happens-in}
+use Rattle.flow_machine.specs.Solo.{Goes, HasNoTurnIn, MakesTurn, SettlesNet, SetBelow, turns_of, burst_of, pass_below, some_passes, some_works, all_settled, round_robin}
+use Rattle.flow_machine.proofs.Standings.{process-in, happens-in}
 use Rattle.flow_machine.proofs.NetTurns.{if_some, level-there, set-thought}
 use Rattle.flow_machine.proofs.LogLemmas.{stamps_of-append, levels_of-append, stamps-own, stamps-other, levels-own, levels-other}
 use Rattle.flow_machine.proofs.FitLemmas.{goes-by, goes-same, goes-work, thinks-step, turns-set}
@@ -94,7 +90,14 @@ settles-wishing next old p new think = record { before = think.before; after = t
 
 pub settles-failed : {K : Type 0} (next : K → Held → Answer → Outcome K → Type 0) (old : NetValue K) (p : ℕ) (cause : Fail) (new : NetValue K) → ThinksNet next old p (thoughts.Failed cause) new → SettlesNet next old p new
 settles-failed next old p cause new think = record {
-  before = think.before; after = think.after; there = think.there; settles = think.thinks.0; set = subst (IsSetAt think.after) (sym think.thinks.1) tt; keeps = think.keeps; bodies = think.bodies; channels = think.channels;
+  before = think.before;
+  after = think.after;
+  there = think.there;
+  settles = think.thinks.0;
+  set = subst (IsSetAt think.after) (sym think.thinks.1) tt;
+  keeps = think.keeps;
+  bodies = think.bodies;
+  channels = think.channels;
 }
 
 settles-step : {K : Type 0} (next : K → Held → Answer → Outcome K → Type 0) (old new : BodyValue K) → SettlesBody next old new → SameBody old new ⊎ WorkedBody next old new
@@ -157,9 +160,10 @@ remember-then : {K : Type 0} (a b c : List (BodyValue K)) (n m : ℕ) (log more 
 remember-then {K} a b c n m log more first at rest len p x z was is =
     let y = get-exists b p (omega (arith, get-within c p z is, len)) in
     let f = first p x y.0 was y.1 in
-    let r = rest p y.0 z y.1 is in
-    (r.0 ∙ ap (λ (xs : List ℕ). xs ++ stamps_of p m more) f.0 ∙ append_assoc x.stamps (stamps_of p n log) (stamps_of p m more) ∙ ap (λ (k : ℕ). x.stamps ++ (stamps_of p n log ++ stamps_of p k more)) at ∙ ap (λ (xs : List ℕ). x.stamps ++ xs) (sym (stamps_of-append p n log more)),
-      r.1 ∙ ap (λ (xs : List (ℕ × ℕ)). xs ++ levels_of p m more) f.1 ∙ append_assoc x.levels (levels_of p n log) (levels_of p m more) ∙ ap (λ (k : ℕ). x.levels ++ (levels_of p n log ++ levels_of p k more)) at ∙ ap (λ (xs : List (ℕ × ℕ)). x.levels ++ xs) (sym (levels_of-append p n log more)))
+    let r = rest p y.0 z y.1 is in (
+      r.0 ∙ ap (λ (xs : List ℕ). xs ++ stamps_of p m more) f.0 ∙ append_assoc x.stamps (stamps_of p n log) (stamps_of p m more) ∙ ap (λ (k : ℕ). x.stamps ++ (stamps_of p n log ++ stamps_of p k more)) at ∙ ap (λ (xs : List ℕ). x.stamps ++ xs) (sym (stamps_of-append p n log more)),
+      r.1 ∙ ap (λ (xs : List (ℕ × ℕ)). xs ++ levels_of p m more) f.1 ∙ append_assoc x.levels (levels_of p n log) (levels_of p m more) ∙ ap (λ (k : ℕ). x.levels ++ (levels_of p n log ++ levels_of p k more)) at ∙ ap (λ (xs : List (ℕ × ℕ)). x.levels ++ xs) (sym (levels_of-append p n log more)),
+    )
 
 pub remember-none : {K : Type 0} (n : ℕ) (bodies : List (BodyValue K)) → Remembers n bodies [] bodies
 remember-none {K} n bodies p b b' was is =
@@ -191,11 +195,13 @@ quiet-pass {K} next (suc n) s journal s' none (front, back, mid, parts, first, b
     let front_none : front ≡ no_turns = λ i. record { turns = ts.0 i; seen = ns.0 i } in
     let rest = quiet-pass next n s front mid front_none first in
     let last = no-turns back.turns back.seen burst.0 ts.1 in
-    let same : s' ≡ s = last ∙ rest.0 in
-    (same, λ p below. elim (same_or_not p n) [
-      | inl here ↦ subst (λ (q : ℕ). HasNoTurn s.kept q) (sym here) (subst (λ (t : State K). HasNoTurn t.kept n) same burst.1)
-      | inr other ↦ rest.1 p (omega (arith, below, other))
-    ])
+    let same : s' ≡ s = last ∙ rest.0 in (
+      same,
+      λ p below. elim (same_or_not p n) [
+        | inl here ↦ subst (λ (q : ℕ). HasNoTurn s.kept q) (sym here) (subst (λ (t : State K). HasNoTurn t.kept n) same burst.1)
+        | inr other ↦ rest.1 p (omega (arith, below, other))
+      ],
+    )
   where
     no-turns : (ts seen : List ℕ) → TurnsOf next n mid ts seen s' → ts ≡ [] → s' ≡ mid
     no-turns [] seen go is = go.1
@@ -246,15 +252,18 @@ module _ {K : Type 0} (shape_of : K → Shape) (uses : K → ℕ → Bool) (read
       let e = made.0 in
       let turn = made.1 in
       let one : Logged = record { process = p; seen = seen_by e } in
-      let by = goes.2 in
-      (log ++ one ∷ [], omega (arith, goes.1, length-append log (one ∷ [])), record {
-        remembers = remember-turn next start old mid new p n m (level_of old p) log e by.remembers goes.1 turn settle;
-        states = λ s fit stands.
-            let g = by.states s fit stands in
-            let w = whole-state old p m e mid new turn settle g.0 g.2 g.3 in
-            let journal = journal_of-append log (one ∷ []) in
-            (w.0, subst (λ (j : Journal). TurnsOf next p s j.turns j.seen w.0) (sym journal) (TurnsOf-more next p s (journal_of log).turns (journal_of log).seen g.0 e w.0 g.1 w.1), w.2, w.3);
-      })
+      let by = goes.2 in (
+        log ++ one ∷ [],
+        omega (arith, goes.1, length-append log (one ∷ [])),
+        record {
+          remembers = remember-turn next start old mid new p n m (level_of old p) log e by.remembers goes.1 turn settle;
+          states = λ s fit stands.
+              let g = by.states s fit stands in
+              let w = whole-state old p m e mid new turn settle g.0 g.2 g.3 in
+              let journal = journal_of-append log (one ∷ []) in
+              (w.0, subst (λ (j : Journal). TurnsOf next p s j.turns j.seen w.0) (sym journal) (TurnsOf-more next p s (journal_of log).turns (journal_of log).seen g.0 e w.0 g.1 w.1), w.2, w.3);
+        },
+      )
 
   pub burst-none : (start : NetValue K) (p n : ℕ) → Goes' (turns_of next p) start n start n
   burst-none start p n = ([], omega arith, record { remembers = remember-none n start.bodies; states = λ s fit stands. (s, (refl, refl), fit, stands) })
@@ -266,24 +275,32 @@ module _ {K : Type 0} (shape_of : K → Shape) (uses : K → ℕ → Bool) (read
 
   -- a burst ends where there is no turn
   pub burst-ends : (start old new : NetValue K) (p n m : ℕ) → Goes' (turns_of next p) start n old m → MakesTurn old p m false new → Goes' (burst_of next p) start n new m
-  burst-ends start old new p n m goes none = subst (λ (net : NetValue K). Goes' (burst_of next p) start n net m) (sym none.1) (goes.0, goes.1, record {
-    remembers = goes.2.remembers;
-    states = λ s fit stands. let g = goes.2.states s fit stands in (g.0, (g.1, no-turn-state old p g.0 g.3 none.0), g.2, g.3);
-  })
+  burst-ends start old new p n m goes none = subst (λ (net : NetValue K). Goes' (burst_of next p) start n net m) (sym none.1) (
+    goes.0,
+    goes.1,
+    record {
+      remembers = goes.2.remembers;
+      states = λ s fit stands. let g = goes.2.states s fit stands in (g.0, (g.1, no-turn-state old p g.0 g.3 none.0), g.2, g.3);
+    },
+  )
 
   pub pass-none : (start : NetValue K) (n : ℕ) → Goes' (pass_below next 0) start n start n
   pass-none start n = ([], omega arith, record { remembers = remember-none n start.bodies; states = λ s fit stands. (s, (refl, refl), fit, stands) })
 
   -- a pass goes on by a burst
   pub pass-more : (start old new : NetValue K) (p n m k : ℕ) → length old.bodies ≡ length new.bodies → Goes' (pass_below next p) start n old m → Goes' (burst_of next p) old m new k → Goes' (pass_below next (p + 1)) start n new k
-  pass-more start old new p n m k len goes burst = (goes.0 ++ burst.0, omega (arith, goes.1, burst.1, length-append goes.0 burst.0), record {
-    remembers = remember-then start.bodies old.bodies new.bodies n m goes.0 burst.0 goes.2.remembers goes.1 burst.2.remembers len;
-    states = λ s fit stands.
-        let g = goes.2.states s fit stands in
-        let h = burst.2.states g.0 g.2 g.3 in
-        let to : PassBelow next (suc p) s (journal_of (goes.0 ++ burst.0)) h.0 = (journal_of goes.0, journal_of burst.0, g.0, journal_of-append goes.0 burst.0, g.1, h.1) in
-        (h.0, subst (λ (z : ℕ). PassBelow next z s (journal_of (goes.0 ++ burst.0)) h.0) (sym (add-one p)) to, h.2, h.3);
-  })
+  pass-more start old new p n m k len goes burst = (
+    goes.0 ++ burst.0,
+    omega (arith, goes.1, burst.1, length-append goes.0 burst.0),
+    record {
+      remembers = remember-then start.bodies old.bodies new.bodies n m goes.0 burst.0 goes.2.remembers goes.1 burst.2.remembers len;
+      states = λ s fit stands.
+          let g = goes.2.states s fit stands in
+          let h = burst.2.states g.0 g.2 g.3 in
+          let to : PassBelow next (suc p) s (journal_of (goes.0 ++ burst.0)) h.0 = (journal_of goes.0, journal_of burst.0, g.0, journal_of-append goes.0 burst.0, g.1, h.1) in
+          (h.0, subst (λ (z : ℕ). PassBelow next z s (journal_of (goes.0 ++ burst.0)) h.0) (sym (add-one p)) to, h.2, h.3);
+    },
+  )
 
   processes-length : (net : NetValue K) (s : State K) → StandsForOpen (shown_net net) s → length net.bodies ≡ length s.kept.processes
   processes-length net s stands = bodies-length net.bodies ∙ ap (λ (n : NetShown K). length n.bodies) stands ∙ shown-length s.past.dropped 0 s.kept.processes
@@ -297,15 +314,19 @@ module _ {K : Type 0} (shape_of : K → Shape) (uses : K → ℕ → Bool) (read
 
   -- a round goes on by a pass that has a turn
   pub round-more : (start old new : NetValue K) (n m k : ℕ) → length old.bodies ≡ length new.bodies → Goes' (some_passes next) start n old m → Goes' (pass_below next (length old.bodies)) old m new k → m < k → Goes' (some_passes next) start n new k
-  round-more start old new n m k len goes pass some = (goes.0 ++ pass.0, omega (arith, goes.1, pass.1, length-append goes.0 pass.0), record {
-    remembers = remember-then start.bodies old.bodies new.bodies n m goes.0 pass.0 goes.2.remembers goes.1 pass.2.remembers len;
-    states = λ s fit stands.
-        let g = goes.2.states s fit stands in
-        let h = pass.2.states g.0 g.2 g.3 in
-        let whole : Pass next g.0 (journal_of pass.0) h.0 = subst (λ (z : ℕ). PassBelow next z g.0 (journal_of pass.0) h.0) (processes-length old g.0 g.3) h.1 in
-        let moved = some-turns pass.0 (omega (arith, pass.1, some)) in
-        (h.0, (g.1.0 ++ journal_of pass.0 ∷ [], journal_of-append goes.0 pass.0 ∙ ap (λ (j : Journal). then_turns j (journal_of pass.0)) g.1.1 ∙ sym (joined-more g.1.0 (journal_of pass.0)), Passes-more next s g.1.0 g.0 (journal_of pass.0) h.0 g.1.2 moved whole), h.2, h.3);
-  })
+  round-more start old new n m k len goes pass some = (
+    goes.0 ++ pass.0,
+    omega (arith, goes.1, pass.1, length-append goes.0 pass.0),
+    record {
+      remembers = remember-then start.bodies old.bodies new.bodies n m goes.0 pass.0 goes.2.remembers goes.1 pass.2.remembers len;
+      states = λ s fit stands.
+          let g = goes.2.states s fit stands in
+          let h = pass.2.states g.0 g.2 g.3 in
+          let whole : Pass next g.0 (journal_of pass.0) h.0 = subst (λ (z : ℕ). PassBelow next z g.0 (journal_of pass.0) h.0) (processes-length old g.0 g.3) h.1 in
+          let moved = some-turns pass.0 (omega (arith, pass.1, some)) in
+          (h.0, (g.1.0 ++ journal_of pass.0 ∷ [], journal_of-append goes.0 pass.0 ∙ ap (λ (j : Journal). then_turns j (journal_of pass.0)) g.1.1 ∙ sym (joined-more g.1.0 (journal_of pass.0)), Passes-more next s g.1.0 g.0 (journal_of pass.0) h.0 g.1.2 moved whole), h.2, h.3);
+    },
+  )
 
   no-log : (log : List Logged) → length log ≡ 0 → log ≡ []
   no-log [] is = refl
@@ -327,23 +348,34 @@ module _ {K : Type 0} (shape_of : K → Shape) (uses : K → ℕ → Bool) (read
       let last_none : pass.0 ≡ [] = no-log pass.0 (omega (arith, pass.1, none)) in
       let whole : Remembers n start.bodies (goes.0 ++ pass.0) new.bodies = remember-then start.bodies old.bodies new.bodies n m goes.0 pass.0 goes.2.remembers goes.1 pass.2.remembers (sym len2) in
       let log_is : settled.0 ++ (goes.0 ++ pass.0) ≡ goes.0 = ap (λ (l : List Logged). l ++ (goes.0 ++ pass.0)) front_none ∙ ap (λ (l : List Logged). goes.0 ++ l) last_none ∙ append-nil goes.0 in
-      let remembers : Remembers n first.bodies (settled.0 ++ (goes.0 ++ pass.0)) new.bodies = remember-then first.bodies start.bodies new.bodies n n settled.0 (goes.0 ++ pass.0) settled.2.remembers settled.1 whole (sym (len2 ∙ len1)) in
-      (goes.0, none ∙ goes.1, record {
-        remembers = subst (λ (l : List Logged). Remembers n first.bodies l new.bodies) log_is remembers;
-        states = λ s fit stands.
-            let t = settled.2.states s fit stands in
-            let g = goes.2.states t.0 t.2 t.3 in
-            let h = pass.2.states g.0 g.2 g.3 in
-            let passed : Pass next g.0 (journal_of pass.0) h.0 = subst (λ (z : ℕ). PassBelow next z g.0 (journal_of pass.0) h.0) (processes-length old g.0 g.3) h.1 in
-            let empty : journal_of pass.0 ≡ no_turns = ap journal_of last_none in
-            let still = quiet-pass next (length g.0.kept.processes) g.0 (journal_of pass.0) h.0 empty passed in
-            let last : Pass next h.0 no_turns h.0 = subst (λ (j : Journal). Pass next h.0 j h.0) empty (subst (λ (u : State K). Pass next u (journal_of pass.0) h.0) (sym still.0) passed) in
-            (h.0, (t.0, t.1.1, record { passes = g.1.0; parts = g.1.1; go = subst (λ (u : State K). Passes next t.0 g.1.0 u) (sym still.0) g.1.2; last = last },
-                record {
-                  thought = λ p x is answer. not-told x.stage answer (all-thought new h.0 h.3 set p x is);
-                  still = λ p. subst (λ (u : State K). HasNoTurn u.kept p) (sym still.0) (quiet-at g.0 p still.1);
-                }), h.2, h.3);
-      })
+      let remembers : Remembers n first.bodies (settled.0 ++ (goes.0 ++ pass.0)) new.bodies = remember-then first.bodies start.bodies new.bodies n n settled.0 (goes.0 ++ pass.0) settled.2.remembers settled.1 whole (sym (len2 ∙ len1)) in (
+        goes.0,
+        none ∙ goes.1,
+        record {
+          remembers = subst (λ (l : List Logged). Remembers n first.bodies l new.bodies) log_is remembers;
+          states = λ s fit stands.
+              let t = settled.2.states s fit stands in
+              let g = goes.2.states t.0 t.2 t.3 in
+              let h = pass.2.states g.0 g.2 g.3 in
+              let passed : Pass next g.0 (journal_of pass.0) h.0 = subst (λ (z : ℕ). PassBelow next z g.0 (journal_of pass.0) h.0) (processes-length old g.0 g.3) h.1 in
+              let empty : journal_of pass.0 ≡ no_turns = ap journal_of last_none in
+              let still = quiet-pass next (length g.0.kept.processes) g.0 (journal_of pass.0) h.0 empty passed in
+              let last : Pass next h.0 no_turns h.0 = subst (λ (j : Journal). Pass next h.0 j h.0) empty (subst (λ (u : State K). Pass next u (journal_of pass.0) h.0) (sym still.0) passed) in (
+                h.0,
+                (
+                  t.0,
+                  t.1.1,
+                  record { passes = g.1.0; parts = g.1.1; go = subst (λ (u : State K). Passes next t.0 g.1.0 u) (sym still.0) g.1.2; last = last },
+                  record {
+                    thought = λ p x is answer. not-told x.stage answer (all-thought new h.0 h.3 set p x is);
+                    still = λ p. subst (λ (u : State K). HasNoTurn u.kept p) (sym still.0) (quiet-at g.0 p still.1);
+                  },
+                ),
+                h.2,
+                h.3,
+              );
+        },
+      )
     where
       quiet-at : (s : State K) (p : ℕ) → ((q : ℕ) → q < length s.kept.processes → HasNoTurn s.kept q) → HasNoTurn s.kept p
       quiet-at s p all x n is = all p (get-within s.kept.processes p x is) x n is
@@ -362,9 +394,10 @@ module _ {K : Type 0} (shape_of : K → Shape) (uses : K → ℕ → Bool) (read
     | inl same ↦ (let here : Some settle.after ≡ Some b' = sym (slice_get-set_same old.bodies p settle.before settle.after settle.there) ∙ ap (λ (bs : List (BodyValue K)). slice_get bs p) (sym settle.bodies) ∙ ap (slice_get new.bodies) (sym same) ∙ is in
         let after_is : settle.after ≡ b' = cc in
         let there : Some settle.before ≡ Some b = sym settle.there ∙ ap (slice_get old.bodies) (sym same) ∙ was in
-        let before_is : settle.before ≡ b = cc in
-        (ap (λ (x : BodyValue K). x.stamps) (sym after_is) ∙ settle.keeps.stamps ∙ ap (λ (x : BodyValue K). x.stamps) before_is ∙ sym (append-nil b.stamps),
-          ap (λ (x : BodyValue K). x.levels) (sym after_is) ∙ settle.keeps.levels ∙ ap (λ (x : BodyValue K). x.levels) before_is ∙ sym (append-nil b.levels)))
+        let before_is : settle.before ≡ b = cc in (
+          ap (λ (x : BodyValue K). x.stamps) (sym after_is) ∙ settle.keeps.stamps ∙ ap (λ (x : BodyValue K). x.stamps) before_is ∙ sym (append-nil b.stamps),
+          ap (λ (x : BodyValue K). x.levels) (sym after_is) ∙ settle.keeps.levels ∙ ap (λ (x : BodyValue K). x.levels) before_is ∙ sym (append-nil b.levels),
+        ))
     | inr other ↦ (let h : Some b ≡ Some b' = sym was ∙ sym (slice_get-set_other old.bodies p q settle.after other) ∙ ap (λ (bs : List (BodyValue K)). slice_get bs q) (sym settle.bodies) ∙ is in
         let same : b ≡ b' = cc in
         (ap (λ (x : BodyValue K). x.stamps) (sym same) ∙ sym (append-nil b.stamps), ap (λ (x : BodyValue K). x.levels) (sym same) ∙ sym (append-nil b.levels)))
@@ -372,23 +405,30 @@ module _ {K : Type 0} (shape_of : K → Shape) (uses : K → ℕ → Bool) (read
 
   pub works-more : (start old new : NetValue K) (p n : ℕ) → length old.bodies ≡ length new.bodies → Goes' (some_works next) start n old n → SettlesNet next old p new → Goes' (some_works next) start n new n
   works-more start old new p n len goes settle =
-      let none : goes.0 ≡ [] = no-log goes.0 (omega (arith, goes.1)) in
-      ([], omega arith, record {
-        remembers = subst (λ (l : List Logged). Remembers n start.bodies l new.bodies) (ap (λ (l : List Logged). l ++ []) none)
-            (remember-then start.bodies old.bodies new.bodies n n goes.0 [] goes.2.remembers goes.1 (remember-keeps old new p n settle) len);
-        states = λ s fit stands.
-            let g = goes.2.states s fit stands in
-            let w = settle-state old p new settle g.0 g.2 g.3 in
-            (w.0, (refl, works-then s g.1.1.0 g.0 p w.0 g.1.1.1 w.1), w.2, w.3);
-      })
+      let none : goes.0 ≡ [] = no-log goes.0 (omega (arith, goes.1)) in (
+        [],
+        omega arith,
+        record {
+          remembers = subst (λ (l : List Logged). Remembers n start.bodies l new.bodies) (ap (λ (l : List Logged). l ++ []) none)
+              (remember-then start.bodies old.bodies new.bodies n n goes.0 [] goes.2.remembers goes.1 (remember-keeps old new p n settle) len);
+          states = λ s fit stands.
+              let g = goes.2.states s fit stands in
+              let w = settle-state old p new settle g.0 g.2 g.3 in
+              (w.0, (refl, works-then s g.1.1.0 g.0 p w.0 g.1.1.1 w.1), w.2, w.3);
+        },
+      )
 
   pub works-all : (start new : NetValue K) (n : ℕ) → Goes' (some_works next) start n new n → AllSet new.bodies → Goes' (all_settled next) start n new n
-  works-all start new n goes set = (goes.0, goes.1, record {
-    remembers = goes.2.remembers;
-    states = λ s fit stands.
-        let g = goes.2.states s fit stands in
-        (g.0, (g.1.0, record { works = g.1.1.0; lead = g.1.1.1; closed = λ p x is. all-thought new g.0 g.3 set p x is }), g.2, g.3);
-  })
+  works-all start new n goes set = (
+    goes.0,
+    goes.1,
+    record {
+      remembers = goes.2.remembers;
+      states = λ s fit stands.
+          let g = goes.2.states s fit stands in
+          (g.0, (g.1.0, record { works = g.1.1.0; lead = g.1.1.1; closed = λ p x is. all-thought new g.0 g.3 set p x is }), g.2, g.3);
+    },
+  )
 
 -- which processes are set
 pub set-after : {K : Type 0} (next : K → Held → Answer → Outcome K → Type 0) (old mid new : NetValue K) (p k m : ℕ) (e : Event) → AllSet old.bodies → NetTurn old p k e m mid → SettlesNet next mid p new → AllSet new.bodies

@@ -1,5 +1,5 @@
 -- A process that stands well goes on to stand well.
-use Rattle.std.proofs.Common.{◌≡◌, ◌≢◌, ℕ, ◌+◌, ◌*◌, ◌<◌, ◌≤◌, Bool, true, false, cond, List, [], ◌∷◌, ◌++◌, length, Some, None, Option, nat_lt, nat_eq, refl, ap, sym, subst, ◌∙◌, arith, slice_get, slice_set, slice_index, length-set, get_or-set_same, get_or-set_other, suc, zero, ◌⊎◌, inl, inr, ◌==◌, IsSome, IsTrue}
+use Rattle.std.proofs.Common.{◌≡◌, ℕ, ◌+◌, ◌*◌, ◌<◌, ◌≤◌, Bool, true, false, cond, List, [], ◌∷◌, length, Some, None, Option, nat_lt, nat_eq, refl, ap, sym, subst, ◌∙◌, arith, slice_get, slice_set, slice_index, length-set, get_or-set_same, get_or-set_other, suc, zero, ◌⊎◌, inl, inr, IsSome, IsTrue}
 use Rattle.std.specs.Prelude.{◌^◌}
 use Rattle.std.proofs.lemmas.Bool.Decides.{nat_tests}
 use Rattle.flow_packet.specs.declared.packet.Kind.{Kind}
@@ -7,7 +7,7 @@ use Rattle.flow_packet.specs.declared.packet.Kind.TheVariants as kinds
 use Rattle.flow_packet.specs.Tree.{Tree, kind_of, id_of}
 use Rattle.flow_packet.specs.Hands.{packet_at}
 use Rattle.flow_packet.specs.Edits.{hands_limit}
-use Rattle.flow_packet.specs.Ids.{times, maker_of, ordinal_of}
+use Rattle.flow_packet.specs.Ids.{times, ordinal_of}
 use Rattle.flow_packet.specs.Held.{Held, held_ids, next_id, Sound, with_made, with_packet, without_packet}
 use Rattle.flow_packet.proofs.Comes.{Keeps, MakesOne, comes, made-one, drops-keep}
 use Rattle.flow_component.specs.declared.Port.{Port}
@@ -20,22 +20,21 @@ use Rattle.flow_component.specs.declared.Fail.TheVariants as fails
 use Rattle.flow_component.specs.Laws.{Outcome, Wishes, Fails, held_after, ReadyIfSound, Obeys, StaysReady, IsSteady}
 use Rattle.flow_model.specs.declared.Stage.{Stage}
 use Rattle.flow_model.specs.declared.Stage.TheVariants as stages
-use Rattle.flow_model.specs.States.{Process, Input, Text, outlets, outlets_from}
+use Rattle.flow_model.specs.States.{Process, Input, outlets_from}
 use Rattle.flow_model.specs.Events.{Gets, Takes_text}
-use Rattle.flow_model.specs.Turns.{limited, closing, turn_limit, process_after, at_stage, depth_after}
+use Rattle.flow_model.specs.Turns.{limited, turn_limit, process_after, at_stage, depth_after}
 use Rattle.flow_model.specs.Works.{worked, judged, sending, nests}
 use Rattle.flow_model.specs.Schedules.{IsThoughtStage}
-use Rattle.flow_model.specs.Valid.{ReadyAt, IsNested, IsGranted, GoodProcess, FitProcess, owed, least_left}
+use Rattle.flow_model.specs.Valid.{ReadyAt, IsNested, IsGranted, FitProcess, owed, least_left}
 use Rattle.flow_model.proofs.Counts.{maker_of-next_id, ordinal_of-next_id}
 use Rattle.flow_model.proofs.Lists.{same_or_not}
-use Rattle.flow_model.proofs.Places.{held-worked}
 use Rattle.flow_model.proofs.Schedules.{comes-of, least_left-most, owed-most}
 use Rattle.flow_model.proofs.Ready.{ready-worked, nested-worked}
 use Rattle.flow_model.proofs.Blocks.{fit-worked}
 use Rattle.flow_machine.specs.Outlets.{output_in, closing_in}
 use Rattle.flow_machine.specs.Effects.{port_at, depths_sent, CanDeepen}
 use Rattle.flow_machine.proofs.OutletLemmas.{length-outlets-most}
-use Rattle.flow_machine.specs.Bodies.{StandsWell, HasLeft, IsBody}
+use Rattle.flow_machine.specs.Bodies.{StandsWell, HasLeft}
 
 -- the next id isn't held yet
 next_id-fresh : (old : Held) → Sound old → times (next_id old) (held_ids old) ≡ 0
@@ -197,11 +196,21 @@ module _ {K : Type 0} (shape_of : K → Shape) (uses : K → ℕ → Bool) (read
           nested = nested-worked x (Wishes part held wish);
           is_ready = is_ready;
         };
-        fit = fit; sound = sound; fresh = well.fresh; deep = well.deep; short = well.short; few = well.few;
+        fit = fit;
+        sound = sound;
+        fresh = well.fresh;
+        deep = well.deep;
+        short = well.short;
+        few = well.few;
       }
       by (Fails part held cause) is_ready fit sound made turns = record {
         good = record { maker = refl; made = omega (arith, made); turns = omega (arith, turns); depths = well.good.depths; nested = tt; is_ready = tt };
-        fit = fit; sound = sound; fresh = well.fresh; deep = well.deep; short = well.short; few = well.few;
+        fit = fit;
+        sound = sound;
+        fresh = well.fresh;
+        deep = well.deep;
+        short = well.short;
+        few = well.few;
       }
 
   -- A process that goes to its end, or on with it.
@@ -215,7 +224,11 @@ module _ {K : Type 0} (shape_of : K → Shape) (uses : K → ℕ → Bool) (read
       well-at stage owes most nested can granted = record {
         good = record { maker = refl; made = omega (arith, owes, well.good.made); turns = most; depths = well.good.depths; nested = nested; is_ready = can };
         fit = record { inputs = well.fit.inputs; used = well.fit.used; granted = granted };
-        sound = well.sound; fresh = well.fresh; deep = λ port. omega (arith, well.deep port); short = well.short; few = well.few;
+        sound = well.sound;
+        fresh = well.fresh;
+        deep = λ port. omega (arith, well.deep port);
+        short = well.short;
+        few = well.few;
       }
 
       limit : (i : ℕ) → i < length (outlets_from 0 x.outputs) → (b : Bool) → nat_eq (x.turns + 1) turn_limit ≡ b → StandsWell shape_of uses ready (z (cond b (stages.Failed fails.TurnLimit) (stages.Closing i)))
@@ -263,9 +276,11 @@ module _ {K : Type 0} (shape_of : K → Shape) (uses : K → ℕ → Bool) (read
   pub may-deepen : (kind : Kind) (x : Process K) → HasLeft shape_of uses ready kind x → CanDeepen x.depths (port_at x.stage) (Some kind)
   may-deepen kind x left =
       let y = left.before in
-      let at : CanDeepen y.depths (port_at y.stage) (Some kind) = subst (λ (n : ℕ). CanDeepen y.depths n (Some kind)) (sym (ap port_at left.wished))
-      (omega (arith, port-there kind x left), omega (arith, left.stood.deep left.port.0, left.stood.good.turns),
-        subst (λ (k : Kind). IsTrue (nests k (slice_index y.depths left.port.0))) left.is_kind ((subst (IsNested y) left.wished left.stood.good.nested) left.packet left.found)) in
+      let at : CanDeepen y.depths (port_at y.stage) (Some kind) = subst (λ (n : ℕ). CanDeepen y.depths n (Some kind)) (sym (ap port_at left.wished)) (
+        omega (arith, port-there kind x left),
+        omega (arith, left.stood.deep left.port.0, left.stood.good.turns),
+        subst (λ (k : Kind). IsTrue (nests k (slice_index y.depths left.port.0))) left.is_kind ((subst (IsNested y) left.wished left.stood.good.nested) left.packet left.found),
+      ) in
       subst (λ (z : Process K). CanDeepen z.depths (port_at z.stage) (Some kind)) (sym left.is) at
     where
       port-there : (kind : Kind) (x : Process K) (left : HasLeft shape_of uses ready kind x) → left.port.0 < length left.before.depths

@@ -1,9 +1,9 @@
 -- What a net shows of a state that it stands for.
-use Rattle.std.proofs.Common.{◌≡◌, ℕ, ◌+◌, ◌-◌, ◌<◌, ◌≤◌, List, [], ◌∷◌, length, map, Option, Some, None, suc, zero, refl, ap, sym, subst, ◌∙◌, arith, slice_get, option_map}
+use Rattle.std.proofs.Common.{◌≡◌, ℕ, ◌+◌, List, [], ◌∷◌, map, Option, Some, suc, zero, refl, ap, sym, ◌∙◌, arith, slice_get}
 use Rattle.flow_model.specs.States.{Process, Channel, Put, State}
-use Rattle.flow_model.specs.Events.{Event, Look, looks, event_from, event_of}
-use Rattle.flow_model.specs.Stands.{BodyShown, ChannelShown, show_body, show_channel, bodies_from, channels_from, shown, look_shown, StandsForOpen}
-use Rattle.flow_model.proofs.Stands.{event-shown, looks-shown}
+use Rattle.flow_model.specs.Events.{event_from, event_of}
+use Rattle.flow_model.specs.Stands.{BodyShown, ChannelShown, show_channel, bodies_from, channels_from, look_shown, StandsForOpen}
+use Rattle.flow_model.proofs.Stands.{event-shown}
 use Rattle.flow_machine.specs.Values.{BodyValue, NetValue, shown_body, shown_net}
 
 pub get-map : {A B : Type 0} (f : A → B) (xs : List A) (i : ℕ) (x : A) → slice_get xs i ≡ Some x → slice_get (map f xs) i ≡ Some (f x)

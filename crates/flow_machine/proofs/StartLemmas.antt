@@ -1,7 +1,7 @@
 -- A net at its start.
-use Rattle.std.proofs.Common.{◌≡◌, ℕ, ◌+◌, ◌<◌, ◌≤◌, Bool, true, false, cond, List, [], ◌∷◌, length, map, replicate, Option, Some, None, suc, zero, refl, ap, sym, subst, ◌∙◌, arith, nat_eq, slice_get, slice_index, get_or, drop, add-one, ◌++◌, ◌⊎◌, inl, inr}
-use Rattle.std.specs.Prelude.{◌^◌, position, option_and_then}
-use Rattle.std.specs.List.{sum_by, range_with_len, list_any}
+use Rattle.std.proofs.Common.{◌≡◌, ℕ, ◌+◌, ◌<◌, ◌≤◌, Bool, true, false, cond, List, [], ◌∷◌, length, map, replicate, Option, Some, None, suc, zero, refl, ap, sym, subst, ◌∙◌, arith, nat_eq, slice_get, slice_index, get_or, drop, add-one}
+use Rattle.std.specs.Prelude.{◌^◌, option_and_then}
+use Rattle.std.specs.List.{sum_by, range_with_len}
 use Rattle.std.proofs.lemmas.List.{length-map}
 use Rattle.std.proofs.lemmas.List.Sums.{sum_by-cons}
 use Rattle.std.proofs.lemmas.List.Quantifiers.{position-Some}
@@ -12,15 +12,15 @@ use Rattle.flow_net.specs.Network.{Network}
 use Rattle.flow_component.specs.declared.Answer.{Answer}
 use Rattle.flow_component.specs.declared.Shape.{Shape}
 use Rattle.flow_model.specs.States.{Input, From, Text, Process, output_at}
-use Rattle.flow_model.specs.Plans.{Plan, PlanProcess, PlanConnection, text_at, connected_or, receives_at, sends_at, input_at, process_at_start, processes_at_start, channel_at_start, start_of, IsWired, StartsWell}
+use Rattle.flow_model.specs.Plans.{Plan, PlanProcess, PlanConnection, text_at, connected_or, receives_at, sends_at, input_at, process_at_start, processes_at_start, channel_at_start, start_of, StartsWell}
 use Rattle.flow_model.specs.Stands.{bodies_from, channels_from}
 use Rattle.flow_model.proofs.Start.{port-at, Valid-start}
 use Rattle.flow_model.proofs.Blocks.{AllFit-start}
 use Rattle.flow_model.proofs.Fits.{Fit-start}
+use Rattle.flow_machine.proofs.Lists.{element-there, nothing-there}
 use Rattle.flow_machine.specs.Values.{BodyValue, NetValue, shown_body}
 use Rattle.flow_machine.specs.Bodies.{StandsWell}
 use Rattle.flow_machine.specs.PlanOf.{plan_of, sender_of, connection_of, leads_to, comes_from}
-use Rattle.flow_machine.specs.Logs.{turns_made}
 use Rattle.flow_machine.specs.FitNets.{IsWiredBody, FitNet}
 use Rattle.flow_machine.specs.Starts.{StartsBody, StartsBodies, StartsNet, channel_begun}
 
@@ -112,11 +112,6 @@ turns-none : {K : Type 0} (bodies : List (BodyValue K)) → ((p : ℕ) (b : Body
 turns-none [] none = refl
 turns-none {K} (b ∷ bodies) none = sum_by-cons (λ (x : BodyValue K). x.process.turns) b bodies ∙ omega (arith, none 0 b refl, turns-none bodies (λ p x is. none (suc p) x is))
 
-pub element-there : {A : Type 0} (xs : List A) (i : ℕ) → i < length xs → (x : A) × (slice_get xs i ≡ Some x)
-element-there [] i within = absurd (omega (arith, within))
-element-there (x ∷ xs) zero within = (x, refl)
-element-there (x ∷ xs) (suc i) within = element-there xs i (omega (arith, within))
-
 -- each body is a process of the plan that starts
 record Begun {K : Type 0} (plan : Plan) (p : ℕ) (b : BodyValue K) : Type 0 where
   spec : PlanProcess
@@ -174,22 +169,6 @@ first-is (y ∷ xs) (suc n) v x there is = first-is xs n v x there is
 
 pub first-of : {A : Type 0} (xs ys : List A) (n : ℕ) (v x : A) → ys ≡ drop n xs → slice_get xs n ≡ Some x → v ≡ get_or ys 0 v → v ≡ x
 first-of {A} xs ys n v x is there first = first-is xs n v x there (first ∙ ap (λ (zs : List A). get_or zs 0 v) is)
-
-pub nothing-there : {A : Type 0} (i : ℕ) (x : A) → slice_get [] i ≡ Some x → ⊥
-nothing-there i x is = absurd (cc)
-
-pub some-same : {A : Type 0} (x y : A) → Some x ≡ Some y → x ≡ y
-some-same x y is = cc
-
--- an element of a list with one more
-pub last-or : {A : Type 0} (xs : List A) (y : A) (i : ℕ) (z : A) → slice_get (xs ++ y ∷ []) i ≡ Some z → (slice_get xs i ≡ Some z) ⊎ ((i ≡ length xs) × (y ≡ z))
-last-or [] y zero z is = inr (refl, (let h : y ≡ z = cc in h))
-last-or [] y (suc i) z is = absurd (cc)
-last-or (x ∷ xs) y zero z is = inl is
-last-or (x ∷ xs) y (suc i) z is = elim (last-or xs y i z is) [
-  | inl h ↦ inl h
-  | inr h ↦ inr (let e : suc i ≡ length (x ∷ xs) = omega (arith, h.0) in (e, h.1))
-]
 
 pub starts-same : {K : Type 0} (plan : Plan) (p p' : ℕ) (q q' : PlanProcess) (part part' : K) (b b' : BodyValue K) → p ≡ p' → q ≡ q' → part ≡ part' → b ≡ b' → StartsBody (process_at_start plan p q part) b → StartsBody (process_at_start plan p' q' part') b'
 starts-same {K} plan p p' q q' part part' b b' places specs parts bodies start =

@@ -1,5 +1,5 @@
 -- A thought is a work, if one was to come, and the room of the next turn.
-use Rattle.std.proofs.Common.{◌≡◌, ◌∙◌, ◌⊎◌, inl, inr}
+use Rattle.std.proofs.Common.{◌∙◌, inl, inr}
 use Rattle.flow_packet.specs.Held.{Held}
 use Rattle.flow_component.specs.declared.Answer.{Answer}
 use Rattle.flow_component.specs.Laws.{Outcome}
@@ -11,7 +11,10 @@ use Rattle.flow_machine.specs.Thoughts.{WorkedBody, SameBody, Thinks, Prepares, 
 
 worked-same : {K : Type 0} (next : K → Held → Answer → Outcome K → Type 0) (old mid new : BodyValue K) → WorkedBody next old mid → SameBody mid new → WorkedBody next old new
 worked-same next old mid new work same = record {
-  answer = work.answer; outcome = work.outcome; told = work.told; comes = work.comes;
+  answer = work.answer;
+  outcome = work.outcome;
+  told = work.told;
+  comes = work.comes;
   process = same.process ∙ work.process;
   dropped = same.dropped ∙ work.dropped;
 }

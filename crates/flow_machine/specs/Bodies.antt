@@ -11,7 +11,6 @@ use Rattle.flow_component.specs.declared.Shape.{Shape}
 use Rattle.flow_model.specs.declared.Stage.TheVariants as stages
 use Rattle.flow_model.specs.States.{Text, Process}
 use Rattle.flow_model.specs.Valid.{GoodProcess, FitProcess}
-use Rattle.flow_machine.specs.Values.{BodyValue}
 
 -- A process alone stands well: its component is ready and fits, its wish can be granted, it keeps within its turns, its hands are sound, no
 -- output is nested deeper than it had turns, and its initial texts are short.

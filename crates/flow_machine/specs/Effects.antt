@@ -1,9 +1,7 @@
 -- What an effect does to the process that makes a turn.
-use Rattle.std.specs.Prelude.{◌≡◌, ℕ, ◌<◌, Bool, true, false, List, [], ◌∷◌, ◌++◌, ◌-◌, ◌+◌, ◌^◌, length, IsTrue, Option, Some, None, slice_get, slice_set, slice_index}
+use Rattle.std.specs.Prelude.{◌≡◌, ℕ, ◌<◌, Bool, true, false, List, [], ◌∷◌, ◌++◌, ◌+◌, ◌^◌, length, IsTrue, Option, Some, None, slice_get, slice_set, slice_index}
 use Rattle.flow_packet.specs.declared.packet.Kind.{Kind}
-use Rattle.flow_packet.specs.Tree.{Tree, kind_of}
-use Rattle.flow_packet.specs.Hands.{packet_at}
-use Rattle.flow_packet.specs.Held.{Sound, with_packet, without_packet}
+use Rattle.flow_packet.specs.Held.{Sound, with_packet}
 use Rattle.flow_component.specs.declared.Port.{Port}
 use Rattle.flow_component.specs.declared.Answer.TheVariants as answers
 use Rattle.flow_component.specs.declared.Wish.{Wish}

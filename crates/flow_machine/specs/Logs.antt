@@ -1,5 +1,5 @@
 -- The turns of a net in the order of their stamps, and what each body remembers of them.
-use Rattle.std.specs.Prelude.{◌≡◌, ℕ, ◌+◌, ◌<◌, ◌==◌, if◌then◌else◌, List, [], ◌∷◌, ◌++◌, map, length, Some, slice_get, sum_by}
+use Rattle.std.specs.Prelude.{length, ◌≡◌, ℕ, ◌+◌, ◌==◌, if◌then◌else◌, List, [], ◌∷◌, ◌++◌, map, Some, slice_get, sum_by}
 use Rattle.std.specs.List.{flat_map}
 use Rattle.flow_model.specs.Schedules.{Journal}
 use Rattle.flow_machine.specs.Values.{BodyValue, NetValue}

@@ -1,5 +1,5 @@
 -- How the states that a net stands for go on.
-use Rattle.std.specs.Prelude.{◌≡◌, ◌≢◌, ◌⊎◌, ℕ, ◌<◌, ◌≤◌, Bool, List, length, Option, Some, None, slice_get, slice_set, IfSome, OnSome}
+use Rattle.std.specs.Prelude.{◌≡◌, ℕ, Bool, Some, slice_get, slice_set, IfSome}
 use Rattle.flow_packet.specs.Held.{Held}
 use Rattle.flow_component.specs.declared.Answer.{Answer}
 use Rattle.flow_component.specs.declared.Shape.{Shape}
@@ -7,7 +7,6 @@ use Rattle.flow_component.specs.Laws.{Outcome}
 use Rattle.flow_model.specs.States.{State}
 use Rattle.flow_model.specs.Events.{Event}
 use Rattle.flow_model.specs.Turns.{Turn}
-use Rattle.flow_model.specs.Schedules.{Settles, IsThought}
 use Rattle.flow_model.specs.Stands.{StandsForOpen}
 use Rattle.flow_model.specs.Fit.{Fit}
 use Rattle.flow_machine.specs.Values.{BodyValue, NetValue, shown_net}

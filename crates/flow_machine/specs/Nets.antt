@@ -1,5 +1,5 @@
 -- What the calls of nets do.
-use Rattle.std.specs.Prelude.{◌≡◌, ℕ, ◌<◌, List, [], ◌∷◌, ◌++◌, map, length, Option, Some, None, slice_get, slice_set, option_and_then, unwrap_or, IfSome}
+use Rattle.std.specs.Prelude.{◌≡◌, ℕ, ◌&&◌, nat_le, Bool, true, false, List, [], ◌∷◌, ◌++◌, map, length, Option, Some, None, slice_get, slice_set, option_and_then, unwrap_or, IfSome}
 use Rattle.flow_packet.specs.Tree.{Tree}
 use Rattle.flow_packet.specs.Hands.{packet_at}
 use Rattle.flow_packet.specs.Held.{Sound, with_packet}
@@ -9,7 +9,7 @@ use Rattle.flow_component.specs.declared.Fail.{Fail}
 use Rattle.flow_model.specs.declared.Stage.{Stage}
 use Rattle.flow_model.specs.declared.Stage.TheVariants as stages
 use Rattle.flow_model.specs.declared.Block.{Block}
-use Rattle.flow_model.specs.States.{Process}
+use Rattle.flow_model.specs.States.{Process, output_at}
 use Rattle.flow_model.specs.Events.{Event, Starts, Finishes, Gets, Takes_text, Hears_end, Sends, Learns, Sleeps, Closes, Look, event_from}
 use Rattle.flow_model.specs.Turns.{process_after}
 use Rattle.flow_model.specs.Verdicts.{block_of, exact_level}
@@ -20,7 +20,6 @@ use Rattle.flow_machine.specs.Effects.{id_sent}
 use Rattle.flow_machine.specs.declared.answers.Case.{Case}
 use Rattle.flow_machine.specs.declared.answers.Turn.{Turn as Answer}
 use Rattle.flow_machine.specs.declared.answers.Turn.TheVariants as answers
-use Rattle.flow_machine.specs.declared.answers.Over.{Over}
 use Rattle.flow_machine.specs.declared.answers.Over.TheVariants as overs
 
 -- The connections, as a process sees them.
@@ -110,3 +109,39 @@ TurnsNet old p n stamp (answers.Over overs.Starved) new = ⊥
 -- Process p has this case.
 abbrev pub HasCase : {K : Type 0} → NetValue K → ℕ → Case → Type 0
 HasCase net p case = IfSome (slice_get net.bodies p) (λ (b : BodyValue _). case_of b.process ≡ Some case)
+
+-- The connection takes no further packet.
+abbrev pub is_full : ChannelShown → Bool
+is_full channel = nat_le channel.capacity (length channel.packets)
+
+-- A process at this stage asks for a level.
+abbrev pub is_asking : Stage → Bool
+is_asking (stages.Wishing (wishes.Level port)) = true
+is_asking (stages.Wishing (wishes.Receive port)) = false
+is_asking (stages.Wishing (wishes.Send port id)) = false
+is_asking (stages.Wishing wishes.Deactivate) = false
+is_asking stages.Idle = false
+is_asking (stages.Told answer) = false
+is_asking (stages.Closing i) = false
+is_asking stages.Ended = false
+is_asking (stages.Failed cause) = false
+
+abbrev pub asks_level : Stage → Type 0
+asks_level stage = is_asking stage ≡ true
+
+-- Process p asks for a level at a connection, and this number doesn't lie from the packets that are there to the capacity.
+pub record RefusesLevel {K : Type 0} (net : NetValue K) (p n : ℕ) : Type 0 where
+  pub body : BodyValue K
+  pub port : Port
+  pub connection : ℕ
+  pub channel : ChannelShown
+  pub there : slice_get net.bodies p ≡ Some body
+  pub asks : body.process.stage ≡ stages.Wishing (wishes.Level port)
+  pub output : output_at body.process port.0 ≡ Some connection
+  pub at : slice_get net.channels connection ≡ Some channel
+  pub outside : (nat_le (length channel.packets) n && nat_le n channel.capacity) ≡ false
+
+-- What a turn of process p that is told n answers: the turn was made; or nothing changed, since that number can't be told.
+abbrev pub SeesNet : {K : Type 0} → NetValue K → ℕ → ℕ → ℕ → Option Answer → NetValue K → Type 0
+SeesNet old p n stamp (Some answer) new = (answer ≡ answers.Made stamp) × TurnsNet old p n stamp answer new
+SeesNet old p n stamp None new = RefusesLevel old p n × (new ≡ old)

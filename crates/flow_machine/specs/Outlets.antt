@@ -1,5 +1,5 @@
 -- The connections at outputs.
-use Rattle.std.specs.Prelude.{ℕ, List, Option, Some, None, slice_get, option_and_then, option_map, length, nat_lt, if◌then◌else◌}
+use Rattle.std.specs.Prelude.{ℕ, List, Option, slice_get, option_and_then, option_map, length, nat_lt, if◌then◌else◌}
 use Rattle.flow_model.specs.States.{Outlet, outlets_from}
 use Rattle.flow_model.specs.declared.Stage.{Stage}
 use Rattle.flow_model.specs.declared.Stage.TheVariants as stages

@@ -1,5 +1,5 @@
 -- A plan, as the machine knows it.
-use Rattle.std.specs.Prelude.{ℕ, ◌==◌, ◌&&◌, Bool, List, map}
+use Rattle.std.specs.Prelude.{ℕ, ◌==◌, ◌&&◌, Bool, map}
 use Rattle.std.specs.List.{list_any}
 use Rattle.flow_net.specs.declared.plan.Sender.{Sender as NetSender}
 use Rattle.flow_net.specs.declared.plan.Process.{Process as NetProcess}

@@ -1,5 +1,5 @@
 -- What one thread does with a net: turns of each process in turn, until none has one.
-use Rattle.std.specs.Prelude.{◌≡◌, ◌≢◌, ℕ, ◌+◌, ◌<◌, ◌≤◌, Bool, true, false, List, [], ◌∷◌, length, Option, None, Some, slice_get, slice_set}
+use Rattle.std.specs.Prelude.{◌≡◌, ℕ, ◌+◌, ◌<◌, Bool, true, false, List, length, None, Some, slice_get, slice_set}
 use Rattle.flow_packet.specs.Held.{Held}
 use Rattle.flow_component.specs.declared.Answer.{Answer}
 use Rattle.flow_component.specs.declared.Shape.{Shape}
@@ -14,8 +14,7 @@ use Rattle.flow_model.specs.Fit.{Fit}
 use Rattle.flow_machine.specs.Values.{BodyValue, NetValue, shown_net}
 use Rattle.flow_machine.specs.Nets.{looks_of, NetTurn, level_of}
 use Rattle.flow_machine.specs.Thoughts.{SettlesBody, KeepsTurns, IsSet}
-use Rattle.flow_machine.specs.Logs.{Logged, journal_of, Remembers, turns_made}
-use Rattle.flow_machine.specs.Starts.{AllSet}
+use Rattle.flow_machine.specs.Logs.{Logged, journal_of, Remembers}
 
 -- Each fit state that a net stood for goes on in this way to one that it stands for afterwards.
 abbrev pub GoesOn : {K : Type 0} → (K → Shape) → (K → ℕ → Bool) → (K → Held → Answer → Type 0) → (State K → State K → Type 0) → NetValue K → NetValue K → Type 0

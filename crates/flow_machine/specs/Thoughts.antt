@@ -1,17 +1,16 @@
 -- What a thought does, and the room of a turn.
-use Rattle.std.specs.Prelude.{◌≡◌, ◌⊎◌, ℕ, ◌<◌, Bool, true, false, List, Option, Some, None, slice_get}
+use Rattle.std.specs.Prelude.{◌≡◌, ◌⊎◌, ℕ, ◌<◌, List, Option, None, slice_get}
 use Rattle.flow_packet.specs.Tree.{Tree}
 use Rattle.flow_packet.specs.Hands.{IsAtRoot}
 use Rattle.flow_packet.specs.Held.{Held}
 use Rattle.flow_component.specs.declared.Answer.{Answer}
-use Rattle.flow_component.specs.declared.Fail.{Fail}
 use Rattle.flow_component.specs.declared.Wish.{Wish}
 use Rattle.flow_component.specs.declared.Wish.TheVariants as wishes
 use Rattle.flow_component.specs.Laws.{Outcome, held_after}
 use Rattle.flow_component.specs.Resumes.{drops_between, dropped_count}
 use Rattle.flow_model.specs.declared.Stage.{Stage}
 use Rattle.flow_model.specs.declared.Stage.TheVariants as stages
-use Rattle.flow_model.specs.States.{Input, From, Text, Process}
+use Rattle.flow_model.specs.States.{Process}
 use Rattle.flow_model.specs.Events.{is_fresh}
 use Rattle.flow_model.specs.Works.{worked}
 use Rattle.flow_model.specs.Schedules.{IsThoughtStage}

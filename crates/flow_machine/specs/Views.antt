@@ -1,5 +1,5 @@
 -- What the fields of a body show.
-use Rattle.std.specs.Prelude.{ℕ, ◌-◌, List, map, length, Option, Some, None, vec_len, vec_capacity}
+use Rattle.std.specs.Prelude.{◌-◌, map, vec_len, vec_capacity}
 use Rattle.std.specs.Option.{option_map}
 use Rattle.flow_packet.specs.Held.{held_of}
 use Rattle.flow_model.specs.States.{Process}

@@ -1,7 +1,7 @@
 //! A process of a network that runs.
 ghost use Rattle.std.specs.Prelude.{◌≡◌, ℕ, ◌+◌, ◌-◌, ◌^◌, ◌<◌, ◌≤◌, ◌↔◌, [], ◌∷◌, ◌++◌, length, IsTrue, IfOk, IfSome, None, Some};
 ghost use Rattle.flow_packet.specs.Tree.{id_of, kind_of};
-ghost use Rattle.flow_packet.specs.Held.{without_packet};
+ghost use Rattle.flow_packet.specs.Held.{held_of, without_packet};
 ghost use Rattle.flow_packet.specs.Hands.{packet_at};
 ghost use Rattle.flow_model.specs.Schedules.{IsThoughtStage};
 ghost use Rattle.flow_model.specs.declared.Stage.TheVariants.{Wishing};
@@ -13,15 +13,13 @@ use crate::inlet::Inlet;
 use crate::outlets::{outlet_at, output_at};
 use flow_component::{Component, Port, Wish};
 use flow_model::Stage;
-use flow_packet::Hands;
-use flow_packet::{Kind, Packet, PacketId};
+use flow_packet::{Hands, Kind, Packet, PacketId};
 use std::marker::Model;
 
 mod begin;
 mod effect;
 mod idle;
 mod think;
-
 
 /// A process: it runs a component.
 pub struct Body<K: Component> {
@@ -105,6 +103,14 @@ impl<K: Component> Body<K> {
         ensures { result.now ≡ self.now.process.part }
     {
         &self.part
+    }
+
+    /// The packets that it owns and holds.
+    pub fn hands(&self) -> &Hands
+        ensures held { held_of result.now ≡ self.now.process.held }
+        ensures dropped { result.now.dropped ≡ self.now.dropped }
+    {
+        &self.hands
     }
 
     /// The stamps of its turns, in order.

@@ -1,6 +1,7 @@
 //! A network that runs.
 ghost use Rattle.std.specs.Prelude.{◌≡◌, ◌<◌, ◌^◌, ◌≤◌, length, None, Some, slice_get, IfSome, sum_by};
-ghost use Rattle.flow_machine.specs.Nets.{level_of, TurnsNet};
+ghost use Rattle.flow_model.specs.Schedules.{IsThoughtStage};
+ghost use Rattle.flow_machine.specs.Nets.{level_of, block_at, is_asking, asks_level, IsAt, TurnsNet, SeesNet};
 ghost use Rattle.flow_machine.specs.NetSteps.{IsSetIn, ThinksNet};
 ghost use Rattle.flow_machine.specs.Logs.{turns_made, HasLog};
 
@@ -8,10 +9,13 @@ use self::begin::{discard_bodies, discard_channels};
 use crate::answers::{Thought, Turn};
 use crate::body::Body;
 use crate::channel::Channel;
-use flow_component::{Component, Gate};
+use flow_component::{Component, Gate, Wish};
+use flow_model::{Block, Stage};
 use std::marker::Model;
 
 mod begin;
+mod blocks;
+mod levels;
 mod pair;
 mod round;
 mod turns;
@@ -91,6 +95,41 @@ impl<K: Component> Net<K> {
         ensures few { turns_made self.new ≤ 1073741824 }
     {
         turns::turn_of(&mut self.bodies, &mut self.channels, process, stamp)
+    }
+
+    /// The process asks for a level.
+    pub fn wishes_level(&self, process: u32) -> bool
+        requires { process < length self.now.bodies }
+        ensures { IsAt self.now process (λ stage. result ≡ is_asking stage) }
+    {
+        match self.bodies[process as usize].stage() {
+            Stage::Wishing(wish) => match wish {
+                Wish::Level(_) => true,
+                _ => false,
+            },
+            _ => false,
+        }
+    }
+
+    /// A turn of a process that asks for a level, which is told the given number. `None`: that number does not lie from the packets that are in the
+    /// connection to its capacity. Takes no memory.
+    pub fn turn_seen(&mut self, process: u32, stamp: u32, seen: u32) -> Option<Turn>
+        requires in_range { process < length self.old.bodies }
+        requires set { IsSetIn self.old process }
+        requires next { stamp ≡ turns_made self.old }
+        requires asks { IsAt self.old process asks_level }
+        ensures { SeesNet self.old process seen stamp result self.new }
+    {
+        levels::seen_of(&mut self.bodies, &self.channels, process, stamp, seen)
+    }
+
+    /// What a process waits for while it has no turn. `None`: it has one, or is over.
+    pub fn block(&self, process: u32) -> Option<Block>
+        requires in_range { process < length self.now.bodies }
+        requires thought { IsAt self.now process IsThoughtStage }
+        ensures { result ≡ block_at self.now process }
+    {
+        blocks::block_of(&self.bodies, &self.channels, process)
     }
 
     /// How many turns were made.

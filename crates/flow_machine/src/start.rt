@@ -75,11 +75,7 @@ fn sending(connections: &[Connection], process: u32, output: u32) -> Option<u32>
 }
 
 /// The initial text at an input, and no text where there is none.
-fn initial_text(
-    alloc: Global,
-    initials: &[(u32, Text)],
-    input: u32,
-) -> Result<Vec<u8>, AllocError>
+fn initial_text(alloc: Global, initials: &[(u32, Text)], input: u32) -> Result<Vec<u8>, AllocError>
     ensures { IfOk result (λ text. text.items ≡ text_at initials.now input) }
 {
     for initial in initials {
@@ -121,7 +117,11 @@ pub(crate) fn inlets_of(alloc: Global, plan: &Plan, process: u32) -> Result<Vec<
 }
 
 /// The connections at the outputs of a process.
-pub(crate) fn outputs_of(alloc: Global, plan: &Plan, process: u32) -> Result<Vec<Option<u32>>, AllocError>
+pub(crate) fn outputs_of(
+    alloc: Global,
+    plan: &Plan,
+    process: u32,
+) -> Result<Vec<Option<u32>>, AllocError>
     requires in_range { process < length plan.now.processes }
     requires few { length plan.now.connections < 2 ^ 32 }
     ensures { IfOk result (λ outputs. (x : NetProcess) → slice_get plan.now.processes process ≡ Some x → outputs.items ≡ map (sends_at (plan_of plan.now) process) (range_with_len 0 x.outputs)) }

@@ -12,8 +12,7 @@ use crate::answers::Thought;
 use crate::inlet::next_text;
 use flow_component::{Answer, Component, Fail, Gate, Stop, Wish};
 use flow_model::Stage;
-use flow_packet::Hands;
-use flow_packet::Kind;
+use flow_packet::{Hands, Kind};
 use std::alloc::AllocError;
 
 /// The packets that hands may hold at their root.

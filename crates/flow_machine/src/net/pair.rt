@@ -87,7 +87,12 @@ pub(crate) fn learn<K: Component>(
 }
 
 /// One more of its connected outputs is closed.
-pub(crate) fn close<K: Component>(body: &mut Body<K>, channel: &mut Channel, connection: u32, stamp: u32) -> Turn
+pub(crate) fn close<K: Component>(
+    body: &mut Body<K>,
+    channel: &mut Channel,
+    connection: u32,
+    stamp: u32,
+) -> Turn
     requires whole { body.old.leaving ≡ None }
     requires stage { IsClosing body.old.process.stage }
     requires room { HasRoom body.old }

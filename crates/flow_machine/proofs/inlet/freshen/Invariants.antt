@@ -1,4 +1,4 @@
-use Rattle.std.proofs.Common.{◌≡◌, ◌++◌, map, take, drop, length}
+use Rattle.std.proofs.Common.{◌≡◌, map, take}
 use Rattle.flow_machine.specs.Inlets.{is_text}
 use Rattle.flow_machine.proofs.inlet.freshen.Given as goal
 

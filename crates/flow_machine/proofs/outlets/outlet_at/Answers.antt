@@ -1,4 +1,4 @@
-use Rattle.std.proofs.Common.{◌≡◌, ◌∙◌, sym, ap, ℕ, drop, slice_get}
+use Rattle.std.proofs.Common.{◌∙◌, sym, ap, drop, slice_get}
 use Rattle.flow_machine.proofs.OutletLemmas.{connections, connection-here, connections-over, connection_at-from}
 use Rattle.flow_machine.proofs.outlets.outlet_at.Goals as goal
 

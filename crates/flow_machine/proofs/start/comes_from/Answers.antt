@@ -1,5 +1,4 @@
-use Rattle.std.proofs.Common.{◌≡◌, ◌∙◌, ◌+◌, sym, ap, map, drop, Bool, true, false}
-use Rattle.std.specs.Prelude.{◌||◌}
+use Rattle.std.proofs.Common.{◌∙◌, sym, ap, map}
 use Rattle.std.specs.List.{list_any}
 use Rattle.flow_model.specs.States.{is_sender}
 use Rattle.flow_machine.specs.PlanOf.{sender_of}

@@ -1,5 +1,4 @@
-use Rattle.std.proofs.Common.{◌≡◌, ◌∙◌, sym, ap, ℕ, List}
-use Rattle.std.proofs.Common.{Vec, Global}
+use Rattle.std.proofs.Common.{◌≡◌, ◌∙◌, sym}
 use Rattle.flow_model.specs.Plans.{text_at}
 use Rattle.flow_machine.proofs.PlanLemmas.{text-here, text-next, text-over, text-ok}
 use Rattle.flow_machine.proofs.start.initial_text.Goals as goal

@@ -1,4 +1,4 @@
-use Rattle.std.proofs.Common.{◌≡◌, ◌∙◌, ap, map}
+use Rattle.std.proofs.Common.{◌∙◌, ap, map}
 use Rattle.std.specs.Prelude.{position}
 use Rattle.flow_model.specs.Plans.{connected_or, text_at}
 use Rattle.flow_machine.specs.PlanOf.{connection_of, leads_to, process_of}

@@ -1,15 +1,12 @@
-use Rattle.std.proofs.Common.{◌≡◌, ◌∙◌, ◌+◌, ◌++◌, ℕ, List, [], ◌∷◌, Option, ap, sym, subst, arith, map, refl, get_or, Some, slice_get}
+use Rattle.std.proofs.Common.{◌≡◌, ◌∙◌, ◌+◌, ◌++◌, ℕ, List, [], ◌∷◌, Option, ap, sym, arith, map, get_or}
 use Rattle.std.specs.Prelude.{position}
 use Rattle.std.specs.List.{range_with_len}
-use Rattle.std.proofs.lemmas.List.{map-append}
 use Rattle.std.proofs.lemmas.List.FromFn.{map-range_with_len_more}
 use Rattle.std.proofs.lemmas.Option.{get_or_from_slice_get}
 use Rattle.flow_net.specs.declared.plan.Process.{Process as NetProcess}
 use Rattle.flow_net.specs.declared.plan.Connection.{Connection as NetConnection}
-use Rattle.flow_model.specs.States.{Input}
-use Rattle.flow_model.specs.Plans.{input_at, sends_at}
-use Rattle.flow_machine.specs.Inlets.{input_shown}
-use Rattle.flow_machine.specs.PlanOf.{plan_of, process_of, connection_of, comes_from}
+use Rattle.flow_model.specs.Plans.{sends_at}
+use Rattle.flow_machine.specs.PlanOf.{plan_of, connection_of, comes_from}
 use Rattle.flow_machine.proofs.start.outputs_of.Goals as goal
 
 pub loop-output-preserved : goal.loop-output-preserved

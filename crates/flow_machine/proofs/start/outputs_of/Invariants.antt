@@ -1,9 +1,8 @@
 use Rattle.std.proofs.Common.{◌≡◌, map, Some, slice_get}
 use Rattle.std.specs.List.{range_with_len}
 use Rattle.flow_net.specs.declared.plan.Process.{Process as NetProcess}
-use Rattle.flow_model.specs.Plans.{input_at, sends_at}
-use Rattle.flow_machine.specs.Inlets.{input_shown}
-use Rattle.flow_machine.specs.PlanOf.{plan_of, process_of}
+use Rattle.flow_model.specs.Plans.{sends_at}
+use Rattle.flow_machine.specs.PlanOf.{plan_of}
 use Rattle.flow_machine.proofs.start.outputs_of.Given as goal
 
 abbrev pub invariant-loop-output : goal.invariant-loop-output

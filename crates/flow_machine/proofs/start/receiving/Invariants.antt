@@ -1,4 +1,4 @@
-use Rattle.std.proofs.Common.{◌≡◌, ◌∙◌, sym, ap, ℕ, ◌+◌, map, drop, Option, Some, None}
+use Rattle.std.proofs.Common.{◌≡◌, map, drop}
 use Rattle.std.specs.Prelude.{position}
 use Rattle.flow_machine.specs.PlanOf.{connection_of, leads_to}
 use Rattle.flow_machine.proofs.PlanLemmas.{later}

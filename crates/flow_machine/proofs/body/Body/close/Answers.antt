@@ -1,17 +1,11 @@
-use Rattle.std.proofs.Common.{rules, ◌≡◌, ◌∙◌, sym, ap, None, Some, Option, subst, refl, ℕ, length, List}
-use Rattle.flow_packet.specs.Held.{held_of, Held}
-use Rattle.flow_packet.specs.declared.packet.Kind.{Kind}
-use Rattle.flow_component.specs.Laws.{Outcome, Wishes, Fails}
-use Rattle.flow_model.specs.declared.Stage.{Stage}
-use Rattle.flow_model.specs.declared.Stage.TheVariants as stages
+use Rattle.std.proofs.Common.{rules, ◌≡◌, ◌∙◌, ap, None, subst, refl}
 use Rattle.flow_model.specs.States.{Process}
-use Rattle.flow_model.specs.Works.{judged, worked}
 use Rattle.std.specs.Prelude.{◌+◌, ◌<◌, ◌^◌}
 use Rattle.flow_model.specs.Valid.{least_left}
 use Rattle.flow_machine.specs.Values.{BodyValue}
-use Rattle.flow_machine.specs.Bodies.{StandsWell, HasLeft, IsBody}
+use Rattle.flow_machine.specs.Bodies.{StandsWell, IsBody}
 use Rattle.flow_machine.specs.Views.{process_shown}
-use Rattle.flow_machine.proofs.Standing.{stands-worked, stands-text, stands-sent, stands-closing, closing-fits, may-deepen, turn-left}
+use Rattle.flow_machine.proofs.Standing.{stands-closing, closing-fits, turn-left}
 use Rattle.flow_machine.proofs.body.Body.close.Goals as goal
 
 pub overflow_add-place : goal.overflow_add-place

@@ -1,18 +1,13 @@
-use Rattle.std.proofs.Common.{rules, ◌≡◌, ◌∙◌, sym, ap, None, Some, Option, subst, refl, ℕ, length, List}
-use Rattle.flow_packet.specs.Held.{held_of, Held}
-use Rattle.flow_packet.specs.declared.packet.Kind.{Kind}
-use Rattle.flow_component.specs.Laws.{Outcome, Wishes, Fails}
-use Rattle.flow_model.specs.declared.Stage.{Stage}
+use Rattle.std.proofs.Common.{rules, ◌≡◌, ◌∙◌, ap, None, subst}
 use Rattle.flow_model.specs.declared.Stage.TheVariants as stages
 use Rattle.flow_model.specs.States.{Process}
-use Rattle.flow_model.specs.Works.{judged, worked}
 use Rattle.flow_machine.specs.Values.{BodyValue}
 use Rattle.flow_component.specs.declared.Wish.TheVariants.{Receive}
 use Rattle.flow_machine.specs.Effects.{port_at}
 use Rattle.std.proofs.lemmas.List.{with_items_is}
-use Rattle.flow_machine.specs.Bodies.{StandsWell, HasLeft, IsBody}
+use Rattle.flow_machine.specs.Bodies.{StandsWell, IsBody}
 use Rattle.flow_machine.specs.Views.{process_shown}
-use Rattle.flow_machine.proofs.Standing.{stands-worked, stands-text, stands-sent, stands-closing, closing-fits, may-deepen, turn-left}
+use Rattle.flow_machine.proofs.Standing.{stands-text}
 use Rattle.flow_machine.proofs.body.Body.receive_text.Goals as goal
 
 pub invariant_of-self : goal.invariant_of-self

@@ -1,11 +1,5 @@
-use Rattle.std.proofs.Common.{rules, ◌≡◌, ◌∙◌, sym, ap, None, Some, Option, subst, refl, ℕ, length, List}
-use Rattle.flow_packet.specs.Held.{held_of, Held}
-use Rattle.flow_packet.specs.declared.packet.Kind.{Kind}
-use Rattle.flow_component.specs.Laws.{Outcome, Wishes, Fails}
-use Rattle.flow_model.specs.declared.Stage.{Stage}
-use Rattle.flow_model.specs.declared.Stage.TheVariants as stages
+use Rattle.std.proofs.Common.{rules, ◌≡◌, ◌∙◌, sym, ap, None, refl}
 use Rattle.flow_model.specs.States.{Process}
-use Rattle.flow_model.specs.Works.{judged, worked}
 use Rattle.flow_machine.specs.Values.{BodyValue}
 use Rattle.std.proofs.lemmas.List.{with_items_is}
 use Rattle.std.proofs.Common.{map, append-nil}
@@ -15,9 +9,7 @@ use Rattle.flow_model.specs.States.{Input}
 use Rattle.flow_model.specs.Events.{is_connected}
 use Rattle.flow_machine.specs.Inlets.{input_shown, is_text}
 use Rattle.flow_machine.proofs.InletLemmas.{texts-shown}
-use Rattle.flow_machine.specs.Bodies.{StandsWell, HasLeft, IsBody}
 use Rattle.flow_machine.specs.Views.{process_shown}
-use Rattle.flow_machine.proofs.Standing.{stands-worked, stands-text, stands-sent, stands-closing, closing-fits, may-deepen, turn-left}
 use Rattle.flow_machine.proofs.body.Body.start.Goals as goal
 
 pub returns : goal.returns

@@ -1,4 +1,3 @@
-use Rattle.std.proofs.Common.{◌≡◌}
 use Rattle.flow_machine.proofs.Thinking.{thinks-worked}
 use Rattle.flow_machine.proofs.body.Body.think.Goals as goal
 

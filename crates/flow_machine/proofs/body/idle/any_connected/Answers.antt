@@ -1,8 +1,7 @@
-use Rattle.std.proofs.Common.{◌≡◌, ◌∙◌, sym, ap, map, drop, Bool, true, false, ◌+◌}
-use Rattle.std.specs.Prelude.{◌||◌, ◌&&◌}
+use Rattle.std.proofs.Common.{◌∙◌, sym, ap, map, drop, Bool, ◌+◌}
+use Rattle.std.specs.Prelude.{◌||◌}
 use Rattle.std.specs.List.{list_any}
 use Rattle.flow_model.specs.Events.{is_connected}
-use Rattle.flow_model.specs.Stands.{look_shown}
 use Rattle.flow_machine.specs.Inlets.{input_shown}
 use Rattle.flow_machine.proofs.InletLemmas.{any-step, any-over}
 use Rattle.flow_machine.proofs.body.idle.any_connected.Goals as goal

@@ -1,5 +1,5 @@
-use Rattle.std.proofs.Common.{◌≡◌, ◌∙◌, sym, ap, map, drop, Bool, true, false, ◌+◌}
-use Rattle.std.specs.Prelude.{◌||◌, ◌&&◌}
+use Rattle.std.proofs.Common.{◌∙◌, sym, ap, map, drop, Bool, ◌+◌}
+use Rattle.std.specs.Prelude.{◌||◌}
 use Rattle.std.specs.List.{list_any}
 use Rattle.flow_model.specs.Events.{has_packet}
 use Rattle.flow_model.specs.Stands.{look_shown}

@@ -1,11 +1,9 @@
-use Rattle.std.proofs.Common.{rules, ◌≡◌, ◌<◌, ◌≤◌, ◌+◌, ◌-◌, ℕ, List, length, length-set, arith, refl, sym, ◌∙◌, ap, subst, true, false}
-use Rattle.std.specs.Bool.{OnTrue, OnFalse}
-use Rattle.flow_machine.specs.Values.{BodyValue, NetValue}
+use Rattle.std.proofs.Common.{◌≡◌, ◌+◌, length, length-set, arith, refl, sym, ◌∙◌, ap, subst}
+use Rattle.flow_machine.specs.Values.{NetValue}
 use Rattle.flow_machine.specs.Nets.{level_of}
 use Rattle.flow_machine.specs.Logs.{turns_made}
 use Rattle.flow_machine.specs.Starts.{AllSet}
-use Rattle.flow_machine.specs.Solo.{Goes, MakesTurn, SettlesNet, SetBelow, turns_of, burst_of, pass_below, some_passes, some_works, all_settled, round_robin}
-use Rattle.flow_machine.proofs.SoloLemmas.{answer-turn, blocked-turn, over-turn, settles-wishing, settles-failed, burst-none, burst-more, burst-ends, pass-none, pass-more, passes-none, round-more, round-ends, works-none, works-more, works-all, set-after, set-more, set-all, set-in, turn-count, think-count}
+use Rattle.flow_machine.proofs.SoloLemmas.{burst-none, burst-more, burst-ends, set-after}
 use Rattle.flow_machine.proofs.net.Net.burst.Goals as goal
 
 pub loop-stamp-init : goal.loop-stamp-init

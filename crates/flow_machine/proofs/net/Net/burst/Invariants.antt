@@ -1,9 +1,7 @@
-use Rattle.std.proofs.Common.{rules, ◌≡◌, ◌<◌, ◌≤◌, ◌+◌, ◌-◌, ℕ, List, length, arith, refl, sym, ◌∙◌, ap, subst, true, false}
-use Rattle.std.specs.Bool.{OnTrue, OnFalse}
-use Rattle.flow_machine.specs.Values.{BodyValue, NetValue}
+use Rattle.std.proofs.Common.{◌≡◌, ◌≤◌, ◌-◌, length}
 use Rattle.flow_machine.specs.Logs.{turns_made}
 use Rattle.flow_machine.specs.Starts.{AllSet}
-use Rattle.flow_machine.specs.Solo.{Goes, MakesTurn, SettlesNet, SetBelow, turns_of, burst_of, pass_below, some_passes, some_works, all_settled, round_robin}
+use Rattle.flow_machine.specs.Solo.{Goes, turns_of}
 use Rattle.flow_machine.proofs.net.Net.burst.Given as goal
 
 abbrev pub invariant-loop-stamp : goal.invariant-loop-stamp

@@ -1,9 +1,6 @@
-use Rattle.std.proofs.Common.{rules, ◌≡◌, ◌<◌, ◌≤◌, ◌+◌, ◌-◌, ℕ, List, length, arith, refl, sym, ◌∙◌, ap, subst, true, false}
-use Rattle.std.specs.Bool.{OnTrue, OnFalse}
-use Rattle.flow_machine.specs.Values.{BodyValue, NetValue}
+use Rattle.std.proofs.Common.{◌≡◌, length}
 use Rattle.flow_machine.specs.Logs.{turns_made}
-use Rattle.flow_machine.specs.Starts.{AllSet}
-use Rattle.flow_machine.specs.Solo.{Goes, MakesTurn, SettlesNet, SetBelow, turns_of, burst_of, pass_below, some_passes, some_works, all_settled, round_robin}
+use Rattle.flow_machine.specs.Solo.{Goes, SetBelow, some_works}
 use Rattle.flow_machine.proofs.net.Net.settle_all.Given as goal
 
 abbrev pub invariant-loop-process : goal.invariant-loop-process

@@ -1,11 +1,8 @@
-use Rattle.std.proofs.Common.{◌≡◌, ◌∙◌, ◌++◌, ap, sym, subst, arith, List, length, map, Some, slice_get}
+use Rattle.std.proofs.Common.{◌≡◌, ◌∙◌, ap, sym, arith, List, map, Some, slice_get}
 use Rattle.std.proofs.lemmas.List.{length-map}
 use Rattle.flow_net.specs.declared.plan.Connection.{Connection as NetConnection}
-use Rattle.flow_model.specs.Stands.{ChannelShown}
-use Rattle.flow_machine.specs.Values.{BodyValue, NetValue}
-use Rattle.flow_machine.specs.FitNets.{FitNet}
-use Rattle.flow_machine.specs.Starts.{StartsNet, channel_begun}
-use Rattle.flow_machine.specs.PlanOf.{plan_of, sender_of, connection_of}
+use Rattle.flow_machine.specs.Starts.{channel_begun}
+use Rattle.flow_machine.specs.PlanOf.{sender_of, connection_of}
 use Rattle.flow_machine.proofs.Standings.{get-map}
 use Rattle.flow_machine.proofs.StartLemmas.{starts-net, fit-start}
 use Rattle.flow_machine.proofs.net.Net.start.Goals as goal

@@ -1,9 +1,6 @@
-use Rattle.std.proofs.Common.{rules, ◌≡◌, ◌<◌, refl, sym, ◌∙◌, ap, Some, slice_get, get_or, length, subst, List, slice_set}
-use Rattle.std.proofs.lemmas.List.{with_items_is}
+use Rattle.std.proofs.Common.{◌≡◌, ◌<◌, refl, sym, Some, slice_get, length, subst, slice_set}
 use Rattle.std.proofs.lemmas.Option.{slice_get_read}
-use Rattle.std.specs.Vec.{with_items}
-use Rattle.flow_model.specs.Stands.{ChannelShown}
-use Rattle.flow_machine.specs.Values.{BodyValue, NetValue}
+use Rattle.flow_machine.specs.Values.{NetValue}
 use Rattle.flow_machine.specs.NetSteps.{ThinksNet}
 use Rattle.flow_machine.proofs.FitLemmas.{fit-think}
 use Rattle.flow_machine.proofs.net.Net.think.Goals as goal

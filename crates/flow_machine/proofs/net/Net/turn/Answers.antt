@@ -1,11 +1,7 @@
-use Rattle.std.proofs.Common.{rules, ◌≡◌, ◌<◌, refl, sym, ◌∙◌, ap, Some, slice_get, get_or, length, subst, List}
+use Rattle.std.proofs.Common.{rules, ◌≡◌, sym, ◌∙◌, ap}
 use Rattle.std.proofs.lemmas.List.{with_items_is}
-use Rattle.std.proofs.lemmas.Option.{slice_get_read}
-use Rattle.std.specs.Vec.{with_items}
-use Rattle.flow_model.specs.Stands.{ChannelShown}
-use Rattle.flow_machine.specs.Values.{BodyValue, NetValue}
+use Rattle.flow_machine.specs.Values.{NetValue}
 use Rattle.flow_machine.specs.Nets.{TurnsNet, level_of}
-use Rattle.flow_machine.specs.FitNets.{FitNet}
 use Rattle.flow_machine.specs.Logs.{turns_made}
 use Rattle.flow_machine.proofs.FitLemmas.{fit-answer, turns-most}
 use Rattle.flow_machine.proofs.net.Net.turn.Goals as goal

@@ -1,12 +1,11 @@
-use Rattle.std.proofs.Common.{◌≡◌, ◌∙◌, ◌+◌, ◌++◌, ◌<◌, ℕ, [], ◌∷◌, List, length, drop, get_or, ap, sym, subst, arith, refl, Option, Some, None, slice_get, length-append, length-drop, inl, inr}
+use Rattle.std.proofs.Common.{◌≡◌, ◌∙◌, ◌<◌, ℕ, [], ◌∷◌, List, length, ap, sym, arith, refl, Some, slice_get, length-append, length-drop, inl, inr}
 use Rattle.std.proofs.lemmas.List.{length-map}
 use Rattle.flow_net.specs.declared.plan.Process.{Process as NetProcess}
-use Rattle.flow_model.specs.Plans.{PlanProcess, process_at_start}
 use Rattle.flow_machine.specs.Values.{BodyValue}
 use Rattle.flow_machine.specs.PlanOf.{plan_of, process_of}
-use Rattle.flow_machine.specs.Starts.{StartsBody}
 use Rattle.flow_machine.proofs.Standings.{get-map}
-use Rattle.flow_machine.proofs.StartLemmas.{stands-start, element-there, rest-drops, first-of, last-or, starts-same, nothing-there, some-same}
+use Rattle.flow_machine.proofs.Lists.{element-there, last-or, nothing-there, some-same}
+use Rattle.flow_machine.proofs.StartLemmas.{stands-start, rest-drops, first-of, starts-same}
 use Rattle.flow_machine.proofs.net.begin.bodies_of.Goals as goal
 
 pub overflow_cast-process-end : goal.overflow_cast-process-end
@@ -14,8 +13,15 @@ overflow_cast-process-end g c = omega (arith, ap (λ (ps : List NetProcess). len
 
 pub remove-part-requires : goal.remove-part-requires
 remove-part-requires g c =
-    omega (arith, c.loop-process-test.true, ap (λ (ps : List NetProcess). length ps) c.processes-2.ensures, c.requires.well.one_each, length-map c.args.plan.now.processes process_of,
-      ap (λ (ps : List g.row.K.Denot). length ps) c.loop-process.invariant.rest, length-drop c.loop-process.process c.args.parts.items)
+    omega (
+      arith,
+      c.loop-process-test.true,
+      ap (λ (ps : List NetProcess). length ps) c.processes-2.ensures,
+      c.requires.well.one_each,
+      length-map c.args.plan.now.processes process_of,
+      ap (λ (ps : List g.row.K.Denot). length ps) c.loop-process.invariant.rest,
+      length-drop c.loop-process.process c.args.parts.items,
+    )
 
 pub begin-requires-clause-in_range : goal.begin-requires-clause-in_range
 begin-requires-clause-in_range g c = omega (arith, c.loop-process-test.true, ap (λ (ps : List NetProcess). length ps) c.processes-2.ensures)

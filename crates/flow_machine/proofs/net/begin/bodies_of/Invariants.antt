@@ -1,4 +1,4 @@
-use Rattle.std.proofs.Common.{◌≡◌, ◌<◌, ℕ, drop, length, Some, slice_get}
+use Rattle.std.proofs.Common.{◌≡◌, ℕ, drop, length, Some, slice_get}
 use Rattle.flow_model.specs.Plans.{PlanProcess, process_at_start}
 use Rattle.flow_machine.specs.Values.{BodyValue}
 use Rattle.flow_machine.specs.PlanOf.{plan_of}

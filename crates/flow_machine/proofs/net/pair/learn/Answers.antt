@@ -1,5 +1,4 @@
-use Rattle.std.proofs.Common.{rules, ◌≡◌, ◌∙◌, sym, ap, refl, ◌<◌, length}
-use Rattle.flow_machine.proofs.Pairs.{got, heard, sent-off, learned, started, finished}
+use Rattle.flow_machine.proofs.Pairs.{learned}
 use Rattle.flow_machine.proofs.net.pair.learn.Goals as goal
 
 pub returns : goal.returns

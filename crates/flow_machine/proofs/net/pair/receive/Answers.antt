@@ -1,6 +1,6 @@
-use Rattle.std.proofs.Common.{rules, ◌≡◌, ◌∙◌, sym, ap, refl, ◌<◌, length}
+use Rattle.std.proofs.Common.{◌∙◌, sym}
 use Rattle.flow_model.specs.declared.Block.TheVariants.{Dormant}
-use Rattle.flow_machine.proofs.Pairs.{got, heard, sent-off, learned, started, finished}
+use Rattle.flow_machine.proofs.Pairs.{got, heard}
 use Rattle.flow_machine.proofs.net.pair.receive.Goals as goal
 
 pub returns-then-holds_packet : goal.returns-then-holds_packet

@@ -1,6 +1,6 @@
-use Rattle.std.proofs.Common.{rules, ◌≡◌, ◌∙◌, sym, ap, refl, ◌<◌, length}
+use Rattle.std.proofs.Common.{rules, ◌<◌, length}
 use Rattle.flow_model.specs.declared.Block.TheVariants.{Dormant}
-use Rattle.flow_machine.proofs.Pairs.{may-finish, sent-off, learned, started, finished}
+use Rattle.flow_machine.proofs.Pairs.{may-finish, sent-off}
 use Rattle.flow_machine.proofs.net.pair.send.Goals as goal
 
 pub effect-requires-clause-effect : goal.effect-requires-clause-effect

@@ -1,8 +1,8 @@
-use Rattle.std.proofs.Common.{rules, ◌≡◌, ◌∙◌, sym, ap, refl, ◌<◌, length}
+use Rattle.std.proofs.Common.{◌∙◌, sym}
 use Rattle.std.proofs.Common.{map}
 use Rattle.flow_model.specs.Stands.{look_shown}
 use Rattle.flow_model.specs.declared.Block.TheVariants.{Dormant}
-use Rattle.flow_machine.proofs.Pairs.{got, heard, sent-off, learned, started, finished}
+use Rattle.flow_machine.proofs.Pairs.{started, finished}
 use Rattle.flow_machine.proofs.net.pair.wake.Goals as goal
 
 pub returns-then-can_start : goal.returns-then-can_start

@@ -1,25 +1,15 @@
-use Rattle.std.proofs.Common.{rules, ◌≡◌, ◌∙◌, sym, ap, refl, subst, ◌<◌, ◌≤◌, ℕ, List, length, Some, None, Option, slice_get, get_or}
+use Rattle.std.proofs.Common.{◌≡◌, ap, refl, subst, Some, slice_get, get_or}
 use Rattle.std.proofs.lemmas.Option.{slice_get-get_or}
-use Rattle.flow_component.specs.declared.Wish.TheVariants as wishes
-use Rattle.flow_model.specs.declared.Stage.TheVariants as stages
-use Rattle.flow_model.specs.declared.Block.TheVariants as blocks
-use Rattle.flow_model.specs.Events.{Event, received, sent, told_level}
-use Rattle.flow_model.specs.Stands.{ChannelShown, look_shown}
 use Rattle.flow_machine.specs.Values.{BodyValue, NetValue}
-use Rattle.flow_machine.specs.Thoughts.{IsSet, IsSetAt, HasRoom}
+use Rattle.flow_machine.specs.Thoughts.{IsSet, IsSetAt}
 use Rattle.flow_machine.specs.Answers.{CaseIs, case_of}
-use Rattle.flow_machine.specs.Nets.{packet_wished, looks_of}
+use Rattle.flow_machine.specs.Nets.{looks_of}
 use Rattle.flow_machine.specs.declared.answers.Case.TheVariants as cases
-use Rattle.flow_machine.proofs.NetTurns.{case-is, if_some, some_if, pair-net, alone-net, blocks-by, receives, received-on, waits-receive, sends, sent-on, waits-send, learns, told-on, exact, level-there}
-use Rattle.flow_machine.proofs.FitLemmas.{sound-got, turns-most}
-use Rattle.flow_model.specs.Verdicts.{exact_level}
+use Rattle.flow_machine.proofs.NetTurns.{case-is, if_some}
 use Rattle.flow_machine.specs.Nets.{level_of}
-use Rattle.std.proofs.Common.{arith}
-use Rattle.flow_model.specs.Events.{Sleeps, stage_event, idle_event}
-use Rattle.flow_model.specs.Verdicts.{waits_for}
+use Rattle.flow_model.specs.Events.{Sleeps, stage_event}
 use Rattle.flow_machine.specs.declared.answers.Effect.TheVariants as effects
 use Rattle.flow_machine.proofs.Pairs.{body-turn}
-use Rattle.flow_machine.proofs.NetTurns.{idle-alone, text-turn}
 use Rattle.flow_machine.proofs.net.turns.deactivate.Goals as goal
 
 pub effect-requires-clause-room : goal.effect-requires-clause-room

@@ -1,0 +1,23 @@
+-- Elements of lists.
+use Rattle.std.proofs.Common.{◌≡◌, ℕ, ◌<◌, List, [], ◌∷◌, ◌++◌, length, Some, suc, zero, refl, arith, slice_get, ◌⊎◌, inl, inr}
+
+pub element-there : {A : Type 0} (xs : List A) (i : ℕ) → i < length xs → (x : A) × (slice_get xs i ≡ Some x)
+element-there [] i within = absurd (omega (arith, within))
+element-there (x ∷ xs) zero within = (x, refl)
+element-there (x ∷ xs) (suc i) within = element-there xs i (omega (arith, within))
+
+pub nothing-there : {A : Type 0} (i : ℕ) (x : A) → slice_get [] i ≡ Some x → ⊥
+nothing-there i x is = absurd (cc)
+
+pub some-same : {A : Type 0} (x y : A) → Some x ≡ Some y → x ≡ y
+some-same x y is = cc
+
+-- an element of a list with one more
+pub last-or : {A : Type 0} (xs : List A) (y : A) (i : ℕ) (z : A) → slice_get (xs ++ y ∷ []) i ≡ Some z → (slice_get xs i ≡ Some z) ⊎ ((i ≡ length xs) × (y ≡ z))
+last-or [] y zero z is = inr (refl, (let h : y ≡ z = cc in h))
+last-or [] y (suc i) z is = absurd (cc)
+last-or (x ∷ xs) y zero z is = inl is
+last-or (x ∷ xs) y (suc i) z is = elim (last-or xs y i z is) [
+  | inl h ↦ inl h
+  | inr h ↦ inr (let e : suc i ≡ length (x ∷ xs) = omega (arith, h.0) in (e, h.1))
+]
