@@ -1,5 +1,5 @@
 -- The steps before a run, one after another.
-use Rattle.std.proofs.Common.{◌≡◌, ℕ, List, Some, None, Err, inr, sym, ◌∙◌, ap, subst}
+use Rattle.std.proofs.Common.{◌≡◌, ℕ, List, Some, None, Ok, Err, inr, sym, ◌∙◌, ap, subst}
 use Rattle.std.specs.Prelude.{IfSome, String, string_bytes}
 use Rattle.std.specs.declared.alloc.Global.{Global}
 use Rattle.std.specs.declared.option.Option.{Option}
@@ -7,8 +7,9 @@ use Rattle.flow_text.specs.Edge.{Outside, Name, Files, Rose}
 use Rattle.flow_net.specs.Network.{Network}
 use Rattle.flow_cli.specs.Thin.{IsPlanOf}
 use Rattle.flow_cli.specs.Step.{OnlyReads, HoldsMore}
-use Rattle.flow_cli.specs.Parts.{IsInput, StopsReading}
+use Rattle.flow_cli.specs.Parts.{IsInput, IsRunnable, AreParts, StopsReading}
 use Rattle.flow_cli.specs.Prepare.{IsCommand, IsNetwork, IsReadName, Prepares}
+use Rattle.flow_cli.specs.declared.before.Job.{Job}
 use Rattle.flow_cli.specs.declared.stop.Stop.{Stop}
 use Rattle.flow_cli.specs.declared.stop.Stop.TheVariants.{Words, NotBuilt, ReadFault, WriteFault, TooLong, NoMemory}
 
@@ -56,3 +57,17 @@ pub network-held : (told : Option Files) (name : Name) (net : List ℕ) (plan : 
     → IfSome told (λ files. IsNetwork files name plan)
 network-held None name net plan held is = tt
 network-held (Some files) name net plan held is = record { net = net; held = held; is_plan = is }
+
+-- the network and its inputs are read
+pub ready : (o a n : Outside) (words : List (String Global)) (name : Name) (net : List ℕ) (job : Job) (limit : ℕ) → IsCommand words name
+    → OnlyReads o a → a.read_faults ≡ o.read_faults → IfSome o.files (λ files. files name ≡ Some net) → IsPlanOf net job.plan → IsRunnable job.plan
+    → OnlyReads a n → n.read_faults ≡ a.read_faults → AreParts a.files job.plan job.parts.items → Prepares o n words (Ok job) limit
+ready o a n words name net job limit is e1 f1 held is_plan runnable e2 f2 parts = (
+  name,
+  is,
+  OnlyReads-trans o a n e1 e2,
+  f2 ∙ f1,
+  network-held o.files name net job.plan held is_plan,
+  runnable,
+  subst (λ (t : Option Files). AreParts t job.plan job.parts.items) (OnlyReads-files o a e1) parts,
+)

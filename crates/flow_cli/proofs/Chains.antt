@@ -1,6 +1,6 @@
 -- The plan of a thin file can be run.
 use Rattle.std.proofs.Common.{◌≡◌, ◌≢◌, ◌==◌, ℕ, zero, suc, ◌<◌, Bool, true, false, List, [], ◌∷◌, length, refl, sym, ◌∙◌, ap, subst, arith, eq-eqb}
-use Rattle.std.specs.Prelude.{◌||◌, slice_get, Some}
+use Rattle.std.specs.Prelude.{◌||◌, slice_get, Some, IsSome}
 use Rattle.std.specs.List.{All, list_any}
 use Rattle.std.proofs.lemmas.List.Elements.{All-cons}
 use Rattle.flow_net.specs.Options.{IsFileName}
@@ -10,6 +10,9 @@ use Rattle.flow_catalogue.specs.Processes.{IsStandard}
 use Rattle.flow_catalogue.specs.declared.table.StdKind.TheVariants as kinds
 use Rattle.flow_cli.specs.Thin.{IsThin, IsPlanOf, IsPlainFile}
 use Rattle.flow_cli.specs.Parts.{IsRunnable}
+use Rattle.flow_net.specs.declared.plan.Process.{Process}
+use Rattle.flow_model.specs.Plans.{sends_at}
+use Rattle.flow_cli.proofs.Wired.{thin_plan, thin-wired, at_three, only_first}
 use Rattle.flow_cli.proofs.ThinLines.{neither}
 use Rattle.flow_cli.specs.declared.thin.Thin.{Thin}
 
@@ -44,9 +47,23 @@ chain_standard t from to (suc (suc zero)) lt = record {
 }
 chain_standard t from to (suc (suc (suc p))) lt = absurd (omega arith)
 
+chain_connected : (t : Thin) (p o : ℕ) (process : Process) → slice_get (chain_of t.reader t.from t.pass t.writer t.to).processes p ≡ Some process → o < process.outputs
+    → IsSome (sends_at thin_plan p o)
+chain_connected t p o process = at_three (λ k x. o < x.outputs → IsSome (sends_at thin_plan k o)) (reader_of t.reader t.from) (pass_of t.pass) (writer_of t.writer t.to)
+    (λ lt. only_first o (λ n. IsSome (sends_at thin_plan 0 n)) lt refl)
+    (λ lt. only_first o (λ n. IsSome (sends_at thin_plan 1 n)) lt refl)
+    (λ lt. absurd (omega arith))
+    p process
+
 -- the plan of a thin file can be run
 pub plan-runnable : (net : List ℕ) (plan : Network) → IsPlanOf net plan → IsRunnable plan
 plan-runnable net plan is =
     let t = is.names in
     subst (λ (n : Network). IsRunnable n) (sym is.chain)
-    (record { few = omega arith; standard = chain_standard t is.thin.named.files.0 is.thin.named.files.1 })
+    (record {
+      few = omega arith;
+      few_connections = omega arith;
+      standard = chain_standard t is.thin.named.files.0 is.thin.named.files.1;
+      wired = thin-wired;
+      connected = chain_connected t;
+    })

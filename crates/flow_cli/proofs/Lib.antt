@@ -2,6 +2,9 @@ pub mod Afters
 pub mod Befores
 pub mod Chains
 pub mod Cuts
+pub mod Fitting
 pub mod Outputs
 pub mod ThinLines
 pub mod Tops
+pub mod Wired
+pub mod Written

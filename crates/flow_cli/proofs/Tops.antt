@@ -10,7 +10,7 @@ use Rattle.flow_cli.specs.Prepare.{IsCommand, IsRefused, IsReadName}
 use Rattle.flow_cli.specs.After.{Prints, IsReport, verdict_status}
 use Rattle.flow_cli.specs.Stops.{status_of, text_of}
 use Rattle.flow_cli.specs.Top.{IsCut, IsDone, Halts, PrintsStop, IsOver, EndsWell, IsValid, NoFaults}
-use Rattle.flow_cli.specs.declared.run.Done.{Done}
+use Rattle.flow_cli.specs.declared.engine.Told.{Told}
 use Rattle.flow_cli.specs.declared.stop.Stop.{Stop}
 use Rattle.flow_cli.specs.declared.stop.Stop.TheVariants.{Words, NotBuilt, ReadFault, WriteFault, TooLong, NoMemory}
 
@@ -131,7 +131,7 @@ over_isnt_7 : (status : ℕ) → IsOver status → status ≡ 7 → ⊥
 over_isnt_7 status over e = grind arith
 
 -- a run that came to its end printed its report
-pub ends : (o n po pn : Outside) (words : List (String Global)) (done : Done) (status : ℕ) (name : Name) → IsCommand words name
+pub ends : (o n po pn : Outside) (words : List (String Global)) (done : Told) (status : ℕ) (name : Name) → IsCommand words name
     → IfSome o.files (λ files. IsDone files n name) → IsReport done.verdict done.report.items → Prints po pn done.report.items (verdict_status done.verdict) status
     → IsOver status → EndsWell o n po pn words status
 ends o n po pn words done status name is files report (inl p) over = (name, is, files, (done.verdict, done.report.items, sym p.0, report, p.1))

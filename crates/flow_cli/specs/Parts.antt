@@ -1,21 +1,26 @@
 -- The parts of a plan's processes, each reader on what its file holds.
-use Rattle.std.specs.Prelude.{◌≡◌, ℕ, ◌<◌, ◌≤◌, List, [], ◌∷◌, length, Some, Ok, Err, IfSome, Vec, String, string_bytes, slice_get, codes}
+use Rattle.std.specs.Prelude.{◌≡◌, ℕ, ◌<◌, ◌≤◌, List, [], ◌∷◌, length, Some, Ok, Err, IfSome, IsSome, Vec, String, string_bytes, slice_get, codes}
 use Rattle.std.specs.declared.alloc.Global.{Global}
 use Rattle.std.specs.declared.option.Option.{Option}
 use Rattle.std.specs.declared.result.Result.{Result}
 use Rattle.flow_text.specs.Edge.{Outside, Name, Files, Rose}
 use Rattle.flow_net.specs.declared.plan.Process.{Process}
 use Rattle.flow_net.specs.Network.{Network}
+use Rattle.flow_model.specs.Plans.{IsWired, sends_at}
+use Rattle.flow_machine.specs.PlanOf.{plan_of}
 use Rattle.flow_catalogue.specs.declared.standard.Std.{Std}
 use Rattle.flow_catalogue.specs.Processes.{IsStandard, IsMade, Fits}
 use Rattle.flow_cli.specs.Step.{OnlyReads, HoldsMore}
 use Rattle.flow_cli.specs.declared.stop.Stop.{Stop}
 use Rattle.flow_cli.specs.declared.stop.Stop.TheVariants.{Words, NotBuilt, ReadFault, WriteFault, TooLong, NoMemory}
 
--- Every process of the plan is of a standard kind, and they are at most 128.
+-- Every process of the plan is of a standard kind, the machine finds the plan wired, and every output of a process has its connection.
 pub record IsRunnable (plan : Network) : Type 0 where
   pub few : length plan.processes ≤ 128
+  pub few_connections : length plan.connections ≤ 512
   pub standard : (p : ℕ) → p < length plan.processes → IsStandard plan p
+  pub wired : IsWired (plan_of plan)
+  pub connected : (p o : ℕ) (process : Process) → slice_get plan.processes p ≡ Some process → o < process.outputs → IsSome (sends_at (plan_of plan) p o)
 
 -- The process reads this file.
 pub record Reads (process : Process) (name : Name) : Type 0 where

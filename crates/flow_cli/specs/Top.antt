@@ -1,5 +1,5 @@
 -- What the top call does, and the cause of each status.
-use Rattle.std.specs.Prelude.{◌≡◌, ◌⊎◌, ℕ, ◌≤◌, List, length, Some, None, Ok, Err, IfSome, String, string_bytes}
+use Rattle.std.specs.Prelude.{◌≡◌, ◌⊎◌, ℕ, ◌≤◌, List, [], length, Some, None, Ok, Err, IfSome, String, string_bytes}
 use Rattle.std.specs.declared.alloc.Global.{Global}
 use Rattle.std.specs.declared.result.Result.{Result}
 use Rattle.flow_text.specs.Edge.{Outside, Name, Files, Rose, after_write}
@@ -12,7 +12,8 @@ use Rattle.flow_cli.specs.Many.{Filled, replaced_all}
 use Rattle.flow_cli.specs.After.{AreOutputs, IsCutShort, Prints, IsReport, verdict_status}
 use Rattle.flow_report.specs.declared.report.Verdict.{Verdict}
 use Rattle.flow_cli.specs.Stops.{status_of, text_of}
-use Rattle.flow_cli.specs.declared.run.Done.{Done}
+use Rattle.flow_journal.specs.declared.merge.Journal.{Journal}
+use Rattle.flow_cli.specs.declared.engine.Told.{Told}
 use Rattle.flow_cli.specs.declared.run.Halt.{Halt}
 use Rattle.flow_cli.specs.declared.stop.Stop.{Stop}
 use Rattle.flow_cli.specs.declared.stop.Stop.TheVariants.{Words, NotBuilt, ReadFault, WriteFault, TooLong, NoMemory}
@@ -33,6 +34,10 @@ pub record IsCut (before : Files) (after : Outside) (name written : Name) : Type
   pub are_outputs : AreOutputs plan outputs
   pub cut : IsCutShort before after.files outputs written
 
+-- No turn was made.
+abbrev pub IsEmptyJournal : Journal → Type 0
+IsEmptyJournal journal = (journal.turns ≡ []) × (journal.seen ≡ [])
+
 -- Each stop has its cause in the words, or in what the shelf held and did.
 abbrev pub Halts : Outside → Outside → List (String Global) → Stop → ℕ → Type 0
 Halts old new words Words limit = (command_of words ≡ None) × (new ≡ old)
@@ -46,8 +51,8 @@ Halts old new words (WriteFault written) limit = (name : Name) × IsCommand word
 Halts old new words NoMemory limit = (new.files ≡ old.files) ⊎ IfSome old.files (λ files. (name : Name) × (written : Name) × IsCut files new name written)
 
 -- What a run does to the shelf.
-abbrev pub Works : Outside → Outside → List (String Global) → Result Done Halt → ℕ → Type 0
-Works old new words (Ok done) limit = (name : Name) × IsCommand words name × IfSome old.files (λ files. IsDone files new name) × IsReport done.verdict done.report.items
+abbrev pub Works : Outside → Outside → List (String Global) → Result Told Halt → ℕ → Type 0
+Works old new words (Ok told) limit = (name : Name) × IsCommand words name × IfSome old.files (λ files. IsDone files new name) × IsReport told.verdict told.report.items
 Works old new words (Err halt) limit = Halts old new words halt.stop limit
 
 -- The text of the stop was printed, or, where there was no memory for it, that of want of memory.

@@ -1,5 +1,6 @@
 //! The steps after a run: the files of the writers are written, then the report is printed.
 ghost use Rattle.std.specs.Prelude.{◌≡◌};
+ghost use Rattle.flow_cli.specs.Parts.{IsRunnable};
 ghost use Rattle.flow_cli.specs.After.{WritesOutputs, Prints, verdict_status};
 
 use crate::engine::Ran;
@@ -11,6 +12,7 @@ use std::alloc::Global;
 
 /// Writes the files of a run, in the order of the processes.
 pub fn write_outputs<F: Shelf>(alloc: Global, shelf: &mut F, ran: &Ran) -> Result<(), Stop>
+    requires { IsRunnable ran.now.plan }
     ensures { WritesOutputs (F.outside shelf.old) (F.outside shelf.new) ran.now.plan result }
 {
     let outputs = ran.outputs(alloc)?;

@@ -1,51 +1,134 @@
-//! The run of a network.
-ghost use Rattle.std.specs.Prelude.{◌≡◌, ℕ, IfOk, map};
+//! The run of a network, and what it leaves.
+ghost use Rattle.std.specs.Prelude.{◌≡◌, ◌≤◌, ◌∷◌, [], IfOk, IfSome, IfNone, map, length, slice_get};
 ghost use Rattle.flow_cli.specs.Many.{output_of};
-ghost use Rattle.flow_cli.specs.After.{AreOutputs, IsReport};
+ghost use Rattle.flow_cli.specs.Parts.{IsRunnable};
+ghost use Rattle.flow_cli.specs.After.{AreOutputs, IsReport, written_by};
+ghost use Rattle.flow_model.specs.Plans.{StartsWell};
+ghost use Rattle.flow_machine.specs.PlanOf.{plan_of};
+ghost use Rattle.flow_catalogue.specs.Processes.{IsStandard};
+ghost use Rattle.flow_catalogue.specs.Std.{std_shape, std_uses, StdReady};
 
 use crate::before::Job;
 use crate::many::Output;
-use flow_catalogue::Std;
+use flow_catalogue::{FileUse, Std, file_of};
+use flow_journal::Journal;
+use flow_machine::{Closed, Net, solo};
 use flow_net::Plan;
-use flow_report::Verdict;
+use flow_report::{Report, Verdict};
 use std::alloc::{AllocError, Global};
 
-/// A run that is over.
+/// A run that is over: its plan, its network, and what it is told to have come to.
 pub struct Ran {
     pub plan: Plan,
-    pub net: Vec<Std>,
-    pub verdict: Verdict,
-    pub report: Vec<u8>,
+    pub net: Net<Std>,
+    pub told: Told,
 }
 
-/// Runs a network, and makes its report.
+/// What a run came to: the verdict, the report, and the journal of its turns.
+#[derive(Drop)]
+pub struct Told {
+    pub verdict: Verdict,
+    pub report: Vec<u8>,
+    pub journal: Journal,
+}
+
+/// Runs a network on one thread until no process can go on, and makes its report.
 pub fn run_net(alloc: Global, job: Job) -> Result<Ran, AllocError>
+    requires starts { StartsWell std_shape std_uses StdReady (plan_of job.plan) job.parts.items }
+    requires few { length job.plan.connections ≤ 512 }
     ensures plan { IfOk result (λ ran. ran.plan ≡ job.plan) }
-    ensures report { IfOk result (λ ran. IsReport ran.verdict ran.report.items) }
+    ensures report { IfOk result (λ ran. IsReport ran.told.verdict ran.told.report.items) }
 {
-    let _ = job;
-    let _ = alloc;
-    Err(AllocError)
+    let Job { plan, parts } = job;
+    let net = Net::start(alloc, &plan, parts)?;
+    match solo(alloc, net) {
+        Ok(closed) => tell(alloc, plan, closed),
+        Err(closed) => {
+            closed.discard();
+            Err(AllocError)
+        }
+    }
+}
+
+// The run with its report. Without memory it is given up.
+fn tell(alloc: Global, plan: Plan, closed: Closed<Std>) -> Result<Ran, AllocError>
+    ensures plan { IfOk result (λ ran. ran.plan ≡ plan) }
+    ensures report { IfOk result (λ ran. IsReport ran.told.verdict ran.told.report.items) }
+{
+    match told_of(alloc, &plan, &closed) {
+        Ok(told) => Ok(Ran {
+            plan,
+            net: closed.into_net(),
+            told,
+        }),
+        Err(AllocError) => {
+            closed.discard();
+            Err(AllocError)
+        }
+    }
+}
+
+fn told_of(alloc: Global, plan: &Plan, closed: &Closed<Std>) -> Result<Told, AllocError>
+    ensures { IfOk result (λ told. IsReport told.verdict told.report.items) }
+{
+    let report = Report::of(alloc, plan, closed)?;
+    Ok(Told {
+        verdict: report.verdict(),
+        report: report.print()?,
+        journal: Journal::merge(alloc, &closed.net)?,
+    })
+}
+
+// The file that a process writes, if it does.
+fn written_name(plan: &Plan, process: u32) -> Option<&str>
+    requires { IsStandard plan.now process }
+    ensures none { IfNone result (IfSome (slice_get plan.now.processes process) (λ p. written_by p ≡ [])) }
+    ensures some { IfSome result (λ name. IfSome (slice_get plan.now.processes process) (λ p. written_by p ≡ name.now ∷ [])) }
+{
+    match file_of(plan, process) {
+        Some(FileUse::Write(name)) => Some(name),
+        Some(FileUse::Read(_)) => None,
+        None => None,
+    }
+}
+
+// What the writer of this number wrote. A process that is no writer wrote nothing.
+fn written_at(net: &Net<Std>, process: u32) -> &[u8] {
+    if process < net.processes() {
+        match net.body(process).component().written() {
+            Some(bytes) => bytes,
+            None => b"",
+        }
+    } else {
+        b""
+    }
 }
 
 impl Ran {
-    /// The files that are to be written.
+    /// The files that are to be written, in the order of the processes that wrote them.
     pub fn outputs(&self, alloc: Global) -> Result<Vec<Output<'_>>, AllocError>
+        requires { IsRunnable self.now.plan }
         ensures { IfOk result (λ outputs. AreOutputs self.now.plan (map output_of outputs.items)) }
     {
-        Err(AllocError)
+        let mut outputs = Vec::new(alloc);
+        for process in 0..self.plan.processes().len() {
+            match written_name(&self.plan, process as u32) {
+                None => {}
+                Some(name) => {
+                    let bytes = written_at(&self.net, process as u32);
+                    outputs.push(Output { name, bytes })?;
+                }
+            }
+        }
+        Ok(outputs)
     }
 
-    /// The verdict and the report. What else the run holds is given up.
-    pub fn finish(self) -> (Verdict, Vec<u8>)
-        ensures { (result.0 ≡ self.verdict) × (result.1.items ≡ self.report.items) }
+    /// What the run came to. What else it holds is given up.
+    pub fn into_told(self) -> Told
+        ensures { result ≡ self.told }
     {
-        let Ran {
-            plan: _,
-            net: _,
-            verdict,
-            report,
-        } = self;
-        (verdict, report)
+        let Ran { plan: _, net, told } = self;
+        net.discard();
+        told
     }
 }

@@ -15,7 +15,7 @@ mod words;
 
 pub use after::{print, verdict_status, write_outputs};
 pub use before::{Job, prepare};
-pub use engine::{Ran, run_net};
+pub use engine::{Ran, Told, run_net};
 pub use many::{Output, OutputStop, write_files};
 pub use parts::{FILE_LIMIT, read_parts};
 pub use step::{FileStop, read_file, write_file};

@@ -12,6 +12,7 @@ use crate::after::{print, verdict_status};
 use crate::parts::FILE_LIMIT;
 use crate::run::run;
 use crate::stop::{Stop, status, text};
+use flow_journal::Journal;
 use flow_text::{Shelf, Sink};
 use std::alloc::Global;
 
@@ -20,6 +21,8 @@ use std::alloc::Global;
 pub struct Outcome {
     /// The status with which the program ends.
     pub status: u8,
+    /// The journal of the run, and empty where none was made.
+    pub journal: Journal,
 }
 
 /// Does what the program does: runs the network that the words name on one thread, and prints its report,
@@ -63,11 +66,13 @@ pub fn plain_top<F: Shelf, O: Sink>(
         → IfSome (F.outside shelf.old).files (λ files. IsValid files words.now FILE_LIMIT → IsOver result.status ⊎ (result.status ≡ 8)) }
 {
     match run(alloc, words, shelf) {
-        Ok(done) => Outcome {
-            status: print(out, &done.report, verdict_status(done.verdict)),
+        Ok(told) => Outcome {
+            status: print(out, &told.report, verdict_status(told.verdict)),
+            journal: told.journal,
         },
         Err(halt) => Outcome {
             status: print_stop(alloc, out, &halt.stop),
+            journal: halt.journal,
         },
     }
 }

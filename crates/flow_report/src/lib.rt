@@ -2,6 +2,7 @@
 #![tactic(auto)]
 
 mod lines;
+mod of;
 mod report;
 
 pub use report::{Blocked, Cause, Failure, Report, Verdict, Wait};

@@ -28,7 +28,7 @@ pub returns-in-Ok-clause-over : goal.returns-in-Ok-clause-over
 returns-in-Ok-clause-over g c = λ over.
     let po = g.O.Edge.outside c.args.out.now in
     let pn = g.O.Edge.outside c.print.new.out in
-    let done = c.in-Ok.done in
+    let done = c.in-Ok.told in
     let w = c.in-Ok.ensures in
     let text = subst (λ (l : List ℕ). Prints po pn l c.verdict_status.result c.print.result) c.deref.ensures.value c.print.ensures in
     let printed = subst (λ (k : ℕ). Prints po pn done.report.items k c.print.result) c.verdict_status.ensures text in
