@@ -1,6 +1,6 @@
 -- Turns and thoughts keep what holds of each net.
 use Rattle.std.proofs.Common.{◌≡◌, ◌≢◌, ℕ, ◌+◌, ◌*◌, ◌<◌, ◌≤◌, Bool, List, [], ◌∷◌, ◌++◌, length, map, Option, Some, None, suc, zero, refl, ap, sym, subst, ◌∙◌, arith, slice_get, slice_set, length-set, length-append, append-nil, ◌⊎◌, inl, inr}
-use Rattle.std.specs.Prelude.{sum_by}
+use Rattle.std.specs.Prelude.{IfSome, sum_by}
 use Rattle.std.proofs.lemmas.List.{map-set}
 use Rattle.std.proofs.lemmas.List.Sums.{sum_by-cons}
 use Rattle.flow_packet.specs.Tree.{Tree}
@@ -39,10 +39,9 @@ use Rattle.flow_machine.specs.declared.answers.Turn.TheVariants as turns
 use Rattle.flow_machine.specs.declared.answers.Over.TheVariants as overs
 use Rattle.flow_machine.specs.Logs.{Logged, Logs, stamps_of, levels_of, turns_made}
 use Rattle.flow_machine.specs.FitNets.{IsWiredBody, FitNet}
-use Rattle.flow_machine.specs.NetSteps.{GoesByTurn, ThinksNet}
+use Rattle.flow_machine.specs.NetSteps.{GoesByTurn, TurnGoes, ThinksNet}
 use Rattle.flow_machine.proofs.Standings.{get-map, process-in, channel-in, happens-in}
 use Rattle.flow_machine.proofs.LogLemmas.{stamps_of-append, levels_of-append, stamps-own, stamps-other, levels-own, levels-other}
-use Rattle.std.proofs.lemmas.Option.{slice_get_within}
 use Rattle.flow_machine.proofs.NetTurns.{receives, set-same}
 
 -- the state after a turn
@@ -180,6 +179,16 @@ module _ {K : Type 0} (shape_of : K → Shape) (uses : K → ℕ → Bool) (read
   fit-answer old p n stamp (turns.Over overs.Ended) new same next fit = subst (FitNet shape_of uses ready) (sym same.1) fit
   fit-answer old p n stamp (turns.Over overs.Failed) new same next fit = subst (FitNet shape_of uses ready) (sym same.1) fit
   fit-answer old p n stamp (turns.Over overs.Starved) new never next fit = absurd never
+
+  -- a turn that was made is the machine's
+  pub turn-goes : (old : NetValue K) (p n stamp : ℕ) (answer : Turning) (new : NetValue K) → TurnsNet old p n stamp answer new → TurnGoes shape_of uses ready old p answer new
+  turn-goes old p n stamp (turns.Made s) new made = (made.1.0, goes-by old p n made.1.0 stamp new made.1.1)
+  turn-goes old p n stamp (turns.Blocked block) new waits = tt
+  turn-goes old p n stamp (turns.Over cause) new over = tt
+
+  pub seen-goes : (old : NetValue K) (p n stamp : ℕ) (answer : Option Turning) (new : NetValue K) → SeesNet old p n stamp answer new → IfSome answer (λ turn. TurnGoes shape_of uses ready old p turn new)
+  seen-goes old p n stamp (Some answer) new sees = turn-goes old p n stamp answer new sees.1
+  seen-goes old p n stamp None new refused = tt
 
   pub fit-seen : (old : NetValue K) (p n stamp : ℕ) (answer : Option Turning) (new : NetValue K) → SeesNet old p n stamp answer new → stamp ≡ turns_made old → FitNet shape_of uses ready old → FitNet shape_of uses ready new
   fit-seen old p n stamp (Some answer) new sees next fit = fit-answer old p n stamp answer new sees.1 next fit

@@ -11,4 +11,5 @@ pub mod PlanLemmas
 pub mod LogLemmas
 pub mod FitLemmas
 pub mod SoloLemmas
+pub mod Reaching
 mod StartLemmas

@@ -156,7 +156,7 @@ remember-turn {K} next old mid tn new p n m k log e remembers at turn settle q b
 ]
 
 -- memories follow one another
-remember-then : {K : Type 0} (a b c : List (BodyValue K)) (n m : ℕ) (log more : List Logged) → Remembers n a log b → m ≡ n + length log → Remembers m b more c → length b ≡ length c → Remembers n a (log ++ more) c
+pub remember-then : {K : Type 0} (a b c : List (BodyValue K)) (n m : ℕ) (log more : List Logged) → Remembers n a log b → m ≡ n + length log → Remembers m b more c → length b ≡ length c → Remembers n a (log ++ more) c
 remember-then {K} a b c n m log more first at rest len p x z was is =
     let y = get-exists b p (omega (arith, get-within c p z is, len)) in
     let f = first p x y.0 was y.1 in

@@ -17,7 +17,7 @@ use Rattle.flow_model.specs.Stands.{bodies_from, channels_from}
 use Rattle.flow_model.proofs.Start.{port-at, Valid-start}
 use Rattle.flow_model.proofs.Blocks.{AllFit-start}
 use Rattle.flow_model.proofs.Fits.{Fit-start}
-use Rattle.flow_machine.proofs.Lists.{element-there, nothing-there}
+use Rattle.flow_machine.proofs.Lists.{element-there}
 use Rattle.flow_machine.specs.Values.{BodyValue, NetValue, shown_body}
 use Rattle.flow_machine.specs.Bodies.{StandsWell}
 use Rattle.flow_machine.specs.PlanOf.{plan_of, sender_of, connection_of, leads_to, comes_from}

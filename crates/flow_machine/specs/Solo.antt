@@ -1,12 +1,13 @@
 -- What one thread does with a net: turns of each process in turn, until none has one.
-use Rattle.std.specs.Prelude.{◌≡◌, ℕ, ◌+◌, ◌<◌, Bool, true, false, List, length, None, Some, slice_get, slice_set}
+use Rattle.std.specs.Prelude.{◌≡◌, ℕ, ◌+◌, ◌<◌, Bool, true, false, List, length, None, Some, slice_get, slice_set, [], ◌∷◌}
 use Rattle.flow_packet.specs.Held.{Held}
 use Rattle.flow_component.specs.declared.Answer.{Answer}
 use Rattle.flow_component.specs.declared.Shape.{Shape}
 use Rattle.flow_component.specs.Laws.{Outcome}
 use Rattle.flow_model.specs.States.{State}
 use Rattle.flow_model.specs.Events.{Event, event_from}
-use Rattle.flow_model.specs.Schedules.{Journal, no_turns, SettlesAll, WorksLead}
+use Rattle.flow_model.specs.Schedules.{Journal, no_turns, SettlesAll, WorksLead, Step, Reaches}
+use Rattle.flow_model.specs.Schedules.{journal_of as steps_journal}
 use Rattle.flow_model.specs.Robin.{TurnsOf, Burst, PassBelow, Passes, joined, RoundRobin}
 use Rattle.flow_model.specs.Verdicts.{Quiet}
 use Rattle.flow_model.specs.Stands.{StandsForOpen}
@@ -14,7 +15,7 @@ use Rattle.flow_model.specs.Fit.{Fit}
 use Rattle.flow_machine.specs.Values.{BodyValue, NetValue, shown_net}
 use Rattle.flow_machine.specs.Nets.{looks_of, NetTurn, level_of}
 use Rattle.flow_machine.specs.Thoughts.{SettlesBody, KeepsTurns, IsSet}
-use Rattle.flow_machine.specs.Logs.{Logged, journal_of, Remembers}
+use Rattle.flow_machine.specs.Logs.{Logged, journal_of, Remembers, turns_made}
 
 -- Each fit state that a net stood for goes on in this way to one that it stands for afterwards.
 abbrev pub GoesOn : {K : Type 0} → (K → Shape) → (K → ℕ → Bool) → (K → Held → Answer → Type 0) → (State K → State K → Type 0) → NetValue K → NetValue K → Type 0
@@ -77,3 +78,18 @@ all_settled next journal s s' = (journal ≡ no_turns) × SettlesAll next s s'
 -- A round robin: the pending works are done, and then each process takes turns until it has none, round and round, until no process has one.
 abbrev pub round_robin : {K : Type 0} → (K → Held → Answer → Outcome K → Type 0) → Journal → State K → State K → Type 0
 round_robin {K} next journal s s' = (t : State K) × SettlesAll next s t × RoundRobin next t journal s' × Quiet s'
+
+-- Turns and works in some order, of which the turns are this journal.
+abbrev pub reached : {K : Type 0} → (K → Held → Answer → Outcome K → Type 0) → Journal → State K → State K → Type 0
+reached next journal s s' = (steps : List Step) × (journal ≡ steps_journal steps) × Reaches next s steps s'
+
+-- A net goes on by turns and works in some order, and has the same processes.
+pub record ReachesNet {K : Type 0} (shape_of : K → Shape) (uses : K → ℕ → Bool) (ready : K → Held → Answer → Type 0) (next : K → Held → Answer → Outcome K → Type 0) (old new : NetValue K) : Type 0 where
+  pub len : length new.bodies ≡ length old.bodies
+  pub goes : Goes shape_of uses ready (reached next) old (turns_made old) new (turns_made new)
+
+-- A run stopped for want of memory: no process was starved and nothing was done, or this one was.
+abbrev pub StopsAt : {K : Type 0} → NetValue K → NetValue K → List ℕ → Type 0
+StopsAt old new [] = new ≡ old
+StopsAt old new (p ∷ []) = p < length old.bodies
+StopsAt old new (p ∷ q ∷ starved) = ⊥

@@ -2,7 +2,7 @@
 ghost use Rattle.std.specs.Prelude.{◌≡◌, ◌<◌, ◌^◌, ◌≤◌, length, None, Some, slice_get, IfSome, sum_by};
 ghost use Rattle.flow_model.specs.Schedules.{IsThoughtStage};
 ghost use Rattle.flow_machine.specs.Nets.{level_of, block_at, is_asking, asks_level, IsAt, TurnsNet, SeesNet};
-ghost use Rattle.flow_machine.specs.NetSteps.{IsSetIn, ThinksNet};
+ghost use Rattle.flow_machine.specs.NetSteps.{IsSetIn, ThinksNet, TurnGoes};
 ghost use Rattle.flow_machine.specs.Logs.{turns_made, HasLog};
 
 use self::begin::{discard_bodies, discard_channels};
@@ -17,9 +17,11 @@ mod begin;
 mod blocks;
 mod levels;
 mod pair;
+mod parts;
 mod round;
 mod turns;
 
+pub use parts::Parts;
 pub use round::{Closed, solo};
 
 /// A network: its processes and its connections.
@@ -92,6 +94,7 @@ impl<K: Component> Net<K> {
         requires set { IsSetIn self.old process }
         requires next { stamp ≡ turns_made self.old }
         ensures turns { TurnsNet self.old process (level_of self.old process) stamp result self.new }
+        ensures goes { TurnGoes K.shape_of K.uses K.ready self.old process result self.new }
         ensures few { turns_made self.new ≤ 1073741824 }
     {
         turns::turn_of(&mut self.bodies, &mut self.channels, process, stamp)
@@ -118,7 +121,8 @@ impl<K: Component> Net<K> {
         requires set { IsSetIn self.old process }
         requires next { stamp ≡ turns_made self.old }
         requires asks { IsAt self.old process asks_level }
-        ensures { SeesNet self.old process seen stamp result self.new }
+        ensures sees { SeesNet self.old process seen stamp result self.new }
+        ensures goes { IfSome result (λ turn. TurnGoes K.shape_of K.uses K.ready self.old process turn self.new) }
     {
         levels::seen_of(&mut self.bodies, &self.channels, process, stamp, seen)
     }

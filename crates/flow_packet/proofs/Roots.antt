@@ -1,8 +1,8 @@
 -- How many packets edits of hands leave at the root.
-use Rattle.std.proofs.Common.{◌≡◌, ℕ, ◌+◌, ◌<◌, ◌≤◌, List, [], ◌∷◌, ◌++◌, length, take, Bool, true, false, cond, ap, subst, sym, arith, length-append, Option, Some, None}
+use Rattle.std.proofs.Common.{◌≡◌, ℕ, ◌≤◌, List, [], ◌∷◌, length, take, true, false, cond, ap, arith, length-append, Option, Some, None}
 use Rattle.flow_packet.specs.Tree.{Tree, packet_of, chains_of, with_chains, detach_from}
-use Rattle.flow_packet.specs.Hands.{has_id, packet_at, without, update, put_into, attached, detached, chain_of_root}
-use Rattle.flow_packet.specs.Held.{Held, next_id, with_made, without_packet}
+use Rattle.flow_packet.specs.Hands.{has_id, packet_at, without, update, put_into, detached, chain_of_root}
+use Rattle.flow_packet.specs.Held.{Held, next_id}
 use Rattle.flow_packet.specs.Edits.{IsOpen, Edit, Makes, Drops, Attaches, Detaches, edited, Edits, hands_limit, ComesBy}
 
 -- without a packet there are no more than before

@@ -1,12 +1,12 @@
 -- Stored files, one of which is written.
-use Rattle.std.proofs.Common.{◌≡◌, ℕ, ◌+◌, ◌-◌, ◌<◌, ◌≤◌, List, [], ◌∷◌, ◌++◌, length, map, Some, None, refl, sym, ◌∙◌, ap, subst, get_or, arith}
+use Rattle.std.proofs.Common.{◌≡◌, ℕ, ◌+◌, ◌-◌, ◌≤◌, List, [], ◌∷◌, ◌++◌, length, map, Some, None, refl, sym, ◌∙◌, ap, subst, get_or, arith}
 use Rattle.std.proofs.Math.ListN.{set}
 use Rattle.std.proofs.lemmas.List.{map-set, map-append, length-map}
 use Rattle.std.proofs.lemmas.Option.{get_or_from_slice_get, slice_get_read}
 use Rattle.std.specs.declared.option.Option.{Option}
 use Rattle.std.specs.Prelude.{string_bytes, slice_get, vec_len, vec_capacity, unwrap_or}
 use Rattle.std.specs.Option.{option_map}
-use Rattle.flow_text.specs.Edge.{Name, Files, replaced, appended_to, appended_at}
+use Rattle.flow_text.specs.Edge.{Name, replaced, appended_to, appended_at}
 use Rattle.flow_text.specs.Folder.{Named, Stored, named, held, taken_of, room_left, name_of, IsFirst, IsPlace, IsWritable, IsWritableAt, Emptied}
 use Rattle.flow_text.proofs.Writes.{replaced-same}
 use Rattle.flow_text.proofs.Held.{held-first, held-set, held-push, name-first, IsFirst-set, IsFirst-push, slice_get-set, slice_get-push, named-at}

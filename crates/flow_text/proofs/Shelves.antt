@@ -1,9 +1,9 @@
 -- Calls of the shelf and the sink in memory.
-use Rattle.std.proofs.Common.{◌≡◌, ℕ, zero, suc, ◌+◌, ◌<◌, ◌≤◌, ◌-◌, Bool, true, false, IsTrue, Contains, List, [], ◌++◌, length, take, drop, Some, None, refl, sym, ◌∙◌, ap, subst, arith, min}
+use Rattle.std.proofs.Common.{◌≡◌, ℕ, zero, suc, ◌+◌, ◌<◌, ◌≤◌, ◌-◌, Bool, true, false, IsTrue, Contains, List, ◌++◌, length, take, drop, Some, refl, sym, ◌∙◌, ap, subst, arith, min}
 use Rattle.std.proofs.Math.Seq.{take-append_seam}
 use Rattle.std.proofs.lemmas.List.{take-append-drop, drop-drop, length-take-le, length-drop}
 use mathlib.Core.Path.{ap₂}
-use Rattle.flow_text.specs.Edge.{Outside, after_write, appended_to}
+use Rattle.flow_text.specs.Edge.{after_write, appended_to}
 use Rattle.flow_text.specs.Folder.{Folded, held, taken_of}
 use Rattle.flow_text.specs.Mem.{Shelved, outside_of}
 

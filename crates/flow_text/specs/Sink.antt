@@ -1,5 +1,5 @@
 -- The sink in memory, and exactly which of its writes fail.
-use Rattle.std.specs.Prelude.{◌≡◌, ◌⊎◌, ◌++◌, ℕ, ◌-◌, ◌<◌, ◌≤◌, min, List, [], length, take, Some, None, MatchResult, Contains}
+use Rattle.std.specs.Prelude.{◌≡◌, ◌⊎◌, ◌++◌, ℕ, ◌-◌, ◌<◌, min, List, [], length, take, Some, None, MatchResult, Contains}
 use Rattle.std.specs.declared.result.Result.{Result}
 use Rattle.flow_text.specs.Edge.{Outside}
 use Rattle.flow_text.specs.Mem.{counted}

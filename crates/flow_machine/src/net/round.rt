@@ -1,10 +1,10 @@
 //! One thread runs a network: each process takes turns until it has none, round and round.
-ghost use Rattle.std.specs.Prelude.{◌≡◌, ◌<◌, ◌≤◌, ◌+◌, length, [], OnOk, IfOk};
+ghost use Rattle.std.specs.Prelude.{◌≡◌, ◌<◌, ◌≤◌, ◌+◌, length, [], OnOk, IfOk, IfErr};
 ghost use Rattle.std.specs.Bool.{OnTrue, OnFalse};
 ghost use Rattle.flow_machine.specs.NetSteps.{IsSetIn};
 ghost use Rattle.flow_machine.specs.Starts.{AllSet};
 ghost use Rattle.flow_machine.specs.Logs.{turns_made};
-ghost use Rattle.flow_machine.specs.Solo.{Goes, MakesTurn, SettlesNet, all_settled, burst_of, pass_below, round_robin};
+ghost use Rattle.flow_machine.specs.Solo.{Goes, MakesTurn, SettlesNet, ReachesNet, StopsAt, all_settled, burst_of, pass_below, round_robin};
 
 use super::Net;
 use crate::answers::{Thought, Turn};
@@ -39,6 +39,7 @@ impl<K: Component> Net<K> {
         requires set { IsSetIn self.old process }
         requires next { stamp ≡ turns_made self.old }
         ensures turn { MakesTurn self.old process stamp result self.new }
+        ensures reaches { ReachesNet K.shape_of K.uses K.ready K.next self.old self.new }
         ensures next { OnTrue result (turns_made self.new ≡ stamp + 1) }
         ensures few { turns_made self.new ≤ 1073741824 }
     {
@@ -53,6 +54,7 @@ impl<K: Component> Net<K> {
     fn settle(&mut self, process: u32) -> bool
         requires { process < length self.old.bodies }
         ensures settles { OnTrue result (SettlesNet K.next self.old process self.new) }
+        ensures reaches { ReachesNet K.shape_of K.uses K.ready K.next self.old self.new }
         ensures len { length self.new.bodies ≡ length self.old.bodies }
         ensures turns { turns_made self.new ≡ turns_made self.old }
     {
@@ -67,6 +69,8 @@ impl<K: Component> Net<K> {
     fn settle_all(&mut self) -> Result<(), u32>
         ensures set { OnOk result (AllSet self.new.bodies) }
         ensures goes { OnOk result (Goes K.shape_of K.uses K.ready (all_settled K.next) self.old (turns_made self.old) self.new (turns_made self.old)) }
+        ensures reaches { ReachesNet K.shape_of K.uses K.ready K.next self.old self.new }
+        ensures starved { IfErr result (λ p. p < length self.old.bodies) }
         ensures len { length self.new.bodies ≡ length self.old.bodies }
         ensures turns { turns_made self.new ≡ turns_made self.old }
     {
@@ -89,6 +93,8 @@ impl<K: Component> Net<K> {
         ensures few { OnOk result (stamp.new ≤ 1073741824) }
         ensures len { length self.new.bodies ≡ length self.old.bodies }
         ensures goes { OnOk result (Goes K.shape_of K.uses K.ready (burst_of K.next process) self.old stamp.old self.new stamp.new) }
+        ensures reaches { ReachesNet K.shape_of K.uses K.ready K.next self.old self.new }
+        ensures starved { IfErr result (λ p. p < length self.old.bodies) }
     {
         while self.make_turn(process, *stamp) {
             *stamp += 1;
@@ -110,6 +116,8 @@ impl<K: Component> Net<K> {
         ensures len { length self.new.bodies ≡ length self.old.bodies }
         ensures goes { OnOk result (Goes K.shape_of K.uses K.ready (pass_below K.next (length self.old.bodies)) self.old stamp.old self.new stamp.new) }
         ensures moved { IfOk result (λ moved. OnTrue moved (stamp.old < stamp.new) × OnFalse moved (stamp.new ≡ stamp.old)) }
+        ensures reaches { ReachesNet K.shape_of K.uses K.ready K.next self.old self.new }
+        ensures starved { IfErr result (λ p. p < length self.old.bodies) }
     {
         let before = *stamp;
         for process in 0..self.processes() {
@@ -120,7 +128,9 @@ impl<K: Component> Net<K> {
 
     /// Passes, until one has no turn.
     fn go_round(&mut self) -> Result<(), u32>
-        ensures { OnOk result (Goes K.shape_of K.uses K.ready (round_robin K.next) self.old (turns_made self.old) self.new (turns_made self.new)) }
+        ensures goes { OnOk result (Goes K.shape_of K.uses K.ready (round_robin K.next) self.old (turns_made self.old) self.new (turns_made self.new)) }
+        ensures reaches { ReachesNet K.shape_of K.uses K.ready K.next self.old self.new }
+        ensures starved { IfErr result (λ p. p < length self.old.bodies) }
     {
         self.settle_all()?;
         let mut stamp = self.turns_made();
@@ -135,6 +145,8 @@ impl<K: Component> Net<K> {
 pub fn solo<K: Component>(alloc: Global, net: Net<K>) -> Result<Closed<K>, Closed<K>>
     ensures quiet { IfOk result (λ closed. Goes K.shape_of K.uses K.ready (round_robin K.next) net (turns_made net) closed.net (turns_made closed.net)) }
     ensures none { IfOk result (λ closed. closed.starved.items ≡ []) }
+    ensures reaches { IfErr result (λ closed. ReachesNet K.shape_of K.uses K.ready K.next net closed.net) }
+    ensures stops { IfErr result (λ closed. StopsAt net closed.net closed.starved.items) }
 {
     let mut net = net;
     let Ok(mut starved) = Vec::with_capacity(alloc, 1) else {

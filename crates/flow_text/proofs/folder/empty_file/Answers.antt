@@ -1,4 +1,4 @@
-use Rattle.std.proofs.Common.{◌≡◌, ◌∷◌, [], ◌++◌, None, length, List, map, refl, sym, ◌∙◌, ap, subst}
+use Rattle.std.proofs.Common.{◌≡◌, ◌∷◌, [], ◌++◌, None, length, List, map, refl, sym, ◌∙◌, subst}
 use Rattle.flow_text.specs.Folder.{Stored, IsPlace, Emptied, held, named}
 use Rattle.flow_text.proofs.Folders.{emptied-set, emptied-push}
 use Rattle.flow_text.proofs.folder.empty_file.Goals as goal

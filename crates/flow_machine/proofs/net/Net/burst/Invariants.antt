@@ -1,7 +1,7 @@
 use Rattle.std.proofs.Common.{◌≡◌, ◌≤◌, ◌-◌, length}
 use Rattle.flow_machine.specs.Logs.{turns_made}
 use Rattle.flow_machine.specs.Starts.{AllSet}
-use Rattle.flow_machine.specs.Solo.{Goes, turns_of}
+use Rattle.flow_machine.specs.Solo.{Goes, ReachesNet, turns_of}
 use Rattle.flow_machine.proofs.net.Net.burst.Given as goal
 
 abbrev pub invariant-loop-stamp : goal.invariant-loop-stamp
@@ -10,6 +10,7 @@ invariant-loop-stamp g l = record {
   len : length l.self.bodies ≡ length l.fn.self.bodies;
   next : l.stamp ≡ turns_made l.self;
   few : l.stamp ≤ 1073741824;
+  reaches : ReachesNet g.K.Component.shape_of g.K.Component.uses g.K.Component.ready g.K.Component.next l.fn.self l.self;
   goes : Goes g.K.Component.shape_of g.K.Component.uses g.K.Component.ready (turns_of g.K.Component.next l.process) l.fn.self l.fn.stamp l.self l.stamp;
 }
 

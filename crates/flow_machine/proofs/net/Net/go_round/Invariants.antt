@@ -1,7 +1,7 @@
 use Rattle.std.proofs.Common.{◌≡◌, ◌≤◌, ◌-◌, length}
 use Rattle.flow_machine.specs.Logs.{turns_made}
 use Rattle.flow_machine.specs.Starts.{AllSet}
-use Rattle.flow_machine.specs.Solo.{Goes, some_passes}
+use Rattle.flow_machine.specs.Solo.{Goes, ReachesNet, some_passes}
 use Rattle.flow_machine.proofs.net.Net.go_round.Given as goal
 
 abbrev pub invariant-loop : goal.invariant-loop
@@ -10,6 +10,7 @@ invariant-loop g l = record {
   len : length l.self.bodies ≡ length l.initial.self.bodies;
   next : l.stamp ≡ turns_made l.self;
   few : l.stamp ≤ 1073741824;
+  reaches : ReachesNet g.K.Component.shape_of g.K.Component.uses g.K.Component.ready g.K.Component.next l.initial.self l.self;
   goes : Goes g.K.Component.shape_of g.K.Component.uses g.K.Component.ready (some_passes g.K.Component.next) l.initial.self l.initial.stamp l.self l.stamp;
 }
 

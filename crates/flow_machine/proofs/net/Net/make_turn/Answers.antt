@@ -1,6 +1,7 @@
-use Rattle.std.proofs.Common.{◌+◌, ℕ, sym, ◌∙◌, ap}
+use Rattle.std.proofs.Common.{◌+◌, ℕ, sym, ◌∙◌, ap, true, false}
 use Rattle.flow_machine.specs.Nets.{level_of}
 use Rattle.flow_machine.proofs.SoloLemmas.{blocked-turn, over-turn, turn-count}
+use Rattle.flow_machine.proofs.Reaching.{reach-turn}
 use Rattle.flow_machine.proofs.net.Net.make_turn.Goals as goal
 
 pub returns-in-Made-clause-turn : goal.returns-in-Made-clause-turn
@@ -16,3 +17,12 @@ returns-in-Blocked-clause-turn g c = blocked-turn c.args.self.now c.args.process
 
 pub returns-in-Over-clause-turn : goal.returns-in-Over-clause-turn
 returns-in-Over-clause-turn g c = over-turn c.args.self.now c.args.process c.args.stamp c.in-Over.field-0 c.turn.new.self c.in-Over.ensures.turns
+
+pub returns-in-Made-clause-reaches : goal.returns-in-Made-clause-reaches
+returns-in-Made-clause-reaches g c = reach-turn g.K.Component.shape_of g.K.Component.uses g.K.Component.ready g.K.Component.next g.met.K.Component.obeys g.met.K.Component.stays_ready g.met.K.Component.steady c.args.self.now c.args.process c.args.stamp true c.turn.new.self c.requires.next c.in-Made.ensures.turns.1
+
+pub returns-in-Blocked-clause-reaches : goal.returns-in-Blocked-clause-reaches
+returns-in-Blocked-clause-reaches g c = reach-turn g.K.Component.shape_of g.K.Component.uses g.K.Component.ready g.K.Component.next g.met.K.Component.obeys g.met.K.Component.stays_ready g.met.K.Component.steady c.args.self.now c.args.process c.args.stamp false c.turn.new.self c.requires.next (blocked-turn c.args.self.now c.args.process c.args.stamp c.in-Blocked.field-0 c.turn.new.self c.in-Blocked.ensures.turns)
+
+pub returns-in-Over-clause-reaches : goal.returns-in-Over-clause-reaches
+returns-in-Over-clause-reaches g c = reach-turn g.K.Component.shape_of g.K.Component.uses g.K.Component.ready g.K.Component.next g.met.K.Component.obeys g.met.K.Component.stays_ready g.met.K.Component.steady c.args.self.now c.args.process c.args.stamp false c.turn.new.self c.requires.next (over-turn c.args.self.now c.args.process c.args.stamp c.in-Over.field-0 c.turn.new.self c.in-Over.ensures.turns)

@@ -1,7 +1,7 @@
 use Rattle.std.proofs.Common.{◌≡◌, ◌≤◌, length}
 use Rattle.flow_machine.specs.Logs.{turns_made}
 use Rattle.flow_machine.specs.Starts.{AllSet}
-use Rattle.flow_machine.specs.Solo.{Goes, pass_below}
+use Rattle.flow_machine.specs.Solo.{Goes, ReachesNet, pass_below}
 use Rattle.flow_machine.proofs.net.Net.pass.Given as goal
 
 abbrev pub invariant-loop-process : goal.invariant-loop-process
@@ -11,5 +11,6 @@ invariant-loop-process g l = record {
   next : l.stamp ≡ turns_made l.self;
   few : l.stamp ≤ 1073741824;
   grown : l.fn.stamp ≤ l.stamp;
+  reaches : ReachesNet g.K.Component.shape_of g.K.Component.uses g.K.Component.ready g.K.Component.next l.fn.self l.self;
   goes : Goes g.K.Component.shape_of g.K.Component.uses g.K.Component.ready (pass_below g.K.Component.next l.process) l.fn.self l.fn.stamp l.self l.stamp;
 }

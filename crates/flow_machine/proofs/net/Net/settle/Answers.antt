@@ -1,4 +1,5 @@
 use Rattle.flow_machine.proofs.SoloLemmas.{settles-wishing, settles-failed, think-count}
+use Rattle.flow_machine.proofs.Reaching.{reach-think}
 use Rattle.flow_machine.proofs.net.Net.settle.Goals as goal
 
 pub returns-in-Wishing-clause-settles : goal.returns-in-Wishing-clause-settles
@@ -15,3 +16,12 @@ returns-in-Failed-clause-turns g c = think-count g.K.Component.next c.args.self.
 
 pub returns-in-NoMemory-clause-turns : goal.returns-in-NoMemory-clause-turns
 returns-in-NoMemory-clause-turns g c = think-count g.K.Component.next c.args.self.now c.args.process c.think.result c.think.new.self c.think.ensures
+
+pub returns-in-Wishing-clause-reaches : goal.returns-in-Wishing-clause-reaches
+returns-in-Wishing-clause-reaches g c = reach-think g.K.Component.shape_of g.K.Component.uses g.K.Component.ready g.K.Component.next g.met.K.Component.obeys g.met.K.Component.stays_ready g.met.K.Component.steady c.args.self.now c.args.process c.think.result c.think.new.self c.think.ensures
+
+pub returns-in-Failed-clause-reaches : goal.returns-in-Failed-clause-reaches
+returns-in-Failed-clause-reaches g c = reach-think g.K.Component.shape_of g.K.Component.uses g.K.Component.ready g.K.Component.next g.met.K.Component.obeys g.met.K.Component.stays_ready g.met.K.Component.steady c.args.self.now c.args.process c.think.result c.think.new.self c.think.ensures
+
+pub returns-in-NoMemory-clause-reaches : goal.returns-in-NoMemory-clause-reaches
+returns-in-NoMemory-clause-reaches g c = reach-think g.K.Component.shape_of g.K.Component.uses g.K.Component.ready g.K.Component.next g.met.K.Component.obeys g.met.K.Component.stays_ready g.met.K.Component.steady c.args.self.now c.args.process c.think.result c.think.new.self c.think.ensures

@@ -1,7 +1,5 @@
-use Rattle.std.proofs.Common.{rules, ◌≡◌, ◌∙◌, ap, sym, subst, ◌≤◌, List}
-use Rattle.std.specs.Prelude.{sum_by}
-use Rattle.flow_machine.specs.Values.{BodyValue, NetValue}
-use Rattle.flow_machine.specs.Logs.{turns_made, HasLog}
+use Rattle.std.proofs.Common.{subst}
+use Rattle.flow_machine.specs.Logs.{HasLog}
 use Rattle.flow_machine.proofs.FitLemmas.{turns-most}
 use Rattle.flow_machine.proofs.net.Net.turns_made.Goals as goal
 

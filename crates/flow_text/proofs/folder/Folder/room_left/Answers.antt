@@ -1,4 +1,4 @@
-use Rattle.std.proofs.Common.{◌≡◌, ◌-◌, sym, ◌∙◌, ap}
+use Rattle.std.proofs.Common.{◌-◌, ◌∙◌, ap}
 use Rattle.flow_text.specs.Folder.{Folded, held, room_left}
 use Rattle.flow_text.proofs.Folders.{room-of}
 use Rattle.flow_text.proofs.folder.Folder.room_left.Goals as goal

@@ -1,0 +1,140 @@
+-- Nets that go on by turns and works in any order.
+use Rattle.std.proofs.Common.{◌≡◌, ℕ, Bool, true, false, List, [], ◌∷◌, ◌++◌, length, Some, refl, ap, sym, subst, ◌∙◌, arith, slice_get, slice_set, length-set, length-append, append_assoc, append-nil, ◌⊎◌, inl, inr}
+use Rattle.std.specs.Prelude.{Result, Ok, Err, IsErrAnd, IfErr}
+use Rattle.flow_packet.specs.Held.{Held}
+use Rattle.flow_component.specs.declared.Answer.{Answer}
+use Rattle.flow_component.specs.declared.Shape.{Shape}
+use Rattle.flow_component.specs.Laws.{Outcome, Obeys, StaysReady, IsSteady}
+use Rattle.flow_model.specs.States.{State}
+use Rattle.flow_model.specs.Events.{Event, seen_by}
+use Rattle.flow_model.specs.Schedules.{then_turns, Step, Turned, Worked, Reaches}
+use Rattle.flow_model.specs.Schedules.{journal_of as steps_journal}
+use Rattle.flow_model.specs.Stands.{StandsForOpen}
+use Rattle.flow_model.specs.Fit.{Fit}
+use Rattle.flow_model.proofs.Lists.{slice_get-set_same, slice_get-set_other, same_or_not}
+use Rattle.flow_machine.specs.Values.{BodyValue, NetValue, shown_net}
+use Rattle.flow_machine.specs.declared.answers.Thought.{Thought}
+use Rattle.flow_machine.specs.Nets.{NetTurn, level_of}
+use Rattle.flow_machine.specs.NetSteps.{ThinksNet}
+use Rattle.flow_machine.specs.Thoughts.{SameBody, WorkedBody, KeepsTurns}
+use Rattle.flow_machine.specs.Logs.{journal_of, Remembers, stamps_of, levels_of, turns_made}
+use Rattle.flow_machine.specs.Solo.{MakesTurn, reached, ReachesNet}
+use Rattle.flow_machine.proofs.LogLemmas.{stamps-own, stamps-other, levels-own, levels-other}
+use Rattle.flow_machine.proofs.FitLemmas.{goes-by, goes-same, goes-work, thinks-step}
+use Rattle.flow_machine.proofs.SoloLemmas.{journal_of-append, remember-none, remember-then, think-count, turn-count}
+
+-- an error that is passed on
+pub passed-on : {T E : Type 0} (r : Result T E) (e : E) (P : E → Type 0) → IsErrAnd r (λ y. y ≡ e) → P e → IfErr r P
+passed-on (Ok x) e P is p = tt
+passed-on (Err y) e P is p = subst P (sym is) p
+
+-- steps after steps
+reaches-append : {K : Type 0} (next : K → Held → Answer → Outcome K → Type 0) (s : State K) (a b : List Step) (mid s' : State K) → Reaches next s a mid → Reaches next mid b s' → Reaches next s (a ++ b) s'
+reaches-append {K} next s [] b mid s' first rest = subst (λ (t : State K). Reaches next t b s') first rest
+reaches-append next s (Turned p seen ∷ a) b mid s' first rest = (first.0, first.1, first.2, first.3, reaches-append next first.1 a b mid s' first.4 rest)
+reaches-append next s (Worked p ∷ a) b mid s' first rest = (first.0, first.1, reaches-append next first.0 a b mid s' first.2 rest)
+
+steps-append : (a b : List Step) → steps_journal (a ++ b) ≡ then_turns (steps_journal a) (steps_journal b)
+steps-append [] b = refl
+steps-append (Turned p seen ∷ a) b =
+    ap (then_turns (record { turns = p ∷ []; seen = seen })) (steps-append a b)
+    ∙ (λ i. record { turns = sym (append_assoc (p ∷ []) (steps_journal a).turns (steps_journal b).turns) i; seen = sym (append_assoc seen (steps_journal a).seen (steps_journal b).seen) i })
+steps-append (Worked p ∷ a) b = steps-append a b
+
+-- what bodies remember of one turn
+remember-one : {K : Type 0} (old new : NetValue K) (p k m : ℕ) (e : Event) → NetTurn old p k e m new → Remembers m old.bodies (record { process = p; seen = seen_by e } ∷ []) new.bodies
+remember-one {K} old new p k m e turn q b b' was is = elim (same_or_not q p) [
+  | inl same ↦ (
+      let here : Some turn.after ≡ Some b' = sym (slice_get-set_same old.bodies p turn.before turn.after turn.there) ∙ ap (λ (bs : List (BodyValue K)). slice_get bs p) (sym turn.bodies) ∙ ap (slice_get new.bodies) (sym same) ∙ is in
+      let after_is : turn.after ≡ b' = cc in
+      let there : Some turn.before ≡ Some b = sym turn.there ∙ ap (slice_get old.bodies) (sym same) ∙ was in
+      let before_is : turn.before ≡ b = cc in (
+        ap (λ (x : BodyValue K). x.stamps) (sym after_is) ∙ turn.turn.stamps ∙ (λ i. (before_is i).stamps ++ (sym (stamps-own p m (seen_by e)) ∙ ap (λ (r : ℕ). stamps_of r m (record { process = p; seen = seen_by e } ∷ [])) (sym same)) i),
+        ap (λ (x : BodyValue K). x.levels) (sym after_is) ∙ turn.turn.levels ∙ (λ i. (before_is i).levels ++ (sym (levels-own p m e) ∙ ap (λ (r : ℕ). levels_of r m (record { process = p; seen = seen_by e } ∷ [])) (sym same)) i),
+      ))
+  | inr other ↦ (
+      let h : Some b ≡ Some b' = sym was ∙ sym (slice_get-set_other old.bodies p q turn.after other) ∙ ap (λ (bs : List (BodyValue K)). slice_get bs q) (sym turn.bodies) ∙ is in
+      let same : b ≡ b' = cc in (
+        ap (λ (x : BodyValue K). x.stamps) (sym same) ∙ sym (append-nil b.stamps) ∙ ap (λ (xs : List ℕ). b.stamps ++ xs) (sym (stamps-other q p m (seen_by e) other)),
+        ap (λ (x : BodyValue K). x.levels) (sym same) ∙ sym (append-nil b.levels) ∙ ap (λ (xs : List (ℕ × ℕ)). b.levels ++ xs) (sym (levels-other q p m (seen_by e) other)),
+      ))
+]
+
+-- a thought keeps what bodies remember
+remember-kept : {K : Type 0} (old new : List (BodyValue K)) (p n : ℕ) (before after : BodyValue K) → slice_get old p ≡ Some before → KeepsTurns before after → new ≡ slice_set old p after → Remembers n old [] new
+remember-kept {K} old new p n before after there keeps bodies q b b' was is = elim (same_or_not q p) [
+  | inl same ↦ (let here : Some after ≡ Some b' = sym (slice_get-set_same old p before after there) ∙ ap (λ (bs : List (BodyValue K)). slice_get bs p) (sym bodies) ∙ ap (slice_get new) (sym same) ∙ is in
+      let after_is : after ≡ b' = cc in
+      let was_there : Some before ≡ Some b = sym there ∙ ap (slice_get old) (sym same) ∙ was in
+      let before_is : before ≡ b = cc in (
+        ap (λ (x : BodyValue K). x.stamps) (sym after_is) ∙ keeps.stamps ∙ ap (λ (x : BodyValue K). x.stamps) before_is ∙ sym (append-nil b.stamps),
+        ap (λ (x : BodyValue K). x.levels) (sym after_is) ∙ keeps.levels ∙ ap (λ (x : BodyValue K). x.levels) before_is ∙ sym (append-nil b.levels),
+      ))
+  | inr other ↦ (let h : Some b ≡ Some b' = sym was ∙ sym (slice_get-set_other old p q after other) ∙ ap (λ (bs : List (BodyValue K)). slice_get bs q) (sym bodies) ∙ is in
+      let same : b ≡ b' = cc in
+      (ap (λ (x : BodyValue K). x.stamps) (sym same) ∙ sym (append-nil b.stamps), ap (λ (x : BodyValue K). x.levels) (sym same) ∙ sym (append-nil b.levels)))
+]
+
+module _ {K : Type 0} (shape_of : K → Shape) (uses : K → ℕ → Bool) (ready : K → Held → Answer → Type 0) (next : K → Held → Answer → Outcome K → Type 0)
+    (obeys : (part : K) (held : Held) (answer : Answer) (outcome : Outcome K) → ready part held answer → next part held answer outcome → Obeys (shape_of part) (uses part) held outcome)
+    (stays : (part : K) (held : Held) (answer : Answer) (outcome : Outcome K) → ready part held answer → next part held answer outcome → StaysReady ready outcome)
+    (steady : (part : K) (held : Held) (answer : Answer) (outcome : Outcome K) → next part held answer outcome → IsSteady shape_of uses part outcome) where
+  abbrev Reached : NetValue K → NetValue K → Type 0
+  Reached old new = ReachesNet shape_of uses ready next old new
+
+  pub reach-none : (net : NetValue K) → Reached net net
+  reach-none net = record { len = refl; goes = ([], omega arith, record { remembers = remember-none (turns_made net) net.bodies; states = λ s fit stands. (s, ([], refl, refl), fit, stands) }) }
+
+  pub reach-then : (a b c : NetValue K) → Reached a b → Reached b c → Reached a c
+  reach-then a b c first rest = record {
+    len = rest.len ∙ first.len;
+    goes = (
+      first.goes.0 ++ rest.goes.0,
+      omega (arith, first.goes.1, rest.goes.1, length-append first.goes.0 rest.goes.0),
+      record {
+        remembers = remember-then a.bodies b.bodies c.bodies (turns_made a) (turns_made b) first.goes.0 rest.goes.0 first.goes.2.remembers first.goes.1 rest.goes.2.remembers (sym rest.len);
+        states = λ s fit stands.
+            let g = first.goes.2.states s fit stands in
+            let h = rest.goes.2.states g.0 g.2 g.3 in
+            let journal : journal_of (first.goes.0 ++ rest.goes.0) ≡ steps_journal (g.1.0 ++ h.1.0) = journal_of-append first.goes.0 rest.goes.0 ∙ (λ i. then_turns (g.1.1 i) (h.1.1 i)) ∙ sym (steps-append g.1.0 h.1.0) in
+            (h.0, (g.1.0 ++ h.1.0, journal, reaches-append next s g.1.0 h.1.0 g.0 h.0 g.1.2 h.1.2), h.2, h.3);
+      },
+    );
+  }
+
+  pub reach-think : (old : NetValue K) (p : ℕ) (t : Thought) (new : NetValue K) → ThinksNet next old p t new → Reached old new
+  reach-think old p t new think = record {
+    len = ap length think.bodies ∙ length-set old.bodies p think.after;
+    goes = (
+      [],
+      omega (arith, think-count next old p t new think),
+      record {
+        remembers = remember-kept old.bodies new.bodies p (turns_made old) think.before think.after think.there think.keeps think.bodies;
+        states = λ s fit stands. by s fit stands (thinks-step next think.before t think.after think.thinks);
+      },
+    );
+  }
+    where
+      by : (s : State K) → Fit shape_of uses ready s → StandsForOpen (shown_net old) s → SameBody think.before think.after ⊎ WorkedBody next think.before think.after
+          → (s' : State K) × reached next (journal_of []) s s' × Fit shape_of uses ready s' × StandsForOpen (shown_net new) s'
+      by s fit stands (inl same) = (s, ([], refl, refl), fit, goes-same shape_of uses ready next obeys stays steady old p think.before think.after new think.there same think.bodies think.channels s stands)
+      by s fit stands (inr work) =
+          let g = goes-work shape_of uses ready next obeys stays steady old p think.before think.after new think.there work think.bodies think.channels s fit stands in
+          (g.0, (Worked p ∷ [], refl, (g.0, g.1, refl)), g.2, g.3)
+
+  pub reach-made : (old : NetValue K) (p k m : ℕ) (e : Event) (new : NetValue K) → NetTurn old p k e m new → m ≡ turns_made old → Reached old new
+  reach-made old p k m e new turn at = record {
+    len = ap length turn.bodies ∙ length-set old.bodies p turn.after;
+    goes = (
+      record { process = p; seen = seen_by e } ∷ [],
+      omega (arith, turn-count old p k e m new turn),
+      record {
+        remembers = subst (λ (n : ℕ). Remembers n old.bodies (record { process = p; seen = seen_by e } ∷ []) new.bodies) at (remember-one old new p k m e turn);
+        states = λ s fit stands. let t = goes-by shape_of uses ready old p k e m new turn s fit stands in (t.0, (Turned p (seen_by e) ∷ [], refl, (e, t.0, t.1, refl, refl)), t.2, t.3);
+      },
+    );
+  }
+
+  pub reach-turn : (old : NetValue K) (p m : ℕ) (made : Bool) (new : NetValue K) → m ≡ turns_made old → MakesTurn old p m made new → Reached old new
+  reach-turn old p m true new at turn = reach-made old p (level_of old p) m turn.0 new turn.1 at
+  reach-turn old p m false new at none = subst (λ (net : NetValue K). Reached old net) (sym none.1) (reach-none old)

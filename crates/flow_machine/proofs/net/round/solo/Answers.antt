@@ -1,0 +1,16 @@
+use Rattle.std.proofs.Common.{◌≡◌, ℕ, List, [], ◌∷◌, ◌++◌, ◌∙◌, ap, sym, subst}
+use Rattle.flow_machine.specs.Solo.{StopsAt}
+use Rattle.flow_machine.proofs.Reaching.{reach-none}
+use Rattle.flow_machine.proofs.net.round.solo.Goals as goal
+
+pub returns-in-Err-clause-reaches : goal.returns-in-Err-clause-reaches
+returns-in-Err-clause-reaches g c = c.in-Err.ensures.reaches
+
+pub returns-in-Err-clause-stops : goal.returns-in-Err-clause-stops
+returns-in-Err-clause-stops g c =
+    let pushed = rw c.unwrap.ensures at c.push.ensures.items in
+    let items : c.push.new.self.items ≡ c.in-Err.process ∷ [] = pushed ∙ ap (λ (xs : List ℕ). xs ++ c.in-Err.process ∷ []) c.in-Ok.ensures.items in
+    subst (λ (ps : List ℕ). StopsAt c.args.net c.go_round.new.self ps) (sym items) c.in-Err.ensures.starved
+
+pub returns-in_default-clause-reaches : goal.returns-in_default-clause-reaches
+returns-in_default-clause-reaches g c = reach-none g.K.Component.shape_of g.K.Component.uses g.K.Component.ready g.K.Component.next g.met.K.Component.obeys g.met.K.Component.stays_ready g.met.K.Component.steady c.args.net

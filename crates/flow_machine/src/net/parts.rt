@@ -1,0 +1,37 @@
+//! Networks in pieces.
+ghost use Rattle.std.specs.Prelude.{◌≡◌};
+ghost use Rattle.flow_machine.specs.FitNets.{FitNet};
+
+use super::Net;
+use crate::body::Body;
+use crate::channel::Channel;
+use flow_component::Component;
+
+/// A network in pieces: its processes and its connections. A layer above makes turns with a body and a channel apart, and joins the pieces again.
+pub struct Parts<K: Component> {
+    pub bodies: Vec<Body<K>>,
+    pub channels: Vec<Channel>,
+}
+
+impl<K: Component> Net<K> {
+    /// The network's own pieces.
+    pub fn split(self) -> Parts<K>
+        ensures bodies { result.bodies.items ≡ self.bodies }
+        ensures channels { result.channels.items ≡ self.channels }
+        ensures fit { FitNet K.shape_of K.uses K.ready self }
+    {
+        let Net { bodies, channels } = self;
+        Parts { bodies, channels }
+    }
+}
+
+impl<K: Component> Parts<K> {
+    /// The network of these pieces, which together stand for a state of the machine, and remember all turns that were made.
+    pub fn join(self) -> Net<K>
+        requires { FitNet K.shape_of K.uses K.ready (record { bodies = self.bodies.items; channels = self.channels.items }) }
+        ensures { result ≡ record { bodies = self.bodies.items; channels = self.channels.items } }
+    {
+        let Parts { bodies, channels } = self;
+        Net { bodies, channels }
+    }
+}
