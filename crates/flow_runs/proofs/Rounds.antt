@@ -1,0 +1,139 @@
+-- A net that started, and then went round until it was quiet, comes of a run of its network.
+use Rattle.std.proofs.Common.{◌≡◌, ℕ, Bool, zero, suc, ◌+◌, List, [], ◌∷◌, ◌++◌, length, map, Some, refl, sym, ◌∙◌, ap, subst, arith, inl, inr, slice_get, length-set}
+use Rattle.std.specs.List.{sum_by}
+use Rattle.std.proofs.lemmas.List.{length-map}
+use Rattle.std.proofs.lemmas.List.Sums.{sum_by-cons}
+use Rattle.flow_packet.specs.Held.{Held}
+use Rattle.flow_component.specs.declared.Answer.{Answer}
+use Rattle.flow_component.specs.Laws.{Outcome}
+use Rattle.flow_model.specs.declared.Stage.TheVariants as stages
+use Rattle.flow_model.specs.States.{Process, State}
+use Rattle.flow_model.specs.Turns.{process_after}
+use Rattle.flow_model.specs.Works.{worked}
+use Rattle.flow_model.specs.Schedules.{Journal, IsThoughtStage, IsClosed, Settles, WorksLead, SettlesAll, LeadsBy}
+use Rattle.flow_model.specs.Plans.{Plan, PlanProcess, start_of, processes_at_start, process_at_start}
+use Rattle.flow_model.specs.Stands.{BodyShown, StandsForOpen, bodies_from, show_body}
+use Rattle.flow_component.specs.declared.Shape.{Shape}
+use Rattle.flow_model.specs.Schedules.{Leads}
+use Rattle.flow_model.specs.Robin.{RoundRobin}
+use Rattle.flow_model.specs.Laws.{KeepsPrefixes, RoundRobinLeads}
+use Rattle.flow_model.proofs.Fits.{Fit-start}
+use Rattle.flow_machine.specs.Logs.{journal_of}
+use Rattle.flow_runs.specs.Runs.{RoundsAreRuns}
+use Rattle.flow_machine.specs.Values.{BodyValue, NetValue, shown_net, shown_body}
+use Rattle.flow_machine.specs.Logs.{Logged, IsLogOf, Remembers, stamps_of, levels_of, turns_made}
+
+-- the start has no pending works
+idle : {K : Type 0} (plan : Plan) (p : ℕ) (xs : List PlanProcess) (parts : List K) (k : ℕ) (z : Process K) → slice_get (processes_at_start plan p xs parts) k ≡ Some z → z.stage ≡ stages.Idle
+idle plan p [] parts k z is = absurd cc
+idle plan p (x ∷ xs) [] k z is = absurd cc
+idle plan p (x ∷ xs) (part ∷ parts) zero z is =
+    let h : process_at_start plan p x part ≡ z = cc in
+    sym (ap (λ (y : Process _). y.stage) h)
+idle plan p (x ∷ xs) (part ∷ parts) (suc k) z is = idle plan (p + 1) xs parts k z is
+
+start-closed : {K : Type 0} (plan : Plan) (parts : List K) → IsClosed (start_of plan parts)
+start-closed plan parts p x there = subst IsThoughtStage (sym (idle plan 0 plan.processes parts p x there)) tt
+
+-- so doing them all changes nothing
+works-none : {K : Type 0} (next : K → Held → Answer → Outcome K → Type 0) (s : State K) (works : List ℕ) (t : State K) → IsClosed s → WorksLead next s works t → t ≡ s
+works-none next s [] t closed lead = lead
+works-none next s (p ∷ ps) t closed lead =
+    let work = lead.1 in
+    absurd (subst IsThoughtStage work.kept.told (closed p work.before work.kept.there))
+
+pub settled-start : {K : Type 0} (next : K → Held → Answer → Outcome K → Type 0) (plan : Plan) (parts : List K) (t : State K) → SettlesAll next (start_of plan parts) t → t ≡ start_of plan parts
+settled-start next plan parts t all = works-none next (start_of plan parts) all.works t (start-closed plan parts) all.lead
+
+-- a schedule keeps the number of processes
+settle-count : {K : Type 0} (next : K → Held → Answer → Outcome K → Type 0) (s : State K) (p : ℕ) (s' : State K) → Settles next s p s' → length s'.kept.processes ≡ length s.kept.processes
+settle-count next s p s' (inl same) = ap (λ (t : State _). length t.kept.processes) same.1
+settle-count next s p s' (inr work) = ap length work.kept.processes ∙ length-set s.kept.processes p (worked work.before work.outcome)
+
+pub schedule-count : {K : Type 0} (next : K → Held → Answer → Outcome K → Type 0) (s : State K) (turns seen : List ℕ) (s' : State K) → LeadsBy next s turns seen s' → length s'.kept.processes ≡ length s.kept.processes
+schedule-count next s [] seen s' lead = ap (λ (t : State _). length t.kept.processes) lead.1
+schedule-count next s (p ∷ turns) seen s' lead =
+    let whole = lead.3 in
+    schedule-count next lead.1 turns lead.2 s' lead.5
+    ∙ settle-count next whole.0 p lead.1 whole.2
+    ∙ ap length whole.1.kept.processes ∙ length-set s.kept.processes p (process_after whole.1.kept.before lead.0)
+
+-- a net has as many bodies as the state that it stands for has processes
+length-shown : {K : Type 0} (dropped : ℕ → List ℕ) (p : ℕ) (xs : List (Process K)) → length (bodies_from dropped p xs) ≡ length xs
+length-shown dropped p [] = refl
+length-shown dropped p (x ∷ xs) = omega (arith, length-shown dropped (p + 1) xs)
+
+bodies-count : {K : Type 0} (net : NetValue K) (s : State K) → StandsForOpen (shown_net net) s → length net.bodies ≡ length s.kept.processes
+bodies-count net s stands =
+    sym (length-map net.bodies shown_body) ∙ ap (λ shows. length shows.bodies) stands ∙ length-shown s.past.dropped 0 s.kept.processes
+
+-- at the start no turn was made
+none-made : {K : Type 0} (plan : Plan) (dropped : ℕ → List ℕ) (p : ℕ) (xs : List PlanProcess) (parts : List K) (bodies : List (BodyValue K))
+    → map shown_body bodies ≡ bodies_from dropped p (processes_at_start plan p xs parts) → sum_by (λ b. b.process.turns) bodies ≡ 0
+none-made plan dropped p [] parts [] is = refl
+none-made plan dropped p [] parts (b ∷ bodies) is = absurd cc
+none-made plan dropped p (x ∷ xs) [] [] is = refl
+none-made plan dropped p (x ∷ xs) [] (b ∷ bodies) is = absurd cc
+none-made plan dropped p (x ∷ xs) (part ∷ parts) [] is = absurd cc
+none-made plan dropped p (x ∷ xs) (part ∷ parts) (b ∷ bodies) is =
+    let head : shown_body b ≡ show_body dropped p (process_at_start plan p x part) = cc in
+    let tail : map shown_body bodies ≡ bodies_from dropped (p + 1) (processes_at_start plan (p + 1) xs parts) = cc in
+    let turns : b.process.turns ≡ 0 = ap (λ (v : BodyShown _). v.process.turns) head in
+    let rest : sum_by (λ b. b.process.turns) bodies ≡ 0 = none-made plan dropped (p + 1) xs parts bodies tail in
+    let sum : sum_by (λ b. b.process.turns) (b ∷ bodies) ≡ b.process.turns + sum_by (λ b. b.process.turns) bodies = sum_by-cons (λ b. b.process.turns) b bodies in
+    omega (arith, sum, turns, rest)
+
+-- a list of the same length has an element at the same place
+same-place : {A B : Type 0} (xs : List A) (ys : List B) (k : ℕ) (y : B) → length xs ≡ length ys → slice_get ys k ≡ Some y → (x : A) × (slice_get xs k ≡ Some x)
+same-place [] [] k y same is = absurd cc
+same-place [] (z ∷ ys) k y same is = absurd (omega arith)
+same-place (x ∷ xs) [] k y same is = absurd (omega arith)
+same-place (x ∷ xs) (z ∷ ys) zero y same is = (x, refl)
+same-place (x ∷ xs) (z ∷ ys) (suc k) y same is = same-place xs ys k y (omega arith) is
+
+-- what the bodies of a net remember beside nothing are all turns that were made in it
+pub all-logged : {K : Type 0} (plan : Plan) (parts : List K) (old : NetValue K) (log : List Logged) (new : NetValue K) (last : State K)
+    → StandsForOpen (shown_net old) (start_of plan parts)
+    → ((p : ℕ) (b : BodyValue K) → slice_get old.bodies p ≡ Some b → (b.stamps ≡ []) × (b.levels ≡ []))
+    → Remembers (turns_made old) old.bodies log new.bodies → turns_made new ≡ turns_made old + length log
+    → StandsForOpen (shown_net new) last → length last.kept.processes ≡ length (start_of plan parts).kept.processes → IsLogOf log new
+all-logged plan parts old log new last begins unmade remembers total stands count =
+    let none : turns_made old ≡ 0 = none-made plan (λ _. []) 0 plan.processes parts old.bodies (ap (λ shows. shows.bodies) begins) in
+    record {
+      parts = λ p b' there.
+          let same : length old.bodies ≡ length new.bodies = bodies-count old (start_of plan parts) begins ∙ sym count ∙ sym (bodies-count new last stands) in
+          let b = same-place old.bodies new.bodies p b' same there in
+          let empty = unmade p b.0 b.1 in
+          let both = remembers p b.0 b' b.1 there in (
+            both.0 ∙ ap (λ l. l ++ stamps_of p (turns_made old) log) empty.0 ∙ ap (λ n. stamps_of p n log) none,
+            both.1 ∙ ap (λ l. l ++ levels_of p (turns_made old) log) empty.1 ∙ ap (λ n. levels_of p n log) none,
+          );
+      total = omega (arith, total, none);
+    }
+
+module _ {K : Type 0} (shape_of : K → Shape) (uses : K → ℕ → Bool) (ready : K → Held → Answer → Type 0) (next : K → Held → Answer → Outcome K → Type 0) where
+  pub round-is-run : KeepsPrefixes shape_of uses ready next → RoundRobinLeads next → RoundsAreRuns shape_of uses ready next
+  round-is-run keeps leads plan parts start net turns seen well begins goes names_turns names_seen =
+      let log = goes.0 in
+      let by = goes.2 in
+      let states = by.states (start_of plan parts) (Fit-start shape_of uses ready plan parts well) begins.stands in
+      let last = states.0 in
+      let settled : states.1.0 ≡ start_of plan parts = settled-start next plan parts states.1.0 states.1.1 in
+      let robin : RoundRobin next (start_of plan parts) (journal_of log) last = subst (λ t. RoundRobin next t (journal_of log) last) settled states.1.2 in
+      let schedule : Leads next (start_of plan parts) (journal_of log) last = leads (start_of plan parts) (journal_of log) last robin in
+      let count = schedule-count next (start_of plan parts) (journal_of log).turns (journal_of log).seen last schedule in
+      let logged : IsLogOf log net = all-logged plan parts start log net last begins.stands begins.unmade by.remembers goes.1 states.3 count in
+      let turns_are : turns ≡ (journal_of log).turns = names_turns log logged in
+      let seen_are : seen ≡ (journal_of log).seen = names_seen log logged in
+      let journal : Journal = record { turns = turns; seen = seen } in
+      let same : journal_of log ≡ journal = rw (turns_are, seen_are) refl in
+      let whole : Leads next (start_of plan parts) journal last = subst (λ j. Leads next (start_of plan parts) j last) same schedule in (
+        last,
+        record {
+          schedule = whole;
+          robin = subst (λ j. RoundRobin next (start_of plan parts) j last) same robin;
+          prefixes = λ front mid prefix. keeps plan parts journal front last mid well prefix;
+          quiet = states.1.3;
+        },
+        states.3,
+      )

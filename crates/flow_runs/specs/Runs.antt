@@ -1,0 +1,42 @@
+-- A run on one thread: its journal, and the state to which that leads.
+use Rattle.std.specs.Prelude.{ℕ, Bool, List}
+use Rattle.flow_packet.specs.Held.{Held}
+use Rattle.flow_component.specs.declared.Answer.{Answer}
+use Rattle.flow_component.specs.declared.Shape.{Shape}
+use Rattle.flow_component.specs.Laws.{Outcome}
+use Rattle.flow_model.specs.States.{State}
+use Rattle.flow_model.specs.Schedules.{Journal, Leads, Prefix}
+use Rattle.flow_model.specs.Robin.{RoundRobin}
+use Rattle.flow_model.specs.Verdicts.{Quiet}
+use Rattle.flow_model.specs.Places.{OnePlace}
+use Rattle.flow_model.specs.Order.{InOrder}
+use Rattle.flow_model.specs.Plans.{Plan, start_of, StartsWell}
+use Rattle.flow_model.specs.Stands.{StandsForOpen}
+use Rattle.flow_machine.specs.Values.{NetValue, shown_net}
+use Rattle.flow_machine.specs.Starts.{StartsNet}
+use Rattle.flow_machine.specs.Solo.{Goes, round_robin}
+use Rattle.flow_machine.specs.Logs.{turns_made}
+use Rattle.flow_journal.specs.Journals.{NamesTurns, NamesSeen}
+
+-- The journal is that of a plan's run on one thread with these components, which came to this last state: it is a schedule from the start, and the round
+-- robin; after each of its prefixes each packet is in one place and each connection is in order; after the whole of it no process can go on.
+pub record IsRun {K : Type 0} (next : K → Held → Answer → Outcome K → Type 0) (plan : Plan) (parts : List K) (journal : Journal) (last : State K) : Type 0 where
+  pub schedule : Leads next (start_of plan parts) journal last
+  pub robin : RoundRobin next (start_of plan parts) journal last
+  pub prefixes : (front : Journal) (mid : State K) → Prefix next (start_of plan parts) journal last front mid → OnePlace mid × InOrder mid
+  pub quiet : Quiet last
+
+-- The net has come out of such a run: it stands for the last state.
+abbrev pub ComesOfRun : {K : Type 0} → (K → Held → Answer → Outcome K → Type 0) → Plan → List K → Journal → NetValue K → Type 0
+ComesOfRun {K} next plan parts journal net = (last : State K) × IsRun next plan parts journal last × StandsForOpen (shown_net net) last
+
+-- A net that started from a plan and went round until it was quiet has come out of a run, whose journal its turns and numbers are.
+abbrev pub RoundsAreRuns : {K : Type 0} → (K → Shape) → (K → ℕ → Bool) → (K → Held → Answer → Type 0) → (K → Held → Answer → Outcome K → Type 0) → Type 0
+RoundsAreRuns {K} shape_of uses ready next =
+    (plan : Plan) (parts : List K) (start net : NetValue K) (turns seen : List ℕ)
+    → StartsWell shape_of uses ready plan parts
+    → StartsNet plan parts start
+    → Goes shape_of uses ready (round_robin next) start (turns_made start) net (turns_made net)
+    → NamesTurns net turns
+    → NamesSeen net seen
+    → ComesOfRun next plan parts (record { turns = turns; seen = seen }) net
