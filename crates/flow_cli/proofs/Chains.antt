@@ -1,5 +1,5 @@
 -- The plan of a thin file can be run.
-use Rattle.std.proofs.Common.{◌≡◌, ◌≢◌, ◌==◌, ℕ, zero, suc, ◌<◌, Bool, true, false, List, [], ◌∷◌, length, refl, sym, ◌∙◌, ap, subst, arith, eq-eqb}
+use Rattle.std.proofs.Common.{◌≡◌, ◌≢◌, ◌==◌, ℕ, zero, suc, ◌<◌, true, false, List, [], ◌∷◌, refl, sym, ◌∙◌, subst, arith, eq-eqb}
 use Rattle.std.specs.Prelude.{◌||◌, slice_get, Some, IsSome}
 use Rattle.std.specs.List.{All, list_any}
 use Rattle.std.proofs.lemmas.List.Elements.{All-cons}
@@ -8,7 +8,7 @@ use Rattle.flow_net.specs.Network.{Network}
 use Rattle.flow_net.specs.Thin.{chain_of, reader_of, pass_of, writer_of}
 use Rattle.flow_catalogue.specs.Processes.{IsStandard}
 use Rattle.flow_catalogue.specs.declared.table.StdKind.TheVariants as kinds
-use Rattle.flow_cli.specs.Thin.{IsThin, IsPlanOf, IsPlainFile}
+use Rattle.flow_cli.specs.Thin.{IsPlanOf, IsPlainFile}
 use Rattle.flow_cli.specs.Parts.{IsRunnable}
 use Rattle.flow_net.specs.declared.plan.Process.{Process}
 use Rattle.flow_model.specs.Plans.{sends_at}

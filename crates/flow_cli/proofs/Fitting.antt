@@ -1,6 +1,6 @@
 -- The parts of a plan that can be run start well.
-use Rattle.std.proofs.Common.{◌≡◌, ℕ, zero, suc, ◌+◌, ◌<◌, List, [], ◌∷◌, length, map, Some, None, refl, sym, ◌∙◌, ap, subst, arith, Bool}
-use Rattle.std.specs.Prelude.{IsSome, IsTrue, slice_get, option_and_then}
+use Rattle.std.proofs.Common.{◌≡◌, ℕ, zero, suc, ◌+◌, ◌<◌, List, [], ◌∷◌, length, map, Some, None, refl, sym, ◌∙◌, ap, subst, arith}
+use Rattle.std.specs.Prelude.{IsSome, slice_get, option_and_then}
 use Rattle.std.specs.List.{range_with_len}
 use Rattle.std.specs.declared.option.Option.{Option}
 use Rattle.std.specs.Option.{option_map}
@@ -10,7 +10,7 @@ use Rattle.flow_text.specs.Edge.{Files}
 use Rattle.flow_net.specs.Network.{Network}
 use Rattle.flow_net.specs.declared.plan.Process.{Process as NetProcess}
 use Rattle.flow_machine.specs.PlanOf.{plan_of, process_of}
-use Rattle.flow_model.specs.States.{Process, output_at}
+use Rattle.flow_model.specs.States.{Process}
 use Rattle.flow_model.specs.Plans.{Plan, PlanProcess, input_at, sends_at, process_at_start, processes_at_start, FitsProcess, StartsWell}
 use Rattle.flow_catalogue.specs.declared.standard.Std.{Std}
 use Rattle.flow_catalogue.specs.Std.{std_shape, std_uses, StdReady}

@@ -1,4 +1,3 @@
-pub mod Afters
 pub mod Befores
 pub mod Chains
 pub mod Cuts

@@ -1,5 +1,5 @@
 -- The lines of a thin file, and what they name.
-use Rattle.std.proofs.Common.{◌≡◌, ℕ, zero, suc, ◌+◌, ◌<◌, ◌≤◌, Bool, true, false, not, cond, List, [], ◌∷◌, ◌++◌, ◌==◌, length, map, take, drop, get_or, Vec, refl, sym, ◌∙◌, ap, subst, arith, append_assoc, length-append, rules, eqb}
+use Rattle.std.proofs.Common.{◌≡◌, ℕ, suc, ◌+◌, Bool, true, false, not, cond, List, [], ◌∷◌, ◌++◌, ◌==◌, length, map, take, drop, get_or, Vec, refl, sym, ◌∙◌, ap, arith, append_assoc, length-append}
 use Rattle.std.specs.Prelude.{codes, ◌&&◌, ◌||◌, IfOk, MatchOption, Some, None, Ok, Err}
 use Rattle.std.specs.declared.option.Option.{Option}
 use Rattle.std.specs.declared.result.Result.{Result}
@@ -13,7 +13,7 @@ use Rattle.std.specs.declared.alloc.Global.{Global}
 use mathlib.Core.Path.{ap₂}
 use Rattle.std.specs.Str.{bytes_eq}
 use Rattle.std.proofs.lemmas.Slice.Eq.{bytes_eq-Decides}
-use Rattle.flow_cli.specs.Thin.{IsThin, IsNamed, AreNames, IsPlainFile, is_name, is_word_byte, begins_with_letter, is_reserved, file_line, link_line, thin_lines, names_of}
+use Rattle.flow_cli.specs.Thin.{IsThin, IsNamed, IsPlainFile, is_name, is_word_byte, begins_with_letter, file_line, link_line, thin_lines, names_of}
 use Rattle.flow_cli.specs.declared.thin.Thin.{Thin}
 
 -- none of the bytes is this one

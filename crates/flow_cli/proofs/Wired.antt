@@ -1,10 +1,8 @@
 -- The plan of a thin file, as the machine knows it, is wired, and its parts fit.
-use Rattle.std.proofs.Common.{◌≡◌, ◌⊎◌, ℕ, zero, suc, ◌<◌, ◌≤◌, List, [], ◌∷◌, length, map, refl, sym, ◌∙◌, ap, subst, arith, inl, inr}
+use Rattle.std.proofs.Common.{◌≡◌, ℕ, zero, suc, ◌<◌, ◌≤◌, List, [], ◌∷◌, length, refl, sym, ◌∙◌, ap, subst, arith, inl}
 use Rattle.std.specs.Prelude.{Some, None, IsSome, IsTrue, slice_get, ◌==◌}
 use Rattle.std.specs.List.{list_any}
-use Rattle.flow_net.specs.Network.{Network}
-use Rattle.flow_net.specs.Thin.{chain_of}
-use Rattle.flow_model.specs.States.{Sender, Process, output_at}
+use Rattle.flow_model.specs.States.{Sender}
 use Rattle.flow_model.specs.Plans.{Plan, PlanProcess, PlanConnection, receives_at, IsWired}
 
 -- The plan of every thin file: names and files are of no matter to the machine.

@@ -1,5 +1,5 @@
 -- The files that the first processes of a plan write, and one process more.
-use Rattle.std.proofs.Common.{◌≡◌, ◌≢◌, ℕ, zero, suc, ◌<◌, length, Bool, true, false, cond, List, [], ◌∷◌, ◌++◌, take, map, Some, None, refl, sym, ◌∙◌, ap, subst, append_assoc, arith}
+use Rattle.std.proofs.Common.{◌≡◌, ◌≢◌, ℕ, zero, suc, ◌<◌, length, Bool, true, false, cond, List, [], ◌∷◌, ◌++◌, take, Some, None, refl, sym, ◌∙◌, ap, subst, append_assoc, arith}
 use mathlib.Core.List.{append-nil}
 use Rattle.std.specs.Prelude.{slice_get, codes, IfSome}
 use Rattle.std.specs.List.{flat_map}
@@ -7,7 +7,6 @@ use Rattle.std.specs.declared.option.Option.{Option}
 use Rattle.std.specs.Str.{bytes_eq}
 use Rattle.std.proofs.lemmas.Slice.Eq.{bytes_eq-Decides}
 use Rattle.flow_net.specs.declared.plan.Process.{Process}
-use Rattle.flow_catalogue.specs.declared.process.FileUse.{FileUse}
 use Rattle.flow_catalogue.specs.declared.process.FileUse.TheVariants.{Read, Write}
 use Rattle.flow_catalogue.specs.Files.{UsesFile}
 use Rattle.std.specs.Borrow.{Bor}

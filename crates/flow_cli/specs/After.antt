@@ -1,12 +1,11 @@
 -- What a call does once its network has run: the files of the writers, then the report.
-use Rattle.std.specs.Prelude.{◌≡◌, ◌⊎◌, ℕ, ◌≤◌, ◌∷◌, [], List, length, map, take, Some, None, Ok, Err, IfSome, String, string_bytes, codes, if◌then◌else◌}
+use Rattle.std.specs.Prelude.{◌≡◌, ◌⊎◌, ℕ, ◌∷◌, [], List, map, Some, Ok, Err, IfSome, string_bytes, codes, if◌then◌else◌}
 use Rattle.std.specs.List.{flat_map}
-use Rattle.std.specs.declared.alloc.Global.{Global}
 use Rattle.std.specs.declared.option.Option.{Option}
 use Rattle.std.specs.declared.result.Result.{Result}
 use Rattle.std.specs.Option.{option_map}
 use Rattle.std.specs.Str.{bytes_eq}
-use Rattle.flow_text.specs.Edge.{Outside, Name, Files, Rose, replaced, after_write}
+use Rattle.flow_text.specs.Edge.{Outside, Name, Files, Rose, after_write}
 use Rattle.flow_text.specs.WriteAll.{WroteAndFailed}
 use Rattle.flow_net.specs.declared.plan.Process.{Process}
 use Rattle.flow_net.specs.Network.{Network}

@@ -1,14 +1,12 @@
 -- What a call does before its network runs: the words, the network file, the input files.
-use Rattle.std.specs.Prelude.{◌≡◌, ◌⊎◌, ℕ, ◌≤◌, List, length, Some, None, Ok, Err, IfSome, Vec, String, string_bytes}
+use Rattle.std.specs.Prelude.{◌≡◌, ◌⊎◌, ℕ, List, Some, None, Ok, Err, IfSome, String, string_bytes}
 use Rattle.std.specs.declared.alloc.Global.{Global}
-use Rattle.std.specs.declared.option.Option.{Option}
 use Rattle.std.specs.declared.result.Result.{Result}
 use Rattle.flow_text.specs.Edge.{Outside, Name, Files, Rose}
 use Rattle.flow_net.specs.Network.{Network}
-use Rattle.flow_catalogue.specs.declared.standard.Std.{Std}
 use Rattle.flow_cli.specs.Words.{command_of}
 use Rattle.flow_cli.specs.Thin.{IsThin, IsPlanOf}
-use Rattle.flow_cli.specs.Parts.{IsRunnable, IsInput, IsPart, AreParts}
+use Rattle.flow_cli.specs.Parts.{IsRunnable, IsInput, AreParts}
 use Rattle.flow_cli.specs.Step.{OnlyReads, HoldsMore}
 use Rattle.flow_cli.specs.declared.thin.Thin.{Thin}
 use Rattle.flow_cli.specs.declared.before.Job.{Job}

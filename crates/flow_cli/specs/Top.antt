@@ -5,7 +5,6 @@ use Rattle.std.specs.declared.result.Result.{Result}
 use Rattle.flow_text.specs.Edge.{Outside, Name, Files, Rose, after_write}
 use Rattle.flow_net.specs.Network.{Network}
 use Rattle.flow_cli.specs.Words.{command_of}
-use Rattle.flow_cli.specs.Parts.{IsInput}
 use Rattle.flow_cli.specs.Prepare.{IsCommand, IsNetwork, IsRefused, IsReadName}
 use Rattle.flow_cli.specs.Step.{HoldsMore}
 use Rattle.flow_cli.specs.Many.{Filled, replaced_all}

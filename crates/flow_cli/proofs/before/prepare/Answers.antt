@@ -1,4 +1,4 @@
-use Rattle.std.proofs.Common.{rules, Err}
+use Rattle.std.proofs.Common.{rules}
 use Rattle.flow_cli.specs.Thin.{IsPlanOf}
 use Rattle.flow_cli.specs.Parts.{IsRunnable, StopsReading}
 use Rattle.flow_cli.specs.Prepare.{IsCommand}

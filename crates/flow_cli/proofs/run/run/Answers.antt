@@ -1,4 +1,3 @@
-use Rattle.std.proofs.Common.{rules}
 use Rattle.flow_cli.proofs.Fitting.{starts-well}
 use Rattle.flow_cli.proofs.run.run.Goals as goal
 

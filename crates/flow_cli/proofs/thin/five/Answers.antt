@@ -1,4 +1,4 @@
-use Rattle.std.proofs.Common.{◌≡◌, List, [], ◌∷◌, true, false, sym, ◌∙◌, subst}
+use Rattle.std.proofs.Common.{◌≡◌, [], ◌∷◌, true, false, sym, ◌∙◌, subst}
 use Rattle.flow_cli.specs.declared.thin.Thin.{Thin}
 use Rattle.flow_cli.specs.Thin.{IsNamed, thin_lines}
 use Rattle.flow_cli.proofs.ThinLines.{names-are}

@@ -1,4 +1,4 @@
-use Rattle.std.proofs.Common.{arith, ◌≡◌, ◌∷◌, [], List, length, ◌∙◌}
+use Rattle.std.proofs.Common.{arith, ◌≡◌, ◌∷◌, [], length}
 use Rattle.std.specs.Str.Lines.{lines}
 use Rattle.flow_cli.proofs.ThinLines.{five-rows, five-lines, thin-from}
 use Rattle.flow_cli.proofs.thin.named_in.Goals as goal

@@ -1,4 +1,4 @@
-use Rattle.std.proofs.Common.{◌≡◌, ◌≤◌, ◌<◌, ◌∙◌, List, [], ◌∷◌, ◌++◌, length, map, take, ap, sym, arith, add-one, Vec}
+use Rattle.std.proofs.Common.{◌≡◌, ◌≤◌, ◌<◌, ◌∙◌, List, [], ◌∷◌, ◌++◌, length, map, ap, sym, arith, add-one, Vec}
 use Rattle.std.specs.declared.alloc.Global.{Global}
 use mathlib.Core.List.{append-nil}
 use Rattle.std.proofs.lemmas.List.{map-append, take_all}
