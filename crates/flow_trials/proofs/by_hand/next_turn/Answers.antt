@@ -1,5 +1,4 @@
-use Rattle.std.proofs.Common.{◌≡◌, ◌<◌, length, length-set, List, ap, sym, subst, ◌∙◌, arith, Some, slice_get}
-use Rattle.std.specs.Prelude.{IfSome}
+use Rattle.std.proofs.Common.{length, length-set, List, ap, ◌∙◌, arith, slice_get}
 use Rattle.std.proofs.lemmas.Option.{slice_get_within}
 use Rattle.flow_model.proofs.Lists.{slice_get-set_same}
 use Rattle.flow_machine.specs.Values.{BodyValue}
