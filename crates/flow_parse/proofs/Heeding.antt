@@ -1,6 +1,6 @@
 -- Steps of a reader from line to line.
-use Rattle.std.proofs.Common.{◌≡◌, ℕ, ◌+◌, Bool, true, false, List, [], ◌∷◌, ◌++◌, drop, length, get_or, map, ◌<◌, Option, Some, None, Result, Ok, Err, refl, sym, ap, subst, ◌∙◌, arith}
-use Rattle.std.specs.Prelude.{MatchResult, ⊤}
+use Rattle.std.proofs.Common.{◌≡◌, ℕ, ◌+◌, Bool, true, false, List, ◌∷◌, drop, length, get_or, map, ◌<◌, Option, Some, None, Result, Ok, Err, refl, sym, ap, subst, ◌∙◌}
+use Rattle.std.specs.Prelude.{⊤}
 use Rattle.std.specs.Global.{Vec}
 use Rattle.std.proofs.lemmas.List.{drop_more, drop-map}
 use Rattle.flow_parse.specs.declared.form.Form.{Form}
@@ -14,8 +14,8 @@ use Rattle.flow_parse.specs.declared.stop.LineStop.{LineStop}
 use Rattle.flow_parse.specs.declared.stop.LineStop.TheVariants as line_stops
 use Rattle.flow_parse.specs.declared.value.NetText.{NetText}
 use Rattle.flow_parse.specs.declared.reader.Reader.{Reader}
-use Rattle.flow_parse.specs.Files.{Parts, nothing, Said, remark, says, wrong, LineIs, Tells, after, at_end, fault_at, or_fault, with_line, LeadsTo}
-use Rattle.flow_parse.specs.Reader.{HasRead, Stands, Takes, Heeds, Gives, StopsAs, Reads, is_header, reason_of}
+use Rattle.flow_parse.specs.Files.{Parts, nothing, remark, says, wrong, LineIs, Tells, after, with_line, LeadsTo}
+use Rattle.flow_parse.specs.Reader.{Stands, Takes, Heeds, Gives, StopsAs, Reads, is_header}
 
 -- a line that is wrong by itself, under what stands before it
 wrong_line : (old new : Reader) (n : ℕ) (line : List ℕ) (reason : Reason) (headed : Bool) (result : ParseStop) → old.headed ≡ headed → LineIs line (wrong reason)

@@ -1,10 +1,10 @@
 -- A file leads to one outcome at most.
-use Rattle.std.proofs.Common.{◌≡◌, ℕ, ◌+◌, List, [], ◌∷◌, Option, None, Result, Ok, Err, refl, sym, ap, subst, ◌∙◌}
+use Rattle.std.proofs.Common.{◌≡◌, ℕ, ◌+◌, List, [], ◌∷◌, Option, None, Result, Ok, Err, sym, subst, ◌∙◌}
 use Rattle.std.specs.Prelude.{MatchResult}
 use Rattle.std.specs.Str.Lines.{lines}
 use Rattle.flow_parse.specs.declared.fault.NetFault.{NetFault}
 use Rattle.flow_parse.specs.declared.value.NetText.{NetText}
-use Rattle.flow_parse.specs.Files.{Said, Parts, LineIs, after, at_end, LeadsTo, Spells, Refused}
+use Rattle.flow_parse.specs.Files.{Said, Parts, after, LeadsTo, Spells, Refused}
 use Rattle.flow_parse.specs.declared.fault.ParseStop.{ParseStop}
 use Rattle.flow_parse.specs.declared.fault.ParseStop.TheVariants as stops
 use Rattle.flow_parse.specs.Reader.{Gives}

@@ -1,5 +1,5 @@
 -- Which value a file spells, and which fault it has.
-use Rattle.std.specs.Prelude.{◌≡◌, ℕ, ◌+◌, ◌<◌, ◌≤◌, List, [], ◌∷◌, ◌++◌, map, length, Option, Some, None, Result, Ok, Err, Bool, true, false, ◌==◌, ◌&&◌, ◌||◌, nat_lt, nat_le, not, if◌then◌else◌, is_some, is_none, unwrap_or, MatchResult, option_map, option_and_then, filter}
+use Rattle.std.specs.Prelude.{◌≡◌, ℕ, ◌+◌, List, [], ◌∷◌, ◌++◌, map, length, Option, Some, None, Result, Ok, Err, Bool, true, false, ◌&&◌, nat_le, not, if◌then◌else◌, is_some, is_none, unwrap_or, MatchResult, option_map, option_and_then, filter}
 use Rattle.std.specs.Str.{bytes_eq}
 use Rattle.std.specs.Str.Lines.{lines}
 use Rattle.std.specs.List.{flat_map, list_any, sum_by}
@@ -23,13 +23,12 @@ use Rattle.flow_parse.specs.Spelling.{Blank, IsRow, HasBadByte, HasOpenQuote}
 use Rattle.flow_parse.specs.Forms.{IsForm}
 use Rattle.flow_parse.specs.Names.{is_named, is_numbered, capacity_of, element_of}
 
--- ONE LINE
-
+-- Nothing, or the byte # and anything behind it.
 abbrev pub BeginsRemark : List ℕ → Type 0
 BeginsRemark [] = Unit {0}
 BeginsRemark (b ∷ bs) = b ≡ 35
 
--- blanks alone, or # behind them
+-- Blanks alone, or # behind them.
 abbrev pub IsRemark : List ℕ → Type 0
 IsRemark line = (blanks rest : List ℕ) × (line ≡ blanks ++ rest) × Blank blanks × BeginsRemark rest
 
@@ -47,7 +46,7 @@ LineIs line (wrong reasons.Quote) = (IsRemark line → ⊥) × HasOpenQuote line
 LineIs line (wrong reasons.Form) = (IsRemark line → ⊥) × (row : List Token) × IsRow line row × ((form : Form) → IsForm row form → ⊥)
 LineIs line (wrong _) = ⊥
 
--- what reading a line answers is what it is
+-- What reading a line answers is what it is.
 abbrev pub Tells : List ℕ → Result (Option Form) LineStop → Type 0
 Tells line (Ok None) = LineIs line remark
 Tells line (Ok (Some form)) = LineIs line (says form)
@@ -56,9 +55,7 @@ Tells line (Err stops.Quote) = LineIs line (wrong reasons.Quote)
 Tells line (Err stops.Form) = LineIs line (wrong reasons.Form)
 Tells line (Err stops.NoMemory) = Unit {0}
 
--- THE PARTS OF A FILE
-
--- lines with their numbers
+-- Lines with their numbers.
 abbrev pub Lines : Type 0
 Lines = List (ℕ × Form)
 
@@ -68,36 +65,40 @@ pub record Open : Type 0 where
   pub name : List ℕ
   pub lines : Lines
 
+-- What stands before a line: the lines of the main part, the subnets that have ended, and the one that has begun.
 pub record Parts : Type 0 where
   pub main : Lines
   pub subnets : List (List ℕ × Lines)
   pub open_part : Option Open
 
+-- No part has a line yet.
 abbrev pub nothing : Parts
 nothing = record { main = []; subnets = []; open_part = None }
 
+-- A line goes to the subnet that has begun, or else to the main part.
 abbrev pub put_into : Parts → Option Open → (ℕ × Form) → Parts
 put_into parts None line = record parts { main = parts.main ++ line ∷ [] }
 put_into parts (Some o) line = record parts { open_part = Some (record o { lines = o.lines ++ line ∷ [] }) }
 
+-- A subnet that has begun has ended.
 abbrev pub close : Parts → Option Open → Parts
 close parts None = parts
 close parts (Some o) = record parts { subnets = parts.subnets ++ (o.name, o.lines) ∷ []; open_part = None }
 
+-- What stands before the next line, behind one that says this.
 abbrev pub with_line : Parts → ℕ → Form → Parts
 with_line parts n (Subnet name) = record parts { open_part = Some (record { line = n; name = name; lines = [] }) }
 with_line parts n End = close parts parts.open_part
 with_line parts n form = put_into parts parts.open_part (n, form)
 
--- the lines of the part that the next line belongs to
+-- The lines of the part that the next line belongs to.
 abbrev pub lines_now : Parts → Lines
 lines_now parts = lines_of parts.main parts.open_part where
   lines_of : Lines → Option Open → Lines
   lines_of main None = main
   lines_of main (Some o) = o.lines
 
--- PROCESSES
-
+-- The processes that a line names, in their order.
 abbrev pub mentions_of : Form → List Mention
 mentions_of (Process name kind) = record { name = name; kind = Some kind } ∷ []
 mentions_of (Connection from out capacity into to) = from ∷ to ∷ []
@@ -106,7 +107,7 @@ mentions_of (InPort outer into to) = to ∷ []
 mentions_of (OutPort from out outer) = from ∷ []
 mentions_of _ = []
 
--- the kind that some mention gives
+-- The kind that some mention gives.
 abbrev pub kind_in : List ℕ → List Mention → Option (List ℕ)
 kind_in name [] = None
 kind_in name (m ∷ ms) = if bytes_eq m.name name && is_some m.kind then m.kind else kind_in name ms
@@ -115,7 +116,7 @@ kind_in name (m ∷ ms) = if bytes_eq m.name name && is_some m.kind then m.kind 
 abbrev pub mentions_in : Lines → List (ℕ × Mention)
 mentions_in lines = flat_map (λ l. map (λ m. (l.0, m)) (mentions_of l.1)) lines
 
--- the mentions of names that no earlier one has
+-- The mentions of names that no earlier one has.
 abbrev pub first_mentions : List (ℕ × Mention) → List (ℕ × Mention)
 first_mentions [] = []
 first_mentions (m ∷ ms) = m ∷ filter (λ k. not (bytes_eq m.1.name k.1.name)) (first_mentions ms)
@@ -124,11 +125,12 @@ first_mentions (m ∷ ms) = m ∷ filter (λ k. not (bytes_eq m.1.name k.1.name)
 abbrev pub processes_in : List (ℕ × Mention) → List Known
 processes_in ms = map (λ m. record { line = m.0; name = m.1.name; kind = kind_in m.1.name (map (λ k. k.1) ms) }) (first_mentions ms)
 
--- the line that first mentions a process without a kind
+-- The line that first mentions a process without a kind.
 abbrev pub kindless_line : List Known → Option ℕ
 kindless_line [] = None
 kindless_line (p ∷ ps) = if is_none p.kind then Some p.line else kindless_line ps
 
+-- A kind may be given where none is known, or the same.
 abbrev pub may_be : Option (List ℕ) → Option (List ℕ) → Bool
 may_be (Some known) (Some kind) = bytes_eq known kind
 may_be _ _ = true
@@ -138,11 +140,11 @@ abbrev pub kinds_agree : List Mention → List Mention → Bool
 kinds_agree before [] = true
 kinds_agree before (m ∷ ms) = may_be (kind_in m.name before) m.kind && kinds_agree (before ++ m ∷ []) ms
 
--- STATEMENTS
-
+-- A port of the value: its name and the number of its element.
 abbrev pub port_ref : Port → PortRef
 port_ref p = record { name = p.name; element = option_and_then element_of p.element }
 
+-- The statement that a line adds to its part, where it is one.
 abbrev pub statements_of : Form → List Statement
 statements_of (Connection from out capacity into to) = statement.Connect from.name (port_ref out) (option_and_then capacity_of capacity) to.name (port_ref into) ∷ []
 statements_of (Initial text into to) = statement.Initial text to.name (port_ref into) ∷ []
@@ -150,22 +152,23 @@ statements_of (InPort outer into to) = statement.InPort outer to.name (port_ref 
 statements_of (OutPort from out outer) = statement.OutPort from.name (port_ref out) outer ∷ []
 statements_of _ = []
 
+-- The statements of these lines, in their order.
 abbrev pub statements_in : Lines → List Statement
 statements_in lines = flat_map (λ l. statements_of l.1) lines
 
+-- The number of statements in the file so far.
 abbrev pub statement_count : Parts → ℕ
 statement_count parts = length (statements_in parts.main) + sum_by (λ s. length (statements_in s.1)) parts.subnets + open_count parts.open_part where
   open_count : Option Open → ℕ
   open_count None = 0
   open_count (Some o) = length (statements_in o.lines)
 
--- THE FAULTS OF A LINE, for what stands before it
-
--- the reason of the first test that fails
+-- The reason of the first test that fails.
 abbrev pub first_failing : List (Bool × Reason) → Option Reason
 first_failing [] = None
 first_failing (t ∷ ts) = if t.0 then first_failing ts else Some t.1
 
+-- A header stands nowhere but first; a subnet begins in the main part; an end and outer ports stand in a subnet.
 abbrev pub may_stand : Parts → Form → Bool
 may_stand parts Header = false
 may_stand parts (Subnet name) = is_none parts.open_part
@@ -174,17 +177,21 @@ may_stand parts (InPort outer into to) = is_some parts.open_part
 may_stand parts (OutPort from out outer) = is_some parts.open_part
 may_stand parts _ = true
 
+-- No subnet before has this name.
 abbrev pub is_new_subnet : Parts → Form → Bool
 is_new_subnet parts (Subnet name) = not (list_any (λ s. bytes_eq s.0 name) parts.subnets)
 is_new_subnet parts _ = true
 
+-- A quoted text stands for at most 1,048,576 bytes.
 abbrev pub text_fits : Form → Bool
 text_fits (Initial text into to) = nat_le (length text) 1048576
 text_fits _ = true
 
+-- The text fits, and this is at most the 4,096th statement of the file.
 abbrev pub is_within_limits : Parts → Form → Bool
 is_within_limits parts form = text_fits form && nat_le (statement_count parts + length (statements_of form)) 4096
 
+-- The first reason for which a line is refused, where it says this behind these parts.
 abbrev pub reason_at : Parts → Form → Option Reason
 reason_at before form = first_failing (
     (may_stand before form, reasons.Form)
@@ -199,6 +206,7 @@ reason_at before form = first_failing (
 abbrev pub ended : Lines → Option NetFault
 ended lines = option_map (λ n. record { line = n; reason = reasons.Kind }) (kindless_line (processes_in (mentions_in lines)))
 
+-- The fault that the file has at this line: the line is refused, or it ends a subnet that has a process without a kind.
 abbrev pub fault_at : ℕ → Parts → Form → Option NetFault
 fault_at n before form = of_reason (reason_at before form) form where
   of_reason : Option Reason → Form → Option NetFault
@@ -206,11 +214,11 @@ fault_at n before form = of_reason (reason_at before form) form where
   of_reason None End = ended (lines_now before)
   of_reason None _ = None
 
--- THE FILE
-
+-- The value of a part: its processes with their kinds, and its statements.
 abbrev pub value_of : Lines → NetPart
 value_of lines = record { processes = map (λ p. (p.name, unwrap_or p.kind [])) (processes_in (mentions_in lines)); statements = statements_in lines }
 
+-- The fault, or else what there is without one.
 abbrev pub or_fault : {A : Type 0} → Option NetFault → A → Result A NetFault
 or_fault None x = Ok x
 or_fault (Some fault) x = Err fault
@@ -245,7 +253,7 @@ Spells bytes value = LeadsTo 1 None (lines bytes) (Ok value)
 abbrev pub Refused : List ℕ → NetFault → Type 0
 Refused bytes fault = LeadsTo 1 None (lines bytes) (Err fault)
 
--- what belongs to its part, unlike a header, a subnet's line and an end
+-- What belongs to its part, unlike a header, a subnet's line and an end.
 abbrev pub IsAdded : Form → Type 0
 IsAdded Header = ⊥
 IsAdded (Subnet name) = ⊥

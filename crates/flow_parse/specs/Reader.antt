@@ -1,18 +1,15 @@
 -- What a reader stands for.
-use Rattle.std.specs.Prelude.{◌≡◌, ℕ, ◌+◌, ◌≤◌, List, [], ◌∷◌, ◌++◌, map, Option, Some, None, Result, Ok, Err, Bool, true, false, IfOk}
-use Rattle.std.specs.Global.{Vec}
+use Rattle.std.specs.Prelude.{◌≡◌, ℕ, ◌≤◌, List, [], ◌∷◌, ◌++◌, map, Option, Some, None, Result, Ok, Err, Bool, true, false}
 use Rattle.flow_parse.specs.declared.form.Form.{Form}
 use Rattle.flow_parse.specs.declared.fault.NetFault.{NetFault}
 use Rattle.flow_parse.specs.declared.fault.ParseStop.{ParseStop}
 use Rattle.flow_parse.specs.declared.fault.ParseStop.TheVariants as stops
-use Rattle.flow_parse.specs.declared.part.Known.{Known}
-use Rattle.flow_parse.specs.declared.value.Statement.{Statement}
 use Rattle.flow_parse.specs.declared.value.NetPart.{NetPart}
 use Rattle.flow_parse.specs.declared.value.NetText.{NetText}
 use Rattle.flow_parse.specs.declared.reader.Part.{Part}
 use Rattle.flow_parse.specs.declared.reader.OpenPart.{OpenPart}
 use Rattle.flow_parse.specs.declared.reader.Reader.{Reader}
-use Rattle.flow_parse.specs.Files.{Lines, Open, Parts, nothing, Said, says, LineIs, mentions_in, processes_in, statements_in, statement_count, value_of, after, at_end, LeadsTo, kinds_agree, mentions_of, lines_now, IsAdded, ended, may_stand, fault_at, reason_at, with_line}
+use Rattle.flow_parse.specs.Files.{Lines, Open, Parts, nothing, Said, says, LineIs, mentions_in, processes_in, statements_in, statement_count, value_of, after, kinds_agree, mentions_of, lines_now, IsAdded, ended, may_stand, fault_at, reason_at, with_line}
 use Rattle.flow_parse.specs.declared.form.Form.TheVariants.{Header}
 use Rattle.flow_parse.specs.declared.stop.LineStop.{LineStop}
 use Rattle.flow_parse.specs.declared.stop.LineStop.TheVariants as line_stops
@@ -20,17 +17,18 @@ use Rattle.flow_parse.specs.Names.{is_named, is_numbered}
 use Rattle.flow_parse.specs.declared.fault.Reason.{Reason}
 use Rattle.flow_parse.specs.declared.fault.Reason.TheVariants as reasons
 
--- the part has read these lines
+-- The part has read these lines.
 pub record IsPart (part : Part) (lines : Lines) : Type 0 where
   pub known : part.known.items ≡ processes_in (mentions_in lines)
   pub statements : part.statements.items ≡ statements_in lines
 
+-- The subnet that has begun has read these lines, or none has begun.
 abbrev pub IsOpen : Option OpenPart → Option Open → Type 0
 IsOpen None None = Unit {0}
 IsOpen (Some p) (Some o) = (p.line ≡ o.line) × (p.name ≡ o.name) × IsPart p.part o.lines
 IsOpen _ _ = ⊥
 
--- the reader, behind the header, has read these parts
+-- The reader, behind the header, has read these parts.
 pub record HasRead (reader : Reader) (parts : Parts) : Type 0 where
   pub headed : reader.headed ≡ true
   pub main : IsPart reader.main parts.main
@@ -39,21 +37,23 @@ pub record HasRead (reader : Reader) (parts : Parts) : Type 0 where
   pub count : reader.statements ≡ statement_count parts
   pub within : reader.statements ≤ 4096
 
--- the reader stands for what comes before the next line
+-- The reader stands for what comes before the next line.
 abbrev pub Stands : Reader → Option Parts → Type 0
 Stands reader None = (reader.headed ≡ false) × HasRead (record reader { headed = true }) nothing
 Stands reader (Some parts) = HasRead reader parts
 
+-- The header says flow 1.
 abbrev pub is_header : Form → Bool
 is_header Header = true
 is_header _ = false
 
+-- The reason for which a line that says nothing is refused.
 abbrev pub reason_of : LineStop → Reason
 reason_of line_stops.Quote = reasons.Quote
 reason_of line_stops.Form = reasons.Form
 reason_of _ = reasons.Byte
 
--- what comes of a line that says nothing
+-- What comes of a line that says nothing.
 abbrev pub StopsAs : Bool → ℕ → LineStop → ParseStop → Type 0
 StopsAs headed n line_stops.NoMemory result = result ≡ stops.NoMemory
 StopsAs true n stop result = result ≡ stops.Fault (record { line = n; reason = reason_of stop })
@@ -76,7 +76,7 @@ abbrev pub AddsLine : Part → ℕ → Form → Part → Bool → Type 0
 AddsLine old n form new true = (lines : Lines) → IsPart old lines → (kinds_agree (map (λ k. k.1) (mentions_in lines)) (mentions_of form) ≡ true) × IsPart new (lines ++ (n, form) ∷ [])
 AddsLine old n form new false = (lines : Lines) → IsPart old lines → kinds_agree (map (λ k. k.1) (mentions_in lines)) (mentions_of form) ≡ false
 
--- the reader has read these parts, whatever it counts
+-- The reader has read these parts, whatever it counts.
 pub record HasParts (reader : Reader) (parts : Parts) : Type 0 where
   pub headed : reader.headed ≡ true
   pub main : IsPart reader.main parts.main
@@ -99,22 +99,24 @@ Finishes part (Err n) = (lines : Lines) → IsPart part lines → ended lines �
 abbrev pub Passes : Parts → Form → Type 0
 Passes parts form = (may_stand parts form ≡ true) × (is_named form ≡ true) × (is_numbered form ≡ true)
 
+-- The reason is the first for which the line is refused, or the line may stand here and is said well.
 abbrev pub RefusesFor : Option Reason → Parts → Form → Type 0
 RefusesFor None parts form = Passes parts form
 RefusesFor (Some reason) parts form = reason_at parts form ≡ Some reason
 
+-- For each thing that the reader has read and that meets P: the fault of the next line, or what is read behind it.
 abbrev pub Takes : (Parts → Type 0) → Reader → ℕ → Form → Reader → Result (Unit {0}) ParseStop → Type 0
 Takes P old n form new (Ok u) = (parts : Parts) → HasRead old parts → P parts → (fault_at n parts form ≡ None) × HasRead new (with_line parts n form)
 Takes P old n form new (Err (stops.Fault fault)) = (parts : Parts) → HasRead old parts → P parts → fault_at n parts form ≡ Some fault
 Takes P old n form new (Err stops.NoMemory) = Unit {0}
 
--- what a call answered is this outcome, unless memory ran out
+-- What a call answered is this outcome, unless memory ran out.
 abbrev pub Gives : Result NetText ParseStop → (Result NetText NetFault → Type 0) → Type 0
 Gives (Ok value) P = P (Ok value)
 Gives (Err (stops.Fault fault)) P = P (Err fault)
 Gives (Err stops.NoMemory) P = Unit {0}
 
--- what is said of the fault, unless memory ran out
+-- What is said of the fault, unless memory ran out.
 abbrev pub IfFault : ParseStop → (NetFault → Type 0) → Type 0
 IfFault (stops.Fault fault) P = P fault
 IfFault stops.NoMemory P = Unit {0}

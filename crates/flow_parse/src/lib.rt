@@ -8,6 +8,7 @@ mod line;
 mod name;
 mod part;
 mod pieces;
+mod printed;
 mod reader;
 mod row;
 mod same;
@@ -18,4 +19,8 @@ mod value;
 
 pub use fault::{NetFault, ParseStop, Reason};
 pub use file::parse;
+pub use printed::print;
 pub use value::{NetPart, NetText, Statement};
+
+#[cfg(test)]
+mod tests;

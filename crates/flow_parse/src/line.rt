@@ -6,8 +6,8 @@ ghost use Rattle.flow_parse.specs.Spelling.{is_blank, is_word_byte, doubled, Bla
 use crate::form::Form;
 use crate::row::Row;
 use crate::stop::LineStop;
-use flow_items::Text;
 use crate::token::Token;
+use flow_items::Text;
 use std::alloc::{AllocError, Global};
 use std::marker::Model;
 

@@ -8,9 +8,9 @@ use crate::form::{Form, Mention, Port};
 use crate::name::{capacity, element};
 use crate::part::Known;
 use crate::table::mention;
+use crate::value::Statement;
 use flow_items::Text;
 use flow_net::PortRef;
-use crate::value::Statement;
 use std::alloc::{AllocError, Global};
 
 fn copy_word(alloc: Global, word: &Option<Text>) -> Result<Option<Text>, AllocError>

@@ -6,8 +6,8 @@ ghost use Rattle.flow_parse.specs.Reading.{Gives, word_at, arrow_at, close_at, c
 
 use crate::form::{Form, Mention, Port};
 use crate::same::is;
-use flow_items::Text;
 use crate::token::Token;
+use flow_items::Text;
 use std::alloc::{AllocError, Global};
 use std::collections::VecDeque;
 use std::marker::Model;
