@@ -38,6 +38,8 @@ pub data Said : Type 0 where
   says : Form → Said
   wrong : Reason → Said
 
+-- A line says a form where it is a row of tokens that spells it. One that is no remark is wrong where it has a bad byte or an open
+-- quote, or is a row that spells no form.
 abbrev pub LineIs : List ℕ → Said → Type 0
 LineIs line remark = IsRemark line
 LineIs line (says form) = (row : List Token) × IsRow line row × IsForm row form
