@@ -1,0 +1,26 @@
+//! Network files: which value a file spells, and which fault a file has that spells none.
+#![tactic(auto)]
+
+mod fault;
+mod file;
+mod form;
+mod line;
+mod name;
+mod part;
+mod pieces;
+mod printed;
+mod reader;
+mod row;
+mod same;
+mod stop;
+mod table;
+mod token;
+mod value;
+
+pub use fault::{NetFault, ParseStop, Reason};
+pub use file::parse;
+pub use printed::print;
+pub use value::{NetPart, NetText, Statement};
+
+#[cfg(test)]
+mod tests;

@@ -1,0 +1,167 @@
+//! Names and numbers.
+ghost use Rattle.std.specs.Prelude.{◌≡◌, ◌≤◌, ◌<◌, ◌^◌, true};
+ghost use Rattle.std.specs.Str.{all_ascii_digits};
+ghost use Rattle.std.specs.Str.Parse.{digits_value};
+ghost use Rattle.flow_parse.specs.Forms.{is_reserved};
+ghost use Rattle.flow_parse.specs.Names.{is_name, begins_with_letter, begins_with_zero, is_decimal, number_in, capacity_of, element_of, mention_is_named, port_is_named, is_named, port_is_numbered, is_numbered};
+
+use crate::form::{Form, Mention, Port};
+use crate::same::is;
+use flow_items::Text;
+
+pub const MOST_NAME: usize = 64;
+
+fn is_reserved_word(word: &Text) -> bool
+    ensures { result ≡ is_reserved word.now }
+{
+    is(word, b"flow")
+        || is(word, b"subnet")
+        || is(word, b"end")
+        || is(word, b"inport")
+        || is(word, b"outport")
+}
+
+fn letter_first(word: &[u8]) -> bool
+    ensures { result ≡ begins_with_letter word.now }
+{
+    match word.first() {
+        Some(first) => first.is_ascii_alphabetic(),
+        None => false,
+    }
+}
+
+fn zero_first(word: &[u8]) -> bool
+    ensures { result ≡ begins_with_zero word.now }
+{
+    match word.first() {
+        Some(first) => *first == b'0',
+        None => false,
+    }
+}
+
+fn is_a_name(word: &Text) -> bool
+    ensures { result ≡ is_name word.now }
+{
+    letter_first(word.as_slice()) && word.len() <= MOST_NAME && !is_reserved_word(word)
+}
+
+fn mention_named(mention: &Mention) -> bool
+    ensures { result ≡ mention_is_named mention.now }
+{
+    if !is_a_name(&mention.name) {
+        return false;
+    }
+    match &mention.kind {
+        Some(kind) => is_a_name(kind),
+        None => true,
+    }
+}
+
+/// Whether each word in the place of a name is one.
+pub fn named(form: &Form) -> bool
+    ensures { result ≡ is_named form.now }
+{
+    match form {
+        Form::Header | Form::End => true,
+        Form::Process { name, kind } => is_a_name(name) && is_a_name(kind),
+        Form::Connection {
+            from,
+            out,
+            capacity: _,
+            into,
+            to,
+        } => {
+            mention_named(from)
+                && is_a_name(&out.name)
+                && is_a_name(&into.name)
+                && mention_named(to)
+        }
+        Form::Initial { text: _, into, to } => is_a_name(&into.name) && mention_named(to),
+        Form::Subnet { name } => is_a_name(name),
+        Form::InPort { outer, into, to } => {
+            is_a_name(outer) && is_a_name(&into.name) && mention_named(to)
+        }
+        Form::OutPort { from, out, outer } => {
+            mention_named(from) && is_a_name(&out.name) && is_a_name(outer)
+        }
+    }
+}
+
+/// The number from `least` to `most` that the word spells.
+fn number(word: &[u8], least: u32, most: u32) -> Option<u32>
+    requires { most < 2 ^ 24 }
+    ensures { result ≡ number_in least most word.now }
+{
+    if word.is_empty() || (zero_first(word) && word.len() != 1) {
+        return None;
+    }
+    let mut number = 0u32;
+    'digits: for b in word {
+        if !b.is_ascii_digit() {
+            return None;
+        }
+        number = number * 10 + u32::from(*b - b'0');
+        if number > most {
+            return None;
+        }
+    }
+    if number < least { None } else { Some(number) }
+}
+
+pub fn capacity(word: &Text) -> Option<u32>
+    ensures { result ≡ capacity_of word.now }
+{
+    number(word.as_slice(), 1, 1024)
+}
+
+pub fn element(word: &Text) -> Option<u32>
+    ensures { result ≡ element_of word.now }
+{
+    number(word.as_slice(), 0, 511)
+}
+
+fn port_numbered(port: &Port) -> bool
+    ensures { result ≡ port_is_numbered port.now }
+{
+    match &port.element {
+        Some(word) => element(word).is_some(),
+        None => true,
+    }
+}
+
+/// Whether each word in the place of a number is one of its range.
+pub fn numbered(form: &Form) -> bool
+    ensures { result ≡ is_numbered form.now }
+{
+    match form {
+        Form::Connection {
+            from: _,
+            out,
+            capacity: word,
+            into,
+            to: _,
+        } => {
+            let fits = match word {
+                Some(word) => capacity(word).is_some(),
+                None => true,
+            };
+            port_numbered(out) && fits && port_numbered(into)
+        }
+        Form::Initial {
+            text: _,
+            into,
+            to: _,
+        } => port_numbered(into),
+        Form::InPort {
+            outer: _,
+            into,
+            to: _,
+        } => port_numbered(into),
+        Form::OutPort {
+            from: _,
+            out,
+            outer: _,
+        } => port_numbered(out),
+        _ => true,
+    }
+}

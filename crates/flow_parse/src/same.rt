@@ -1,0 +1,12 @@
+//! Comparing a text with bytes.
+ghost use Rattle.std.specs.Prelude.{◌≡◌};
+ghost use Rattle.std.specs.Str.{bytes_eq};
+
+use flow_items::Text;
+
+/// Whether a text is these bytes.
+pub fn is(text: &Text, bytes: &[u8]) -> bool
+    ensures { result ≡ bytes_eq text.now bytes.now }
+{
+    text.as_slice() == bytes
+}

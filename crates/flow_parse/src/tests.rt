@@ -1,0 +1,103 @@
+// What no clause says: that calls succeed, and the faults and the spellings of worked files.
+use super::*;
+use std::alloc::Global;
+use std::process::Abort;
+use std::test::Fail;
+
+fn check_fault(
+    rt: &impl Abort,
+    alloc: Global,
+    bytes: &[u8],
+    line: u64,
+    reason: Reason,
+) -> Result<(), Fail> {
+    match parse(alloc, bytes) {
+        Ok(_) => Err("the file has a value".into()),
+        Err(stop) => {
+            assert!(rt;
+                stop == ParseStop::Fault(NetFault { line, reason }),
+                "{stop:?}"
+            );
+            Ok(())
+        }
+    }
+}
+
+fn check_spelling(rt: &impl Abort, alloc: Global, bytes: &[u8], wanted: &[u8]) -> Result<(), Fail> {
+    match parse(alloc, bytes) {
+        Ok(value) => {
+            let spelled = print(alloc, &value)?;
+            assert!(rt; spelled.as_slice() == wanted);
+            Ok(())
+        }
+        Err(_) => Err("the file is refused".into()),
+    }
+}
+
+#[test]
+fn a_refused_file_has_its_first_fault(rt: HostRuntime) -> Result<(), Fail> {
+    let alloc = rt.alloc();
+    for (bytes, line, reason) in [
+        ("", 1, Reason::Header),
+        (" \t\n# a remark\n", 3, Reason::Header),
+        ("flow 2\n", 1, Reason::Header),
+        ("flow 1\nA ; 'x\n", 2, Reason::Byte),
+        ("flow 1\n'a''b -> IN B\n", 2, Reason::Quote),
+        ("flow 1\nA OUT -> -> IN B\n", 2, Reason::Form),
+        ("flow 1\nA OUT -> (03) IN B\n", 2, Reason::Number),
+        ("flow 1\nA OUT -> (1025) IN B\n", 2, Reason::Number),
+        ("flow 1\nA OUT -> (03) IN end\n", 2, Reason::Name),
+        (
+            "flow 1\nA1234567890123456789012345678901234567890123456789012345678901234 OUT -> IN B\n",
+            2,
+            Reason::Name,
+        ),
+        ("flow 1\nA(K)\nA(L) OUT -> IN B(K)\n", 3, Reason::Kind),
+        (
+            "flow 1\nA(K)\nB OUT -> IN A\nC OUT -> IN A\n",
+            3,
+            Reason::Kind,
+        ),
+        ("flow 1\nsubnet S\n", 2, Reason::Subnet),
+    ] {
+        check_fault(&rt, alloc, bytes.as_bytes(), line, reason)?;
+    }
+    Ok(())
+}
+
+#[test]
+fn a_file_has_at_most_4096_statements(rt: HostRuntime) -> Result<(), Fail> {
+    let alloc = rt.alloc();
+    let mut file = b"flow 1\n".to_vec(alloc)?;
+    for _ in 0..4097 {
+        file.extend_from_slice(b"'x' -> IN A(Hoard)\n")?;
+    }
+    check_fault(&rt, alloc, file.as_slice(), 4098, Reason::Limit)
+}
+
+#[test]
+fn a_text_has_at_most_1048576_bytes(rt: HostRuntime) -> Result<(), Fail> {
+    let alloc = rt.alloc();
+    let mut file = b"flow 1\n'".to_vec(alloc)?;
+    for _ in 0..1_048_577 {
+        file.push(b'x')?;
+    }
+    file.extend_from_slice(b"' -> IN A(Hoard)\n")?;
+    check_fault(&rt, alloc, file.as_slice(), 2, Reason::Limit)
+}
+
+#[test]
+fn a_value_has_one_spelling(rt: HostRuntime) -> Result<(), Fail> {
+    let alloc = rt.alloc();
+    let spelled =
+        b"flow 1\nA(ReadLines)\nB(WriteLines)\n'i' -> FILE A\nA OUT -> (3) IN B\n'it''s' -> FILE B\n";
+    let file =
+        b"flow 1\n # copy\n'i' ->FILE A(ReadLines)\nA OUT->(3)IN B ( WriteLines )\n'it''s' -> FILE B\n";
+    check_spelling(&rt, alloc, file, spelled)?;
+    check_spelling(&rt, alloc, spelled, spelled)?;
+    let file =
+        b"flow 1\nA(S) OUT[0] -> (20) IN[1] A\nsubnet S\ninport IN -> IN W(Passthru)\noutport W OUT -> OUT\nend\n";
+    let spelled =
+        b"flow 1\nsubnet S\nW(Passthru)\ninport IN -> IN W\noutport W OUT -> OUT\nend\nA(S)\nA OUT[0] -> (20) IN[1] A\n";
+    check_spelling(&rt, alloc, file, spelled)
+}
