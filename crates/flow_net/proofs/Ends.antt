@@ -117,7 +117,7 @@ pub record MayJoin (ports : List Port) (links : List Link) (capacity : Option �
   pub ungiven : has_text (binding_at ports input) ≡ false
   pub room : is_full links (link_into ports input) ≡ false
 
-if_true : (b : Bool) → (if b then false else true) ≡ false → b ≡ true
+pub if_true : (b : Bool) → (if b then false else true) ≡ false → b ≡ true
 if_true true is = refl
 if_true false is = absurd (false≢true (sym is))
 

@@ -10,7 +10,7 @@ use Rattle.flow_net.specs.Drafts.{is_side}
 use Rattle.flow_net.specs.Finishes.{size_of, count_of, counted, total_of, row_of, rows_of, table_of, process_of}
 use Rattle.flow_net.proofs.PortNames.{length_elements_of}
 
-row-count : (port : Port) → length (elements_of (row_of port)) ≡ count_of port
+pub row-count : (port : Port) → length (elements_of (row_of port)) ≡ count_of port
 row-count port = length_elements_of (row_of port) ∙ by (is_stream port.spec.class) port.spec.array (size_of port.elements)
   where
     by : (stream array : Bool) (n : ℕ) → (if stream then (if array then (if array then n else 1) else 1) else 0) ≡ (if stream then (if array then n else 1) else 0)

@@ -15,3 +15,5 @@ pub mod Numbers
 pub mod PortNames
 pub mod Laying
 pub mod KindTables
+pub mod Wholes
+pub mod Validity

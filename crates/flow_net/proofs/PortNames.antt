@@ -39,12 +39,12 @@ elements_of-at row e within = by (is_stream row.spec.class) row.spec.array withi
         ap (λ n. slice_get ((let port : PortRef = record { name = row.spec.name; element = None } in port) ∷ []) n) (sym first)
     by false arrayed within = absurd (omega arith)
 
-slice_get-left : {X : Type 0} (xs ys : List X) (i : ℕ) → i < length xs → slice_get (xs ++ ys) i ≡ slice_get xs i
+pub slice_get-left : {X : Type 0} (xs ys : List X) (i : ℕ) → i < length xs → slice_get (xs ++ ys) i ≡ slice_get xs i
 slice_get-left [] ys i within = absurd (omega arith)
 slice_get-left (x ∷ xs) ys zero within = refl
 slice_get-left (x ∷ xs) ys (suc i) within = slice_get-left xs ys i (omega arith)
 
-slice_get-right : {X : Type 0} (xs ys : List X) (i j : ℕ) → i ≡ length xs + j → slice_get (xs ++ ys) i ≡ slice_get ys j
+pub slice_get-right : {X : Type 0} (xs ys : List X) (i j : ℕ) → i ≡ length xs + j → slice_get (xs ++ ys) i ≡ slice_get ys j
 slice_get-right [] ys i j is = ap (slice_get ys) (omega arith)
 slice_get-right (x ∷ xs) ys zero j is = absurd (omega arith)
 slice_get-right (x ∷ xs) ys (suc i) j is = slice_get-right xs ys i j (omega arith)

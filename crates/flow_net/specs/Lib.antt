@@ -7,3 +7,4 @@ pub mod Network
 pub mod Options
 pub mod Sound
 pub mod Thin
+pub mod Valid

@@ -1,10 +1,11 @@
 //! A network that is named call by call.
-ghost use Rattle.std.specs.Prelude.{◌≡◌, ◌≤◌, [], length, IsTrue};
+ghost use Rattle.std.specs.Prelude.{◌≡◌, ◌≤◌, [], length, IsTrue, IfOk};
 ghost use Rattle.flow_net.specs.Drafts.{Answers, Becomes};
 ghost use Rattle.flow_net.specs.Calls.{after_process, after_connect};
 ghost use Rattle.flow_net.specs.Initials.{AfterInitial};
 ghost use Rattle.flow_net.specs.Finishes.{finished};
 ghost use Rattle.flow_net.specs.Kinds.{is_table};
+ghost use Rattle.flow_net.specs.Valid.{IsValid};
 
 use crate::draft::{Begun, Link, Port};
 use crate::fault::{PlanFault, PlanStop};
@@ -128,7 +129,8 @@ impl PlanBuilder {
     /// The plan that the calls described: the processes in their order, the connections in the order in
     /// which their inputs were first connected, and the senders in the order of the calls.
     pub fn finish(self) -> Result<Plan, PlanStop>
-        ensures { Answers (finished self) result }
+        ensures plan { Answers (finished self) result }
+        ensures valid { IfOk result IsValid }
     {
         let alloc = self.alloc;
         let processes = self.processes.as_slice();

@@ -1,0 +1,64 @@
+-- What makes a network a valid plan.
+use Rattle.std.specs.Prelude.{◌≡◌, ◌⊎◌, ℕ, ◌≤◌, Bool, true, List, map, length, Some, slice_get}
+use Rattle.std.specs.List.{flat_map, sum_by}
+use Rattle.flow_net.specs.declared.kind.PortRef.{PortRef}
+use Rattle.flow_net.specs.declared.plan.Sender.{Sender}
+use Rattle.flow_net.specs.declared.plan.Process.{Process}
+use Rattle.flow_net.specs.declared.plan.Connection.{Connection}
+use Rattle.flow_net.specs.declared.plan.PortRow.{PortRow}
+use Rattle.flow_net.specs.declared.plan.PortTable.{PortTable}
+use Rattle.flow_net.specs.Network.{Network, LaidOut, HasInput, HasOutput, elements_of}
+
+-- Input i of process p receives from a connection.
+pub record HasConnection (n : Network) (p i : ℕ) : Type 0 where
+  pub number : ℕ
+  pub connection : Connection
+  pub here : slice_get n.connections number ≡ Some connection
+  pub receiver : connection.receiver ≡ p
+  pub input : connection.input ≡ i
+
+-- Input i of process p has an initial text.
+pub record HasText (n : Network) (p i : ℕ) : Type 0 where
+  pub process : Process
+  pub place : ℕ
+  pub text : List ℕ
+  pub here : slice_get n.processes p ≡ Some process
+  pub given : slice_get process.initials place ≡ Some (i, text)
+
+-- Output o of process p is a sender of a connection.
+pub record HasSender (n : Network) (p o : ℕ) : Type 0 where
+  pub number : ℕ
+  pub connection : Connection
+  pub place : ℕ
+  pub here : slice_get n.connections number ≡ Some connection
+  pub sender : slice_get connection.senders place ≡ Some (record { process = p; output = o })
+
+-- Whether each output of a process is needed, by its number.
+abbrev pub needs_of : List PortRow → List Bool
+needs_of rows = flat_map (λ (row : PortRow). map (λ (port : PortRef). row.spec.needed) (elements_of row)) rows
+
+-- Output o of process p is needed.
+pub record NeedsOutput (n : Network) (p o : ℕ) : Type 0 where
+  pub table : PortTable
+  pub here : slice_get n.tables p ≡ Some table
+  pub needed : slice_get (needs_of table.outputs) o ≡ Some true
+
+-- A valid plan: names differ; each input has one connection or one text, and not both; each output sends to one connection at most, and to one where it is
+-- needed; every connection and every sender names an input or an output that is there; and all is within its limits.
+pub record IsValid (n : Network) : Type 0 where
+  pub names : (p q : ℕ) (x y : Process) → slice_get n.processes p ≡ Some x → slice_get n.processes q ≡ Some y → x.name ≡ y.name → p ≡ q
+  pub laid_out : LaidOut n.processes n.tables
+  pub receivers : (c : ℕ) (x : Connection) → slice_get n.connections c ≡ Some x → HasInput n x.receiver x.input
+  pub one_receiver : (c d : ℕ) (x y : Connection) → slice_get n.connections c ≡ Some x → slice_get n.connections d ≡ Some y → x.receiver ≡ y.receiver → x.input ≡ y.input → c ≡ d
+  pub senders : (c k : ℕ) (x : Connection) (s : Sender) → slice_get n.connections c ≡ Some x → slice_get x.senders k ≡ Some s → HasOutput n s.process s.output
+  pub one_sender : (c d k l : ℕ) (x y : Connection) (s : Sender) → slice_get n.connections c ≡ Some x → slice_get n.connections d ≡ Some y → slice_get x.senders k ≡ Some s → slice_get y.senders l ≡ Some s → (c ≡ d) × (k ≡ l)
+  pub each_input : (p i : ℕ) → HasInput n p i → HasConnection n p i ⊎ HasText n p i
+  pub not_both : (p i : ℕ) → HasConnection n p i → HasText n p i → ⊥
+  pub one_text : (p k l i : ℕ) (x : Process) (text other : List ℕ) → slice_get n.processes p ≡ Some x → slice_get x.initials k ≡ Some (i, text) → slice_get x.initials l ≡ Some (i, other) → k ≡ l
+  pub needed_outputs : (p o : ℕ) → NeedsOutput n p o → HasSender n p o
+  pub few_processes : length n.processes ≤ 128
+  pub few_connections : length n.connections ≤ 512
+  pub capacities : (c : ℕ) (x : Connection) → slice_get n.connections c ≡ Some x → (1 ≤ x.capacity) × (x.capacity ≤ 1024)
+  pub few_senders : (c : ℕ) (x : Connection) → slice_get n.connections c ≡ Some x → length x.senders ≤ 65535
+  pub capacity_sum : sum_by (λ (x : Connection). x.capacity) n.connections ≤ 65536
+  pub short : (p k i : ℕ) (x : Process) (text : List ℕ) → slice_get n.processes p ≡ Some x → slice_get x.initials k ≡ Some (i, text) → length text ≤ 1048576

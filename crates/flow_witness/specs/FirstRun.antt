@@ -1,0 +1,50 @@
+-- The first run: a chain that copies one line.
+use Rattle.std.specs.Prelude.{◌≡◌, List, [], ◌∷◌, ◌++◌, replicate, codes, Some, slice_get}
+use Rattle.flow_net.specs.Network.{Network}
+use Rattle.flow_net.specs.Thin.{chain_of}
+use Rattle.flow_streams.specs.declared.passthru.Passthru.{Passthru}
+use Rattle.flow_catalogue.specs.declared.standard.Std.{Std}
+use Rattle.flow_catalogue.specs.declared.standard.Std.TheVariants as parts
+use Rattle.flow_catalogue.specs.Std.{std_shape, std_uses, StdReady, StdNext}
+use Rattle.flow_machine.specs.PlanOf.{plan_of}
+use Rattle.flow_model.specs.States.{Process, State}
+use Rattle.flow_model.specs.Schedules.{Journal}
+use Rattle.flow_model.specs.Places.{places}
+use Rattle.flow_model.specs.Verdicts.{IsFinished}
+use Rattle.flow_model.specs.Robin.{RoundRobin}
+use Rattle.flow_model.specs.Plans.{Plan, start_of, StartsWell}
+
+-- The plan: the names and the files of the first example.
+abbrev pub first_network : Network
+first_network = chain_of (codes "Read") (codes "in.txt") (codes "Pass") (codes "Write") (codes "out.txt")
+
+abbrev pub first_plan : Plan
+first_plan = plan_of first_network
+
+-- A component that passes on.
+abbrev pub passing : Passthru
+passing = record {}
+
+-- The components: the reader has the one line x.
+abbrev pub first_parts : List Std
+first_parts = parts.ReadLines ((120 ∷ []) ∷ []) ∷ parts.Passthru passing ∷ parts.WriteLines [] ∷ []
+
+-- The start.
+abbrev pub first_start : State Std
+first_start = start_of first_plan first_parts
+
+-- Five turns of the reader, seven of the process that passes on, five of the writer.
+abbrev pub first_journal : Journal
+first_journal = record { turns = (replicate 5 0 ++ replicate 7 1) ++ replicate 5 2; seen = [] }
+
+-- The plan with these components starts well; the journal is its round robin, after which every process has ended, no packet is left, and the writer has
+-- the line and a line feed.
+pub record IsFirstRun : Type 0 where
+  pub starts : StartsWell std_shape std_uses StdReady first_plan first_parts
+  pub last : State Std
+  pub round : RoundRobin StdNext first_start first_journal last
+  pub finished : IsFinished last
+  pub empty : places last ≡ []
+  pub writer : Process Std
+  pub there : slice_get last.kept.processes 2 ≡ Some writer
+  pub written : writer.part ≡ parts.WriteLines (120 ∷ 10 ∷ [])

@@ -1,0 +1,17 @@
+//! That the definitions of the machine say something: the first run is one, and a part that sends a packet twice is no component.
+#![tactic(auto)]
+
+ghost use Rattle.flow_witness.specs.FirstRun.{IsFirstRun};
+ghost use Rattle.flow_witness.specs.Twice.{TwiceIsRefused};
+
+/// The chain of a reader of the one line `x`, a process that passes it on and a writer, with standard components, starts well; five turns
+/// of the reader, seven of the second process and five of the writer are its round robin; after it every process has ended, no packet is
+/// left, and the writer has `x` and a line feed.
+pub fn the_first_run()
+    ensures { IsFirstRun }
+{}
+
+/// A part that sends each packet that it got a second time breaks the laws of components, whatever it claims to be ready for.
+pub fn a_part_that_sends_twice_is_no_component()
+    ensures { TwiceIsRefused }
+{}
