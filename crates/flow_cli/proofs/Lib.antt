@@ -3,6 +3,7 @@ pub mod Chains
 pub mod Cuts
 pub mod Fitting
 pub mod Outputs
+pub mod Runs
 pub mod ThinLines
 pub mod Tops
 pub mod Wired

@@ -7,9 +7,10 @@ use Rattle.flow_text.specs.Edge.{Outside, Name, Files, Rose, after_write}
 use Rattle.flow_cli.specs.Step.{HoldsMore}
 use Rattle.flow_cli.specs.Thin.{IsThin}
 use Rattle.flow_cli.specs.Prepare.{IsCommand, IsRefused, IsReadName}
-use Rattle.flow_cli.specs.After.{Prints, IsReport, verdict_status}
+use Rattle.flow_cli.specs.After.{Prints, verdict_status}
 use Rattle.flow_cli.specs.Stops.{status_of, text_of}
-use Rattle.flow_cli.specs.Top.{IsCut, IsDone, Halts, PrintsStop, IsOver, EndsWell, IsValid, NoFaults}
+use Rattle.flow_cli.specs.Top.{IsCut, IsRun, Halts, PrintsStop, IsOver, EndsWell, IsValid, NoFaults}
+use Rattle.flow_cli.specs.declared.top.Outcome.{Outcome}
 use Rattle.flow_cli.specs.declared.engine.Told.{Told}
 use Rattle.flow_cli.specs.declared.stop.Stop.{Stop}
 use Rattle.flow_cli.specs.declared.stop.Stop.TheVariants.{Words, NotBuilt, ReadFault, WriteFault, TooLong, NoMemory}
@@ -131,8 +132,9 @@ over_isnt_7 : (status : ℕ) → IsOver status → status ≡ 7 → ⊥
 over_isnt_7 status over e = grind arith
 
 -- a run that came to its end printed its report
-pub ends : (o n po pn : Outside) (words : List (String Global)) (done : Told) (status : ℕ) (name : Name) → IsCommand words name
-    → IfSome o.files (λ files. IsDone files n name) → IsReport done.verdict done.report.items → Prints po pn done.report.items (verdict_status done.verdict) status
-    → IsOver status → EndsWell o n po pn words status
-ends o n po pn words done status name is files report (inl p) over = (name, is, files, (done.verdict, done.report.items, sym p.0, report, p.1))
-ends o n po pn words done status name is files report (inr p) over = absurd (over_isnt_7 status over p.0)
+pub ends : (o n po pn : Outside) (words : List (String Global)) (told : Told) (outcome : Outcome) (name : Name) → IsCommand words name → IsRun o n name told
+    → outcome.journal ≡ told.journal → Prints po pn told.report.items (verdict_status told.verdict) outcome.status → IsOver outcome.status
+    → EndsWell o n po pn words outcome
+ends o n po pn words told outcome name is run journal (inl p) over =
+    record { name = name; command = is; told = told; run = run; status = p.0; journal = journal; printed = p.1 }
+ends o n po pn words told outcome name is run journal (inr p) over = absurd (over_isnt_7 outcome.status over p.0)

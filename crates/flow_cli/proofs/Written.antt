@@ -1,8 +1,7 @@
 -- The files that the first processes of a plan write, and one process more.
-use Rattle.std.proofs.Common.{◌≡◌, ◌≢◌, ℕ, zero, suc, ◌<◌, length, Bool, true, false, cond, List, [], ◌∷◌, ◌++◌, take, Some, None, refl, sym, ◌∙◌, ap, subst, append_assoc, arith}
+use Rattle.std.proofs.Common.{◌≡◌, ◌≢◌, ℕ, zero, suc, ◌+◌, ◌<◌, length, Bool, true, false, cond, List, [], ◌∷◌, ◌++◌, map, take, Some, None, refl, sym, ◌∙◌, ap, subst, append_assoc, arith}
 use mathlib.Core.List.{append-nil}
 use Rattle.std.specs.Prelude.{slice_get, codes, IfSome}
-use Rattle.std.specs.List.{flat_map}
 use Rattle.std.specs.declared.option.Option.{Option}
 use Rattle.std.specs.Str.{bytes_eq}
 use Rattle.std.proofs.lemmas.Slice.Eq.{bytes_eq-Decides}
@@ -11,12 +10,24 @@ use Rattle.flow_catalogue.specs.declared.process.FileUse.TheVariants.{Read, Writ
 use Rattle.flow_catalogue.specs.Files.{UsesFile}
 use Rattle.std.specs.Borrow.{Bor}
 use Rattle.flow_text.specs.Edge.{Name}
+use Rattle.flow_catalogue.specs.declared.standard.Std.{Std}
+use Rattle.flow_machine.specs.Values.{BodyValue}
+use Rattle.flow_cli.specs.Many.{Filled}
 use Rattle.flow_cli.specs.After.{written_by, first_option}
+use Rattle.flow_cli.specs.Runs.{bytes_at, outputs_at, outputs_from}
 
-step : (ps : List Process) (k : ℕ) (p : Process) → slice_get ps k ≡ Some p → flat_map written_by (take (suc k) ps) ≡ flat_map written_by (take k ps) ++ written_by p
-step [] k p h = cc
-step (x ∷ xs) zero p h = let same : x ≡ p = cc in append-nil (written_by x) ∙ ap written_by same
-step (x ∷ xs) (suc k) p h = ap (λ rest. written_by x ++ rest) (step xs k p h) ∙ sym (append_assoc (written_by x) (flat_map written_by (take k xs)) (written_by p))
+step : (bodies : List (BodyValue Std)) (p k : ℕ) (ps : List Process) (process : Process) → slice_get ps k ≡ Some process
+    → outputs_from bodies p (take (suc k) ps) ≡ outputs_from bodies p (take k ps) ++ outputs_at bodies (p + k) process
+step bodies p k [] process h = cc
+step bodies p zero (x ∷ xs) process h =
+    let same : x ≡ process = cc in
+    let n : p ≡ p + zero = omega arith in
+    append-nil (outputs_at bodies p x) ∙ ap (λ y. outputs_at bodies p y) same ∙ ap (λ m. outputs_at bodies m process) n
+step bodies p (suc k) (x ∷ xs) process h =
+    let n : p + 1 + k ≡ p + suc k = omega arith in
+    ap (λ rest. outputs_at bodies p x ++ rest) (step bodies (p + 1) k xs process h)
+    ∙ sym (append_assoc (outputs_at bodies p x) (outputs_from bodies (p + 1) (take k xs)) (outputs_at bodies (p + 1 + k) process))
+    ∙ ap (λ m. (outputs_at bodies p x ++ outputs_from bodies (p + 1) (take k xs)) ++ outputs_at bodies m process) n
 
 test_false : (b : Bool) (P : Type 0) → (b ≡ true → P) → (P → ⊥) → b ≡ false
 test_false true P to no_way = absurd (no_way (to refl))
@@ -49,10 +60,27 @@ there_at [] k lt = absurd (omega arith)
 there_at (x ∷ xs) zero lt = (x, refl)
 there_at (x ∷ xs) (suc k) lt = there_at xs k (omega arith)
 
+-- a process that writes no file has no output, and one that does has that one
+pub no-output : (bodies : List (BodyValue Std)) (k : ℕ) (found : Option Process) → IfSome found (λ p. written_by p ≡ []) → IfSome found (λ p. outputs_at bodies k p ≡ [])
+no-output bodies k None h = tt
+no-output bodies k (Some p) h = ap (λ names. map (λ (name : Name). (name, bytes_at bodies k)) names) h
+
+pub one-output : (bodies : List (BodyValue Std)) (k : ℕ) (found : Option Process) (name bytes : List ℕ) → bytes ≡ bytes_at bodies k
+    → IfSome found (λ p. written_by p ≡ name ∷ []) → IfSome found (λ p. outputs_at bodies k p ≡ (name, bytes) ∷ [])
+one-output bodies k None name bytes is h = tt
+one-output bodies k (Some p) name bytes is h =
+    ap (λ names. map (λ (name : Name). (name, bytes_at bodies k)) names) h ∙ ap (λ (b : List ℕ). (name, b) ∷ []) (sym is)
+
 -- one process more
-pub one-more : (ps : List Process) (k : ℕ) (before after more : List Name) → k < length ps → IfSome (slice_get ps k) (λ p. written_by p ≡ more)
-    → before ≡ flat_map written_by (take k ps) → after ≡ before ++ more → after ≡ flat_map written_by (take (suc k) ps)
-one-more ps k before after more lt writes is grown =
+pub one-more : (bodies : List (BodyValue Std)) (ps : List Process) (k : ℕ) (before after more : List Filled) → k < length ps
+    → IfSome (slice_get ps k) (λ p. outputs_at bodies k p ≡ more)
+    → before ≡ outputs_from bodies 0 (take k ps) → after ≡ before ++ more → after ≡ outputs_from bodies 0 (take (suc k) ps)
+one-more bodies ps k before after more lt writes is grown =
     let p = there_at ps k lt in
-    let more_is : written_by p.0 ≡ more = subst (λ (o : Option Process). IfSome o (λ p. written_by p ≡ more)) p.1 writes in
-    grown ∙ ap (λ l. l ++ more) is ∙ ap (λ l. flat_map written_by (take k ps) ++ l) (sym more_is) ∙ sym (step ps k p.0 p.1)
+    let more_is : outputs_at bodies k p.0 ≡ more = subst (λ (o : Option Process). IfSome o (λ p. outputs_at bodies k p ≡ more)) p.1 writes in
+    let n : 0 + k ≡ k = omega arith in
+    grown
+    ∙ ap (λ l. l ++ more) is
+    ∙ ap (λ l. outputs_from bodies 0 (take k ps) ++ l) (sym more_is)
+    ∙ ap (λ m. outputs_from bodies 0 (take k ps) ++ outputs_at bodies m p.0) (sym n)
+    ∙ sym (step bodies 0 k ps p.0 p.1)

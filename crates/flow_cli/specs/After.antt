@@ -1,6 +1,5 @@
 -- What a call does once its network has run: the files of the writers, then the report.
-use Rattle.std.specs.Prelude.{◌≡◌, ◌⊎◌, ℕ, ◌∷◌, [], List, map, Some, Ok, Err, IfSome, string_bytes, codes, if◌then◌else◌}
-use Rattle.std.specs.List.{flat_map}
+use Rattle.std.specs.Prelude.{◌≡◌, ◌⊎◌, ℕ, ◌∷◌, [], List, Some, Ok, Err, IfSome, string_bytes, codes, if◌then◌else◌}
 use Rattle.std.specs.declared.option.Option.{Option}
 use Rattle.std.specs.declared.result.Result.{Result}
 use Rattle.std.specs.Option.{option_map}
@@ -8,8 +7,6 @@ use Rattle.std.specs.Str.{bytes_eq}
 use Rattle.flow_text.specs.Edge.{Outside, Name, Files, Rose, after_write}
 use Rattle.flow_text.specs.WriteAll.{WroteAndFailed}
 use Rattle.flow_net.specs.declared.plan.Process.{Process}
-use Rattle.flow_net.specs.Network.{Network}
-use Rattle.flow_report.specs.Text.{Told, report_text}
 use Rattle.flow_report.specs.declared.report.Verdict.{Verdict}
 use Rattle.flow_report.specs.declared.report.Verdict.TheVariants as verdicts
 use Rattle.flow_cli.specs.Many.{Filled, replaced_all, after_some}
@@ -26,14 +23,6 @@ first_option (option ∷ more) = option.1 ∷ []
 abbrev pub written_by : Process → List Name
 written_by process = if bytes_eq process.kind (codes "WriteLines") then first_option process.options else []
 
--- The files that the processes write, in their order.
-abbrev pub written_names : Network → List Name
-written_names plan = flat_map written_by plan.processes
-
--- The files that are to be written are the writers', in the order of the processes.
-abbrev pub AreOutputs : Network → List Filled → Type 0
-AreOutputs plan outputs = map (λ output. output.0) outputs ≡ written_names plan
-
 -- The files before the one at which it stopped were replaced in order, and that one holds a first part of its bytes or is as it was after those.
 pub record IsCutShort (before : Files) (after : Option Files) (outputs : List Filled) (name : Name) : Type 0 where
   pub place : ℕ
@@ -41,16 +30,15 @@ pub record IsCutShort (before : Files) (after : Option Files) (outputs : List Fi
   pub files : HoldsPart (after_some outputs place (Some before)) after name bytes
 
 -- What writing the files of a run does to the shelf.
-abbrev pub WritesOutputs : {T : Type 0} → Outside → Outside → Network → Result T Stop → Type 0
-WritesOutputs old new plan (Ok _) = OnlyWrites old new × (new.write_faults ≡ old.write_faults)
-    × ((outputs : List Filled) × AreOutputs plan outputs × (new.files ≡ option_map (replaced_all outputs) old.files))
-WritesOutputs old new plan (Err (WriteFault name)) = OnlyWrites old new × Rose old.write_faults new.write_faults × (new.last_write_fault ≡ Some (string_bytes name))
-    × IfSome old.files (λ files. (outputs : List Filled) × AreOutputs plan outputs × IsCutShort files new.files outputs (string_bytes name))
-WritesOutputs old new plan (Err NoMemory) = OnlyWrites old new × ((new.files ≡ old.files) ⊎ IfSome old.files (λ files. (outputs : List Filled) × AreOutputs plan outputs × ((name : Name) × IsCutShort files new.files outputs name)))
-WritesOutputs old new plan (Err Words) = ⊥
-WritesOutputs old new plan (Err NotBuilt) = ⊥
-WritesOutputs old new plan (Err (ReadFault name)) = ⊥
-WritesOutputs old new plan (Err (TooLong name)) = ⊥
+abbrev pub WritesOutputs : {T : Type 0} → Outside → Outside → List Filled → Result T Stop → Type 0
+WritesOutputs old new outputs (Ok _) = OnlyWrites old new × (new.write_faults ≡ old.write_faults) × (new.files ≡ option_map (replaced_all outputs) old.files)
+WritesOutputs old new outputs (Err (WriteFault name)) = OnlyWrites old new × Rose old.write_faults new.write_faults × (new.last_write_fault ≡ Some (string_bytes name))
+    × IfSome old.files (λ files. IsCutShort files new.files outputs (string_bytes name))
+WritesOutputs old new outputs (Err NoMemory) = OnlyWrites old new × ((new.files ≡ old.files) ⊎ IfSome old.files (λ files. (name : Name) × IsCutShort files new.files outputs name))
+WritesOutputs old new outputs (Err Words) = ⊥
+WritesOutputs old new outputs (Err NotBuilt) = ⊥
+WritesOutputs old new outputs (Err (ReadFault name)) = ⊥
+WritesOutputs old new outputs (Err (TooLong name)) = ⊥
 
 -- The status of a run that came to its end.
 abbrev pub verdict_status : Verdict → ℕ
@@ -59,10 +47,6 @@ verdict_status verdicts.FinishedLeft = 1
 verdict_status verdicts.Deadlock = 4
 verdict_status verdicts.Failed = 5
 verdict_status verdicts.Running = 11
-
--- The text is a report with this verdict.
-abbrev pub IsReport : Verdict → List ℕ → Type 0
-IsReport verdict text = (told : Told) × (told.verdict ≡ verdict) × (text ≡ report_text told)
 
 -- The text was printed, or a write to out failed and the status is 7.
 abbrev pub Prints : Outside → Outside → List ℕ → ℕ → ℕ → Type 0

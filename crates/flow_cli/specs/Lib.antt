@@ -2,6 +2,7 @@ pub mod After
 pub mod Many
 pub mod Parts
 pub mod Prepare
+pub mod Runs
 pub mod Step
 pub mod Stops
 pub mod Thin

@@ -2,14 +2,19 @@
 use Rattle.std.specs.Prelude.{◌≡◌, ◌⊎◌, ℕ, ◌≤◌, List, [], length, Some, None, Ok, Err, IfSome, String, string_bytes}
 use Rattle.std.specs.declared.alloc.Global.{Global}
 use Rattle.std.specs.declared.result.Result.{Result}
+use Rattle.std.specs.Option.{option_map}
 use Rattle.flow_text.specs.Edge.{Outside, Name, Files, Rose, after_write}
 use Rattle.flow_net.specs.Network.{Network}
 use Rattle.flow_cli.specs.Words.{command_of}
+use Rattle.flow_cli.specs.Parts.{AreParts}
 use Rattle.flow_cli.specs.Prepare.{IsCommand, IsNetwork, IsRefused, IsReadName}
 use Rattle.flow_cli.specs.Step.{HoldsMore}
-use Rattle.flow_cli.specs.Many.{Filled, replaced_all}
-use Rattle.flow_cli.specs.After.{AreOutputs, IsCutShort, Prints, IsReport, verdict_status}
-use Rattle.flow_report.specs.declared.report.Verdict.{Verdict}
+use Rattle.flow_cli.specs.Many.{replaced_all}
+use Rattle.flow_cli.specs.After.{IsCutShort, Prints, verdict_status}
+use Rattle.flow_cli.specs.Runs.{RanOn, IsToldOf, outputs_of}
+use Rattle.flow_cli.specs.declared.top.Outcome.{Outcome}
+use Rattle.flow_catalogue.specs.declared.standard.Std.{Std}
+use Rattle.flow_machine.specs.Values.{NetValue}
 use Rattle.flow_cli.specs.Stops.{status_of, text_of}
 use Rattle.flow_journal.specs.declared.merge.Journal.{Journal}
 use Rattle.flow_cli.specs.declared.engine.Told.{Told}
@@ -17,21 +22,27 @@ use Rattle.flow_cli.specs.declared.run.Halt.{Halt}
 use Rattle.flow_cli.specs.declared.stop.Stop.{Stop}
 use Rattle.flow_cli.specs.declared.stop.Stop.TheVariants.{Words, NotBuilt, ReadFault, WriteFault, TooLong, NoMemory}
 
--- The files of the network's writers were replaced in order, and all other names hold what they held.
-pub record IsDone (before : Files) (after : Outside) (name : Name) : Type 0 where
+-- The network file of this name holds a network that ran, on what its input files held. The files of its writers were replaced in order, all other
+-- names hold what they held, and this is told of it.
+pub record IsRun (old new : Outside) (name : Name) (told : Told) : Type 0 where
   pub plan : Network
-  pub network : IsNetwork before name plan
-  pub outputs : List Filled
-  pub are_outputs : AreOutputs plan outputs
-  pub files : after.files ≡ Some (replaced_all outputs before)
+  pub network : IfSome old.files (λ files. IsNetwork files name plan)
+  pub parts : List Std
+  pub are_parts : AreParts old.files plan parts
+  pub net : NetValue Std
+  pub ran : RanOn plan parts net
+  pub told_is : IsToldOf plan net told
+  pub files : new.files ≡ option_map (replaced_all (outputs_of plan net)) old.files
 
--- Writing the files of the network's writers stopped at this one.
+-- Writing the files of such a run stopped at this one.
 pub record IsCut (before : Files) (after : Outside) (name written : Name) : Type 0 where
   pub plan : Network
   pub network : IsNetwork before name plan
-  pub outputs : List Filled
-  pub are_outputs : AreOutputs plan outputs
-  pub cut : IsCutShort before after.files outputs written
+  pub parts : List Std
+  pub are_parts : AreParts (Some before) plan parts
+  pub net : NetValue Std
+  pub ran : RanOn plan parts net
+  pub cut : IsCutShort before after.files (outputs_of plan net) written
 
 -- No turn was made.
 abbrev pub IsEmptyJournal : Journal → Type 0
@@ -51,7 +62,7 @@ Halts old new words NoMemory limit = (new.files ≡ old.files) ⊎ IfSome old.fi
 
 -- What a run does to the shelf.
 abbrev pub Works : Outside → Outside → List (String Global) → Result Told Halt → ℕ → Type 0
-Works old new words (Ok told) limit = (name : Name) × IsCommand words name × IfSome old.files (λ files. IsDone files new name) × IsReport told.verdict told.report.items
+Works old new words (Ok told) limit = (name : Name) × IsCommand words name × IsRun old new name told
 Works old new words (Err halt) limit = Halts old new words halt.stop limit
 
 -- The text of the stop was printed, or, where there was no memory for it, that of want of memory.
@@ -62,10 +73,15 @@ PrintsStop old new stop status = Prints old new (text_of stop) (status_of stop) 
 abbrev pub IsOver : ℕ → Type 0
 IsOver status = (status ≡ 0) ⊎ (status ≡ 1) ⊎ (status ≡ 4) ⊎ (status ≡ 5) ⊎ (status ≡ 11)
 
--- The files stand, and out grew by exactly a report with the verdict that the status stands for.
-abbrev pub EndsWell : Outside → Outside → Outside → Outside → List (String Global) → ℕ → Type 0
-EndsWell shelf shelf_after out out_after words status = (name : Name) × IsCommand words name × IfSome shelf.files (λ files. IsDone files shelf_after name)
-    × ((verdict : Verdict) × (report : List ℕ) × (verdict_status verdict ≡ status) × IsReport verdict report × (out_after ≡ after_write out report))
+-- The network ran and its files stand, out grew by exactly its report, the status stands for its verdict, and the journal is its own.
+pub record EndsWell (shelf shelf_after out out_after : Outside) (words : List (String Global)) (outcome : Outcome) : Type 0 where
+  pub name : Name
+  pub command : IsCommand words name
+  pub told : Told
+  pub run : IsRun shelf shelf_after name told
+  pub status : outcome.status ≡ verdict_status told.verdict
+  pub journal : outcome.journal ≡ told.journal
+  pub printed : out_after ≡ after_write out told.report.items
 
 -- The network file holds a network that runs, and no file that is read is absent or longer than the limit.
 pub record IsValid (files : Files) (words : List (String Global)) (limit : ℕ) : Type 0 where

@@ -2,7 +2,8 @@
 ghost use Rattle.std.specs.Prelude.{◌≡◌, ◌≤◌, ◌∷◌, [], IfOk, IfSome, IfNone, map, length, slice_get};
 ghost use Rattle.flow_cli.specs.Many.{output_of};
 ghost use Rattle.flow_cli.specs.Parts.{IsRunnable};
-ghost use Rattle.flow_cli.specs.After.{AreOutputs, IsReport, written_by};
+ghost use Rattle.flow_cli.specs.After.{written_by};
+ghost use Rattle.flow_cli.specs.Runs.{RanOn, IsToldOf, bytes_at, outputs_of};
 ghost use Rattle.flow_model.specs.Plans.{StartsWell};
 ghost use Rattle.flow_machine.specs.PlanOf.{plan_of};
 ghost use Rattle.flow_catalogue.specs.Processes.{IsStandard};
@@ -37,7 +38,8 @@ pub fn run_net(alloc: Global, job: Job) -> Result<Ran, AllocError>
     requires starts { StartsWell std_shape std_uses StdReady (plan_of job.plan) job.parts.items }
     requires few { length job.plan.connections ≤ 512 }
     ensures plan { IfOk result (λ ran. ran.plan ≡ job.plan) }
-    ensures report { IfOk result (λ ran. IsReport ran.told.verdict ran.told.report.items) }
+    ensures ran { IfOk result (λ ran. RanOn job.plan job.parts.items ran.net) }
+    ensures told { IfOk result (λ ran. IsToldOf job.plan ran.net ran.told) }
 {
     let Job { plan, parts } = job;
     let net = Net::start(alloc, &plan, parts)?;
@@ -53,7 +55,8 @@ pub fn run_net(alloc: Global, job: Job) -> Result<Ran, AllocError>
 // The run with its report. Without memory it is given up.
 fn tell(alloc: Global, plan: Plan, closed: Closed<Std>) -> Result<Ran, AllocError>
     ensures plan { IfOk result (λ ran. ran.plan ≡ plan) }
-    ensures report { IfOk result (λ ran. IsReport ran.told.verdict ran.told.report.items) }
+    ensures net { IfOk result (λ ran. ran.net ≡ closed.net) }
+    ensures told { IfOk result (λ ran. IsToldOf plan closed.net ran.told) }
 {
     match told_of(alloc, &plan, &closed) {
         Ok(told) => Ok(Ran {
@@ -69,7 +72,7 @@ fn tell(alloc: Global, plan: Plan, closed: Closed<Std>) -> Result<Ran, AllocErro
 }
 
 fn told_of(alloc: Global, plan: &Plan, closed: &Closed<Std>) -> Result<Told, AllocError>
-    ensures { IfOk result (λ told. IsReport told.verdict told.report.items) }
+    ensures { IfOk result (λ told. IsToldOf plan.now closed.now.net told) }
 {
     let report = Report::of(alloc, plan, closed)?;
     Ok(Told {
@@ -93,7 +96,9 @@ fn written_name(plan: &Plan, process: u32) -> Option<&str>
 }
 
 // What the writer of this number wrote. A process that is no writer wrote nothing.
-fn written_at(net: &Net<Std>, process: u32) -> &[u8] {
+fn written_at(net: &Net<Std>, process: u32) -> &[u8]
+    ensures { result.now ≡ bytes_at net.now.bodies process }
+{
     if process < net.processes() {
         match net.body(process).component().written() {
             Some(bytes) => bytes,
@@ -105,10 +110,10 @@ fn written_at(net: &Net<Std>, process: u32) -> &[u8] {
 }
 
 impl Ran {
-    /// The files that are to be written, in the order of the processes that wrote them.
+    /// The files that are to be written with their bytes, in the order of the processes that wrote them.
     pub fn outputs(&self, alloc: Global) -> Result<Vec<Output<'_>>, AllocError>
         requires { IsRunnable self.now.plan }
-        ensures { IfOk result (λ outputs. AreOutputs self.now.plan (map output_of outputs.items)) }
+        ensures { IfOk result (λ outputs. map output_of outputs.items ≡ outputs_of self.now.plan self.now.net) }
     {
         let mut outputs = Vec::new(alloc);
         for process in 0..self.plan.processes().len() {

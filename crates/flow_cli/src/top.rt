@@ -34,7 +34,7 @@ pub fn plain_top<F: Shelf, O: Sink>(
     out: &mut O,
 ) -> Outcome
     // The run came to its end.
-    ensures over { IsOver result.status → EndsWell (F.outside shelf.old) (F.outside shelf.new) (O.outside out.old) (O.outside out.new) words.now result.status }
+    ensures over { IsOver result.status → EndsWell (F.outside shelf.old) (F.outside shelf.new) (O.outside out.old) (O.outside out.new) words.now result }
 
     // Each other status has its cause.
     ensures words { result.status ≡ 2 → (command_of words.now ≡ None) × (F.outside shelf.new ≡ F.outside shelf.old)

@@ -1,1 +1,2 @@
+pub mod Of
 pub mod Text

@@ -1,58 +1,47 @@
 //! The report of a run that is over.
-use crate::report::{Blocked, Cause, Failure, Report, Verdict, Wait};
+ghost use Rattle.std.specs.Prelude.{◌≡◌, ◌++◌, OnOk, IfOk};
+ghost use Rattle.flow_report.specs.Of.{totals_in, with_process, verdict_on, has_ended, has_failed, inputs_at, outputs_at, input_text, output_text, name_text, blocked_at, cause_at, failed_at, told_from, stages_of};
+
+use crate::report::{Blocked, Cause, Failure, Verdict, Wait};
 use flow_component::{Component, Fail, Port, Wish};
 use flow_items::{Items, Text};
-use flow_machine::{Body, Closed, Net, Stage};
+use flow_machine::{Body, Net, Stage};
 use flow_net::Plan;
 use std::alloc::{AllocError, Global};
 
 /// The sums over the processes of a network, and whether all ended and whether some failed. A sum
 /// stands still at the end of its type.
 #[derive(Clone, Copy)]
-struct Totals {
-    turns: u64,
-    made: u64,
-    dropped: u64,
-    all_ended: bool,
-    some_failed: bool,
+pub struct Totals {
+    pub turns: u64,
+    pub made: u64,
+    pub dropped: u64,
+    pub all_ended: bool,
+    pub some_failed: bool,
 }
 
-impl Totals {
-    fn add<K: Component>(&mut self, body: &Body<K>) {
-        self.turns = self.turns.saturating_add(body.turns().len() as u64);
-        self.made = self.made.saturating_add(u64::from(body.hands().made()));
-        self.dropped = self.dropped.saturating_add(body.hands().dropped());
-        match body.stage() {
-            Stage::Ended => {}
-            Stage::Failed(_) => {
-                self.all_ended = false;
-                self.some_failed = true;
-            }
-            _ => self.all_ended = false,
-        }
-    }
-
-    /// Each packet that was made is dropped or left.
-    fn left(self) -> u64 {
-        self.made.saturating_sub(self.dropped)
-    }
-
-    fn verdict(self) -> Verdict {
-        if self.all_ended {
-            if self.left() == 0 {
-                Verdict::Finished
-            } else {
-                Verdict::FinishedLeft
-            }
-        } else if self.some_failed {
-            Verdict::Failed
-        } else {
-            Verdict::Deadlock
-        }
+fn has_ended(stage: Stage) -> bool
+    ensures { result ≡ has_ended stage }
+{
+    match stage {
+        Stage::Ended => true,
+        _ => false,
     }
 }
 
-fn totals_of<K: Component>(net: &Net<K>) -> Totals {
+fn has_failed(stage: Stage) -> bool
+    ensures { result ≡ has_failed stage }
+{
+    match stage {
+        Stage::Failed(_) => true,
+        _ => false,
+    }
+}
+
+/// The sums over a network's processes.
+pub fn totals_of<K: Component>(net: &Net<K>) -> Totals
+    ensures { result ≡ totals_in net.now.bodies }
+{
     let mut totals = Totals {
         turns: 0,
         made: 0,
@@ -61,61 +50,131 @@ fn totals_of<K: Component>(net: &Net<K>) -> Totals {
         some_failed: false,
     };
     for process in 0..net.processes() {
-        totals.add(net.body(process));
+        totals = with_body(&totals, net.body(process));
     }
     totals
 }
 
-// An input as the report spells it. An input that the process doesn't have is spelled by no bytes; a net
-// of this plan names none.
-fn input_text(alloc: Global, plan: &Plan, process: u32, port: Port) -> Result<Text, AllocError> {
-    match plan.processes().get(process as usize) {
-        Some(entry) if port.0 < entry.inputs => {
-            Ok(Text::of(plan.input_name(alloc, process, port.0)?))
-        }
-        _ => Ok(Text::new(alloc)),
+// The sums with one process more.
+fn with_body<K: Component>(totals: &Totals, body: &Body<K>) -> Totals
+    ensures { result ≡ with_process totals.now body.now }
+{
+    let turns = body.turns().len() as u64;
+    let made = u64::from(body.hands().made());
+    let dropped = body.hands().dropped();
+    let ended = has_ended(body.stage());
+    let failed = has_failed(body.stage());
+    Totals {
+        turns: totals.turns.saturating_add(turns),
+        made: totals.made.saturating_add(made),
+        dropped: totals.dropped.saturating_add(dropped),
+        all_ended: totals.all_ended & ended,
+        some_failed: totals.some_failed | failed,
     }
 }
 
-// An output as the report spells it, likewise.
-fn output_text(alloc: Global, plan: &Plan, process: u32, port: Port) -> Result<Text, AllocError> {
-    match plan.processes().get(process as usize) {
-        Some(entry) if port.0 < entry.outputs => {
-            Ok(Text::of(plan.output_name(alloc, process, port.0)?))
+/// The verdict on a network in which no process can go on.
+pub fn verdict_on(totals: Totals) -> Verdict
+    ensures { result ≡ verdict_on totals }
+{
+    if totals.all_ended {
+        if totals.made.saturating_sub(totals.dropped) == 0 {
+            Verdict::Finished
+        } else {
+            Verdict::FinishedLeft
         }
-        _ => Ok(Text::new(alloc)),
+    } else if totals.some_failed {
+        Verdict::Failed
+    } else {
+        Verdict::Deadlock
+    }
+}
+
+fn inputs_at(plan: &Plan, process: u32) -> u32
+    ensures { result ≡ inputs_at plan.now process }
+{
+    match plan.processes().get(process as usize) {
+        Some(entry) => entry.inputs,
+        None => 0,
+    }
+}
+
+fn outputs_at(plan: &Plan, process: u32) -> u32
+    ensures { result ≡ outputs_at plan.now process }
+{
+    match plan.processes().get(process as usize) {
+        Some(entry) => entry.outputs,
+        None => 0,
+    }
+}
+
+// An input as it is spelled. An input that the process doesn't have is spelled by no bytes; a net of this
+// plan names none.
+fn input_text(alloc: Global, plan: &Plan, process: u32, port: Port) -> Result<Text, AllocError>
+    ensures { IfOk result (λ text. text ≡ input_text plan.now process port.0) }
+{
+    if port.0 < inputs_at(plan, process) {
+        let name = plan.input_name(alloc, process, port.0)?;
+        Ok(Text::of(name))
+    } else {
+        Ok(Text::new(alloc))
+    }
+}
+
+// An output as it is spelled, likewise.
+fn output_text(alloc: Global, plan: &Plan, process: u32, port: Port) -> Result<Text, AllocError>
+    ensures { IfOk result (λ text. text ≡ output_text plan.now process port.0) }
+{
+    if port.0 < outputs_at(plan, process) {
+        let name = plan.output_name(alloc, process, port.0)?;
+        Ok(Text::of(name))
+    } else {
+        Ok(Text::new(alloc))
     }
 }
 
 // The name of a process, likewise.
-fn name_text(alloc: Global, plan: &Plan, process: u32) -> Result<Text, AllocError> {
+fn name_text(alloc: Global, plan: &Plan, process: u32) -> Result<Text, AllocError>
+    ensures { IfOk result (λ text. text ≡ name_text plan.now process) }
+{
     match plan.processes().get(process as usize) {
         Some(entry) => entry.name.copy(alloc),
         None => Ok(Text::new(alloc)),
     }
 }
 
-// What a process of a quiet network waits for, where it has neither ended nor failed.
-fn wait_of(
+/// Adds what a process waits for, if it waits, where no process can go on.
+pub fn add_blocked(
     alloc: Global,
+    blocked: &mut Items<Blocked>,
     plan: &Plan,
     process: u32,
     stage: Stage,
-) -> Result<Option<Wait>, AllocError> {
-    match stage {
-        Stage::Idle => Ok(Some(Wait::Dormant)),
-        Stage::Wishing(Wish::Receive(port)) => {
-            Ok(Some(Wait::Empty(input_text(alloc, plan, process, port)?)))
-        }
-        Stage::Wishing(Wish::Send(port, _)) => {
-            Ok(Some(Wait::Full(output_text(alloc, plan, process, port)?)))
-        }
-        _ => Ok(None),
-    }
+) -> Result<(), AllocError>
+    ensures { OnOk result (blocked.new ≡ blocked.old ++ blocked_at plan.now process stage) }
+{
+    let wait = match stage {
+        Stage::Idle => Wait::Dormant,
+        Stage::Wishing(wish) => match wish {
+            Wish::Receive(port) => Wait::Empty(input_text(alloc, plan, process, port)?),
+            Wish::Send(port, _) => Wait::Full(output_text(alloc, plan, process, port)?),
+            Wish::Level(_) => return Ok(()),
+            Wish::Deactivate => return Ok(()),
+        },
+        Stage::Told(_) => return Ok(()),
+        Stage::Closing(_) => return Ok(()),
+        Stage::Ended => return Ok(()),
+        Stage::Failed(_) => return Ok(()),
+    };
+    let name = name_text(alloc, plan, process)?;
+    blocked.push(Blocked { name, wait })?;
+    Ok(())
 }
 
-// Why a process failed, with its port as the report spells it.
-fn cause_of(alloc: Global, plan: &Plan, process: u32, fail: Fail) -> Result<Cause, AllocError> {
+// Why a process failed, with its port as it is spelled.
+fn cause_of(alloc: Global, plan: &Plan, process: u32, fail: Fail) -> Result<Cause, AllocError>
+    ensures { IfOk result (λ cause. cause ≡ cause_at plan.now process fail) }
+{
     match fail {
         Fail::Unnested(port) => Ok(Cause::Unnested(output_text(alloc, plan, process, port)?)),
         Fail::TurnLimit => Ok(Cause::TurnLimit),
@@ -126,55 +185,63 @@ fn cause_of(alloc: Global, plan: &Plan, process: u32, fail: Fail) -> Result<Caus
     }
 }
 
-fn blocked_of<K: Component>(
+/// Adds why a process failed, if it did.
+pub fn add_failed(
+    alloc: Global,
+    failed: &mut Items<Failure>,
+    plan: &Plan,
+    process: u32,
+    stage: Stage,
+) -> Result<(), AllocError>
+    ensures { OnOk result (failed.new ≡ failed.old ++ failed_at plan.now process stage) }
+{
+    match stage {
+        Stage::Failed(fail) => {
+            let name = name_text(alloc, plan, process)?;
+            let cause = cause_of(alloc, plan, process, fail)?;
+            failed.push(Failure { name, cause })?;
+            Ok(())
+        }
+        Stage::Idle => Ok(()),
+        Stage::Told(_) => Ok(()),
+        Stage::Wishing(_) => Ok(()),
+        Stage::Closing(_) => Ok(()),
+        Stage::Ended => Ok(()),
+    }
+}
+
+/// What all processes wait for.
+pub fn all_blocked<K: Component>(
     alloc: Global,
     plan: &Plan,
     net: &Net<K>,
-) -> Result<Items<Blocked>, AllocError> {
+) -> Result<Items<Blocked>, AllocError>
+    ensures { IfOk result (λ blocked. blocked ≡ told_from (blocked_at plan.now) 0 (stages_of net.now.bodies)) }
+{
     let mut blocked = Items::new(alloc);
     for process in 0..net.processes() {
-        if let Some(wait) = wait_of(alloc, plan, process, net.body(process).stage())? {
-            let name = name_text(alloc, plan, process)?;
-            blocked.push(Blocked { name, wait })?;
-        }
+        add_blocked(
+            alloc,
+            &mut blocked,
+            plan,
+            process,
+            net.body(process).stage(),
+        )?;
     }
     Ok(blocked)
 }
 
-fn failed_of<K: Component>(
+/// Why all processes that failed did.
+pub fn all_failed<K: Component>(
     alloc: Global,
     plan: &Plan,
     net: &Net<K>,
-) -> Result<Items<Failure>, AllocError> {
+) -> Result<Items<Failure>, AllocError>
+    ensures { IfOk result (λ failed. failed ≡ told_from (failed_at plan.now) 0 (stages_of net.now.bodies)) }
+{
     let mut failed = Items::new(alloc);
     for process in 0..net.processes() {
-        if let Stage::Failed(fail) = net.body(process).stage() {
-            let name = name_text(alloc, plan, process)?;
-            let cause = cause_of(alloc, plan, process, fail)?;
-            failed.push(Failure { name, cause })?;
-        }
+        add_failed(alloc, &mut failed, plan, process, net.body(process).stage())?;
     }
     Ok(failed)
-}
-
-impl Report {
-    /// The report of a run of this plan in which no process can go on any more.
-    pub fn of<K: Component>(
-        alloc: Global,
-        plan: &Plan,
-        closed: &Closed<K>,
-    ) -> Result<Report, AllocError> {
-        let net = &closed.net;
-        let totals = totals_of(net);
-        Ok(Report {
-            alloc,
-            verdict: totals.verdict(),
-            blocked: blocked_of(alloc, plan, net)?,
-            failed: failed_of(alloc, plan, net)?,
-            turns: totals.turns,
-            made: totals.made,
-            dropped: totals.dropped,
-            left: totals.left(),
-        })
-    }
 }

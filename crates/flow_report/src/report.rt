@@ -2,7 +2,11 @@
 ghost use Rattle.std.specs.Prelude.{◌≡◌, IfOk};
 
 use crate::lines::{put_blocked, put_failed, put_total, put_verdict};
+use crate::of::{all_blocked, all_failed, totals_of, verdict_on};
+use flow_component::Component;
 use flow_items::{Items, Text};
+use flow_machine::Closed;
+use flow_net::Plan;
 use std::alloc::{AllocError, Global};
 use std::marker::Model;
 
@@ -87,7 +91,31 @@ impl Model for Report {
 }
 
 impl Report {
+    ghost use Rattle.flow_report.specs.Of.{told_of};
     ghost use Rattle.flow_report.specs.Text.{report_text};
+
+    /// The report of a run of this plan in which no process can go on any more. Its rules are this
+    /// project's own.
+    pub fn of<K: Component>(
+        alloc: Global,
+        plan: &Plan,
+        closed: &Closed<K>,
+    ) -> Result<Report, AllocError>
+        ensures { IfOk result (λ report. report ≡ told_of plan.now closed.now.net.bodies) }
+    {
+        let net = &closed.net;
+        let totals = totals_of(net);
+        Ok(Report {
+            alloc,
+            verdict: verdict_on(totals),
+            blocked: all_blocked(alloc, plan, net)?,
+            failed: all_failed(alloc, plan, net)?,
+            turns: totals.turns,
+            made: totals.made,
+            dropped: totals.dropped,
+            left: totals.made.saturating_sub(totals.dropped),
+        })
+    }
 
     pub fn verdict(&self) -> Verdict
         ensures { result ≡ self.now.verdict }

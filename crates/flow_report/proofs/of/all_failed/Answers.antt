@@ -1,0 +1,9 @@
+use Rattle.std.proofs.Common.{add-one}
+use Rattle.flow_report.specs.Of.{failed_at}
+use Rattle.flow_report.proofs.Tellings.{told-step}
+use Rattle.flow_report.proofs.of.all_failed.Goals as goal
+
+pub loop-process-preserved : goal.loop-process-preserved
+loop-process-preserved g c =
+    rw add-one (told-step (failed_at c.args.plan.now) c.args.net.now.bodies c.loop-process.process c.body.result.now c.stage.result
+    c.loop-process.failed c.add_failed.new.failed c.body.ensures c.stage.ensures c.loop-process.invariant c.in_ok-add_failed.ensures)
