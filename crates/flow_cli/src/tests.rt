@@ -126,6 +126,7 @@ fn run_long(
     alloc: Global,
     size: usize,
     status: u8,
+    output: Option<&[u8]>,
     printed: &[u8],
 ) -> Result<(), Fail> {
     let mut files = vec![in alloc; file(alloc, "net", NET)?]?;
@@ -143,6 +144,7 @@ fn run_long(
     let outcome = plain_top(alloc, &words, &mut shelf, &mut out);
     assert_eq!(rt; out.bytes(), printed);
     assert_eq!(rt; outcome.status, status);
+    assert!(rt; shelf.file("out") == output);
     Ok(())
 }
 
@@ -154,9 +156,10 @@ fn long_lines_and_files_are_refused(rt: HostRuntime) -> Result<(), Fail> {
         alloc,
         1_048_577,
         5,
+        Some(b""),
         b"verdict failed\nblocked Pass dormant\nblocked Write dormant\nfailed Read text limit 1048577\ntotal turns 1 made 0 dropped 0 left 0\n",
     )?;
-    run_long(&rt, alloc, 16_777_217, 9, b"too long: in\n")
+    run_long(&rt, alloc, 16_777_217, 9, None, b"too long: in\n")
 }
 
 #[test]
