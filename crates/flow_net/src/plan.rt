@@ -52,7 +52,8 @@ pub struct PortTable {
     pub outputs: Items<PortRow>,
 }
 
-/// A network before it runs. A `Plan` in hand is a valid network.
+/// A network before it runs. One that a builder finished is valid; the type alone says only that each
+/// process has a table of its numbers of inputs and outputs.
 #[derive(Drop)]
 pub struct Plan {
     pub(crate) processes: Vec<Process>,
