@@ -6,5 +6,4 @@ pub mod Kinds
 pub mod Network
 pub mod Options
 pub mod Sound
-pub mod Thin
 pub mod Valid

@@ -15,7 +15,6 @@ mod lay;
 mod names;
 mod options;
 mod plan;
-mod thin;
 
 pub use builder::PlanBuilder;
 pub use fault::{Many, PlanFault, PlanStop};

@@ -52,8 +52,8 @@ pub struct PortTable {
     pub outputs: Items<PortRow>,
 }
 
-/// A network before it runs. One that a builder finished is valid; the type alone says only that each
-/// process has a table of its numbers of inputs and outputs.
+/// A network before it runs. It is valid by its type: whoever holds one holds a network whose names
+/// differ, whose inputs each have one connection or one text, and that is within all its limits.
 #[derive(Drop)]
 pub struct Plan {
     pub(crate) processes: Vec<Process>,
@@ -68,19 +68,21 @@ impl Model for Plan {
 
     ghost view = { λ p. record { processes = p.processes.items; connections = p.connections.items; tables = p.tables.items } };
 
-    ghost use Rattle.flow_net.specs.Network.{LaidOut};
+    ghost use Rattle.flow_net.specs.Valid.{IsValid};
 
-    ghost invariant = { λ p. LaidOut p.processes.items p.tables.items };
+    ghost invariant = { λ p. IsValid (record { processes = p.processes.items; connections = p.connections.items; tables = p.tables.items }) };
 }
 
 impl Plan {
     ghost use Rattle.std.specs.Prelude.{◌≡◌, Some, IfOk};
     ghost use Rattle.std.specs.Option.{option_map};
     ghost use Rattle.flow_net.specs.Network.{HasInput, HasOutput, input_port, output_port, spelled};
+    ghost use Rattle.flow_net.specs.Valid.{IsValid};
 
     /// The processes, in the order of their numbers.
     pub fn processes(&self) -> &[Process]
-        ensures { result.now ≡ self.now.processes }
+        ensures processes { result.now ≡ self.now.processes }
+        ensures valid { IsValid self.now }
     {
         self.processes.as_slice()
     }

@@ -5,8 +5,6 @@ use Rattle.flow_net.specs.declared.draft.Begun.{Begun}
 use Rattle.flow_net.specs.Sound.{IsPlaced, into_of, sender_at, text_at}
 use Rattle.flow_net.specs.Finishes.{count_of, process_of, table_of, connection_of, first_fault, sum_fault}
 use Rattle.flow_net.proofs.Validity.{IsValid-made}
-use Rattle.flow_net.specs.Network.{LaidOut}
-use Rattle.flow_net.proofs.Laying.{LaidOut-plan}
 use Rattle.flow_net.proofs.Placed.{counts-few, capacity_of-small, into-placed, sender-placed, text-placed}
 use Rattle.flow_net.proofs.builder.PlanBuilder.finish.Goals as goal
 
@@ -47,11 +45,17 @@ connections-requires-clause-few c =
 
 pub invariant_of-result : goal.invariant_of-result
 invariant_of-result c =
-    let processes = c.in_ok-processes.ensures in
-    let tables = c.in_ok-tables.ensures in
-    let made : LaidOut c.in_ok-processes.field-0.items c.in_ok-tables.field-0.items =
-    rw (processes, tables) (subst (λ (xs : List Begun). LaidOut (map (process_of c.as_slice-ports.result.now) xs) (map (table_of c.as_slice-ports.result.now) xs)) (sym c.as_slice-processes.ensures.value) (LaidOut-plan c.as_slice-ports.result.now c.self.inside.processes.items)) in
-    made
+    let first : first_fault c.self.inside.processes.items c.self.inside.ports.items ≡ Ok c.in_ok-check_ports.field-0 =
+    rw (sym c.as_slice-processes.ensures.value, sym c.as_slice-ports.ensures.value) c.in_ok-check_ports.ensures in
+    let sum : sum_fault c.self.inside.links.items ≡ Ok c.in_ok-check_sum.field-0 = rw (sym c.as_slice-links.ensures.value) c.in_ok-check_sum.ensures in
+    let processes : c.in_ok-processes.field-0.items ≡ map (process_of c.self.inside.ports.items) c.self.inside.processes.items =
+    rw (sym c.as_slice-processes.ensures.value, sym c.as_slice-ports.ensures.value) c.in_ok-processes.ensures in
+    let connections : c.in_ok-connections.field-0.items ≡ map (connection_of c.self.inside.ports.items) c.self.inside.links.items =
+    rw (sym c.as_slice-links.ensures.value, sym c.as_slice-ports.ensures.value) c.in_ok-connections.ensures in
+    let tables : c.in_ok-tables.field-0.items ≡ map (table_of c.self.inside.ports.items) c.self.inside.processes.items =
+    rw (sym c.as_slice-processes.ensures.value, sym c.as_slice-ports.ensures.value) c.in_ok-tables.ensures in
+    IsValid-made (record { kinds = c.self.inside.kinds.items; processes = c.self.inside.processes.items; ports = c.self.inside.ports.items; links = c.self.inside.links.items })
+    c.in_ok-check_ports.field-0 c.in_ok-check_sum.field-0 c.in_ok-processes.field-0.items c.in_ok-connections.field-0.items c.in_ok-tables.field-0.items c.self.invariant first sum processes connections tables
 
 pub returns-clause-valid : goal.returns-clause-valid
 returns-clause-valid c =

@@ -10,13 +10,13 @@ use Rattle.flow_net.proofs.plan.Plan.output_name.Goals as goal
 pub index-requires : goal.index-requires
 index-requires c =
     let here = ap (λ (n : Network). slice_get n.processes c.args.process) c.self.view_is ∙ c.requires.1 in
-    let laid = LaidOut-at c.self.inside.processes.items c.self.inside.tables.items c.args.process c.requires.0 c.self.invariant here in
+    let laid = LaidOut-at c.self.inside.processes.items c.self.inside.tables.items c.args.process c.requires.0 c.self.invariant.laid_out here in
     omega (arith, slice_get_within c.self.inside.tables.items c.args.process laid.table laid.here, c.self.inside.tables.ok.0)
 
 pub name_at-requires : goal.name_at-requires
 name_at-requires c =
     let here = ap (λ (n : Network). slice_get n.processes c.args.process) c.self.view_is ∙ c.requires.1 in
-    let laid = LaidOut-at c.self.inside.processes.items c.self.inside.tables.items c.args.process c.requires.0 c.self.invariant here in
+    let laid = LaidOut-at c.self.inside.processes.items c.self.inside.tables.items c.args.process c.requires.0 c.self.invariant.laid_out here in
     let table : c.index.result.now ≡ laid.table = c.index.ensures ∙ get_or_from_slice_get c.self.inside.tables.items c.args.process laid.table c.index.result.now laid.here in
     let long : length (ports_of c.as_slice.result.now) ≡ length (ports_of laid.table.outputs) =
     ap (λ (rows : List PortRow). length (ports_of rows)) c.as_slice.ensures ∙ ap (λ (t : PortTable). length (ports_of t.outputs)) table in
@@ -25,7 +25,7 @@ name_at-requires c =
 pub returns : goal.returns
 returns c =
     let here = ap (λ (n : Network). slice_get n.processes c.args.process) c.self.view_is ∙ c.requires.1 in
-    let laid = LaidOut-at c.self.inside.processes.items c.self.inside.tables.items c.args.process c.requires.0 c.self.invariant here in
+    let laid = LaidOut-at c.self.inside.processes.items c.self.inside.tables.items c.args.process c.requires.0 c.self.invariant.laid_out here in
     let table : c.index.result.now ≡ laid.table = c.index.ensures ∙ get_or_from_slice_get c.self.inside.tables.items c.args.process laid.table c.index.result.now laid.here in
     let port : output_port c.args.self.now c.args.process c.args.output ≡ slice_get (ports_of c.as_slice.result.now) c.args.output =
     ap (λ (n : Network). output_port n c.args.process c.args.output) (sym c.self.view_is)
