@@ -60,4 +60,8 @@ IsSound-empty kinds is = record {
     sender = λ c k end h. none _ h;
     text = λ p k end text h. none _ h;
   };
+  shaped = record {
+    each = λ p begun here. none begun here;
+    places = λ g port here. none port here;
+  };
 }

@@ -6,7 +6,11 @@ pub mod Wiring
 pub mod Steps
 pub mod Listing
 pub mod Ends
+pub mod Sides
+pub mod Shapes
 pub mod SoundJoins
+pub mod Freshes
+pub mod ShapesBegin
 pub mod SoundBegins
 pub mod SoundGives
 pub mod Sizes

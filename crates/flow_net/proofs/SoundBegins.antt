@@ -23,6 +23,8 @@ use Rattle.flow_net.specs.Sound.{IsSound, IsKind, IsPort, IsListed, IsSided, tex
 use Rattle.flow_net.proofs.Wiring.{slice_get-append_keeps, slice_get-push_cases}
 use Rattle.flow_net.proofs.Steps.{map_some, then_some}
 use Rattle.flow_net.proofs.Ends.{bind_ok, refused_ok, ok_or_ok}
+use Rattle.flow_net.proofs.Freshes.{IsFresh, length-fresh_ports, fresh_ports-each}
+use Rattle.flow_net.proofs.ShapesBegin.{IsShaped-begun}
 
 -- what is found in a list stands in it
 pub find_some : {X : Type 0} (p : X → Bool) (xs : List X) (x : X) → find p xs ≡ Some x → (k : ℕ) × (slice_get xs k ≡ Some x)
@@ -63,25 +65,6 @@ replicated : {X : Type 0} (n : ℕ) (x y : X) (i : ℕ) → slice_get (replicate
 replicated zero x y i is = absurd (cc)
 replicated (suc n) x y zero is = cc
 replicated (suc n) x y (suc i) is = replicated n x y i is
-
-pub length-fresh_ports : (p : ℕ) (s : Bool) (place : ℕ) (specs : List PortSpec) → length (fresh_ports p s place specs) ≡ length specs
-length-fresh_ports p s place [] = refl
-length-fresh_ports p s place (spec ∷ specs) = ap suc (length-fresh_ports p s (place + 1) specs)
-
--- A port of a new process: of a table's entry, with all elements free.
-pub record IsFresh (process : ℕ) (input : Bool) (specs : List PortSpec) (port : Port) : Type 0 where
-  pub entry : ℕ
-  pub spec : PortSpec
-  pub place : ℕ
-  pub here : slice_get specs entry ≡ Some spec
-  pub whole : fresh_port process input place spec ≡ port
-
-pub fresh_ports-each : (p : ℕ) (s : Bool) (place : ℕ) (specs : List PortSpec) (g : ℕ) (port : Port) → slice_get (fresh_ports p s place specs) g ≡ Some port → IsFresh p s specs port
-fresh_ports-each p s place [] g port is = absurd (cc)
-fresh_ports-each p s place (spec ∷ specs) zero port is = record { entry = 0; spec = spec; place = place; here = refl; whole = cc }
-fresh_ports-each p s place (spec ∷ specs) (suc g) port is =
-    let later = fresh_ports-each p s (place + 1) specs g port is in
-    record { entry = suc later.entry; spec = later.spec; place = later.place; here = later.here; whole = later.whole }
 
 fresh_input : (n place : ℕ) (spec : PortSpec) → spec.needed ≡ true → IsPort (n + 1) (fresh_port n true place spec)
 fresh_input n place spec needed = record {
@@ -249,6 +232,7 @@ IsSound-begun draft name wanted kind sound ok = record {
   links = sound.links;
   listed = IsListed-begun draft.ports more draft.processes draft.links begun (free-fresh n kind) refl sound.listed;
   sided = IsSided-begun draft.ports more draft.processes draft.links begun (free-fresh n kind) refl sound.listed sound.sided;
+  shaped = IsShaped-begun draft.kinds draft.processes draft.ports name chosen.place kind chosen.here sound.shaped (λ g port here. (sound.ports g port here).process);
 }
   where
     n : ℕ

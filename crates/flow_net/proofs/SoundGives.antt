@@ -17,6 +17,7 @@ use Rattle.flow_net.proofs.Places.{same_or_not, slice_get-updated_same, slice_ge
 use Rattle.flow_net.proofs.Wiring.{Rebound-bound, SameOutline-bound}
 use Rattle.flow_net.proofs.Steps.{GivesOne, GivesOne-updated, map_some, then_some}
 use Rattle.flow_net.proofs.Listing.{IsListed-given, IsSided-given}
+use Rattle.flow_net.proofs.Shapes.{IsShaped-bound, IsShaped-texted}
 use Rattle.flow_net.proofs.Ends.{IsThere, IsThere-named, bind_ok, refused_ok, ok_or_ok, free_at}
 use Rattle.flow_net.proofs.SoundJoins.{IsPort-bound}
 
@@ -63,6 +64,7 @@ IsSound-given draft text to into input sound ok fits short = record {
   links = sound.links;
   listed = IsListed-given draft.ports after draft.processes texted draft.links p (next_text (slice_get draft.processes p)) input text sound.listed chosen.free refl (Rebound-bound draft.ports input (Given (next_text (slice_get draft.processes p))) chosen.there.bound) (SameOutline-bound draft.ports input (Given (next_text (slice_get draft.processes p)))) gives;
   sided = IsSided-given draft.ports after draft.processes texted draft.links p (next_text (slice_get draft.processes p)) input text sound.sided chosen.there.side fits short (SameOutline-bound draft.ports input (Given (next_text (slice_get draft.processes p)))) gives;
+  shaped = IsShaped-texted draft.kinds draft.processes texted after (λ q b here. let old = was q b here in (old.0, old.1, old.4)) (IsShaped-bound draft.kinds draft.processes draft.ports input (Given (next_text (slice_get draft.processes p))) sound.shaped);
 }
   where
     p : ℕ
@@ -89,16 +91,16 @@ IsSound-given draft text to into input sound ok fits short = record {
     gives : GivesOne draft.processes texted p (next_text (slice_get draft.processes p)) input text
     gives = subst (λ (k : ℕ). GivesOne draft.processes texted p k input text) (sym (ap next_text found.1)) (GivesOne-updated draft.processes p found.0 input text found.1)
 
-    was : (q : ℕ) (b : Begun) → slice_get texted q ≡ Some b → (old : Begun) × (slice_get draft.processes q ≡ Some old) × (b.number ≡ old.number) × (b.name ≡ old.name)
+    was : (q : ℕ) (b : Begun) → slice_get texted q ≡ Some b → (old : Begun) × (slice_get draft.processes q ≡ Some old) × (b.number ≡ old.number) × (b.name ≡ old.name) × (b.kind ≡ old.kind)
     was q b is = by (same_or_not q p)
       where
-        by : (q ≡ p) ⊎ (q ≢ p) → (old : Begun) × (slice_get draft.processes q ≡ Some old) × (b.number ≡ old.number) × (b.name ≡ old.name)
+        by : (q ≡ p) ⊎ (q ≢ p) → (old : Begun) × (slice_get draft.processes q ≡ Some old) × (b.number ≡ old.number) × (b.name ≡ old.name) × (b.kind ≡ old.kind)
         by (inl e) =
             let changed : slice_get texted q ≡ option_map (with_text input text) (slice_get draft.processes q) =
             ap (λ i. slice_get (updated (with_text input text) draft.processes i) q) (sym e) ∙ slice_get-updated_same (with_text input text) draft.processes q in
             let old = map_some (with_text input text) (slice_get draft.processes q) b (sym changed ∙ is) in
-            (old.0, old.1, sym (ap (λ (x : Begun). x.number) old.2), sym (ap (λ (x : Begun). x.name) old.2))
-        by (inr ne) = (b, sym (slice_get-updated_other (with_text input text) draft.processes p q ne) ∙ is, refl, refl)
+            (old.0, old.1, sym (ap (λ (x : Begun). x.number) old.2), sym (ap (λ (x : Begun). x.name) old.2), sym (ap (λ (x : Begun). x.kind) old.2))
+        by (inr ne) = (b, sym (slice_get-updated_other (with_text input text) draft.processes p q ne) ∙ is, refl, refl, refl)
 
     numbers : (q : ℕ) (b : Begun) → slice_get texted q ≡ Some b → b.number ≡ q
     numbers q b is = let old = was q b is in old.2 ∙ sound.numbers q old.0 old.1

@@ -19,6 +19,7 @@ use Rattle.flow_net.proofs.Wiring.{Rebound-bound, SameOutline-bound, is_input_at
 use Rattle.flow_net.proofs.Bindings.{bound-keeps}
 use Rattle.flow_net.proofs.Steps.{SendsOne, OpensOne-push, SendsOne-updated, map_some}
 use Rattle.flow_net.proofs.Listing.{IsListed-opened, IsListed-sent, IsSided-opened, IsSided-sent}
+use Rattle.flow_net.proofs.Shapes.{IsShaped-joined}
 use Rattle.flow_net.proofs.Ends.{AreThere, AreThere-ends, MayJoin, MayJoin-ok, free_at, link_into-bound, unlinked_free}
 
 pub updated-push : {X : Type 0} (f : X → X) (xs : List X) (x : X) → updated f (xs ++ x ∷ []) (length xs) ≡ xs ++ f x ∷ []
@@ -205,4 +206,5 @@ IsSound-joined draft from out to into capacity output input u sound ends may =
       links = joins.each_link;
       listed = joins.listed;
       sided = joins.sided;
+      shaped = IsShaped-joined draft.kinds draft.processes draft.ports draft.links output input (link_into draft.ports input) sound.shaped;
     }

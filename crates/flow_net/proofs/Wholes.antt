@@ -16,6 +16,7 @@ use Rattle.flow_net.specs.Drafts.{refused_if, binding_at, is_free, is_side, same
 use Rattle.flow_net.specs.Calls.{process_at, room_of}
 use Rattle.flow_net.specs.Sound.{IsPort, is_input_at}
 use Rattle.flow_net.specs.Finishes.{size_of, gap_fault, port_fault, first_fault, name_of, elements_in, count_of, counted, side_at, number_of}
+use Rattle.flow_net.proofs.Sides.{eqb_refl, same_refl}
 use Rattle.flow_net.proofs.Steps.{then_some}
 use Rattle.flow_net.proofs.Ends.{bind_ok, refused_ok}
 use Rattle.flow_net.proofs.SoundBegins.{position_none}
@@ -89,13 +90,6 @@ pub record Located (ports : List Port) (end : End) (p : ℕ) (s : Bool) : Type 0
   pub here : slice_get ports end.port ≡ Some port
   pub within : end.element < counted p s port
   pub number : number_of ports end ≡ number_at (counted p s) ports end.port end.element
-
-eqb_refl : (n : ℕ) → (n == n) ≡ true
-eqb_refl n = grind (arith, nat_tests)
-
-same_refl : (b : Bool) → same b b ≡ true
-same_refl true = refl
-same_refl false = refl
 
 -- a bound element of a port that carries packets has a number
 pub Located-bound : (n : ℕ) (ports : List Port) (end : End) (b : Binding) → ((g : ℕ) (p : Port) → slice_get ports g ≡ Some p → IsPort n p) → binding_at ports end ≡ Some b → is_free b ≡ false → (s : Bool) → is_input_at ports end ≡ Some s → ((port : Port) → slice_get ports end.port ≡ Some port → is_stream port.spec.class ≡ true) → Located ports end (process_at ports end) s

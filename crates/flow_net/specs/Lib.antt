@@ -5,5 +5,6 @@ pub mod Initials
 pub mod Kinds
 pub mod Network
 pub mod Options
+pub mod Over
 pub mod Sound
 pub mod Valid

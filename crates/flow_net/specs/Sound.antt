@@ -1,5 +1,6 @@
 -- What holds of every draft.
-use Rattle.std.specs.Prelude.{◌≡◌, ℕ, ◌*◌, ◌<◌, ◌≤◌, Bool, true, false, List, length, Option, Some, slice_get}
+use Rattle.std.specs.Prelude.{◌≡◌, ℕ, ◌*◌, ◌<◌, ◌≤◌, if◌then◌else◌, Bool, true, false, List, [], ◌∷◌, map, length, take, Option, Some, slice_get}
+use Rattle.std.specs.List.{sum_by}
 use Rattle.std.specs.Option.{option_and_then, option_map}
 use Rattle.flow_net.specs.declared.draft.End.{End}
 use Rattle.flow_net.specs.declared.draft.Binding.TheVariants.{Receives, Sends, Given}
@@ -9,9 +10,10 @@ use Rattle.flow_net.specs.declared.draft.Link.{Link}
 use Rattle.flow_net.specs.declared.kind.KindSpec.{KindSpec}
 use Rattle.flow_net.specs.declared.kind.PortSpec.{PortSpec}
 use Rattle.flow_net.specs.declared.kind.PortClass.TheVariants.{Stream}
-use Rattle.flow_net.specs.Drafts.{Draft, binding_at, is_stream_at}
+use Rattle.flow_net.specs.Drafts.{Draft, binding_at, is_side, is_stream_at}
 use Rattle.flow_net.specs.Calls.{process_at, room_of}
 use Rattle.flow_net.specs.Options.{FitsPort}
+use Rattle.flow_net.specs.Over.{carries}
 
 -- What a builder rests on of a kind: an input port is needed, and so is an array, and there are few of them.
 pub record IsKind (kind : KindSpec) : Type 0 where
@@ -69,6 +71,29 @@ pub record IsLink (link : Link) : Type 0 where
   pub capacity : (n : ℕ) → link.capacity ≡ Some n → (1 ≤ n) × (n ≤ 1024)
   pub senders : length link.senders ≤ 65535
 
+-- 1 for a port on this side of this process, and 0 for another.
+abbrev pub on_side : ℕ → Bool → Port → ℕ
+on_side process input port = if is_side process input port then 1 else 0
+
+-- The entries of the ports on one side of a process, in order.
+abbrev pub entries_of : List Port → ℕ → Bool → List PortSpec
+entries_of [] process input = []
+entries_of (port ∷ ports) process input = if is_side process input port then port.spec ∷ entries_of ports process input else entries_of ports process input
+
+-- Process p has the ports of a kind of this name of the table, on each side and in order.
+pub record HasKindPorts (kinds : List KindSpec) (ports : List Port) (p : ℕ) (called : List ℕ) : Type 0 where
+  pub place : ℕ
+  pub kind : KindSpec
+  pub here : slice_get kinds place ≡ Some kind
+  pub name : called ≡ kind.name
+  pub inputs : entries_of ports p true ≡ kind.inputs
+  pub outputs : entries_of ports p false ≡ map carries kind.outputs
+
+-- Each process has the ports of its kind, and the place of a port is the number of the ports before it on its side of its process.
+pub record IsShaped (kinds : List KindSpec) (processes : List Begun) (ports : List Port) : Type 0 where
+  pub each : (p : ℕ) (begun : Begun) → slice_get processes p ≡ Some begun → HasKindPorts kinds ports p begun.kind
+  pub places : (g : ℕ) (port : Port) → slice_get ports g ≡ Some port → port.place ≡ sum_by (on_side port.process port.input) (take g ports)
+
 -- What holds of every draft.
 pub record IsSound (draft : Draft) : Type 0 where
   pub kinds : (k : ℕ) (kind : KindSpec) → slice_get draft.kinds k ≡ Some kind → IsKind kind
@@ -81,3 +106,4 @@ pub record IsSound (draft : Draft) : Type 0 where
   pub links : (c : ℕ) (link : Link) → slice_get draft.links c ≡ Some link → IsLink link
   pub listed : IsListed draft.ports draft.processes draft.links
   pub sided : IsSided draft.ports draft.processes draft.links
+  pub shaped : IsShaped draft.kinds draft.processes draft.ports
