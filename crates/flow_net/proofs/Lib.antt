@@ -20,4 +20,8 @@ pub mod PortNames
 pub mod Laying
 pub mod KindTables
 pub mod Wholes
+pub mod Rows
+pub mod OptionTexts
+pub mod PlanOptions
+pub mod Overs
 pub mod Validity

@@ -35,11 +35,9 @@ use Rattle.flow_net.proofs.Placed.{capacity_of-small}
 use Rattle.flow_net.proofs.PortNames.{slice_get-left, slice_get-right}
 use Rattle.flow_net.proofs.Laying.{LaidOut-plan, row-count}
 use Rattle.flow_net.proofs.Numbers.{number_at, number-within, number-same, Numbered, number-each}
+use Rattle.flow_net.proofs.Rows.{mapped}
+use Rattle.flow_net.proofs.PlanOptions.{HasOptions-plan, HasRows-plan}
 use Rattle.flow_net.proofs.Wholes.{Located, Located-bound, each_bound, no_fault}
-
--- an element of a mapped list comes from one of the list
-mapped : {A B : Type 0} (f : A → B) (xs : List A) (i : ℕ) (y : B) → slice_get (map f xs) i ≡ Some y → (x : A) × (slice_get xs i ≡ Some x) × (f x ≡ y)
-mapped f xs i y is = map_some f (slice_get xs i) y (sym (slice_get-map f xs i) ∙ is)
 
 -- a text at a stream port is an initial text of its number
 initial_there : (ports : List Port) (texts : List (End × List ℕ)) (k : ℕ) (end : End) (text : List ℕ) → slice_get texts k ≡ Some (end, text) → is_stream_at ports end ≡ true → (m : ℕ) × (slice_get (initials_of ports texts) m ≡ Some (number_of ports end, text))
@@ -482,6 +480,8 @@ module _ (draft : Draft) (sound : IsSound draft) (u : Unit {0}) (whole : draft_f
     few_senders = few_senders;
     capacity_sum = capacity_sum;
     short = short;
+    options = HasOptions-plan draft sound ports_whole.0 ports_whole.1;
+    rows = HasRows-plan draft sound ports_whole.0 ports_whole.1;
   }
 
 -- a network that was made of the parts of a sound draft without a fault is valid

@@ -1,5 +1,5 @@
 -- What makes a network a valid plan.
-use Rattle.std.specs.Prelude.{◌≡◌, ◌⊎◌, ℕ, ◌≤◌, Bool, true, List, map, length, Some, slice_get}
+use Rattle.std.specs.Prelude.{◌≡◌, ◌⊎◌, ℕ, ◌≤◌, Bool, true, false, List, map, length, Some, slice_get}
 use Rattle.std.specs.List.{flat_map, sum_by}
 use Rattle.flow_net.specs.declared.kind.PortRef.{PortRef}
 use Rattle.flow_net.specs.declared.plan.Sender.{Sender}
@@ -7,7 +7,8 @@ use Rattle.flow_net.specs.declared.plan.Process.{Process}
 use Rattle.flow_net.specs.declared.plan.Connection.{Connection}
 use Rattle.flow_net.specs.declared.plan.PortRow.{PortRow}
 use Rattle.flow_net.specs.declared.plan.PortTable.{PortTable}
-use Rattle.flow_net.specs.Network.{Network, LaidOut, HasInput, HasOutput, elements_of}
+use Rattle.flow_net.specs.Network.{Network, LaidOut, HasInput, HasOutput, elements_of, is_stream}
+use Rattle.flow_net.specs.Options.{IsOfClass}
 
 -- Input i of process p receives from a connection.
 pub record HasConnection (n : Network) (p i : ℕ) : Type 0 where
@@ -43,8 +44,47 @@ pub record NeedsOutput (n : Network) (p o : ℕ) : Type 0 where
   pub here : slice_get n.tables p ≡ Some table
   pub needed : slice_get (needs_of table.outputs) o ≡ Some true
 
+-- The input port at place i in the table of process p is an option port.
+pub record HasOptionPort (n : Network) (p i : ℕ) : Type 0 where
+  pub table : PortTable
+  pub row : PortRow
+  pub here : slice_get n.tables p ≡ Some table
+  pub at : slice_get table.inputs i ≡ Some row
+  pub option : is_stream row.spec.class ≡ false
+
+-- Process p has an option for the port at place i.
+pub record HasOption (n : Network) (p i : ℕ) : Type 0 where
+  pub process : Process
+  pub place : ℕ
+  pub text : List ℕ
+  pub here : slice_get n.processes p ≡ Some process
+  pub given : slice_get process.options place ≡ Some (i, text)
+
+-- A text that may be an option of process p for the port at place i: an option port stands there, and the text is of its class and isn't too long.
+pub record FitsOption (n : Network) (p i : ℕ) (text : List ℕ) : Type 0 where
+  pub port : HasOptionPort n p i
+  pub class : IsOfClass port.row.spec.class text
+  pub short : length text ≤ 1048576
+
+-- Each option fits an option port, and each option port has an option, and no second one unless it is an array.
+pub record HasOptions (n : Network) : Type 0 where
+  pub fits : (p k i : ℕ) (x : Process) (text : List ℕ) → slice_get n.processes p ≡ Some x → slice_get x.options k ≡ Some (i, text) → FitsOption n p i text
+  pub each_option : (p i : ℕ) → HasOptionPort n p i → HasOption n p i
+  pub one_option : (p k l i : ℕ) (x : Process) (text other : List ℕ) (port : HasOptionPort n p i) → port.row.spec.array ≡ false → slice_get n.processes p ≡ Some x → slice_get x.options k ≡ Some (i, text) → slice_get x.options l ≡ Some (i, other) → k ≡ l
+
+-- An array has from 1 to 512 elements, and every other port has 1.
+pub record IsRow (row : PortRow) : Type 0 where
+  pub array : row.spec.array ≡ true → (1 ≤ row.elements) × (row.elements ≤ 512)
+  pub single : row.spec.array ≡ false → row.elements ≡ 1
+
+-- Each row of each table has its elements.
+pub record HasRows (n : Network) : Type 0 where
+  pub inputs : (p i : ℕ) (table : PortTable) (row : PortRow) → slice_get n.tables p ≡ Some table → slice_get table.inputs i ≡ Some row → IsRow row
+  pub outputs : (p o : ℕ) (table : PortTable) (row : PortRow) → slice_get n.tables p ≡ Some table → slice_get table.outputs o ≡ Some row → IsRow row
+
 -- A valid plan: names differ; each input has one connection or one text, and not both; each output sends to one connection at most, and to one where it is
--- needed; every connection and every sender names an input or an output that is there; and all is within its limits.
+-- needed; every connection and every sender names an input or an output that is there; each option port has its option, and each port its elements; and all is
+-- within its limits.
 pub record IsValid (n : Network) : Type 0 where
   pub names : (p q : ℕ) (x y : Process) → slice_get n.processes p ≡ Some x → slice_get n.processes q ≡ Some y → x.name ≡ y.name → p ≡ q
   pub laid_out : LaidOut n.processes n.tables
@@ -62,3 +102,5 @@ pub record IsValid (n : Network) : Type 0 where
   pub few_senders : (c : ℕ) (x : Connection) → slice_get n.connections c ≡ Some x → length x.senders ≤ 65535
   pub capacity_sum : sum_by (λ (x : Connection). x.capacity) n.connections ≤ 65536
   pub short : (p k i : ℕ) (x : Process) (text : List ℕ) → slice_get n.processes p ≡ Some x → slice_get x.initials k ≡ Some (i, text) → length text ≤ 1048576
+  pub options : HasOptions n
+  pub rows : HasRows n

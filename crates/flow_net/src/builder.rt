@@ -6,6 +6,7 @@ ghost use Rattle.flow_net.specs.Initials.{AfterInitial};
 ghost use Rattle.flow_net.specs.Finishes.{finished};
 ghost use Rattle.flow_net.specs.Kinds.{is_table};
 ghost use Rattle.flow_net.specs.Valid.{IsValid};
+ghost use Rattle.flow_net.specs.Over.{IsOver};
 
 use crate::draft::{Begun, Link, Port};
 use crate::fault::{PlanFault, PlanStop};
@@ -131,6 +132,7 @@ impl PlanBuilder {
     pub fn finish(self) -> Result<Plan, PlanStop>
         ensures plan { Answers (finished self) result }
         ensures valid { IfOk result IsValid }
+        ensures over { IfOk result (IsOver self.kinds) }
     {
         let alloc = self.alloc;
         let processes = self.processes.as_slice();

@@ -2,9 +2,12 @@ use Rattle.std.proofs.Common.{◌≡◌, Ok, ◌∙◌, ap, sym, subst, List, le
 use Rattle.flow_net.specs.declared.draft.Port.{Port}
 use Rattle.flow_net.specs.declared.draft.Link.{Link}
 use Rattle.flow_net.specs.declared.draft.Begun.{Begun}
+use Rattle.flow_net.specs.Drafts.{Draft}
+use Rattle.flow_net.specs.Over.{IsOver}
 use Rattle.flow_net.specs.Sound.{IsPlaced, into_of, sender_at, text_at}
 use Rattle.flow_net.specs.Finishes.{count_of, process_of, table_of, connection_of, first_fault, sum_fault}
 use Rattle.flow_net.proofs.Validity.{IsValid-made}
+use Rattle.flow_net.proofs.Overs.{IsOver-made}
 use Rattle.flow_net.proofs.Placed.{counts-few, capacity_of-small, into-placed, sender-placed, text-placed}
 use Rattle.flow_net.proofs.builder.PlanBuilder.finish.Goals as goal
 
@@ -70,3 +73,13 @@ returns-clause-valid c =
     rw (sym c.as_slice-processes.ensures.value, sym c.as_slice-ports.ensures.value) c.in_ok-tables.ensures in
     IsValid-made (record { kinds = c.self.inside.kinds.items; processes = c.self.inside.processes.items; ports = c.self.inside.ports.items; links = c.self.inside.links.items })
     c.in_ok-check_ports.field-0 c.in_ok-check_sum.field-0 c.in_ok-processes.field-0.items c.in_ok-connections.field-0.items c.in_ok-tables.field-0.items c.self.invariant first sum processes connections tables
+
+pub returns-clause-over : goal.returns-clause-over
+returns-clause-over c =
+    let processes : c.in_ok-processes.field-0.items ≡ map (process_of c.self.inside.ports.items) c.self.inside.processes.items =
+    rw (sym c.as_slice-processes.ensures.value, sym c.as_slice-ports.ensures.value) c.in_ok-processes.ensures in
+    let tables : c.in_ok-tables.field-0.items ≡ map (table_of c.self.inside.ports.items) c.self.inside.processes.items =
+    rw (sym c.as_slice-processes.ensures.value, sym c.as_slice-ports.ensures.value) c.in_ok-tables.ensures in
+    subst (λ (d : Draft). IsOver d.kinds (record { processes = c.in_ok-processes.field-0.items; connections = c.in_ok-connections.field-0.items; tables = c.in_ok-tables.field-0.items })) c.self.view_is
+    (IsOver-made (record { kinds = c.self.inside.kinds.items; processes = c.self.inside.processes.items; ports = c.self.inside.ports.items; links = c.self.inside.links.items })
+    c.in_ok-processes.field-0.items c.in_ok-connections.field-0.items c.in_ok-tables.field-0.items c.self.invariant processes tables)
