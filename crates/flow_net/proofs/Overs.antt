@@ -1,6 +1,5 @@
 -- The processes of the plan of a sound draft are of the draft's kinds.
 use Rattle.std.proofs.Common.{◌≡◌, ℕ, List, Some, true, false, map, ap, sym, ◌∙◌, slice_get}
-use Rattle.flow_net.specs.declared.draft.Begun.{Begun}
 use Rattle.flow_net.specs.declared.plan.Process.{Process}
 use Rattle.flow_net.specs.declared.plan.Connection.{Connection}
 use Rattle.flow_net.specs.declared.plan.PortTable.{PortTable}

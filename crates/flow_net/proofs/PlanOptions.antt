@@ -1,5 +1,5 @@
 -- The options and the rows of the plan of a sound draft without a fault.
-use Rattle.std.proofs.Common.{◌≡◌, ℕ, ◌+◌, ◌<◌, ◌≤◌, List, Option, Some, Ok, Bool, true, false, map, refl, ap, sym, ◌∙◌, subst, slice_get, length, take, arith}
+use Rattle.std.proofs.Common.{◌≡◌, ℕ, ◌<◌, ◌≤◌, List, Option, Some, Ok, Bool, true, false, map, ap, sym, ◌∙◌, subst, slice_get, length, take, arith}
 use Rattle.std.specs.Prelude.{◌==◌, ◌&&◌, if◌then◌else◌}
 use Rattle.std.specs.Option.{option_map, option_map_or, option_and_then}
 use Rattle.std.specs.List.{sum_by}
@@ -18,7 +18,7 @@ use Rattle.flow_net.specs.Drafts.{Draft, binding_at, is_free, is_side, is_stream
 use Rattle.flow_net.specs.Calls.{process_at, room_of}
 use Rattle.flow_net.specs.Options.{IsOfClass, FitsPort}
 use Rattle.flow_net.specs.Sound.{IsSound, on_side, text_at, is_input_at}
-use Rattle.flow_net.specs.Finishes.{first_fault, name_of, place_at, options_of, process_of, plan_of, row_of, rows_of, table_of}
+use Rattle.flow_net.specs.Finishes.{first_fault, name_of, place_at, process_of, plan_of, row_of, rows_of, table_of}
 use Rattle.flow_net.specs.Valid.{HasOptionPort, HasOption, FitsOption, HasOptions, IsRow, HasRows}
 use Rattle.flow_net.proofs.Wiring.{same_end}
 use Rattle.flow_net.proofs.Steps.{map_some, then_some}
@@ -27,7 +27,7 @@ use Rattle.flow_net.proofs.Sides.{eqb_refl}
 use Rattle.flow_net.proofs.Numbers.{number-same}
 use Rattle.flow_net.proofs.Wholes.{IsBound, each_bound, no_fault}
 use Rattle.flow_net.proofs.Rows.{mapped, FromPort, row_from, row_there, IsRow-of, IsRow-some}
-use Rattle.flow_net.proofs.OptionTexts.{option_there, FromOption, option_from, option_once}
+use Rattle.flow_net.proofs.OptionTexts.{option_there, option_from, option_once}
 
 -- A text at an option port of a process: the port stands at this place in the process's inputs, and the text is of its class.
 record AtOption (draft : Draft) (p i k : ℕ) (end : End) (text : List ℕ) : Type 0 where

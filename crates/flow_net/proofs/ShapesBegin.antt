@@ -2,7 +2,6 @@
 use Rattle.std.proofs.Common.{◌≡◌, ◌≢◌, ℕ, ◌+◌, ◌<◌, List, [], ◌∷◌, ◌++◌, Some, Bool, true, false, map, refl, ap, sym, ◌∙◌, subst, zero, suc, inl, inr, ◌⊎◌, slice_get, length, take, arith}
 use Rattle.std.specs.Prelude.{◌==◌, ◌&&◌, if◌then◌else◌}
 use Rattle.std.specs.List.{sum_by}
-use Rattle.std.proofs.lemmas.Bool.{false≢true}
 use Rattle.std.proofs.lemmas.List.{append-nil}
 use Rattle.std.proofs.lemmas.List.Sums.{sum_by-cons, sum_by-append}
 use Rattle.std.proofs.lemmas.Option.{slice_get_within}
@@ -101,7 +100,6 @@ module _ (kinds : List KindSpec) (processes : List Begun) (ports : List Port) (n
     (here : slice_get kinds place ≡ Some kind)
     (shaped : IsShaped kinds processes ports)
     (old_process : (g : ℕ) (port : Port) → slice_get ports g ≡ Some port → port.process < length processes) where
-
   -- no new port is of another process
   elsewhere : (p : ℕ) (s : Bool) → length processes ≢ p → (g : ℕ) (port : Port) → slice_get (fresh_ports (length processes) true 0 kind.inputs ++ fresh_ports (length processes) false 0 kind.outputs) g ≡ Some port → is_side p s port ≡ false
   elsewhere p s ne g port is = other_process port p s (λ e. ne (sym owner ∙ e))
