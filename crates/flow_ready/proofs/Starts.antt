@@ -1,0 +1,96 @@
+-- A valid plan with parts that fit starts well.
+use Rattle.std.proofs.Common.{◌≡◌, ℕ, zero, suc, ◌+◌, ◌<◌, Bool, List, [], ◌∷◌, length, map, Some, refl, sym, ◌∙◌, ap, subst, arith}
+use Rattle.std.specs.Prelude.{IsSome, slice_get}
+use Rattle.std.specs.declared.option.Option.{Option}
+use Rattle.std.specs.Option.{option_and_then}
+use Rattle.std.specs.List.{range_with_len}
+use Rattle.std.proofs.lemmas.List.{length-map}
+use Rattle.flow_packet.specs.Held.{Held}
+use Rattle.flow_component.specs.declared.Answer.{Answer}
+use Rattle.flow_component.specs.declared.Shape.{Shape}
+use Rattle.flow_net.specs.declared.plan.Process.{Process as NetProcess}
+use Rattle.flow_net.specs.Network.{Network, HasOutput}
+use Rattle.flow_net.specs.Valid.{IsValid, HasSender}
+use Rattle.flow_model.specs.States.{Process}
+use Rattle.flow_model.specs.Plans.{Plan, PlanProcess, input_at, sends_at, process_at_start, processes_at_start, FitsProcess, StartsWell}
+use Rattle.flow_machine.specs.PlanOf.{plan_of, process_of}
+use Rattle.flow_ready.specs.Ready.{PartFits, PartsFit}
+use Rattle.flow_ready.proofs.Lookups.{mapped, same-there}
+use Rattle.flow_ready.proofs.Wired.{sends-there, valid-wired}
+
+-- A process of the start, with its place in the plan and its part.
+record IsStarted {K : Type 0} (plan : Plan) (p : ℕ) (xs : List PlanProcess) (parts : List K) (k : ℕ) (z : Process K) : Type 0 where
+  spec : PlanProcess
+  part : K
+  spec_there : slice_get xs k ≡ Some spec
+  part_there : slice_get parts k ≡ Some part
+  is : process_at_start plan (p + k) spec part ≡ z
+
+started : {K : Type 0} (plan : Plan) (p : ℕ) (xs : List PlanProcess) (parts : List K) (k : ℕ) (z : Process K) → slice_get (processes_at_start plan p xs parts) k ≡ Some z → IsStarted plan p xs parts k z
+started plan p [] parts k z is = absurd cc
+started plan p (x ∷ xs) [] k z is = absurd cc
+started plan p (x ∷ xs) (part ∷ parts) zero z is =
+    let here : process_at_start plan p x part ≡ z = cc in
+    let first : p + zero ≡ p = omega arith in
+    record { spec = x; part = part; spec_there = refl; part_there = refl; is = ap (λ (m : ℕ). process_at_start plan m x part) first ∙ here }
+started plan p (x ∷ xs) (part ∷ parts) (suc k) z is =
+    let rest = started plan (p + 1) xs parts k z is in
+    let later : p + suc k ≡ p + 1 + k = omega arith in
+    record {
+      spec = rest.spec;
+      part = rest.part;
+      spec_there = rest.spec_there;
+      part_there = rest.part_there;
+      is = ap (λ (m : ℕ). process_at_start plan m rest.spec rest.part) later ∙ rest.is;
+    }
+
+length-ports : {A : Type 0} (f : ℕ → A) (k n : ℕ) → length (map f (range_with_len k n)) ≡ n
+length-ports f k zero = refl
+length-ports f k (suc n) = omega (arith, length-ports f (k + 1) n)
+
+port-at : {A : Type 0} (f : ℕ → A) (k n i : ℕ) → i < n → slice_get (map f (range_with_len k n)) i ≡ Some (f (k + i))
+port-at f k zero i within = absurd (omega arith)
+port-at f k (suc n) zero within = let first : k ≡ k + zero = omega arith in ap (λ m. Some (f m)) first
+port-at f k (suc n) (suc i) within =
+    let later : k + 1 + i ≡ k + suc i = omega arith in
+    port-at f (k + 1) n i (omega arith) ∙ ap (λ m. Some (f m)) later
+
+-- the connection of a port that is there
+port-sends : (plan : Plan) (p outputs o : ℕ) → o < outputs → IsSome (sends_at plan p o)
+    → IsSome (option_and_then (λ (found : Option ℕ). found) (slice_get (map (sends_at plan p) (range_with_len 0 outputs)) o))
+port-sends plan p outputs o within some =
+    let number : o ≡ 0 + o = omega arith in
+    subst (λ (found : Option (Option ℕ)). IsSome (option_and_then (λ (c : Option ℕ). c) found)) (sym (port-at (sends_at plan p) 0 outputs o within))
+    (subst (λ (m : ℕ). IsSome (sends_at plan p m)) number some)
+
+module _ {K : Type 0} (shape_of : K → Shape) (uses : K → ℕ → Bool) (ready : K → Held → Answer → Type 0) (network : Network) where
+  -- an output that is a sender of a connection is one of its process
+  sender-within : IsValid network → (p o : ℕ) (process : NetProcess) → slice_get network.processes p ≡ Some process → HasSender network p o → o < process.outputs
+  sender-within valid p o process there has =
+      let output : HasOutput network p o = valid.senders has.number has.place has.connection (record { process = p; output = o }) has.here has.sender in
+      subst (λ (x : NetProcess). o < x.outputs) (same-there network.processes p output.0 process output.1 there) output.2
+
+  fits-start : IsValid network → (p : ℕ) (process : NetProcess) (part : K) → slice_get network.processes p ≡ Some process → PartFits shape_of uses ready network p process part
+      → FitsProcess shape_of uses ready part (process_at_start (plan_of network) p (process_of process) part)
+  fits-start valid p process part there fits = record {
+    inputs = fits.inputs ∙ sym (length-ports (input_at (plan_of network) p (process_of process)) 0 process.inputs);
+    outputs = fits.outputs ∙ sym (length-ports (sends_at (plan_of network) p) 0 process.outputs);
+    used = λ o used.
+        let has = fits.used o used in
+        port-sends (plan_of network) p process.outputs o (sender-within valid p o process there has) (sends-there network p o has);
+    can_start = fits.can_start;
+  }
+
+  pub starts-well : (parts : List K) → IsValid network → PartsFit shape_of uses ready network parts → StartsWell shape_of uses ready (plan_of network) parts
+  starts-well parts valid fit = record {
+    wired = valid-wired network valid;
+    one_each = fit.one_each ∙ sym (length-map network.processes process_of);
+    fit = λ p z here.
+        let s = started (plan_of network) 0 (map process_of network.processes) parts p z here in
+        let process = mapped process_of network.processes p s.spec s.spec_there in
+        let number : p ≡ 0 + p = omega arith in
+        let is : process_at_start (plan_of network) p (process_of process.0) s.part ≡ z =
+        ap (λ (x : PlanProcess). process_at_start (plan_of network) p x s.part) process.2 ∙ ap (λ (m : ℕ). process_at_start (plan_of network) m s.spec s.part) number ∙ s.is in
+        subst (λ (x : Process K). FitsProcess shape_of uses ready x.part x) is
+        (fits-start valid p process.0 s.part process.1 (fit.fit p process.0 s.part process.1 s.part_there));
+  }
