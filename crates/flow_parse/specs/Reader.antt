@@ -19,7 +19,7 @@ use Rattle.flow_parse.specs.declared.fault.Reason.TheVariants as reasons
 
 -- The part has read these lines.
 pub record IsPart (part : Part) (lines : Lines) : Type 0 where
-  pub known : part.known.items ≡ processes_in (mentions_in lines)
+  pub known : part.known ≡ processes_in (mentions_in lines)
   pub statements : part.statements.items ≡ statements_in lines
 
 -- The subnet that has begun has read these lines, or none has begun.
@@ -32,7 +32,7 @@ IsOpen _ _ = ⊥
 pub record HasRead (reader : Reader) (parts : Parts) : Type 0 where
   pub headed : reader.headed ≡ true
   pub main : IsPart reader.main parts.main
-  pub subnets : reader.subnets.items ≡ map (λ s. (s.0, value_of s.1)) parts.subnets
+  pub subnets : reader.subnets ≡ map (λ s. (s.0, value_of s.1)) parts.subnets
   pub open_part : IsOpen reader.open_part parts.open_part
   pub count : reader.statements ≡ statement_count parts
   pub within : reader.statements ≤ 4096
@@ -80,7 +80,7 @@ AddsLine old n form new false = (lines : Lines) → IsPart old lines → kinds_a
 pub record HasParts (reader : Reader) (parts : Parts) : Type 0 where
   pub headed : reader.headed ≡ true
   pub main : IsPart reader.main parts.main
-  pub subnets : reader.subnets.items ≡ map (λ s. (s.0, value_of s.1)) parts.subnets
+  pub subnets : reader.subnets ≡ map (λ s. (s.0, value_of s.1)) parts.subnets
   pub open_part : IsOpen reader.open_part parts.open_part
 
 -- Adding a line to the part that it belongs to: false where a process gets a second kind.

@@ -4,6 +4,7 @@ ghost use Rattle.flow_parse.specs.declared.value.NetText.{NetText};
 ghost use Rattle.flow_parse.specs.declared.fault.NetFault.{NetFault};
 ghost use Rattle.flow_parse.specs.Files.{LeadsTo, Spells, Refused};
 ghost use Rattle.flow_parse.specs.Reader.{Gives, IfFault};
+ghost use Rattle.flow_parse.specs.Values.{IsNetText};
 
 use crate::fault::ParseStop;
 use crate::reader::Reader;
@@ -26,6 +27,8 @@ fn read_lines(alloc: Global, lines: &[Vec<u8>]) -> Result<NetText, ParseStop>
 pub fn parse(alloc: Global, bytes: &[u8]) -> Result<NetText, ParseStop>
     // A value is one that the bytes spell.
     ensures spelled { IfOk result (λ value. Spells bytes.now value) }
+    // A value is a valid one.
+    ensures valid { IfOk result IsNetText }
     // A fault is one that they are refused for.
     ensures refused { IfErr result (λ stop. IfFault stop (λ fault. Refused bytes.now fault)) }
     // Where they spell a value, it is the answer, unless memory runs out.

@@ -6,8 +6,7 @@ ghost use Rattle.flow_parse.specs.Table.{Adds, table_with, mentioned};
 
 use crate::form::{Form, Mention, Port};
 use crate::name::{capacity, element};
-use crate::part::Known;
-use crate::table::mention;
+use crate::table::Processes;
 use crate::value::Statement;
 use flow_items::Text;
 use flow_net::PortRef;
@@ -60,31 +59,31 @@ fn room_of(word: Option<Text>) -> Option<u32>
 
 fn add_one(
     alloc: Global,
-    known: &mut Vec<Known>,
+    known: &mut Processes,
     line: u64,
     of: &Mention,
 ) -> Result<bool, AllocError>
-    ensures { IfOk result (λ fine. Adds (mentioned known.old.items line of.now) known.new.items fine) }
+    ensures { IfOk result (λ fine. Adds (mentioned known.old line of.now) known.new fine) }
 {
     let copy = copy_mention(alloc, of)?;
-    mention(known, line, copy)
+    known.mention(alloc, line, copy)
 }
 
 /// Adds what a form mentions to a table. False where a process gets a second kind.
 pub fn add_mentions(
     alloc: Global,
-    known: &mut Vec<Known>,
+    known: &mut Processes,
     line: u64,
     form: &Form,
 ) -> Result<bool, AllocError>
-    ensures { IfOk result (λ fine. Adds (table_with known.old.items line (mentions_of form.now)) known.new.items fine) }
+    ensures { IfOk result (λ fine. Adds (table_with known.old line (mentions_of form.now)) known.new fine) }
 {
     match form {
         Form::Process { name, kind } => {
             let name = name.copy(alloc)?;
             let kind = kind.copy(alloc)?;
-            mention(
-                known,
+            known.mention(
+                alloc,
                 line,
                 Mention {
                     name,

@@ -3,6 +3,8 @@ ghost use Rattle.std.specs.Prelude.{◌≡◌, ℕ, List, [], ◌∷◌, ◌++�
 ghost use Rattle.std.specs.Fmt.{decimal};
 ghost use Rattle.std.specs.List.{flat_map};
 ghost use Rattle.flow_parse.specs.Spelling.{doubled, spelling};
+ghost use Rattle.flow_parse.specs.Files.{Spells};
+ghost use Rattle.flow_parse.specs.Values.{IsNetText};
 ghost use Rattle.flow_parse.specs.Canonical.{port_piece, process_line, statement_line, part_lines, subnet_lines, canonical};
 ghost use Rattle.flow_parse.specs.declared.value.Statement.TheVariants.{Connect, Initial, InPort, OutPort};
 
@@ -205,7 +207,9 @@ fn put_subnets(out: &mut Vec<u8>, subnets: &[(Text, NetPart)]) -> Result<(), All
 /// The one canonical spelling of a value: `flow 1`, then each subnet, then the main part. A part has a line
 /// for each process with its kind, and then its statements. The spelling is this project's own.
 pub fn print(alloc: Global, text: &NetText) -> Result<Vec<u8>, AllocError>
-    ensures { IfOk result (λ bytes. bytes.items ≡ canonical text.now) }
+    ensures canonical { IfOk result (λ bytes. bytes.items ≡ canonical text.now) }
+    // The spelling of a valid value spells that value.
+    ensures spells { IsNetText text.now → IfOk result (λ bytes. Spells bytes.items text.now) }
 {
     let mut out = Vec::new(alloc);
     out.extend_from_slice(b"flow 1\n")?;

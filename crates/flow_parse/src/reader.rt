@@ -1,7 +1,5 @@
 //! A file as far as it is read, line by line.
 ghost use Rattle.std.specs.Prelude.{◌≡◌, [], ⊤, IfOk, length, Option, if◌then◌else◌};
-ghost use Rattle.std.specs.Str.{bytes_eq};
-ghost use Rattle.std.specs.List.{list_any};
 ghost use Rattle.flow_parse.specs.Files.{at_end, may_stand, text_fits, Parts, statements_of, IsAdded};
 ghost use Rattle.flow_parse.specs.Reader.{Stands, Reads, Gives, IsPart, HasRead, AddsLine, Finishes, Passes, Takes, RefusesFor, StopsAs, Heeds, is_header, AddsNow};
 
@@ -11,9 +9,9 @@ use crate::line::read_line;
 use crate::name::{named, numbered};
 use crate::part::Known;
 use crate::pieces::{add_mentions, add_statement};
-use crate::same::is;
 use crate::stop::LineStop;
-use crate::table::kindless;
+use crate::subnets::Subnets;
+use crate::table::{Processes, kindless};
 use crate::value::{NetPart, NetText, Statement};
 use flow_items::{Items, Text};
 use std::alloc::{AllocError, Global};
@@ -25,7 +23,7 @@ const MOST_STATEMENTS: usize = 4096;
 /// A part as far as it is read.
 #[derive(Drop)]
 pub struct Part {
-    pub known: Vec<Known>,
+    pub known: Processes,
     pub statements: Vec<Statement>,
 }
 
@@ -42,7 +40,7 @@ pub struct OpenPart {
 pub struct Reader {
     pub headed: bool,
     pub main: Part,
-    pub subnets: Vec<(Text, NetPart)>,
+    pub subnets: Subnets,
     pub open_part: Option<OpenPart>,
     pub statements: usize,
 }
@@ -82,18 +80,12 @@ fn is_the_header(form: &Form) -> bool
     matches!(form, Form::Header)
 }
 
-fn is_used(subnets: &[(Text, NetPart)], name: &[u8]) -> bool
-    ensures { result ≡ list_any (λ s. bytes_eq s.0 name.now) subnets.now }
-{
-    subnets.iter().any(|s| is(&s.0, name))
-}
-
 impl Part {
     fn new(alloc: Global) -> Part
         ensures { IsPart result [] }
     {
         Part {
-            known: Vec::new(alloc),
+            known: Processes::new(alloc),
             statements: Vec::new(alloc),
         }
     }
@@ -118,7 +110,7 @@ impl Part {
             return Ok(Err(line));
         }
         let mut processes = Items::new(alloc);
-        'processes: for process in known {
+        'processes: for process in known.into_rows() {
             let Known {
                 line: _,
                 name,
@@ -144,7 +136,7 @@ impl Reader {
         Reader {
             headed: false,
             main: Part::new(alloc),
-            subnets: Vec::new(alloc),
+            subnets: Subnets::new(alloc),
             open_part: None,
             statements: 0,
         }
@@ -174,7 +166,7 @@ impl Reader {
     fn open(&mut self, alloc: Global, line: u64, name: Text) -> Result<(), ParseStop>
         ensures { Takes (λ parts. Passes parts (Form.Subnet name)) self.old line (Form.Subnet name) self.new result }
     {
-        if is_used(self.subnets.as_slice(), name.as_slice()) {
+        if self.subnets.has(name.as_slice()) {
             return stop(line, Reason::Subnet);
         }
         self.open_part = Some(OpenPart {
@@ -198,7 +190,7 @@ impl Reader {
         } = open;
         match part.finish(alloc)? {
             Ok(part) => {
-                self.subnets.push((name, part))?;
+                self.subnets.push(alloc, name, part)?;
                 Ok(())
             }
             Err(first) => stop(first, Reason::Kind),
@@ -371,7 +363,7 @@ impl Reader {
         match main.finish(alloc)? {
             Ok(main) => Ok(NetText {
                 version: 1,
-                subnets: Items::of(subnets),
+                subnets: Items::of(subnets.into_rows()),
                 main,
             }),
             Err(line) => Err(ParseStop::Fault(NetFault {

@@ -1,40 +1,121 @@
 //! The table of a part's processes.
-ghost use Rattle.std.specs.Prelude.{◌≡◌, IfOk, OnErr, MatchOption, length};
+ghost use Rattle.std.specs.Prelude.{◌≡◌, [], ◌∷◌, ◌++◌, IfOk, OnOk, OnErr, MatchOption, None, ◌<◌, length, map};
 ghost use Rattle.std.specs.List.{position};
 ghost use Rattle.std.specs.Str.{bytes_eq};
-ghost use Rattle.flow_parse.specs.Table.{Adds, mentioned};
+ghost use Rattle.flow_parse.specs.Table.{Adds, mentioned, kind_given};
 ghost use Rattle.flow_parse.specs.Files.{kindless_line};
 
 use crate::form::Mention;
+use crate::names::Names;
 use crate::part::Known;
 use crate::same::is;
 use flow_items::Text;
-use std::alloc::AllocError;
+use std::alloc::{AllocError, Global};
+use std::marker::Model;
 
-fn place_of(known: &[Known], name: &[u8]) -> Option<usize>
-    ensures { result ≡ position (λ p. bytes_eq p.name name.now) known.now }
-{
-    known.iter().position(|p| is(&p.name, name))
+/// A part's processes in the order of their first mention, and the place of each under its name.
+#[derive(Drop)]
+pub struct Processes {
+    rows: Vec<Known>,
+    names: Names,
 }
 
-/// Adds a mention. False where it gives a process a second kind.
-pub fn mention(known: &mut Vec<Known>, line: u64, mention: Mention) -> Result<bool, AllocError>
-    ensures { IfOk result (λ fine. Adds (mentioned known.old.items line mention) known.new.items fine) }
+impl Model for Processes {
+    ghost use Rattle.std.specs.Prelude.{◌≡◌, ℕ, List};
+    ghost use Rattle.std.specs.Str.{bytes_eq};
+    ghost use Rattle.std.specs.List.{position};
+    ghost use Rattle.flow_parse.specs.declared.part.Known.{Known};
+    ghost use Rattle.flow_parse.specs.Places.{place_in};
+
+    ghost Value = { List Known };
+
+    ghost view = { λ p. p.rows.items };
+
+    // The place of a name is the one that going over the rows gives.
+    ghost invariant = { λ p. (name : List ℕ) → place_in p.names.places name ≡ position (λ row. bytes_eq row.name name) p.rows.items };
+}
+
+impl Processes {
+    pub fn new(alloc: Global) -> Processes
+        ensures { result ≡ [] }
+    {
+        Processes {
+            rows: Vec::new(alloc),
+            names: Names::new(alloc),
+        }
+    }
+
+    pub fn as_slice(&self) -> &[Known]
+        ensures { result.now ≡ self.now }
+    {
+        self.rows.as_slice()
+    }
+
+    /// The processes as a `Vec`, which stay where they are.
+    pub fn into_rows(self) -> Vec<Known>
+        ensures { result.items ≡ self }
+    {
+        let Processes { rows, names: _ } = self;
+        rows
+    }
+
+    fn push(&mut self, alloc: Global, process: Known) -> Result<(), AllocError>
+        requires { position (λ p. bytes_eq p.name process.name) self.old ≡ None }
+        ensures { OnOk result (self.new ≡ self.old ++ process ∷ []) }
+    {
+        self.rows.reserve(1)?;
+        self.names
+            .put(alloc, process.name.as_slice(), self.rows.len())?;
+        self.rows.push_reserved(process);
+        Ok(())
+    }
+
+    fn place(&self, name: &[u8]) -> Option<usize>
+        ensures { result ≡ position (λ p. bytes_eq p.name name.now) self.now }
+    {
+        self.names.place(name)
+    }
+
+    fn give_kind(&mut self, place: usize, kind: Text) -> bool
+        requires { place < length self.old }
+        ensures { Adds (kind_given self.old place kind) self.new result }
+    {
+        give_kind(&mut self.rows, place, kind)
+    }
+
+    /// Adds a mention. False where it gives a process a second kind.
+    pub fn mention(
+        &mut self,
+        alloc: Global,
+        line: u64,
+        mention: Mention,
+    ) -> Result<bool, AllocError>
+        ensures { IfOk result (λ fine. Adds (mentioned self.old line mention) self.new fine) }
+    {
+        let Mention { name, kind } = mention;
+        let Some(place) = self.place(name.as_slice()) else {
+            self.push(alloc, Known { line, name, kind })?;
+            return Ok(true);
+        };
+        let Some(kind) = kind else {
+            return Ok(true);
+        };
+        Ok(self.give_kind(place, kind))
+    }
+}
+
+/// Gives the process at a place a kind, unless it has another: then the answer is false.
+fn give_kind(known: &mut Vec<Known>, place: usize, kind: Text) -> bool
+    requires { place < length known.old.items }
+    ensures given { Adds (kind_given known.old.items place kind) known.new.items result }
+    ensures names { map (λ p. p.name) known.new.items ≡ map (λ p. p.name) known.old.items }
 {
-    let Mention { name, kind } = mention;
-    let Some(place) = place_of(known.as_slice(), name.as_slice()) else {
-        known.push(Known { line, name, kind })?;
-        return Ok(true);
-    };
-    let Some(kind) = kind else {
-        return Ok(true);
-    };
     let process = &mut known[place];
     if let Some(before) = &process.kind {
-        return Ok(is(before, kind.as_slice()));
+        return is(before, kind.as_slice());
     }
     process.kind = Some(kind);
-    Ok(true)
+    true
 }
 
 /// The line that first mentions a process without a kind.

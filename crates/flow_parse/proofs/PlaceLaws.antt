@@ -1,0 +1,126 @@
+-- A place more in a map of names, and what a table's places are then.
+use Rattle.std.proofs.Common.{◌≡◌, ℕ, zero, suc, ◌+◌, ◌<◌, ◌≤◌, ◌≢◌, eqb, eq-eqb, length-append, Bool, true, false, cond, ltb, List, [], ◌∷◌, ◌++◌, length, get_or, set, map, Option, Some, None, refl, sym, ap, subst, ◌∙◌, arith}
+use Rattle.std.specs.Prelude.{not, is_some, ◌||◌}
+use Rattle.std.proofs.lemmas.Bool.{lt-ltb, le-ltb, ltb-false, eqb-true}
+use Rattle.std.proofs.lemmas.List.{length-map}
+use Rattle.std.proofs.lemmas.List.Folds.{position_or_len_push, list_any-append}
+use Rattle.std.proofs.lemmas.List.Sums.{prefix_len-le-length}
+use Rattle.flow_parse.specs.declared.part.Known.{Known}
+use Rattle.flow_parse.specs.declared.value.NetPart.{NetPart}
+use Rattle.std.specs.Global.{Vec}
+use Rattle.std.specs.Ordering.{is_eq, nat_cmp, eq_by_cmp}
+use Rattle.std.specs.Cmp.{eq_by_cmp_equiv}
+use Rattle.std.specs.Cmp.Lexicographic.{slice_cmp, nat_list_cmp_total}
+use Rattle.std.specs.BTreeMap.{BTreeMap, is_at, get_by, Updates, IsUnchanged}
+use Rattle.std.specs.Map.{lookup, IsKeyTest, AreApart, KeepsOthers}
+use Rattle.std.specs.Str.{bytes_eq}
+use Rattle.std.specs.List.{position, position_or_len, list_any}
+use Rattle.std.proofs.lemmas.Slice.Eq.{bytes_eq-Decides}
+use Rattle.std.proofs.lemmas.Map.Text.{is_eq-slice_cmp}
+use Rattle.flow_parse.specs.Places.{place_in}
+
+turned : (a b : List ℕ) → bytes_eq a b ≡ false → bytes_eq b a ≡ false
+turned a b e = elim (bytes_eq b a) as (λ v. bytes_eq b a ≡ v → v ≡ false) [
+  | true ↦ λ t. let s : b ≡ a = (bytes_eq-Decides b a).0 t in let u : bytes_eq a b ≡ true = (bytes_eq-Decides a b).1 (sym s) in absurd cc
+  | false ↦ λ t. refl
+] refl
+
+apart : (key name other : List ℕ) → bytes_eq key name ≡ false → is_eq (slice_cmp nat_cmp key other) ≡ true → is_eq (slice_cmp nat_cmp name other) ≡ false
+apart key name other differ same =
+    let at : key ≡ other = (bytes_eq-Decides key other).0 (sym (is_eq-slice_cmp key other) ∙ same) in
+    is_eq-slice_cmp name other ∙ turned other name (subst (λ (k : List ℕ). bytes_eq k name ≡ false) at differ)
+
+others : (key name : List ℕ) (old new : List (Vec ℕ × ℕ)) → KeepsOthers (eq_by_cmp (λ (x y : Vec ℕ). slice_cmp nat_cmp x.items y.items)) (λ (k : Vec ℕ). is_eq (slice_cmp nat_cmp key k.items)) old new → bytes_eq key name ≡ false
+    → lookup (λ (k : Vec ℕ). is_eq (slice_cmp nat_cmp name k.items)) new ≡ lookup (λ (k : Vec ℕ). is_eq (slice_cmp nat_cmp name k.items)) old
+unfolding KeepsOthers
+others key name old new keeps differ = keeps (λ (k : Vec ℕ). is_eq (slice_cmp nat_cmp name k.items)) (λ x y. (eq_by_cmp_equiv nat_list_cmp_total).congr name x.items y.items) (λ k e. apart key name k.items differ e)
+
+pub put_place : (m n : BTreeMap (Vec ℕ) ℕ) (key : Vec ℕ) (place : ℕ) → Updates (λ (x y : Vec ℕ). slice_cmp nat_cmp x.items y.items) m n key (Some place)
+    → (name : List ℕ) → place_in n name ≡ cond (bytes_eq key.items name) (Some place) (place_in m name)
+put_place m n key place h name = elim (bytes_eq key.items name) as (λ v. bytes_eq key.items name ≡ v → place_in n name ≡ cond v (Some place) (place_in m name)) [
+  | true ↦ λ e. let s : key.items ≡ name = (bytes_eq-Decides key.items name).0 e in subst (λ (l : List ℕ). place_in n l ≡ Some place) s h.1
+  | false ↦ λ e. others key.items name m.entries n.entries h.3 e
+] refl
+
+place_of : (k n : ℕ) → k < n → cond (ltb k n) (Some k) None ≡ Some k
+place_of k n below = rw (lt-ltb k n below) refl
+
+no_place : (k n : ℕ) → n ≤ k → cond (ltb k n) (Some k) None ≡ None
+no_place k n above = rw (le-ltb k n above) refl
+
+-- the length with one more element
+longer : {X : Type 0} (xs : List X) (x : X) → length (xs ++ x ∷ []) ≡ length xs + 1
+longer xs x = length-append xs (x ∷ [])
+
+pushed_first : {X : Type 0} (p : X → Bool) (xs : List X) (x : X) → p x ≡ true → None ≡ position p xs → position p (xs ++ x ∷ []) ≡ Some (length xs)
+pushed_first p xs x passes none =
+    let k = position_or_len p xs in
+    let at : length xs ≤ k = at_end k (length xs) (sym none) in
+    let le : k ≤ length xs = prefix_len-le-length (λ y. not (p y)) xs in
+    let new : position_or_len p (xs ++ x ∷ []) ≡ length xs = position_or_len_push p xs x ∙ here k (length xs) (p x) (omega arith) passes in
+    ap (λ (i : ℕ). cond (ltb i (length (xs ++ x ∷ []))) (Some i) None) new ∙ place_of (length xs) (length (xs ++ x ∷ [])) (let l = longer xs x in omega arith) where
+      at_end : (k n : ℕ) → cond (ltb k n) (Some k) None ≡ None → n ≤ k
+      at_end k n e = elim (ltb k n) as (λ v. ltb k n ≡ v → cond v (Some k) None ≡ None → n ≤ k) [ true ↦ λ t f. absurd cc | false ↦ λ t f. ltb-false k n t ] refl e
+
+      here : (k n : ℕ) (b : Bool) → k ≡ n → b ≡ true → cond (eqb k n) (n + cond b 0 1) k ≡ n
+      here k n b same passes = rw passes (elim (eqb k n) as (λ v. cond v (n + 0) k ≡ n) [ true ↦ omega arith | false ↦ same ])
+
+differs : (k n : ℕ) → eqb k n ≡ false → k ≡ n → ⊥
+differs k n e s = let t : eqb k n ≡ true = eq-eqb k n s in cc
+
+pushed_other : {X : Type 0} (p : X → Bool) (xs : List X) (x : X) → p x ≡ false → position p (xs ++ x ∷ []) ≡ position p xs
+pushed_other p xs x fails =
+    let k = position_or_len p xs in
+    let le : k ≤ length xs = prefix_len-le-length (λ y. not (p y)) xs in
+    let new : position_or_len p (xs ++ x ∷ []) ≡ cond (eqb k (length xs)) (length xs + 1) k = position_or_len_push p xs x ∙ ap (λ (b : Bool). cond (eqb k (length xs)) (length xs + cond b 0 1) k) fails in
+    ap (λ (i : ℕ). cond (ltb i (length (xs ++ x ∷ []))) (Some i) None) new ∙ ap (λ (n : ℕ). cond (ltb (cond (eqb k (length xs)) (length xs + 1) k) n) (Some (cond (eqb k (length xs)) (length xs + 1) k)) None) (longer xs x) ∙ same k (length xs) le where
+      same : (k n : ℕ) → k ≤ n → cond (ltb (cond (eqb k n) (n + 1) k) (n + 1)) (Some (cond (eqb k n) (n + 1) k)) None ≡ cond (ltb k n) (Some k) None
+      same k n le = elim (eqb k n) as (λ v. eqb k n ≡ v → cond (ltb (cond v (n + 1) k) (n + 1)) (Some (cond v (n + 1) k)) None ≡ cond (ltb k n) (Some k) None) [
+        | true ↦ λ e. let s = eqb-true k n e in no_place (n + 1) (n + 1) (omega arith) ∙ sym (no_place k n (omega arith))
+        | false ↦ λ e. let d : k ≢ n = λ s. differs k n e s in place_of k (n + 1) (omega arith) ∙ sym (place_of k n (omega arith))
+      ] refl
+
+prefix_mapped : {X Y : Type 0} (f : X → Y) (q : Y → Bool) (xs : List X) → position_or_len (λ x. q (f x)) xs ≡ position_or_len q (map f xs)
+prefix_mapped f q [] = refl
+prefix_mapped f q (x ∷ xs) = ap (λ (n : ℕ). cond (not (q (f x))) (1 + n) 0) (prefix_mapped f q xs)
+
+mapped : {X Y : Type 0} (f : X → Y) (q : Y → Bool) (xs : List X) → position (λ x. q (f x)) xs ≡ position q (map f xs)
+mapped f q xs =
+    ap (λ (i : ℕ). cond (ltb i (length xs)) (Some i) None) (prefix_mapped f q xs) ∙ ap (λ (n : ℕ). cond (ltb (position_or_len q (map f xs)) n) (Some (position_or_len q (map f xs))) None) (sym (length-map xs f))
+
+-- The places of a table's names, where the table has one more process.
+pub one_place_more : (rows : List Known) (row : Known) (old new : List ℕ → Option ℕ) (place : ℕ) → ((name : List ℕ) → old name ≡ position (λ (r : Known). bytes_eq r.name name) rows)
+    → ((name : List ℕ) → new name ≡ cond (bytes_eq row.name name) (Some place) (old name)) → place ≡ length rows → position (λ (r : Known). bytes_eq r.name row.name) rows ≡ None
+    → (name : List ℕ) → new name ≡ position (λ (r : Known). bytes_eq r.name name) (rows ++ row ∷ [])
+one_place_more rows row old new place before put at fresh name = put name ∙ (elim (bytes_eq row.name name) as (λ v. bytes_eq row.name name ≡ v → cond v (Some place) (old name) ≡ position (λ (r : Known). bytes_eq r.name name) (rows ++ row ∷ [])) [
+  | true ↦ λ e.
+      let s : row.name ≡ name = (bytes_eq-Decides row.name name).0 e in
+      let none : None ≡ position (λ (r : Known). bytes_eq r.name name) rows = subst (λ (n : List ℕ). None ≡ position (λ (r : Known). bytes_eq r.name n) rows) s (sym fresh) in
+      ap Some at ∙ sym (pushed_first (λ (r : Known). bytes_eq r.name name) rows row e none)
+  | false ↦ λ e. before name ∙ sym (pushed_other (λ (r : Known). bytes_eq r.name name) rows row e)
+] refl)
+
+-- The places of a table's names, where no name has changed.
+pub places_stay : (old new : List Known) (names : List ℕ → Option ℕ) → ((name : List ℕ) → names name ≡ position (λ (r : Known). bytes_eq r.name name) old) → map (λ r. r.name) new ≡ map (λ r. r.name) old
+    → (name : List ℕ) → names name ≡ position (λ (r : Known). bytes_eq r.name name) new
+places_stay old new names before same name =
+    let f : Known → List ℕ = λ r. r.name in
+    let q : List ℕ → Bool = λ n. bytes_eq n name in
+    before name ∙ mapped f q old ∙ ap (position q) (sym same) ∙ sym (mapped f q new)
+
+-- The names of subnets, where one more has ended.
+pub one_subnet_more : (rows : List (List ℕ × NetPart)) (row : List ℕ × NetPart) (old new : List ℕ → Option ℕ) (place : ℕ) → ((name : List ℕ) → is_some (old name) ≡ list_any (λ (r : List ℕ × NetPart). bytes_eq r.0 name) rows)
+    → ((name : List ℕ) → new name ≡ cond (bytes_eq row.0 name) (Some place) (old name))
+    → (name : List ℕ) → is_some (new name) ≡ list_any (λ (r : List ℕ × NetPart). bytes_eq r.0 name) (rows ++ row ∷ [])
+one_subnet_more rows row old new place before put name =
+    ap is_some (put name) ∙ (elim (bytes_eq row.0 name) as (λ v. is_some (cond v (Some place) (old name)) ≡ (list_any (λ (r : List ℕ × NetPart). bytes_eq r.0 name) rows || (v || false))) [
+      | true ↦ sym (or_true (list_any (λ (r : List ℕ × NetPart). bytes_eq r.0 name) rows))
+      | false ↦ before name ∙ sym (or_false (list_any (λ (r : List ℕ × NetPart). bytes_eq r.0 name) rows))
+    ]) ∙ sym (list_any-append (λ (r : List ℕ × NetPart). bytes_eq r.0 name) rows (row ∷ [])) where
+      or_true : (b : Bool) → (b || true) ≡ true
+      or_true true = refl
+      or_true false = refl
+
+      or_false : (b : Bool) → (b || false) ≡ b
+      or_false true = refl
+      or_false false = refl
