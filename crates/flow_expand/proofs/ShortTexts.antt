@@ -1,7 +1,7 @@
 -- The texts of a value that a file spells are short.
-use Rattle.std.proofs.Common.{◌≡◌, ℕ, zero, suc, ◌+◌, ◌≤◌, ◌<◌, Bool, true, false, List, [], ◌∷◌, ◌++◌, length, get_or, Option, Some, None, Result, Ok, Err, map, refl, sym, ap, subst, ◌∙◌, arith}
-use Rattle.std.specs.Prelude.{MatchResult, ◌&&◌, nat_le}
-use Rattle.std.specs.List.{All, flat_map}
+use Rattle.std.proofs.Common.{◌≡◌, ℕ, ◌+◌, Bool, true, false, List, [], ◌∷◌, ◌++◌, length, Option, Some, None, Result, Ok, Err, map, refl, sym, ap, subst, ◌∙◌}
+use Rattle.std.specs.Prelude.{MatchResult, ◌&&◌}
+use Rattle.std.specs.List.{All}
 use Rattle.std.specs.Str.Lines.{lines}
 use Rattle.std.proofs.lemmas.Bool.{leb-true}
 use Rattle.std.proofs.lemmas.Grind.{flat_map-append}
@@ -14,7 +14,7 @@ use Rattle.flow_parse.specs.declared.fault.Reason.TheVariants as reasons
 use Rattle.flow_parse.specs.declared.fault.NetFault.{NetFault}
 use Rattle.flow_parse.specs.declared.value.Statement.{Statement}
 use Rattle.flow_parse.specs.declared.value.NetText.{NetText}
-use Rattle.flow_parse.specs.Files.{may_stand, kinds_agree, mentions_in, mentions_of, lines_now, is_new_subnet, Lines, Open, Parts, nothing, Said, remark, says, wrong, put_into, close, with_line, statements_of, statements_in, first_failing, reason_at, fault_at, or_fault, text_fits, is_within_limits, after, at_end, value_of, LeadsTo, Spells}
+use Rattle.flow_parse.specs.Files.{may_stand, kinds_agree, mentions_in, mentions_of, lines_now, is_new_subnet, Open, Parts, nothing, Said, remark, says, wrong, put_into, close, with_line, statements_of, statements_in, first_failing, reason_at, fault_at, or_fault, text_fits, is_within_limits, after, at_end, LeadsTo, Spells}
 use Rattle.flow_parse.specs.Names.{is_named, is_numbered}
 use Rattle.flow_expand.specs.Flat.{IsShort, HasShortTexts}
 

@@ -8,3 +8,6 @@ mod stop;
 pub use flat::expand;
 pub use refusal::{put_fault, put_net_fault};
 pub use stop::ExpandStop;
+
+#[cfg(test)]
+mod tests;
