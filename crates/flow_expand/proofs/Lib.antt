@@ -1,0 +1,4 @@
+pub mod Telling
+pub mod OnePlan
+pub mod KindsKept
+pub mod ShortTexts
