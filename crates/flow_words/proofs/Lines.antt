@@ -1,19 +1,14 @@
 -- What clap's getters give, by the rows of a parse.
-use Rattle.std.proofs.Common.{◌≡◌, ◌∙◌, ap, ap₂, sym, refl, true, Bool, List, [], ◌∷◌, Option, Some, None, if◌then◌else◌, codes}
+use Rattle.std.proofs.Common.{◌≡◌, ◌∙◌, ap, ap₂, sym, refl, Bool, Option, Some, None, codes}
 use Rattle.std.specs.Prelude.{find, option_map, option_and_then}
 use Rattle.std.specs.Str.{bytes_eq}
 use Rattle.clap.specs.Facts.{Entry}
-use Rattle.clap.specs.Faults.{is_simple_and_free}
-use Rattle.clap.specs.Kinds.{IsAmong, Kinds}
 use Rattle.clap.specs.Matches.{first_value, matched_of}
-use Rattle.clap.specs.Simple.{is_simple}
-use Rattle.clap.specs.Walk.{Text, is_empty, first_of, row_of, rows_of}
-use Rattle.clap.specs.declared.error.kind.ErrorKind.{ErrorKind}
+use Rattle.clap.specs.Walk.{Text, row_of, rows_of}
 use Rattle.clap.specs.declared.parser.matches.Found.{Found}
 use Rattle.clap.specs.declared.parser.matches.ValueSource.{ValueSource}
-use Rattle.clap.proofs.OnLiterals.{clap_on_literals}
 use Rattle.clap.proofs.WalkLemmas.{find_row, first_value-rows}
-use Rattle.flow_words.specs.Words.{Asked, asked, asked_in, is_checked, is_from_words, line_app}
+use Rattle.flow_words.specs.Words.{asked, asked_in, is_checked, is_from_words}
 
 -- The source of a row is that of its entry.
 source-rows : (found : Found) (id : Text) → option_and_then (λ entry. entry.source) (matched_of found id)

@@ -1,5 +1,5 @@
 -- Which words are a command line, and what each asks for.
-use Rattle.std.specs.Prelude.{ℕ, Bool, true, false, List, [], ◌∷◌, Some, None, find, codes, if◌then◌else◌}
+use Rattle.std.specs.Prelude.{Bool, true, false, List, Some, None, find, codes, if◌then◌else◌}
 use Rattle.std.specs.declared.option.Option.{Option}
 use Rattle.std.specs.Option.{option_map, option_and_then}
 use Rattle.std.specs.Str.{bytes_eq}
