@@ -2,7 +2,8 @@
 ghost use Rattle.std.specs.Prelude.{◌≡◌, IfOk, map, string_bytes};
 ghost use Rattle.std.specs.Option.{option_map};
 ghost use Rattle.clap.specs.Words.{app_of, found_of, rows_of};
-ghost use Rattle.flow_words.specs.Words.{asked_by, asked_in, command_of, is_checked, line_app};
+ghost use Rattle.flow_words.specs.Lines.{AskFor};
+ghost use Rattle.flow_words.specs.Words.{Asked, asked_by, asked_in, command_of, is_checked, line_app};
 
 use crate::asked::Command;
 use clap::error::ErrorKind;
@@ -10,13 +11,15 @@ use clap::parser::ValueSource;
 use clap::{Arg, ArgAction, ArgMatches};
 use std::alloc::{AllocError, Global};
 
-/// What the words after the program's name ask for, or `None` where they are no command line: that
-/// is NETFILE alone, or NETFILE and `--check`. Which two these are is this project's own. How words
-/// are told apart, and which are refused, is clap's: `--` makes a file's name of the word after it.
-/// A request for help or the version is refused as any other flag.
+/// What the words after the program's name ask for, or `None` where they are no command line. That
+/// a line is NETFILE alone, for a run, or NETFILE with `--check` is this project's own rule. How the
+/// words are told apart and which are refused is clap's: the word after `--` is a name, whatever it
+/// begins with, and a call for help or the version is refused like any other flag.
 pub fn command<'a>(alloc: Global, words: &'a [String]) -> Result<Option<Command<'a>>, AllocError>
-    ensures { IfOk result (λ command.
+    ensures words { IfOk result (λ command.
         option_map asked_by command ≡ command_of (map string_bytes words.entry.now)) }
+    ensures lines { (asked : Asked) → AskFor asked (map string_bytes words.entry.now)
+        → IfOk result (λ command. option_map asked_by command ≡ Some asked) }
 {
     match line(alloc)?.try_get_matches_from(words) {
         Ok(matches) => Ok(asked_by_matches(&matches)),
