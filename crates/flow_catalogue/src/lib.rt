@@ -1,12 +1,14 @@
 //! The standard components as one type, and how a plan makes them.
 #![tactic(auto)]
 
+mod plans;
 mod process;
 mod standard;
 mod table;
 #[cfg(test)]
 mod tests;
 
+pub use plans::a_plan_over_the_table_is_standard;
 pub use process::{FileUse, file_of, make};
 pub use standard::Std;
 pub use table::{StdKind, kinds};

@@ -1,10 +1,8 @@
 pub mod Befores
-pub mod Chains
 pub mod Cuts
 pub mod Fitting
+pub mod Networks
 pub mod Outputs
 pub mod Runs
-pub mod ThinLines
 pub mod Tops
-pub mod Wired
 pub mod Written

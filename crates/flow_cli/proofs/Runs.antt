@@ -1,59 +1,123 @@
--- A run whose files were not all written.
-use Rattle.std.proofs.Common.{◌≡◌, inl, inr, ℕ, List, Some, None, Err, ◌∙◌, ap, subst}
+-- What stands after the steps before a run, and after the writing of its files.
+use Rattle.std.proofs.Common.{◌≡◌, ◌⊎◌, inl, inr, ℕ, List, [], Some, None, Ok, Err, refl, sym, ◌∙◌, ap, subst}
 use Rattle.std.specs.Prelude.{IfSome, String, string_bytes}
 use Rattle.std.specs.declared.alloc.Global.{Global}
 use Rattle.std.specs.declared.option.Option.{Option}
+use Rattle.std.specs.Option.{option_map}
 use Rattle.flow_text.specs.Edge.{Outside, Name, Files, Rose}
 use Rattle.flow_net.specs.Network.{Network}
+use Rattle.flow_parse.specs.declared.value.NetText.{NetText}
+use Rattle.flow_words.specs.Words.{Run, Check}
 use Rattle.flow_catalogue.specs.declared.standard.Std.{Std}
 use Rattle.flow_machine.specs.Values.{NetValue}
+use Rattle.flow_journal.specs.declared.merge.Journal.{Journal}
 use Rattle.flow_cli.specs.Step.{OnlyReads}
+use Rattle.flow_cli.specs.Many.{Filled, replaced_all}
 use Rattle.flow_cli.specs.Parts.{AreParts}
-use Rattle.flow_cli.specs.Prepare.{IsCommand, IsNetwork}
-use Rattle.flow_cli.specs.After.{IsCutShort, WritesOutputs}
-use Rattle.flow_cli.specs.Runs.{RanOn, outputs_of}
-use Rattle.flow_cli.specs.Top.{IsCut, Halts}
+use Rattle.flow_cli.specs.Prepare.{Asks, IsFile, IsNetwork, Prepares}
+use Rattle.flow_cli.specs.After.{IsCutShort, WritesOutputs, verdict_status}
+use Rattle.flow_cli.specs.Runs.{Leaves, net_outputs, outputs_of}
+use Rattle.flow_cli.specs.Top.{IsRunOf, IsWhole, IsChecked, IsCut, IsEmptyJournal, Halts, Ends, Checks}
+use Rattle.flow_cli.specs.declared.engine.Told.{Told}
+use Rattle.flow_cli.specs.declared.run.Ending.{Ending}
+use Rattle.flow_cli.specs.declared.run.Halt.{Halt}
+use Rattle.flow_cli.specs.declared.before.Task.TheVariants as tasks
 use Rattle.flow_cli.specs.declared.stop.Stop.{Stop}
-use Rattle.flow_cli.specs.declared.stop.Stop.TheVariants.{Words, NotBuilt, ReadFault, WriteFault, TooLong, NoMemory}
+use Rattle.flow_cli.specs.declared.stop.Stop.TheVariants.{Words, Refused, ReadFault, WriteFault, TooLong, NoMemory}
+use Rattle.flow_cli.proofs.Befores.{OnlyReads-files}
 
-cut_at : (told : Option Files) (n : Outside) (name written : Name) (plan : Network) (parts : List Std) (net : NetValue Std)
-    → IfSome told (λ files. IsNetwork files name plan) → AreParts told plan parts → RanOn plan parts net
-    → IfSome told (λ files. IsCutShort files n.files (outputs_of plan net) written) → IfSome told (λ files. IsCut files n name written)
-cut_at None n name written plan parts net network are ran cut = tt
-cut_at (Some files) n name written plan parts net network are ran cut =
-    record { plan = plan; network = network; parts = parts; are_parts = are; net = net; ran = ran; cut = cut }
+-- a stop before the run: nothing was touched
+pub halts-before : (o n : Outside) (words : List (String Global)) (stop : Stop) (journal : Journal) (limit : ℕ) → Prepares o n words (Err stop) limit
+    → IsEmptyJournal journal → Halts o n words stop journal limit
+halts-before o n words Words journal limit p empty = (p.0, p.1, empty)
+halts-before o n words (Refused refusal) journal limit p empty = (p.0, p.1, (empty, OnlyReads-files o n p.2), p.4)
+halts-before o n words (ReadFault read) journal limit p empty = (p.0, p.1, (empty, OnlyReads-files o n p.2), p.3, p.4, p.5)
+halts-before o n words (TooLong read) journal limit p empty = (p.0, p.1, (empty, OnlyReads-files o n p.2), p.3, p.4)
+halts-before o n words NoMemory journal limit p empty = inl (empty, OnlyReads-files o n p)
+halts-before o n words (WriteFault written) journal limit p empty = absurd p
 
-memory_at : (told : Option Files) (n : Outside) (name : Name) (plan : Network) (parts : List Std) (net : NetValue Std)
-    → IfSome told (λ files. IsNetwork files name plan) → AreParts told plan parts → RanOn plan parts net
-    → IfSome told (λ files. (written : Name) × IsCutShort files n.files (outputs_of plan net) written)
-    → IfSome told (λ files. (name : Name) × (written : Name) × IsCut files n name written)
-memory_at None n name plan parts net network are ran cut = tt
-memory_at (Some files) n name plan parts net network are ran cut =
-    (name, cut.0, record { plan = plan; network = network; parts = parts; are_parts = are; net = net; ran = ran; cut = cut.1 })
+-- want of memory before the run
+pub halts-memory : (o n : Outside) (words : List (String Global)) (halt : Halt) (limit : ℕ) → OnlyReads o n → halt.stop ≡ NoMemory
+    → IsEmptyJournal halt.journal → Halts o n words halt.stop halt.journal limit
+halts-memory o n words halt limit reads is empty = subst (λ (stop : Stop). Halts o n words stop halt.journal limit) (sym is) (inl (empty, OnlyReads-files o n reads))
 
--- the cause of a stop in writing
-pub halts : (o a n : Outside) (words : List (String Global)) (name : Name) (plan : Network) (parts : List Std) (net : NetValue Std) (stop : Stop) (limit : ℕ)
-    → IsCommand words name → OnlyReads o a → IfSome o.files (λ files. IsNetwork files name plan) → AreParts o.files plan parts → RanOn plan parts net
-    → WritesOutputs {T = Unit {0}} a n (outputs_of plan net) (Err stop) → Halts o n words stop limit
-halts o a n words name plan parts net (WriteFault written) limit is reads network are ran w = (
-  name,
-  is,
-  (let same : a.write_faults ≡ o.write_faults = ap (λ (x : Outside). x.write_faults) reads in subst (λ (k : ℕ). Rose k n.write_faults) same w.1),
-  w.2,
-  (
-      let same : a.files ≡ o.files = ap (λ (x : Outside). x.files) reads in
-      cut_at o.files n name (string_bytes written) plan parts net network are ran
-      (subst (λ (t : Option Files). IfSome t (λ files. IsCutShort files n.files (outputs_of plan net) (string_bytes written))) same w.3)
-      ),
-)
-halts o a n words name plan parts net NoMemory limit is reads network are ran (only, inl kept) =
-    let same : a.files ≡ o.files = ap (λ (x : Outside). x.files) reads in
-    inl (kept ∙ same)
-halts o a n words name plan parts net NoMemory limit is reads network are ran (only, inr cut) =
-    let same : a.files ≡ o.files = ap (λ (x : Outside). x.files) reads in
-    inr (memory_at o.files n name plan parts net network are ran
-    (subst (λ (t : Option Files). IfSome t (λ files. (written : Name) × IsCutShort files n.files (outputs_of plan net) written)) same cut))
-halts o a n words name plan parts net Words limit is reads network are ran w = absurd w
-halts o a n words name plan parts net NotBuilt limit is reads network are ran w = absurd w
-halts o a n words name plan parts net (ReadFault read) limit is reads network are ran w = absurd w
-halts o a n words name plan parts net (TooLong read) limit is reads network are ran w = absurd w
+-- a check
+pub checked-of : (o n : Outside) (words : List (String Global)) (text : NetText) (ending : Ending) (limit : ℕ) → (p : Prepares o n words (Ok (tasks.Check text)) limit)
+    → Checks text (Ok ending) → IsChecked o n p.0 ending
+checked-of o n words text ending limit p checks =
+    record { text = text; file = p.4; spelled = checks.0; status = checks.1; untouched = (checks.2, OnlyReads-files o n p.2) }
+
+run-of : (told : Option Files) (name : Name) (plan : Network) (parts : List Std) (net : NetValue Std) (of : Told) (leaves : Leaves plan parts net of)
+    → IfSome told (λ files. IsNetwork files name plan) → AreParts told plan parts → IsRunOf told name plan of.journal leaves.last
+run-of told name plan parts net of leaves network are = record { network = network; parts = parts; are_parts = are; run = leaves.run }
+
+cut-of : (told : Option Files) (n : Outside) (outputs others : List Filled) (written : Name) → outputs ≡ others
+    → IfSome told (λ files. IsCutShort files n.files outputs written) → IfSome told (λ files. IsCutShort files n.files others written)
+cut-of told n outputs others written same cut = subst (λ (l : List Filled). IfSome told (λ files. IsCutShort files n.files l written)) same cut
+
+-- a file that wasn't begun holds what it held
+begun-none : (told : Option Files) (n : Outside) (outputs : List Filled) (written : Name) → n.files ≡ told → IfSome told (λ files. IsCutShort files n.files outputs written)
+begun-none None n outputs written is = tt
+begun-none (Some files) n outputs written is = record { place = 0; bytes = []; files = inl is }
+
+some-cut : (told : Option Files) (n : Outside) (outputs : List Filled) → IfSome told (λ files. (written : Name) × IsCutShort files n.files outputs written)
+    → (written : Name) × IfSome told (λ files. IsCutShort files n.files outputs written)
+some-cut None n outputs cut = ([], tt)
+some-cut (Some files) n outputs cut = cut
+
+-- a stop in writing
+pub halts : (o a n : Outside) (words : List (String Global)) (name : Name) (plan : Network) (parts : List Std) (net : NetValue Std) (of : Told) (stop : Stop) (limit : ℕ)
+    → Asks words (Run name) → OnlyReads o a → IfSome o.files (λ files. IsNetwork files name plan) → AreParts o.files plan parts → Leaves plan parts net of
+    → WritesOutputs {T = Unit {0}} a n (net_outputs plan net) (Err stop) → Halts o n words stop of.journal limit
+halts o a n words name plan parts net of (WriteFault written) limit is reads network are leaves w =
+    let same = OnlyReads-files o a reads in
+    let faults : a.write_faults ≡ o.write_faults = ap (λ (x : Outside). x.write_faults) reads in
+    let cut = subst (λ (t : Option Files). IfSome t (λ files. IsCutShort files n.files (net_outputs plan net) (string_bytes written))) same w.3 in (
+      name,
+      is,
+      subst (λ (k : ℕ). Rose k n.write_faults) faults w.1,
+      w.2,
+      record {
+        plan = plan;
+        last = leaves.last;
+        run = run-of o.files name plan parts net of leaves network are;
+        cut = cut-of o.files n (net_outputs plan net) (outputs_of plan leaves.last) (string_bytes written) leaves.outputs cut;
+      },
+    )
+halts o a n words name plan parts net of NoMemory limit is reads network are leaves (only, inl kept) =
+    let same = OnlyReads-files o a reads in
+    inr (name, [], is, record {
+      plan = plan;
+      last = leaves.last;
+      run = run-of o.files name plan parts net of leaves network are;
+      cut = begun-none o.files n (outputs_of plan leaves.last) [] (kept ∙ same);
+    })
+halts o a n words name plan parts net of NoMemory limit is reads network are leaves (only, inr cut) =
+    let same = OnlyReads-files o a reads in
+    let found = some-cut o.files n (net_outputs plan net)
+    (subst (λ (t : Option Files). IfSome t (λ files. (written : Name) × IsCutShort files n.files (net_outputs plan net) written)) same cut) in
+    inr (name, found.0, is, record {
+      plan = plan;
+      last = leaves.last;
+      run = run-of o.files name plan parts net of leaves network are;
+      cut = cut-of o.files n (net_outputs plan net) (outputs_of plan leaves.last) found.0 leaves.outputs found.1;
+    })
+halts o a n words name plan parts net of Words limit is reads network are leaves w = absurd w
+halts o a n words name plan parts net of (Refused refusal) limit is reads network are leaves w = absurd w
+halts o a n words name plan parts net of (ReadFault read) limit is reads network are leaves w = absurd w
+halts o a n words name plan parts net of (TooLong read) limit is reads network are leaves w = absurd w
+
+-- all files were written
+pub whole : (o a n : Outside) (name : Name) (plan : Network) (parts : List Std) (net : NetValue Std) (of : Told) (ending : Ending) → OnlyReads o a
+    → IfSome o.files (λ files. IsNetwork files name plan) → AreParts o.files plan parts → Leaves plan parts net of → Ends of ending
+    → n.files ≡ option_map (replaced_all (net_outputs plan net)) a.files → IsWhole o n name ending
+whole o a n name plan parts net of ending reads network are leaves ends files = record {
+  plan = plan;
+  last = leaves.last;
+  run = subst (λ (j : Journal). IsRunOf o.files name plan j leaves.last) (sym ends.journal) (run-of o.files name plan parts net of leaves network are);
+  report = leaves.told_is.report;
+  tells = leaves.told_is.tells;
+  text = ends.text ∙ leaves.told_is.text;
+  status = ends.status ∙ ap verdict_status leaves.told_is.verdict;
+  files = files ∙ ap (λ (l : List Filled). option_map (replaced_all l) a.files) leaves.outputs ∙ ap (λ (t : Option Files). option_map (replaced_all (outputs_of plan leaves.last)) t) (OnlyReads-files o a reads);
+}

@@ -10,24 +10,22 @@ use Rattle.flow_catalogue.specs.declared.process.FileUse.TheVariants.{Read, Writ
 use Rattle.flow_catalogue.specs.Files.{UsesFile}
 use Rattle.std.specs.Borrow.{Bor}
 use Rattle.flow_text.specs.Edge.{Name}
-use Rattle.flow_catalogue.specs.declared.standard.Std.{Std}
-use Rattle.flow_machine.specs.Values.{BodyValue}
 use Rattle.flow_cli.specs.Many.{Filled}
 use Rattle.flow_cli.specs.After.{written_by, first_option}
-use Rattle.flow_cli.specs.Runs.{bytes_at, outputs_at, outputs_from}
+use Rattle.flow_cli.specs.Runs.{outputs_at, outputs_from}
 
-step : (bodies : List (BodyValue Std)) (p k : ℕ) (ps : List Process) (process : Process) → slice_get ps k ≡ Some process
-    → outputs_from bodies p (take (suc k) ps) ≡ outputs_from bodies p (take k ps) ++ outputs_at bodies (p + k) process
-step bodies p k [] process h = cc
-step bodies p zero (x ∷ xs) process h =
+step : (wrote : ℕ → List ℕ) (p k : ℕ) (ps : List Process) (process : Process) → slice_get ps k ≡ Some process
+    → outputs_from wrote p (take (suc k) ps) ≡ outputs_from wrote p (take k ps) ++ outputs_at wrote (p + k) process
+step wrote p k [] process h = cc
+step wrote p zero (x ∷ xs) process h =
     let same : x ≡ process = cc in
     let n : p ≡ p + zero = omega arith in
-    append-nil (outputs_at bodies p x) ∙ ap (λ y. outputs_at bodies p y) same ∙ ap (λ m. outputs_at bodies m process) n
-step bodies p (suc k) (x ∷ xs) process h =
+    append-nil (outputs_at wrote p x) ∙ ap (λ y. outputs_at wrote p y) same ∙ ap (λ m. outputs_at wrote m process) n
+step wrote p (suc k) (x ∷ xs) process h =
     let n : p + 1 + k ≡ p + suc k = omega arith in
-    ap (λ rest. outputs_at bodies p x ++ rest) (step bodies (p + 1) k xs process h)
-    ∙ sym (append_assoc (outputs_at bodies p x) (outputs_from bodies (p + 1) (take k xs)) (outputs_at bodies (p + 1 + k) process))
-    ∙ ap (λ m. (outputs_at bodies p x ++ outputs_from bodies (p + 1) (take k xs)) ++ outputs_at bodies m process) n
+    ap (λ rest. outputs_at wrote p x ++ rest) (step wrote (p + 1) k xs process h)
+    ∙ sym (append_assoc (outputs_at wrote p x) (outputs_from wrote (p + 1) (take k xs)) (outputs_at wrote (p + 1 + k) process))
+    ∙ ap (λ m. (outputs_at wrote p x ++ outputs_from wrote (p + 1) (take k xs)) ++ outputs_at wrote m process) n
 
 test_false : (b : Bool) (P : Type 0) → (b ≡ true → P) → (P → ⊥) → b ≡ false
 test_false true P to no_way = absurd (no_way (to refl))
@@ -61,26 +59,26 @@ there_at (x ∷ xs) zero lt = (x, refl)
 there_at (x ∷ xs) (suc k) lt = there_at xs k (omega arith)
 
 -- a process that writes no file has no output, and one that does has that one
-pub no-output : (bodies : List (BodyValue Std)) (k : ℕ) (found : Option Process) → IfSome found (λ p. written_by p ≡ []) → IfSome found (λ p. outputs_at bodies k p ≡ [])
-no-output bodies k None h = tt
-no-output bodies k (Some p) h = ap (λ names. map (λ (name : Name). (name, bytes_at bodies k)) names) h
+pub no-output : (wrote : ℕ → List ℕ) (k : ℕ) (found : Option Process) → IfSome found (λ p. written_by p ≡ []) → IfSome found (λ p. outputs_at wrote k p ≡ [])
+no-output wrote k None h = tt
+no-output wrote k (Some p) h = ap (λ names. map (λ (name : Name). (name, wrote k)) names) h
 
-pub one-output : (bodies : List (BodyValue Std)) (k : ℕ) (found : Option Process) (name bytes : List ℕ) → bytes ≡ bytes_at bodies k
-    → IfSome found (λ p. written_by p ≡ name ∷ []) → IfSome found (λ p. outputs_at bodies k p ≡ (name, bytes) ∷ [])
-one-output bodies k None name bytes is h = tt
-one-output bodies k (Some p) name bytes is h =
-    ap (λ names. map (λ (name : Name). (name, bytes_at bodies k)) names) h ∙ ap (λ (b : List ℕ). (name, b) ∷ []) (sym is)
+pub one-output : (wrote : ℕ → List ℕ) (k : ℕ) (found : Option Process) (name bytes : List ℕ) → bytes ≡ wrote k
+    → IfSome found (λ p. written_by p ≡ name ∷ []) → IfSome found (λ p. outputs_at wrote k p ≡ (name, bytes) ∷ [])
+one-output wrote k None name bytes is h = tt
+one-output wrote k (Some p) name bytes is h =
+    ap (λ names. map (λ (name : Name). (name, wrote k)) names) h ∙ ap (λ (b : List ℕ). (name, b) ∷ []) (sym is)
 
 -- one process more
-pub one-more : (bodies : List (BodyValue Std)) (ps : List Process) (k : ℕ) (before after more : List Filled) → k < length ps
-    → IfSome (slice_get ps k) (λ p. outputs_at bodies k p ≡ more)
-    → before ≡ outputs_from bodies 0 (take k ps) → after ≡ before ++ more → after ≡ outputs_from bodies 0 (take (suc k) ps)
-one-more bodies ps k before after more lt writes is grown =
+pub one-more : (wrote : ℕ → List ℕ) (ps : List Process) (k : ℕ) (before after more : List Filled) → k < length ps
+    → IfSome (slice_get ps k) (λ p. outputs_at wrote k p ≡ more)
+    → before ≡ outputs_from wrote 0 (take k ps) → after ≡ before ++ more → after ≡ outputs_from wrote 0 (take (suc k) ps)
+one-more wrote ps k before after more lt writes is grown =
     let p = there_at ps k lt in
-    let more_is : outputs_at bodies k p.0 ≡ more = subst (λ (o : Option Process). IfSome o (λ p. outputs_at bodies k p ≡ more)) p.1 writes in
+    let more_is : outputs_at wrote k p.0 ≡ more = subst (λ (o : Option Process). IfSome o (λ p. outputs_at wrote k p ≡ more)) p.1 writes in
     let n : 0 + k ≡ k = omega arith in
     grown
     ∙ ap (λ l. l ++ more) is
-    ∙ ap (λ l. outputs_from bodies 0 (take k ps) ++ l) (sym more_is)
-    ∙ ap (λ m. outputs_from bodies 0 (take k ps) ++ outputs_at bodies m p.0) (sym n)
-    ∙ sym (step bodies 0 k ps p.0 p.1)
+    ∙ ap (λ l. outputs_from wrote 0 (take k ps) ++ l) (sym more_is)
+    ∙ ap (λ m. outputs_from wrote 0 (take k ps) ++ outputs_at wrote m p.0) (sym n)
+    ∙ sym (step wrote 0 k ps p.0 p.1)

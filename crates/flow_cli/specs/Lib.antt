@@ -1,10 +1,9 @@
 pub mod After
 pub mod Many
+pub mod Networks
 pub mod Parts
 pub mod Prepare
 pub mod Runs
 pub mod Step
 pub mod Stops
-pub mod Thin
 pub mod Top
-pub mod Words

@@ -6,21 +6,11 @@ use Rattle.std.specs.declared.result.Result.{Result}
 use Rattle.flow_text.specs.Edge.{Outside, Name, Files, Rose}
 use Rattle.flow_net.specs.declared.plan.Process.{Process}
 use Rattle.flow_net.specs.Network.{Network}
-use Rattle.flow_model.specs.Plans.{IsWired, sends_at}
-use Rattle.flow_machine.specs.PlanOf.{plan_of}
 use Rattle.flow_catalogue.specs.declared.standard.Std.{Std}
-use Rattle.flow_catalogue.specs.Processes.{IsStandard, IsMade, Fits}
+use Rattle.flow_catalogue.specs.Processes.{IsMade, Fits}
 use Rattle.flow_cli.specs.Step.{OnlyReads, HoldsMore}
 use Rattle.flow_cli.specs.declared.stop.Stop.{Stop}
-use Rattle.flow_cli.specs.declared.stop.Stop.TheVariants.{Words, NotBuilt, ReadFault, WriteFault, TooLong, NoMemory}
-
--- Every process of the plan is of a standard kind, the machine finds the plan wired, and every output of a process has its connection.
-pub record IsRunnable (plan : Network) : Type 0 where
-  pub few : length plan.processes ≤ 128
-  pub few_connections : length plan.connections ≤ 512
-  pub standard : (p : ℕ) → p < length plan.processes → IsStandard plan p
-  pub wired : IsWired (plan_of plan)
-  pub connected : (p o : ℕ) (process : Process) → slice_get plan.processes p ≡ Some process → o < process.outputs → IsSome (sends_at (plan_of plan) p o)
+use Rattle.flow_cli.specs.declared.stop.Stop.TheVariants.{Words, Refused, ReadFault, WriteFault, TooLong, NoMemory}
 
 -- The process reads this file.
 pub record Reads (process : Process) (name : Name) : Type 0 where
@@ -48,6 +38,10 @@ pub record AreParts (told : Option Files) (plan : Network) (parts : List Std) : 
   pub count : length parts ≡ length plan.processes
   pub each : (p : ℕ) (part : Std) → slice_get parts p ≡ Some part → IsPart told plan p part
 
+-- There are contents of files on which these are the parts.
+abbrev pub HasParts : Network → List Std → Type 0
+HasParts plan parts = (told : Option Files) × AreParts told plan parts
+
 -- A stop at a file that the plan reads.
 abbrev pub StopsReading : Outside → Outside → Network → Stop → ℕ → Type 0
 StopsReading old new plan (ReadFault read) limit = OnlyReads old new × Rose old.read_faults new.read_faults × (new.last_read_fault ≡ Some (string_bytes read))
@@ -55,7 +49,7 @@ StopsReading old new plan (ReadFault read) limit = OnlyReads old new × Rose old
 StopsReading old new plan (TooLong read) limit = OnlyReads old new × HoldsMore old.files (string_bytes read) limit × IsInput plan (string_bytes read)
 StopsReading old new plan NoMemory limit = OnlyReads old new
 StopsReading old new plan Words limit = ⊥
-StopsReading old new plan NotBuilt limit = ⊥
+StopsReading old new plan (Refused refusal) limit = ⊥
 StopsReading old new plan (WriteFault written) limit = ⊥
 
 -- What making one part does to the outside.

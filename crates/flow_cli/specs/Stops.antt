@@ -6,21 +6,30 @@ use Rattle.flow_text.specs.declared.edge.ShelfStop.TheVariants as shelf
 use Rattle.flow_cli.specs.declared.step.FileStop.{FileStop}
 use Rattle.flow_cli.specs.declared.step.FileStop.TheVariants as file
 use Rattle.flow_cli.specs.declared.stop.Stop.{Stop}
-use Rattle.flow_cli.specs.declared.stop.Stop.TheVariants.{Words, NotBuilt, ReadFault, WriteFault, TooLong, NoMemory}
+use Rattle.flow_cli.specs.declared.stop.Stop.TheVariants.{Words, Refused, ReadFault, WriteFault, TooLong, NoMemory}
+use Rattle.flow_expand.specs.Refusals.{fault_text, net_fault_text}
+use Rattle.flow_cli.specs.declared.network.Refusal.{Refusal}
+use Rattle.flow_cli.specs.declared.network.Refusal.TheVariants as refusals
 
 -- The status with which a stop ends the program.
 abbrev pub status_of : Stop → ℕ
 status_of Words = 2
-status_of NotBuilt = 3
+status_of (Refused refusal) = 3
 status_of (ReadFault name) = 6
 status_of (WriteFault name) = 7
 status_of NoMemory = 8
 status_of (TooLong name) = 9
 
+-- What is said of a refused network.
+abbrev pub refusal_text : Refusal → List ℕ
+refusal_text (refusals.Line fault) = net_fault_text fault
+refusal_text refusals.Subnets = codes "subnets not built"
+refusal_text (refusals.Plan fault) = fault_text fault
+
 -- The line that is printed for a stop.
 abbrev pub text_of : Stop → List ℕ
 text_of Words = codes "usage: flow [--workers N] [--journal FILE] [--check] [--replay FILE] [--make N] [NETFILE]" ++ 10 ∷ []
-text_of NotBuilt = codes "network refused: not built" ++ 10 ∷ []
+text_of (Refused refusal) = codes "network refused: " ++ refusal_text refusal ++ 10 ∷ []
 text_of (ReadFault name) = codes "read fault: " ++ string_bytes name ++ 10 ∷ []
 text_of (WriteFault name) = codes "write fault: " ++ string_bytes name ++ 10 ∷ []
 text_of NoMemory = codes "no memory" ++ 10 ∷ []

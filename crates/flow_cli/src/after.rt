@@ -1,8 +1,8 @@
 //! The steps after a run: the files of the writers are written, then the report is printed.
 ghost use Rattle.std.specs.Prelude.{◌≡◌};
-ghost use Rattle.flow_cli.specs.Parts.{IsRunnable};
+ghost use Rattle.flow_cli.specs.Networks.{IsStandardPlan};
 ghost use Rattle.flow_cli.specs.After.{WritesOutputs, Prints, verdict_status};
-ghost use Rattle.flow_cli.specs.Runs.{outputs_of};
+ghost use Rattle.flow_cli.specs.Runs.{net_outputs};
 
 use crate::engine::Ran;
 use crate::many::write_files;
@@ -13,8 +13,8 @@ use std::alloc::Global;
 
 /// Writes the files of a run, in the order of the processes.
 pub fn write_outputs<F: Shelf>(alloc: Global, shelf: &mut F, ran: &Ran) -> Result<(), Stop>
-    requires { IsRunnable ran.now.plan }
-    ensures { WritesOutputs (F.outside shelf.old) (F.outside shelf.new) (outputs_of ran.now.plan ran.now.net) result }
+    requires { IsStandardPlan ran.now.plan }
+    ensures { WritesOutputs (F.outside shelf.old) (F.outside shelf.new) (net_outputs ran.now.plan ran.now.net) result }
 {
     let outputs = ran.outputs(alloc)?;
     match write_files(shelf, &outputs) {

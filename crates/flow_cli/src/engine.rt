@@ -1,21 +1,21 @@
 //! The run of a network, and what it leaves.
-ghost use Rattle.std.specs.Prelude.{◌≡◌, ◌≤◌, ◌∷◌, [], IfOk, IfSome, IfNone, map, length, slice_get};
+ghost use Rattle.std.specs.Prelude.{◌≡◌, ◌∷◌, [], IfOk, IfSome, IfNone, map, slice_get};
 ghost use Rattle.flow_cli.specs.Many.{output_of};
-ghost use Rattle.flow_cli.specs.Parts.{IsRunnable};
+ghost use Rattle.flow_cli.specs.Parts.{HasParts};
+ghost use Rattle.flow_cli.specs.Networks.{IsStandardPlan};
 ghost use Rattle.flow_cli.specs.After.{written_by};
-ghost use Rattle.flow_cli.specs.Runs.{RanOn, IsToldOf, bytes_at, outputs_of};
-ghost use Rattle.flow_model.specs.Plans.{StartsWell};
-ghost use Rattle.flow_machine.specs.PlanOf.{plan_of};
+ghost use Rattle.flow_cli.specs.Runs.{IsToldOfNet, Leaves, bytes_at, net_outputs};
 ghost use Rattle.flow_catalogue.specs.Processes.{IsStandard};
-ghost use Rattle.flow_catalogue.specs.Std.{std_shape, std_uses, StdReady};
 
 use crate::before::Job;
 use crate::many::Output;
-use flow_catalogue::{FileUse, Std, file_of};
+use flow_catalogue::{FileUse, Std, a_plan_over_the_table_is_standard, file_of};
 use flow_journal::Journal;
 use flow_machine::{Closed, Net, solo};
 use flow_net::Plan;
-use flow_report::{Report, Verdict};
+use flow_ready::a_valid_plan_is_ready;
+use flow_report::{Report, Verdict, a_report_tells_of_its_state};
+use flow_runs::a_round_of_a_net_is_a_run;
 use std::alloc::{AllocError, Global};
 
 /// A run that is over: its plan, its network, and what it is told to have come to.
@@ -35,12 +35,15 @@ pub struct Told {
 
 /// Runs a network on one thread until no process can go on, and makes its report.
 pub fn run_net(alloc: Global, job: Job) -> Result<Ran, AllocError>
-    requires starts { StartsWell std_shape std_uses StdReady (plan_of job.plan) job.parts.items }
-    requires few { length job.plan.connections ≤ 512 }
+    requires standard { IsStandardPlan job.plan }
+    requires parts { HasParts job.plan job.parts.items }
     ensures plan { IfOk result (λ ran. ran.plan ≡ job.plan) }
-    ensures ran { IfOk result (λ ran. RanOn job.plan job.parts.items ran.net) }
-    ensures told { IfOk result (λ ran. IsToldOf job.plan ran.net ran.told) }
+    ensures leaves { IfOk result (λ ran. Leaves job.plan job.parts.items ran.net ran.told) }
 {
+    a_plan_over_the_table_is_standard();
+    a_valid_plan_is_ready::<Std>();
+    a_round_of_a_net_is_a_run::<Std>();
+    a_report_tells_of_its_state::<Std>();
     let Job { plan, parts } = job;
     let net = Net::start(alloc, &plan, parts)?;
     match solo(alloc, net) {
@@ -56,7 +59,7 @@ pub fn run_net(alloc: Global, job: Job) -> Result<Ran, AllocError>
 fn tell(alloc: Global, plan: Plan, closed: Closed<Std>) -> Result<Ran, AllocError>
     ensures plan { IfOk result (λ ran. ran.plan ≡ plan) }
     ensures net { IfOk result (λ ran. ran.net ≡ closed.net) }
-    ensures told { IfOk result (λ ran. IsToldOf plan closed.net ran.told) }
+    ensures told { IfOk result (λ ran. IsToldOfNet plan closed.net ran.told) }
 {
     match told_of(alloc, &plan, &closed) {
         Ok(told) => Ok(Ran {
@@ -72,7 +75,7 @@ fn tell(alloc: Global, plan: Plan, closed: Closed<Std>) -> Result<Ran, AllocErro
 }
 
 fn told_of(alloc: Global, plan: &Plan, closed: &Closed<Std>) -> Result<Told, AllocError>
-    ensures { IfOk result (λ told. IsToldOf plan.now closed.now.net told) }
+    ensures { IfOk result (λ told. IsToldOfNet plan.now closed.now.net told) }
 {
     let report = Report::of(alloc, plan, closed)?;
     Ok(Told {
@@ -112,9 +115,10 @@ fn written_at(net: &Net<Std>, process: u32) -> &[u8]
 impl Ran {
     /// The files that are to be written with their bytes, in the order of the processes that wrote them.
     pub fn outputs(&self, alloc: Global) -> Result<Vec<Output<'_>>, AllocError>
-        requires { IsRunnable self.now.plan }
-        ensures { IfOk result (λ outputs. map output_of outputs.items ≡ outputs_of self.now.plan self.now.net) }
+        requires { IsStandardPlan self.now.plan }
+        ensures { IfOk result (λ outputs. map output_of outputs.items ≡ net_outputs self.now.plan self.now.net) }
     {
+        a_plan_over_the_table_is_standard();
         let mut outputs = Vec::new(alloc);
         for process in 0..self.plan.processes().len() {
             match written_name(&self.plan, process as u32) {

@@ -1,10 +1,12 @@
 //! The parts of a plan's processes, each reader on what its file holds.
-ghost use Rattle.std.specs.Prelude.{◌≡◌, ◌<◌, length};
-ghost use Rattle.flow_cli.specs.Parts.{IsRunnable, ReadsPart, ReadsParts};
+ghost use Rattle.std.specs.Prelude.{◌≡◌};
+ghost use Rattle.flow_cli.specs.Parts.{ReadsPart, ReadsParts};
+ghost use Rattle.flow_cli.specs.Networks.{IsStandardPlan};
+ghost use Rattle.flow_catalogue.specs.Processes.{IsStandard};
 
 use crate::step::read_file;
 use crate::stop::{Stop, read_stop};
-use flow_catalogue::{FileUse, Std, file_of, make};
+use flow_catalogue::{FileUse, Std, a_plan_over_the_table_is_standard, file_of, make};
 use flow_net::Plan;
 use flow_text::Shelf;
 use std::alloc::Global;
@@ -14,9 +16,10 @@ pub const FILE_LIMIT: u64 = 16_777_216;
 
 /// Reads the files of the plan's readers in the order of the processes, and makes the part of each process.
 pub fn read_parts<F: Shelf>(alloc: Global, shelf: &mut F, plan: &Plan) -> Result<Vec<Std>, Stop>
-    requires { IsRunnable plan.now }
+    requires { IsStandardPlan plan.now }
     ensures { ReadsParts (F.outside shelf.old) (F.outside shelf.new) plan.now result FILE_LIMIT }
 {
+    a_plan_over_the_table_is_standard();
     let mut parts = Vec::new(alloc);
     for process in 0..plan.processes().len() {
         let part = match read_part(alloc, shelf, plan, process as u32) {
@@ -32,8 +35,7 @@ pub fn read_parts<F: Shelf>(alloc: Global, shelf: &mut F, plan: &Plan) -> Result
 
 // The part of one process.
 fn read_part<F: Shelf>(alloc: Global, shelf: &mut F, plan: &Plan, process: u32) -> Result<Std, Stop>
-    requires runnable { IsRunnable plan.now }
-    requires there { process < length plan.now.processes }
+    requires { IsStandard plan.now process }
     ensures { ReadsPart (F.outside shelf.old) (F.outside shelf.new) plan.now process result FILE_LIMIT }
 {
     match file_of(plan, process) {

@@ -1,18 +1,27 @@
-//! A run: the network that the words name is read, run, and its files are written.
+//! What a command line asks for is done: a network is run and its files are written, or a network file is checked.
 ghost use Rattle.std.specs.Prelude.{◌≡◌};
-ghost use Rattle.flow_cli.specs.Top.{Works, IsEmptyJournal};
+ghost use Rattle.flow_cli.specs.Top.{Works, Ends, Checks, IsEmptyJournal};
 
-use crate::after::write_outputs;
-use crate::before::prepare;
+use crate::after::{verdict_status, write_outputs};
+use crate::before::{Task, prepare};
 use crate::engine::{Told, run_net};
 use crate::parts::FILE_LIMIT;
 use crate::stop::Stop;
 use flow_items::Items;
 use flow_journal::Journal;
+use flow_parse::{NetText, print as spelled};
 use flow_text::Shelf;
 use std::alloc::Global;
 
-/// A run that stopped, with the journal of the turns that were made, as far as it is told.
+/// A call that came to its end: what is to be printed, the status, and the journal of its run.
+#[derive(Drop)]
+pub struct Ending {
+    pub status: u8,
+    pub text: Vec<u8>,
+    pub journal: Journal,
+}
+
+/// A call that stopped, with the journal of the turns that were made, as far as it is told.
 #[derive(Drop)]
 pub struct Halt {
     pub stop: Stop,
@@ -29,29 +38,58 @@ fn no_journal(alloc: Global) -> Journal
     }
 }
 
-/// Does all that comes before the report is printed. No call is made on the shelf after its first fault.
-pub fn run<F: Shelf>(alloc: Global, words: &[String], shelf: &mut F) -> Result<Told, Halt>
+// A stop before the network ran.
+fn halted(alloc: Global, stop: Stop) -> Halt
+    ensures stop { result.stop ≡ stop }
+    ensures journal { IsEmptyJournal result.journal }
+{
+    Halt {
+        stop,
+        journal: no_journal(alloc),
+    }
+}
+
+// The end of a run.
+fn ended(told: Told) -> Ending
+    ensures { Ends told result }
+{
+    Ending {
+        status: verdict_status(told.verdict),
+        text: told.report,
+        journal: told.journal,
+    }
+}
+
+// The end of a check: the canonical spelling is to be printed.
+fn checked(alloc: Global, text: &NetText) -> Result<Ending, Halt>
+    ensures { Checks text.now result }
+{
+    match spelled(alloc, text) {
+        Ok(text) => Ok(Ending {
+            status: 0,
+            text,
+            journal: no_journal(alloc),
+        }),
+        Err(_) => Err(halted(alloc, Stop::NoMemory)),
+    }
+}
+
+/// Does all that comes before something is printed. No call is made on the shelf after its first fault.
+pub fn run<F: Shelf>(alloc: Global, words: &[String], shelf: &mut F) -> Result<Ending, Halt>
     ensures { Works (F.outside shelf.old) (F.outside shelf.new) words.now result FILE_LIMIT }
 {
     let job = match prepare(alloc, words, shelf) {
-        Ok(job) => job,
-        Err(stop) => {
-            return Err(Halt {
-                stop,
-                journal: no_journal(alloc),
-            });
-        }
+        Ok(Task::Run(job)) => job,
+        Ok(Task::Check(text)) => return checked(alloc, &text),
+        Err(stop) => return Err(halted(alloc, stop)),
     };
     let Ok(ran) = run_net(alloc, job) else {
-        return Err(Halt {
-            stop: Stop::NoMemory,
-            journal: no_journal(alloc),
-        });
+        return Err(halted(alloc, Stop::NoMemory));
     };
     let written = write_outputs(alloc, shelf, &ran);
     let told = ran.into_told();
     match written {
-        Ok(()) => Ok(told),
+        Ok(()) => Ok(ended(told)),
         Err(stop) => Err(Halt {
             stop,
             journal: told.journal,

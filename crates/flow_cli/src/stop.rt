@@ -1,19 +1,21 @@
 //! Why a call stops before its report, and what it prints then.
-ghost use Rattle.std.specs.Prelude.{◌≡◌, ◌++◌, ◌∷◌, [], IfOk};
-ghost use Rattle.flow_cli.specs.Stops.{status_of, text_of, IsReadStop, IsWriteStop};
+ghost use Rattle.std.specs.Prelude.{◌≡◌, ◌++◌, ◌∷◌, [], IfOk, OnOk, codes};
+ghost use Rattle.flow_cli.specs.Stops.{status_of, refusal_text, text_of, IsReadStop, IsWriteStop};
 ghost use Rattle.flow_cli.specs.declared.stop.Stop.TheVariants.{NoMemory};
 
+use crate::network::Refusal;
 use crate::step::FileStop;
+use flow_expand::{put_fault, put_net_fault};
 use flow_text::ShelfStop;
 use std::alloc::{AllocError, Global};
 
 /// Why a call stops. The statuses and texts are this project's own.
-#[derive(Debug, Drop, PartialEq, Eq)]
+#[derive(Debug, Drop)]
 pub enum Stop {
     /// The words are no command line.
     Words,
-    /// The network file is one that isn't run yet.
-    NotBuilt,
+    /// The network file is refused.
+    Refused(Refusal),
     /// The file of this name couldn't be read.
     ReadFault(String),
     /// The file of this name couldn't be written.
@@ -37,7 +39,7 @@ pub fn status(stop: &Stop) -> u8
 {
     match stop {
         Stop::Words => 2,
-        Stop::NotBuilt => 3,
+        Stop::Refused(_) => 3,
         Stop::ReadFault(_) => 6,
         Stop::WriteFault(_) => 7,
         Stop::NoMemory => 8,
@@ -55,11 +57,31 @@ pub fn text(alloc: Global, stop: &Stop) -> Result<Vec<u8>, AllocError>
             b"usage: flow [--workers N] [--journal FILE] [--check] [--replay FILE] [--make N] [NETFILE]",
             b"",
         ),
-        Stop::NotBuilt => line(alloc, b"network refused: not built", b""),
+        Stop::Refused(refusal) => refused_line(alloc, refusal),
         Stop::ReadFault(name) => line(alloc, b"read fault: ", name.as_bytes()),
         Stop::WriteFault(name) => line(alloc, b"write fault: ", name.as_bytes()),
         Stop::NoMemory => line(alloc, b"no memory", b""),
         Stop::TooLong(name) => line(alloc, b"too long: ", name.as_bytes()),
+    }
+}
+
+// The line for a refused network.
+fn refused_line(alloc: Global, refusal: &Refusal) -> Result<Vec<u8>, AllocError>
+    ensures { IfOk result (λ text. text.items ≡ codes "network refused: " ++ refusal_text refusal.now ++ 10 ∷ []) }
+{
+    let mut text = b"network refused: ".to_vec(alloc)?;
+    put_refusal(&mut text, refusal)?;
+    text.push(10)?;
+    Ok(text)
+}
+
+fn put_refusal(text: &mut Vec<u8>, refusal: &Refusal) -> Result<(), AllocError>
+    ensures { OnOk result (text.new.items ≡ text.old.items ++ refusal_text refusal.now) }
+{
+    match refusal {
+        Refusal::Line(fault) => put_net_fault(text, fault),
+        Refusal::Subnets => text.extend_from_slice(b"subnets not built"),
+        Refusal::Plan(fault) => put_fault(text, fault),
     }
 }
 

@@ -1,14 +1,14 @@
 //! The top call.
-ghost use Rattle.std.specs.Prelude.{◌≡◌, ◌⊎◌, None, Some, IfSome, string_bytes};
+ghost use Rattle.std.specs.Prelude.{◌≡◌, ◌⊎◌, ◌≤◌, None, Some, IfSome, map, string_bytes};
 ghost use Rattle.flow_text.specs.Edge.{Rose, Name, after_write};
-ghost use Rattle.flow_cli.specs.Words.{command_of};
+ghost use Rattle.flow_words.specs.Words.{Run, command_of};
 ghost use Rattle.flow_cli.specs.Step.{HoldsMore};
-ghost use Rattle.flow_cli.specs.Prepare.{IsCommand, IsRefused, IsReadName};
+ghost use Rattle.flow_cli.specs.Prepare.{Asks, IsCommand, IsRefused, IsReadName};
 ghost use Rattle.flow_cli.specs.Stops.{text_of};
-ghost use Rattle.flow_cli.specs.Top.{IsCut, PrintsStop, IsOver, EndsWell, IsValid, NoFaults};
-ghost use Rattle.flow_cli.specs.declared.stop.Stop.TheVariants.{Words, NotBuilt, ReadFault, WriteFault, TooLong};
+ghost use Rattle.flow_cli.specs.Top.{IsCut, IsUntouched, Stands, PrintsStop, IsOver, StopsBefore, ComesToEnd, IsValid, NoFaults};
+ghost use Rattle.flow_cli.specs.declared.stop.Stop.TheVariants.{Words, Refused, ReadFault, WriteFault, TooLong, NoMemory};
 
-use crate::after::{print, verdict_status};
+use crate::after::print;
 use crate::parts::FILE_LIMIT;
 use crate::run::run;
 use crate::stop::{Stop, status, text};
@@ -25,24 +25,24 @@ pub struct Outcome {
     pub journal: Journal,
 }
 
-/// Does what the program does: runs the network that the words name on one thread, and prints its report,
-/// or why it stopped.
+/// Does what the program does: runs the network that the words name on one thread and prints its report, or checks it and
+/// prints its canonical spelling; or prints why it stopped.
 pub fn plain_top<F: Shelf, O: Sink>(
     alloc: Global,
     words: &[String],
     shelf: &mut F,
     out: &mut O,
 ) -> Outcome
-    // The run came to its end.
-    ensures over { IsOver result.status → EndsWell (F.outside shelf.old) (F.outside shelf.new) (O.outside out.old) (O.outside out.new) words.now result }
+    // A run came to its end, or a check did.
+    ensures over { IsOver result.status → ComesToEnd (F.outside shelf.old) (F.outside shelf.new) (O.outside out.old) (O.outside out.new) words.now result }
 
     // Each other status has its cause.
-    ensures words { result.status ≡ 2 → (command_of words.now ≡ None) × (F.outside shelf.new ≡ F.outside shelf.old)
+    ensures words { result.status ≡ 2 → (command_of (map string_bytes words.now) ≡ None) × (F.outside shelf.new ≡ F.outside shelf.old)
         × (O.outside out.new ≡ after_write (O.outside out.old) (text_of Words)) }
     ensures refused { result.status ≡ 3 → (name : Name) × IsCommand words.now name
         × ((F.outside shelf.new).files ≡ (F.outside shelf.old).files)
-        × (O.outside out.new ≡ after_write (O.outside out.old) (text_of NotBuilt))
-        × IfSome (F.outside shelf.old).files (λ files. IsRefused files name) }
+        × ((refusal : _) × (O.outside out.new ≡ after_write (O.outside out.old) (text_of (Refused refusal)))
+        × IfSome (F.outside shelf.old).files (λ files. IsRefused files name refusal)) }
     ensures read_fault { result.status ≡ 6 → (name : Name) × IsCommand words.now name
         × ((F.outside shelf.new).files ≡ (F.outside shelf.old).files)
         × Rose (F.outside shelf.old).read_faults (F.outside shelf.new).read_faults
@@ -51,24 +51,32 @@ pub fn plain_top<F: Shelf, O: Sink>(
         × IfSome (F.outside shelf.old).files (λ files. IsReadName files name (string_bytes read))) }
     ensures write_fault { result.status ≡ 7 →
         Rose (O.outside out.old).write_faults (O.outside out.new).write_faults
-        ⊎ ((name : Name) × IsCommand words.now name × Rose (F.outside shelf.old).write_faults (F.outside shelf.new).write_faults
+        ⊎ ((name : Name) × Asks words.now (Run name) × Rose (F.outside shelf.old).write_faults (F.outside shelf.new).write_faults
         × ((written : _) × ((F.outside shelf.new).last_write_fault ≡ Some (string_bytes written))
         × (O.outside out.new ≡ after_write (O.outside out.old) (text_of (WriteFault written)))
-        × IfSome (F.outside shelf.old).files (λ files. IsCut files (F.outside shelf.new) name (string_bytes written)))) }
+        × IsCut (F.outside shelf.old) (F.outside shelf.new) name result.journal (string_bytes written))) }
+    ensures memory { result.status ≡ 8 → O.outside out.new ≡ after_write (O.outside out.old) (text_of NoMemory) }
     ensures too_long { result.status ≡ 9 → (name : Name) × IsCommand words.now name
         × ((F.outside shelf.new).files ≡ (F.outside shelf.old).files)
         × ((read : _) × HoldsMore (F.outside shelf.old).files (string_bytes read) FILE_LIMIT
         × (O.outside out.new ≡ after_write (O.outside out.old) (text_of (TooLong read)))
         × IfSome (F.outside shelf.old).files (λ files. IsReadName files name (string_bytes read))) }
 
+    // However it ends, the journal and the files are those of one run, or nothing was done; and nothing was where it stopped before its network ran.
+    ensures stands { Stands (F.outside shelf.old) (F.outside shelf.new) words.now result.journal }
+    ensures unmade { StopsBefore result.status → IsUntouched (F.outside shelf.old) (F.outside shelf.new) result.journal }
+
+    // There is no other status.
+    ensures status { result.status ≤ 9 }
+
     // Where no count rose and all is valid, the run comes to its end, or memory is wanting.
     ensures complete { NoFaults (F.outside shelf.old) (F.outside shelf.new) (O.outside out.old) (O.outside out.new)
         → IfSome (F.outside shelf.old).files (λ files. IsValid files words.now FILE_LIMIT → IsOver result.status ⊎ (result.status ≡ 8)) }
 {
     match run(alloc, words, shelf) {
-        Ok(told) => Outcome {
-            status: print(out, &told.report, verdict_status(told.verdict)),
-            journal: told.journal,
+        Ok(ending) => Outcome {
+            status: print(out, &ending.text, ending.status),
+            journal: ending.journal,
         },
         Err(halt) => Outcome {
             status: print_stop(alloc, out, &halt.stop),

@@ -5,6 +5,7 @@ ghost use Rattle.flow_net.specs.declared.fault.PlanFault.{PlanFault};
 ghost use Rattle.flow_net.specs.Network.{Network};
 ghost use Rattle.flow_net.specs.Calls.{after_process};
 ghost use Rattle.flow_net.specs.Kinds.{is_table};
+ghost use Rattle.flow_net.specs.Over.{IsOver};
 ghost use Rattle.flow_expand.specs.Flat.{IsShort, HasShortTexts, after_processes, AfterStatement, AfterStatements, IsDraft, IsFlat};
 ghost use Rattle.flow_expand.specs.Outcomes.{Leads, Leaves, Gives, IfFault};
 
@@ -83,7 +84,8 @@ fn told(alloc: Global, part: &NetPart, kinds: Vec<KindSpec>) -> Result<PlanBuild
 fn flat_plan(alloc: Global, part: &NetPart, kinds: Vec<KindSpec>) -> Result<Plan, PlanStop>
     requires table { IsTrue (is_table kinds.items) }
     requires short { HasShortTexts part.now }
-    ensures { Leads result (λ outcome. IsFlat kinds.items part.now outcome) }
+    ensures flat { Leads result (λ outcome. IsFlat kinds.items part.now outcome) }
+    ensures over { IfOk result (IsOver kinds.items) }
 {
     let builder = told(alloc, part, kinds)?;
     builder.finish()
@@ -97,6 +99,8 @@ pub fn expand(alloc: Global, text: &NetText, kinds: Vec<KindSpec>) -> Result<Pla
     requires short { HasShortTexts text.now.main }
     // A plan is that of a text without subnets.
     ensures plan { IfOk result (λ plan. (text.now.subnets ≡ []) × IsFlat kinds.items text.now.main (Ok plan)) }
+    // Each of its processes is of a kind of the table.
+    ensures over { IfOk result (IsOver kinds.items) }
     // A text is refused for its subnets exactly where it has some.
     ensures subnets { (result ≡ Err ExpandStop.Subnets) ↔ (text.now.subnets ≢ []) }
     // A fault is one of a text without subnets.

@@ -1,2 +1,3 @@
 pub mod Of
+pub mod States
 pub mod Text

@@ -4,5 +4,7 @@
 mod lines;
 mod of;
 mod report;
+mod states;
 
 pub use report::{Blocked, Cause, Failure, Report, Verdict, Wait};
+pub use states::a_report_tells_of_its_state;

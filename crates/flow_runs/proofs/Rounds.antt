@@ -111,6 +111,12 @@ all-logged plan parts old log new last begins unmade remembers total stands coun
       total = omega (arith, total, none);
     }
 
+-- the start has as many processes as the plan
+start-count : {K : Type 0} (plan : Plan) (p : ℕ) (xs : List PlanProcess) (parts : List K) → length xs ≡ length parts → length (processes_at_start plan p xs parts) ≡ length xs
+start-count plan p [] parts same = refl
+start-count plan p (x ∷ xs) [] same = absurd (omega (arith, same))
+start-count plan p (x ∷ xs) (part ∷ parts) same = omega (arith, start-count plan (p + 1) xs parts (omega (arith, same)))
+
 module _ {K : Type 0} (shape_of : K → Shape) (uses : K → ℕ → Bool) (ready : K → Held → Answer → Type 0) (next : K → Held → Answer → Outcome K → Type 0) where
   pub round-is-run : KeepsPrefixes shape_of uses ready next → RoundRobinLeads next → RoundsAreRuns shape_of uses ready next
   round-is-run keeps leads plan parts start net turns seen well begins goes names_turns names_seen =
@@ -127,13 +133,16 @@ module _ {K : Type 0} (shape_of : K → Shape) (uses : K → ℕ → Bool) (read
       let seen_are : seen ≡ (journal_of log).seen = names_seen log logged in
       let journal : Journal = record { turns = turns; seen = seen } in
       let same : journal_of log ≡ journal = rw (turns_are, seen_are) refl in
-      let whole : Leads next (start_of plan parts) journal last = subst (λ j. Leads next (start_of plan parts) j last) same schedule in (
-        last,
-        record {
+      let whole : Leads next (start_of plan parts) journal last = subst (λ j. Leads next (start_of plan parts) j last) same schedule in
+      record {
+        last = last;
+        run = record {
           schedule = whole;
           robin = subst (λ j. RoundRobin next (start_of plan parts) j last) same robin;
           prefixes = λ front mid prefix. keeps plan parts journal front last mid well prefix;
           quiet = states.1.3;
-        },
-        states.3,
-      )
+        };
+        stands = states.3;
+        fit = states.2;
+        count = count ∙ start-count plan 0 plan.processes parts (sym well.one_each);
+      }

@@ -1,5 +1,5 @@
 -- A run on one thread: its journal, and the state to which that leads.
-use Rattle.std.specs.Prelude.{ℕ, Bool, List}
+use Rattle.std.specs.Prelude.{◌≡◌, ℕ, Bool, List, length}
 use Rattle.flow_packet.specs.Held.{Held}
 use Rattle.flow_component.specs.declared.Answer.{Answer}
 use Rattle.flow_component.specs.declared.Shape.{Shape}
@@ -12,6 +12,7 @@ use Rattle.flow_model.specs.Places.{OnePlace}
 use Rattle.flow_model.specs.Order.{InOrder}
 use Rattle.flow_model.specs.Plans.{Plan, start_of, StartsWell}
 use Rattle.flow_model.specs.Stands.{StandsForOpen}
+use Rattle.flow_model.specs.Fit.{Fit}
 use Rattle.flow_machine.specs.Values.{NetValue, shown_net}
 use Rattle.flow_machine.specs.Starts.{StartsNet}
 use Rattle.flow_machine.specs.Solo.{Goes, round_robin}
@@ -26,9 +27,13 @@ pub record IsRun {K : Type 0} (next : K → Held → Answer → Outcome K → Ty
   pub prefixes : (front : Journal) (mid : State K) → Prefix next (start_of plan parts) journal last front mid → OnePlace mid × InOrder mid
   pub quiet : Quiet last
 
--- The net has come out of such a run: it stands for the last state.
-abbrev pub ComesOfRun : {K : Type 0} → (K → Held → Answer → Outcome K → Type 0) → Plan → List K → Journal → NetValue K → Type 0
-ComesOfRun {K} next plan parts journal net = (last : State K) × IsRun next plan parts journal last × StandsForOpen (shown_net net) last
+-- The net has come out of such a run: it stands for the last state, in which each component still fits its process.
+pub record ComesOfRun {K : Type 0} (shape_of : K → Shape) (uses : K → ℕ → Bool) (ready : K → Held → Answer → Type 0) (next : K → Held → Answer → Outcome K → Type 0) (plan : Plan) (parts : List K) (journal : Journal) (net : NetValue K) : Type 0 where
+  pub last : State K
+  pub run : IsRun next plan parts journal last
+  pub stands : StandsForOpen (shown_net net) last
+  pub fit : Fit shape_of uses ready last
+  pub count : length last.kept.processes ≡ length plan.processes
 
 -- A net that started from a plan and went round until it was quiet has come out of a run, whose journal its turns and numbers are.
 abbrev pub RoundsAreRuns : {K : Type 0} → (K → Shape) → (K → ℕ → Bool) → (K → Held → Answer → Type 0) → (K → Held → Answer → Outcome K → Type 0) → Type 0
@@ -39,4 +44,4 @@ RoundsAreRuns {K} shape_of uses ready next =
     → Goes shape_of uses ready (round_robin next) start (turns_made start) net (turns_made net)
     → NamesTurns net turns
     → NamesSeen net seen
-    → ComesOfRun next plan parts (record { turns = turns; seen = seen }) net
+    → ComesOfRun shape_of uses ready next plan parts (record { turns = turns; seen = seen }) net

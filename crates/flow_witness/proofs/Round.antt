@@ -14,7 +14,7 @@ use Rattle.flow_model.proofs.Replay.{Graph, run, step, step-is}
 use Rattle.flow_catalogue.specs.declared.standard.Std.{Std}
 use Rattle.flow_catalogue.specs.declared.standard.Std.TheVariants as parts
 use Rattle.flow_catalogue.specs.Std.{std_next}
-use Rattle.flow_cli.proofs.Wired.{at_three}
+use Rattle.flow_witness.proofs.Wired.{at_three}
 use Rattle.flow_witness.specs.FirstRun.{first_start, first_journal, passing}
 
 no-number : (event : Event) (rest : List ℕ) → [] ≡ seen_by event ++ rest → (seen_by event ≡ []) × (rest ≡ [])

@@ -8,7 +8,7 @@ use Rattle.flow_model.specs.Plans.{StartsWell, FitsProcess, process_at_start}
 use Rattle.flow_catalogue.specs.declared.standard.Std.{Std}
 use Rattle.flow_catalogue.specs.declared.standard.Std.TheVariants as parts
 use Rattle.flow_catalogue.specs.Std.{std_shape, std_uses, StdReady}
-use Rattle.flow_cli.proofs.Wired.{thin-wired, at_three}
+use Rattle.flow_witness.proofs.Wired.{thin-wired, at_three}
 use Rattle.flow_witness.specs.FirstRun.{first_plan, first_parts, passing}
 
 abbrev reader : Process Std

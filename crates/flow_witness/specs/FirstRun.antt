@@ -1,7 +1,7 @@
 -- The first run: a chain that copies one line.
 use Rattle.std.specs.Prelude.{◌≡◌, List, [], ◌∷◌, ◌++◌, replicate, codes, Some, slice_get}
 use Rattle.flow_net.specs.Network.{Network}
-use Rattle.flow_net.specs.Thin.{chain_of}
+use Rattle.flow_witness.specs.Chain.{chain_of}
 use Rattle.flow_streams.specs.declared.passthru.Passthru.{Passthru}
 use Rattle.flow_catalogue.specs.declared.standard.Std.{Std}
 use Rattle.flow_catalogue.specs.declared.standard.Std.TheVariants as parts

@@ -20,6 +20,6 @@ loop-input-preserved c = λ x there.
 
 pub returns : goal.returns
 returns c = λ x there.
-    let q : get_or c.processes.result.now c.args.process c.index-processes-process.result ≡ x = ap (λ (ps : List NetProcess). get_or ps c.args.process c.index-processes-process.result) c.processes.ensures ∙ get_or_from_slice_get c.args.plan.now.processes c.args.process x c.index-processes-process.result there in
+    let q : get_or c.processes.result.now c.args.process c.index-processes-process.result ≡ x = ap (λ (ps : List NetProcess). get_or ps c.args.process c.index-processes-process.result) c.processes.ensures.processes ∙ get_or_from_slice_get c.args.plan.now.processes c.args.process x c.index-processes-process.result there in
     let all : c.loop-input.input ≡ x.inputs = omega (arith, c.loop-input-test.false, c.loop-input.auto.input-end, ap (λ (p : NetProcess). p.inputs) q) in
     c.loop-input.invariant x there ∙ ap (λ (n : ℕ). map (input_at (plan_of c.args.plan.now) c.args.process (process_of x)) (range_with_len 0 n)) all

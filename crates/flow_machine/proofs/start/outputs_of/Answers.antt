@@ -19,6 +19,6 @@ loop-output-preserved c = λ x there.
 
 pub returns : goal.returns
 returns c = λ x there.
-    let q : get_or c.processes.result.now c.args.process c.index-processes-process.result ≡ x = ap (λ (ps : List NetProcess). get_or ps c.args.process c.index-processes-process.result) c.processes.ensures ∙ get_or_from_slice_get c.args.plan.now.processes c.args.process x c.index-processes-process.result there in
+    let q : get_or c.processes.result.now c.args.process c.index-processes-process.result ≡ x = ap (λ (ps : List NetProcess). get_or ps c.args.process c.index-processes-process.result) c.processes.ensures.processes ∙ get_or_from_slice_get c.args.plan.now.processes c.args.process x c.index-processes-process.result there in
     let all : c.loop-output.output ≡ x.outputs = omega (arith, c.loop-output-test.false, c.loop-output.auto.output-end, ap (λ (p : NetProcess). p.outputs) q) in
     c.loop-output.invariant x there ∙ ap (λ (n : ℕ). map (sends_at (plan_of c.args.plan.now) c.args.process) (range_with_len 0 n)) all

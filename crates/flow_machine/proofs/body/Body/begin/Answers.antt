@@ -10,9 +10,9 @@ use Rattle.flow_machine.proofs.body.Body.begin.Goals as goal
 pub invariant_of-body : goal.invariant_of-body
 invariant_of-body g c =
     let x : NetProcess = c.index-processes-process.result in
-    let within : c.args.process < length c.processes.result.now = subst (λ (ps : List NetProcess). c.args.process < length ps) (sym c.processes.ensures) c.requires.in_range in
+    let within : c.args.process < length c.processes.result.now = subst (λ (ps : List NetProcess). c.args.process < length ps) (sym c.processes.ensures.processes) c.requires.in_range in
     let there : slice_get c.args.plan.now.processes c.args.process ≡ Some x =
-    ap (λ (ps : List NetProcess). slice_get ps c.args.process) (sym c.processes.ensures) ∙ slice_get-get_or c.processes.result.now c.args.process x within ∙ ap (λ (q : NetProcess). Some q) (sym c.index-processes-process.is) in
+    ap (λ (ps : List NetProcess). slice_get ps c.args.process) (sym c.processes.ensures.processes) ∙ slice_get-get_or c.processes.result.now c.args.process x within ∙ ap (λ (q : NetProcess). Some q) (sym c.index-processes-process.is) in
     let inputs = c.in_ok-inlets.ensures x there in
     let outputs = c.in_ok-outputs.ensures x there in
     let fresh = c.in_ok-fresh.ensures.items_if_clones_equal (λ y e. e) ∙ ap (λ n. replicate n false) c.places.ensures.is in
@@ -23,9 +23,9 @@ invariant_of-body g c =
 pub returns-in-Wishing : goal.returns-in-Wishing
 returns-in-Wishing g c = λ x' there'.
     let x : NetProcess = c.index-processes-process.result in
-    let within : c.args.process < length c.processes.result.now = subst (λ (ps : List NetProcess). c.args.process < length ps) (sym c.processes.ensures) c.requires.in_range in
+    let within : c.args.process < length c.processes.result.now = subst (λ (ps : List NetProcess). c.args.process < length ps) (sym c.processes.ensures.processes) c.requires.in_range in
     let there : slice_get c.args.plan.now.processes c.args.process ≡ Some x =
-    ap (λ (ps : List NetProcess). slice_get ps c.args.process) (sym c.processes.ensures) ∙ slice_get-get_or c.processes.result.now c.args.process x within ∙ ap (λ (q : NetProcess). Some q) (sym c.index-processes-process.is) in
+    ap (λ (ps : List NetProcess). slice_get ps c.args.process) (sym c.processes.ensures.processes) ∙ slice_get-get_or c.processes.result.now c.args.process x within ∙ ap (λ (q : NetProcess). Some q) (sym c.index-processes-process.is) in
     let inputs = c.in_ok-inlets.ensures x there in
     let outputs = c.in_ok-outputs.ensures x there in
     let fresh = c.in_ok-fresh.ensures.items_if_clones_equal (λ y e. e) ∙ ap (λ n. replicate n false) c.places.ensures.is in

@@ -9,14 +9,14 @@ use Rattle.flow_machine.proofs.StartLemmas.{stands-start, rest-drops, first-of, 
 use Rattle.flow_machine.proofs.net.begin.bodies_of.Goals as goal
 
 pub overflow_cast-process-end : goal.overflow_cast-process-end
-overflow_cast-process-end g c = omega (arith, ap (λ (ps : List NetProcess). length ps) c.processes-2.ensures, c.requires.well.wired.few, length-map c.args.plan.now.processes process_of)
+overflow_cast-process-end g c = omega (arith, ap (λ (ps : List NetProcess). length ps) c.processes-2.ensures.processes, c.requires.well.wired.few, length-map c.args.plan.now.processes process_of)
 
 pub remove-part-requires : goal.remove-part-requires
 remove-part-requires g c =
     omega (
       arith,
       c.loop-process-test.true,
-      ap (λ (ps : List NetProcess). length ps) c.processes-2.ensures,
+      ap (λ (ps : List NetProcess). length ps) c.processes-2.ensures.processes,
       c.requires.well.one_each,
       length-map c.args.plan.now.processes process_of,
       ap (λ (ps : List g.row.K.Denot). length ps) c.loop-process.invariant.rest,
@@ -24,7 +24,7 @@ remove-part-requires g c =
     )
 
 pub begin-requires-clause-in_range : goal.begin-requires-clause-in_range
-begin-requires-clause-in_range g c = omega (arith, c.loop-process-test.true, ap (λ (ps : List NetProcess). length ps) c.processes-2.ensures)
+begin-requires-clause-in_range g c = omega (arith, c.loop-process-test.true, ap (λ (ps : List NetProcess). length ps) c.processes-2.ensures.processes)
 
 pub begin-requires-clause-few : goal.begin-requires-clause-few
 begin-requires-clause-few g c = omega (arith, c.requires.few)
@@ -33,7 +33,7 @@ pub begin-requires-clause-well : goal.begin-requires-clause-well
 begin-requires-clause-well g c = λ x there small.
     let plan = plan_of c.args.plan.now in
     let p : ℕ = c.loop-process.process in
-    let within : p < length c.args.parts.items = omega (arith, c.loop-process-test.true, ap (λ (ps : List NetProcess). length ps) c.processes-2.ensures, c.requires.well.one_each, length-map c.args.plan.now.processes process_of) in
+    let within : p < length c.args.parts.items = omega (arith, c.loop-process-test.true, ap (λ (ps : List NetProcess). length ps) c.processes-2.ensures.processes, c.requires.well.one_each, length-map c.args.plan.now.processes process_of) in
     let part = element-there c.args.parts.items p within in
     let same : c.remove-part.result ≡ part.0 = first-of c.args.parts.items c.loop-process.parts.items p c.remove-part.result part.0 c.loop-process.invariant.rest part.1 c.remove-part.ensures.value in
     stands-start g.K.Component.shape_of g.K.Component.uses g.K.Component.ready plan c.args.parts.items p (process_of x) c.remove-part.result c.requires.well (get-map process_of c.args.plan.now.processes p x there)
@@ -55,7 +55,7 @@ loop-process-preserved g c = record {
         | inl old ↦ c.loop-process.invariant.each p q part b is at old
         | inr new ↦ (
             let place : c.loop-process.process ≡ p = sym c.loop-process.invariant.count ∙ sym new.0 in
-            let within : c.loop-process.process < length c.args.plan.now.processes = omega (arith, c.loop-process-test.true, ap (λ (ps : List NetProcess). length ps) c.processes-2.ensures) in
+            let within : c.loop-process.process < length c.args.plan.now.processes = omega (arith, c.loop-process-test.true, ap (λ (ps : List NetProcess). length ps) c.processes-2.ensures.processes) in
             let x = element-there c.args.plan.now.processes c.loop-process.process within in
             let spec_there : Some (process_of x.0) ≡ Some q = sym (get-map process_of c.args.plan.now.processes c.loop-process.process x.0 x.1) ∙ ap (λ (n : ℕ). slice_get (plan_of c.args.plan.now).processes n) place ∙ is in
             let spec : process_of x.0 ≡ q = some-same (process_of x.0) q spec_there in
@@ -67,6 +67,6 @@ loop-process-preserved g c = record {
 
 pub returns : goal.returns
 returns g c = record {
-  count = omega (arith, c.loop-process.invariant.count, c.loop-process-test.false, c.loop-process.auto.process-end, ap (λ (ps : List NetProcess). length ps) c.processes-2.ensures, length-map c.args.plan.now.processes process_of);
+  count = omega (arith, c.loop-process.invariant.count, c.loop-process-test.false, c.loop-process.auto.process-end, ap (λ (ps : List NetProcess). length ps) c.processes-2.ensures.processes, length-map c.args.plan.now.processes process_of);
   each = c.loop-process.invariant.each;
 }

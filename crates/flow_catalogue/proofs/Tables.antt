@@ -1,0 +1,80 @@
+-- The tables of processes of the standard kinds, and the options that go with them.
+use Rattle.std.proofs.Common.{◌≡◌, ℕ, zero, suc, ◌+◌, ◌<◌, ◌≤◌, Bool, true, false, List, [], ◌∷◌, ◌++◌, map, length, Some, None, refl, sym, ◌∙◌, ap, subst, arith, slice_get}
+use Rattle.std.specs.Prelude.{codes}
+use Rattle.flow_net.specs.declared.kind.KindSpec.{KindSpec}
+use Rattle.flow_net.specs.declared.kind.PortSpec.{PortSpec}
+use Rattle.flow_net.specs.declared.plan.Process.{Process}
+use Rattle.flow_net.specs.declared.plan.PortRow.{PortRow}
+use Rattle.flow_net.specs.declared.plan.PortTable.{PortTable}
+use Rattle.flow_net.specs.Network.{Network, LaidOut, HasOutput, is_stream, elements_of, ports_of}
+use Rattle.flow_net.specs.Options.{IsFileName}
+use Rattle.flow_net.specs.Over.{IsOver, IsOfKind, entries, carries}
+use Rattle.flow_net.specs.Valid.{IsValid, HasSender, NeedsOutput, needs_of, HasOptionPort, HasOption, FitsOption}
+use Rattle.flow_catalogue.specs.declared.table.StdKind.{StdKind}
+use Rattle.flow_catalogue.specs.declared.table.StdKind.TheVariants as kinds
+use Rattle.flow_catalogue.specs.Kinds.{name_of, file_port, in_port, out_port, spec_of, std_kinds}
+use Rattle.flow_catalogue.specs.Processes.{NamesFile, HasOptions, shape_of_kind, IsStandard}
+use Rattle.flow_catalogue.specs.Processes.{IsOfKind as IsOfStdKind}
+
+-- A process of a plan with its table.
+pub record HasTable (n : Network) (p : ℕ) (x : Process) : Type 0 where
+  pub table : PortTable
+  pub here : slice_get n.tables p ≡ Some table
+  pub inputs : length (ports_of table.inputs) ≡ x.inputs
+  pub outputs : length (ports_of table.outputs) ≡ x.outputs
+
+table_at : (processes : List Process) (tables : List PortTable) (p : ℕ) (x : Process) → LaidOut processes tables → slice_get processes p ≡ Some x
+    → (table : PortTable) × (slice_get tables p ≡ Some table) × (length (ports_of table.inputs) ≡ x.inputs) × (length (ports_of table.outputs) ≡ x.outputs)
+table_at [] tables p x laid there = absurd cc
+table_at (y ∷ ys) [] p x laid there = absurd laid
+table_at (y ∷ ys) (t ∷ ts) zero x laid there =
+    let same : y ≡ x = cc in
+    (t, refl, laid.0 ∙ ap (λ (z : Process). z.inputs) same, laid.1 ∙ ap (λ (z : Process). z.outputs) same)
+table_at (y ∷ ys) (t ∷ ts) (suc p) x laid there = table_at ys ts p x laid.2 there
+
+pub has-table : (n : Network) (p : ℕ) (x : Process) → IsValid n → slice_get n.processes p ≡ Some x → HasTable n p x
+has-table n p x valid there =
+    let t = table_at n.processes n.tables p x valid.laid_out there in
+    record { table = t.0; here = t.1; inputs = t.2; outputs = t.3 }
+
+pub there-at : (xs : List Process) (p : ℕ) → p < length xs → (x : Process) × (slice_get xs p ≡ Some x)
+there-at [] p lt = absurd (omega arith)
+there-at (x ∷ xs) zero lt = (x, refl)
+there-at (x ∷ xs) (suc p) lt = there-at xs p (omega arith)
+
+-- rows with one entry, and with two
+pub one-row : (rows : List PortRow) (spec : PortSpec) → entries rows ≡ spec ∷ [] → (row : PortRow) × (rows ≡ row ∷ []) × (row.spec ≡ spec)
+one-row [] spec is = absurd cc
+one-row (row ∷ []) spec is = let same : row.spec ≡ spec = cc in (row, refl, same)
+one-row (row ∷ other ∷ rows) spec is = absurd cc
+
+pub two-rows : (rows : List PortRow) (a b : PortSpec) → entries rows ≡ a ∷ b ∷ [] → (row : PortRow) × (other : PortRow) × (rows ≡ row ∷ other ∷ []) × (row.spec ≡ a) × (other.spec ≡ b)
+two-rows [] a b is = absurd cc
+two-rows (row ∷ []) a b is = absurd cc
+two-rows (row ∷ other ∷ []) a b is = let first : row.spec ≡ a = cc in let second : other.spec ≡ b = cc in (row, other, refl, first, second)
+two-rows (row ∷ other ∷ third ∷ rows) a b is = absurd cc
+
+pub no-row : (rows : List PortRow) → entries rows ≡ [] → rows ≡ []
+no-row [] is = refl
+no-row (row ∷ rows) is = absurd cc
+
+-- a list of options that are all at place 0, no two of them at different places of the list, is one option
+pub only-option : (options : List (ℕ × List ℕ)) (k : ℕ) (text : List ℕ) → slice_get options k ≡ Some (0, text)
+    → ((j i : ℕ) (t : List ℕ) → slice_get options j ≡ Some (i, t) → i ≡ 0)
+    → ((j l : ℕ) (t u : List ℕ) → slice_get options j ≡ Some (0, t) → slice_get options l ≡ Some (0, u) → j ≡ l)
+    → (file : List ℕ) × (options ≡ (0, file) ∷ [])
+only-option [] k text there zeros one = absurd cc
+only-option (a ∷ []) k text there zeros one =
+    let zero_first : a.0 ≡ 0 = zeros 0 a.0 a.1 refl in
+    (a.1, ap (λ (i : ℕ). (i, a.1) ∷ []) zero_first)
+only-option (a ∷ b ∷ more) k text there zeros one =
+    let first : a.0 ≡ 0 = zeros 0 a.0 a.1 refl in
+    let second : b.0 ≡ 0 = zeros 1 b.0 b.1 refl in
+    let at_first : slice_get (a ∷ b ∷ more) 0 ≡ Some (0, a.1) = ap (λ (i : ℕ). Some (i, a.1)) first in
+    let at_second : slice_get (a ∷ b ∷ more) 1 ≡ Some (0, b.1) = ap (λ (i : ℕ). Some (i, b.1)) second in
+    let bad = one 0 1 a.1 b.1 at_first at_second in
+    absurd (omega (arith, bad))
+
+pub no-option : (options : List (ℕ × List ℕ)) → ((j i : ℕ) (t : List ℕ) → slice_get options j ≡ Some (i, t) → ⊥) → options ≡ []
+no-option [] none = refl
+no-option (a ∷ more) none = absurd (none 0 a.0 a.1 refl)

@@ -1,0 +1,28 @@
+-- A network file's bytes hold one thing, or are refused.
+use Rattle.std.proofs.Common.{◌≡◌, ℕ, List, [], None, Ok, Err, refl, sym, ◌∙◌, ap, subst}
+use Rattle.std.specs.Str.Lines.{lines}
+use Rattle.flow_net.specs.Network.{Network}
+use Rattle.flow_parse.specs.declared.value.NetText.{NetText}
+use Rattle.flow_parse.specs.Files.{Spells, Refused}
+use Rattle.flow_parse.proofs.OneOutcome.{one_outcome}
+use Rattle.flow_expand.specs.Flat.{IsFlat}
+use Rattle.flow_expand.proofs.OnePlan.{one_plan}
+use Rattle.flow_catalogue.specs.Kinds.{std_kinds}
+use Rattle.flow_cli.specs.Networks.{Holds, RefusedFor}
+use Rattle.flow_cli.specs.declared.network.Refusal.{Refusal}
+use Rattle.flow_cli.specs.declared.network.Refusal.TheVariants as refusals
+
+one-text : (net : List ℕ) (a b : NetText) → Spells net a → Spells net b → a ≡ b
+one-text net a b is other = let same = one_outcome 1 None (lines net) (Ok a) (Ok b) is other in cc
+
+-- bytes that hold a network aren't refused
+pub holds-or-refused : (net : List ℕ) (text : NetText) (plan : Network) (refusal : Refusal) → Holds net text plan → RefusedFor net refusal → ⊥
+holds-or-refused net text plan (refusals.Line fault) holds refused = let same = one_outcome 1 None (lines net) (Ok text) (Err fault) holds.spelled refused in cc
+holds-or-refused net text plan refusals.Subnets holds refused =
+    let same = one-text net refused.0 text refused.1 holds.spelled in
+    refused.2 (ap (λ (t : NetText). t.subnets) same ∙ holds.plain)
+holds-or-refused net text plan (refusals.Plan fault) holds refused =
+    let same = one-text net refused.0 text refused.1 holds.spelled in
+    let flat = subst (λ (t : NetText). IsFlat std_kinds t.main (Err fault)) same refused.3 in
+    let both = one_plan std_kinds text.main (Ok plan) (Err fault) holds.flat flat in
+    cc

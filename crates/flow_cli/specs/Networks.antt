@@ -1,0 +1,38 @@
+-- What a network file holds: a value and its plan, or why it is refused.
+use Rattle.std.specs.Prelude.{◌≡◌, ◌≢◌, ℕ, List, [], Ok, Err}
+use Rattle.std.specs.declared.result.Result.{Result}
+use Rattle.flow_net.specs.Network.{Network}
+use Rattle.flow_net.specs.Valid.{IsValid}
+use Rattle.flow_net.specs.Over.{IsOver}
+use Rattle.flow_parse.specs.declared.value.NetText.{NetText}
+use Rattle.flow_parse.specs.Files.{Spells, Refused}
+use Rattle.flow_expand.specs.Flat.{IsFlat}
+use Rattle.flow_catalogue.specs.Kinds.{std_kinds}
+use Rattle.flow_cli.specs.declared.network.Refusal.{Refusal}
+use Rattle.flow_cli.specs.declared.network.Refusal.TheVariants as refusals
+use Rattle.flow_cli.specs.declared.network.NetFile.{NetFile}
+use Rattle.flow_cli.specs.declared.network.NetworkStop.{NetworkStop}
+use Rattle.flow_cli.specs.declared.network.NetworkStop.TheVariants.{Refused as IsRefused, NoMemory}
+
+-- The bytes spell this value, which has no subnets, and this is its plan over the standard kinds.
+pub record Holds (net : List ℕ) (text : NetText) (plan : Network) : Type 0 where
+  pub spelled : Spells net text
+  pub plain : text.subnets ≡ []
+  pub flat : IsFlat std_kinds text.main (Ok plan)
+
+-- The bytes are refused: a line has a fault; or they spell a value that has subnets, which aren't built yet; or one whose plan has a fault.
+abbrev pub RefusedFor : List ℕ → Refusal → Type 0
+RefusedFor net (refusals.Line fault) = Refused net fault
+RefusedFor net refusals.Subnets = (text : NetText) × Spells net text × (text.subnets ≢ [])
+RefusedFor net (refusals.Plan fault) = (text : NetText) × Spells net text × (text.subnets ≡ []) × IsFlat std_kinds text.main (Err fault)
+
+-- The plan is a valid one over the standard kinds.
+pub record IsStandardPlan (plan : Network) : Type 0 where
+  pub valid : IsValid plan
+  pub over : IsOver std_kinds plan
+
+-- What reading a network file's bytes answers.
+abbrev pub ReadsAs : List ℕ → Result NetFile NetworkStop → Type 0
+ReadsAs net (Ok file) = Holds net file.text file.plan × IsStandardPlan file.plan
+ReadsAs net (Err (IsRefused refusal)) = RefusedFor net refusal
+ReadsAs net (Err NoMemory) = Unit {0}

@@ -1,0 +1,5 @@
+use Rattle.flow_report.proofs.Tells.{reports-tell}
+use Rattle.flow_report.proofs.states.a_report_tells_of_its_state.Goals as goal
+
+pub returns : goal.returns
+returns g c = reports-tell g.K.Component.shape_of g.K.Component.uses g.K.Component.ready
