@@ -18,17 +18,17 @@ split_first : (text rest : List ℕ) → AllByRecursion (λ b. b ≢ 10) text �
 split_first [] rest all = refl
 split_first (b ∷ bs) rest all = rw (ne_eqb b 10 all.0, split_first bs rest all.1) refl
 
--- a list with a first element
-abbrev Some_first : List (List ℕ) → Type 0
-Some_first parts = (first : List ℕ) × (more : List (List ℕ)) × (parts ≡ first ∷ more)
+-- the list has a first element
+abbrev HasFirst : List (List ℕ) → Type 0
+HasFirst parts = (first : List ℕ) × (more : List (List ℕ)) × (parts ≡ first ∷ more)
 
-onto_some : (b : ℕ) (parts : List (List ℕ)) → Some_first (onto_first b parts)
+onto_some : (b : ℕ) (parts : List (List ℕ)) → HasFirst (onto_first b parts)
 onto_some b [] = (b ∷ [], [], refl)
 onto_some b (p ∷ ps) = (b ∷ p, ps, refl)
 
-split_some : (text : List ℕ) → Some_first (slice_split (λ b. eqb b 10) text)
+split_some : (text : List ℕ) → HasFirst (slice_split (λ b. eqb b 10) text)
 split_some [] = ([], [], refl)
-split_some (b ∷ bs) = elim (eqb b 10) as (λ v. Some_first (cond v ([] ∷ slice_split (λ c. eqb c 10) bs) (onto_first b (slice_split (λ c. eqb c 10) bs)))) [
+split_some (b ∷ bs) = elim (eqb b 10) as (λ v. HasFirst (cond v ([] ∷ slice_split (λ c. eqb c 10) bs) (onto_first b (slice_split (λ c. eqb c 10) bs)))) [
   | true ↦ ([], slice_split (λ c. eqb c 10) bs, refl)
   | false ↦ onto_some b (slice_split (λ c. eqb c 10) bs)
 ]
