@@ -1,5 +1,5 @@
 -- The value of a part's lines is that of a part.
-use Rattle.std.proofs.Common.{◌≡◌, ◌≢◌, ℕ, ◌≤◌, Bool, true, false, cond, leb, List, [], ◌∷◌, ◌++◌, length, map, Option, Some, None, refl, sym, ap, subst, ◌∙◌}
+use Rattle.std.proofs.Common.{◌≡◌, ℕ, Bool, true, false, cond, leb, List, [], ◌∷◌, ◌++◌, length, map, Option, Some, None, refl, ap, ◌∙◌}
 use Rattle.std.specs.Prelude.{◌&&◌, ◌||◌, is_some, unwrap_or, option_and_then}
 use Rattle.std.specs.Str.{bytes_eq}
 use Rattle.std.specs.Str.Parse.{digits_value}
@@ -7,15 +7,13 @@ use Rattle.std.specs.List.{AllByRecursion, list_any}
 use Rattle.std.proofs.lemmas.Bool.{leb-true}
 use Rattle.std.proofs.lemmas.List.Folds.{list_any-append}
 use Rattle.std.proofs.lemmas.Slice.Eq.{bytes_eq-Decides}
-use Rattle.flow_net.specs.declared.kind.PortRef.{PortRef}
 use Rattle.flow_parse.specs.declared.form.Mention.{Mention}
 use Rattle.flow_parse.specs.declared.form.Port.{Port}
 use Rattle.flow_parse.specs.declared.form.Form.{Form}
 use Rattle.flow_parse.specs.declared.form.Form.TheVariants.{Header, Process, Connection, Initial, Subnet, End, InPort, OutPort}
 use Rattle.flow_parse.specs.declared.part.Known.{Known}
 use Rattle.flow_parse.specs.declared.value.Statement.{Statement}
-use Rattle.flow_parse.specs.declared.value.NetPart.{NetPart}
-use Rattle.flow_parse.specs.Names.{is_name, is_decimal, number_in, element_of, capacity_of, or_none, mention_is_named, port_is_named, is_named}
+use Rattle.flow_parse.specs.Names.{is_name, is_decimal, number_in, or_none, mention_is_named, port_is_named, is_named}
 use Rattle.flow_parse.specs.Files.{Lines, mentions_of, mentions_in, first_mentions, kind_in, processes_in, kindless_line, port_ref, statements_of, statements_in, text_fits, value_of}
 use Rattle.flow_parse.specs.Values.{IsName, IsWithin, IsPort, IsStatement, names_of, Differ, NamesKnown, IsNetPart}
 use Rattle.flow_parse.proofs.TableMeans.{Ms, only, has, Apart, entry, filter_all, first_apart, first_has}

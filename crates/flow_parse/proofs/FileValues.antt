@@ -7,7 +7,6 @@ use Rattle.std.specs.List.{AllByRecursion, list_any, sum_by}
 use Rattle.std.proofs.lemmas.Bool.{leb-true}
 use Rattle.std.proofs.lemmas.List.Sums.{sum_by_push, sum_by-cons}
 use Rattle.flow_parse.specs.declared.form.Mention.{Mention}
-use Rattle.flow_parse.specs.declared.form.Port.{Port}
 use Rattle.flow_parse.specs.declared.form.Form.{Form}
 use Rattle.flow_parse.specs.declared.form.Form.TheVariants.{Header, Process, Connection, Initial, Subnet, End, InPort, OutPort}
 use Rattle.flow_parse.specs.declared.fault.Reason.{Reason}

@@ -1,6 +1,6 @@
 -- The words and the texts of a file's lines.
-use Rattle.std.proofs.Common.{◌≡◌, ◌≢◌, ℕ, zero, suc, Bool, true, false, cond, eqb, List, [], ◌∷◌, ◌++◌, length, ◌-◌, get_or, take, Option, Some, None, refl, sym, subst, ◌∙◌}
-use Rattle.std.specs.List.{AllByRecursion, slice_split, onto_first, flat_map}
+use Rattle.std.proofs.Common.{◌≡◌, ◌≢◌, ℕ, zero, suc, Bool, true, false, cond, eqb, List, [], ◌∷◌, ◌++◌, length, ◌-◌, get_or, take, Option, Some, None, refl, sym, subst}
+use Rattle.std.specs.List.{AllByRecursion, slice_split, onto_first}
 use Rattle.std.specs.Str.Lines.{lines, lines_of_parts, strip_carriage_return}
 use Rattle.std.proofs.lemmas.Bool.{eqb-true}
 use Rattle.flow_parse.specs.declared.token.Token.{Token}
@@ -9,8 +9,8 @@ use Rattle.flow_parse.specs.declared.form.Mention.{Mention}
 use Rattle.flow_parse.specs.declared.form.Port.{Port}
 use Rattle.flow_parse.specs.declared.form.Form.{Form}
 use Rattle.flow_parse.specs.declared.form.Form.TheVariants.{Header, Process, Connection, Initial, Subnet, End, InPort, OutPort}
-use Rattle.flow_parse.specs.Spelling.{is_word_byte, spelling, doubled, Ends, Begins, BeginsRow}
-use Rattle.flow_parse.specs.Forms.{parenthesized, bracketed, mention, port, row_of}
+use Rattle.flow_parse.specs.Spelling.{is_word_byte, spelling, doubled, Ends, BeginsRow}
+use Rattle.flow_parse.specs.Forms.{parenthesized, mention, port, row_of}
 use Rattle.flow_parse.specs.Files.{says, LineIs}
 
 -- Bytes that stand within one line.

@@ -1,5 +1,5 @@
 -- The canonical text of a valid value spells it.
-use Rattle.std.proofs.Common.{◌≡◌, ℕ, ◌+◌, ◌≤◌, Bool, true, false, List, [], ◌∷◌, ◌++◌, length, map, Option, Some, None, Result, Ok, Err, refl, sym, ap, subst, ◌∙◌, append_assoc, rules, arith}
+use Rattle.std.proofs.Common.{◌≡◌, ℕ, ◌+◌, ◌≤◌, Bool, false, List, [], ◌∷◌, ◌++◌, length, map, Some, None, Result, Ok, refl, sym, ap, subst, ◌∙◌, append_assoc, rules, arith}
 use Rattle.std.specs.Prelude.{◌||◌, not, codes}
 use Rattle.std.specs.Str.{bytes_eq}
 use Rattle.std.specs.Str.Lines.{lines}
@@ -9,17 +9,16 @@ use Rattle.std.proofs.lemmas.List.Folds.{list_any-append}
 use Rattle.std.proofs.lemmas.List.Sums.{sum_by_push, sum_by-cons}
 use Rattle.flow_parse.specs.declared.token.Token.{Token}
 use Rattle.flow_parse.specs.declared.token.Token.TheVariants.{Word}
-use Rattle.flow_parse.specs.declared.form.Form.{Form}
 use Rattle.flow_parse.specs.declared.form.Form.TheVariants as forms
 use Rattle.flow_parse.specs.declared.fault.NetFault.{NetFault}
 use Rattle.flow_parse.specs.declared.value.Statement.{Statement}
 use Rattle.flow_parse.specs.declared.value.NetPart.{NetPart}
 use Rattle.flow_parse.specs.declared.value.NetText.{NetText}
-use Rattle.flow_parse.specs.Files.{Lines, Parts, nothing, says, statements_in, is_new_subnet, reason_at, fault_at, with_line, value_of, at_end, LeadsTo, Spells}
+use Rattle.flow_parse.specs.Files.{Lines, nothing, says, statements_in, reason_at, fault_at, value_of, at_end, LeadsTo, Spells}
 use Rattle.flow_parse.specs.Canonical.{line, part_lines, subnet_lines, canonical}
 use Rattle.flow_parse.specs.Values.{IsName, IsInner, Differ, IsNetPart, IsNetText}
 use Rattle.flow_parse.proofs.PrintedLines.{lines_first}
-use Rattle.flow_parse.proofs.PrintedRows.{IsWord, joined, word_piece}
+use Rattle.flow_parse.proofs.PrintedRows.{joined, word_piece}
 use Rattle.flow_parse.proofs.PrintedForms.{Says, says_form, name_word}
 use Rattle.flow_parse.proofs.PrintedParts.{Where, in_main, in_subnet, at, ended_count, no_reason, one_line, MayStand, Gives, part_read}
 

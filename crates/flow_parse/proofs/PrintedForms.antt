@@ -1,5 +1,5 @@
 -- The form that the line of a process or a statement says.
-use Rattle.std.proofs.Common.{◌≡◌, ◌≢◌, ℕ, ◌+◌, ◌%◌, ◌^◌, ◌<◌, ◌≤◌, Bool, true, false, cond, eqb, leb, List, [], ◌∷◌, ◌++◌, length, get_or, map, Option, Some, None, refl, sym, ap, subst, ◌∙◌, ◌⊎◌, inl, inr, append_assoc, eq-eqb, leb-true, leb-false, eqb-true, rules, arith}
+use Rattle.std.proofs.Common.{◌≡◌, ℕ, ◌+◌, ◌%◌, ◌^◌, ◌<◌, ◌≤◌, Bool, true, false, cond, eqb, leb, List, [], ◌∷◌, ◌++◌, length, get_or, map, Option, Some, None, refl, ap, subst, ◌∙◌, ◌⊎◌, inl, inr, append_assoc, eq-eqb, leb-true, leb-false, eqb-true, rules, arith}
 use Rattle.std.specs.Prelude.{◌&&◌, ◌||◌, not, is_some, codes, option_map, option_and_then}
 use Rattle.std.specs.Fmt.{decimal}
 use Rattle.std.specs.Char.{is_ascii_digit}
@@ -9,7 +9,6 @@ use Rattle.std.specs.List.{AllByRecursion}
 use Rattle.std.proofs.Math.Dec.{eqb-suc-zero}
 use Rattle.std.proofs.lemmas.Bool.{le-leb, ne_eqb}
 use Rattle.std.proofs.lemmas.Fmt.{decimal_is_IsNumeral, decimal_by_steps, first_decimal, decimal_digit}
-use Rattle.std.proofs.lemmas.List.{append-nil}
 use Rattle.flow_net.specs.declared.kind.PortRef.{PortRef}
 use Rattle.flow_parse.specs.declared.token.Token.{Token}
 use Rattle.flow_parse.specs.declared.token.Token.TheVariants.{Word, Arrow, Open, Close, Quoted}
@@ -20,10 +19,10 @@ use Rattle.flow_parse.specs.declared.form.Form.TheVariants as forms
 use Rattle.flow_parse.specs.declared.value.Statement.{Statement}
 use Rattle.flow_parse.specs.declared.value.Statement.TheVariants.{Connect, Initial, InPort, OutPort}
 use Rattle.flow_parse.specs.Spelling.{is_word_byte}
-use Rattle.flow_parse.specs.Names.{is_name, begins_with_zero, is_decimal, number_in, element_of, capacity_of, or_none, is_named, is_numbered}
-use Rattle.flow_parse.specs.Forms.{is_reserved, bracketed, port, row_of, BeginsWell}
+use Rattle.flow_parse.specs.Names.{is_name, is_decimal, number_in, element_of, capacity_of, or_none, is_named, is_numbered}
+use Rattle.flow_parse.specs.Forms.{is_reserved, port, row_of, BeginsWell}
 use Rattle.flow_parse.specs.Files.{says, LineIs, port_ref, statements_of, text_fits, mentions_of}
-use Rattle.flow_parse.specs.Canonical.{word, port_piece, capacity_pieces, statement_pieces}
+use Rattle.flow_parse.specs.Canonical.{word, port_piece, statement_pieces}
 use Rattle.flow_parse.specs.Values.{IsName, IsWithin, IsPort, IsStatement, names_of}
 use Rattle.flow_parse.proofs.Cutting.{AllByRecursion-push}
 use Rattle.flow_parse.proofs.PrintedLines.{Closed}

@@ -1,5 +1,5 @@
 -- The lines of a text whose lines are each ended by byte 10.
-use Rattle.std.proofs.Common.{◌≡◌, ◌≢◌, ℕ, ◌+◌, ◌-◌, ◌<◌, Bool, true, false, cond, eqb, List, [], ◌∷◌, ◌++◌, length, length-append, get_or, take, refl, sym, ap, subst, ◌∙◌, append_assoc, arith}
+use Rattle.std.proofs.Common.{◌≡◌, ◌≢◌, ℕ, ◌+◌, ◌-◌, true, false, cond, eqb, List, [], ◌∷◌, ◌++◌, length, length-append, get_or, refl, sym, ap, subst, ◌∙◌, append_assoc, arith}
 use Rattle.std.specs.List.{AllByRecursion, slice_split, onto_first}
 use Rattle.std.specs.Str.Lines.{lines, lines_of_parts, strip_carriage_return}
 use Rattle.std.proofs.lemmas.Bool.{ne_eqb}
@@ -18,17 +18,17 @@ split_first : (text rest : List ℕ) → AllByRecursion (λ b. b ≢ 10) text �
 split_first [] rest all = refl
 split_first (b ∷ bs) rest all = rw (ne_eqb b 10 all.0, split_first bs rest all.1) refl
 
--- a list with a first element
-abbrev Some_first : List (List ℕ) → Type 0
-Some_first parts = (first : List ℕ) × (more : List (List ℕ)) × (parts ≡ first ∷ more)
+-- the list has a first element
+abbrev HasFirst : List (List ℕ) → Type 0
+HasFirst parts = (first : List ℕ) × (more : List (List ℕ)) × (parts ≡ first ∷ more)
 
-onto_some : (b : ℕ) (parts : List (List ℕ)) → Some_first (onto_first b parts)
+onto_some : (b : ℕ) (parts : List (List ℕ)) → HasFirst (onto_first b parts)
 onto_some b [] = (b ∷ [], [], refl)
 onto_some b (p ∷ ps) = (b ∷ p, ps, refl)
 
-split_some : (text : List ℕ) → Some_first (slice_split (λ b. eqb b 10) text)
+split_some : (text : List ℕ) → HasFirst (slice_split (λ b. eqb b 10) text)
 split_some [] = ([], [], refl)
-split_some (b ∷ bs) = elim (eqb b 10) as (λ v. Some_first (cond v ([] ∷ slice_split (λ c. eqb c 10) bs) (onto_first b (slice_split (λ c. eqb c 10) bs)))) [
+split_some (b ∷ bs) = elim (eqb b 10) as (λ v. HasFirst (cond v ([] ∷ slice_split (λ c. eqb c 10) bs) (onto_first b (slice_split (λ c. eqb c 10) bs)))) [
   | true ↦ ([], slice_split (λ c. eqb c 10) bs, refl)
   | false ↦ onto_some b (slice_split (λ c. eqb c 10) bs)
 ]

@@ -1,6 +1,6 @@
 -- The lines of a part's canonical text, read one after another.
-use Rattle.std.proofs.Common.{◌≡◌, ℕ, ◌+◌, ◌≤◌, Bool, true, false, leb, List, [], ◌∷◌, ◌++◌, length, length-append, map, Option, Some, None, Result, Ok, Err, refl, sym, ap, subst, ◌∙◌, append_assoc, arith}
-use Rattle.std.specs.Prelude.{◌&&◌, ◌||◌, unwrap_or, option_and_then, MatchResult}
+use Rattle.std.proofs.Common.{◌≡◌, ℕ, ◌+◌, ◌≤◌, Bool, true, false, leb, List, [], ◌∷◌, ◌++◌, length, length-append, map, Option, Some, None, Result, refl, sym, ap, subst, ◌∙◌, append_assoc, arith}
+use Rattle.std.specs.Prelude.{◌&&◌, ◌||◌, unwrap_or, option_and_then}
 use Rattle.std.specs.Str.{bytes_eq}
 use Rattle.std.specs.Str.Lines.{lines}
 use Rattle.std.specs.List.{AllByRecursion, flat_map, list_any, sum_by}
@@ -12,7 +12,6 @@ use Rattle.flow_parse.specs.declared.form.Mention.{Mention}
 use Rattle.flow_parse.specs.declared.form.Form.{Form}
 use Rattle.flow_parse.specs.declared.form.Form.TheVariants as forms
 use Rattle.flow_parse.specs.declared.part.Known.{Known}
-use Rattle.flow_parse.specs.declared.fault.Reason.{Reason}
 use Rattle.flow_parse.specs.declared.fault.Reason.TheVariants as reasons
 use Rattle.flow_parse.specs.declared.fault.NetFault.{NetFault}
 use Rattle.flow_parse.specs.declared.value.Statement.{Statement}
@@ -21,12 +20,12 @@ use Rattle.flow_parse.specs.declared.value.NetPart.{NetPart}
 use Rattle.flow_parse.specs.declared.value.NetText.{NetText}
 use Rattle.flow_parse.specs.Table.{mentioned, table_with}
 use Rattle.flow_parse.specs.Names.{is_named, is_numbered}
-use Rattle.flow_parse.specs.Files.{Lines, Parts, says, LineIs, with_line, mentions_of, mentions_in, processes_in, kindless_line, kinds_agree, statements_of, statements_in, statement_count, first_failing, may_stand, is_new_subnet, text_fits, reason_at, fault_at, lines_now, value_of, after, LeadsTo}
+use Rattle.flow_parse.specs.Files.{Lines, Parts, says, with_line, mentions_of, mentions_in, processes_in, kindless_line, kinds_agree, statements_of, statements_in, statement_count, first_failing, may_stand, is_new_subnet, text_fits, reason_at, fault_at, lines_now, value_of, LeadsTo}
 use Rattle.flow_parse.specs.Canonical.{process_line, statement_pieces, statement_line, part_lines}
 use Rattle.flow_parse.specs.Values.{IsName, IsStatement, IsInner, names_of, Differ, NamesKnown, IsNetPart}
 use Rattle.flow_parse.proofs.TableLaws.{mentioned_new}
 use Rattle.flow_parse.proofs.TableMeans.{line_table, agreed, mentions_push, statements_push}
-use Rattle.flow_parse.proofs.PrintedLines.{Closed, lines_first}
+use Rattle.flow_parse.proofs.PrintedLines.{lines_first}
 use Rattle.flow_parse.proofs.PrintedRows.{joined}
 use Rattle.flow_parse.proofs.PrintedForms.{as_mention, said_by, Says, statement_says, process_says, statement_named, statement_numbered, statement_fits, statement_again, statement_mentions}
 

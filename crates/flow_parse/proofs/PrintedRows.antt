@@ -1,10 +1,10 @@
 -- The row of tokens that a line of pieces is.
-use Rattle.std.proofs.Common.{◌≡◌, ◌≢◌, ℕ, Bool, true, false, eqb, List, [], ◌∷◌, ◌++◌, map, refl, sym, ap, subst, ◌∙◌, append_assoc, arith}
+use Rattle.std.proofs.Common.{◌≡◌, ◌≢◌, ℕ, true, eqb, List, [], ◌∷◌, ◌++◌, map, refl, sym, ap, subst, append_assoc, arith}
 use Rattle.std.specs.List.{AllByRecursion, flat_map, join_with_byte}
 use Rattle.std.proofs.lemmas.List.{append-nil}
 use Rattle.flow_parse.specs.declared.token.Token.{Token}
 use Rattle.flow_parse.specs.declared.token.Token.TheVariants.{Word, Arrow, Open, Close, OpenBracket, CloseBracket, Quoted}
-use Rattle.flow_parse.specs.Spelling.{is_word_byte, spelling, doubled, DoesntBegin, Ends, Begins, BeginsRow, IsRow}
+use Rattle.flow_parse.specs.Spelling.{is_word_byte, spelling, doubled, DoesntBegin, Ends, BeginsRow, IsRow}
 use Rattle.flow_parse.proofs.PrintedLines.{Closed, closed_behind, closed_word, closed_quoted}
 
 -- Nothing, or a space in front.

@@ -42,8 +42,13 @@ fn a_refused_file_has_its_first_fault(rt: HostRuntime) -> Result<(), Fail> {
         (" \t\n# a remark\n", 3, Reason::Header),
         ("flow 2\n", 1, Reason::Header),
         ("flow 1\nA ; 'x\n", 2, Reason::Byte),
+        ("flow 1\nA OUT - > IN B\n", 2, Reason::Byte),
         ("flow 1\n'a''b -> IN B\n", 2, Reason::Quote),
         ("flow 1\nA OUT -> -> IN B\n", 2, Reason::Form),
+        ("flow 1\nend(K)\n", 2, Reason::Form),
+        ("flow 1\nend\n", 2, Reason::Form),
+        ("flow 1\n2A(Passthru)\n", 2, Reason::Name),
+        ("flow 1\nA OUT[512] -> IN B\n", 2, Reason::Number),
         ("flow 1\nA OUT -> (03) IN B\n", 2, Reason::Number),
         ("flow 1\nA OUT -> (1025) IN B\n", 2, Reason::Number),
         ("flow 1\nA OUT -> (03) IN end\n", 2, Reason::Name),
@@ -57,6 +62,12 @@ fn a_refused_file_has_its_first_fault(rt: HostRuntime) -> Result<(), Fail> {
             "flow 1\nA(K)\nB OUT -> IN A\nC OUT -> IN A\n",
             3,
             Reason::Kind,
+        ),
+        ("flow 1\nA(K) OUT -> IN A(L)\n", 2, Reason::Kind),
+        (
+            "flow 1\nsubnet S\nend\nsubnet T\nend\nsubnet S\n",
+            6,
+            Reason::Subnet,
         ),
         ("flow 1\nsubnet S\n", 2, Reason::Subnet),
     ] {
@@ -100,4 +111,15 @@ fn a_value_has_one_spelling(rt: HostRuntime) -> Result<(), Fail> {
     let spelled =
         b"flow 1\nsubnet S\nW(Passthru)\ninport IN -> IN W\noutport W OUT -> OUT\nend\nA(S)\nA OUT[0] -> (20) IN[1] A\n";
     check_spelling(&rt, alloc, file, spelled)
+}
+
+#[test]
+fn a_subnet_stands_before_the_main_part(rt: HostRuntime) -> Result<(), Fail> {
+    let alloc = rt.alloc();
+    let file =
+        b"flow 1\n# a copy, in two steps\n'in.txt' -> FILE A(ReadLines)\nA OUT->( 3 )IN B ( Twice )\nsubnet Twice\n  inport IN -> IN W(Passthru)\n  outport W OUT -> OUT\nend\nB OUT -> IN C(WriteLines)\n'out.txt' -> FILE C\n";
+    let spelled =
+        b"flow 1\nsubnet Twice\nW(Passthru)\ninport IN -> IN W\noutport W OUT -> OUT\nend\nA(ReadLines)\nB(Twice)\nC(WriteLines)\n'in.txt' -> FILE A\nA OUT -> (3) IN B\nB OUT -> IN C\n'out.txt' -> FILE C\n";
+    check_spelling(&rt, alloc, file, spelled)?;
+    check_spelling(&rt, alloc, spelled, spelled)
 }

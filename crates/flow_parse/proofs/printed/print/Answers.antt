@@ -1,6 +1,3 @@
-use Rattle.std.proofs.Common.{List, ℕ, sym, subst}
-use Rattle.flow_parse.specs.Canonical.{canonical}
-use Rattle.flow_parse.specs.Files.{Spells}
 use Rattle.flow_parse.proofs.PrintedFile.{canonical_spells}
 use Rattle.flow_parse.proofs.printed.print.Goals as goal
 

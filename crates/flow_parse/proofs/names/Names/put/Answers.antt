@@ -1,4 +1,4 @@
-use Rattle.std.proofs.Common.{Bool, cond, Some, ap, ◌∙◌, List, ℕ}
+use Rattle.std.proofs.Common.{cond, Some, ap, ◌∙◌, List, ℕ}
 use Rattle.std.specs.Str.{bytes_eq}
 use Rattle.flow_parse.specs.Places.{place_in}
 use Rattle.flow_parse.proofs.PlaceLaws.{put_place}

@@ -1,4 +1,4 @@
-use Rattle.std.proofs.Common.{sym, ap, subst, ◌∙◌, Option, List}
+use Rattle.std.proofs.Common.{subst, Option, List}
 use Rattle.flow_parse.specs.declared.part.Known.{Known}
 use Rattle.flow_parse.specs.Table.{Adds}
 use Rattle.flow_parse.proofs.TableLaws.{new_mention, unkinded_mention, kinded_mention}
