@@ -13,8 +13,8 @@ use Rattle.flow_cli.specs.Step.{OnlyReads, HoldsMore}
 use Rattle.flow_cli.specs.Parts.{IsInput, AreParts, StopsReading}
 use Rattle.flow_cli.specs.Prepare.{Asks, file_of, IsCommand, IsFile, IsNetwork, IsRefused, IsReadName, Loads, ReadsInputs, Prepares}
 use Rattle.flow_cli.specs.declared.before.Job.{Job}
-use Rattle.flow_cli.specs.declared.network.NetFile.{NetFile}
-use Rattle.flow_cli.specs.declared.network.Refusal.{Refusal}
+use Rattle.flow_cli.specs.declared.net_file.NetFile.{NetFile}
+use Rattle.flow_cli.specs.declared.net_file.Refusal.{Refusal}
 use Rattle.flow_cli.specs.declared.stop.Stop.{Stop}
 use Rattle.flow_cli.specs.declared.stop.Stop.TheVariants.{Words, Refused, ReadFault, WriteFault, TooLong, NoMemory}
 

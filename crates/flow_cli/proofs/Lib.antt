@@ -1,8 +1,10 @@
 pub mod Befores
 pub mod Cuts
 pub mod Fitting
+pub mod Leaving
 pub mod Networks
 pub mod Outputs
 pub mod Runs
+pub mod Stopping
 pub mod Tops
 pub mod Written

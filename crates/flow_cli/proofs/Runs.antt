@@ -13,6 +13,7 @@ use Rattle.flow_machine.specs.Values.{NetValue}
 use Rattle.flow_journal.specs.declared.merge.Journal.{Journal}
 use Rattle.flow_cli.specs.Step.{OnlyReads}
 use Rattle.flow_cli.specs.Many.{Filled, replaced_all}
+use Rattle.flow_cli.specs.Networks.{IsStandardPlan}
 use Rattle.flow_cli.specs.Parts.{AreParts}
 use Rattle.flow_cli.specs.Prepare.{Asks, IsFile, IsNetwork, Prepares}
 use Rattle.flow_cli.specs.After.{IsCutShort, WritesOutputs, verdict_status}
@@ -48,17 +49,23 @@ checked-of o n words text ending limit p checks =
     record { text = text; file = p.4; spelled = checks.0; status = checks.1; untouched = (checks.2, OnlyReads-files o n p.2) }
 
 run-of : (told : Option Files) (name : Name) (plan : Network) (parts : List Std) (net : NetValue Std) (of : Told) (leaves : Leaves plan parts net of)
-    → IfSome told (λ files. IsNetwork files name plan) → AreParts told plan parts → IsRunOf told name plan of.journal leaves.last
-run-of told name plan parts net of leaves network are = record { network = network; parts = parts; are_parts = are; run = leaves.run }
+    → IfSome told (λ files. IsNetwork files name plan) → IsStandardPlan plan → AreParts told plan parts → IsRunOf told name plan of.journal leaves.last
+run-of told name plan parts net of leaves network standard are =
+    record { network = network; standard = standard; parts = parts; are_parts = are; run = leaves.run }
+
+-- What is left of the files, where their contents were told.
+abbrev pub Cut : Option Files → Outside → List Filled → Name → Type 0
+Cut told n outputs written = IfSome told (λ files. (n.files ≡ Some files) ⊎ IsCutShort files n.files outputs written)
 
 cut-of : (told : Option Files) (n : Outside) (outputs others : List Filled) (written : Name) → outputs ≡ others
-    → IfSome told (λ files. IsCutShort files n.files outputs written) → IfSome told (λ files. IsCutShort files n.files others written)
-cut-of told n outputs others written same cut = subst (λ (l : List Filled). IfSome told (λ files. IsCutShort files n.files l written)) same cut
+    → IfSome told (λ files. IsCutShort files n.files outputs written) → Cut told n others written
+cut-of None n outputs others written same cut = tt
+cut-of (Some files) n outputs others written same cut = inr (subst (λ (l : List Filled). IsCutShort files n.files l written) same cut)
 
--- a file that wasn't begun holds what it held
-begun-none : (told : Option Files) (n : Outside) (outputs : List Filled) (written : Name) → n.files ≡ told → IfSome told (λ files. IsCutShort files n.files outputs written)
-begun-none None n outputs written is = tt
-begun-none (Some files) n outputs written is = record { place = 0; bytes = []; files = inl is }
+-- nothing was touched
+untouched-of : (told : Option Files) (n : Outside) (outputs : List Filled) (written : Name) → n.files ≡ told → Cut told n outputs written
+untouched-of None n outputs written is = tt
+untouched-of (Some files) n outputs written is = inl is
 
 some-cut : (told : Option Files) (n : Outside) (outputs : List Filled) → IfSome told (λ files. (written : Name) × IsCutShort files n.files outputs written)
     → (written : Name) × IfSome told (λ files. IsCutShort files n.files outputs written)
@@ -67,9 +74,9 @@ some-cut (Some files) n outputs cut = cut
 
 -- a stop in writing
 pub halts : (o a n : Outside) (words : List (String Global)) (name : Name) (plan : Network) (parts : List Std) (net : NetValue Std) (of : Told) (stop : Stop) (limit : ℕ)
-    → Asks words (Run name) → OnlyReads o a → IfSome o.files (λ files. IsNetwork files name plan) → AreParts o.files plan parts → Leaves plan parts net of
+    → Asks words (Run name) → OnlyReads o a → IfSome o.files (λ files. IsNetwork files name plan) → IsStandardPlan plan → AreParts o.files plan parts → Leaves plan parts net of
     → WritesOutputs {T = Unit {0}} a n (net_outputs plan net) (Err stop) → Halts o n words stop of.journal limit
-halts o a n words name plan parts net of (WriteFault written) limit is reads network are leaves w =
+halts o a n words name plan parts net of (WriteFault written) limit is reads network standard are leaves w =
     let same = OnlyReads-files o a reads in
     let faults : a.write_faults ≡ o.write_faults = ap (λ (x : Outside). x.write_faults) reads in
     let cut = subst (λ (t : Option Files). IfSome t (λ files. IsCutShort files n.files (net_outputs plan net) (string_bytes written))) same w.3 in (
@@ -80,41 +87,41 @@ halts o a n words name plan parts net of (WriteFault written) limit is reads net
       record {
         plan = plan;
         last = leaves.last;
-        run = run-of o.files name plan parts net of leaves network are;
+        run = run-of o.files name plan parts net of leaves network standard are;
         cut = cut-of o.files n (net_outputs plan net) (outputs_of plan leaves.last) (string_bytes written) leaves.outputs cut;
       },
     )
-halts o a n words name plan parts net of NoMemory limit is reads network are leaves (only, inl kept) =
+halts o a n words name plan parts net of NoMemory limit is reads network standard are leaves (only, inl kept) =
     let same = OnlyReads-files o a reads in
     inr (name, [], is, record {
       plan = plan;
       last = leaves.last;
-      run = run-of o.files name plan parts net of leaves network are;
-      cut = begun-none o.files n (outputs_of plan leaves.last) [] (kept ∙ same);
+      run = run-of o.files name plan parts net of leaves network standard are;
+      cut = untouched-of o.files n (outputs_of plan leaves.last) [] (kept ∙ same);
     })
-halts o a n words name plan parts net of NoMemory limit is reads network are leaves (only, inr cut) =
+halts o a n words name plan parts net of NoMemory limit is reads network standard are leaves (only, inr cut) =
     let same = OnlyReads-files o a reads in
     let found = some-cut o.files n (net_outputs plan net)
     (subst (λ (t : Option Files). IfSome t (λ files. (written : Name) × IsCutShort files n.files (net_outputs plan net) written)) same cut) in
     inr (name, found.0, is, record {
       plan = plan;
       last = leaves.last;
-      run = run-of o.files name plan parts net of leaves network are;
+      run = run-of o.files name plan parts net of leaves network standard are;
       cut = cut-of o.files n (net_outputs plan net) (outputs_of plan leaves.last) found.0 leaves.outputs found.1;
     })
-halts o a n words name plan parts net of Words limit is reads network are leaves w = absurd w
-halts o a n words name plan parts net of (Refused refusal) limit is reads network are leaves w = absurd w
-halts o a n words name plan parts net of (ReadFault read) limit is reads network are leaves w = absurd w
-halts o a n words name plan parts net of (TooLong read) limit is reads network are leaves w = absurd w
+halts o a n words name plan parts net of Words limit is reads network standard are leaves w = absurd w
+halts o a n words name plan parts net of (Refused refusal) limit is reads network standard are leaves w = absurd w
+halts o a n words name plan parts net of (ReadFault read) limit is reads network standard are leaves w = absurd w
+halts o a n words name plan parts net of (TooLong read) limit is reads network standard are leaves w = absurd w
 
 -- all files were written
 pub whole : (o a n : Outside) (name : Name) (plan : Network) (parts : List Std) (net : NetValue Std) (of : Told) (ending : Ending) → OnlyReads o a
-    → IfSome o.files (λ files. IsNetwork files name plan) → AreParts o.files plan parts → Leaves plan parts net of → Ends of ending
+    → IfSome o.files (λ files. IsNetwork files name plan) → IsStandardPlan plan → AreParts o.files plan parts → Leaves plan parts net of → Ends of ending
     → n.files ≡ option_map (replaced_all (net_outputs plan net)) a.files → IsWhole o n name ending
-whole o a n name plan parts net of ending reads network are leaves ends files = record {
+whole o a n name plan parts net of ending reads network standard are leaves ends files = record {
   plan = plan;
   last = leaves.last;
-  run = subst (λ (j : Journal). IsRunOf o.files name plan j leaves.last) (sym ends.journal) (run-of o.files name plan parts net of leaves network are);
+  run = subst (λ (j : Journal). IsRunOf o.files name plan j leaves.last) (sym ends.journal) (run-of o.files name plan parts net of leaves network standard are);
   report = leaves.told_is.report;
   tells = leaves.told_is.tells;
   text = ends.text ∙ leaves.told_is.text;

@@ -22,7 +22,7 @@ use Rattle.flow_model.specs.Verdicts.{Quiet}
 use Rattle.flow_catalogue.specs.declared.standard.Std.{Std}
 use Rattle.flow_cli.specs.declared.top.Outcome.{Outcome}
 use Rattle.flow_cli.specs.declared.run.Ending.{Ending}
-use Rattle.flow_cli.specs.declared.network.Refusal.{Refusal}
+use Rattle.flow_cli.specs.declared.net_file.Refusal.{Refusal}
 use Rattle.flow_cli.specs.declared.stop.Stop.{Stop}
 use Rattle.flow_cli.specs.declared.stop.Stop.TheVariants.{Words, Refused, ReadFault, WriteFault, TooLong, NoMemory}
 
@@ -35,6 +35,45 @@ stop_own : (po pn : Outside) (stop : Stop) (status : ℕ) → PrintsStop po pn s
     → (status ≡ status_of stop) × (pn ≡ after_write po (text_of stop))
 stop_own po pn stop status (inl p) not_7 not_8 = own po pn (text_of stop) (status_of stop) status p not_7
 stop_own po pn stop status (inr p) not_7 not_8 = absurd (let q = own po pn (text_of NoMemory) 8 status p not_7 in not_8 q.0)
+
+over_isnt_7 : (status : ℕ) → IsOver status → status ≡ 7 → ⊥
+over_isnt_7 status over e = grind arith
+
+-- a stop's status is none of a call that came to its end
+stop_isnt_over : (stop : Stop) → IsOver (status_of stop) → ⊥
+stop_isnt_over Words over = grind arith
+stop_isnt_over (Refused refusal) over = grind arith
+stop_isnt_over (ReadFault read) over = grind arith
+stop_isnt_over (WriteFault written) over = grind arith
+stop_isnt_over (TooLong read) over = grind arith
+stop_isnt_over NoMemory over = grind arith
+
+over_isnt : (status k : ℕ) → IsOver status → status ≡ k → IsOver k
+over_isnt status k over is = subst IsOver is over
+
+pub stop-over : (po pn : Outside) (stop : Stop) (status : ℕ) → PrintsStop po pn stop status → IsOver status → ⊥
+stop-over po pn stop status (inl (inl p)) over = stop_isnt_over stop (over_isnt status (status_of stop) over p.0)
+stop-over po pn stop status (inl (inr p)) over = over_isnt_7 status over p.0
+stop-over po pn stop status (inr (inl p)) over = stop_isnt_over NoMemory (over_isnt status 8 over p.0)
+stop-over po pn stop status (inr (inr p)) over = over_isnt_7 status over p.0
+
+abbrev pub WordsCause : Outside → Outside → Outside → Outside → List (String Global) → Type 0
+WordsCause o n po pn words = (command_of (map string_bytes words) ≡ None) × (n ≡ o) × (pn ≡ after_write po (text_of Words))
+
+words_at : (o n po pn : Outside) (words : List (String Global)) (stop : Stop) (journal : Journal) (limit : ℕ) → Halts o n words stop journal limit → 2 ≡ status_of stop
+    → pn ≡ after_write po (text_of stop) → WordsCause o n po pn words
+words_at o n po pn words Words journal limit w e p = (w.0, w.1, p)
+words_at o n po pn words (Refused refusal) journal limit w e p = absurd (omega arith)
+words_at o n po pn words (ReadFault read) journal limit w e p = absurd (omega arith)
+words_at o n po pn words (WriteFault written) journal limit w e p = absurd (omega arith)
+words_at o n po pn words (TooLong read) journal limit w e p = absurd (omega arith)
+words_at o n po pn words NoMemory journal limit w e p = absurd (omega arith)
+
+pub words-refused : (o n po pn : Outside) (words : List (String Global)) (stop : Stop) (journal : Journal) (status limit : ℕ) → Halts o n words stop journal limit
+    → PrintsStop po pn stop status → status ≡ 2 → WordsCause o n po pn words
+words-refused o n po pn words stop journal status limit w p e =
+    let q = stop_own po pn stop status p (λ f. omega arith) (λ f. omega arith) in
+    words_at o n po pn words stop journal limit w (sym e ∙ q.0) q.1
 
 abbrev pub ReadCause : Outside → Outside → Outside → Outside → List (String Global) → Type 0
 ReadCause o n po pn words = (name : Name) × IsCommand words name × (n.files ≡ o.files) × Rose o.read_faults n.read_faults
@@ -161,9 +200,6 @@ complete_at o n po pn words stop journal status limit (Some files) is w p quiet 
 pub complete : (o n po pn : Outside) (words : List (String Global)) (stop : Stop) (journal : Journal) (status limit : ℕ) → Halts o n words stop journal limit → PrintsStop po pn stop status
     → NoFaults o n po pn → IfSome o.files (λ files. IsValid files words limit → IsOver status ⊎ (status ≡ 8))
 complete o n po pn words stop journal status limit w p quiet = complete_at o n po pn words stop journal status limit o.files refl w p quiet
-
-over_isnt_7 : (status : ℕ) → IsOver status → status ≡ 7 → ⊥
-over_isnt_7 status over e = grind arith
 
 -- the verdict of a quiet state is that its run came to its end
 over_on : (s : State Std) (verdict : Verdict) → Quiet s → IsVerdict s verdict → IsOver (verdict_status verdict)

@@ -1,5 +1,5 @@
 -- What a call does once its network has run: the files of the writers, then the report.
-use Rattle.std.specs.Prelude.{◌≡◌, ◌⊎◌, ℕ, ◌∷◌, [], List, Some, Ok, Err, IfSome, string_bytes, codes, if◌then◌else◌}
+use Rattle.std.specs.Prelude.{◌≡◌, ◌⊎◌, ℕ, ◌∷◌, [], List, Some, Ok, Err, IfSome, slice_get, string_bytes, codes, if◌then◌else◌}
 use Rattle.std.specs.declared.option.Option.{Option}
 use Rattle.std.specs.declared.result.Result.{Result}
 use Rattle.std.specs.Option.{option_map}
@@ -12,7 +12,7 @@ use Rattle.flow_report.specs.declared.report.Verdict.TheVariants as verdicts
 use Rattle.flow_cli.specs.Many.{Filled, replaced_all, after_some}
 use Rattle.flow_cli.specs.Step.{OnlyWrites, HoldsPart}
 use Rattle.flow_cli.specs.declared.stop.Stop.{Stop}
-use Rattle.flow_cli.specs.declared.stop.Stop.TheVariants.{Words, NotBuilt, ReadFault, WriteFault, TooLong, NoMemory}
+use Rattle.flow_cli.specs.declared.stop.Stop.TheVariants.{Words, Refused, ReadFault, WriteFault, TooLong, NoMemory}
 
 -- The name of the first option.
 abbrev pub first_option : List (ℕ × List ℕ) → List Name
@@ -23,10 +23,12 @@ first_option (option ∷ more) = option.1 ∷ []
 abbrev pub written_by : Process → List Name
 written_by process = if bytes_eq process.kind (codes "WriteLines") then first_option process.options else []
 
--- The files before the one at which it stopped were replaced in order, and that one holds a first part of its bytes or is as it was after those.
+-- The files before the one at which it stopped were replaced in order, and that one, which is among them by its place, holds a first part of its bytes or is
+-- as it was after those.
 pub record IsCutShort (before : Files) (after : Option Files) (outputs : List Filled) (name : Name) : Type 0 where
   pub place : ℕ
   pub bytes : List ℕ
+  pub output : slice_get outputs place ≡ Some (name, bytes)
   pub files : HoldsPart (after_some outputs place (Some before)) after name bytes
 
 -- What writing the files of a run does to the shelf.
@@ -36,7 +38,7 @@ WritesOutputs old new outputs (Err (WriteFault name)) = OnlyWrites old new × Ro
     × IfSome old.files (λ files. IsCutShort files new.files outputs (string_bytes name))
 WritesOutputs old new outputs (Err NoMemory) = OnlyWrites old new × ((new.files ≡ old.files) ⊎ IfSome old.files (λ files. (name : Name) × IsCutShort files new.files outputs name))
 WritesOutputs old new outputs (Err Words) = ⊥
-WritesOutputs old new outputs (Err NotBuilt) = ⊥
+WritesOutputs old new outputs (Err (Refused refusal)) = ⊥
 WritesOutputs old new outputs (Err (ReadFault name)) = ⊥
 WritesOutputs old new outputs (Err (TooLong name)) = ⊥
 

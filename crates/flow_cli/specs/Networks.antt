@@ -8,11 +8,11 @@ use Rattle.flow_parse.specs.declared.value.NetText.{NetText}
 use Rattle.flow_parse.specs.Files.{Spells, Refused}
 use Rattle.flow_expand.specs.Flat.{IsFlat}
 use Rattle.flow_catalogue.specs.Kinds.{std_kinds}
-use Rattle.flow_cli.specs.declared.network.Refusal.{Refusal}
-use Rattle.flow_cli.specs.declared.network.Refusal.TheVariants as refusals
-use Rattle.flow_cli.specs.declared.network.NetFile.{NetFile}
-use Rattle.flow_cli.specs.declared.network.NetworkStop.{NetworkStop}
-use Rattle.flow_cli.specs.declared.network.NetworkStop.TheVariants.{Refused as IsRefused, NoMemory}
+use Rattle.flow_cli.specs.declared.net_file.Refusal.{Refusal}
+use Rattle.flow_cli.specs.declared.net_file.Refusal.TheVariants as refusals
+use Rattle.flow_cli.specs.declared.net_file.NetFile.{NetFile}
+use Rattle.flow_cli.specs.declared.net_file.NetworkStop.{NetworkStop}
+use Rattle.flow_cli.specs.declared.net_file.NetworkStop.TheVariants.{Refused as IsRefused, NoMemory}
 
 -- The bytes spell this value, which has no subnets, and this is its plan over the standard kinds.
 pub record Holds (net : List ℕ) (text : NetText) (plan : Network) : Type 0 where

@@ -10,8 +10,8 @@ use Rattle.flow_words.specs.Words.{Asked, Run, Check, command_of}
 use Rattle.flow_cli.specs.Networks.{Holds, RefusedFor, IsStandardPlan}
 use Rattle.flow_cli.specs.Parts.{IsInput, AreParts}
 use Rattle.flow_cli.specs.Step.{OnlyReads, HoldsMore}
-use Rattle.flow_cli.specs.declared.network.Refusal.{Refusal}
-use Rattle.flow_cli.specs.declared.network.NetFile.{NetFile}
+use Rattle.flow_cli.specs.declared.net_file.Refusal.{Refusal}
+use Rattle.flow_cli.specs.declared.net_file.NetFile.{NetFile}
 use Rattle.flow_cli.specs.declared.before.Job.{Job}
 use Rattle.flow_cli.specs.declared.before.Task.{Task}
 use Rattle.flow_cli.specs.declared.before.Task.TheVariants as tasks

@@ -8,8 +8,8 @@ use Rattle.flow_cli.specs.declared.step.FileStop.TheVariants as file
 use Rattle.flow_cli.specs.declared.stop.Stop.{Stop}
 use Rattle.flow_cli.specs.declared.stop.Stop.TheVariants.{Words, Refused, ReadFault, WriteFault, TooLong, NoMemory}
 use Rattle.flow_expand.specs.Refusals.{fault_text, net_fault_text}
-use Rattle.flow_cli.specs.declared.network.Refusal.{Refusal}
-use Rattle.flow_cli.specs.declared.network.Refusal.TheVariants as refusals
+use Rattle.flow_cli.specs.declared.net_file.Refusal.{Refusal}
+use Rattle.flow_cli.specs.declared.net_file.Refusal.TheVariants as refusals
 
 -- The status with which a stop ends the program.
 abbrev pub status_of : Stop → ℕ

@@ -29,10 +29,11 @@ use Rattle.flow_cli.specs.declared.run.Halt.{Halt}
 use Rattle.flow_cli.specs.declared.stop.Stop.{Stop}
 use Rattle.flow_cli.specs.declared.stop.Stop.TheVariants.{Words, Refused, ReadFault, WriteFault, TooLong, NoMemory}
 
--- The network file of this name holds a network that was run on what its input files held: this is its plan, the journal of the run, and the state to
--- which that leads.
+-- The network file of this name holds a network that was run on what its input files held: this is its plan, a valid one over the standard kinds, the journal
+-- of the run, and the state to which that leads.
 pub record IsRunOf (before : Option Files) (name : Name) (plan : Network) (journal : Journal) (last : State Std) : Type 0 where
   pub network : IfSome before (λ files. IsNetwork files name plan)
+  pub standard : IsStandardPlan plan
   pub parts : List Std
   pub are_parts : AreParts before plan parts
   pub run : RunsTo plan parts journal last
@@ -48,12 +49,12 @@ pub record IsWhole (old new : Outside) (name : Name) (ending : Ending) : Type 0 
   pub status : ending.status ≡ verdict_status report.verdict
   pub files : new.files ≡ option_map (replaced_all (outputs_of plan last)) old.files
 
--- Such a run was made, and writing its files stopped at this one.
+-- Such a run was made, and writing its files stopped at this one, or before any was touched.
 pub record IsCut (old new : Outside) (name : Name) (journal : Journal) (written : Name) : Type 0 where
   pub plan : Network
   pub last : State Std
   pub run : IsRunOf old.files name plan journal last
-  pub cut : IfSome old.files (λ files. IsCutShort files new.files (outputs_of plan last) written)
+  pub cut : IfSome old.files (λ files. (new.files ≡ Some files) ⊎ IsCutShort files new.files (outputs_of plan last) written)
 
 -- No turn was made.
 abbrev pub IsEmptyJournal : Journal → Type 0

@@ -2,7 +2,7 @@
 ghost use Rattle.std.specs.Prelude.{◌≡◌};
 ghost use Rattle.flow_cli.specs.Prepare.{Loads, ReadsInputs, Prepares};
 
-use crate::network::{NetFile, NetworkStop, network};
+use crate::net_file::{NetFile, NetworkStop, network};
 use crate::parts::{FILE_LIMIT, read_parts};
 use crate::step::read_file;
 use crate::stop::{Stop, read_stop};
@@ -34,7 +34,7 @@ pub fn prepare<F: Shelf>(alloc: Global, words: &[String], shelf: &mut F) -> Resu
     match command(alloc, words) {
         Err(_) => Err(Stop::NoMemory),
         Ok(None) => Err(Stop::Words),
-        Ok(Some(Command::Run(name))) => match job(alloc, shelf, name) {
+        Ok(Some(Command::Run(name))) => match runnable(alloc, shelf, name) {
             Ok(job) => Ok(Task::Run(job)),
             Err(stop) => Err(stop),
         },
@@ -46,7 +46,7 @@ pub fn prepare<F: Shelf>(alloc: Global, words: &[String], shelf: &mut F) -> Resu
 }
 
 // The network of this file, with its parts.
-fn job<F: Shelf>(alloc: Global, shelf: &mut F, name: &str) -> Result<Job, Stop>
+fn runnable<F: Shelf>(alloc: Global, shelf: &mut F, name: &str) -> Result<Job, Stop>
     ensures { ReadsInputs (F.outside shelf.old) (F.outside shelf.new) name.now result FILE_LIMIT }
 {
     let plan = match load(alloc, shelf, name) {

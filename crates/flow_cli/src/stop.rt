@@ -3,7 +3,7 @@ ghost use Rattle.std.specs.Prelude.{◌≡◌, ◌++◌, ◌∷◌, [], IfOk, On
 ghost use Rattle.flow_cli.specs.Stops.{status_of, refusal_text, text_of, IsReadStop, IsWriteStop};
 ghost use Rattle.flow_cli.specs.declared.stop.Stop.TheVariants.{NoMemory};
 
-use crate::network::Refusal;
+use crate::net_file::Refusal;
 use crate::step::FileStop;
 use flow_expand::{put_fault, put_net_fault};
 use flow_text::ShelfStop;

@@ -1,37 +1,28 @@
-use Rattle.std.proofs.Common.{rules}
-use Rattle.flow_cli.specs.Thin.{IsPlanOf}
-use Rattle.flow_cli.specs.Parts.{IsRunnable, StopsReading}
-use Rattle.flow_cli.specs.Prepare.{IsCommand}
-use Rattle.flow_cli.specs.declared.before.Job.{Job}
+use Rattle.std.proofs.Common.{Some, sym, ap, ◌∙◌}
+use Rattle.std.specs.declared.option.Option.{Option}
+use Rattle.std.specs.Option.{option_map}
+use Rattle.flow_words.specs.declared.asked.Command.{Command}
+use Rattle.flow_words.specs.Words.{Check, asked_by}
+use Rattle.flow_cli.specs.Prepare.{Asks}
 use Rattle.flow_cli.specs.declared.parts.TheConstants.{FILE_LIMIT}
-use Rattle.flow_cli.proofs.Befores.{stopped, network-held, ready}
+use Rattle.flow_cli.proofs.Befores.{on-file, some-plan, load-stopped, prepare-stopped}
 use Rattle.flow_cli.proofs.before.prepare.Goals as goal
 
-pub returns : goal.returns
-returns g c =
+pub returns-in-Ok-load : goal.returns-in-Ok-load
+returns-in-Ok-load g c =
     let o = g.F.Edge.outside c.args.shelf.now in
-    let a = g.F.Edge.outside c.read_file.new.shelf in
-    let n = g.F.Edge.outside c.read_parts.new.shelf in
-    let name = c.in-Some.name.now in
-    let net = c.in-Ok.net.items in
-    let plan = c.in-Some-2.plan in
-    let read = c.in-Ok.ensures in
-    let is : IsCommand c.args.words.now name = search rules in
-    let is_plan : IsPlanOf net plan = search rules in
-    let stop : StopsReading a n plan c.in-Err-read_parts.stop FILE_LIMIT = search rules in
-    stopped o a n c.args.words.now name plan FILE_LIMIT c.in-Err-read_parts.stop is read.0 read.1 (network-held o.files name net plan read.3 is_plan) stop
+    let name = c.in-Ok-Some-Check.name.now in
+    let some = c.in-Ok-Some-Check.field-0-is ∙ ap Some c.in-Ok-Some-Check.field-0-0-is in
+    let is : Asks c.args.words.now (Check name) = sym c.in-Ok-Some-Check.ensures.words ∙ ap (λ (found : Option Command). option_map asked_by found) some in
+    let l = c.in-Ok-load.ensures in
+    (name, is, l.0, l.1, some-plan o.files name c.in-Ok-load.file.text c.in-Ok-load.file.plan l.2)
 
-pub returns-in-Ok-read_parts : goal.returns-in-Ok-read_parts
-returns-in-Ok-read_parts g c =
+pub returns-in-Err-load : goal.returns-in-Err-load
+returns-in-Err-load g c =
     let o = g.F.Edge.outside c.args.shelf.now in
-    let a = g.F.Edge.outside c.read_file.new.shelf in
-    let n = g.F.Edge.outside c.read_parts.new.shelf in
-    let name = c.in-Some.name.now in
-    let net = c.in-Ok.net.items in
-    let job : Job = record { plan = c.in-Some-2.plan; parts = c.in-Ok-read_parts.parts } in
-    let read = c.in-Ok.ensures in
-    let parts = c.in-Ok-read_parts.ensures in
-    let is : IsCommand c.args.words.now name = search rules in
-    let is_plan : IsPlanOf net job.plan = search rules in
-    let runnable : IsRunnable job.plan = search rules in
-    ready o a n c.args.words.now name net job FILE_LIMIT is read.0 read.1 read.3 is_plan runnable parts.0 parts.1 parts.2
+    let n = g.F.Edge.outside c.load.new.shelf in
+    let name = c.in-Ok-Some-Check.name.now in
+    let some = c.in-Ok-Some-Check.field-0-is ∙ ap Some c.in-Ok-Some-Check.field-0-0-is in
+    let is : Asks c.args.words.now (Check name) = sym c.in-Ok-Some-Check.ensures.words ∙ ap (λ (found : Option Command). option_map asked_by found) some in
+    prepare-stopped o n c.args.words.now name c.in-Err-load.stop FILE_LIMIT (on-file c.args.words.now (Check name) is)
+    (load-stopped o n name c.in-Err-load.stop FILE_LIMIT c.in-Err-load.ensures)

@@ -2,8 +2,17 @@ use Rattle.std.proofs.Common.{ℕ, List, refl, subst}
 use Rattle.flow_cli.specs.After.{Prints}
 use Rattle.flow_cli.specs.declared.top.Outcome.{Outcome}
 use Rattle.flow_cli.specs.declared.parts.TheConstants.{FILE_LIMIT}
-use Rattle.flow_cli.proofs.Tops.{refused, read-fault, write-fault, too-long, complete, memory, unmade, stop-small, stop-stands, ends, ends-complete, ends-status, ends-stand}
+use Rattle.flow_cli.proofs.Tops.{stop-over, words-refused, refused, read-fault, write-fault, too-long, complete, memory, unmade, stop-small, stop-stands, ends, ends-complete, ends-status, ends-stand}
 use Rattle.flow_cli.proofs.top.plain_top.Goals as goal
+
+pub returns-in-Err-clause-over : goal.returns-in-Err-clause-over
+returns-in-Err-clause-over g c = λ over.
+    absurd (stop-over (g.O.Edge.outside c.args.out.now) (g.O.Edge.outside c.print_stop.new.out) c.in-Err.halt.stop c.print_stop.result c.print_stop.ensures over)
+
+pub returns-in-Err-clause-words : goal.returns-in-Err-clause-words
+returns-in-Err-clause-words g c =
+    words-refused (g.F.Edge.outside c.args.shelf.now) (g.F.Edge.outside c.run.new.shelf) (g.O.Edge.outside c.args.out.now) (g.O.Edge.outside c.print_stop.new.out)
+    c.args.words.now c.in-Err.halt.stop c.in-Err.halt.journal c.print_stop.result FILE_LIMIT c.in-Err.ensures c.print_stop.ensures
 
 pub returns-in-Err-clause-refused : goal.returns-in-Err-clause-refused
 returns-in-Err-clause-refused g c =

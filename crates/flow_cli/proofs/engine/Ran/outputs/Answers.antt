@@ -13,7 +13,7 @@ use Rattle.flow_cli.proofs.engine.Ran.outputs.Goals.{in-None, in-Some+in_ok-push
 pub returns : goal.returns
 returns c =
     let processes = c.args.self.now.plan.processes in
-    let same = ap length c.processes-process-end.ensures in
+    let same = ap length c.processes-process-end.ensures.processes in
     let le : length processes ≤ c.loop-process.process = omega arith in
     c.loop-process.invariant ∙ ap (λ xs. outputs_from (bytes_at c.args.self.now.net.bodies) 0 xs) (take_all c.loop-process.process processes le)
 
@@ -24,7 +24,7 @@ loop-process-preserved c =
     let k = c.loop-process.process in
     let before = map output_of c.loop-process.outputs.items in
     let after = map output_of c.match-written_name.outputs.items in
-    let same = ap length c.processes-process-end.ensures in
+    let same = ap length c.processes-process-end.ensures.processes in
     let lt : k < length ps = omega arith in
     rw add-one (elim c.match-written_name.branch [
       | in-None w ↦

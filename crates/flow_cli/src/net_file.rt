@@ -34,7 +34,7 @@ pub enum NetworkStop {
 }
 
 impl From<AllocError> for NetworkStop {
-    ghost use Rattle.flow_cli.specs.declared.network.NetworkStop.TheVariants.{NoMemory};
+    ghost use Rattle.flow_cli.specs.declared.net_file.NetworkStop.TheVariants.{NoMemory};
 
     ghost from_gives = { λ _ e. e ≡ NoMemory };
 
