@@ -1,20 +1,18 @@
 -- A valid plan over the standard kinds has standard processes alone.
-use Rattle.std.proofs.Common.{◌≡◌, ℕ, zero, suc, ◌+◌, ◌<◌, ◌≤◌, Bool, true, false, List, [], ◌∷◌, ◌++◌, map, length, Some, None, refl, sym, ◌∙◌, ap, subst, arith, slice_get, length-append}
-use Rattle.std.specs.Prelude.{codes}
+use Rattle.std.proofs.Common.{◌≡◌, ℕ, zero, suc, ◌<◌, true, false, List, [], ◌∷◌, map, length, Some, refl, sym, ◌∙◌, ap, subst, arith, slice_get, length-append}
 use Rattle.flow_net.specs.declared.kind.KindSpec.{KindSpec}
 use Rattle.flow_net.specs.declared.kind.PortSpec.{PortSpec}
-use Rattle.flow_net.specs.declared.kind.PortClass.TheVariants.{File}
 use Rattle.flow_net.specs.declared.plan.Process.{Process}
 use Rattle.flow_net.specs.declared.plan.PortRow.{PortRow}
 use Rattle.flow_net.specs.declared.plan.PortTable.{PortTable}
-use Rattle.flow_net.specs.Network.{Network, HasOutput, is_stream, elements_of, ports_of}
+use Rattle.flow_net.specs.Network.{Network, is_stream, elements_of, ports_of}
 use Rattle.flow_net.specs.Options.{IsFileName, IsOfClass}
-use Rattle.flow_net.specs.Over.{IsOver, IsOfKind, entries, carries}
-use Rattle.flow_net.specs.Valid.{IsValid, HasSender, NeedsOutput, needs_of, HasOptionPort, HasOption, FitsOption}
+use Rattle.flow_net.specs.Over.{entries, carries}
+use Rattle.flow_net.specs.Valid.{IsValid, needs_of, HasOptionPort, FitsOption}
 use Rattle.flow_catalogue.specs.declared.table.StdKind.{StdKind}
 use Rattle.flow_catalogue.specs.declared.table.StdKind.TheVariants as kinds
 use Rattle.flow_catalogue.specs.Kinds.{name_of, file_port, in_port, out_port, spec_of, std_kinds}
-use Rattle.flow_catalogue.specs.Processes.{NamesFile, HasOptions, shape_of_kind, IsStandard}
+use Rattle.flow_catalogue.specs.Processes.{NamesFile}
 use Rattle.flow_catalogue.specs.Processes.{IsOfKind as IsOfStdKind}
 use Rattle.flow_catalogue.specs.Plans.{OverIsStandard, OverIsConnected}
 use Rattle.flow_catalogue.proofs.Tables.{HasTable, has-table, there-at, one-row, two-rows, no-row, only-option, no-option}
@@ -94,7 +92,7 @@ of-kind n p x kinds.ReadLines valid there t inputs outputs named =
     record {
       named = named;
       options = names-file n p x t.table ins.0 valid there t.here (ap (λ (rows : List PortRow). slice_get rows 0) ins.1) ins.2
-      (λ i other is. (let none = subst (λ (rows : List PortRow). slice_get rows (suc i) ≡ Some other) ins.1 is in absurd cc));
+          (λ i other is. (let none = subst (λ (rows : List PortRow). slice_get rows (suc i) ≡ Some other) ins.1 is in absurd cc));
       inputs = sym t.inputs ∙ ap (λ (rows : List PortRow). length (ports_of rows)) ins.1 ∙ rw (no-ports ins.0 ins.2) refl;
       outputs = sym t.outputs ∙ ap (λ (rows : List PortRow). length (ports_of rows)) outs.1 ∙ count-one outs.0 (one-out outs.0 outs.2);
     }
@@ -104,7 +102,7 @@ of-kind n p x kinds.WriteLines valid there t inputs outputs named =
     record {
       named = named;
       options = names-file n p x t.table ins.0 valid there t.here (ap (λ (rows : List PortRow). slice_get rows 0) ins.2) ins.3
-      (λ i other is. second-streams ins.0 ins.1 i other ins.4 (subst (λ (rows : List PortRow). slice_get rows (suc i) ≡ Some other) ins.2 is));
+          (λ i other is. second-streams ins.0 ins.1 i other ins.4 (subst (λ (rows : List PortRow). slice_get rows (suc i) ≡ Some other) ins.2 is));
       inputs = sym t.inputs ∙ ap (λ (rows : List PortRow). length (ports_of rows)) ins.2 ∙ rw (no-ports ins.0 ins.3) (count-one ins.1 (one-port ins.1 ins.4));
       outputs = sym t.outputs ∙ ap (λ (rows : List PortRow). length (ports_of rows)) outs;
     }

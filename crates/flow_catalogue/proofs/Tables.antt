@@ -1,20 +1,12 @@
 -- The tables of processes of the standard kinds, and the options that go with them.
-use Rattle.std.proofs.Common.{◌≡◌, ℕ, zero, suc, ◌+◌, ◌<◌, ◌≤◌, Bool, true, false, List, [], ◌∷◌, ◌++◌, map, length, Some, None, refl, sym, ◌∙◌, ap, subst, arith, slice_get}
-use Rattle.std.specs.Prelude.{codes}
-use Rattle.flow_net.specs.declared.kind.KindSpec.{KindSpec}
+use Rattle.std.proofs.Common.{◌≡◌, ℕ, zero, suc, ◌<◌, List, [], ◌∷◌, length, Some, refl, ◌∙◌, ap, arith, slice_get}
 use Rattle.flow_net.specs.declared.kind.PortSpec.{PortSpec}
 use Rattle.flow_net.specs.declared.plan.Process.{Process}
 use Rattle.flow_net.specs.declared.plan.PortRow.{PortRow}
 use Rattle.flow_net.specs.declared.plan.PortTable.{PortTable}
-use Rattle.flow_net.specs.Network.{Network, LaidOut, HasOutput, is_stream, elements_of, ports_of}
-use Rattle.flow_net.specs.Options.{IsFileName}
-use Rattle.flow_net.specs.Over.{IsOver, IsOfKind, entries, carries}
-use Rattle.flow_net.specs.Valid.{IsValid, HasSender, NeedsOutput, needs_of, HasOptionPort, HasOption, FitsOption}
-use Rattle.flow_catalogue.specs.declared.table.StdKind.{StdKind}
-use Rattle.flow_catalogue.specs.declared.table.StdKind.TheVariants as kinds
-use Rattle.flow_catalogue.specs.Kinds.{name_of, file_port, in_port, out_port, spec_of, std_kinds}
-use Rattle.flow_catalogue.specs.Processes.{NamesFile, HasOptions, shape_of_kind, IsStandard}
-use Rattle.flow_catalogue.specs.Processes.{IsOfKind as IsOfStdKind}
+use Rattle.flow_net.specs.Network.{Network, LaidOut, ports_of}
+use Rattle.flow_net.specs.Over.{entries}
+use Rattle.flow_net.specs.Valid.{IsValid}
 
 -- A process of a plan with its table.
 pub record HasTable (n : Network) (p : ℕ) (x : Process) : Type 0 where

@@ -1,5 +1,5 @@
 -- What is told of the first processes, and of one process more.
-use Rattle.std.proofs.Common.{◌≡◌, ℕ, zero, suc, ◌+◌, ◌<◌, Bool, true, false, List, [], ◌∷◌, ◌++◌, map, take, Some, None, min, refl, sym, ◌∙◌, ap, subst, arith, append_assoc, add-zero}
+use Rattle.std.proofs.Common.{◌≡◌, ℕ, zero, suc, ◌+◌, Bool, true, false, List, [], ◌∷◌, ◌++◌, take, Some, refl, sym, ◌∙◌, ap, arith, append_assoc, add-zero}
 use mathlib.Core.List.{append-nil}
 use Rattle.std.specs.Prelude.{slice_get, sum_by, ◌&&◌, ◌||◌}
 use Rattle.std.specs.List.{list_all, list_any}
@@ -9,7 +9,6 @@ use Rattle.std.proofs.lemmas.Option.{slice_get-map}
 use Rattle.std.specs.Option.{option_map}
 use Rattle.flow_model.specs.declared.Stage.{Stage}
 use Rattle.flow_machine.specs.Values.{BodyValue}
-use Rattle.flow_report.specs.declared.of.Totals.{Totals}
 use Rattle.flow_report.specs.Of.{capped, has_ended, has_failed, totals_in, with_process, told_from, stages_of}
 
 -- one element more

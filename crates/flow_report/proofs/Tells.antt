@@ -1,5 +1,5 @@
 -- The report of a net tells of each state that the net stands for.
-use Rattle.std.proofs.Common.{◌≡◌, ◌≢◌, ℕ, zero, suc, ◌+◌, ◌*◌, ◌-◌, ◌^◌, ◌<◌, ◌≤◌, ◌==◌, Bool, true, false, cond, List, [], ◌∷◌, ◌++◌, map, length, min, Option, Some, None, IsSome, refl, sym, ◌∙◌, ap, subst, arith, slice_get, inl, inr}
+use Rattle.std.proofs.Common.{◌≡◌, ℕ, zero, suc, ◌+◌, ◌*◌, ◌-◌, ◌^◌, ◌<◌, ◌≤◌, ◌==◌, Bool, true, false, cond, List, [], ◌∷◌, map, length, Option, Some, None, IsSome, refl, sym, ◌∙◌, ap, subst, arith, slice_get}
 use Rattle.std.specs.Prelude.{sum_by, is_some, option_and_then, ◌&&◌, ◌||◌}
 use Rattle.std.specs.List.{list_all, list_any}
 use Rattle.std.proofs.lemmas.Bool.Decides.{nat_tests}
@@ -11,24 +11,20 @@ use Rattle.flow_component.specs.declared.Shape.{Shape}
 use Rattle.flow_component.specs.declared.Wish.TheVariants as wishes
 use Rattle.flow_model.specs.declared.Stage.{Stage}
 use Rattle.flow_model.specs.declared.Stage.TheVariants as stages
-use Rattle.flow_model.specs.declared.Block.{Block}
 use Rattle.flow_model.specs.declared.Block.TheVariants as blocks
 use Rattle.flow_model.specs.States.{Input, Process, State, output_at}
 use Rattle.flow_model.specs.Events.{Look, looks, event_from, stage_event}
 use Rattle.flow_model.specs.Order.{connection_of}
 use Rattle.flow_model.specs.Places.{places, ids_dropped, TotalsAddUp}
-use Rattle.flow_model.specs.Stands.{StandsForOpen}
-use Rattle.flow_model.specs.Valid.{IsGranted, least_left, owed}
-use Rattle.flow_model.specs.Verdicts.{exact_level, exact_level_for, waits_for, block_of, Quiet, AllEnded, SomeFailed}
-use Rattle.flow_model.specs.Fit.{Fit}
+use Rattle.flow_model.specs.Valid.{IsGranted}
+use Rattle.flow_model.specs.Verdicts.{exact_level, exact_level_for, waits_for, block_of, Quiet}
 use Rattle.flow_model.proofs.Blocks.{IsOverOrOwes, no_turn-block}
 use Rattle.flow_model.proofs.Totals.{totals-add_up}
-use Rattle.flow_machine.specs.Values.{BodyValue, NetValue, shown_net}
+use Rattle.flow_machine.specs.Values.{BodyValue}
 use Rattle.flow_net.specs.Network.{Network}
 use Rattle.flow_report.specs.declared.of.Totals.{Totals}
-use Rattle.flow_report.specs.declared.report.Blocked.{Blocked}
-use Rattle.flow_report.specs.Of.{capped, has_ended, has_failed, totals_in, verdict_on, blocked_at, failed_at, told_from, stages_of, told_of}
-use Rattle.flow_report.specs.States.{IsVerdict, named_block, blocks_from, TellsOf, ReportsTell}
+use Rattle.flow_report.specs.Of.{has_ended, has_failed, totals_in, verdict_on, blocked_at, failed_at, told_from, stages_of}
+use Rattle.flow_report.specs.States.{IsVerdict, named_block, blocks_from, ReportsTell}
 use Rattle.flow_report.proofs.Shown.{processes-shown, sum-processes, all-processes, any-processes, map-processes, dropped_from, dropped-all, dropped-shown}
 
 -- a process that waits to receive waits at a connection
@@ -196,12 +192,12 @@ reports-tell {K} shape_of uses ready plan net s fit quiet few stands =
     let left : t.made - t.dropped ≡ length (places s) = omega (arith, made, dropped, adds) in
     record {
       verdict = verdict-tells s t quiet
-      (all-processes (λ (x : Process K). has_ended x.stage) bodies ∙ ap (λ l. list_all (λ (x : Process K). has_ended x.stage) l) procs)
-      (any-processes (λ (x : Process K). has_failed x.stage) bodies ∙ ap (λ l. list_any (λ (x : Process K). has_failed x.stage) l) procs)
-      left;
+          (all-processes (λ (x : Process K). has_ended x.stage) bodies ∙ ap (λ l. list_all (λ (x : Process K). has_ended x.stage) l) procs)
+          (any-processes (λ (x : Process K). has_failed x.stage) bodies ∙ ap (λ l. list_any (λ (x : Process K). has_failed x.stage) l) procs)
+          left;
       blocked = ap (λ l. told_from (blocked_at plan) 0 l) stages_are ∙ blocks-named plan (looks s.kept.channels) 0 xs
-      (λ k x there. (fit.all_fit k x there).granted)
-      (λ k x there. quiet.still k x (exact_level (looks s.kept.channels) x) there);
+          (λ k x there. (fit.all_fit k x there).granted)
+          (λ k x there. quiet.still k x (exact_level (looks s.kept.channels) x) there);
       failed = ap (λ l. told_from (failed_at plan) 0 l) stages_are;
       turns = turns;
       made = made;

@@ -1,5 +1,5 @@
 -- What a report tells of a run that is over.
-use Rattle.std.specs.Prelude.{◌≡◌, ◌==◌, ◌+◌, ◌-◌, ◌^◌, ◌++◌, ◌&&◌, ◌||◌, ℕ, min, nat_lt, Bool, true, false, List, [], ◌∷◌, map, sum_by, Option, Some, None, slice_get, unwrap_or, if◌then◌else◌}
+use Rattle.std.specs.Prelude.{◌==◌, ◌+◌, ◌-◌, ◌^◌, ◌++◌, ◌&&◌, ◌||◌, ℕ, min, nat_lt, Bool, true, false, List, [], ◌∷◌, map, sum_by, Option, Some, None, slice_get, unwrap_or, if◌then◌else◌}
 use Rattle.std.specs.List.{list_all, list_any}
 use Rattle.std.specs.Option.{option_map}
 use Rattle.flow_component.specs.declared.Fail.{Fail}

@@ -1,6 +1,6 @@
-use Rattle.std.proofs.Common.{◌≡◌, ◌∙◌, take, sym, ap, add-one}
+use Rattle.std.proofs.Common.{◌∙◌, ap, add-one}
 use Rattle.flow_report.specs.declared.of.Totals.{Totals}
-use Rattle.flow_report.specs.Of.{with_process, totals_in}
+use Rattle.flow_report.specs.Of.{with_process}
 use Rattle.flow_report.proofs.Tellings.{totals-more}
 use Rattle.flow_report.proofs.of.totals_of.Goals as goal
 
