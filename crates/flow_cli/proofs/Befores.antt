@@ -1,13 +1,13 @@
 -- The steps before a run, one after another.
 use Rattle.std.proofs.Common.{◌≡◌, ℕ, List, Some, None, Ok, Err, inl, inr, ◌∙◌, ap, subst}
-use Rattle.std.specs.Prelude.{IfSome, String, string_bytes, map}
+use Rattle.std.specs.Prelude.{IfSome, String, string_bytes}
 use Rattle.std.specs.Option.{option_map}
 use Rattle.std.specs.declared.alloc.Global.{Global}
 use Rattle.std.specs.declared.option.Option.{Option}
 use Rattle.flow_text.specs.Edge.{Outside, Name, Files, Rose}
 use Rattle.flow_net.specs.Network.{Network}
 use Rattle.flow_parse.specs.declared.value.NetText.{NetText}
-use Rattle.flow_words.specs.Words.{Asked, command_of}
+use Rattle.flow_words.specs.Words.{Asked}
 use Rattle.flow_cli.specs.Networks.{Holds, RefusedFor, IsStandardPlan}
 use Rattle.flow_cli.specs.Step.{OnlyReads, HoldsMore}
 use Rattle.flow_cli.specs.Parts.{IsInput, AreParts, StopsReading}

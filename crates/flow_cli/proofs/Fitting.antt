@@ -1,10 +1,8 @@
 -- The parts of a plan over the standard kinds fit its processes.
-use Rattle.std.proofs.Common.{◌≡◌, ℕ, List, Some, refl, sym, ◌∙◌, ap, subst, slice_get}
-use Rattle.std.specs.declared.option.Option.{Option}
-use Rattle.flow_text.specs.Edge.{Files}
+use Rattle.std.proofs.Common.{◌≡◌, List, subst}
 use Rattle.flow_net.specs.declared.plan.Process.{Process}
 use Rattle.flow_net.specs.Network.{Network}
-use Rattle.flow_ready.specs.Ready.{PartFits, PartsFit}
+use Rattle.flow_ready.specs.Ready.{PartsFit}
 use Rattle.flow_catalogue.specs.declared.standard.Std.{Std}
 use Rattle.flow_catalogue.specs.Std.{std_shape, std_uses, StdReady}
 use Rattle.flow_catalogue.specs.Plans.{OverIsConnected}

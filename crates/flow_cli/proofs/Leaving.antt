@@ -1,15 +1,14 @@
 -- What a run leaves: its net stands for the machine's last state, so its report and its files are those of that state.
-use Rattle.std.proofs.Common.{◌≡◌, ℕ, zero, suc, ◌+◌, ◌≤◌, List, [], ◌∷◌, ◌++◌, length, map, Some, None, Ok, Err, refl, sym, ◌∙◌, ap, subst, arith}
+use Rattle.std.proofs.Common.{◌≡◌, ℕ, zero, suc, ◌+◌, ◌≤◌, List, [], ◌∷◌, ◌++◌, length, map, Ok, Err, refl, sym, ◌∙◌, ap, subst, arith}
 use Rattle.std.specs.Prelude.{IfOk, slice_get, unwrap_or, option_and_then}
-use Rattle.std.specs.declared.option.Option.{Option}
 use Rattle.std.specs.declared.result.Result.{Result}
 use Rattle.std.specs.declared.alloc.AllocError.{AllocError}
 use Rattle.std.proofs.lemmas.List.{length-map}
 use Rattle.flow_text.specs.Edge.{Name}
 use Rattle.flow_net.specs.declared.plan.Process.{Process as NetProcess}
 use Rattle.flow_net.specs.Network.{Network}
-use Rattle.flow_model.specs.States.{Process, State}
-use Rattle.flow_machine.specs.Values.{BodyValue, NetValue, shown_net}
+use Rattle.flow_model.specs.States.{Process}
+use Rattle.flow_machine.specs.Values.{BodyValue, NetValue}
 use Rattle.flow_machine.specs.PlanOf.{plan_of, process_of}
 use Rattle.flow_catalogue.specs.declared.standard.Std.{Std}
 use Rattle.flow_catalogue.specs.Std.{std_shape, std_uses, StdReady, StdNext, written_of}
@@ -20,7 +19,7 @@ use Rattle.flow_report.proofs.Shown.{processes-shown}
 use Rattle.flow_cli.specs.Networks.{IsStandardPlan}
 use Rattle.flow_cli.specs.Many.{Filled}
 use Rattle.flow_cli.specs.After.{written_by}
-use Rattle.flow_cli.specs.Runs.{RunsTo, IsToldOfNet, Leaves, machine_journal, outputs_at, outputs_from, outputs_of, bytes_at, bytes_in, net_outputs}
+use Rattle.flow_cli.specs.Runs.{IsToldOfNet, Leaves, machine_journal, outputs_at, outputs_from, bytes_at, bytes_in}
 use Rattle.flow_cli.specs.declared.engine.Told.{Told}
 use Rattle.flow_cli.specs.declared.engine.Ran.{Ran}
 

@@ -1,9 +1,9 @@
 -- A network file's bytes hold one thing, or are refused.
-use Rattle.std.proofs.Common.{◌≡◌, ℕ, List, [], None, Ok, Err, refl, sym, ◌∙◌, ap, subst}
+use Rattle.std.proofs.Common.{◌≡◌, ℕ, List, None, Ok, Err, ◌∙◌, ap, subst}
 use Rattle.std.specs.Str.Lines.{lines}
 use Rattle.flow_net.specs.Network.{Network}
 use Rattle.flow_parse.specs.declared.value.NetText.{NetText}
-use Rattle.flow_parse.specs.Files.{Spells, Refused}
+use Rattle.flow_parse.specs.Files.{Spells}
 use Rattle.flow_parse.proofs.OneOutcome.{one_outcome}
 use Rattle.flow_expand.specs.Flat.{IsFlat}
 use Rattle.flow_expand.proofs.OnePlan.{one_plan}

@@ -1,5 +1,5 @@
 -- What stands after the steps before a run, and after the writing of its files.
-use Rattle.std.proofs.Common.{◌≡◌, ◌⊎◌, inl, inr, ℕ, List, [], Some, None, Ok, Err, refl, sym, ◌∙◌, ap, subst}
+use Rattle.std.proofs.Common.{◌≡◌, ◌⊎◌, inl, inr, ℕ, List, [], Some, None, Ok, Err, sym, ◌∙◌, ap, subst}
 use Rattle.std.specs.Prelude.{IfSome, String, string_bytes}
 use Rattle.std.specs.declared.alloc.Global.{Global}
 use Rattle.std.specs.declared.option.Option.{Option}
@@ -7,7 +7,7 @@ use Rattle.std.specs.Option.{option_map}
 use Rattle.flow_text.specs.Edge.{Outside, Name, Files, Rose}
 use Rattle.flow_net.specs.Network.{Network}
 use Rattle.flow_parse.specs.declared.value.NetText.{NetText}
-use Rattle.flow_words.specs.Words.{Run, Check}
+use Rattle.flow_words.specs.Words.{Run}
 use Rattle.flow_catalogue.specs.declared.standard.Std.{Std}
 use Rattle.flow_machine.specs.Values.{NetValue}
 use Rattle.flow_journal.specs.declared.merge.Journal.{Journal}
@@ -15,10 +15,10 @@ use Rattle.flow_cli.specs.Step.{OnlyReads}
 use Rattle.flow_cli.specs.Many.{Filled, replaced_all}
 use Rattle.flow_cli.specs.Networks.{IsStandardPlan}
 use Rattle.flow_cli.specs.Parts.{AreParts}
-use Rattle.flow_cli.specs.Prepare.{Asks, IsFile, IsNetwork, Prepares}
+use Rattle.flow_cli.specs.Prepare.{Asks, IsNetwork, Prepares}
 use Rattle.flow_cli.specs.After.{IsCutShort, WritesOutputs, verdict_status}
 use Rattle.flow_cli.specs.Runs.{Leaves, net_outputs, outputs_of}
-use Rattle.flow_cli.specs.Top.{IsRunOf, IsWhole, IsChecked, IsCut, IsEmptyJournal, Halts, Ends, Checks}
+use Rattle.flow_cli.specs.Top.{IsRunOf, IsWhole, IsChecked, IsEmptyJournal, Halts, Ends, Checks}
 use Rattle.flow_cli.specs.declared.engine.Told.{Told}
 use Rattle.flow_cli.specs.declared.run.Ending.{Ending}
 use Rattle.flow_cli.specs.declared.run.Halt.{Halt}
@@ -93,22 +93,32 @@ halts o a n words name plan parts net of (WriteFault written) limit is reads net
     )
 halts o a n words name plan parts net of NoMemory limit is reads network standard are leaves (only, inl kept) =
     let same = OnlyReads-files o a reads in
-    inr (name, [], is, record {
-      plan = plan;
-      last = leaves.last;
-      run = run-of o.files name plan parts net of leaves network standard are;
-      cut = untouched-of o.files n (outputs_of plan leaves.last) [] (kept ∙ same);
-    })
+    inr (
+      name,
+      [],
+      is,
+      record {
+        plan = plan;
+        last = leaves.last;
+        run = run-of o.files name plan parts net of leaves network standard are;
+        cut = untouched-of o.files n (outputs_of plan leaves.last) [] (kept ∙ same);
+      },
+    )
 halts o a n words name plan parts net of NoMemory limit is reads network standard are leaves (only, inr cut) =
     let same = OnlyReads-files o a reads in
     let found = some-cut o.files n (net_outputs plan net)
     (subst (λ (t : Option Files). IfSome t (λ files. (written : Name) × IsCutShort files n.files (net_outputs plan net) written)) same cut) in
-    inr (name, found.0, is, record {
-      plan = plan;
-      last = leaves.last;
-      run = run-of o.files name plan parts net of leaves network standard are;
-      cut = cut-of o.files n (net_outputs plan net) (outputs_of plan leaves.last) found.0 leaves.outputs found.1;
-    })
+    inr (
+      name,
+      found.0,
+      is,
+      record {
+        plan = plan;
+        last = leaves.last;
+        run = run-of o.files name plan parts net of leaves network standard are;
+        cut = cut-of o.files n (net_outputs plan net) (outputs_of plan leaves.last) found.0 leaves.outputs found.1;
+      },
+    )
 halts o a n words name plan parts net of Words limit is reads network standard are leaves w = absurd w
 halts o a n words name plan parts net of (Refused refusal) limit is reads network standard are leaves w = absurd w
 halts o a n words name plan parts net of (ReadFault read) limit is reads network standard are leaves w = absurd w

@@ -1,8 +1,8 @@
 -- What a stop in writing leaves of the files.
 use Rattle.std.proofs.Common.{◌≡◌, ℕ, List, Some, None, Err, refl, sym, ◌∙◌, ap, subst, inl, inr}
-use Rattle.std.specs.Prelude.{IfSome, String, string_bytes, slice_get}
+use Rattle.std.specs.Prelude.{IfSome, string_bytes, slice_get}
 use Rattle.std.specs.declared.option.Option.{Option}
-use Rattle.flow_text.specs.Edge.{Outside, Name, Files, Rose}
+use Rattle.flow_text.specs.Edge.{Outside, Name, Files}
 use Rattle.flow_text.specs.declared.edge.ShelfStop.{ShelfStop}
 use Rattle.flow_text.specs.declared.edge.ShelfStop.TheVariants as shelf
 use Rattle.flow_cli.specs.Step.{OnlyWrites, HoldsPart}

@@ -7,9 +7,9 @@ use Rattle.std.specs.declared.option.Option.{Option}
 use Rattle.flow_text.specs.Edge.{Outside, Name, Files, Rose, after_write}
 use Rattle.flow_cli.specs.Step.{HoldsMore}
 use Rattle.flow_words.specs.Words.{Run, Check, command_of}
-use Rattle.flow_cli.specs.Networks.{Holds, RefusedFor}
+use Rattle.flow_cli.specs.Networks.{Holds}
 use Rattle.flow_cli.proofs.Networks.{holds-or-refused}
-use Rattle.flow_cli.specs.Prepare.{Asks, file_of, IsCommand, IsFile, IsRefused, IsReadName}
+use Rattle.flow_cli.specs.Prepare.{Asks, file_of, IsCommand, IsRefused, IsReadName}
 use Rattle.flow_cli.specs.After.{Prints, verdict_status}
 use Rattle.flow_cli.specs.Stops.{status_of, text_of}
 use Rattle.flow_cli.specs.Top.{IsRunOf, IsWhole, IsCut, IsUntouched, Halts, Stands, PrintsStop, IsOver, StopsBefore, IsChecked, ComesToEnd, IsValid, NoFaults}
@@ -224,25 +224,33 @@ pub ends : (o n po pn : Outside) (words : List (String Global)) (ending : Ending
     → Prints po pn ending.text.items ending.status outcome.status → IsOver outcome.status → ComesToEnd o n po pn words outcome
 ends o n po pn words ending outcome (inl run) journal (inl p) over =
     let whole = run.2 in
-    inl (run.0, run.1, record {
-      plan = whole.plan;
-      last = whole.last;
-      run = subst (λ (j : Journal). IsRunOf o.files run.0 whole.plan j whole.last) (sym journal) whole.run;
-      files = whole.files;
-      report = whole.report;
-      tells = whole.tells;
-      printed = p.1 ∙ ap (λ (text : List ℕ). after_write po text) whole.text;
-      status = p.0 ∙ whole.status;
-    })
+    inl (
+      run.0,
+      run.1,
+      record {
+        plan = whole.plan;
+        last = whole.last;
+        run = subst (λ (j : Journal). IsRunOf o.files run.0 whole.plan j whole.last) (sym journal) whole.run;
+        files = whole.files;
+        report = whole.report;
+        tells = whole.tells;
+        printed = p.1 ∙ ap (λ (text : List ℕ). after_write po text) whole.text;
+        status = p.0 ∙ whole.status;
+      },
+    )
 ends o n po pn words ending outcome (inr check) journal (inl p) over =
     let is = check.2 in
-    inr (check.0, check.1, record {
-      text = is.text;
-      file = is.file;
-      printed = p.1 ∙ ap (λ (text : List ℕ). after_write po text) is.spelled;
-      status = p.0 ∙ is.status;
-      untouched = subst (λ (j : Journal). IsUntouched o n j) (sym journal) is.untouched;
-    })
+    inr (
+      check.0,
+      check.1,
+      record {
+        text = is.text;
+        file = is.file;
+        printed = p.1 ∙ ap (λ (text : List ℕ). after_write po text) is.spelled;
+        status = p.0 ∙ is.status;
+        untouched = subst (λ (j : Journal). IsUntouched o n j) (sym journal) is.untouched;
+      },
+    )
 ends o n po pn words ending outcome comes journal (inr p) over = absurd (over_isnt_7 outcome.status over p.0)
 
 -- with no count raised it came to its end

@@ -1,4 +1,4 @@
-// Runs over files in memory: the worked runs, and calls that succeed.
+// Calls over files in memory: runs and checks to their last byte, refusals, and stops.
 use super::*;
 use flow_text::{MemShelf, MemSink};
 use std::alloc::{AllocError, Global};
@@ -7,14 +7,25 @@ use std::test::Fail;
 
 const ROOM: usize = 33_554_432;
 
-const NET: &[u8] =
+const CHAIN: &[u8] =
     b"flow 1\n'in' -> FILE Read(ReadLines)\nRead OUT -> IN Pass(Passthru)\nPass OUT -> IN Write(WriteLines)\n'out' -> FILE Write\n";
 
 const OTHER_NAMES: &[u8] =
     b"flow 1\n'in' -> FILE A1(ReadLines)\nA1 OUT -> IN b_2(Passthru)\nb_2 OUT -> IN C(WriteLines)\n'out' -> FILE C";
 
-const SAME_NAMES: &[u8] =
-    b"flow 1\n'in' -> FILE A(ReadLines)\nA OUT -> IN A(Passthru)\nA OUT -> IN C(WriteLines)\n'out' -> FILE C\n";
+const READ_TO_WRITE: &[u8] =
+    b"flow 1\n'in' -> FILE Read(ReadLines)\nRead OUT -> IN Write(WriteLines)\n'out' -> FILE Write\n";
+
+const MERGE: &[u8] =
+    b"flow 1\n'in' -> FILE A(ReadLines)\n'b' -> FILE B(ReadLines)\nA OUT -> IN W(WriteLines)\nB OUT -> IN W\n'out' -> FILE W\n";
+
+const CIRCLE: &[u8] = b"flow 1\nA(Passthru) OUT -> IN B(Passthru)\nB OUT -> IN A\n";
+
+const COPY: &[u8] =
+    b"flow 1\n # copy\n'i' ->FILE A(ReadLines)\nA OUT->(3)IN B ( WriteLines )\n'it''s' -> FILE B\n";
+
+const COPY_SPELLED: &[u8] =
+    b"flow 1\nA(ReadLines)\nB(WriteLines)\n'i' -> FILE A\nA OUT -> (3) IN B\n'it''s' -> FILE B\n";
 
 const USAGE: &[u8] =
     b"usage: flow [--workers N] [--journal FILE] [--check] [--replay FILE] [--make N] [NETFILE]\n";
@@ -23,10 +34,13 @@ fn file(alloc: Global, name: &str, bytes: &[u8]) -> Result<(String, Vec<u8>), Al
     Ok((String::from_str(alloc, name)?, bytes.to_vec(alloc)?))
 }
 
+/// A call on the network file `net`, whose input files are `in` and `b` and whose output file is `out`.
 #[derive(Clone, Copy)]
 struct Row {
     net: &'static [u8],
+    check: bool,
     input: &'static [u8],
+    second: &'static [u8],
     piece: usize,
     read_fail: u64,
     write_fail: u64,
@@ -34,36 +48,63 @@ struct Row {
     /// What the writer's file holds, or nothing where it is absent.
     output: Option<&'static [u8]>,
     printed: &'static [u8],
+    /// The number of turns in the journal.
+    turns: usize,
 }
 
 const ROW: Row = Row {
-    net: NET,
+    net: CHAIN,
+    check: false,
     input: b"x\n",
+    second: b"",
     piece: 65_536,
     read_fail: 0,
     write_fail: 0,
     status: 0,
     output: Some(b"x\n"),
     printed: b"verdict finished\ntotal turns 17 made 1 dropped 1 left 0\n",
+    turns: 17,
 };
+
+/// A network file that is refused, or checked: nothing runs, and no file is written.
+const STILL: Row = Row {
+    status: 3,
+    output: None,
+    turns: 0,
+    ..ROW
+};
+
+fn words(alloc: Global, check: bool) -> Result<Vec<String>, AllocError> {
+    let mut words = Vec::new(alloc);
+    if check {
+        words.push(String::from_str(alloc, "--check")?)?;
+    }
+    words.push(String::from_str(alloc, "net")?)?;
+    Ok(words)
+}
 
 fn run_row(rt: &impl Abort, alloc: Global, row: Row) -> Result<(), Fail> {
     assert!(rt; row.piece >= 1);
-    let files = vec![in alloc; file(alloc, "net", row.net)?, file(alloc, "in", row.input)?]?;
+    let files = vec![in alloc;
+        file(alloc, "net", row.net)?,
+        file(alloc, "in", row.input)?,
+        file(alloc, "b", row.second)?,
+    ]?;
     let read_fails = vec![in alloc; row.read_fail]?;
     let write_fails = vec![in alloc; row.write_fail]?;
     let mut shelf = MemShelf::new(alloc, files, row.piece, ROOM, read_fails, write_fails);
     let mut out = MemSink::new(alloc, row.piece, ROOM, Vec::new(alloc))?;
-    let words = vec![in alloc; String::from_str(alloc, "net")?]?;
+    let words = words(alloc, row.check)?;
     let outcome = plain_top(alloc, &words, &mut shelf, &mut out);
     assert_eq!(rt; out.bytes(), row.printed);
     assert_eq!(rt; outcome.status, row.status);
+    assert_eq!(rt; outcome.journal.turns.len(), row.turns);
     assert!(rt; shelf.file("out") == row.output);
     Ok(())
 }
 
 #[test]
-fn thin_networks_run(rt: HostRuntime) -> Result<(), Fail> {
+fn networks_run(rt: HostRuntime) -> Result<(), Fail> {
     let rows = [
         ROW,
         Row {
@@ -72,17 +113,144 @@ fn thin_networks_run(rt: HostRuntime) -> Result<(), Fail> {
             piece: 1,
             output: Some(b"x\nyy\n"),
             printed: b"verdict finished\ntotal turns 21 made 2 dropped 2 left 0\n",
+            turns: 21,
             ..ROW
         },
         Row {
             input: b"",
             output: Some(b""),
             printed: b"verdict finished\ntotal turns 7 made 0 dropped 0 left 0\n",
+            turns: 7,
+            ..ROW
+        },
+        Row {
+            net: MERGE,
+            input: b"a1\na2\n",
+            second: b"b1\nb2\n",
+            output: Some(b"a1\na2\nb1\nb2\n"),
+            printed: b"verdict finished\ntotal turns 20 made 4 dropped 4 left 0\n",
+            turns: 20,
+            ..ROW
+        },
+        Row {
+            net: CIRCLE,
+            status: 4,
+            output: None,
+            printed: b"verdict deadlock\nblocked A dormant\nblocked B dormant\ntotal turns 0 made 0 dropped 0 left 0\n",
+            turns: 0,
+            ..ROW
+        },
+        Row {
+            net: b"flow 1\n",
+            output: None,
+            printed: b"verdict finished\ntotal turns 0 made 0 dropped 0 left 0\n",
+            turns: 0,
             ..ROW
         },
     ];
     for row in rows {
         run_row(&rt, rt.alloc(), row)?;
+    }
+    Ok(())
+}
+
+#[test]
+fn checks_spell_the_network_file(rt: HostRuntime) -> Result<(), Fail> {
+    let rows = [
+        Row {
+            net: COPY,
+            check: true,
+            status: 0,
+            printed: COPY_SPELLED,
+            ..STILL
+        },
+        Row {
+            net: b"flow 1\nP(X)\n",
+            check: true,
+            printed: b"network refused: unknown kind X of P\n",
+            ..STILL
+        },
+    ];
+    for row in rows {
+        run_row(&rt, rt.alloc(), row)?;
+    }
+    Ok(())
+}
+
+/// A network file, and what is said of its refusal.
+fn refuse(
+    rt: &impl Abort,
+    alloc: Global,
+    net: &'static [u8],
+    printed: &'static [u8],
+) -> Result<(), Fail> {
+    run_row(
+        rt,
+        alloc,
+        Row {
+            net,
+            printed,
+            ..STILL
+        },
+    )
+}
+
+#[test]
+fn lines_are_refused(rt: HostRuntime) -> Result<(), Fail> {
+    let rows: [(&[u8], &[u8]); 9] = [
+        (b"", b"network refused: line 1: header\n"),
+        (
+            b"flow 1\nA OUT -> -> IN B",
+            b"network refused: line 2: form\n",
+        ),
+        (
+            b"flow 1\nA OUT -> (03) IN B\n",
+            b"network refused: line 2: number\n",
+        ),
+        (
+            b"flow 1\nAaaaaaaaaaaaaaaaaaaaaaaaaaaaaaaaaaaaaaaaaaaaaaaaaaaaaaaaaaaaaaaaa(X)\n",
+            b"network refused: line 2: name\n",
+        ),
+        (
+            b"flow 1\n'in -> FILE A\n",
+            b"network refused: line 2: quote\n",
+        ),
+        (b"flow 1\nA;B\n", b"network refused: line 2: byte\n"),
+        (b"flow 1\nsubnet S\n", b"network refused: line 2: subnet\n"),
+        (
+            b"flow 1\n'in' -> FILE A(ReadLines)\nA OUT -> IN A(Passthru)\n",
+            b"network refused: line 3: kind\n",
+        ),
+        (
+            b"flow 1\nsubnet S\nend\n",
+            b"network refused: subnets not built\n",
+        ),
+    ];
+    for (net, printed) in rows {
+        refuse(&rt, rt.alloc(), net, printed)?;
+    }
+    Ok(())
+}
+
+#[test]
+fn networks_are_refused(rt: HostRuntime) -> Result<(), Fail> {
+    let rows: [(&[u8], &[u8]); 4] = [
+        (
+            b"flow 1\nR(ReadLines) OUT -> IN W(WriteLines)\nR OUT -> IN W\n",
+            b"network refused: port taken R.OUT\n",
+        ),
+        (
+            b"flow 1\n'in' -> FILE R(ReadLines)\nR OUT -> IN W(WriteLines)\n",
+            b"network refused: port missing W.FILE\n",
+        ),
+        (b"flow 1\nP(X)\n", b"network refused: unknown kind X of P\n"),
+        (
+            b"flow 1\nR(ReadLines) OUT[1] -> IN W(WriteLines)\n",
+            b"network refused: unknown port R.OUT[1]\n",
+        ),
+    ];
+    for (net, printed) in rows {
+        refuse(&rt, rt.alloc(), net, printed)?;
     }
     Ok(())
 }
@@ -102,16 +270,8 @@ fn stops_leave_their_text(rt: HostRuntime) -> Result<(), Fail> {
         Row {
             read_fail: 6,
             status: 6,
-            output: None,
             printed: b"read fault: in\n",
-            ..ROW
-        },
-        Row {
-            net: SAME_NAMES,
-            status: 3,
-            output: None,
-            printed: b"network refused: not built\n",
-            ..ROW
+            ..STILL
         },
     ];
     for row in rows {
@@ -120,27 +280,22 @@ fn stops_leave_their_text(rt: HostRuntime) -> Result<(), Fail> {
     Ok(())
 }
 
-// Runs on an input of so many bytes `a`, without a line feed.
+// Runs a network on an input of so many times these bytes.
 fn run_long(
     rt: &impl Abort,
     alloc: Global,
-    size: usize,
+    net: &[u8],
+    input: Vec<u8>,
     status: u8,
     output: Option<&[u8]>,
     printed: &[u8],
 ) -> Result<(), Fail> {
-    let mut files = vec![in alloc; file(alloc, "net", NET)?]?;
-    files.push((String::from_str(alloc, "in")?, vec![in alloc; b'a'; size]?))?;
-    let mut shelf = MemShelf::new(
-        alloc,
-        files,
-        1_048_576,
-        ROOM,
-        Vec::new(alloc),
-        Vec::new(alloc),
-    );
+    let mut files = vec![in alloc; file(alloc, "net", net)?]?;
+    files.push((String::from_str(alloc, "in")?, input))?;
+    let none = Vec::new(alloc);
+    let mut shelf = MemShelf::new(alloc, files, 1_048_576, ROOM, none, Vec::new(alloc));
     let mut out = MemSink::new(alloc, 64, ROOM, Vec::new(alloc))?;
-    let words = vec![in alloc; String::from_str(alloc, "net")?]?;
+    let words = words(alloc, false)?;
     let outcome = plain_top(alloc, &words, &mut shelf, &mut out);
     assert_eq!(rt; out.bytes(), printed);
     assert_eq!(rt; outcome.status, status);
@@ -149,17 +304,60 @@ fn run_long(
 }
 
 #[test]
-fn long_lines_and_files_are_refused(rt: HostRuntime) -> Result<(), Fail> {
+fn long_lines_fail_their_reader(rt: HostRuntime) -> Result<(), Fail> {
     let alloc = rt.alloc();
+    let rows: [(&[u8], &[u8]); 2] = [
+        (
+            CHAIN,
+            b"verdict failed\nblocked Pass dormant\nblocked Write dormant\nfailed Read text limit 1048577\ntotal turns 1 made 0 dropped 0 left 0\n",
+        ),
+        (
+            READ_TO_WRITE,
+            b"verdict failed\nblocked Write dormant\nfailed Read text limit 1048577\ntotal turns 1 made 0 dropped 0 left 0\n",
+        ),
+    ];
+    for (net, printed) in rows {
+        let line = vec![in alloc; b'a'; 1_048_577]?;
+        run_long(&rt, alloc, net, line, 5, Some(b""), printed)?;
+    }
+    Ok(())
+}
+
+// So many lines of 63 bytes, each with its line feed.
+fn many_lines(alloc: Global, count: usize) -> Result<Vec<u8>, AllocError> {
+    let mut bytes = Vec::new(alloc);
+    for _ in 0..count {
+        bytes.extend_from_slice(
+            b"abcdefghijklmnopqrstuvwxyz0123456789ABCDEFGHIJKLMNOPQRSTUVWXYZ.\n",
+        )?;
+    }
+    Ok(bytes)
+}
+
+#[test]
+fn the_longest_file_runs_and_a_longer_one_is_refused(rt: HostRuntime) -> Result<(), Fail> {
+    let alloc = rt.alloc();
+    let mut longest = many_lines(alloc, 262_144)?;
+    let output = many_lines(alloc, 262_144)?;
     run_long(
         &rt,
         alloc,
-        1_048_577,
-        5,
-        Some(b""),
-        b"verdict failed\nblocked Pass dormant\nblocked Write dormant\nfailed Read text limit 1048577\ntotal turns 1 made 0 dropped 0 left 0\n",
+        READ_TO_WRITE,
+        many_lines(alloc, 262_144)?,
+        0,
+        Some(&output),
+        b"verdict finished\ntotal turns 524296 made 262144 dropped 262144 left 0\n",
     )?;
-    run_long(&rt, alloc, 16_777_217, 9, None, b"too long: in\n")
+    longest.push(b'a')?;
+    run_long(
+        &rt,
+        alloc,
+        READ_TO_WRITE,
+        longest,
+        9,
+        None,
+        b"too long: in\n",
+    )
 }
 
 #[test]
