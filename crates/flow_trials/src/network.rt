@@ -1,5 +1,6 @@
 //! The plan of a network's text over the standard kinds.
 ghost use Rattle.std.specs.Prelude.{◌≡◌, IfOk};
+ghost use Rattle.flow_net.specs.Network.{Network};
 ghost use Rattle.flow_net.specs.Over.{IsOver};
 ghost use Rattle.flow_catalogue.specs.Kinds.{std_kinds};
 ghost use Rattle.flow_trials.specs.Networks.{IsPlanOf};
@@ -32,6 +33,8 @@ impl From<AllocError> for TrialStop {
 pub fn plan_of_text(alloc: Global, text: &[u8]) -> Result<Plan, TrialStop>
     ensures plan { IfOk result (IsPlanOf text.now) }
     ensures over { IfOk result (IsOver std_kinds) }
+    // A text is refused only where it has no plan.
+    ensures refused { result ≡ Err TrialStop.Refused → (plan : Network) → IsPlanOf text.now plan → ⊥ }
 {
     let value = match parse(alloc, text) {
         Ok(value) => value,

@@ -1,5 +1,6 @@
 //! Networks at their start: of standard components, and of components that ask for a level.
 ghost use Rattle.std.specs.Prelude.{◌≡◌, IfOk, map};
+ghost use Rattle.flow_net.specs.Network.{Network};
 ghost use Rattle.flow_net.specs.Over.{IsOver};
 ghost use Rattle.flow_model.specs.Plans.{StartsWell};
 ghost use Rattle.flow_machine.specs.PlanOf.{plan_of};
@@ -8,7 +9,7 @@ ghost use Rattle.flow_catalogue.specs.Processes.{IsStandard};
 ghost use Rattle.flow_catalogue.specs.Std.{std_shape, std_uses, StdReady};
 ghost use Rattle.flow_trials.specs.Asker.{shape_asked, uses_asked, AlwaysReady};
 ghost use Rattle.flow_trials.specs.Askers.{asker_of};
-ghost use Rattle.flow_trials.specs.Networks.{ArePartsOn, HasPart, HasStarted};
+ghost use Rattle.flow_trials.specs.Networks.{ArePartsOn, HasPart, HasStarted, IsPlanOf};
 
 use crate::asker::Asker;
 use crate::network::{TrialStop, plan_of_text};
@@ -74,7 +75,9 @@ pub fn standard_parts(alloc: Global, plan: &Plan, bytes: &[u8]) -> Result<Vec<St
 
 /// The network of a text at its start, with standard components, each reader on the same bytes.
 pub fn started(alloc: Global, text: &[u8], bytes: &[u8]) -> Result<Net<Std>, TrialStop>
-    ensures { IfOk result (HasStarted text.now bytes.now) }
+    ensures started { IfOk result (HasStarted text.now bytes.now) }
+    // A text is refused only where it has no plan.
+    ensures refused { result ≡ Err TrialStop.Refused → (plan : Network) → IsPlanOf text.now plan → ⊥ }
 {
     let plan = plan_of_text(alloc, text)?;
     let parts = standard_parts(alloc, &plan, bytes)?;
