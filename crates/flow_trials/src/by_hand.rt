@@ -1,33 +1,13 @@
-// A reader of one line, a process that passes it on, and a writer, one turn after another.
+//! A reader of one line, a process that passes it on, and a writer, one turn after another.
+use crate::{TrialStop, started};
 use flow_catalogue::Std;
-use flow_cli::{Job, prepare};
 use flow_component::NoGate;
 use flow_machine::{Net, Over, Thought, Turn};
-use flow_text::MemShelf;
-use std::alloc::{AllocError, Global};
 use std::process::Abort;
 use std::test::Fail;
 
 const NET: &[u8] =
     b"flow 1\n'in' -> FILE Read(ReadLines)\nRead OUT -> IN Pass(Passthru)\nPass OUT -> IN Write(WriteLines)\n'out' -> FILE Write\n";
-
-fn file(alloc: Global, name: &str, bytes: &[u8]) -> Result<(String, Vec<u8>), AllocError> {
-    Ok((String::from_str(alloc, name)?, bytes.to_vec(alloc)?))
-}
-
-/// The network at its start.
-fn started(rt: &impl Abort, alloc: Global) -> Result<Net<Std>, Fail> {
-    let files = vec![in alloc; file(alloc, "net", NET)?, file(alloc, "in", b"x\n")?]?;
-    let mut shelf = MemShelf::new(alloc, files, 64, 256, Vec::new(alloc), Vec::new(alloc));
-    let words = vec![in alloc; String::from_str(alloc, "net")?]?;
-    match prepare(alloc, &words, &mut shelf) {
-        Ok(job) => {
-            let Job { plan, parts } = job;
-            Ok(Net::start(alloc, &plan, parts)?)
-        }
-        Err(_) => panic!(rt; "the network file was refused"),
-    }
-}
 
 /// The next turn of a process, after its work.
 fn next_turn(rt: &impl Abort, net: &mut Net<Std>, process: u32) -> Turn {
@@ -43,7 +23,7 @@ fn next_turn(rt: &impl Abort, net: &mut Net<Std>, process: u32) -> Turn {
 
 #[test]
 fn a_line_goes_through_in_so_many_turns(rt: HostRuntime) -> Result<(), Fail> {
-    let mut net = started(&rt, rt.alloc())?;
+    let mut net = started(rt.alloc(), NET, b"x\n")?;
     for (stamp, process) in [0u32, 0, 1, 1, 0, 0, 0, 1].iter().enumerate() {
         assert_eq!(rt;
             next_turn(&rt, &mut net, *process),

@@ -1,6 +1,5 @@
-// What a process that asks for a level may be told.
-use crate::{Asker, askers};
-use flow_cli::network;
+//! What a process that asks for a level may be told.
+use crate::{Asker, askers, plan_of_text};
 use flow_component::NoGate;
 use flow_machine::{Net, Thought, Turn};
 use std::alloc::Global;
@@ -11,14 +10,10 @@ const NET: &[u8] =
     b"flow 1\n'in' -> FILE Read(ReadLines)\nRead OUT -> IN Pass(Passthru)\nPass OUT -> IN Write(WriteLines)\n'out' -> FILE Write\n";
 
 /// The network at its start. Its connections take 10 packets each.
-fn started(rt: &impl Abort, alloc: Global) -> Result<Net<Asker>, Fail> {
-    match network(alloc, NET)? {
-        Some(plan) => {
-            let parts = askers(alloc, &plan)?;
-            Ok(Net::start(alloc, &plan, parts)?)
-        }
-        None => panic!(rt; "the network file was refused"),
-    }
+fn started(alloc: Global) -> Result<Net<Asker>, Fail> {
+    let plan = plan_of_text(alloc, NET)?;
+    let parts = askers(alloc, &plan)?;
+    Ok(Net::start(alloc, &plan, parts)?)
 }
 
 /// The next turn of a process, after its work.
@@ -50,7 +45,7 @@ fn seen_turn(rt: &impl Abort, net: &mut Net<Asker>, process: u32, seen: u32) -> 
 
 #[test]
 fn a_level_is_told_up_to_the_capacity(rt: HostRuntime) -> Result<(), Fail> {
-    let mut net = started(&rt, rt.alloc())?;
+    let mut net = started(rt.alloc())?;
     assert_eq!(rt; next_turn(&rt, &mut net, 0), Turn::Made(0));
     assert_eq!(rt; seen_turn(&rt, &mut net, 0, 11), None);
     assert_eq!(rt; net.turns_made(), 1);

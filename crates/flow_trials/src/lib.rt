@@ -5,8 +5,12 @@ mod asker;
 #[cfg(test)]
 mod by_hand;
 #[cfg(test)]
+mod circle;
+#[cfg(test)]
 mod levels;
+mod network;
 mod starting;
 
 pub use asker::Asker;
-pub use starting::askers;
+pub use network::{TrialStop, plan_of_text};
+pub use starting::{askers, standard_parts, started};

@@ -1,14 +1,23 @@
-//! Networks whose every process asks for a level.
+//! Networks at their start: of standard components, and of components that ask for a level.
 ghost use Rattle.std.specs.Prelude.{◌≡◌, IfOk, map};
-ghost use Rattle.flow_cli.specs.Parts.{IsRunnable};
-ghost use Rattle.flow_machine.specs.PlanOf.{plan_of};
+ghost use Rattle.flow_net.specs.Network.{Network};
+ghost use Rattle.flow_net.specs.Over.{IsOver};
 ghost use Rattle.flow_model.specs.Plans.{StartsWell};
+ghost use Rattle.flow_machine.specs.PlanOf.{plan_of};
+ghost use Rattle.flow_catalogue.specs.Kinds.{std_kinds};
+ghost use Rattle.flow_catalogue.specs.Processes.{IsStandard};
+ghost use Rattle.flow_catalogue.specs.Std.{std_shape, std_uses, StdReady};
 ghost use Rattle.flow_trials.specs.Asker.{shape_asked, uses_asked, AlwaysReady};
 ghost use Rattle.flow_trials.specs.Askers.{asker_of};
+ghost use Rattle.flow_trials.specs.Networks.{ArePartsOn, HasPart, HasStarted, IsPlanOf};
 
 use crate::asker::Asker;
+use crate::network::{TrialStop, plan_of_text};
+use flow_catalogue::{FileUse, Std, a_plan_over_the_table_is_standard, file_of, make};
 use flow_component::Shape;
+use flow_machine::Net;
 use flow_net::{Plan, Process};
+use flow_ready::a_valid_plan_is_ready;
 use std::alloc::{AllocError, Global};
 
 /// The components of these processes.
@@ -27,10 +36,50 @@ fn parts_of(alloc: Global, processes: &[Process]) -> Result<Vec<Asker>, AllocErr
     Ok(parts)
 }
 
-/// A component of the shape that it needs for each process of a plan.
+/// A component of the shape that it needs for each process of a plan over the standard kinds, whose outputs are all connected.
 pub fn askers(alloc: Global, plan: &Plan) -> Result<Vec<Asker>, AllocError>
-    requires { IsRunnable plan.now }
+    requires { IsOver std_kinds plan.now }
     ensures { IfOk result (λ parts. StartsWell shape_asked uses_asked AlwaysReady (plan_of plan.now) parts.items) }
 {
+    a_plan_over_the_table_is_standard();
+    a_valid_plan_is_ready::<Asker>();
     parts_of(alloc, plan.processes())
+}
+
+/// The component of a process, on these bytes where it reads a file.
+fn standard_part(alloc: Global, plan: &Plan, process: u32, bytes: &[u8]) -> Result<Std, AllocError>
+    requires { IsStandard plan.now process }
+    ensures { IfOk result (HasPart bytes.now plan.now process) }
+{
+    match file_of(plan, process) {
+        Some(FileUse::Read(_)) => make(alloc, plan, process, bytes.to_vec(alloc)?),
+        Some(FileUse::Write(_)) => make(alloc, plan, process, Vec::new(alloc)),
+        None => make(alloc, plan, process, Vec::new(alloc)),
+    }
+}
+
+/// The standard components of a plan, each reader on the same bytes.
+pub fn standard_parts(alloc: Global, plan: &Plan, bytes: &[u8]) -> Result<Vec<Std>, AllocError>
+    requires { IsOver std_kinds plan.now }
+    ensures parts { IfOk result (λ parts. ArePartsOn bytes.now plan.now parts.items) }
+    ensures well { IfOk result (λ parts. StartsWell std_shape std_uses StdReady (plan_of plan.now) parts.items) }
+{
+    a_plan_over_the_table_is_standard();
+    a_valid_plan_is_ready::<Std>();
+    let mut parts = Vec::new(alloc);
+    for process in 0..plan.processes().len() {
+        parts.push(standard_part(alloc, plan, process as u32, bytes)?)?;
+    }
+    Ok(parts)
+}
+
+/// The network of a text at its start, with standard components, each reader on the same bytes.
+pub fn started(alloc: Global, text: &[u8], bytes: &[u8]) -> Result<Net<Std>, TrialStop>
+    ensures started { IfOk result (HasStarted text.now bytes.now) }
+    // A text is refused only where it has no plan.
+    ensures refused { result ≡ Err TrialStop.Refused → (plan : Network) → IsPlanOf text.now plan → ⊥ }
+{
+    let plan = plan_of_text(alloc, text)?;
+    let parts = standard_parts(alloc, &plan, bytes)?;
+    Ok(Net::start(alloc, &plan, parts)?)
 }

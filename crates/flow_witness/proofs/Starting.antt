@@ -8,7 +8,7 @@ use Rattle.flow_model.specs.Plans.{StartsWell, FitsProcess, process_at_start}
 use Rattle.flow_catalogue.specs.declared.standard.Std.{Std}
 use Rattle.flow_catalogue.specs.declared.standard.Std.TheVariants as parts
 use Rattle.flow_catalogue.specs.Std.{std_shape, std_uses, StdReady}
-use Rattle.flow_witness.proofs.Wired.{thin-wired, at_three}
+use Rattle.flow_witness.proofs.Wired.{chain-wired, at_three}
 use Rattle.flow_witness.specs.FirstRun.{first_plan, first_parts, passing}
 
 abbrev reader : Process Std
@@ -37,7 +37,7 @@ writer_fits = record { inputs = refl; outputs = refl; used = λ port uses. absur
 
 pub starts : StartsWell std_shape std_uses StdReady first_plan first_parts
 starts = record {
-  wired = thin-wired;
+  wired = chain-wired;
   one_each = refl;
   fit = λ p x there. at_three (λ k y. FitsProcess std_shape std_uses StdReady y.part y) reader passer writer reader_fits passer_fits writer_fits p x there;
 }

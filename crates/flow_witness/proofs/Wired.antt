@@ -1,13 +1,13 @@
--- The plan of a thin file, as the machine knows it, is wired, and its parts fit.
+-- The plan of the chain, as the machine knows it, is wired.
 use Rattle.std.proofs.Common.{◌≡◌, ℕ, zero, suc, ◌<◌, ◌≤◌, List, [], ◌∷◌, length, refl, sym, ◌∙◌, ap, subst, arith, inl}
 use Rattle.std.specs.Prelude.{Some, None, IsSome, IsTrue, slice_get, ◌==◌}
 use Rattle.std.specs.List.{list_any}
 use Rattle.flow_model.specs.States.{Sender}
 use Rattle.flow_model.specs.Plans.{Plan, PlanProcess, PlanConnection, receives_at, IsWired}
 
--- The plan of every thin file: names and files are of no matter to the machine.
-abbrev pub thin_plan : Plan
-thin_plan = record {
+-- The plan of every such chain: names and files are of no matter to the machine.
+abbrev pub chain_plan : Plan
+chain_plan = record {
   processes =
       record { inputs = 0; outputs = 1; initials = [] }
       ∷ record { inputs = 1; outputs = 1; initials = [] }
@@ -66,31 +66,31 @@ pub only_first : (j : ℕ) (P : ℕ → Type 0) → j < 1 → P 0 → P j
 only_first zero P below first = first
 only_first (suc j) P below first = absurd (omega arith)
 
-has_connection : (p i : ℕ) (q : PlanProcess) → slice_get thin_plan.processes p ≡ Some q → i < q.inputs → IsSome (receives_at thin_plan p i)
-has_connection p i q h lt = at_three (λ k x. (j : ℕ) → j < x.inputs → IsSome (receives_at thin_plan k j)) q0 q1 q2
+has_connection : (p i : ℕ) (q : PlanProcess) → slice_get chain_plan.processes p ≡ Some q → i < q.inputs → IsSome (receives_at chain_plan p i)
+has_connection p i q h lt = at_three (λ k x. (j : ℕ) → j < x.inputs → IsSome (receives_at chain_plan k j)) q0 q1 q2
     (λ j below. absurd (omega arith))
-    (λ j below. only_first j (λ n. IsSome (receives_at thin_plan 1 n)) below refl)
-    (λ j below. only_first j (λ n. IsSome (receives_at thin_plan 2 n)) below refl)
+    (λ j below. only_first j (λ n. IsSome (receives_at chain_plan 1 n)) below refl)
+    (λ j below. only_first j (λ n. IsSome (receives_at chain_plan 2 n)) below refl)
     p q h i lt
 
-pub thin-wired : IsWired thin_plan
-thin-wired = record {
+pub chain-wired : IsWired chain_plan
+chain-wired = record {
   few = omega arith;
   few_connections = omega arith;
-  receivers = at_two (λ c x. (q : PlanProcess) × (slice_get thin_plan.processes x.receiver ≡ Some q) × (x.input < q.inputs)) c0 c1
+  receivers = at_two (λ c x. (q : PlanProcess) × (slice_get chain_plan.processes x.receiver ≡ Some q) × (x.input < q.inputs)) c0 c1
       (q1, refl, omega arith) (q2, refl, omega arith);
   one_receiver = λ c d x y hc hd. at_two
-      (λ c x. (d : ℕ) (y : PlanConnection) → slice_get thin_plan.connections d ≡ Some y → x.receiver ≡ y.receiver → x.input ≡ y.input → c ≡ d) c0 c1
+      (λ c x. (d : ℕ) (y : PlanConnection) → slice_get chain_plan.connections d ≡ Some y → x.receiver ≡ y.receiver → x.input ≡ y.input → c ≡ d) c0 c1
       (at_two (λ d y. 1 ≡ y.receiver → 0 ≡ y.input → 0 ≡ d) c0 c1 (λ r i. refl) (λ r i. absurd (omega arith)))
       (at_two (λ d y. 2 ≡ y.receiver → 0 ≡ y.input → 1 ≡ d) c0 c1 (λ r i. absurd (omega arith)) (λ r i. refl))
       c x hc d y hd;
   senders = λ c k x s hc. at_two
-      (λ c x. (k : ℕ) (s : Sender) → slice_get x.senders k ≡ Some s → (q : PlanProcess) × (slice_get thin_plan.processes s.process ≡ Some q) × (s.output < q.outputs)) c0 c1
-      (at_one (λ k s. (q : PlanProcess) × (slice_get thin_plan.processes s.process ≡ Some q) × (s.output < q.outputs)) s0 (q0, refl, omega arith))
-      (at_one (λ k s. (q : PlanProcess) × (slice_get thin_plan.processes s.process ≡ Some q) × (s.output < q.outputs)) s1 (q1, refl, omega arith))
+      (λ c x. (k : ℕ) (s : Sender) → slice_get x.senders k ≡ Some s → (q : PlanProcess) × (slice_get chain_plan.processes s.process ≡ Some q) × (s.output < q.outputs)) c0 c1
+      (at_one (λ k s. (q : PlanProcess) × (slice_get chain_plan.processes s.process ≡ Some q) × (s.output < q.outputs)) s0 (q0, refl, omega arith))
+      (at_one (λ k s. (q : PlanProcess) × (slice_get chain_plan.processes s.process ≡ Some q) × (s.output < q.outputs)) s1 (q1, refl, omega arith))
       c x hc k s;
   one_sender = λ c d k l x y s hc hd hk hl. at_two
-      (λ c x. (k : ℕ) → slice_get x.senders k ≡ Some s → (d : ℕ) (y : PlanConnection) → slice_get thin_plan.connections d ≡ Some y → (l : ℕ) → slice_get y.senders l ≡ Some s → (c ≡ d) × (k ≡ l)) c0 c1
+      (λ c x. (k : ℕ) → slice_get x.senders k ≡ Some s → (d : ℕ) (y : PlanConnection) → slice_get chain_plan.connections d ≡ Some y → (l : ℕ) → slice_get y.senders l ≡ Some s → (c ≡ d) × (k ≡ l)) c0 c1
       (λ k. λ hk. at_two (λ d y. (l : ℕ) → slice_get y.senders l ≡ Some s → (0 ≡ d) × (k ≡ l)) c0 c1
       (λ l. λ hl. (refl, same_place s0 s k l hk hl)) (λ l. λ hl. absurd (senders_differ (the_one s0 s k hk ∙ sym (the_one s1 s l hl)))))
       (λ k. λ hk. at_two (λ d y. (l : ℕ) → slice_get y.senders l ≡ Some s → (1 ≡ d) × (k ≡ l)) c0 c1

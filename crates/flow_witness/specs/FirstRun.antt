@@ -1,4 +1,4 @@
--- The first run: a chain that copies one line.
+-- The first run: a chain that copies one line. Its network is written out here as the builder could have made it; nothing is built.
 use Rattle.std.specs.Prelude.{◌≡◌, List, [], ◌∷◌, ◌++◌, replicate, codes, Some, slice_get}
 use Rattle.flow_net.specs.Network.{Network}
 use Rattle.flow_witness.specs.Chain.{chain_of}

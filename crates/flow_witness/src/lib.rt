@@ -1,4 +1,7 @@
 //! That the definitions of the machine say something: the first run is one, and a part that sends a packet twice is no component.
+//!
+//! The first run is that of a chain, whose network is a value that the builder of plans could have made. It is written out in
+//! `specs/Chain.antt`, and no plan is built here.
 #![tactic(auto)]
 
 ghost use Rattle.flow_witness.specs.FirstRun.{IsFirstRun};

@@ -1,0 +1,9 @@
+-- How large a chain may be.
+use Rattle.std.specs.Prelude.{◌≤◌}
+use Rattle.flow_chain.specs.declared.size.Size.{Size}
+
+-- From 1 to 100 passers, and not too many lines.
+pub record IsSize (size : Size) : Type 0 where
+  pub some : 1 ≤ size.passers
+  pub few : size.passers ≤ 100
+  pub short : size.lines ≤ 1048576

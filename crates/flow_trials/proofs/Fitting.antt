@@ -1,0 +1,66 @@
+-- The parts of a plan over the standard kinds fit its processes.
+use Rattle.std.proofs.Common.{◌≡◌, ℕ, zero, suc, ◌<◌, List, [], ◌∷◌, ◌++◌, map, length, Some, refl, sym, ◌∙◌, subst, slice_get, arith, nat_lt}
+use Rattle.std.specs.Prelude.{◌≢◌, IsTrue, codes}
+use Rattle.std.proofs.lemmas.Bool.Decides.{nat_tests}
+use Rattle.std.proofs.lemmas.List.{length-map}
+use Rattle.flow_net.specs.declared.plan.Process.{Process}
+use Rattle.flow_net.specs.Network.{Network}
+use Rattle.flow_net.specs.Valid.{IsValid}
+use Rattle.flow_net.specs.Over.{IsOver}
+use Rattle.flow_ready.specs.Ready.{PartFits, PartsFit}
+use Rattle.flow_ready.proofs.Lookups.{map-there}
+use Rattle.flow_catalogue.specs.declared.standard.Std.{Std}
+use Rattle.flow_catalogue.specs.declared.table.StdKind.TheVariants as kinds
+use Rattle.flow_catalogue.specs.Kinds.{std_kinds}
+use Rattle.flow_catalogue.specs.Std.{std_shape, std_uses, StdReady}
+use Rattle.flow_catalogue.specs.Plans.{OverIsConnected}
+use Rattle.flow_catalogue.specs.Processes.{IsMade, Fits}
+use Rattle.flow_trials.specs.declared.asker.Asker.{Asker}
+use Rattle.flow_trials.specs.Asker.{shape_asked, uses_asked, AlwaysReady}
+use Rattle.flow_trials.specs.Askers.{asker_of}
+use Rattle.flow_trials.specs.Networks.{ArePartsOn, HasPart}
+
+-- the bytes are of no matter to a process that reads none
+pub made-anywhere : (bytes : List ℕ) (process : Process) (part : Std) → process.kind ≢ codes "ReadLines" → IsMade process [] part → IsMade process bytes part
+made-anywhere bytes process part other (kinds.ReadLines, named, is) = absurd (other named)
+made-anywhere bytes process part other (kinds.WriteLines, named, is) = (kinds.WriteLines, named, is)
+made-anywhere bytes process part other (kinds.Passthru, named, is) = (kinds.Passthru, named, is)
+
+pub writes-not-reads : (process : Process) → process.kind ≡ codes "WriteLines" → process.kind ≢ codes "ReadLines"
+writes-not-reads process writes reads = (let bad : codes "WriteLines" ≡ codes "ReadLines" = sym writes ∙ reads in cc)
+
+pub parts-fit : (bytes : List ℕ) (plan : Network) (parts : List Std) → OverIsConnected → IsValid plan → IsOver std_kinds plan → ArePartsOn bytes plan parts → PartsFit std_shape std_uses StdReady plan parts
+parts-fit bytes plan parts connected valid over are = record {
+  one_each = are.count;
+  fit = λ p process part there at.
+      let has : HasPart bytes plan p part = are.each p part at in
+      let same : has.process ≡ process = (let h = has.there in cc) in
+      let fits = subst (λ (x : Process). Fits x part) same has.is.fits in
+      record {
+        inputs = fits.inputs;
+        outputs = fits.outputs;
+        used = λ o uses. connected plan valid over p o (process, there, fits.uses o uses);
+        can_start = fits.starts;
+      };
+}
+
+below : (a b : ℕ) → IsTrue (nat_lt a b) → a < b
+below a b is = grind (arith, nat_tests)
+
+pub askers-fit : (plan : Network) → OverIsConnected → IsValid plan → IsOver std_kinds plan → PartsFit shape_asked uses_asked AlwaysReady plan (map asker_of plan.processes)
+askers-fit plan connected valid over = record {
+  one_each = length-map plan.processes asker_of;
+  fit = λ p process part there at.
+      let is : part ≡ asker_of process = mapped plan.processes p process part there at in
+      subst (λ (a : Asker). PartFits shape_asked uses_asked AlwaysReady plan p process a) (sym is)
+      (record { inputs = refl; outputs = refl; used = λ o uses. connected plan valid over p o (process, there, below o process.outputs uses); can_start = λ held none. tt });
+} where
+  mapped : (xs : List Process) (k : ℕ) (x : Process) (part : Asker) → slice_get xs k ≡ Some x → slice_get (map asker_of xs) k ≡ Some part → part ≡ asker_of x
+  mapped xs k x part there at = let found = map-there asker_of xs k x there in cc
+
+-- what holds of each element holds of each one with a last one
+pub pushed : {X : Type 0} (P : ℕ → X → Type 0) (xs : List X) (x : X) → ((k : ℕ) (y : X) → slice_get xs k ≡ Some y → P k y) → P (length xs) x → (k : ℕ) (y : X) → slice_get (xs ++ x ∷ []) k ≡ Some y → P k y
+pushed P [] x before last zero y is = let same : x ≡ y = cc in subst (P 0) same last
+pushed P [] x before last (suc k) y is = absurd cc
+pushed P (z ∷ xs) x before last zero y is = before 0 y is
+pushed P (z ∷ xs) x before last (suc k) y is = pushed (λ i w. P (suc i) w) xs x (λ i w h. before (suc i) w h) last k y is
