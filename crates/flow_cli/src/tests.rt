@@ -19,6 +19,9 @@ const READ_TO_WRITE: &[u8] =
 const MERGE: &[u8] =
     b"flow 1\n'in' -> FILE A(ReadLines)\n'b' -> FILE B(ReadLines)\nA OUT -> IN W(WriteLines)\nB OUT -> IN W\n'out' -> FILE W\n";
 
+const TWO_CHAINS: &[u8] =
+    b"flow 1\n'in' -> FILE A(ReadLines)\nA OUT -> IN X(WriteLines)\n'out' -> FILE X\n'in' -> FILE B(ReadLines)\nB OUT -> IN Y(WriteLines)\n'last' -> FILE Y\n";
+
 const CIRCLE: &[u8] = b"flow 1\nA(Passthru) OUT -> IN B(Passthru)\nB OUT -> IN A\n";
 
 const COPY: &[u8] =
@@ -121,6 +124,11 @@ fn networks_run(rt: HostRuntime) -> Result<(), Fail> {
             output: Some(b""),
             printed: b"verdict finished\ntotal turns 7 made 0 dropped 0 left 0\n",
             turns: 7,
+            ..ROW
+        },
+        // The call behind the last read of the inputs would fail, and none comes.
+        Row {
+            read_fail: 7,
             ..ROW
         },
         Row {
@@ -280,7 +288,23 @@ fn stops_leave_their_text(rt: HostRuntime) -> Result<(), Fail> {
     Ok(())
 }
 
-// Runs a network on an input of so many times these bytes.
+#[test]
+fn no_file_is_begun_behind_one_that_fails(rt: HostRuntime) -> Result<(), Fail> {
+    let alloc = rt.alloc();
+    let files = vec![in alloc; file(alloc, "net", TWO_CHAINS)?, file(alloc, "in", b"x\n")?]?;
+    let none = Vec::new(alloc);
+    let fails = vec![in alloc; 1]?;
+    let mut shelf = MemShelf::new(alloc, files, 64, ROOM, none, fails);
+    let mut out = MemSink::new(alloc, 64, ROOM, Vec::new(alloc))?;
+    let words = words(alloc, false)?;
+    let outcome = plain_top(alloc, &words, &mut shelf, &mut out);
+    assert_eq!(rt; outcome.status, 7);
+    assert_eq!(rt; out.bytes(), b"write fault: out\n".as_slice());
+    assert!(rt; shelf.file("last").is_none());
+    Ok(())
+}
+
+// Runs a network on this input.
 fn run_long(
     rt: &impl Abort,
     alloc: Global,
