@@ -1,4 +1,4 @@
-// The two kinds of the trials.
+// The kinds of the trials.
 ghost use Rattle.std.specs.Prelude.{◌≡◌, ◌∷◌, [], IfOk, codes, true, false, IsTrue};
 ghost use Rattle.flow_net.specs.Kinds.{is_table};
 
@@ -56,10 +56,33 @@ fn pass(alloc: Global) -> Result<KindSpec, AllocError>
     })
 }
 
+// A kind with an output that may be left open, before one that has to be connected.
+fn tally(alloc: Global) -> Result<KindSpec, AllocError>
+    ensures { IfOk result (λ kind. kind ≡ record { name = codes "Tally"; inputs = record { name = codes "IN"; class = PortClass.Stream; array = false; needed = true } ∷ []; outputs = record { name = codes "OUT"; class = PortClass.Stream; array = false; needed = false } ∷ record { name = codes "COUNT"; class = PortClass.Stream; array = false; needed = true } ∷ [] }) }
+{
+    let input = port(alloc, b"IN", PortClass::Stream, false)?;
+    let open = PortSpec {
+        name: Text::from_slice(alloc, b"OUT")?,
+        class: PortClass::Stream,
+        array: false,
+        needed: false,
+    };
+    let count = port(alloc, b"COUNT", PortClass::Stream, false)?;
+    let name = Text::from_slice(alloc, b"Tally")?;
+    let inputs = Items::of(vec![in alloc; input]?);
+    let outputs = Items::of(vec![in alloc; open, count]?);
+    Ok(KindSpec {
+        name,
+        inputs,
+        outputs,
+    })
+}
+
 pub fn kinds(alloc: Global) -> Result<Vec<KindSpec>, AllocError>
     ensures { IfOk result (λ kinds. IsTrue (is_table kinds.items)) }
 {
     let split = split(alloc)?;
     let pass = pass(alloc)?;
-    Ok(vec![in alloc; split, pass]?)
+    let tally = tally(alloc)?;
+    Ok(vec![in alloc; split, pass, tally]?)
 }

@@ -8,6 +8,8 @@ mod connections;
 #[cfg(test)]
 mod kinds;
 #[cfg(test)]
+mod optional;
+#[cfg(test)]
 mod plans;
 #[cfg(test)]
 mod processes;
