@@ -1,3 +1,4 @@
 pub mod Starting
 pub mod Round
 pub mod Wired
+pub mod Planned

@@ -1,6 +1,11 @@
 -- The first run: a chain that copies one line. Its network is written out here as the builder could have made it; nothing is built.
-use Rattle.std.specs.Prelude.{◌≡◌, List, [], ◌∷◌, ◌++◌, replicate, codes, Some, slice_get}
+use Rattle.std.specs.Prelude.{◌≡◌, List, [], ◌∷◌, ◌++◌, replicate, codes, Some, None, Ok, ℕ, slice_get}
 use Rattle.flow_net.specs.Network.{Network}
+use Rattle.flow_net.specs.declared.kind.PortRef.{PortRef}
+use Rattle.flow_parse.specs.declared.value.NetPart.{NetPart}
+use Rattle.flow_parse.specs.declared.value.Statement.TheVariants.{Connect, Initial}
+use Rattle.flow_expand.specs.Flat.{IsFlat}
+use Rattle.flow_catalogue.specs.Kinds.{std_kinds}
 use Rattle.flow_witness.specs.Chain.{chain_of}
 use Rattle.flow_streams.specs.declared.passthru.Passthru.{Passthru}
 use Rattle.flow_catalogue.specs.declared.standard.Std.{Std}
@@ -17,6 +22,22 @@ use Rattle.flow_model.specs.Plans.{Plan, start_of, StartsWell}
 -- The plan: the names and the files of the first example.
 abbrev pub first_network : Network
 first_network = chain_of (codes "Read") (codes "in.txt") (codes "Pass") (codes "Write") (codes "out.txt")
+
+-- A port that is named without an element.
+abbrev pub port_named : List ℕ → PortRef
+port_named name = record { name = name; element = None }
+
+-- What a network file says of it: three processes with their kinds, two files and two connections.
+abbrev pub first_part : NetPart
+first_part = record {
+  processes = (codes "Read", codes "ReadLines") ∷ (codes "Pass", codes "Passthru") ∷ (codes "Write", codes "WriteLines") ∷ [];
+  statements =
+      Initial (codes "in.txt") (codes "Read") (port_named (codes "FILE"))
+      ∷ Connect (codes "Read") (port_named (codes "OUT")) None (codes "Pass") (port_named (codes "IN"))
+      ∷ Connect (codes "Pass") (port_named (codes "OUT")) None (codes "Write") (port_named (codes "IN"))
+      ∷ Initial (codes "out.txt") (codes "Write") (port_named (codes "FILE"))
+      ∷ [];
+}
 
 abbrev pub first_plan : Plan
 first_plan = plan_of first_network
@@ -37,9 +58,10 @@ first_start = start_of first_plan first_parts
 abbrev pub first_journal : Journal
 first_journal = record { turns = (replicate 5 0 ++ replicate 7 1) ++ replicate 5 2; seen = [] }
 
--- The plan with these components starts well; the journal is its round robin, after which every process has ended, no packet is left, and the writer has
+-- The network is the plan of that part; the plan with these components starts well; the journal is its round robin, after which every process has ended, no packet is left, and the writer has
 -- the line and a line feed.
 pub record IsFirstRun : Type 0 where
+  pub planned : IsFlat std_kinds first_part (Ok first_network)
   pub starts : StartsWell std_shape std_uses StdReady first_plan first_parts
   pub last : State Std
   pub round : RoundRobin StdNext first_start first_journal last

@@ -7,7 +7,8 @@
 ghost use Rattle.flow_witness.specs.FirstRun.{IsFirstRun};
 ghost use Rattle.flow_witness.specs.Twice.{TwiceIsRefused};
 
-/// The chain of a reader of the one line `x`, a process that passes it on and a writer, with standard components, starts well; five turns
+/// The chain of a reader of the one line `x`, a process that passes it on and a writer is the plan of what a network file says of it,
+/// over the standard kinds; with their components it starts well; five turns
 /// of the reader, seven of the second process and five of the writer are its round robin; after it every process has ended, no packet is
 /// left, and the writer has `x` and a line feed.
 pub fn the_first_run()
