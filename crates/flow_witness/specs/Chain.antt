@@ -1,5 +1,5 @@
--- A chain: a reader of lines, a process that passes them on, and a writer of lines. It is a network that the builder of plans could have
--- made of three processes of standard kinds with names that differ, of two connections for which no capacity was given, and of a file's
+-- A chain: a reader of lines, a process that passes them on, and a writer of lines. It is the network that a builder makes
+-- of three processes of standard kinds with names that differ, of two connections for which no capacity was given, and of a file's
 -- name for the reader and one for the writer.
 use Rattle.std.specs.Prelude.{ℕ, List, [], ◌∷◌, codes, true, false}
 use Rattle.flow_net.specs.declared.kind.PortClass.{PortClass}

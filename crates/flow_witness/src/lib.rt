@@ -1,16 +1,14 @@
 //! That the definitions of the machine say something: the first run is one, and a part that sends a packet twice is no component.
 //!
-//! The first run is that of a chain, whose network is a value that the builder of plans could have made. It is written out in
-//! `specs/Chain.antt`, and no plan is built here.
+//! The first run is that of a chain. Its network is written out in `specs/Chain.antt`, and is what a builder makes of a text.
 #![tactic(auto)]
 
 ghost use Rattle.flow_witness.specs.FirstRun.{IsFirstRun};
 ghost use Rattle.flow_witness.specs.Twice.{TwiceIsRefused};
 
 /// The chain of a reader of the one line `x`, a process that passes it on and a writer is the plan of what a network file says of it,
-/// over the standard kinds; with their components it starts well; five turns
-/// of the reader, seven of the second process and five of the writer are its round robin; after it every process has ended, no packet is
-/// left, and the writer has `x` and a line feed.
+/// over the standard kinds; with their components it starts well; five turns of the reader, seven of the second process and five of the
+/// writer are its round robin; after it every process has ended, no packet is left, and the writer has `x` and a line feed.
 pub fn the_first_run()
     ensures { IsFirstRun }
 {}
