@@ -7,11 +7,11 @@ use Rattle.std.specs.declared.option.Option.{Option}
 use Rattle.flow_text.specs.Edge.{Outside, Name, Files, Rose}
 use Rattle.flow_net.specs.Network.{Network}
 use Rattle.flow_parse.specs.declared.value.NetText.{NetText}
-use Rattle.flow_words.specs.Words.{Asked}
+use Rattle.flow_words.specs.Words.{Asked, Run, Check}
 use Rattle.flow_cli.specs.Networks.{Holds, RefusedFor, IsStandardPlan}
 use Rattle.flow_cli.specs.Step.{OnlyReads, HoldsMore}
 use Rattle.flow_cli.specs.Parts.{IsInput, AreParts, StopsReading}
-use Rattle.flow_cli.specs.Prepare.{Asks, file_of, IsCommand, IsFile, IsNetwork, IsRefused, IsReadName, Loads, ReadsInputs, Prepares}
+use Rattle.flow_cli.specs.Prepare.{Asks, file_of, IsCommand, IsFile, IsNetwork, IsRefused, IsReadName, IsReadFor, Loads, ReadsInputs, Prepares}
 use Rattle.flow_cli.specs.declared.before.Job.{Job}
 use Rattle.flow_cli.specs.declared.net_file.NetFile.{NetFile}
 use Rattle.flow_cli.specs.declared.net_file.Refusal.{Refusal}
@@ -105,12 +105,32 @@ inputs-read o a n name file job limit l same e f parts =
     same-back : {x y : Network} → x ≡ y → y ≡ x
     same-back e = let h = e in cc
 
--- a stop of either, by the words
-pub prepare-stopped : (o n : Outside) (words : List (String Global)) (name : Name) (stop : Stop) (limit : ℕ) → IsCommand words name
+by-a-run : (told : Option Files) (words : List (String Global)) (name read : Name) → Asks words (Run name) → IfSome told (λ files. IsReadName files name read)
+    → IfSome told (λ files. IsReadFor words files name read)
+by-a-run None words name read is reads = tt
+by-a-run (Some files) words name read is (inl same) = inl same
+by-a-run (Some files) words name read is (inr input) = inr (is, input)
+
+own-file : (told : Option Files) (words : List (String Global)) (name read : Name) → read ≡ name → IfSome told (λ files. IsReadFor words files name read)
+own-file None words name read is = tt
+own-file (Some files) words name read is = inl is
+
+-- a stop before a run, and before a check
+pub run-stopped : (o n : Outside) (words : List (String Global)) (name : Name) (stop : Stop) (limit : ℕ) → Asks words (Run name)
     → ReadsInputs o n name (Err stop) limit → Prepares o n words (Err stop) limit
-prepare-stopped o n words name (Refused refusal) limit is r = (name, is, r.0, r.1, r.2)
-prepare-stopped o n words name (ReadFault read) limit is r = (name, is, r.0, r.1, r.2, r.3)
-prepare-stopped o n words name (TooLong read) limit is r = (name, is, r.0, r.1, r.2)
-prepare-stopped o n words name NoMemory limit is r = r
-prepare-stopped o n words name Words limit is r = absurd r
-prepare-stopped o n words name (WriteFault written) limit is r = absurd r
+run-stopped o n words name (Refused refusal) limit is r = (name, on-file words (Run name) is, r.0, r.1, r.2)
+run-stopped o n words name (ReadFault read) limit is r =
+    (name, on-file words (Run name) is, r.0, r.1, r.2, by-a-run o.files words name (string_bytes read) is r.3)
+run-stopped o n words name (TooLong read) limit is r = (name, on-file words (Run name) is, r.0, r.1, by-a-run o.files words name (string_bytes read) is r.2)
+run-stopped o n words name NoMemory limit is r = r
+run-stopped o n words name Words limit is r = absurd r
+run-stopped o n words name (WriteFault written) limit is r = absurd r
+
+pub check-stopped : (o n : Outside) (words : List (String Global)) (name : Name) (stop : Stop) (limit : ℕ) → Asks words (Check name)
+    → Loads o n name (Err stop) limit → Prepares o n words (Err stop) limit
+check-stopped o n words name (Refused refusal) limit is l = (name, on-file words (Check name) is, l.0, l.1, l.2)
+check-stopped o n words name (ReadFault read) limit is l = (name, on-file words (Check name) is, l.0, l.1, l.2, own-file o.files words name (string_bytes read) l.3)
+check-stopped o n words name (TooLong read) limit is l = (name, on-file words (Check name) is, l.0, l.1, own-file o.files words name (string_bytes read) l.2)
+check-stopped o n words name NoMemory limit is l = l
+check-stopped o n words name Words limit is l = absurd l
+check-stopped o n words name (WriteFault written) limit is l = absurd l

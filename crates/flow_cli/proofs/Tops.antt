@@ -9,7 +9,7 @@ use Rattle.flow_cli.specs.Step.{HoldsMore}
 use Rattle.flow_words.specs.Words.{Run, Check, command_of}
 use Rattle.flow_cli.specs.Networks.{Holds}
 use Rattle.flow_cli.proofs.Networks.{holds-or-refused}
-use Rattle.flow_cli.specs.Prepare.{Asks, file_of, IsCommand, IsRefused, IsReadName}
+use Rattle.flow_cli.specs.Prepare.{Asks, file_of, IsCommand, IsRefused, IsReadFor}
 use Rattle.flow_cli.specs.After.{Prints, verdict_status}
 use Rattle.flow_cli.specs.Stops.{status_of, text_of}
 use Rattle.flow_cli.specs.Top.{IsRunOf, IsWhole, IsCut, IsUntouched, Halts, Stands, PrintsStop, IsOver, StopsBefore, IsChecked, ComesToEnd, IsValid, NoFaults}
@@ -78,7 +78,7 @@ words-refused o n po pn words stop journal status limit w p e =
 abbrev pub ReadCause : Outside → Outside → Outside → Outside → List (String Global) → Type 0
 ReadCause o n po pn words = (name : Name) × IsCommand words name × (n.files ≡ o.files) × Rose o.read_faults n.read_faults
     × ((read : String Global) × (n.last_read_fault ≡ Some (string_bytes read)) × (pn ≡ after_write po (text_of (ReadFault read)))
-    × IfSome o.files (λ files. IsReadName files name (string_bytes read)))
+    × IfSome o.files (λ files. IsReadFor words files name (string_bytes read)))
 
 read_at : (o n po pn : Outside) (words : List (String Global)) (stop : Stop) (journal : Journal) (limit : ℕ) → Halts o n words stop journal limit → 6 ≡ status_of stop
     → pn ≡ after_write po (text_of stop) → ReadCause o n po pn words
@@ -117,7 +117,7 @@ refused o n po pn words stop journal status limit w p e =
 abbrev pub LongCause : Outside → Outside → Outside → Outside → List (String Global) → ℕ → Type 0
 LongCause o n po pn words limit = (name : Name) × IsCommand words name × (n.files ≡ o.files)
     × ((read : String Global) × HoldsMore o.files (string_bytes read) limit × (pn ≡ after_write po (text_of (TooLong read)))
-    × IfSome o.files (λ files. IsReadName files name (string_bytes read)))
+    × IfSome o.files (λ files. IsReadFor words files name (string_bytes read)))
 
 long_at : (o n po pn : Outside) (words : List (String Global)) (stop : Stop) (journal : Journal) (limit : ℕ) → Halts o n words stop journal limit → 9 ≡ status_of stop
     → pn ≡ after_write po (text_of stop) → LongCause o n po pn words limit
@@ -182,8 +182,8 @@ valid_at o n files words (Refused refusal) journal limit told w valid reads writ
 valid_at o n files words (TooLong read) journal limit told w valid reads writes =
     let name = same_name words w.0 valid.name w.1 valid.command in
     let more : HoldsMore (Some files) (string_bytes read) limit = subst (λ (t : Option Files). HoldsMore t (string_bytes read) limit) told w.3 in
-    let is_read : IsReadName files w.0 (string_bytes read) = subst (λ (t : Option Files). IfSome t (λ all. IsReadName all w.0 (string_bytes read))) told w.4 in
-    let short = valid.short (string_bytes read) more.0 (subst (λ (other : Name). IsReadName files other (string_bytes read)) name is_read) more.1 in
+    let is_read : IsReadFor words files w.0 (string_bytes read) = subst (λ (t : Option Files). IfSome t (λ all. IsReadFor words all w.0 (string_bytes read))) told w.4 in
+    let short = valid.short (string_bytes read) more.0 (subst (λ (other : Name). IsReadFor words files other (string_bytes read)) name is_read) more.1 in
     absurd (omega (arith, more.2))
 
 over_or_memory : (po pn : Outside) (stop : Stop) (status : ℕ) → PrintsStop po pn stop status → status_of stop ≡ 8 → (Rose po.write_faults pn.write_faults → ⊥) → status ≡ 8

@@ -47,9 +47,13 @@ pub record IsRefused (files : Files) (name : Name) (refusal : Refusal) : Type 0 
   pub held : files name ≡ Some net
   pub refused : RefusedFor net refusal
 
--- A name that a call reads: the network file's, or that of an input file of its network.
+-- A name that a run reads: the network file's, or that of an input file of its network.
 abbrev pub IsReadName : Files → Name → Name → Type 0
 IsReadName files name read = (read ≡ name) ⊎ ((plan : Network) × IsNetwork files name plan × IsInput plan read)
+
+-- A name that a call with these words reads: a check reads the network file alone.
+abbrev pub IsReadFor : List (String Global) → Files → Name → Name → Type 0
+IsReadFor words files name read = (read ≡ name) ⊎ (Asks words (Run name) × ((plan : Network) × IsNetwork files name plan × IsInput plan read))
 
 -- What reading the network file does to the shelf.
 abbrev pub Loads : Outside → Outside → Name → Result NetFile Stop → ℕ → Type 0
@@ -88,8 +92,8 @@ Prepares old new words (Err Words) limit = (command_of (map string_bytes words) 
 Prepares old new words (Err (Refused refusal)) limit = (name : Name) × IsCommand words name × OnlyReads old new × (new.read_faults ≡ old.read_faults)
     × IfSome old.files (λ files. IsRefused files name refusal)
 Prepares old new words (Err (ReadFault read)) limit = (name : Name) × IsCommand words name × OnlyReads old new × Rose old.read_faults new.read_faults
-    × (new.last_read_fault ≡ Some (string_bytes read)) × IfSome old.files (λ files. IsReadName files name (string_bytes read))
+    × (new.last_read_fault ≡ Some (string_bytes read)) × IfSome old.files (λ files. IsReadFor words files name (string_bytes read))
 Prepares old new words (Err (TooLong read)) limit = (name : Name) × IsCommand words name × OnlyReads old new × HoldsMore old.files (string_bytes read) limit
-    × IfSome old.files (λ files. IsReadName files name (string_bytes read))
+    × IfSome old.files (λ files. IsReadFor words files name (string_bytes read))
 Prepares old new words (Err NoMemory) limit = OnlyReads old new
 Prepares old new words (Err (WriteFault written)) limit = ⊥

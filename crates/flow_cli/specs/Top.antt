@@ -11,7 +11,7 @@ use Rattle.flow_parse.specs.declared.value.NetText.{NetText}
 use Rattle.flow_parse.specs.Canonical.{canonical}
 use Rattle.flow_cli.specs.Parts.{AreParts}
 use Rattle.flow_cli.specs.Networks.{IsStandardPlan}
-use Rattle.flow_cli.specs.Prepare.{Asks, IsCommand, IsFile, IsNetwork, IsRefused, IsReadName}
+use Rattle.flow_cli.specs.Prepare.{Asks, IsCommand, IsFile, IsNetwork, IsRefused, IsReadFor}
 use Rattle.flow_cli.specs.Step.{HoldsMore}
 use Rattle.flow_cli.specs.Many.{replaced_all}
 use Rattle.flow_cli.specs.After.{IsCutShort, Prints, verdict_status}
@@ -77,9 +77,9 @@ abbrev pub Halts : Outside → Outside → List (String Global) → Stop → Jou
 Halts old new words Words journal limit = (command_of (map string_bytes words) ≡ None) × (new ≡ old) × IsEmptyJournal journal
 Halts old new words (Refused refusal) journal limit = (name : Name) × IsCommand words name × IsUntouched old new journal × IfSome old.files (λ files. IsRefused files name refusal)
 Halts old new words (ReadFault read) journal limit = (name : Name) × IsCommand words name × IsUntouched old new journal × Rose old.read_faults new.read_faults
-    × (new.last_read_fault ≡ Some (string_bytes read)) × IfSome old.files (λ files. IsReadName files name (string_bytes read))
+    × (new.last_read_fault ≡ Some (string_bytes read)) × IfSome old.files (λ files. IsReadFor words files name (string_bytes read))
 Halts old new words (TooLong read) journal limit = (name : Name) × IsCommand words name × IsUntouched old new journal
-    × HoldsMore old.files (string_bytes read) limit × IfSome old.files (λ files. IsReadName files name (string_bytes read))
+    × HoldsMore old.files (string_bytes read) limit × IfSome old.files (λ files. IsReadFor words files name (string_bytes read))
 Halts old new words (WriteFault written) journal limit = (name : Name) × Asks words (Run name) × Rose old.write_faults new.write_faults
     × (new.last_write_fault ≡ Some (string_bytes written)) × IsCut old new name journal (string_bytes written)
 Halts old new words NoMemory journal limit = IsUntouched old new journal ⊎ ((name : Name) × (written : Name) × Asks words (Run name) × IsCut old new name journal written)
@@ -149,7 +149,7 @@ pub record IsValid (files : Files) (words : List (String Global)) (limit : ℕ) 
   pub command : IsCommand words name
   pub plan : Network
   pub network : IsNetwork files name plan
-  pub short : (read bytes : List ℕ) → IsReadName files name read → files read ≡ Some bytes → length bytes ≤ limit
+  pub short : (read bytes : List ℕ) → IsReadFor words files name read → files read ≡ Some bytes → length bytes ≤ limit
 
 -- A call whose status says that it came to its end: a run did, or a check.
 abbrev pub ComesToEnd : Outside → Outside → Outside → Outside → List (String Global) → Outcome → Type 0

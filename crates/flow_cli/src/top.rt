@@ -3,7 +3,7 @@ ghost use Rattle.std.specs.Prelude.{◌≡◌, ◌⊎◌, ◌≤◌, None, Some,
 ghost use Rattle.flow_text.specs.Edge.{Rose, Name, after_write};
 ghost use Rattle.flow_words.specs.Words.{Run, command_of};
 ghost use Rattle.flow_cli.specs.Step.{HoldsMore};
-ghost use Rattle.flow_cli.specs.Prepare.{Asks, IsCommand, IsRefused, IsReadName};
+ghost use Rattle.flow_cli.specs.Prepare.{Asks, IsCommand, IsRefused, IsReadFor};
 ghost use Rattle.flow_cli.specs.Stops.{text_of};
 ghost use Rattle.flow_cli.specs.Top.{IsCut, IsUntouched, Stands, PrintsStop, IsOver, StopsBefore, ComesToEnd, IsValid, NoFaults};
 ghost use Rattle.flow_cli.specs.declared.stop.Stop.TheVariants.{Words, Refused, ReadFault, WriteFault, TooLong, NoMemory};
@@ -48,7 +48,7 @@ pub fn plain_top<F: Shelf, O: Sink>(
         × Rose (F.outside shelf.old).read_faults (F.outside shelf.new).read_faults
         × ((read : _) × ((F.outside shelf.new).last_read_fault ≡ Some (string_bytes read))
         × (O.outside out.new ≡ after_write (O.outside out.old) (text_of (ReadFault read)))
-        × IfSome (F.outside shelf.old).files (λ files. IsReadName files name (string_bytes read))) }
+        × IfSome (F.outside shelf.old).files (λ files. IsReadFor words.now files name (string_bytes read))) }
     ensures write_fault { result.status ≡ 7 →
         Rose (O.outside out.old).write_faults (O.outside out.new).write_faults
         ⊎ ((name : Name) × Asks words.now (Run name) × Rose (F.outside shelf.old).write_faults (F.outside shelf.new).write_faults
@@ -60,7 +60,7 @@ pub fn plain_top<F: Shelf, O: Sink>(
         × ((F.outside shelf.new).files ≡ (F.outside shelf.old).files)
         × ((read : _) × HoldsMore (F.outside shelf.old).files (string_bytes read) FILE_LIMIT
         × (O.outside out.new ≡ after_write (O.outside out.old) (text_of (TooLong read)))
-        × IfSome (F.outside shelf.old).files (λ files. IsReadName files name (string_bytes read))) }
+        × IfSome (F.outside shelf.old).files (λ files. IsReadFor words.now files name (string_bytes read))) }
 
     // However it ends, the journal and the files are those of one run, or nothing was done; and nothing was where it stopped before its network ran.
     ensures stands { Stands (F.outside shelf.old) (F.outside shelf.new) words.now result.journal }

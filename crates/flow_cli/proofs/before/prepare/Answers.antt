@@ -2,10 +2,10 @@ use Rattle.std.proofs.Common.{Some, sym, ap, ◌∙◌}
 use Rattle.std.specs.declared.option.Option.{Option}
 use Rattle.std.specs.Option.{option_map}
 use Rattle.flow_words.specs.declared.asked.Command.{Command}
-use Rattle.flow_words.specs.Words.{Check, asked_by}
+use Rattle.flow_words.specs.Words.{Run, Check, asked_by}
 use Rattle.flow_cli.specs.Prepare.{Asks}
 use Rattle.flow_cli.specs.declared.parts.TheConstants.{FILE_LIMIT}
-use Rattle.flow_cli.proofs.Befores.{on-file, some-plan, load-stopped, prepare-stopped}
+use Rattle.flow_cli.proofs.Befores.{some-plan, check-stopped, run-stopped}
 use Rattle.flow_cli.proofs.before.prepare.Goals as goal
 
 pub returns-in-Ok-load : goal.returns-in-Ok-load
@@ -24,5 +24,13 @@ returns-in-Err-load g c =
     let name = c.in-Ok-Some-Check.name.now in
     let some = c.in-Ok-Some-Check.field-0-is ∙ ap Some c.in-Ok-Some-Check.field-0-0-is in
     let is : Asks c.args.words.now (Check name) = sym c.in-Ok-Some-Check.ensures.words ∙ ap (λ (found : Option Command). option_map asked_by found) some in
-    prepare-stopped o n c.args.words.now name c.in-Err-load.stop FILE_LIMIT (on-file c.args.words.now (Check name) is)
-    (load-stopped o n name c.in-Err-load.stop FILE_LIMIT c.in-Err-load.ensures)
+    check-stopped o n c.args.words.now name c.in-Err-load.stop FILE_LIMIT is c.in-Err-load.ensures
+
+pub returns-in-Err-runnable : goal.returns-in-Err-runnable
+returns-in-Err-runnable g c =
+    let o = g.F.Edge.outside c.args.shelf.now in
+    let n = g.F.Edge.outside c.runnable.new.shelf in
+    let name = c.in-Ok-Some-Run.name.now in
+    let some = c.in-Ok-Some-Run.field-0-is ∙ ap Some c.in-Ok-Some-Run.field-0-0-is in
+    let is : Asks c.args.words.now (Run name) = sym c.in-Ok-Some-Run.ensures.words ∙ ap (λ (found : Option Command). option_map asked_by found) some in
+    run-stopped o n c.args.words.now name c.in-Err-runnable.stop FILE_LIMIT is c.in-Err-runnable.ensures
