@@ -1,12 +1,11 @@
 -- What stands after the steps before a run, and after the writing of its files.
-use Rattle.std.proofs.Common.{◌≡◌, ◌⊎◌, inl, inr, ℕ, List, [], Some, None, Ok, Err, sym, ◌∙◌, ap, subst}
+use Rattle.std.proofs.Common.{◌≡◌, ◌⊎◌, inl, inr, ℕ, List, [], Some, None, Err, sym, ◌∙◌, ap, subst}
 use Rattle.std.specs.Prelude.{IfSome, String, string_bytes}
 use Rattle.std.specs.declared.alloc.Global.{Global}
 use Rattle.std.specs.declared.option.Option.{Option}
 use Rattle.std.specs.Option.{option_map}
 use Rattle.flow_text.specs.Edge.{Outside, Name, Files, Rose}
 use Rattle.flow_net.specs.Network.{Network}
-use Rattle.flow_parse.specs.declared.value.NetText.{NetText}
 use Rattle.flow_words.specs.Words.{Run}
 use Rattle.flow_catalogue.specs.declared.standard.Std.{Std}
 use Rattle.flow_machine.specs.Values.{NetValue}
@@ -15,38 +14,15 @@ use Rattle.flow_cli.specs.Step.{OnlyReads}
 use Rattle.flow_cli.specs.Many.{Filled, replaced_all}
 use Rattle.flow_cli.specs.Networks.{IsStandardPlan}
 use Rattle.flow_cli.specs.Parts.{AreParts}
-use Rattle.flow_cli.specs.Prepare.{Asks, IsNetwork, Prepares}
+use Rattle.flow_cli.specs.Prepare.{Asks, IsNetwork}
 use Rattle.flow_cli.specs.After.{IsCutShort, WritesOutputs, verdict_status}
 use Rattle.flow_cli.specs.Runs.{Leaves, net_outputs, outputs_of}
-use Rattle.flow_cli.specs.Top.{IsRunOf, IsWhole, IsChecked, IsEmptyJournal, Halts, Ends, Checks}
+use Rattle.flow_cli.specs.Top.{IsRunOf, IsWhole, Halts, Ends}
 use Rattle.flow_cli.specs.declared.engine.Told.{Told}
 use Rattle.flow_cli.specs.declared.run.Ending.{Ending}
-use Rattle.flow_cli.specs.declared.run.Halt.{Halt}
-use Rattle.flow_cli.specs.declared.before.Task.TheVariants as tasks
 use Rattle.flow_cli.specs.declared.stop.Stop.{Stop}
 use Rattle.flow_cli.specs.declared.stop.Stop.TheVariants.{Words, Refused, ReadFault, WriteFault, TooLong, NoMemory}
 use Rattle.flow_cli.proofs.Befores.{OnlyReads-files}
-
--- a stop before the run: nothing was touched
-pub halts-before : (o n : Outside) (words : List (String Global)) (stop : Stop) (journal : Journal) (limit : ℕ) → Prepares o n words (Err stop) limit
-    → IsEmptyJournal journal → Halts o n words stop journal limit
-halts-before o n words Words journal limit p empty = (p.0, p.1, empty)
-halts-before o n words (Refused refusal) journal limit p empty = (p.0, p.1, (empty, OnlyReads-files o n p.2), p.4)
-halts-before o n words (ReadFault read) journal limit p empty = (p.0, p.1, (empty, OnlyReads-files o n p.2), p.3, p.4, p.5)
-halts-before o n words (TooLong read) journal limit p empty = (p.0, p.1, (empty, OnlyReads-files o n p.2), p.3, p.4)
-halts-before o n words NoMemory journal limit p empty = inl (empty, OnlyReads-files o n p)
-halts-before o n words (WriteFault written) journal limit p empty = absurd p
-
--- want of memory before the run
-pub halts-memory : (o n : Outside) (words : List (String Global)) (halt : Halt) (limit : ℕ) → OnlyReads o n → halt.stop ≡ NoMemory
-    → IsEmptyJournal halt.journal → Halts o n words halt.stop halt.journal limit
-halts-memory o n words halt limit reads is empty = subst (λ (stop : Stop). Halts o n words stop halt.journal limit) (sym is) (inl (empty, OnlyReads-files o n reads))
-
--- a check
-pub checked-of : (o n : Outside) (words : List (String Global)) (text : NetText) (ending : Ending) (limit : ℕ) → (p : Prepares o n words (Ok (tasks.Check text)) limit)
-    → Checks text (Ok ending) → IsChecked o n p.0 ending
-checked-of o n words text ending limit p checks =
-    record { text = text; file = p.4; spelled = checks.0; status = checks.1; untouched = (checks.2, OnlyReads-files o n p.2) }
 
 run-of : (told : Option Files) (name : Name) (plan : Network) (parts : List Std) (net : NetValue Std) (of : Told) (leaves : Leaves plan parts net of)
     → IfSome told (λ files. IsNetwork files name plan) → IsStandardPlan plan → AreParts told plan parts → IsRunOf told name plan of.journal leaves.last

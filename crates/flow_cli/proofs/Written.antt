@@ -6,9 +6,7 @@ use Rattle.std.specs.declared.option.Option.{Option}
 use Rattle.std.specs.Str.{bytes_eq}
 use Rattle.std.proofs.lemmas.Slice.Eq.{bytes_eq-Decides}
 use Rattle.flow_net.specs.declared.plan.Process.{Process}
-use Rattle.flow_catalogue.specs.declared.process.FileUse.TheVariants.{Read, Write}
 use Rattle.flow_catalogue.specs.Files.{UsesFile}
-use Rattle.std.specs.Borrow.{Bor}
 use Rattle.flow_text.specs.Edge.{Name}
 use Rattle.flow_cli.specs.Many.{Filled}
 use Rattle.flow_cli.specs.After.{written_by, first_option}
@@ -36,22 +34,10 @@ none_written p differ =
     ap (λ b. cond b (first_option p.options) [])
     (test_false (bytes_eq p.kind (codes "WriteLines")) (p.kind ≡ codes "WriteLines") (bytes_eq-Decides p.kind (codes "WriteLines")).0 differ)
 
-one_written : (p : Process) (name : Name) → p.kind ≡ codes "WriteLines" → p.options ≡ (0, name) ∷ [] → written_by p ≡ name ∷ []
-one_written p name kind options =
-    ap (λ b. cond b (first_option p.options) []) ((bytes_eq-Decides p.kind (codes "WriteLines")).1 kind) ∙ ap first_option options
-
 -- a process of another kind writes no file
 pub none-writes : (found : Option Process) → IfSome found (λ p. UsesFile p None) → IfSome found (λ p. written_by p ≡ [])
 none-writes None h = tt
 none-writes (Some p) h = none_written p h.1
-
-pub reader-writes : (found : Option Process) (file : Bor (List ℕ)) → IfSome found (λ p. UsesFile p (Some (Read file))) → IfSome found (λ p. written_by p ≡ [])
-reader-writes None file h = tt
-reader-writes (Some p) file h = ap (λ kind. cond (bytes_eq kind (codes "WriteLines")) (first_option p.options) []) h.0
-
-pub writer-writes : (found : Option Process) (file : Bor (List ℕ)) → IfSome found (λ p. UsesFile p (Some (Write file))) → IfSome found (λ p. written_by p ≡ file.now ∷ [])
-writer-writes None file h = tt
-writer-writes (Some p) file h = one_written p file.now h.0 h.1
 
 there_at : (ps : List Process) (k : ℕ) → k < length ps → (p : Process) × (slice_get ps k ≡ Some p)
 there_at [] k lt = absurd (omega arith)
