@@ -9,7 +9,8 @@ use Rattle.flow_net.specs.Network.{Network}
 use Rattle.flow_parse.specs.declared.value.NetText.{NetText}
 use Rattle.flow_words.specs.Words.{Asked, Run, Check}
 use Rattle.flow_cli.specs.Step.{OnlyReads}
-use Rattle.flow_cli.specs.Prepare.{Asks, file_of, IsCommand, IsFile, IsReadName, IsReadFor, Loads, ReadsInputs, Prepares}
+use Rattle.flow_words.specs.Lines.{file_of}
+use Rattle.flow_cli.specs.Prepare.{Asks, IsCommand, IsFile, IsReadName, IsReadFor, Loads, ReadsInputs, Prepares}
 use Rattle.flow_cli.specs.declared.stop.Stop.{Stop}
 use Rattle.flow_cli.specs.declared.stop.Stop.TheVariants.{Words, Refused, ReadFault, WriteFault, TooLong, NoMemory}
 

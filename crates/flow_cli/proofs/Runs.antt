@@ -1,5 +1,5 @@
 -- What stands after the steps before a run, and after the writing of its files.
-use Rattle.std.proofs.Common.{◌≡◌, ◌⊎◌, inl, inr, ℕ, List, [], Some, None, Err, sym, ◌∙◌, ap, subst}
+use Rattle.std.proofs.Common.{◌≡◌, inl, inr, ℕ, List, [], Some, None, Err, sym, ◌∙◌, ap, subst}
 use Rattle.std.specs.Prelude.{IfSome, String, string_bytes}
 use Rattle.std.specs.declared.alloc.Global.{Global}
 use Rattle.std.specs.declared.option.Option.{Option}
@@ -29,19 +29,9 @@ run-of : (told : Option Files) (name : Name) (plan : Network) (parts : List Std)
 run-of told name plan parts net of leaves network standard are =
     record { network = network; standard = standard; parts = parts; are_parts = are; run = leaves.run }
 
--- What is left of the files, where their contents were told.
-abbrev pub Cut : Option Files → Outside → List Filled → Name → Type 0
-Cut told n outputs written = IfSome told (λ files. (n.files ≡ Some files) ⊎ IsCutShort files n.files outputs written)
-
 cut-of : (told : Option Files) (n : Outside) (outputs others : List Filled) (written : Name) → outputs ≡ others
-    → IfSome told (λ files. IsCutShort files n.files outputs written) → Cut told n others written
-cut-of None n outputs others written same cut = tt
-cut-of (Some files) n outputs others written same cut = inr (subst (λ (l : List Filled). IsCutShort files n.files l written) same cut)
-
--- nothing was touched
-untouched-of : (told : Option Files) (n : Outside) (outputs : List Filled) (written : Name) → n.files ≡ told → Cut told n outputs written
-untouched-of None n outputs written is = tt
-untouched-of (Some files) n outputs written is = inl is
+    → IfSome told (λ files. IsCutShort files n.files outputs written) → IfSome told (λ files. IsCutShort files n.files others written)
+cut-of told n outputs others written same cut = subst (λ (l : List Filled). IfSome told (λ files. IsCutShort files n.files l written)) same cut
 
 some-cut : (told : Option Files) (n : Outside) (outputs : List Filled) → IfSome told (λ files. (written : Name) × IsCutShort files n.files outputs written)
     → (written : Name) × IfSome told (λ files. IsCutShort files n.files outputs written)
@@ -69,22 +59,21 @@ halts o a n words name plan parts net of (WriteFault written) limit is reads net
     )
 halts o a n words name plan parts net of NoMemory limit is reads network standard are leaves (only, inl kept) =
     let same = OnlyReads-files o a reads in
-    inr (
+    inr (inl (
       name,
-      [],
       is,
       record {
         plan = plan;
         last = leaves.last;
         run = run-of o.files name plan parts net of leaves network standard are;
-        cut = untouched-of o.files n (outputs_of plan leaves.last) [] (kept ∙ same);
+        files = kept ∙ same;
       },
-    )
+    ))
 halts o a n words name plan parts net of NoMemory limit is reads network standard are leaves (only, inr cut) =
     let same = OnlyReads-files o a reads in
     let found = some-cut o.files n (net_outputs plan net)
     (subst (λ (t : Option Files). IfSome t (λ files. (written : Name) × IsCutShort files n.files (net_outputs plan net) written)) same cut) in
-    inr (
+    inr (inr (
       name,
       found.0,
       is,
@@ -94,7 +83,7 @@ halts o a n words name plan parts net of NoMemory limit is reads network standar
         run = run-of o.files name plan parts net of leaves network standard are;
         cut = cut-of o.files n (net_outputs plan net) (outputs_of plan leaves.last) found.0 leaves.outputs found.1;
       },
-    )
+    ))
 halts o a n words name plan parts net of Words limit is reads network standard are leaves w = absurd w
 halts o a n words name plan parts net of (Refused refusal) limit is reads network standard are leaves w = absurd w
 halts o a n words name plan parts net of (ReadFault read) limit is reads network standard are leaves w = absurd w

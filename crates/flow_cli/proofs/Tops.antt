@@ -9,7 +9,8 @@ use Rattle.flow_cli.specs.Step.{HoldsMore}
 use Rattle.flow_words.specs.Words.{Run, Check, command_of}
 use Rattle.flow_cli.specs.Networks.{Holds}
 use Rattle.flow_cli.proofs.Networks.{holds-or-refused}
-use Rattle.flow_cli.specs.Prepare.{Asks, file_of, IsCommand, IsRefused, IsReadFor}
+use Rattle.flow_words.specs.Lines.{file_of}
+use Rattle.flow_cli.specs.Prepare.{Asks, IsCommand, IsRefused, IsReadFor}
 use Rattle.flow_cli.specs.After.{Prints, verdict_status}
 use Rattle.flow_cli.specs.Stops.{status_of, text_of}
 use Rattle.flow_cli.specs.Top.{IsRunOf, IsWhole, IsCut, IsUntouched, Halts, Stands, PrintsStop, IsOver, StopsBefore, IsChecked, ComesToEnd, IsValid, NoFaults}
@@ -342,10 +343,11 @@ stop-stands o n words Words journal limit w = inl (w.2, ap (λ (x : Outside). x.
 stop-stands o n words (Refused refusal) journal limit w = inl w.2
 stop-stands o n words (ReadFault read) journal limit w = inl w.2
 stop-stands o n words (TooLong read) journal limit w = inl w.2
-stop-stands o n words (WriteFault written) journal limit w = inr (inl (w.0, string_bytes written, w.1, w.4))
+stop-stands o n words (WriteFault written) journal limit w = inr (inr (inl (w.0, string_bytes written, w.1, w.4)))
 stop-stands o n words NoMemory journal limit (inl w) = inl w
-stop-stands o n words NoMemory journal limit (inr w) = inr (inl w)
+stop-stands o n words NoMemory journal limit (inr (inl w)) = inr (inl w)
+stop-stands o n words NoMemory journal limit (inr (inr w)) = inr (inr (inl w))
 
 pub ends-stand : (o n : Outside) (words : List (String Global)) (ending : Ending) → Comes o n words ending → Stands o n words ending.journal
-ends-stand o n words ending (inl run) = inr (inr (run.0, run.2.plan, run.2.last, run.1, run.2.run, run.2.files))
+ends-stand o n words ending (inl run) = inr (inr (inr (run.0, run.2.plan, run.2.last, run.1, run.2.run, run.2.files)))
 ends-stand o n words ending (inr check) = inl check.2.untouched

@@ -6,6 +6,7 @@ use Rattle.std.specs.Option.{option_map}
 use Rattle.flow_text.specs.Edge.{Outside, Name, Files, Rose}
 use Rattle.flow_net.specs.Network.{Network}
 use Rattle.flow_parse.specs.declared.value.NetText.{NetText}
+use Rattle.flow_words.specs.Lines.{file_of}
 use Rattle.flow_words.specs.Words.{Asked, Run, Check, command_of}
 use Rattle.flow_cli.specs.Networks.{Holds, RefusedFor, IsStandardPlan}
 use Rattle.flow_cli.specs.Parts.{IsInput, AreParts}
@@ -21,11 +22,6 @@ use Rattle.flow_cli.specs.declared.stop.Stop.TheVariants.{Words, Refused, ReadFa
 -- What the words ask for, if they are a command line.
 abbrev pub Asks : List (String Global) → Asked → Type 0
 Asks words asked = command_of (map string_bytes words) ≡ Some asked
-
--- The network file of a command.
-abbrev pub file_of : Asked → Name
-file_of (Run name) = name
-file_of (Check name) = name
 
 -- The words are a command line on this network file.
 abbrev pub IsCommand : List (String Global) → Name → Type 0

@@ -49,12 +49,19 @@ pub record IsWhole (old new : Outside) (name : Name) (ending : Ending) : Type 0 
   pub status : ending.status ≡ verdict_status report.verdict
   pub files : new.files ≡ option_map (replaced_all (outputs_of plan last)) old.files
 
--- Such a run was made, and writing its files stopped at this one, or before any was touched.
+-- Such a run was made, and none of its files was touched.
+pub record IsUnwritten (old new : Outside) (name : Name) (journal : Journal) : Type 0 where
+  pub plan : Network
+  pub last : State Std
+  pub run : IsRunOf old.files name plan journal last
+  pub files : new.files ≡ old.files
+
+-- Such a run was made, and writing its files stopped at this one.
 pub record IsCut (old new : Outside) (name : Name) (journal : Journal) (written : Name) : Type 0 where
   pub plan : Network
   pub last : State Std
   pub run : IsRunOf old.files name plan journal last
-  pub cut : IfSome old.files (λ files. (new.files ≡ Some files) ⊎ IsCutShort files new.files (outputs_of plan last) written)
+  pub cut : IfSome old.files (λ files. IsCutShort files new.files (outputs_of plan last) written)
 
 -- No turn was made.
 abbrev pub IsEmptyJournal : Journal → Type 0
@@ -82,7 +89,10 @@ Halts old new words (TooLong read) journal limit = (name : Name) × IsCommand wo
     × HoldsMore old.files (string_bytes read) limit × IfSome old.files (λ files. IsReadFor words files name (string_bytes read))
 Halts old new words (WriteFault written) journal limit = (name : Name) × Asks words (Run name) × Rose old.write_faults new.write_faults
     × (new.last_write_fault ≡ Some (string_bytes written)) × IsCut old new name journal (string_bytes written)
-Halts old new words NoMemory journal limit = IsUntouched old new journal ⊎ ((name : Name) × (written : Name) × Asks words (Run name) × IsCut old new name journal written)
+Halts old new words NoMemory journal limit =
+    IsUntouched old new journal
+    ⊎ ((name : Name) × Asks words (Run name) × IsUnwritten old new name journal)
+    ⊎ ((name : Name) × (written : Name) × Asks words (Run name) × IsCut old new name journal written)
 
 -- What a call does before something is printed.
 abbrev pub Works : Outside → Outside → List (String Global) → Result Ending Halt → ℕ → Type 0
@@ -101,10 +111,11 @@ abbrev pub Checks : NetText → Result Ending Halt → Type 0
 Checks text (Ok ending) = (ending.text.items ≡ canonical text) × (ending.status ≡ 0) × IsEmptyJournal ending.journal
 Checks text (Err halt) = (halt.stop ≡ NoMemory) × IsEmptyJournal halt.journal
 
--- However a call ends: nothing was done, or a run was made, whose journal this is, and its files were written up to one or all.
+-- However a call ends: nothing was done, or a run was made, whose journal this is, and none of its files was touched, or they were written up to one, or all.
 abbrev pub Stands : Outside → Outside → List (String Global) → Journal → Type 0
 Stands old new words journal =
     IsUntouched old new journal
+    ⊎ ((name : Name) × Asks words (Run name) × IsUnwritten old new name journal)
     ⊎ ((name : Name) × (written : Name) × Asks words (Run name) × IsCut old new name journal written)
     ⊎ ((name : Name) × (plan : Network) × (last : State Std) × Asks words (Run name) × IsRunOf old.files name plan journal last
     × (new.files ≡ option_map (replaced_all (outputs_of plan last)) old.files))
