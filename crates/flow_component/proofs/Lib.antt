@@ -4,3 +4,4 @@ pub mod Dropping
 pub mod Lone
 pub mod Lifting
 pub mod Loopers
+pub mod Streams

@@ -1,7 +1,6 @@
 -- What happens to a component between its answers: what it was told, with the port and the packet that moved.
 use Rattle.std.specs.Prelude.{ℕ}
 use Rattle.flow_packet.specs.Tree.{Tree, id_of}
-use Rattle.flow_packet.specs.Held.{Held, with_packet, without_packet}
 use Rattle.flow_component.specs.declared.Answer.{Answer}
 use Rattle.flow_component.specs.declared.Answer.TheVariants as answers
 
@@ -21,11 +20,3 @@ answer_of (Received port packet) = answers.Got (id_of packet)
 answer_of (Ended port) = answers.End
 answer_of (Sent port packet) = answers.Sent
 answer_of (Learned port level) = answers.Level level
-
--- The hands with which it is told so, after these hands: a packet that it got has come, one that was sent has gone.
-abbrev pub held_at : Held → Happening → Held
-held_at held Started = held
-held_at held (Received port packet) = with_packet held packet
-held_at held (Ended port) = held
-held_at held (Sent port packet) = without_packet held (id_of packet)
-held_at held (Learned port level) = held

@@ -1,0 +1,55 @@
+-- What a component sends, from what it gets and what it still owes.
+use Rattle.std.proofs.Common.{◌≡◌, ℕ, List, [], ◌∷◌, ◌++◌, refl, sym, ap, ◌∙◌, subst, append_assoc, append-nil, Bool}
+use Rattle.std.specs.List.{flat_map}
+use Rattle.flow_packet.specs.Tree.{Tree}
+use Rattle.flow_packet.specs.Held.{Held}
+use Rattle.flow_component.specs.declared.Answer.{Answer}
+use Rattle.flow_component.specs.declared.Shape.{Shape}
+use Rattle.flow_component.specs.Laws.{Outcome, Wishes, Obeys, IsAllowed}
+use Rattle.flow_component.specs.Happenings.{Happening, answer_of}
+use Rattle.flow_component.specs.Runs.{Poise, Steps, Runs, Comes, from_connection, from_text, content_got, content_sent, got, sent}
+
+pub flat_map-append : {X A : Type 0} (f : X → List A) (xs ys : List X) → flat_map f (xs ++ ys) ≡ flat_map f xs ++ flat_map f ys
+flat_map-append f [] ys = refl
+flat_map-append f (x ∷ xs) ys = ap (λ zs. f x ++ zs) (flat_map-append f xs ys) ∙ sym (append_assoc (f x) (flat_map f xs) (flat_map f ys))
+
+-- a packet that comes stands at the end of the hands
+pub Comes-packets : (old : Held) (packet : Tree) (new : Held) → Comes old packet new → new.packets ≡ old.packets ++ packet ∷ []
+Comes-packets old packet new (from_connection is) = ap (λ (h : Held). h.packets) is
+Comes-packets old packet new (from_text text named is) = ap (λ (h : Held). h.packets) is ∙ ap (λ (t : Tree). old.packets ++ t ∷ []) (sym named)
+
+-- where each step sends what was owed and owes what it got, a run does
+pub owed-run : {K : Type 0} (ready : K → Held → Answer → Type 0) (next : K → Held → Answer → Outcome K → Type 0) (Good : Poise K → Type 0) (f : Tree → List Tree) (owed : Poise K → List Tree)
+    → ((p : Poise K) (e : Happening) (q : Poise K) → Good p → Steps ready next p e q → Good q × (owed p ++ flat_map f (content_got 0 e) ≡ content_sent 0 e ++ owed q))
+    → (p : Poise K) (es : List Happening) (q : Poise K) → Good p → Runs ready next p es q → owed p ++ flat_map f (got 0 es) ≡ sent 0 es ++ owed q
+owed-run ready next Good f owed step p [] q g r = rw r (simp (append-nil))
+owed-run ready next Good f owed step p (e ∷ es) q g r =
+    let m = r.0 in
+    let s = step p e m g r.1 in
+    let t : owed m ++ flat_map f (got 0 es) ≡ sent 0 es ++ owed q = owed-run ready next Good f owed step m es q s.0 r.2 in
+    let x = content_got 0 e in
+    let y = content_sent 0 e in
+    ap (λ zs. owed p ++ zs) (flat_map-append f x (got 0 es)) ∙ sym (append_assoc (owed p) (flat_map f x) (flat_map f (got 0 es)))
+    ∙ ap (λ zs. zs ++ flat_map f (got 0 es)) s.1 ∙ append_assoc y (owed m) (flat_map f (got 0 es))
+    ∙ ap (λ zs. y ++ zs) t ∙ sym (append_assoc y (sent 0 es) (owed q))
+
+-- what holds of a component between answers, and is kept by each step, holds after a run
+pub good-run : {K : Type 0} (ready : K → Held → Answer → Type 0) (next : K → Held → Answer → Outcome K → Type 0) (Good : Poise K → Type 0)
+    → ((p : Poise K) (e : Happening) (q : Poise K) → Good p → Steps ready next p e q → Good q) → (p : Poise K) (es : List Happening) (q : Poise K) → Good p → Runs ready next p es q → Good q
+good-run ready next Good step p [] q g r = subst Good (sym r) g
+good-run ready next Good step p (e ∷ es) q g r = good-run ready next Good step r.0 es q (step p e r.0 g r.1) r.2
+
+-- the law on wishes holds at each step
+pub stays-allowed : {K : Type 0} (ready : K → Held → Answer → Type 0) (next : K → Held → Answer → Outcome K → Type 0) (shape : Shape) (uses : ℕ → Bool)
+    → ((part : K) (held : Held) (answer : Answer) (outcome : Outcome K) → ready part held answer → next part held answer outcome → Obeys shape uses held outcome)
+    → (p : Poise K) (e : Happening) (q : Poise K) → Steps ready next p e q → IsAllowed shape uses q.held q.wish
+stays-allowed ready next shape uses obeys p e q s = (obeys p.part s.held (answer_of e) (Wishes q.part q.held q.wish) s.is_ready s.comes_to).1
+
+-- one step more
+pub Runs-more : {K : Type 0} (ready : K → Held → Answer → Type 0) (next : K → Held → Answer → Outcome K → Type 0) (p : Poise K) (es : List Happening) (m : Poise K) (e : Happening) (q : Poise K)
+    → Runs ready next p es m → Steps ready next m e q → Runs ready next p (es ++ e ∷ []) q
+Runs-more ready next p [] m e q r s = (q, subst (λ (u : Poise _). Steps ready next u e q) r s, refl)
+Runs-more ready next p (f ∷ es) m e q r s = (r.0, r.1, Runs-more ready next r.0 es m e q r.2 s)
+
+pub got-more : (port : ℕ) (es : List Happening) (e : Happening) → got port (es ++ e ∷ []) ≡ got port es ++ content_got port e
+got-more port es e = flat_map-append (content_got port) es (e ∷ []) ∙ ap (λ ts. got port es ++ ts) (append-nil (content_got port e))

@@ -1,0 +1,105 @@
+-- Runs of a component: what it was told, one answer after another, and what it came to after each. A component's stream meaning is
+-- told of its runs alone. (This project's own.)
+use Rattle.std.specs.Prelude.{◌≡◌, ◌⊎◌, ℕ, ◌<◌, ◌==◌, if◌then◌else◌, List, [], ◌∷◌, Some}
+use Rattle.std.specs.List.{flat_map}
+use Rattle.flow_packet.specs.declared.packet.Kind.TheVariants as kinds
+use Rattle.flow_packet.specs.Tree.{Tree, id_of, content, packet_of}
+use Rattle.flow_packet.specs.Hands.{packet_at}
+use Rattle.flow_packet.specs.Held.{Held, Sound, next_id, with_packet, without_packet, with_made}
+use Rattle.flow_component.specs.declared.Answer.{Answer}
+use Rattle.flow_component.specs.declared.Wish.{Wish}
+use Rattle.flow_component.specs.declared.Wish.TheVariants as wishes
+use Rattle.flow_component.specs.Laws.{Outcome, Wishes}
+use Rattle.flow_component.specs.Happenings.{Happening, Started, Received, Ended, Sent, Learned, answer_of}
+
+-- A component between two answers: its state, its hands and its wish. One that hasn't started stands as one that has deactivated.
+pub record Poise (K : Type 0) : Type 0 where
+  pub part : K
+  pub held : Held
+  pub wish : Wish
+
+-- A component before its first start.
+abbrev pub fresh : {K : Type 0} → K → ℕ → Poise K
+fresh part maker = record { part = part; held = record { maker = maker; made = 0; packets = [] }; wish = wishes.Deactivate }
+
+-- A packet that is got comes into the hands from a connection, or is made there of an initial text.
+pub data Comes (old : Held) (packet : Tree) (new : Held) : Type 0 where
+  from_connection : new ≡ with_packet old packet → Comes old packet new
+  from_text : (text : List ℕ) → packet ≡ packet_of (next_id old) kinds.Normal text [] → new ≡ with_made old kinds.Normal text → Comes old packet new
+
+-- This happens where the component wished so, and leaves it with these hands.
+abbrev pub Grants : Held → Wish → Happening → Held → Type 0
+Grants old wish Started new = (wish ≡ wishes.Deactivate) × (new ≡ old)
+Grants old wish (Received port packet) new = (wish ≡ wishes.Receive (record { 0 = port })) × Comes old packet new
+Grants old wish (Ended port) new = (wish ≡ wishes.Receive (record { 0 = port })) × (new ≡ old)
+Grants old wish (Sent port packet) new = (wish ≡ wishes.Send (record { 0 = port }) (id_of packet)) × (packet_at old.packets (id_of packet) ≡ Some packet) × (new ≡ without_packet old (id_of packet))
+Grants old wish (Learned port level) new = (wish ≡ wishes.Level (record { 0 = port })) × (new ≡ old)
+
+-- One answer, for which the component is ready with sound hands, and the work after it up to the next wish.
+pub record Steps {K : Type 0} (ready : K → Held → Answer → Type 0) (next : K → Held → Answer → Outcome K → Type 0) (p : Poise K) (happening : Happening) (q : Poise K) : Type 0 where
+  pub held : Held
+  pub grants : Grants p.held p.wish happening held
+  pub sound : Sound held
+  pub is_ready : ready p.part held (answer_of happening)
+  pub comes_to : next p.part held (answer_of happening) (Wishes q.part q.held q.wish)
+
+-- A run over these happenings, in order.
+abbrev pub Runs : {K : Type 0} → (K → Held → Answer → Type 0) → (K → Held → Answer → Outcome K → Type 0) → Poise K → List Happening → Poise K → Type 0
+Runs ready next p [] q = q ≡ p
+Runs {K} ready next p (happening ∷ happenings) q = (m : Poise K) × Steps ready next p happening m × Runs ready next m happenings q
+
+-- The content of the packet that was got at this input, or sent at this output, by one happening.
+abbrev pub content_got : ℕ → Happening → List Tree
+content_got port Started = []
+content_got port (Received input packet) = if port == input then content packet ∷ [] else []
+content_got port (Ended input) = []
+content_got port (Sent output packet) = []
+content_got port (Learned output level) = []
+
+abbrev pub content_sent : ℕ → Happening → List Tree
+content_sent port Started = []
+content_sent port (Received input packet) = []
+content_sent port (Ended input) = []
+content_sent port (Sent output packet) = if port == output then content packet ∷ [] else []
+content_sent port (Learned output level) = []
+
+-- The contents of what was got at an input, and of what was sent at an output, in order.
+abbrev pub got : ℕ → List Happening → List Tree
+got port happenings = flat_map (content_got port) happenings
+
+abbrev pub sent : ℕ → List Happening → List Tree
+sent port happenings = flat_map (content_sent port) happenings
+
+-- After the end of this input nothing is got there any more.
+abbrev pub EndIsLast : ℕ → List Happening → Type 0
+EndIsLast port [] = Unit {0}
+EndIsLast port (Started ∷ later) = EndIsLast port later
+EndIsLast port (Received input packet ∷ later) = EndIsLast port later
+EndIsLast port (Ended input ∷ later) = (input ≡ port → got port later ≡ []) × EndIsLast port later
+EndIsLast port (Sent output packet ∷ later) = EndIsLast port later
+EndIsLast port (Learned output level ∷ later) = EndIsLast port later
+
+-- The end of this input isn't the first thing that is heard there.
+abbrev pub BringsFirst : ℕ → List Happening → Type 0
+BringsFirst port [] = Unit {0}
+BringsFirst port (Started ∷ later) = BringsFirst port later
+BringsFirst port (Received input packet ∷ later) = (input ≡ port) ⊎ BringsFirst port later
+BringsFirst port (Ended input ∷ later) = (input ≡ port → ⊥) × BringsFirst port later
+BringsFirst port (Sent output packet ∷ later) = BringsFirst port later
+BringsFirst port (Learned output level ∷ later) = BringsFirst port later
+
+-- After each start, one of the first n inputs brings a packet before its end.
+abbrev pub StartsBring : ℕ → List Happening → Type 0
+StartsBring n [] = Unit {0}
+StartsBring n (Started ∷ later) = ((port : ℕ) × (port < n) × BringsFirst port later) × StartsBring n later
+StartsBring n (Received input packet ∷ later) = StartsBring n later
+StartsBring n (Ended input ∷ later) = StartsBring n later
+StartsBring n (Sent output packet ∷ later) = StartsBring n later
+StartsBring n (Learned output level ∷ later) = StartsBring n later
+
+-- A run from the first state of a component to a deactivation: all that a process that has ended was told.
+pub record EndedRun {K : Type 0} (ready : K → Held → Answer → Type 0) (next : K → Held → Answer → Outcome K → Type 0) (part : K) (happenings : List Happening) : Type 0 where
+  pub maker : ℕ
+  pub last : Poise K
+  pub runs : Runs ready next (fresh part maker) happenings last
+  pub idle : last.wish ≡ wishes.Deactivate

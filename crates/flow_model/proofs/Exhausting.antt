@@ -1,0 +1,283 @@
+-- What is at the inputs of a process: nothing that will come any more, or something that waits; and how a turn changes that.
+use Rattle.std.proofs.Common.{◌≡◌, ◌≢◌, ℕ, Bool, true, false, List, [], ◌∷◌, ◌++◌, length, map, not, Option, Some, None, refl, sym, ap, ◌∙◌, subst, cond, nat_eq, arith, ◌⊎◌, inl, inr, slice_get, slice_set, ◌||◌, ◌&&◌, zero, suc, ◌<◌}
+use Rattle.std.specs.Prelude.{option_and_then, unwrap_or}
+use Rattle.std.specs.List.{list_any, list_all}
+use Rattle.std.proofs.lemmas.Bool.Decides.{nat_tests}
+use Rattle.flow_packet.specs.Tree.{Tree}
+use Rattle.flow_component.specs.declared.Port.{Port}
+use Rattle.flow_component.specs.declared.Wish.TheVariants as wishes
+use Rattle.flow_model.specs.declared.Stage.{Stage}
+use Rattle.flow_model.specs.declared.Stage.TheVariants as stages
+use Rattle.flow_model.specs.States.{Sender, Input, From, Text, Process, Channel, Kept, output_at, without_sender, change_at, changed}
+use Rattle.flow_model.specs.Events.{Event, Starts, Finishes, Gets, Takes_text, Hears_end, Sends, Learns, Sleeps, Closes, Look, look, looks, event_of, stage_event, idle_event, receive_event, received_from, received, is_fresh, is_connected, has_packet, has_ended, can_start, passes, holds_packet, is_empty}
+use Rattle.flow_model.specs.Turns.{process_after, channel_after, channels_after}
+use Rattle.flow_model.specs.Valid.{SendersOpen, HasToClose}
+use Rattle.flow_model.specs.Runs.{NoneConnected, EndsForGood}
+use Rattle.flow_model.proofs.Lists.{slice_get-set_same, slice_get-set_other, same_or_not, change_at-some}
+use Rattle.flow_model.proofs.Inverse.{explains, seen-there}
+use Rattle.flow_model.proofs.Blocks.{outlet-of}
+
+-- The connection is empty without open sender.
+pub record IsDry (channels : List Channel) (c : ℕ) : Type 0 where
+  pub channel : Channel
+  pub there : slice_get channels c ≡ Some channel
+  pub empty : channel.packets ≡ []
+  pub closed : channel.open_senders ≡ []
+
+-- The connection holds a packet.
+pub record HoldsSome (channels : List Channel) (c : ℕ) : Type 0 where
+  pub channel : Channel
+  pub there : slice_get channels c ≡ Some channel
+  pub packet : Tree
+  pub rest : List Tree
+  pub packets : channel.packets ≡ packet ∷ rest
+
+-- Nothing will come at this input: its connection is dry, or its text was taken.
+pub data Exhausted {K : Type 0} (channels : List Channel) (x : Process K) (port : ℕ) : Type 0 where
+  dry : (c : ℕ) → slice_get x.inputs port ≡ Some (From c) → IsDry channels c → Exhausted channels x port
+  taken : (text : List ℕ) → slice_get x.inputs port ≡ Some (Text text) → is_fresh x port ≡ false → Exhausted channels x port
+
+-- Something waits at this input: its connection holds a packet, or its text is fresh.
+pub data Waits {K : Type 0} (channels : List Channel) (x : Process K) (port : ℕ) : Type 0 where
+  packet_waits : (c : ℕ) → slice_get x.inputs port ≡ Some (From c) → HoldsSome channels c → Waits channels x port
+  text_waits : (text : List ℕ) → slice_get x.inputs port ≡ Some (Text text) → is_fresh x port ≡ true → Waits channels x port
+
+-- Both can't be.
+pub not-both : {K : Type 0} (channels : List Channel) (x : Process K) (port : ℕ) → Exhausted channels x port → Waits channels x port → ⊥
+not-both channels x port (dry c input h) (packet_waits d input' w) =
+    let a : Some (From c) ≡ Some (From d) = sym input ∙ input' in
+    let same : c ≡ d = cc in
+    let b : Some h.channel ≡ Some w.channel = sym h.there ∙ ap (slice_get channels) same ∙ w.there in
+    let k : h.channel ≡ w.channel = cc in
+    let z : [] ≡ w.packet ∷ w.rest = sym h.empty ∙ ap (λ (ch : Channel). ch.packets) k ∙ w.packets in
+    cc
+not-both channels x port (dry c input h) (text_waits text input' f) = let a : Some (From c) ≡ Some (Text text) = sym input ∙ input' in cc
+not-both channels x port (taken text input f) (packet_waits d input' w) = let a : Some (Text text) ≡ Some (From d) = sym input ∙ input' in cc
+not-both channels x port (taken text input f) (text_waits text' input' f') = let a : false ≡ true = sym f ∙ f' in cc
+
+-- What a start, a finish and the end of an input say of the state before.
+idle-starts : (a b : Bool) (e : Event) → cond a (Some Starts) (cond b (Some Finishes) None) ≡ Some e → (e ≡ Starts → a ≡ true) × (e ≡ Finishes → a ≡ false)
+idle-starts true b e is = ((λ s. refl), (λ f. absurd (let h : Some Starts ≡ Some Finishes = is ∙ ap Some f in cc)))
+idle-starts false true e is = ((λ s. absurd (let h : Some Finishes ≡ Some Starts = is ∙ ap Some s in cc)), (λ f. refl))
+idle-starts false false e is = absurd (cc)
+
+module _ {K : Type 0} (channels : List Channel) (x : Process K) (n : ℕ) where
+  pub starts-can : event_of channels x n ≡ Some Starts → can_start (looks channels) x ≡ true
+  starts-can is =
+      let at = explains channels x n Starts is in
+      let e : idle_event (looks channels) x ≡ Some Starts = subst (λ (stage : Stage). stage_event (looks channels) x n stage ≡ Some Starts) at is in
+      (idle-starts (can_start (looks channels) x) (list_all (has_ended (looks channels)) x.inputs) Starts e).0 refl
+
+  pub finishes-cannot : event_of channels x n ≡ Some Finishes → can_start (looks channels) x ≡ false
+  finishes-cannot is =
+      let at = explains channels x n Finishes is in
+      let e : idle_event (looks channels) x ≡ Some Finishes = subst (λ (stage : Stage). stage_event (looks channels) x n stage ≡ Some Finishes) at is in
+      (idle-starts (can_start (looks channels) x) (list_all (has_ended (looks channels)) x.inputs) Finishes e).1 refl
+
+  hears-in : (port c : ℕ) (channel : Channel) → slice_get x.inputs port ≡ Some (From c) → slice_get channels c ≡ Some channel → (packets : List Tree) (senders : List Sender) → channel.packets ≡ packets → channel.open_senders ≡ senders
+      → received port c packets (length senders) ≡ Some (Hears_end port) → Exhausted channels x port
+  hears-in port c channel input there (packet ∷ packets) senders has closed is = absurd (cc)
+  hears-in port c channel input there [] [] has closed is = dry c input (record { channel = channel; there = there; empty = has; closed = closed })
+  hears-in port c channel input there [] (sender ∷ senders) has closed is =
+      absurd (let z : nat_eq (length (sender ∷ senders)) 0 ≡ false = grind (arith, nat_tests) in let h : None ≡ Some (Hears_end port) = rw z at is in cc)
+
+  hears-from : (port c : ℕ) → slice_get x.inputs port ≡ Some (From c) → (found : Option Look) → slice_get (looks channels) c ≡ found → received_from port c found ≡ Some (Hears_end port) → Exhausted channels x port
+  hears-from port c input (Some l) there is =
+      let seen = seen-there channels c l there in
+      let is' : received port c seen.0.packets (length seen.0.open_senders) ≡ Some (Hears_end port) = ap (λ (m : Look). received port c m.packets m.open_senders) seen.2 ∙ is in
+      hears-in port c seen.0 input seen.1 seen.0.packets seen.0.open_senders refl refl is'
+  hears-from port c input None there is = absurd (cc)
+
+  hears-text : (port : ℕ) (text : List ℕ) → slice_get x.inputs port ≡ Some (Text text) → (b : Bool) → is_fresh x port ≡ b → cond b (Some (Takes_text port text)) (Some (Hears_end port)) ≡ Some (Hears_end port) → Exhausted channels x port
+  hears-text port text input true fresh is = absurd (cc)
+  hears-text port text input false fresh is = taken text input fresh
+
+  hears-at : (port : ℕ) (found : Option Input) → slice_get x.inputs port ≡ found → receive_event (looks channels) x port found ≡ Some (Hears_end port) → Exhausted channels x port
+  hears-at port (Some (From c)) input is = hears-from port c input (slice_get (looks channels) c) refl is
+  hears-at port (Some (Text text)) input is = hears-text port text input (is_fresh x port) refl is
+  hears-at port None input is = absurd (cc)
+
+  pub hears-exhausted : (port : ℕ) → event_of channels x n ≡ Some (Hears_end port) → Exhausted channels x port
+  hears-exhausted port is =
+      let at = explains channels x n (Hears_end port) is in
+      let e : receive_event (looks channels) x at.wished.0 (slice_get x.inputs at.wished.0) ≡ Some (Hears_end port) = subst (λ (stage : Stage). stage_event (looks channels) x n stage ≡ Some (Hears_end port)) at.stage is in
+      hears-at port (slice_get x.inputs port) refl (subst (λ (i : ℕ). receive_event (looks channels) x i (slice_get x.inputs i) ≡ Some (Hears_end port)) at.names e)
+
+-- Where no input is connected none holds a packet.
+none-holds : (ls : List Look) (inputs : List Input) → list_any is_connected inputs ≡ false → list_any (has_packet ls) inputs ≡ false
+none-holds ls [] none = refl
+none-holds ls (From c ∷ inputs) none = absurd (cc)
+none-holds ls (Text text ∷ inputs) none = none-holds ls inputs none
+
+not-false : (b : Bool) → not b ≡ false → b ≡ true
+not-false true is = refl
+not-false false is = absurd (cc)
+
+not-true : (b : Bool) → not b ≡ true → b ≡ false
+not-true true is = absurd (cc)
+not-true false is = refl
+
+-- Such a process starts where it hasn't run, and finishes where it has.
+start-alone : {K : Type 0} (ls : List Look) (x : Process K) → NoneConnected x → can_start ls x ≡ not x.has_run
+start-alone ls x none = let a = none-holds ls x.inputs none in rw (a, none) refl
+
+pub starts-first : {K : Type 0} (channels : List Channel) (x : Process K) (n : ℕ) → NoneConnected x → event_of channels x n ≡ Some Starts → x.has_run ≡ false
+starts-first channels x n none is = not-true x.has_run (sym (start-alone (looks channels) x none) ∙ starts-can channels x n is)
+
+pub finishes-later : {K : Type 0} (channels : List Channel) (x : Process K) (n : ℕ) → NoneConnected x → event_of channels x n ≡ Some Finishes → x.has_run ≡ true
+finishes-later channels x n none is = not-false x.has_run (sym (start-alone (looks channels) x none) ∙ finishes-cannot channels x n is)
+
+-- a connected input at which a packet waits
+holds-some : (channels : List Channel) (c : ℕ) (found : Option Look) → slice_get (looks channels) c ≡ found → passes holds_packet found ≡ true → HoldsSome channels c
+holds-some channels c (Some l) there is =
+    let seen = seen-there channels c l there in
+    by seen.0 seen.1 seen.0.packets refl (ap (λ (m : Look). not (is_empty m.packets)) seen.2 ∙ is)
+  where
+    by : (channel : Channel) → slice_get channels c ≡ Some channel → (packets : List Tree) → channel.packets ≡ packets → not (is_empty packets) ≡ true → HoldsSome channels c
+    by channel there [] has is = absurd (cc)
+    by channel there (packet ∷ rest) has is = record { channel = channel; there = there; packet = packet; rest = rest; packets = has }
+holds-some channels c None there is = absurd (cc)
+
+-- the input that lets a process start
+pub record FirstInput (channels : List Channel) (inputs : List Input) : Type 0 where
+  pub port : ℕ
+  pub within : port < length inputs
+  pub connection : ℕ
+  pub input : slice_get inputs port ≡ Some (From connection)
+  pub some : HoldsSome channels connection
+
+one-later : (channels : List Channel) (i : Input) (inputs : List Input) → FirstInput channels inputs → FirstInput channels (i ∷ inputs)
+one-later channels i inputs f = record { port = suc f.port; within = (let h = f.within in omega arith); connection = f.connection; input = f.input; some = f.some }
+
+first-input : (channels : List Channel) (inputs : List Input) → list_any (has_packet (looks channels)) inputs ≡ true → FirstInput channels inputs
+first-input channels [] is = absurd (cc)
+first-input channels (From c ∷ inputs) is = by (passes holds_packet (slice_get (looks channels) c)) refl (first-input channels inputs) is
+  where
+    by : (b : Bool) → passes holds_packet (slice_get (looks channels) c) ≡ b → (list_any (has_packet (looks channels)) inputs ≡ true → FirstInput channels inputs) → (b || list_any (has_packet (looks channels)) inputs) ≡ true
+        → FirstInput channels (From c ∷ inputs)
+    by true t rest is = record { port = 0; within = omega arith; connection = c; input = refl; some = holds-some channels c (slice_get (looks channels) c) refl t }
+    by false t rest is = one-later channels (From c) inputs (rest is)
+first-input channels (Text text ∷ inputs) is = one-later channels (Text text) inputs (first-input channels inputs is)
+
+-- a text is fresh after a start
+pub fresh-start : (inputs : List Input) (port : ℕ) (text : List ℕ) → slice_get inputs port ≡ Some (Text text) → unwrap_or (slice_get (map (λ input. not (is_connected input)) inputs) port) false ≡ true
+fresh-start [] port text is = absurd (cc)
+fresh-start (From c ∷ inputs) zero text is = absurd (cc)
+fresh-start (Text t ∷ inputs) zero text is = refl
+fresh-start (i ∷ inputs) (suc port) text is = fresh-start inputs port text is
+
+-- a text that was taken isn't fresh
+pub fresh-set : (fresh : List Bool) (at port : ℕ) → unwrap_or (slice_get fresh port) false ≡ false → unwrap_or (slice_get (slice_set fresh at false) port) false ≡ false
+fresh-set [] at port is = is
+fresh-set (f ∷ fresh) zero zero is = refl
+fresh-set (f ∷ fresh) zero (suc port) is = is
+fresh-set (f ∷ fresh) (suc at) zero is = is
+fresh-set (f ∷ fresh) (suc at) (suc port) is = fresh-set fresh at port is
+
+pub fresh-other : (fresh : List Bool) (at port : ℕ) → port ≢ at → unwrap_or (slice_get fresh port) false ≡ true → unwrap_or (slice_get (slice_set fresh at false) port) false ≡ true
+fresh-other fresh at port other is = ap (λ o. unwrap_or o false) (slice_get-set_other fresh at port false other) ∙ is
+
+first-text : (inputs : List Input) → 0 < length inputs → list_any is_connected inputs ≡ false → (text : List ℕ) × (slice_get inputs 0 ≡ Some (Text text))
+first-text [] some none = absurd (omega arith)
+first-text (From c ∷ inputs) some none = absurd (cc)
+first-text (Text text ∷ inputs) some none = (text, refl)
+
+-- After a start something waits at one of the inputs, if there are any.
+pub start-waits : {K : Type 0} (channels : List Channel) (x : Process K) (n : ℕ) → event_of channels x n ≡ Some Starts → 0 < length x.inputs → (port : ℕ) × (port < length x.inputs) × Waits channels (process_after x Starts) port
+start-waits channels x n is some = by (list_any (has_packet (looks channels)) x.inputs) refl
+  where
+    alone : (b : Bool) → list_any is_connected x.inputs ≡ b → (not b && not x.has_run) ≡ true → (port : ℕ) × (port < length x.inputs) × Waits channels (process_after x Starts) port
+    alone true none is = absurd (cc)
+    alone false none is = let t = first-text x.inputs some none in (0, some, text_waits t.0 t.1 (fresh-start x.inputs 0 t.0 t.1))
+
+    by : (b : Bool) → list_any (has_packet (looks channels)) x.inputs ≡ b → (port : ℕ) × (port < length x.inputs) × Waits channels (process_after x Starts) port
+    by true holds = let f = first-input channels x.inputs holds in (f.port, f.within, packet_waits f.connection f.input f.some)
+    by false holds =
+        let can : (list_any (has_packet (looks channels)) x.inputs || (not (list_any is_connected x.inputs) && not x.has_run)) ≡ true = starts-can channels x n is in
+        alone (list_any is_connected x.inputs) refl (rw holds at can)
+
+changed-other : {A : Type 0} (xs : List A) (i k : ℕ) (f : A → A) (o : Option A) → k ≢ i → slice_get (changed xs i f o) k ≡ slice_get xs k
+changed-other xs i k f (Some x) ne = slice_get-set_other xs i k (f x) ne
+changed-other xs i k f None ne = refl
+
+changed-here : (channels : List Channel) (c d : ℕ) (f : Channel → Channel) (channel : Channel) → c ≡ d → slice_get channels c ≡ Some channel → slice_get (change_at channels d f) c ≡ Some (f channel)
+changed-here channels c d f channel same there =
+    let here : slice_get channels d ≡ Some channel = ap (slice_get channels) (sym same) ∙ there in
+    ap (λ (cs : List Channel). slice_get cs c) (change_at-some channels d f channel here) ∙ ap (slice_get (slice_set channels d (f channel))) same ∙ slice_get-set_same channels d channel (f channel) here
+
+dry-other : (channels : List Channel) (c d : ℕ) (f : Channel → Channel) → c ≢ d → IsDry channels c → IsDry (change_at channels d f) c
+dry-other channels c d f ne h = record { channel = h.channel; there = changed-other channels d c f (slice_get channels d) ne ∙ h.there; empty = h.empty; closed = h.closed }
+
+some-other : (channels : List Channel) (c d : ℕ) (f : Channel → Channel) → c ≢ d → HoldsSome channels c → HoldsSome (change_at channels d f) c
+some-other channels c d f ne h = record { channel = h.channel; there = changed-other channels d c f (slice_get channels d) ne ∙ h.there; packet = h.packet; rest = h.rest; packets = h.packets }
+
+-- what is dry has no packet
+dry-packets : (channels : List Channel) (c d : ℕ) (channel : Channel) (packet : Tree) (rest : List Tree) → IsDry channels c → c ≡ d → slice_get channels d ≡ Some channel → channel.packets ≡ packet ∷ rest → ⊥
+dry-packets channels c d channel packet rest h same there has =
+    let o : Some h.channel ≡ Some channel = sym h.there ∙ ap (slice_get channels) same ∙ there in
+    let k : h.channel ≡ channel = cc in
+    let z : [] ≡ packet ∷ rest = sym h.empty ∙ ap (λ (ch : Channel). ch.packets) k ∙ has in
+    cc
+
+module _ {K : Type 0} (kept : Kept K) (p : ℕ) (x : Process K) (n : ℕ) (there : slice_get kept.processes p ≡ Some x) (senders : SendersOpen kept) where
+  -- whoever sends is an open sender
+  sends-open : (port c : ℕ) (packet : Tree) → event_of kept.channels x n ≡ Some (Sends port c packet) → IsDry kept.channels c → ⊥
+  sends-open port c packet is h = by (slice_get x.outputs port) refl (explains kept.channels x n (Sends port c packet) is).output
+    where
+      by : (found : Option (Option ℕ)) → slice_get x.outputs port ≡ found → option_and_then (λ (c : Option ℕ). c) found ≡ Some c → ⊥
+      by None at out = cc
+      by (Some None) at out = cc
+      by (Some (Some d)) at out =
+          let same : d ≡ c = cc in
+          let o = outlet-of 0 x.outputs port d at in
+          let has : HasToClose x.stage o.0 = subst (λ (st : Stage). HasToClose st o.0) (sym (explains kept.channels x n (Sends port c packet) is).stage) tt in
+          let open_one = senders p o.0 x o.1 there o.2 has in
+          let k : Some h.channel ≡ Some open_one.0 = sym h.there ∙ ap (slice_get kept.channels) (sym same ∙ sym o.3) ∙ open_one.1 in
+          let ch : h.channel ≡ open_one.0 = cc in
+          let z : open_one.0.open_senders ≡ [] = sym (ap (λ (c : Channel). c.open_senders) ch) ∙ h.closed in
+          (let bad = rw z at open_one.2 in cc)
+
+  -- what is dry stays dry
+  pub dry-after : (e : Event) → event_of kept.channels x n ≡ Some e → (c : ℕ) → IsDry kept.channels c → IsDry (channels_after kept.channels p e) c
+  dry-after Starts is c h = h
+  dry-after Finishes is c h = h
+  dry-after (Gets port d packet) is c h = elim (same_or_not c d) [
+    | inl same ↦ (let from = explains kept.channels x n (Gets port d packet) is in absurd (dry-packets kept.channels c d from.channel packet from.rest h same from.there from.packets))
+    | inr other ↦ dry-other kept.channels c d _ other h
+  ]
+  dry-after (Takes_text port text) is c h = h
+  dry-after (Hears_end port) is c h = h
+  dry-after (Sends port d packet) is c h = elim (same_or_not c d) [
+    | inl same ↦ absurd (sends-open port d packet is (subst (IsDry kept.channels) same h))
+    | inr other ↦ dry-other kept.channels c d _ other h
+  ]
+  dry-after (Learns port level) is c h = h
+  dry-after Sleeps is c h = h
+  dry-after (Closes output d) is c h = elim (same_or_not c d) [
+    | inl same ↦ (let f : Channel → Channel = λ channel. channel_after p channel (Closes output d) in
+        record { channel = f h.channel; there = changed-here kept.channels c d f h.channel same h.there; empty = h.empty; closed = ap (without_sender (record { process = p; output = output })) h.closed })
+    | inr other ↦ dry-other kept.channels c d _ other h
+  ]
+
+-- a connection from which nothing is taken still holds what it held
+pub some-after : (channels : List Channel) (p : ℕ) (e : Event) (c : ℕ) → ((port : ℕ) (packet : Tree) → e ≡ Gets port c packet → ⊥) → HoldsSome channels c → HoldsSome (channels_after channels p e) c
+some-after channels p Starts c ne h = h
+some-after channels p Finishes c ne h = h
+some-after channels p (Gets port d packet) c ne h = elim (same_or_not c d) [
+  | inl same ↦ absurd (ne port packet (ap (λ (m : ℕ). Gets port m packet) (sym same)))
+  | inr other ↦ some-other channels c d _ other h
+]
+some-after channels p (Takes_text port text) c ne h = h
+some-after channels p (Hears_end port) c ne h = h
+some-after channels p (Sends port d packet) c ne h = elim (same_or_not c d) [
+  | inl same ↦ (let f : Channel → Channel = λ channel. channel_after p channel (Sends port d packet) in
+      record { channel = f h.channel; there = changed-here channels c d f h.channel same h.there; packet = h.packet; rest = h.rest ++ packet ∷ []; packets = ap (λ ps. ps ++ packet ∷ []) h.packets })
+  | inr other ↦ some-other channels c d _ other h
+]
+some-after channels p (Learns port level) c ne h = h
+some-after channels p Sleeps c ne h = h
+some-after channels p (Closes output d) c ne h = elim (same_or_not c d) [
+  | inl same ↦ (let f : Channel → Channel = λ channel. channel_after p channel (Closes output d) in
+      record { channel = f h.channel; there = changed-here channels c d f h.channel same h.there; packet = h.packet; rest = h.rest; packets = h.packets })
+  | inr other ↦ some-other channels c d _ other h
+]

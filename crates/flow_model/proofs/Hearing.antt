@@ -1,0 +1,159 @@
+-- What was told of ends and starts, as one more happening comes.
+use Rattle.std.proofs.Common.{◌≡◌, ◌≢◌, ℕ, ◌<◌, List, [], ◌∷◌, ◌++◌, refl, sym, ap, ◌∙◌, subst, append-nil, ◌⊎◌, inl, inr, arith, nat_eq, false}
+use Rattle.std.proofs.lemmas.Bool.Decides.{nat_tests}
+use Rattle.flow_packet.specs.Tree.{Tree}
+use Rattle.flow_component.specs.Happenings.{Happening, Started, Received, Ended, Sent, Learned}
+use Rattle.flow_component.specs.Runs.{content_got, got, EndIsLast, BringsFirst, StartsBring}
+use Rattle.flow_component.proofs.Streams.{got-more}
+
+-- It is the end of this input.
+abbrev pub IsEnd : ℕ → Happening → Type 0
+IsEnd port Started = ⊥
+IsEnd port (Received input packet) = ⊥
+IsEnd port (Ended input) = input ≡ port
+IsEnd port (Sent output packet) = ⊥
+IsEnd port (Learned output level) = ⊥
+
+-- It is a packet at this input.
+abbrev pub IsGot : ℕ → Happening → Type 0
+IsGot port Started = ⊥
+IsGot port (Received input packet) = input ≡ port
+IsGot port (Ended input) = ⊥
+IsGot port (Sent output packet) = ⊥
+IsGot port (Learned output level) = ⊥
+
+abbrev pub IsStart : Happening → Type 0
+IsStart Started = Unit {0}
+IsStart (Received input packet) = ⊥
+IsStart (Ended input) = ⊥
+IsStart (Sent output packet) = ⊥
+IsStart (Learned output level) = ⊥
+
+abbrev pub HeardEnd : ℕ → List Happening → Type 0
+HeardEnd port [] = ⊥
+HeardEnd port (h ∷ hs) = IsEnd port h ⊎ HeardEnd port hs
+
+abbrev pub HasGot : ℕ → List Happening → Type 0
+HasGot port [] = ⊥
+HasGot port (h ∷ hs) = IsGot port h ⊎ HasGot port hs
+
+pub heard-more : (port : ℕ) (es : List Happening) (e : Happening) → HeardEnd port (es ++ e ∷ []) → HeardEnd port es ⊎ IsEnd port e
+heard-more port [] e (inl h) = inr h
+heard-more port [] e (inr h) = absurd h
+heard-more port (f ∷ es) e (inl h) = inl (inl h)
+heard-more port (f ∷ es) e (inr h) = elim (heard-more port es e h) [ inl k ↦ inl (inr k) | inr k ↦ inr k ]
+
+pub got-later : (port : ℕ) (es : List Happening) (e : Happening) → HasGot port es → HasGot port (es ++ e ∷ [])
+got-later port [] e h = absurd h
+got-later port (f ∷ es) e (inl h) = inl h
+got-later port (f ∷ es) e (inr h) = inr (got-later port es e h)
+
+pub got-now : (port : ℕ) (es : List Happening) (e : Happening) → IsGot port e → HasGot port (es ++ e ∷ [])
+got-now port [] e h = inl h
+got-now port (f ∷ es) e h = inr (got-now port es e h)
+
+nothing-more : (port : ℕ) (es : List Happening) (e : Happening) → got port es ≡ [] → content_got port e ≡ [] → got port (es ++ e ∷ []) ≡ []
+nothing-more port es e h k = got-more port es e ∙ (λ i. h i ++ k i)
+
+-- an end that is the last stays the last, where nothing is got at an input whose end was heard
+pub last-more : (port : ℕ) (es : List Happening) (e : Happening) → EndIsLast port es → (HeardEnd port es → content_got port e ≡ []) → EndIsLast port (es ++ e ∷ [])
+last-more port [] Started l h = tt
+last-more port [] (Received p t) l h = tt
+last-more port [] (Ended p) l h = ((λ same. refl), tt)
+last-more port [] (Sent p t) l h = tt
+last-more port [] (Learned p n) l h = tt
+last-more port (Started ∷ es) e l h = last-more port es e l (λ k. h (inr k))
+last-more port (Received p t ∷ es) e l h = last-more port es e l (λ k. h (inr k))
+last-more port (Ended p ∷ es) e l h = ((λ same. nothing-more port es e (l.0 same) (h (inl same))), last-more port es e l.1 (λ k. h (inr k)))
+last-more port (Sent p t ∷ es) e l h = last-more port es e l (λ k. h (inr k))
+last-more port (Learned p n ∷ es) e l h = last-more port es e l (λ k. h (inr k))
+
+-- what was got first stays so
+brings-more : (port : ℕ) (es : List Happening) (e : Happening) → BringsFirst port es → HasGot port es ⊎ (IsEnd port e → ⊥) → BringsFirst port (es ++ e ∷ [])
+brings-more port [] Started b g = tt
+brings-more port [] (Received p t) b g = inr tt
+brings-more port [] (Ended p) b (inl g) = absurd g
+brings-more port [] (Ended p) b (inr g) = (g, tt)
+brings-more port [] (Sent p t) b g = tt
+brings-more port [] (Learned p n) b g = tt
+brings-more port (Started ∷ es) e b (inl (inl g)) = absurd g
+brings-more port (Started ∷ es) e b (inl (inr g)) = brings-more port es e b (inl g)
+brings-more port (Started ∷ es) e b (inr g) = brings-more port es e b (inr g)
+brings-more port (Received p t ∷ es) e (inl same) g = inl same
+brings-more port (Received p t ∷ es) e (inr b) (inl (inl same)) = inl same
+brings-more port (Received p t ∷ es) e (inr b) (inl (inr g)) = inr (brings-more port es e b (inl g))
+brings-more port (Received p t ∷ es) e (inr b) (inr g) = inr (brings-more port es e b (inr g))
+brings-more port (Ended p ∷ es) e b (inl (inl g)) = absurd g
+brings-more port (Ended p ∷ es) e b (inl (inr g)) = (b.0, brings-more port es e b.1 (inl g))
+brings-more port (Ended p ∷ es) e b (inr g) = (b.0, brings-more port es e b.1 (inr g))
+brings-more port (Sent p t ∷ es) e b (inl (inl g)) = absurd g
+brings-more port (Sent p t ∷ es) e b (inl (inr g)) = brings-more port es e b (inl g)
+brings-more port (Sent p t ∷ es) e b (inr g) = brings-more port es e b (inr g)
+brings-more port (Learned p n ∷ es) e b (inl (inl g)) = absurd g
+brings-more port (Learned p n ∷ es) e b (inl (inr g)) = brings-more port es e b (inl g)
+brings-more port (Learned p n ∷ es) e b (inr g) = brings-more port es e b (inr g)
+
+-- After each start one of the first n inputs brings a packet before its end: it was got already, or it waits.
+pub record Brings (waits : ℕ → Type 0) (n : ℕ) (later : List Happening) : Type 0 where
+  pub port : ℕ
+  pub within : port < n
+  pub first : BringsFirst port later
+  pub got_or_waits : HasGot port later ⊎ waits port
+
+abbrev pub StartsKeep : (ℕ → Type 0) → ℕ → List Happening → Type 0
+StartsKeep waits n [] = Unit {0}
+StartsKeep waits n (Started ∷ later) = Brings waits n later × StartsKeep waits n later
+StartsKeep waits n (Received input packet ∷ later) = StartsKeep waits n later
+StartsKeep waits n (Ended input ∷ later) = StartsKeep waits n later
+StartsKeep waits n (Sent output packet ∷ later) = StartsKeep waits n later
+StartsKeep waits n (Learned output level ∷ later) = StartsKeep waits n later
+
+pub starts-kept : (waits : ℕ → Type 0) (n : ℕ) (es : List Happening) → StartsKeep waits n es → StartsBring n es
+starts-kept waits n [] k = tt
+starts-kept waits n (Started ∷ es) k = ((k.0.port, k.0.within, k.0.first), starts-kept waits n es k.1)
+starts-kept waits n (Received p t ∷ es) k = starts-kept waits n es k
+starts-kept waits n (Ended p ∷ es) k = starts-kept waits n es k
+starts-kept waits n (Sent p t ∷ es) k = starts-kept waits n es k
+starts-kept waits n (Learned p m ∷ es) k = starts-kept waits n es k
+
+-- nothing is heard, and what waits still waits
+pub starts-same : (old new : ℕ → Type 0) (n : ℕ) → ((port : ℕ) → old port → new port) → (es : List Happening) → StartsKeep old n es → StartsKeep new n es
+starts-same old new n up [] k = tt
+starts-same old new n up (Started ∷ es) k = (
+  record { port = k.0.port; within = k.0.within; first = k.0.first; got_or_waits = elim k.0.got_or_waits [ inl g ↦ inl g | inr w ↦ inr (up k.0.port w) ] },
+  starts-same old new n up es k.1,
+)
+starts-same old new n up (Received p t ∷ es) k = starts-same old new n up es k
+starts-same old new n up (Ended p ∷ es) k = starts-same old new n up es k
+starts-same old new n up (Sent p t ∷ es) k = starts-same old new n up es k
+starts-same old new n up (Learned p m ∷ es) k = starts-same old new n up es k
+
+-- one more is heard: not the end of an input at which something waits; what waited was got or still waits; after a start something waits
+module _ (old new : ℕ → Type 0) (n : ℕ) (e : Happening) (no_end : (port : ℕ) → old port → IsEnd port e → ⊥) (up : (port : ℕ) → old port → IsGot port e ⊎ new port)
+    (begins : IsStart e → (port : ℕ) × (port < n) × new port) where
+  one-more : (later : List Happening) → Brings old n later → Brings new n (later ++ e ∷ [])
+  one-more later b = by b.got_or_waits
+    where
+      by : HasGot b.port later ⊎ old b.port → Brings new n (later ++ e ∷ [])
+      by (inl g) = record { port = b.port; within = b.within; first = brings-more b.port later e b.first (inl g); got_or_waits = inl (got-later b.port later e g) }
+      by (inr w) = record {
+        port = b.port;
+        within = b.within;
+        first = brings-more b.port later e b.first (inr (no_end b.port w));
+        got_or_waits = elim (up b.port w) [ inl g ↦ inl (got-now b.port later e g) | inr v ↦ inr v ];
+      }
+
+  last-one : (f : Happening) → (IsStart f → (port : ℕ) × (port < n) × new port) → StartsKeep new n (f ∷ [])
+  last-one Started b = (record { port = (b tt).0; within = (b tt).1; first = tt; got_or_waits = inr ((b tt).2) }, tt)
+  last-one (Received p t) b = tt
+  last-one (Ended p) b = tt
+  last-one (Sent p t) b = tt
+  last-one (Learned p m) b = tt
+
+  pub starts-more : (es : List Happening) → StartsKeep old n es → StartsKeep new n (es ++ e ∷ [])
+  starts-more [] k = last-one e begins
+  starts-more (Started ∷ es) k = (one-more es k.0, starts-more es k.1)
+  starts-more (Received p t ∷ es) k = starts-more es k
+  starts-more (Ended p ∷ es) k = starts-more es k
+  starts-more (Sent p t ∷ es) k = starts-more es k
+  starts-more (Learned p m ∷ es) k = starts-more es k

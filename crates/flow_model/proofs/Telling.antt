@@ -1,0 +1,456 @@
+-- What each process was told is a run of its component, ends stand and starts bring something: so it is at the start, and turns and works keep it so.
+use Rattle.std.proofs.Common.{◌≡◌, ◌≢◌, ℕ, ◌+◌, ◌*◌, ◌<◌, ◌≤◌, Bool, true, false, List, [], ◌∷◌, ◌++◌, length, Option, Some, None, refl, sym, ap, ◌∙◌, subst, cond, nat_eq, nat_lt, arith, ◌⊎◌, inl, inr, slice_get, slice_set, slice_index, append-nil, ◌==◌, zero, suc}
+use Rattle.std.proofs.lemmas.Bool.Decides.{nat_tests}
+use Rattle.flow_packet.specs.declared.packet.Kind.TheVariants as kinds
+use Rattle.flow_packet.specs.Tree.{Tree, id_of, kind_of, packet_of}
+use Rattle.flow_packet.specs.Hands.{packet_at}
+use Rattle.flow_packet.specs.Edits.{hands_limit}
+use Rattle.flow_packet.specs.Held.{Held, Sound, next_id}
+use Rattle.flow_component.specs.declared.Answer.{Answer}
+use Rattle.flow_component.specs.declared.Answer.TheVariants as answers
+use Rattle.flow_component.specs.declared.Wish.{Wish}
+use Rattle.flow_component.specs.declared.Wish.TheVariants as wishes
+use Rattle.flow_component.specs.declared.Fail.TheVariants as fails
+use Rattle.flow_component.specs.declared.Shape.{Shape}
+use Rattle.flow_component.specs.Laws.{Outcome, Wishes, Fails, Obeys, StaysReady}
+use Rattle.flow_component.specs.Happenings.{Happening, Started, Received, Ended, Sent, Learned}
+use Rattle.flow_component.specs.Runs.{Poise, fresh, content_got, EndIsLast}
+use Rattle.flow_model.specs.declared.Stage.{Stage}
+use Rattle.flow_model.specs.declared.Stage.TheVariants as stages
+use Rattle.flow_model.specs.States.{Input, From, Text, Process, Channel, Kept, Past, State, outlets}
+use Rattle.flow_model.specs.Events.{Event, Starts, Finishes, Gets, Takes_text, Hears_end, Sends, Learns, Sleeps, Closes, event_of, is_fresh}
+use Rattle.flow_model.specs.Turns.{process_after, channels_after, heard, past_after, limited, closing, closing_on, turn_limit, Turn}
+use Rattle.flow_model.specs.Works.{judged, sending, nests, worked, Work}
+use Rattle.flow_model.specs.Schedules.{Settles, LeadsBy, Leads, Journal, Step, Turned, Worked, Reaches}
+use Rattle.flow_model.specs.Plans.{Plan, PlanProcess, process_at_start, processes_at_start, start_of, StartsWell}
+use Rattle.flow_model.specs.Order.{connection_of, input_of}
+use Rattle.flow_model.specs.Valid.{Valid, OneReceiver, SendersOpen, ReadyAt}
+use Rattle.flow_model.specs.Runs.{Follows, IsPending, NoneConnected, EndsForGood, HasRun}
+use Rattle.flow_model.proofs.Lists.{slice_get-set_same, slice_get-set_other, same_or_not}
+use Rattle.flow_model.proofs.Inverse.{explains}
+use Rattle.flow_model.proofs.Order.{inputs-after}
+use Rattle.flow_model.proofs.Ready.{sound-hands}
+use Rattle.flow_model.proofs.Schedules.{Valid-turn, Valid-settles, Valid-work}
+use Rattle.flow_model.proofs.Start.{Valid-start}
+use Rattle.flow_model.proofs.Followings.{follows-event, follows-worked}
+use Rattle.flow_model.proofs.Exhausting.{IsDry, HoldsSome, Exhausted, dry, taken, Waits, packet_waits, text_waits, not-both, hears-exhausted, starts-first, finishes-later, start-waits, fresh-start, fresh-set, fresh-other, dry-after, some-after}
+use Rattle.flow_model.proofs.Hearing.{IsEnd, IsGot, HeardEnd, heard-more, last-more, StartsKeep, starts-kept, starts-same, starts-more}
+
+-- Whether anything was told to a process that stands there.
+abbrev Begun : {K : Type 0} → Process K → List Happening → Stage → Type 0
+Begun x told stages.Idle = (x.has_run ≡ false → told ≡ []) × (x.has_run ≡ true → told ≢ [])
+Begun x told (stages.Told answer) = told ≢ []
+Begun x told (stages.Wishing wish) = told ≢ []
+Begun x told (stages.Closing i) = NoneConnected x → told ≢ []
+Begun x told stages.Ended = NoneConnected x → told ≢ []
+Begun x told (stages.Failed cause) = Unit {0}
+
+some-told : (es : List Happening) (e : Happening) → es ++ e ∷ [] ≢ []
+some-told [] e is = cc
+some-told (f ∷ es) e is = cc
+
+begun-cond : {K : Type 0} (y : Process K) (told : List Happening) (b : Bool) (stage : Stage) → Begun y told stage → Begun y told (cond b (stages.Failed fails.TurnLimit) stage)
+begun-cond y told true stage is = tt
+begun-cond y told false stage is = is
+
+begun-limited : {K : Type 0} (y : Process K) (told : List Happening) (n : ℕ) (stage : Stage) → Begun y told stage → Begun y told (limited n stage)
+begun-limited y told n stages.Ended is = is
+begun-limited y told n stages.Idle is = begun-cond y told (n == turn_limit) stages.Idle is
+begun-limited y told n (stages.Told a) is = begun-cond y told (n == turn_limit) (stages.Told a) is
+begun-limited y told n (stages.Wishing w) is = begun-cond y told (n == turn_limit) (stages.Wishing w) is
+begun-limited y told n (stages.Closing i) is = begun-cond y told (n == turn_limit) (stages.Closing i) is
+begun-limited y told n (stages.Failed c) is = begun-cond y told (n == turn_limit) (stages.Failed c) is
+
+begun-closing : {K : Type 0} (y x : Process K) (told : List Happening) (i : ℕ) → (NoneConnected y → told ≢ []) → Begun y told (closing x i)
+begun-closing y x told i is = by (nat_lt i (length (outlets x)))
+  where
+    by : (b : Bool) → Begun y told (cond b (stages.Closing i) stages.Ended)
+    by true = is
+    by false = is
+
+begun-event : {K : Type 0} (channels : List Channel) (x : Process K) (n : ℕ) (told : List Happening) (e : Event) → event_of channels x n ≡ Some e → Begun x told x.stage → Begun (process_after x e) (told ++ heard x e) (process_after x e).stage
+begun-event channels x n told Starts is was = begun-limited (process_after x Starts) (told ++ Started ∷ []) (x.turns + 1) (stages.Told answers.Start) (some-told told Started)
+begun-event channels x n told Finishes is was =
+    let at = explains channels x n Finishes is in
+    let idle = subst (Begun x told) at was in
+    rw append-nil (begun-limited (process_after x Finishes) told (x.turns + 1) (closing x 0) (begun-closing (process_after x Finishes) x told 0 (λ none. idle.1 (finishes-later channels x n none is))))
+begun-event channels x n told (Gets port c packet) is was =
+    begun-limited (process_after x (Gets port c packet)) (told ++ Received port packet ∷ []) (x.turns + 1) (stages.Told (answers.Got (id_of packet))) (some-told told (Received port packet))
+begun-event channels x n told (Takes_text port text) is was =
+    let packet = packet_of (next_id x.held) kinds.Normal text [] in
+    begun-limited (process_after x (Takes_text port text)) (told ++ Received port packet ∷ []) (x.turns + 1) (stages.Told (answers.Got (next_id x.held))) (some-told told (Received port packet))
+begun-event channels x n told (Hears_end port) is was = begun-limited (process_after x (Hears_end port)) (told ++ Ended port ∷ []) (x.turns + 1) (stages.Told answers.End) (some-told told (Ended port))
+begun-event channels x n told (Sends port c packet) is was =
+    begun-limited (process_after x (Sends port c packet)) (told ++ Sent port packet ∷ []) (x.turns + 1) (stages.Told answers.Sent) (some-told told (Sent port packet))
+begun-event channels x n told (Learns port level) is was =
+    begun-limited (process_after x (Learns port level)) (told ++ Learned port level ∷ []) (x.turns + 1) (stages.Told (answers.Level level)) (some-told told (Learned port level))
+begun-event channels x n told Sleeps is was =
+    let at = explains channels x n Sleeps is in
+    let some : told ≢ [] = subst (Begun x told) at was in
+    rw append-nil (begun-limited (process_after x Sleeps) told (x.turns + 1) stages.Idle ((λ h. absurd (cc)), (λ h. some)))
+begun-event channels x n told (Closes output c) is was =
+    let at = explains channels x n (Closes output c) is in
+    let some : NoneConnected x → told ≢ [] = subst (Begun x told) at.stage was in
+    let y = process_after x (Closes output c) in
+    rw append-nil (begun-limited y told (x.turns + 1) (closing_on x x.stage) (subst (λ (stage : Stage). Begun y told (closing_on x stage)) (sym at.stage) (begun-closing y x told (at.i + 1) some)))
+
+begun-judged : {K : Type 0} (y : Process K) (told : List Happening) (depths : List ℕ) (held : Held) (wish : Wish) → told ≢ [] → Begun y told (judged depths held wish)
+begun-judged y told depths held (wishes.Receive port) some = by (nat_lt (length held.packets) hands_limit)
+  where
+    by : (b : Bool) → Begun y told (cond b (stages.Wishing (wishes.Receive port)) (stages.Failed fails.HandsLimit))
+    by true = some
+    by false = tt
+begun-judged y told depths held (wishes.Send port id) some = by (packet_at held.packets id)
+  where
+    by-nests : (b : Bool) → Begun y told (cond b (stages.Wishing (wishes.Send port id)) (stages.Failed (fails.Unnested port)))
+    by-nests true = some
+    by-nests false = tt
+
+    by : (found : Option Tree) → Begun y told (sending depths port id found)
+    by None = some
+    by (Some packet) = by-nests (nests (kind_of packet) (slice_index depths port.0))
+begun-judged y told depths held (wishes.Level port) some = some
+begun-judged y told depths held wishes.Deactivate some = some
+
+-- a new end is the one that this turn hears
+heard-event : {K : Type 0} (port : ℕ) (told : List Happening) (x : Process K) (e : Event) → HeardEnd port (told ++ heard x e) → HeardEnd port told ⊎ (e ≡ Hears_end port)
+heard-event port told x Starts h = elim (heard-more port told Started h) [ inl k ↦ inl k | inr k ↦ absurd k ]
+heard-event port told x Finishes h = inl (subst (HeardEnd port) (append-nil told) h)
+heard-event port told x (Gets p c t) h = elim (heard-more port told (Received p t) h) [ inl k ↦ inl k | inr k ↦ absurd k ]
+heard-event port told x (Takes_text p text) h = elim (heard-more port told (Received p (packet_of (next_id x.held) kinds.Normal text [])) h) [ inl k ↦ inl k | inr k ↦ absurd k ]
+heard-event port told x (Hears_end p) h = elim (heard-more port told (Ended p) h) [ inl k ↦ inl k | inr k ↦ inr (ap Hears_end k) ]
+heard-event port told x (Sends p c t) h = elim (heard-more port told (Sent p t) h) [ inl k ↦ inl k | inr k ↦ absurd k ]
+heard-event port told x (Learns p level) h = elim (heard-more port told (Learned p level) h) [ inl k ↦ inl k | inr k ↦ absurd k ]
+heard-event port told x Sleeps h = inl (subst (HeardEnd port) (append-nil told) h)
+heard-event port told x (Closes o c) h = inl (subst (HeardEnd port) (append-nil told) h)
+
+-- a text that was taken isn't fresh again, where its end is for good
+taken-after : {K : Type 0} (channels : List Channel) (x : Process K) (n : ℕ) (told : List Happening) (e : Event) (port : ℕ) (text : List ℕ) → event_of channels x n ≡ Some e → Begun x told x.stage → EndsForGood x port → HeardEnd port told
+    → slice_get x.inputs port ≡ Some (Text text) → is_fresh x port ≡ false → is_fresh (process_after x e) port ≡ false
+taken-after channels x n told Starts port text is was good ended input f = absurd (by good)
+  where
+    by : EndsForGood x port → ⊥
+    by (inl at) = let h : Some (From at.0) ≡ Some (Text text) = sym at.1 ∙ input in cc
+    by (inr none) =
+        let idle = subst (Begun x told) (explains channels x n Starts is) was in
+        let h : told ≡ [] = idle.0 (starts-first channels x n none is) in
+        subst (HeardEnd port) h ended
+taken-after channels x n told Finishes port text is was good ended input f = f
+taken-after channels x n told (Gets i c packet) port text is was good ended input f = f
+taken-after channels x n told (Takes_text i other) port text is was good ended input f = fresh-set x.fresh i port f
+taken-after channels x n told (Hears_end i) port text is was good ended input f = f
+taken-after channels x n told (Sends i c packet) port text is was good ended input f = f
+taken-after channels x n told (Learns i level) port text is was good ended input f = f
+taken-after channels x n told Sleeps port text is was good ended input f = f
+taken-after channels x n told (Closes o c) port text is was good ended input f = f
+
+-- what waits at an input still waits there, if it isn't taken
+waits-after : {K : Type 0} (channels : List Channel) (p : ℕ) (x y : Process K) (e : Event) (port : ℕ) → y.inputs ≡ x.inputs → ((c i : ℕ) (packet : Tree) → slice_get x.inputs port ≡ Some (From c) → e ≡ Gets i c packet → ⊥)
+    → ((text : List ℕ) → slice_get x.inputs port ≡ Some (Text text) → is_fresh x port ≡ true → is_fresh y port ≡ true) → Waits channels x port → Waits (channels_after channels p e) y port
+waits-after channels p x y e port inputs untaken fresh (packet_waits c input some) = packet_waits c (ap (λ (is : List Input). slice_get is port) inputs ∙ input) (some-after channels p e c (λ i packet. untaken c i packet input) some)
+waits-after channels p x y e port inputs untaken fresh (text_waits text input f) = text_waits text (ap (λ (is : List Input). slice_get is port) inputs ∙ input) (fresh text input f)
+
+not_got : (port i : ℕ) (t : Tree) → port ≢ i → content_got port (Received i t) ≡ []
+not_got port i t other = let z : nat_eq port i ≡ false = grind (arith, nat_tests) in rw z refl
+
+-- What a process was told, at any moment.
+pub record Tells {K : Type 0} (ready : K → Held → Answer → Type 0) (next : K → Held → Answer → Outcome K → Type 0) (parts : List K) (channels : List Channel) (p : ℕ) (told : List Happening) (x : Process K) : Type 0 where
+  pub follows : (part : K) → slice_get parts p ≡ Some part → Follows ready next (fresh part p) told x x.stage
+  pub begun : Begun x told x.stage
+  pub ends : (port : ℕ) → EndsForGood x port → HeardEnd port told → Exhausted channels x port
+  pub last : (port : ℕ) → EndsForGood x port → EndIsLast port told
+  pub brings : 0 < length x.inputs → StartsKeep (Waits channels x) (length x.inputs) told
+
+module _ {K : Type 0} (ready : K → Held → Answer → Type 0) (next : K → Held → Answer → Outcome K → Type 0) (parts : List K) (kept : Kept K) (p : ℕ) (x : Process K) (n : ℕ) (there : slice_get kept.processes p ≡ Some x) (senders : SendersOpen kept)
+    (one : OneReceiver kept.processes) where
+  exhausted-after : (told : List Happening) (e : Event) (port : ℕ) → event_of kept.channels x n ≡ Some e → Begun x told x.stage → EndsForGood x port → HeardEnd port told → Exhausted kept.channels x port
+      → Exhausted (channels_after kept.channels p e) (process_after x e) port
+  exhausted-after told e port is was good ended (dry c input h) = dry c (ap (λ (is : List Input). slice_get is port) (inputs-after x e) ∙ input) (dry-after kept p x n there senders e is c h)
+  exhausted-after told e port is was good ended (taken text input f) =
+      taken text (ap (λ (is : List Input). slice_get is port) (inputs-after x e) ∙ input) (taken-after kept.channels x n told e port text is was good ended input f)
+
+  good-before : (e : Event) (port : ℕ) → EndsForGood (process_after x e) port → EndsForGood x port
+  good-before e port good = subst (λ (is : List Input). ((c : ℕ) × (slice_get is port ≡ Some (From c))) ⊎ (Rattle.std.specs.List.list_any Rattle.flow_model.specs.Events.is_connected is ≡ false)) (inputs-after x e) good
+
+  just-heard : (port : ℕ) → event_of kept.channels x n ≡ Some (Hears_end port) → Exhausted kept.channels (process_after x (Hears_end port)) port
+  just-heard port is = by (hears-exhausted kept.channels x n port is)
+    where
+      by : Exhausted kept.channels x port → Exhausted kept.channels (process_after x (Hears_end port)) port
+      by (dry c input h) = dry c input h
+      by (taken text input f) = taken text input f
+
+  ends-after : (told : List Happening) (e : Event) → event_of kept.channels x n ≡ Some e → Tells ready next parts kept.channels p told x
+      → (port : ℕ) → EndsForGood (process_after x e) port → HeardEnd port (told ++ heard x e) → Exhausted (channels_after kept.channels p e) (process_after x e) port
+  ends-after told e is was port good ended = elim (heard-event port told x e ended) [
+    | inl old ↦ exhausted-after told e port is was.begun (good-before e port good) old (was.ends port (good-before e port good) old)
+    | inr new ↦ subst (λ (f : Event). Exhausted (channels_after kept.channels p f) (process_after x f) port) (sym new) (just-heard port (is ∙ ap Some new))
+  ]
+
+  gets-waits : (i c : ℕ) (packet : Tree) → event_of kept.channels x n ≡ Some (Gets i c packet) → Waits kept.channels x i
+  gets-waits i c packet is =
+      let from = explains kept.channels x n (Gets i c packet) is in
+      packet_waits c from.input (record { channel = from.channel; there = from.there; packet = packet; rest = from.rest; packets = from.packets })
+
+  takes-waits : (i : ℕ) (text : List ℕ) → event_of kept.channels x n ≡ Some (Takes_text i text) → Waits kept.channels x i
+  takes-waits i text is = let from = explains kept.channels x n (Takes_text i text) is in text_waits text from.input from.fresh
+
+  -- what waits isn't got after its end
+  nothing-got : (told : List Happening) (port i : ℕ) (t : Tree) → Tells ready next parts kept.channels p told x → EndsForGood x port → Waits kept.channels x i → HeardEnd port told → content_got port (Received i t) ≡ []
+  nothing-got told port i t was good waits ended = elim (same_or_not port i) [
+    | inl same ↦ absurd (not-both kept.channels x port (was.ends port good ended) (subst (Waits kept.channels x) (sym same) waits))
+    | inr other ↦ not_got port i t other
+  ]
+
+  last-after : (told : List Happening) (e : Event) → event_of kept.channels x n ≡ Some e → Tells ready next parts kept.channels p told x → (port : ℕ) → EndsForGood x port → EndIsLast port (told ++ heard x e)
+  last-after told Starts is was port good = last-more port told Started (was.last port good) (λ k. refl)
+  last-after told Finishes is was port good = rw append-nil (was.last port good)
+  last-after told (Gets i c packet) is was port good = last-more port told (Received i packet) (was.last port good) (nothing-got told port i packet was good (gets-waits i c packet is))
+  last-after told (Takes_text i text) is was port good =
+      let packet = packet_of (next_id x.held) kinds.Normal text [] in
+      last-more port told (Received i packet) (was.last port good) (nothing-got told port i packet was good (takes-waits i text is))
+  last-after told (Hears_end i) is was port good = last-more port told (Ended i) (was.last port good) (λ k. refl)
+  last-after told (Sends i c packet) is was port good = last-more port told (Sent i packet) (was.last port good) (λ k. refl)
+  last-after told (Learns i level) is was port good = last-more port told (Learned i level) (was.last port good) (λ k. refl)
+  last-after told Sleeps is was port good = rw append-nil (was.last port good)
+  last-after told (Closes o c) is was port good = rw append-nil (was.last port good)
+
+  input-here : (port c : ℕ) → slice_get x.inputs port ≡ Some (From c) → input_of port (slice_get kept.processes p) ≡ Some c
+  input-here port c input = ap (input_of port) there ∙ ap connection_of input
+
+  keeps-waits : (e : Event) (port : ℕ) → ((c i : ℕ) (packet : Tree) → slice_get x.inputs port ≡ Some (From c) → e ≡ Gets i c packet → ⊥)
+      → ((text : List ℕ) → slice_get x.inputs port ≡ Some (Text text) → is_fresh x port ≡ true → is_fresh (process_after x e) port ≡ true) → Waits kept.channels x port → Waits (channels_after kept.channels p e) (process_after x e) port
+  keeps-waits e port untaken fresh w = waits-after kept.channels p x (process_after x e) e port (inputs-after x e) untaken fresh w
+
+  brings-after : (told : List Happening) (e : Event) → event_of kept.channels x n ≡ Some e → 0 < length x.inputs → StartsKeep (Waits kept.channels x) (length x.inputs) told
+      → StartsKeep (Waits (channels_after kept.channels p e) (process_after x e)) (length x.inputs) (told ++ heard x e)
+  brings-after told Starts is some k =
+      starts-more (Waits kept.channels x) (Waits kept.channels (process_after x Starts)) (length x.inputs) Started (λ port w h. h)
+      (λ port w. inr (keeps-waits Starts port (λ c i packet input h. cc) (λ text input f. fresh-start x.inputs port text input) w)) (λ _. start-waits kept.channels x n is some) told k
+  brings-after told Finishes is some k =
+      rw append-nil (starts-same (Waits kept.channels x) (Waits kept.channels (process_after x Finishes)) (length x.inputs) (λ port w. keeps-waits Finishes port (λ c i packet input h. cc) (λ text input f. f) w) told k)
+  brings-after told (Gets i c packet) is some k =
+      let from = explains kept.channels x n (Gets i c packet) is in
+      let e = Gets i c packet in
+      starts-more (Waits kept.channels x) (Waits (channels_after kept.channels p e) (process_after x e)) (length x.inputs) (Received i packet) (λ port w h. h)
+      (λ port w. elim (same_or_not i port) [
+        | inl same ↦ inl same
+        | inr other ↦ inr (keeps-waits e port
+            (λ d j t input h. other (let same : c ≡ d = cc in (one p p i port c (input-here i c from.input) (input-here port c (input ∙ ap (λ (m : ℕ). Some (From m)) (sym same)))).1))
+            (λ text input f. f) w)
+      ])
+      (λ h. absurd h) told k
+  brings-after told (Takes_text i text) is some k =
+      let e = Takes_text i text in
+      starts-more (Waits kept.channels x) (Waits kept.channels (process_after x e)) (length x.inputs) (Received i (packet_of (next_id x.held) kinds.Normal text [])) (λ port w h. h)
+      (λ port w. elim (same_or_not i port) [
+        | inl same ↦ inl same
+        | inr other ↦ inr (keeps-waits e port (λ c j packet input h. cc) (λ t input f. fresh-other x.fresh i port (λ h. other (sym h)) f) w)
+      ])
+      (λ h. absurd h) told k
+  brings-after told (Hears_end i) is some k =
+      let e = Hears_end i in
+      starts-more (Waits kept.channels x) (Waits kept.channels (process_after x e)) (length x.inputs) (Ended i)
+      (λ port w h. not-both kept.channels x i (hears-exhausted kept.channels x n i is) (subst (Waits kept.channels x) (sym h) w))
+      (λ port w. inr (keeps-waits e port (λ c j packet input h. cc) (λ text input f. f) w)) (λ h. absurd h) told k
+  brings-after told (Sends i c packet) is some k =
+      let e = Sends i c packet in
+      starts-more (Waits kept.channels x) (Waits (channels_after kept.channels p e) (process_after x e)) (length x.inputs) (Sent i packet) (λ port w h. h)
+      (λ port w. inr (keeps-waits e port (λ c j t input h. cc) (λ text input f. f) w)) (λ h. absurd h) told k
+  brings-after told (Learns i level) is some k =
+      let e = Learns i level in
+      starts-more (Waits kept.channels x) (Waits kept.channels (process_after x e)) (length x.inputs) (Learned i level) (λ port w h. h)
+      (λ port w. inr (keeps-waits e port (λ c j t input h. cc) (λ text input f. f) w)) (λ h. absurd h) told k
+  brings-after told Sleeps is some k =
+      rw append-nil (starts-same (Waits kept.channels x) (Waits kept.channels (process_after x Sleeps)) (length x.inputs) (λ port w. keeps-waits Sleeps port (λ c i packet input h. cc) (λ text input f. f) w) told k)
+  brings-after told (Closes o c) is some k =
+      let e = Closes o c in
+      rw append-nil (starts-same (Waits kept.channels x) (Waits (channels_after kept.channels p e) (process_after x e)) (length x.inputs) (λ port w. keeps-waits e port (λ c i packet input h. cc) (λ text input f. f) w) told k)
+
+  -- the process that takes the turn
+  pub Tells-own : (told : List Happening) (e : Event) → event_of kept.channels x n ≡ Some e → Tells ready next parts kept.channels p told x → Tells ready next parts (channels_after kept.channels p e) p (told ++ heard x e) (process_after x e)
+  Tells-own told e is was =
+      let inputs = inputs-after x e in
+      record {
+        follows = λ part at. follows-event ready next kept.channels (fresh part p) told x n e is (was.follows part at);
+        begun = begun-event kept.channels x n told e is was.begun;
+        ends = ends-after told e is was;
+        last = λ port good. last-after told e is was port (good-before e port good);
+        brings = λ some.
+            subst (λ (m : ℕ). StartsKeep (Waits (channels_after kept.channels p e) (process_after x e)) m (told ++ heard x e)) (ap length (sym inputs))
+            (brings-after told e is (subst (λ (m : ℕ). 0 < m) (ap length inputs) some) (was.brings (subst (λ (m : ℕ). 0 < m) (ap length inputs) some)));
+      }
+
+  -- another process
+  pub Tells-other : (told : List Happening) (e : Event) (q : ℕ) (z : Process K) → q ≢ p → slice_get kept.processes q ≡ Some z → event_of kept.channels x n ≡ Some e → Tells ready next parts kept.channels q told z
+      → Tells ready next parts (channels_after kept.channels p e) q told z
+  Tells-other told e q z other at is was = record {
+    follows = was.follows;
+    begun = was.begun;
+    ends = λ port good ended. still port (was.ends port good ended);
+    last = was.last;
+    brings = λ some. starts-same (Waits kept.channels z) (Waits (channels_after kept.channels p e) z) (length z.inputs) (λ port w. waits-after kept.channels p z z e port refl (untaken port) (λ text input f. f) w) told (was.brings some);
+  }
+    where
+      still : (port : ℕ) → Exhausted kept.channels z port → Exhausted (channels_after kept.channels p e) z port
+      still port (dry c input h) = dry c input (dry-after kept p x n there senders e is c h)
+      still port (taken text input f) = taken text input f
+
+      untaken : (port c i : ℕ) (packet : Tree) → slice_get z.inputs port ≡ Some (From c) → e ≡ Gets i c packet → ⊥
+      untaken port c i packet input same =
+          let from = explains kept.channels x n (Gets i c packet) (is ∙ ap Some same) in
+          other (one q p port i c (ap (input_of port) at ∙ ap connection_of input) (input-here i c from.input)).0
+
+-- Each process was told so.
+abbrev pub AllTell : {K : Type 0} → (K → Held → Answer → Type 0) → (K → Held → Answer → Outcome K → Type 0) → List K → State K → Type 0
+AllTell {K} ready next parts s = (p : ℕ) (x : Process K) → slice_get s.kept.processes p ≡ Some x → Tells ready next parts s.kept.channels p (s.past.told p) x
+
+told-same : (es fs : List Happening) (b : Bool) → b ≡ true → es ++ fs ≡ cond b (es ++ fs) es
+told-same es fs true t = refl
+told-same es fs false t = absurd (cc)
+
+told-other : (es fs : List Happening) (b : Bool) → b ≡ false → es ≡ cond b (es ++ fs) es
+told-other es fs true t = absurd (cc)
+told-other es fs false t = refl
+
+pub AllTell-turn : {K : Type 0} (ready : K → Held → Answer → Type 0) (next : K → Held → Answer → Outcome K → Type 0) (parts : List K) (s : State K) (p : ℕ) (e : Event) (s' : State K) → Turn s p e s' → Valid ready s → AllTell ready next parts s → AllTell ready next parts s'
+AllTell-turn {K} ready next parts s p e s' turn valid all q z is =
+    let x = turn.kept.before in
+    let there = turn.kept.there in
+    let channels = channels_after s.kept.channels p e in
+    let is' : slice_get (slice_set s.kept.processes p (process_after x e)) q ≡ Some z = rw (← turn.kept.processes) is in
+    let now : Tells ready next parts channels q ((past_after s.past p x e).told q) z = elim (same_or_not q p) [
+      | inl same ↦ (let y = process_after x e in
+          let h : Some y ≡ Some z = sym (ap (slice_get (slice_set s.kept.processes p y)) same ∙ slice_get-set_same s.kept.processes p x y there) ∙ is' in
+          let y_is : y ≡ z = cc in
+          let t : nat_eq q p ≡ true = grind (arith, nat_tests) in
+          let own = Tells-own ready next parts s.kept p x turn.kept.level there valid.senders valid.one_receiver (s.past.told p) e turn.kept.happens (all p x there) in
+          let own' : Tells ready next parts channels q (s.past.told q ++ heard x e) z = subst (λ (m : ℕ). Tells ready next parts channels m (s.past.told m ++ heard x e) z) (sym same) (subst (Tells ready next parts channels p (s.past.told p ++ heard x e)) y_is own) in
+          subst (λ (hs : List Happening). Tells ready next parts channels q hs z) (told-same (s.past.told q) (heard x e) (nat_eq q p) t) own')
+      | inr other ↦ (let t : nat_eq q p ≡ false = grind (arith, nat_tests) in
+          let at : slice_get s.kept.processes q ≡ Some z = sym (slice_get-set_other s.kept.processes p q (process_after x e) other) ∙ is' in
+          let kept = Tells-other ready next parts s.kept p x turn.kept.level there valid.senders valid.one_receiver (s.past.told q) e q z other at turn.kept.happens (all q z at) in
+          subst (λ (hs : List Happening). Tells ready next parts channels q hs z) (told-other (s.past.told q) (heard x e) (nat_eq q p) t) kept)
+    ] in
+    rw (turn.kept.channels, turn.past) now
+
+-- after a work of the process itself
+Tells-worked : {K : Type 0} (ready : K → Held → Answer → Type 0) (next : K → Held → Answer → Outcome K → Type 0) (parts : List K) (channels : List Channel) (p : ℕ) (told : List Happening) (x : Process K) (answer : Answer) (outcome : Outcome K)
+    → x.stage ≡ stages.Told answer → Sound x.held → ready x.part x.held answer → next x.part x.held answer outcome → Tells ready next parts channels p told x → Tells ready next parts channels p told (worked x outcome)
+Tells-worked {K} ready next parts channels p told x answer (Wishes part held wish) at sound can comes was =
+    let y = worked x (Wishes part held wish) in
+    record {
+      follows = λ first here. follows-worked ready next (fresh first p) told x answer (Wishes part held wish) (subst (Follows ready next (fresh first p) told x) at (was.follows first here)) sound can comes;
+      begun = begun-judged y told x.depths held wish (subst (Begun x told) at was.begun);
+      ends = λ port good ended. still port (was.ends port good ended);
+      last = was.last;
+      brings = λ some. starts-same (Waits channels x) (Waits channels y) (length x.inputs) waits told (was.brings some);
+    }
+  where
+    still : (port : ℕ) → Exhausted channels x port → Exhausted channels (worked x (Wishes part held wish)) port
+    still port (dry c input h) = dry c input h
+    still port (taken text input f) = taken text input f
+
+    waits : (port : ℕ) → Waits channels x port → Waits channels (worked x (Wishes part held wish)) port
+    waits port (packet_waits c input some) = packet_waits c input some
+    waits port (text_waits text input f) = text_waits text input f
+Tells-worked {K} ready next parts channels p told x answer (Fails part held cause) at sound can comes was =
+    let y = worked x (Fails part held cause) in
+    record {
+      follows = λ first here. tt;
+      begun = tt;
+      ends = λ port good ended. still port (was.ends port good ended);
+      last = was.last;
+      brings = λ some. starts-same (Waits channels x) (Waits channels y) (length x.inputs) waits told (was.brings some);
+    }
+  where
+    still : (port : ℕ) → Exhausted channels x port → Exhausted channels (worked x (Fails part held cause)) port
+    still port (dry c input h) = dry c input h
+    still port (taken text input f) = taken text input f
+
+    waits : (port : ℕ) → Waits channels x port → Waits channels (worked x (Fails part held cause)) port
+    waits port (packet_waits c input some) = packet_waits c input some
+    waits port (text_waits text input f) = text_waits text input f
+
+pub AllTell-work : {K : Type 0} (ready : K → Held → Answer → Type 0) (next : K → Held → Answer → Outcome K → Type 0) (parts : List K) (s : State K) (p : ℕ) (s' : State K) → Work next s p s' → Valid ready s → AllTell ready next parts s → AllTell ready next parts s'
+AllTell-work {K} ready next parts s p s' work valid all q z is =
+    let x = work.before in
+    let y = worked x work.outcome in
+    let there = work.kept.there in
+    let good = valid.each p x there in
+    let below : x.held.made < 4294967296 = omega (arith, good.made, good.turns) in
+    let sound = sound-hands s p x there good.maker below valid.one_place in
+    let can : ready x.part x.held work.kept.answer = subst (ReadyAt (ready x.part) x.held) work.kept.told good.is_ready sound in
+    let is' : slice_get (slice_set s.kept.processes p y) q ≡ Some z = rw (← work.kept.processes) is in
+    let now : Tells ready next parts s.kept.channels q (s.past.told q) z = elim (same_or_not q p) [
+      | inl same ↦ (let h : Some y ≡ Some z = sym (ap (slice_get (slice_set s.kept.processes p y)) same ∙ slice_get-set_same s.kept.processes p x y there) ∙ is' in
+          let y_is : y ≡ z = cc in
+          let own = Tells-worked ready next parts s.kept.channels p (s.past.told p) x work.kept.answer work.outcome work.kept.told sound can work.kept.comes (all p x there) in
+          subst (λ (m : ℕ). Tells ready next parts s.kept.channels m (s.past.told m) z) (sym same) (subst (Tells ready next parts s.kept.channels p (s.past.told p)) y_is own))
+      | inr other ↦ all q z (sym (slice_get-set_other s.kept.processes p q y other) ∙ is')
+    ] in
+    rw (work.kept.channels, work.past) now
+
+-- a process of the start with its component
+begins : {K : Type 0} (plan : Plan) (p : ℕ) (xs : List PlanProcess) (parts : List K) (k : ℕ) (z : Process K) (part : K) → slice_get (processes_at_start plan p xs parts) k ≡ Some z → slice_get parts k ≡ Some part
+    → (spec : PlanProcess) × (z ≡ process_at_start plan (p + k) spec part)
+begins plan p [] parts k z part is at = absurd (cc)
+begins plan p (x ∷ xs) [] k z part is at = absurd (cc)
+begins plan p (x ∷ xs) (first ∷ parts) zero z part is at =
+    let h : process_at_start plan p x first ≡ z = cc in
+    let k : first ≡ part = cc in
+    let n : p ≡ p + zero = omega arith in
+    (x, sym h ∙ ap (process_at_start plan p x) k ∙ ap (λ (m : ℕ). process_at_start plan m x part) n)
+begins plan p (x ∷ xs) (first ∷ parts) (suc k) z part is at =
+    let r = begins plan (p + 1) xs parts k z part is at in
+    let n : p + 1 + k ≡ p + suc k = omega arith in
+    (r.0, r.1 ∙ ap (λ (m : ℕ). process_at_start plan m r.0 part) n)
+
+pub AllTell-start : {K : Type 0} (ready : K → Held → Answer → Type 0) (next : K → Held → Answer → Outcome K → Type 0) (plan : Plan) (parts : List K) → AllTell ready next parts (start_of plan parts)
+AllTell-start {K} ready next plan parts p x is = record {
+  follows = λ part at. (let r = begins plan 0 plan.processes parts p x part is at in
+      let n : 0 + p ≡ p = omega arith in
+      let same : x ≡ process_at_start plan p r.0 part = r.1 ∙ ap (λ (m : ℕ). process_at_start plan m r.0 part) n in
+      rw same refl);
+  begun = (let start = Rattle.flow_model.proofs.Start.start-process plan parts p x is in rw start.is ((λ h. refl), (λ h. absurd (cc))));
+  ends = λ port good ended. absurd ended;
+  last = λ port good. tt;
+  brings = λ some. tt;
+}
+
+-- along every schedule, of components that keep the laws
+module _ {K : Type 0} (ready : K → Held → Answer → Type 0) (next : K → Held → Answer → Outcome K → Type 0) (shape_of : K → Shape) (uses : K → ℕ → Bool)
+    (obeys : (part : K) (held : Held) (answer : Answer) (outcome : Outcome K) → ready part held answer → next part held answer outcome → Obeys (shape_of part) (uses part) held outcome)
+    (stays : (part : K) (held : Held) (answer : Answer) (outcome : Outcome K) → ready part held answer → next part held answer outcome → StaysReady ready outcome) (parts : List K) where
+  AllTell-settles : (s : State K) (p : ℕ) (s' : State K) → Settles next s p s' → Valid ready s → AllTell ready next parts s → AllTell ready next parts s'
+  AllTell-settles s p s' (inl none) valid all = subst (AllTell ready next parts) (sym none.1) all
+  AllTell-settles s p s' (inr work) valid all = AllTell-work ready next parts s p s' work valid all
+
+  AllTell-leads_by : (s : State K) (turns seen : List ℕ) (s' : State K) → Valid ready s → AllTell ready next parts s → LeadsBy next s turns seen s' → AllTell ready next parts s'
+  AllTell-leads_by s [] seen s' valid all is = subst (AllTell ready next parts) (sym is.1) all
+  AllTell-leads_by s (p ∷ turns) seen s' valid all leads =
+      let whole = leads.3 in
+      let mid = Valid-turn ready s p leads.0 whole.0 whole.1 valid in
+      AllTell-leads_by leads.1 turns leads.2 s' (Valid-settles ready next shape_of uses obeys stays whole.0 p leads.1 whole.2 mid)
+      (AllTell-settles whole.0 p leads.1 whole.2 mid (AllTell-turn ready next parts s p leads.0 whole.0 whole.1 valid all)) leads.5
+
+  -- after every list of turns and works
+  pub AllTell-reaches : (s : State K) (steps : List Step) (s' : State K) → Valid ready s → AllTell ready next parts s → Reaches next s steps s' → AllTell ready next parts s'
+  AllTell-reaches s [] s' valid all is = subst (AllTell ready next parts) (sym is) all
+  AllTell-reaches s (Turned p seen ∷ steps) s' valid all reaches =
+      AllTell-reaches reaches.1 steps s' (Valid-turn ready s p reaches.0 reaches.1 reaches.2 valid) (AllTell-turn ready next parts s p reaches.0 reaches.1 reaches.2 valid all) reaches.4
+  AllTell-reaches s (Worked p ∷ steps) s' valid all reaches =
+      AllTell-reaches reaches.0 steps s' (Valid-work ready next shape_of uses obeys stays s p reaches.0 reaches.1 valid) (AllTell-work ready next parts s p reaches.0 reaches.1 valid all) reaches.2
+
+  -- after every schedule
+  pub AllTell-leads : (s : State K) (journal : Journal) (s' : State K) → Valid ready s → AllTell ready next parts s → Leads next s journal s' → AllTell ready next parts s'
+  AllTell-leads s journal s' valid all leads = AllTell-leads_by s journal.turns journal.seen s' valid all leads
+
+-- what is promised of it
+pub Tells-run : {K : Type 0} (ready : K → Held → Answer → Type 0) (next : K → Held → Answer → Outcome K → Type 0) (parts : List K) (channels : List Channel) (p : ℕ) (told : List Happening) (x : Process K) (part : K)
+    → slice_get parts p ≡ Some part → Tells ready next parts channels p told x → HasRun ready next part p told x
+Tells-run ready next parts channels p told x part at t = record {
+  follows = t.follows part at;
+  end_is_last = t.last;
+  starts_bring = λ some. starts-kept (Waits channels x) (length x.inputs) told (t.brings some);
+  has_run = λ none ended. subst (Begun x told) ended t.begun none;
+}

@@ -1,0 +1,73 @@
+-- What each process was told is a run of its component, and what the machine adds to that: an end that was heard stands, a start on
+-- an input brings something, and a process that nothing can wake has run before it ends. (This project's own.)
+use Rattle.std.specs.Prelude.{◌≡◌, ◌≢◌, ◌⊎◌, ℕ, ◌<◌, false, Bool, List, [], ◌∷◌, ◌++◌, length, Some, slice_get}
+use Rattle.std.specs.List.{list_any}
+use Rattle.flow_packet.specs.Held.{Held, Sound}
+use Rattle.flow_component.specs.declared.Answer.{Answer}
+use Rattle.flow_component.specs.declared.Wish.{Wish}
+use Rattle.flow_component.specs.declared.Wish.TheVariants as wishes
+use Rattle.flow_component.specs.declared.Shape.{Shape}
+use Rattle.flow_component.specs.Laws.{Outcome}
+use Rattle.flow_component.specs.Happenings.{Happening, answer_of}
+use Rattle.flow_component.specs.Runs.{Poise, fresh, Grants, Runs, EndIsLast, StartsBring}
+use Rattle.flow_model.specs.declared.Stage.{Stage}
+use Rattle.flow_model.specs.declared.Stage.TheVariants as stages
+use Rattle.flow_model.specs.States.{Input, From, Process, State}
+use Rattle.flow_model.specs.Events.{is_connected}
+use Rattle.flow_model.specs.Schedules.{Journal, Leads, Step, Reaches}
+use Rattle.flow_model.specs.Plans.{Plan, start_of, StartsWell}
+
+-- A process between answers, with its wish. Before its start, and while it sleeps or closes, it stands as one that has deactivated.
+abbrev pub poise : {K : Type 0} → Process K → Wish → Poise K
+poise x wish = record { part = x.part; held = x.held; wish = wish }
+
+-- The last that it was told is the answer that is pending.
+pub record IsPending {K : Type 0} (ready : K → Held → Answer → Type 0) (next : K → Held → Answer → Outcome K → Type 0) (start : Poise K) (told : List Happening) (x : Process K) (answer : Answer) : Type 0 where
+  pub before : List Happening
+  pub happening : Happening
+  pub mid : Poise K
+  pub parts : told ≡ before ++ happening ∷ []
+  pub runs : Runs ready next start before mid
+  pub grants : Grants mid.held mid.wish happening x.held
+  pub part : x.part ≡ mid.part
+  pub answers : answer ≡ answer_of happening
+
+-- By what it was told a process has come to where it stands. Of one that failed this says nothing.
+abbrev pub Follows : {K : Type 0} → (K → Held → Answer → Type 0) → (K → Held → Answer → Outcome K → Type 0) → Poise K → List Happening → Process K → Stage → Type 0
+Follows ready next start told x stages.Idle = Runs ready next start told (poise x wishes.Deactivate)
+Follows ready next start told x (stages.Told answer) = IsPending ready next start told x answer
+Follows ready next start told x (stages.Wishing wish) = Runs ready next start told (poise x wish)
+Follows ready next start told x (stages.Closing i) = Runs ready next start told (poise x wishes.Deactivate)
+Follows ready next start told x stages.Ended = Runs ready next start told (poise x wishes.Deactivate)
+Follows ready next start told x (stages.Failed cause) = Unit {0}
+
+-- No input of the process is connected.
+abbrev pub NoneConnected : {K : Type 0} → Process K → Type 0
+NoneConnected x = list_any is_connected x.inputs ≡ false
+
+-- What ends at this input ends for good: it is connected, or no input is. (An initial text is fresh again after each start.)
+abbrev pub EndsForGood : {K : Type 0} → Process K → ℕ → Type 0
+EndsForGood x port = ((c : ℕ) × (slice_get x.inputs port ≡ Some (From c))) ⊎ NoneConnected x
+
+-- What process p, which began with this component, was told, and how it stands by it.
+pub record HasRun {K : Type 0} (ready : K → Held → Answer → Type 0) (next : K → Held → Answer → Outcome K → Type 0) (part : K) (p : ℕ) (told : List Happening) (x : Process K) : Type 0 where
+  -- it is a run of that component from its first state
+  pub follows : Follows ready next (fresh part p) told x x.stage
+  -- after the end of an input nothing comes there
+  pub end_is_last : (port : ℕ) → EndsForGood x port → EndIsLast port told
+  -- where it has inputs, each start brings something at one of them before its end
+  pub starts_bring : 0 < length x.inputs → StartsBring (length x.inputs) told
+  -- where no input is connected it has run before it ends
+  pub has_run : NoneConnected x → x.stage ≡ stages.Ended → told ≢ []
+
+-- After every schedule from a start each process has run.
+abbrev pub KeepsRuns : {K : Type 0} → (K → Shape) → (K → ℕ → Bool) → (K → Held → Answer → Type 0) → (K → Held → Answer → Outcome K → Type 0) → Type 0
+KeepsRuns {K} shape_of uses ready next =
+    (plan : Plan) (parts : List K) (journal : Journal) (s : State K) → StartsWell shape_of uses ready plan parts → Leads next (start_of plan parts) journal s
+    → (p : ℕ) (part : K) (x : Process K) → slice_get parts p ≡ Some part → slice_get s.kept.processes p ≡ Some x → HasRun ready next part p (s.past.told p) x
+
+-- The same after every list of turns and works from a start.
+abbrev pub KeepsRunsOpen : {K : Type 0} → (K → Shape) → (K → ℕ → Bool) → (K → Held → Answer → Type 0) → (K → Held → Answer → Outcome K → Type 0) → Type 0
+KeepsRunsOpen {K} shape_of uses ready next =
+    (plan : Plan) (parts : List K) (steps : List Step) (s : State K) → StartsWell shape_of uses ready plan parts → Reaches next (start_of plan parts) steps s
+    → (p : ℕ) (part : K) (x : Process K) → slice_get parts p ≡ Some part → slice_get s.kept.processes p ≡ Some x → HasRun ready next part p (s.past.told p) x
