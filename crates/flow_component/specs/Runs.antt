@@ -1,6 +1,6 @@
 -- Runs of a component: what it was told, one answer after another, and what it came to after each. A component's stream meaning is
 -- told of its runs alone. (This project's own.)
-use Rattle.std.specs.Prelude.{◌≡◌, ◌⊎◌, ℕ, ◌<◌, ◌==◌, if◌then◌else◌, List, [], ◌∷◌, Some}
+use Rattle.std.specs.Prelude.{◌≡◌, ◌⊎◌, ℕ, ◌<◌, ◌==◌, if◌then◌else◌, List, [], ◌∷◌, ◌++◌, Some}
 use Rattle.std.specs.List.{flat_map}
 use Rattle.flow_packet.specs.declared.packet.Kind.TheVariants as kinds
 use Rattle.flow_packet.specs.Tree.{Tree, id_of, content, packet_of}
@@ -96,6 +96,31 @@ StartsBring n (Received input packet ∷ later) = StartsBring n later
 StartsBring n (Ended input ∷ later) = StartsBring n later
 StartsBring n (Sent output packet ∷ later) = StartsBring n later
 StartsBring n (Learned output level ∷ later) = StartsBring n later
+
+-- It is the end of this input.
+abbrev pub IsEnd : ℕ → Happening → Type 0
+IsEnd port Started = ⊥
+IsEnd port (Received input packet) = ⊥
+IsEnd port (Ended input) = input ≡ port
+IsEnd port (Sent output packet) = ⊥
+IsEnd port (Learned output level) = ⊥
+
+-- The end of this input was heard.
+abbrev pub HeardEnd : ℕ → List Happening → Type 0
+HeardEnd port [] = ⊥
+HeardEnd port (happening ∷ happenings) = IsEnd port happening ⊎ HeardEnd port happenings
+
+abbrev pub IsStart : Happening → Type 0
+IsStart Started = Unit {0}
+IsStart (Received input packet) = ⊥
+IsStart (Ended input) = ⊥
+IsStart (Sent output packet) = ⊥
+IsStart (Learned output level) = ⊥
+
+-- Each start, but for one before which nothing was told, finds one of the first n inputs whose end wasn't heard yet.
+abbrev pub Wakes : ℕ → List Happening → List Happening → Type 0
+Wakes n before [] = Unit {0}
+Wakes n before (happening ∷ later) = (IsStart happening → (before ≡ []) ⊎ ((port : ℕ) × (port < n) × (HeardEnd port before → ⊥))) × Wakes n (before ++ happening ∷ []) later
 
 -- A run from the first state of a component to a deactivation: all that a process that has ended was told.
 pub record EndedRun {K : Type 0} (ready : K → Held → Answer → Type 0) (next : K → Held → Answer → Outcome K → Type 0) (part : K) (happenings : List Happening) : Type 0 where

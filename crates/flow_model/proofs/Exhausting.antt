@@ -196,6 +196,20 @@ start-waits channels x n is some = by (list_any (has_packet (looks channels)) x.
         let can : (list_any (has_packet (looks channels)) x.inputs || (not (list_any is_connected x.inputs) && not x.has_run)) ≡ true = starts-can channels x n is in
         alone (list_any is_connected x.inputs) refl (rw holds at can)
 
+-- A process that has run starts where a packet waits at a connected input.
+pub start-finds : {K : Type 0} (channels : List Channel) (x : Process K) (n : ℕ) → event_of channels x n ≡ Some Starts → x.has_run ≡ true → FirstInput channels x.inputs
+start-finds channels x n is ran = by (list_any (has_packet (looks channels)) x.inputs) refl
+  where
+    alone : (b : Bool) → (not b && not x.has_run) ≡ true → FirstInput channels x.inputs
+    alone true is = absurd (cc)
+    alone false is = absurd (let h : false ≡ true = rw ran at is in cc)
+
+    by : (b : Bool) → list_any (has_packet (looks channels)) x.inputs ≡ b → FirstInput channels x.inputs
+    by true holds = first-input channels x.inputs holds
+    by false holds =
+        let can : (list_any (has_packet (looks channels)) x.inputs || (not (list_any is_connected x.inputs) && not x.has_run)) ≡ true = starts-can channels x n is in
+        alone (list_any is_connected x.inputs) (rw holds at can)
+
 changed-other : {A : Type 0} (xs : List A) (i k : ℕ) (f : A → A) (o : Option A) → k ≢ i → slice_get (changed xs i f o) k ≡ slice_get xs k
 changed-other xs i k f (Some x) ne = slice_get-set_other xs i k (f x) ne
 changed-other xs i k f None ne = refl

@@ -1,18 +1,10 @@
 -- What was told of ends and starts, as one more happening comes.
-use Rattle.std.proofs.Common.{◌≡◌, ◌≢◌, ℕ, ◌<◌, List, [], ◌∷◌, ◌++◌, refl, sym, ap, ◌∙◌, subst, append-nil, ◌⊎◌, inl, inr, arith, nat_eq, false}
+use Rattle.std.proofs.Common.{◌≡◌, ◌≢◌, ℕ, ◌<◌, List, [], ◌∷◌, ◌++◌, refl, sym, ap, ◌∙◌, subst, append-nil, append_assoc, ◌⊎◌, inl, inr, arith, nat_eq, false}
 use Rattle.std.proofs.lemmas.Bool.Decides.{nat_tests}
 use Rattle.flow_packet.specs.Tree.{Tree}
 use Rattle.flow_component.specs.Happenings.{Happening, Started, Received, Ended, Sent, Learned}
-use Rattle.flow_component.specs.Runs.{content_got, got, EndIsLast, BringsFirst, StartsBring}
+use Rattle.flow_component.specs.Runs.{content_got, got, EndIsLast, BringsFirst, StartsBring, IsEnd, HeardEnd, IsStart, Wakes}
 use Rattle.flow_component.proofs.Streams.{got-more}
-
--- It is the end of this input.
-abbrev pub IsEnd : ℕ → Happening → Type 0
-IsEnd port Started = ⊥
-IsEnd port (Received input packet) = ⊥
-IsEnd port (Ended input) = input ≡ port
-IsEnd port (Sent output packet) = ⊥
-IsEnd port (Learned output level) = ⊥
 
 -- It is a packet at this input.
 abbrev pub IsGot : ℕ → Happening → Type 0
@@ -21,17 +13,6 @@ IsGot port (Received input packet) = input ≡ port
 IsGot port (Ended input) = ⊥
 IsGot port (Sent output packet) = ⊥
 IsGot port (Learned output level) = ⊥
-
-abbrev pub IsStart : Happening → Type 0
-IsStart Started = Unit {0}
-IsStart (Received input packet) = ⊥
-IsStart (Ended input) = ⊥
-IsStart (Sent output packet) = ⊥
-IsStart (Learned output level) = ⊥
-
-abbrev pub HeardEnd : ℕ → List Happening → Type 0
-HeardEnd port [] = ⊥
-HeardEnd port (h ∷ hs) = IsEnd port h ⊎ HeardEnd port hs
 
 abbrev pub HasGot : ℕ → List Happening → Type 0
 HasGot port [] = ⊥
@@ -157,3 +138,9 @@ module _ (old new : ℕ → Type 0) (n : ℕ) (e : Happening) (no_end : (port : 
   starts-more (Ended p ∷ es) k = starts-more es k
   starts-more (Sent p t ∷ es) k = starts-more es k
   starts-more (Learned p m ∷ es) k = starts-more es k
+
+-- one more is told: a start finds an input whose end wasn't heard
+pub wakes-more : (n : ℕ) (before es : List Happening) (e : Happening) → Wakes n before es → (IsStart e → (before ++ es ≡ []) ⊎ ((port : ℕ) × (port < n) × (HeardEnd port (before ++ es) → ⊥))) → Wakes n before (es ++ e ∷ [])
+wakes-more n before [] e w starts = ((λ s. rw append-nil at (starts s)), tt)
+wakes-more n before (f ∷ es) e w starts =
+    (w.0, wakes-more n (before ++ f ∷ []) es e w.1 (λ s. subst (λ (hs : List Happening). (hs ≡ []) ⊎ ((port : ℕ) × (port < n) × (HeardEnd port hs → ⊥))) (sym (append_assoc before (f ∷ []) es)) (starts s)))

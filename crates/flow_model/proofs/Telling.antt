@@ -14,7 +14,7 @@ use Rattle.flow_component.specs.declared.Fail.TheVariants as fails
 use Rattle.flow_component.specs.declared.Shape.{Shape}
 use Rattle.flow_component.specs.Laws.{Outcome, Wishes, Fails, Obeys, StaysReady}
 use Rattle.flow_component.specs.Happenings.{Happening, Started, Received, Ended, Sent, Learned}
-use Rattle.flow_component.specs.Runs.{Poise, fresh, content_got, EndIsLast}
+use Rattle.flow_component.specs.Runs.{Poise, fresh, content_got, EndIsLast, HeardEnd, IsEnd, IsStart, Wakes}
 use Rattle.flow_model.specs.declared.Stage.{Stage}
 use Rattle.flow_model.specs.declared.Stage.TheVariants as stages
 use Rattle.flow_model.specs.States.{Input, From, Text, Process, Channel, Kept, Past, State, outlets}
@@ -33,8 +33,8 @@ use Rattle.flow_model.proofs.Ready.{sound-hands}
 use Rattle.flow_model.proofs.Schedules.{Valid-turn, Valid-settles, Valid-work}
 use Rattle.flow_model.proofs.Start.{Valid-start}
 use Rattle.flow_model.proofs.Followings.{follows-event, follows-worked}
-use Rattle.flow_model.proofs.Exhausting.{IsDry, HoldsSome, Exhausted, dry, taken, Waits, packet_waits, text_waits, not-both, hears-exhausted, starts-first, finishes-later, start-waits, fresh-start, fresh-set, fresh-other, dry-after, some-after}
-use Rattle.flow_model.proofs.Hearing.{IsEnd, IsGot, HeardEnd, heard-more, last-more, StartsKeep, starts-kept, starts-same, starts-more}
+use Rattle.flow_model.proofs.Exhausting.{IsDry, HoldsSome, Exhausted, dry, taken, Waits, packet_waits, text_waits, not-both, hears-exhausted, starts-first, finishes-later, start-waits, start-finds, fresh-start, fresh-set, fresh-other, dry-after, some-after}
+use Rattle.flow_model.proofs.Hearing.{IsGot, heard-more, last-more, StartsKeep, starts-kept, starts-same, starts-more, wakes-more}
 
 -- Whether anything was told to a process that stands there.
 abbrev Begun : {K : Type 0} → Process K → List Happening → Stage → Type 0
@@ -160,6 +160,7 @@ pub record Tells {K : Type 0} (ready : K → Held → Answer → Type 0) (next :
   pub ends : (port : ℕ) → EndsForGood x port → HeardEnd port told → Exhausted channels x port
   pub last : (port : ℕ) → EndsForGood x port → EndIsLast port told
   pub brings : 0 < length x.inputs → StartsKeep (Waits channels x) (length x.inputs) told
+  pub wakes : Wakes (length x.inputs) [] told
 
 module _ {K : Type 0} (ready : K → Held → Answer → Type 0) (next : K → Held → Answer → Outcome K → Type 0) (parts : List K) (kept : Kept K) (p : ℕ) (x : Process K) (n : ℕ) (there : slice_get kept.processes p ≡ Some x) (senders : SendersOpen kept)
     (one : OneReceiver kept.processes) where
@@ -266,6 +267,27 @@ module _ {K : Type 0} (ready : K → Held → Answer → Type 0) (next : K → H
       let e = Closes o c in
       rw append-nil (starts-same (Waits kept.channels x) (Waits (channels_after kept.channels p e) (process_after x e)) (length x.inputs) (λ port w. keeps-waits e port (λ c i packet input h. cc) (λ text input f. f) w) told k)
 
+  -- a start but the first finds an input at which a packet waits
+  start-open : (told : List Happening) → event_of kept.channels x n ≡ Some Starts → Tells ready next parts kept.channels p told x → (told ≡ []) ⊎ ((port : ℕ) × (port < length x.inputs) × (HeardEnd port told → ⊥))
+  start-open told is was = by x.has_run refl
+    where
+      by : (b : Bool) → x.has_run ≡ b → (told ≡ []) ⊎ ((port : ℕ) × (port < length x.inputs) × (HeardEnd port told → ⊥))
+      by true ran =
+          let f = start-finds kept.channels x n is ran in
+          inr (f.port, f.within, λ ended. not-both kept.channels x f.port (was.ends f.port (inl (f.connection, f.input)) ended) (packet_waits f.connection f.input f.some))
+      by false ran = let idle = subst (Begun x told) (explains kept.channels x n Starts is) was.begun in inl (idle.0 ran)
+
+  wakes-after : (told : List Happening) (e : Event) → event_of kept.channels x n ≡ Some e → Tells ready next parts kept.channels p told x → Wakes (length x.inputs) [] (told ++ heard x e)
+  wakes-after told Starts is was = wakes-more (length x.inputs) [] told Started was.wakes (λ _. start-open told is was)
+  wakes-after told Finishes is was = rw append-nil was.wakes
+  wakes-after told (Gets i c packet) is was = wakes-more (length x.inputs) [] told (Received i packet) was.wakes (λ h. absurd h)
+  wakes-after told (Takes_text i text) is was = wakes-more (length x.inputs) [] told (Received i (packet_of (next_id x.held) kinds.Normal text [])) was.wakes (λ h. absurd h)
+  wakes-after told (Hears_end i) is was = wakes-more (length x.inputs) [] told (Ended i) was.wakes (λ h. absurd h)
+  wakes-after told (Sends i c packet) is was = wakes-more (length x.inputs) [] told (Sent i packet) was.wakes (λ h. absurd h)
+  wakes-after told (Learns i level) is was = wakes-more (length x.inputs) [] told (Learned i level) was.wakes (λ h. absurd h)
+  wakes-after told Sleeps is was = rw append-nil was.wakes
+  wakes-after told (Closes o c) is was = rw append-nil was.wakes
+
   -- the process that takes the turn
   pub Tells-own : (told : List Happening) (e : Event) → event_of kept.channels x n ≡ Some e → Tells ready next parts kept.channels p told x → Tells ready next parts (channels_after kept.channels p e) p (told ++ heard x e) (process_after x e)
   Tells-own told e is was =
@@ -278,6 +300,7 @@ module _ {K : Type 0} (ready : K → Held → Answer → Type 0) (next : K → H
         brings = λ some.
             subst (λ (m : ℕ). StartsKeep (Waits (channels_after kept.channels p e) (process_after x e)) m (told ++ heard x e)) (ap length (sym inputs))
             (brings-after told e is (subst (λ (m : ℕ). 0 < m) (ap length inputs) some) (was.brings (subst (λ (m : ℕ). 0 < m) (ap length inputs) some)));
+        wakes = subst (λ (m : ℕ). Wakes m [] (told ++ heard x e)) (ap length (sym inputs)) (wakes-after told e is was);
       }
 
   -- another process
@@ -289,6 +312,7 @@ module _ {K : Type 0} (ready : K → Held → Answer → Type 0) (next : K → H
     ends = λ port good ended. still port (was.ends port good ended);
     last = was.last;
     brings = λ some. starts-same (Waits kept.channels z) (Waits (channels_after kept.channels p e) z) (length z.inputs) (λ port w. waits-after kept.channels p z z e port refl (untaken port) (λ text input f. f) w) told (was.brings some);
+    wakes = was.wakes;
   }
     where
       still : (port : ℕ) → Exhausted kept.channels z port → Exhausted (channels_after kept.channels p e) z port
@@ -344,6 +368,7 @@ Tells-worked {K} ready next parts channels p told x answer (Wishes part held wis
       ends = λ port good ended. still port (was.ends port good ended);
       last = was.last;
       brings = λ some. starts-same (Waits channels x) (Waits channels y) (length x.inputs) waits told (was.brings some);
+      wakes = was.wakes;
     }
   where
     still : (port : ℕ) → Exhausted channels x port → Exhausted channels (worked x (Wishes part held wish)) port
@@ -361,6 +386,7 @@ Tells-worked {K} ready next parts channels p told x answer (Fails part held caus
       ends = λ port good ended. still port (was.ends port good ended);
       last = was.last;
       brings = λ some. starts-same (Waits channels x) (Waits channels y) (length x.inputs) waits told (was.brings some);
+      wakes = was.wakes;
     }
   where
     still : (port : ℕ) → Exhausted channels x port → Exhausted channels (worked x (Fails part held cause)) port
@@ -415,6 +441,7 @@ AllTell-start {K} ready next plan parts p x is = record {
   ends = λ port good ended. absurd ended;
   last = λ port good. tt;
   brings = λ some. tt;
+  wakes = tt;
 }
 
 -- along every schedule, of components that keep the laws
@@ -452,5 +479,6 @@ Tells-run ready next parts channels p told x part at t = record {
   follows = t.follows part at;
   end_is_last = t.last;
   starts_bring = λ some. starts-kept (Waits channels x) (length x.inputs) told (t.brings some);
+  wakes = t.wakes;
   has_run = λ none ended. subst (Begun x told) ended t.begun none;
 }

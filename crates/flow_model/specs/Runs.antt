@@ -9,7 +9,7 @@ use Rattle.flow_component.specs.declared.Wish.TheVariants as wishes
 use Rattle.flow_component.specs.declared.Shape.{Shape}
 use Rattle.flow_component.specs.Laws.{Outcome}
 use Rattle.flow_component.specs.Happenings.{Happening, answer_of}
-use Rattle.flow_component.specs.Runs.{Poise, fresh, Grants, Runs, EndIsLast, StartsBring}
+use Rattle.flow_component.specs.Runs.{Poise, fresh, Grants, Runs, EndIsLast, StartsBring, Wakes}
 use Rattle.flow_model.specs.declared.Stage.{Stage}
 use Rattle.flow_model.specs.declared.Stage.TheVariants as stages
 use Rattle.flow_model.specs.States.{Input, From, Process, State}
@@ -57,6 +57,8 @@ pub record HasRun {K : Type 0} (ready : K → Held → Answer → Type 0) (next 
   pub end_is_last : (port : ℕ) → EndsForGood x port → EndIsLast port told
   -- where it has inputs, each start brings something at one of them before its end
   pub starts_bring : 0 < length x.inputs → StartsBring (length x.inputs) told
+  -- each start but the first finds an input whose end wasn't heard
+  pub wakes : Wakes (length x.inputs) [] told
   -- where no input is connected it has run before it ends
   pub has_run : NoneConnected x → x.stage ≡ stages.Ended → told ≢ []
 
