@@ -9,7 +9,7 @@ use Rattle.flow_component.specs.declared.Wish.TheVariants as wishes
 use Rattle.flow_model.specs.declared.Stage.{Stage}
 use Rattle.flow_model.specs.declared.Stage.TheVariants as stages
 use Rattle.flow_model.specs.States.{Sender, Input, From, Text, Process, Channel, Kept, output_at, without_sender, change_at, changed}
-use Rattle.flow_model.specs.Events.{Event, Starts, Finishes, Gets, Takes_text, Hears_end, Sends, Learns, Sleeps, Closes, Look, look, looks, event_of, stage_event, idle_event, receive_event, received_from, received, is_fresh, is_connected, has_packet, has_ended, can_start, passes, holds_packet, is_empty}
+use Rattle.flow_model.specs.Events.{Event, Starts, Finishes, Gets, Takes_text, Hears_end, Sends, Learns, Sleeps, Closes, Look, look, looks, event_of, stage_event, idle_event, receive_event, received_from, received, is_fresh, is_connected, has_packet, has_ended, can_start, passes, holds_packet, is_empty, is_over}
 use Rattle.flow_model.specs.Turns.{process_after, channel_after, channels_after}
 use Rattle.flow_model.specs.Valid.{SendersOpen, HasToClose}
 use Rattle.flow_model.specs.Runs.{NoneConnected, EndsForGood}
@@ -68,6 +68,17 @@ module _ {K : Type 0} (channels : List Channel) (x : Process K) (n : ℕ) where
       let e : idle_event (looks channels) x ≡ Some Starts = subst (λ (stage : Stage). stage_event (looks channels) x n stage ≡ Some Starts) at is in
       (idle-starts (can_start (looks channels) x) (list_all (has_ended (looks channels)) x.inputs) Starts e).0 refl
 
+  pub finishes-all : event_of channels x n ≡ Some Finishes → list_all (has_ended (looks channels)) x.inputs ≡ true
+  finishes-all is =
+      let at = explains channels x n Finishes is in
+      let e : idle_event (looks channels) x ≡ Some Finishes = subst (λ (stage : Stage). stage_event (looks channels) x n stage ≡ Some Finishes) at is in
+      by (can_start (looks channels) x) (list_all (has_ended (looks channels)) x.inputs) e
+    where
+      by : (a b : Bool) → cond a (Some Starts) (cond b (Some Finishes) None) ≡ Some Finishes → b ≡ true
+      by true b is = absurd (cc)
+      by false true is = refl
+      by false false is = absurd (cc)
+
   pub finishes-cannot : event_of channels x n ≡ Some Finishes → can_start (looks channels) x ≡ false
   finishes-cannot is =
       let at = explains channels x n Finishes is in
@@ -102,6 +113,31 @@ module _ {K : Type 0} (channels : List Channel) (x : Process K) (n : ℕ) where
       let at = explains channels x n (Hears_end port) is in
       let e : receive_event (looks channels) x at.wished.0 (slice_get x.inputs at.wished.0) ≡ Some (Hears_end port) = subst (λ (stage : Stage). stage_event (looks channels) x n stage ≡ Some (Hears_end port)) at.stage is in
       hears-at port (slice_get x.inputs port) refl (subst (λ (i : ℕ). receive_event (looks channels) x i (slice_get x.inputs i) ≡ Some (Hears_end port)) at.names e)
+
+and-both : (a b : Bool) → (a && b) ≡ true → (a ≡ true) × (b ≡ true)
+and-both true true is = (refl, refl)
+and-both true false is = absurd (cc)
+and-both false b is = absurd (cc)
+
+over-dry : (channels : List Channel) (c : ℕ) (channel : Channel) → slice_get channels c ≡ Some channel → (packets : List Tree) (senders : List Sender) → channel.packets ≡ packets → channel.open_senders ≡ senders
+    → (is_empty packets && nat_eq (length senders) 0) ≡ true → IsDry channels c
+over-dry channels c channel there [] [] has closed is = record { channel = channel; there = there; empty = has; closed = closed }
+over-dry channels c channel there [] (sender ∷ senders) has closed is = absurd (let z : nat_eq (length (sender ∷ senders)) 0 ≡ false = grind (arith, nat_tests) in let h : false ≡ true = rw z at is in cc)
+over-dry channels c channel there (packet ∷ packets) senders has closed is = absurd (cc)
+
+ended-look : (channels : List Channel) (c : ℕ) (found : Option Look) → slice_get (looks channels) c ≡ found → passes is_over found ≡ true → IsDry channels c
+ended-look channels c (Some l) there is =
+    let seen = seen-there channels c l there in
+    over-dry channels c seen.0 seen.1 seen.0.packets seen.0.open_senders refl refl (ap is_over seen.2 ∙ is)
+ended-look channels c None there is = absurd (cc)
+
+-- where all inputs are over each connected one is dry
+pub all-dry : (channels : List Channel) (inputs : List Input) → list_all (has_ended (looks channels)) inputs ≡ true → (port c : ℕ) → slice_get inputs port ≡ Some (From c) → IsDry channels c
+all-dry channels [] is port c at = absurd (cc)
+all-dry channels (i ∷ inputs) is zero c at =
+    let same : i ≡ From c = cc in
+    ended-look channels c (slice_get (looks channels) c) refl (ap (has_ended (looks channels)) (sym same) ∙ (and-both (has_ended (looks channels) i) (list_all (has_ended (looks channels)) inputs) is).0)
+all-dry channels (i ∷ inputs) is (suc port) c at = all-dry channels inputs (and-both (has_ended (looks channels) i) (list_all (has_ended (looks channels)) inputs) is).1 port c at
 
 -- Where no input is connected none holds a packet.
 none-holds : (ls : List Look) (inputs : List Input) → list_any is_connected inputs ≡ false → list_any (has_packet ls) inputs ≡ false

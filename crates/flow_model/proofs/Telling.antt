@@ -1,5 +1,5 @@
 -- What each process was told is a run of its component, ends stand and starts bring something: so it is at the start, and turns and works keep it so.
-use Rattle.std.proofs.Common.{◌≡◌, ◌≢◌, ℕ, ◌+◌, ◌*◌, ◌<◌, ◌≤◌, Bool, true, false, List, [], ◌∷◌, ◌++◌, length, Option, Some, None, refl, sym, ap, ◌∙◌, subst, cond, nat_eq, nat_lt, arith, ◌⊎◌, inl, inr, slice_get, slice_set, slice_index, append-nil, ◌==◌, zero, suc}
+use Rattle.std.proofs.Common.{◌≡◌, ◌≢◌, ℕ, ◌+◌, ◌*◌, ◌<◌, ◌≤◌, Bool, true, false, List, [], ◌∷◌, ◌++◌, length, map, Option, Some, None, refl, sym, ap, ◌∙◌, subst, cond, nat_eq, nat_lt, arith, ◌⊎◌, inl, inr, slice_get, slice_set, slice_index, append-nil, ◌==◌, zero, suc}
 use Rattle.std.proofs.lemmas.Bool.Decides.{nat_tests}
 use Rattle.flow_packet.specs.declared.packet.Kind.TheVariants as kinds
 use Rattle.flow_packet.specs.Tree.{Tree, id_of, kind_of, packet_of}
@@ -17,15 +17,15 @@ use Rattle.flow_component.specs.Happenings.{Happening, Started, Received, Ended,
 use Rattle.flow_component.specs.Runs.{Poise, fresh, content_got, EndIsLast, HeardEnd, IsEnd, IsStart, Wakes}
 use Rattle.flow_model.specs.declared.Stage.{Stage}
 use Rattle.flow_model.specs.declared.Stage.TheVariants as stages
-use Rattle.flow_model.specs.States.{Input, From, Text, Process, Channel, Kept, Past, State, outlets}
+use Rattle.flow_model.specs.States.{Input, From, Text, Process, Channel, Kept, Past, State, outlets, got_at, entry_of}
 use Rattle.flow_model.specs.Events.{Event, Starts, Finishes, Gets, Takes_text, Hears_end, Sends, Learns, Sleeps, Closes, event_of, is_fresh}
 use Rattle.flow_model.specs.Turns.{process_after, channels_after, heard, past_after, limited, closing, closing_on, turn_limit, Turn}
 use Rattle.flow_model.specs.Works.{judged, sending, nests, worked, Work}
 use Rattle.flow_model.specs.Schedules.{Settles, LeadsBy, Leads, Journal, Step, Turned, Worked, Reaches}
 use Rattle.flow_model.specs.Plans.{Plan, PlanProcess, process_at_start, processes_at_start, start_of, StartsWell}
-use Rattle.flow_model.specs.Order.{connection_of, input_of}
+use Rattle.flow_model.specs.Order.{connection_of, input_of, packets_at, InOrder}
 use Rattle.flow_model.specs.Valid.{Valid, OneReceiver, SendersOpen, ReadyAt}
-use Rattle.flow_model.specs.Runs.{Follows, IsPending, NoneConnected, EndsForGood, HasRun}
+use Rattle.flow_model.specs.Runs.{Follows, IsPending, NoneConnected, EndsForGood, HasRun, EndedGotAll}
 use Rattle.flow_model.proofs.Lists.{slice_get-set_same, slice_get-set_other, same_or_not}
 use Rattle.flow_model.proofs.Inverse.{explains}
 use Rattle.flow_model.proofs.Order.{inputs-after}
@@ -33,7 +33,7 @@ use Rattle.flow_model.proofs.Ready.{sound-hands}
 use Rattle.flow_model.proofs.Schedules.{Valid-turn, Valid-settles, Valid-work}
 use Rattle.flow_model.proofs.Start.{Valid-start}
 use Rattle.flow_model.proofs.Followings.{follows-event, follows-worked}
-use Rattle.flow_model.proofs.Exhausting.{IsDry, HoldsSome, Exhausted, dry, taken, Waits, packet_waits, text_waits, not-both, hears-exhausted, starts-first, finishes-later, start-waits, start-finds, fresh-start, fresh-set, fresh-other, dry-after, some-after}
+use Rattle.flow_model.proofs.Exhausting.{IsDry, HoldsSome, Exhausted, dry, taken, Waits, packet_waits, text_waits, not-both, hears-exhausted, starts-first, finishes-later, start-waits, start-finds, fresh-start, fresh-set, fresh-other, dry-after, some-after, finishes-all, all-dry}
 use Rattle.flow_model.proofs.Hearing.{IsGot, heard-more, last-more, StartsKeep, starts-kept, starts-same, starts-more, wakes-more}
 
 -- Whether anything was told to a process that stands there.
@@ -93,6 +93,59 @@ begun-event channels x n told (Closes output c) is was =
     let some : NoneConnected x → told ≢ [] = subst (Begun x told) at.stage was in
     let y = process_after x (Closes output c) in
     rw append-nil (begun-limited y told (x.turns + 1) (closing_on x x.stage) (subst (λ (stage : Stage). Begun y told (closing_on x stage)) (sym at.stage) (begun-closing y x told (at.i + 1) some)))
+
+-- It has nothing to do any more but to close.
+abbrev pub IsOverStage : Stage → Type 0
+IsOverStage stages.Idle = ⊥
+IsOverStage (stages.Told answer) = ⊥
+IsOverStage (stages.Wishing wish) = ⊥
+IsOverStage (stages.Closing i) = Unit {0}
+IsOverStage stages.Ended = Unit {0}
+IsOverStage (stages.Failed cause) = ⊥
+
+at-work : (n : ℕ) (answer : Answer) → IsOverStage (limited n (stages.Told answer)) → ⊥
+at-work n answer is = by (n == turn_limit) is
+  where
+    by : (b : Bool) → IsOverStage (cond b (stages.Failed fails.TurnLimit) (stages.Told answer)) → ⊥
+    by true is = is
+    by false is = is
+
+asleep : (n : ℕ) → IsOverStage (limited n stages.Idle) → ⊥
+asleep n is = by (n == turn_limit) is
+  where
+    by : (b : Bool) → IsOverStage (cond b (stages.Failed fails.TurnLimit) stages.Idle) → ⊥
+    by true is = is
+    by false is = is
+
+-- where a process is over after a turn, it was over, or it has just finished
+over-before : {K : Type 0} (channels : List Channel) (x : Process K) (n : ℕ) (e : Event) → event_of channels x n ≡ Some e → IsOverStage (process_after x e).stage → IsOverStage x.stage ⊎ (e ≡ Finishes)
+over-before channels x n Starts is over = absurd (at-work (x.turns + 1) answers.Start over)
+over-before channels x n Finishes is over = inr refl
+over-before channels x n (Gets port c packet) is over = absurd (at-work (x.turns + 1) (answers.Got (id_of packet)) over)
+over-before channels x n (Takes_text port text) is over = absurd (at-work (x.turns + 1) (answers.Got (next_id x.held)) over)
+over-before channels x n (Hears_end port) is over = absurd (at-work (x.turns + 1) answers.End over)
+over-before channels x n (Sends port c packet) is over = absurd (at-work (x.turns + 1) answers.Sent over)
+over-before channels x n (Learns port level) is over = absurd (at-work (x.turns + 1) (answers.Level level) over)
+over-before channels x n Sleeps is over = absurd (asleep (x.turns + 1) over)
+over-before channels x n (Closes output c) is over = let at = explains channels x n (Closes output c) is in inl (subst IsOverStage (sym at.stage) tt)
+
+judged-works : (depths : List ℕ) (held : Held) (wish : Wish) → IsOverStage (judged depths held wish) → ⊥
+judged-works depths held (wishes.Receive port) is = by (nat_lt (length held.packets) hands_limit) is
+  where
+    by : (b : Bool) → IsOverStage (cond b (stages.Wishing (wishes.Receive port)) (stages.Failed fails.HandsLimit)) → ⊥
+    by true is = is
+    by false is = is
+judged-works depths held (wishes.Send port id) is = by (packet_at held.packets id) is
+  where
+    by-nests : (b : Bool) → IsOverStage (cond b (stages.Wishing (wishes.Send port id)) (stages.Failed (fails.Unnested port))) → ⊥
+    by-nests true is = is
+    by-nests false is = is
+
+    by : (found : Option Tree) → IsOverStage (sending depths port id found) → ⊥
+    by None is = is
+    by (Some packet) is = by-nests (nests (kind_of packet) (slice_index depths port.0)) is
+judged-works depths held (wishes.Level port) is = is
+judged-works depths held wishes.Deactivate is = is
 
 begun-judged : {K : Type 0} (y : Process K) (told : List Happening) (depths : List ℕ) (held : Held) (wish : Wish) → told ≢ [] → Begun y told (judged depths held wish)
 begun-judged y told depths held (wishes.Receive port) some = by (nat_lt (length held.packets) hands_limit)
@@ -161,6 +214,7 @@ pub record Tells {K : Type 0} (ready : K → Held → Answer → Type 0) (next :
   pub last : (port : ℕ) → EndsForGood x port → EndIsLast port told
   pub brings : 0 < length x.inputs → StartsKeep (Waits channels x) (length x.inputs) told
   pub wakes : Wakes (length x.inputs) [] told
+  pub over : IsOverStage x.stage → (port c : ℕ) → slice_get x.inputs port ≡ Some (From c) → IsDry channels c
 
 module _ {K : Type 0} (ready : K → Held → Answer → Type 0) (next : K → Held → Answer → Outcome K → Type 0) (parts : List K) (kept : Kept K) (p : ℕ) (x : Process K) (n : ℕ) (there : slice_get kept.processes p ≡ Some x) (senders : SendersOpen kept)
     (one : OneReceiver kept.processes) where
@@ -288,6 +342,13 @@ module _ {K : Type 0} (ready : K → Held → Answer → Type 0) (next : K → H
   wakes-after told Sleeps is was = rw append-nil was.wakes
   wakes-after told (Closes o c) is was = rw append-nil was.wakes
 
+  over-after : (told : List Happening) (e : Event) → event_of kept.channels x n ≡ Some e → Tells ready next parts kept.channels p told x → IsOverStage (process_after x e).stage → (port c : ℕ) → slice_get x.inputs port ≡ Some (From c)
+      → IsDry (channels_after kept.channels p e) c
+  over-after told e is was over port c input = dry-after kept p x n there senders e is c (elim (over-before kept.channels x n e is over) [
+    | inl old ↦ was.over old port c input
+    | inr new ↦ all-dry kept.channels x.inputs (finishes-all kept.channels x n (is ∙ ap Some new)) port c input
+  ])
+
   -- the process that takes the turn
   pub Tells-own : (told : List Happening) (e : Event) → event_of kept.channels x n ≡ Some e → Tells ready next parts kept.channels p told x → Tells ready next parts (channels_after kept.channels p e) p (told ++ heard x e) (process_after x e)
   Tells-own told e is was =
@@ -301,6 +362,7 @@ module _ {K : Type 0} (ready : K → Held → Answer → Type 0) (next : K → H
             subst (λ (m : ℕ). StartsKeep (Waits (channels_after kept.channels p e) (process_after x e)) m (told ++ heard x e)) (ap length (sym inputs))
             (brings-after told e is (subst (λ (m : ℕ). 0 < m) (ap length inputs) some) (was.brings (subst (λ (m : ℕ). 0 < m) (ap length inputs) some)));
         wakes = subst (λ (m : ℕ). Wakes m [] (told ++ heard x e)) (ap length (sym inputs)) (wakes-after told e is was);
+        over = λ over port c input. over-after told e is was over port c (ap (λ (is : List Input). slice_get is port) (sym inputs) ∙ input);
       }
 
   -- another process
@@ -313,6 +375,7 @@ module _ {K : Type 0} (ready : K → Held → Answer → Type 0) (next : K → H
     last = was.last;
     brings = λ some. starts-same (Waits kept.channels z) (Waits (channels_after kept.channels p e) z) (length z.inputs) (λ port w. waits-after kept.channels p z z e port refl (untaken port) (λ text input f. f) w) told (was.brings some);
     wakes = was.wakes;
+    over = λ over port c input. dry-after kept p x n there senders e is c (was.over over port c input);
   }
     where
       still : (port : ℕ) → Exhausted kept.channels z port → Exhausted (channels_after kept.channels p e) z port
@@ -369,6 +432,7 @@ Tells-worked {K} ready next parts channels p told x answer (Wishes part held wis
       last = was.last;
       brings = λ some. starts-same (Waits channels x) (Waits channels y) (length x.inputs) waits told (was.brings some);
       wakes = was.wakes;
+      over = λ over. absurd (judged-works x.depths held wish over);
     }
   where
     still : (port : ℕ) → Exhausted channels x port → Exhausted channels (worked x (Wishes part held wish)) port
@@ -387,6 +451,7 @@ Tells-worked {K} ready next parts channels p told x answer (Fails part held caus
       last = was.last;
       brings = λ some. starts-same (Waits channels x) (Waits channels y) (length x.inputs) waits told (was.brings some);
       wakes = was.wakes;
+      over = λ over. absurd over;
     }
   where
     still : (port : ℕ) → Exhausted channels x port → Exhausted channels (worked x (Fails part held cause)) port
@@ -442,6 +507,7 @@ AllTell-start {K} ready next plan parts p x is = record {
   last = λ port good. tt;
   brings = λ some. tt;
   wakes = tt;
+  over = λ over. absurd (let start = Rattle.flow_model.proofs.Start.start-process plan parts p x is in let h : x.stage ≡ stages.Idle = ap (λ (z : Process K). z.stage) start.is in subst IsOverStage h over);
 }
 
 -- along every schedule, of components that keep the laws
@@ -482,3 +548,11 @@ Tells-run ready next parts channels p told x part at t = record {
   wakes = t.wakes;
   has_run = λ none ended. subst (Begun x told) ended t.begun none;
 }
+
+-- a process that has ended got all that was put
+pub got-all : {K : Type 0} (ready : K → Held → Answer → Type 0) (next : K → Held → Answer → Outcome K → Type 0) (parts : List K) (s : State K) → InOrder s → AllTell ready next parts s → EndedGotAll s
+got-all ready next parts s order all p port c x there ended input =
+    let dry = (all p x there).over (subst IsOverStage (sym ended) tt) port c input in
+    let none : packets_at (slice_get s.kept.channels c) ≡ [] = ap packets_at dry.there ∙ dry.empty in
+    let put = order.received p port c (ap (input_of port) there ∙ ap connection_of input) in
+    put ∙ ap (λ (ts : List Tree). got_at s.past p port ++ map entry_of ts) none ∙ append-nil (got_at s.past p port)

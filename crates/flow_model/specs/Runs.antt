@@ -12,10 +12,11 @@ use Rattle.flow_component.specs.Happenings.{Happening, answer_of}
 use Rattle.flow_component.specs.Runs.{Poise, fresh, Grants, Runs, EndIsLast, StartsBring, Wakes}
 use Rattle.flow_model.specs.declared.Stage.{Stage}
 use Rattle.flow_model.specs.declared.Stage.TheVariants as stages
-use Rattle.flow_model.specs.States.{Input, From, Process, State}
+use Rattle.flow_model.specs.States.{Input, From, Process, State, got_at}
 use Rattle.flow_model.specs.Events.{is_connected}
 use Rattle.flow_model.specs.Schedules.{Journal, Leads, Step, Reaches}
 use Rattle.flow_model.specs.Plans.{Plan, start_of, StartsWell}
+use Rattle.flow_model.specs.Order.{entries}
 
 -- A process between answers, with its wish. Before its start, and while it sleeps or closes, it stands as one that has deactivated.
 abbrev pub poise : {K : Type 0} → Process K → Wish → Poise K
@@ -73,3 +74,12 @@ abbrev pub KeepsRunsOpen : {K : Type 0} → (K → Shape) → (K → ℕ → Boo
 KeepsRunsOpen {K} shape_of uses ready next =
     (plan : Plan) (parts : List K) (steps : List Step) (s : State K) → StartsWell shape_of uses ready plan parts → Reaches next (start_of plan parts) steps s
     → (p : ℕ) (part : K) (x : Process K) → slice_get parts p ≡ Some part → slice_get s.kept.processes p ≡ Some x → HasRun ready next part p (s.past.told p) x
+
+-- A process that has ended got, at each connected input, all that was put into the connection there.
+abbrev pub EndedGotAll : {K : Type 0} → State K → Type 0
+EndedGotAll {K} s =
+    (p port c : ℕ) (x : Process K) → slice_get s.kept.processes p ≡ Some x → x.stage ≡ stages.Ended → slice_get x.inputs port ≡ Some (From c) → entries (s.past.put c) ≡ got_at s.past p port
+
+-- So it is after every schedule from a start.
+abbrev pub KeepsGotAll : {K : Type 0} → (K → Shape) → (K → ℕ → Bool) → (K → Held → Answer → Type 0) → (K → Held → Answer → Outcome K → Type 0) → Type 0
+KeepsGotAll {K} shape_of uses ready next = (plan : Plan) (parts : List K) (journal : Journal) (s : State K) → StartsWell shape_of uses ready plan parts → Leads next (start_of plan parts) journal s → EndedGotAll s

@@ -1,6 +1,6 @@
 //! What holds of every schedule: each law is the contract of a function that does nothing.
 ghost use Rattle.flow_model.specs.Laws.{KeepsPackets, KeepsOrder, KeepsPrefixes, KeepsOpen, KeepsFew, HasOneVerdict, KeepsOpenSenders, LeavesClosed, KeepsTotals, RoundRobinLeads, IsOneRoundRobin, HasPrefixes, TurnsAreSchedule};
-ghost use Rattle.flow_model.specs.Runs.{KeepsRuns, KeepsRunsOpen};
+ghost use Rattle.flow_model.specs.Runs.{KeepsRuns, KeepsRunsOpen, KeepsGotAll};
 
 use flow_component::Component;
 
@@ -57,8 +57,10 @@ pub fn turns_and_works_are_schedules<K: Component>()
 
 /// After every schedule from such a start, and after every list of turns and works, what each process was told is a run of its
 /// component from its first state. An end that it heard stands, each start brings something, and a process that nothing can wake has
-/// run before it ends. So what a component makes of its streams is told by its runs alone.
+/// run before it ends; one that has ended got all that was put into the connections at its inputs. So what a component makes of its
+/// streams is told by its runs alone.
 pub fn every_process_has_run<K: Component>()
     ensures schedules { KeepsRuns K.shape_of K.uses K.ready K.next }
     ensures while_open { KeepsRunsOpen K.shape_of K.uses K.ready K.next }
+    ensures got_all { KeepsGotAll K.shape_of K.uses K.ready K.next }
 {}
