@@ -48,6 +48,10 @@ abbrev pub Runs : {K : Type 0} → (K → Held → Answer → Type 0) → (K →
 Runs ready next p [] q = q ≡ p
 Runs {K} ready next p (happening ∷ happenings) q = (m : Poise K) × Steps ready next p happening m × Runs ready next m happenings q
 
+-- A Normal packet with this text and no chains, as content.
+abbrev pub text_packet : List ℕ → Tree
+text_packet text = packet_of 0 kinds.Normal text []
+
 -- The content of the packet that was got at this input, or sent at this output, by one happening.
 abbrev pub content_got : ℕ → Happening → List Tree
 content_got port Started = []

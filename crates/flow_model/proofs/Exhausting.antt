@@ -213,6 +213,14 @@ fresh-set (f ∷ fresh) (suc at) (suc port) is = fresh-set fresh at port is
 pub fresh-other : (fresh : List Bool) (at port : ℕ) → port ≢ at → unwrap_or (slice_get fresh port) false ≡ true → unwrap_or (slice_get (slice_set fresh at false) port) false ≡ true
 fresh-other fresh at port other is = ap (λ o. unwrap_or o false) (slice_get-set_other fresh at port false other) ∙ is
 
+pub fresh-gone : (fresh : List Bool) (at : ℕ) → unwrap_or (slice_get (slice_set fresh at false) at) false ≡ false
+fresh-gone [] at = refl
+fresh-gone (f ∷ fresh) zero = refl
+fresh-gone (f ∷ fresh) (suc at) = fresh-gone fresh at
+
+pub fresh-apart : (fresh : List Bool) (at port : ℕ) → port ≢ at → unwrap_or (slice_get (slice_set fresh at false) port) false ≡ unwrap_or (slice_get fresh port) false
+fresh-apart fresh at port other = ap (λ o. unwrap_or o false) (slice_get-set_other fresh at port false other)
+
 first-text : (inputs : List Input) → 0 < length inputs → list_any is_connected inputs ≡ false → (text : List ℕ) × (slice_get inputs 0 ≡ Some (Text text))
 first-text [] some none = absurd (omega arith)
 first-text (From c ∷ inputs) some none = absurd (cc)

@@ -14,7 +14,8 @@ use Rattle.flow_component.specs.declared.Fail.TheVariants as fails
 use Rattle.flow_component.specs.declared.Shape.{Shape}
 use Rattle.flow_component.specs.Laws.{Outcome, Wishes, Fails, Obeys, StaysReady}
 use Rattle.flow_component.specs.Happenings.{Happening, Started, Received, Ended, Sent, Learned}
-use Rattle.flow_component.specs.Runs.{Poise, fresh, content_got, EndIsLast, HeardEnd, IsEnd, IsStart, Wakes}
+use Rattle.flow_component.specs.Runs.{Poise, fresh, content_got, EndIsLast, HeardEnd, IsEnd, IsStart, Wakes, got, text_packet}
+use Rattle.flow_component.proofs.Streams.{got-more}
 use Rattle.flow_model.specs.declared.Stage.{Stage}
 use Rattle.flow_model.specs.declared.Stage.TheVariants as stages
 use Rattle.flow_model.specs.States.{Input, From, Text, Process, Channel, Kept, Past, State, outlets, got_at, entry_of}
@@ -33,7 +34,7 @@ use Rattle.flow_model.proofs.Ready.{sound-hands}
 use Rattle.flow_model.proofs.Schedules.{Valid-turn, Valid-settles, Valid-work}
 use Rattle.flow_model.proofs.Start.{Valid-start}
 use Rattle.flow_model.proofs.Followings.{follows-event, follows-worked}
-use Rattle.flow_model.proofs.Exhausting.{IsDry, HoldsSome, Exhausted, dry, taken, Waits, packet_waits, text_waits, not-both, hears-exhausted, starts-first, finishes-later, start-waits, start-finds, fresh-start, fresh-set, fresh-other, dry-after, some-after, finishes-all, all-dry}
+use Rattle.flow_model.proofs.Exhausting.{IsDry, HoldsSome, Exhausted, dry, taken, Waits, packet_waits, text_waits, not-both, hears-exhausted, starts-first, finishes-later, start-waits, start-finds, fresh-start, fresh-set, fresh-other, fresh-gone, fresh-apart, dry-after, some-after, finishes-all, all-dry}
 use Rattle.flow_model.proofs.Hearing.{IsGot, heard-more, last-more, StartsKeep, starts-kept, starts-same, starts-more, wakes-more}
 
 -- Whether anything was told to a process that stands there.
@@ -206,6 +207,16 @@ waits-after channels p x y e port inputs untaken fresh (text_waits text input f)
 not_got : (port i : ℕ) (t : Tree) → port ≢ i → content_got port (Received i t) ≡ []
 not_got port i t other = let z : nat_eq port i ≡ false = grind (arith, nat_tests) in rw z refl
 
+-- What was got at an input with an initial text: nothing while it is fresh, then the text.
+abbrev TextIs : List Happening → ℕ → List ℕ → Bool → Type 0
+TextIs told port text fresh = (fresh ≡ true → got port told ≡ []) × (fresh ≡ false → told ≢ [] → got port told ≡ text_packet text ∷ [])
+
+text-quiet : (told : List Happening) (h : Happening) (port : ℕ) (text : List ℕ) (fresh : Bool) → content_got port h ≡ [] → told ≢ [] → TextIs told port text fresh → TextIs (told ++ h ∷ []) port text fresh
+text-quiet told h port text fresh none some is = (λ f. same ∙ is.0 f, λ f _. same ∙ is.1 f some)
+  where
+    same : got port (told ++ h ∷ []) ≡ got port told
+    same = got-more port told h ∙ ap (λ ts. got port told ++ ts) none ∙ append-nil (got port told)
+
 -- What a process was told, at any moment.
 pub record Tells {K : Type 0} (ready : K → Held → Answer → Type 0) (next : K → Held → Answer → Outcome K → Type 0) (parts : List K) (channels : List Channel) (p : ℕ) (told : List Happening) (x : Process K) : Type 0 where
   pub follows : (part : K) → slice_get parts p ≡ Some part → Follows ready next (fresh part p) told x x.stage
@@ -214,6 +225,7 @@ pub record Tells {K : Type 0} (ready : K → Held → Answer → Type 0) (next :
   pub last : (port : ℕ) → EndsForGood x port → EndIsLast port told
   pub brings : 0 < length x.inputs → StartsKeep (Waits channels x) (length x.inputs) told
   pub wakes : Wakes (length x.inputs) [] told
+  pub texts : NoneConnected x → (port : ℕ) (text : List ℕ) → slice_get x.inputs port ≡ Some (Text text) → TextIs told port text (is_fresh x port)
   pub over : IsOverStage x.stage → (port c : ℕ) → slice_get x.inputs port ≡ Some (From c) → IsDry channels c
 
 module _ {K : Type 0} (ready : K → Held → Answer → Type 0) (next : K → Held → Answer → Outcome K → Type 0) (parts : List K) (kept : Kept K) (p : ℕ) (x : Process K) (n : ℕ) (there : slice_get kept.processes p ≡ Some x) (senders : SendersOpen kept)
@@ -342,6 +354,50 @@ module _ {K : Type 0} (ready : K → Held → Answer → Type 0) (next : K → H
   wakes-after told Sleeps is was = rw append-nil was.wakes
   wakes-after told (Closes o c) is was = rw append-nil was.wakes
 
+  wished : (told : List Happening) (wish : Wish) → x.stage ≡ stages.Wishing wish → Tells ready next parts kept.channels p told x → told ≢ []
+  wished told wish at was = subst (Begun x told) at was.begun
+
+  texts-after : (told : List Happening) (e : Event) → event_of kept.channels x n ≡ Some e → Tells ready next parts kept.channels p told x → NoneConnected x → (port : ℕ) (text : List ℕ) → slice_get x.inputs port ≡ Some (Text text)
+      → TextIs (told ++ heard x e) port text (is_fresh (process_after x e) port)
+  texts-after told Starts is was none port text input =
+      let idle = subst (Begun x told) (explains kept.channels x n Starts is) was.begun in
+      let empty : told ≡ [] = idle.0 (starts-first kept.channels x n none is) in
+      let fresh : is_fresh (process_after x Starts) port ≡ true = fresh-start x.inputs port text input in (
+        λ f. ap (λ (hs : List Happening). got port (hs ++ Started ∷ [])) empty,
+        λ f some. absurd (let h : true ≡ false = sym fresh ∙ f in cc),
+      )
+  texts-after told Finishes is was none port text input = rw append-nil (was.texts none port text input)
+  texts-after told (Gets i c packet) is was none port text input =
+      let from = explains kept.channels x n (Gets i c packet) is in
+      let apart : port ≢ i = λ same. (let h : Some (Text text) ≡ Some (From c) = sym input ∙ ap (slice_get x.inputs) same ∙ from.input in cc) in
+      text-quiet told (Received i packet) port text (is_fresh x port) (not_got port i packet apart) (wished told (wishes.Receive from.wished) from.stage was) (was.texts none port text input)
+  texts-after told (Takes_text i other) is was none port text input =
+      let from = explains kept.channels x n (Takes_text i other) is in
+      let packet = packet_of (next_id x.held) kinds.Normal other [] in
+      elim (same_or_not port i) [
+        | inl same ↦ (let h : Some (Text text) ≡ Some (Text other) = sym input ∙ ap (slice_get x.inputs) same ∙ from.input in
+            let words : text ≡ other = cc in
+            let before : got port told ≡ [] = (was.texts none port text input).0 (ap (is_fresh x) same ∙ from.fresh) in
+            let t : nat_eq port i ≡ true = grind (arith, nat_tests) in
+            let now : content_got port (Received i packet) ≡ text_packet text ∷ [] = rw (t, words) refl in
+            let all : got port (told ++ Received i packet ∷ []) ≡ text_packet text ∷ [] = got-more port told (Received i packet) ∙ (λ j. before j ++ now j) in
+            let gone : is_fresh (process_after x (Takes_text i other)) port ≡ false = ap (is_fresh (process_after x (Takes_text i other))) same ∙ fresh-gone x.fresh i in
+            ((λ f. absurd (let k : true ≡ false = sym f ∙ gone in cc)), (λ f some. all)))
+        | inr apart ↦ subst (TextIs (told ++ Received i packet ∷ []) port text) (sym (fresh-apart x.fresh i port apart))
+            (text-quiet told (Received i packet) port text (is_fresh x port) (not_got port i packet apart) (wished told (wishes.Receive from.wished) from.stage was) (was.texts none port text input))
+      ]
+  texts-after told (Hears_end i) is was none port text input =
+      let from = explains kept.channels x n (Hears_end i) is in
+      text-quiet told (Ended i) port text (is_fresh x port) refl (wished told (wishes.Receive from.wished) from.stage was) (was.texts none port text input)
+  texts-after told (Sends i c packet) is was none port text input =
+      let to = explains kept.channels x n (Sends i c packet) is in
+      text-quiet told (Sent i packet) port text (is_fresh x port) refl (wished told (wishes.Send to.wished to.id) to.stage was) (was.texts none port text input)
+  texts-after told (Learns i level) is was none port text input =
+      let at = explains kept.channels x n (Learns i level) is in
+      text-quiet told (Learned i level) port text (is_fresh x port) refl (wished told (wishes.Level at.wished) at.stage was) (was.texts none port text input)
+  texts-after told Sleeps is was none port text input = rw append-nil (was.texts none port text input)
+  texts-after told (Closes o c) is was none port text input = rw append-nil (was.texts none port text input)
+
   over-after : (told : List Happening) (e : Event) → event_of kept.channels x n ≡ Some e → Tells ready next parts kept.channels p told x → IsOverStage (process_after x e).stage → (port c : ℕ) → slice_get x.inputs port ≡ Some (From c)
       → IsDry (channels_after kept.channels p e) c
   over-after told e is was over port c input = dry-after kept p x n there senders e is c (elim (over-before kept.channels x n e is over) [
@@ -362,6 +418,7 @@ module _ {K : Type 0} (ready : K → Held → Answer → Type 0) (next : K → H
             subst (λ (m : ℕ). StartsKeep (Waits (channels_after kept.channels p e) (process_after x e)) m (told ++ heard x e)) (ap length (sym inputs))
             (brings-after told e is (subst (λ (m : ℕ). 0 < m) (ap length inputs) some) (was.brings (subst (λ (m : ℕ). 0 < m) (ap length inputs) some)));
         wakes = subst (λ (m : ℕ). Wakes m [] (told ++ heard x e)) (ap length (sym inputs)) (wakes-after told e is was);
+        texts = λ none port text input. texts-after told e is was (subst (λ (is : List Input). Rattle.std.specs.List.list_any Rattle.flow_model.specs.Events.is_connected is ≡ false) inputs none) port text (ap (λ (is : List Input). slice_get is port) (sym inputs) ∙ input);
         over = λ over port c input. over-after told e is was over port c (ap (λ (is : List Input). slice_get is port) (sym inputs) ∙ input);
       }
 
@@ -375,6 +432,7 @@ module _ {K : Type 0} (ready : K → Held → Answer → Type 0) (next : K → H
     last = was.last;
     brings = λ some. starts-same (Waits kept.channels z) (Waits (channels_after kept.channels p e) z) (length z.inputs) (λ port w. waits-after kept.channels p z z e port refl (untaken port) (λ text input f. f) w) told (was.brings some);
     wakes = was.wakes;
+    texts = was.texts;
     over = λ over port c input. dry-after kept p x n there senders e is c (was.over over port c input);
   }
     where
@@ -432,6 +490,7 @@ Tells-worked {K} ready next parts channels p told x answer (Wishes part held wis
       last = was.last;
       brings = λ some. starts-same (Waits channels x) (Waits channels y) (length x.inputs) waits told (was.brings some);
       wakes = was.wakes;
+      texts = was.texts;
       over = λ over. absurd (judged-works x.depths held wish over);
     }
   where
@@ -451,6 +510,7 @@ Tells-worked {K} ready next parts channels p told x answer (Fails part held caus
       last = was.last;
       brings = λ some. starts-same (Waits channels x) (Waits channels y) (length x.inputs) waits told (was.brings some);
       wakes = was.wakes;
+      texts = was.texts;
       over = λ over. absurd over;
     }
   where
@@ -507,6 +567,7 @@ AllTell-start {K} ready next plan parts p x is = record {
   last = λ port good. tt;
   brings = λ some. tt;
   wakes = tt;
+  texts = λ none port text input. ((λ f. refl), (λ f some. absurd (some refl)));
   over = λ over. absurd (let start = Rattle.flow_model.proofs.Start.start-process plan parts p x is in let h : x.stage ≡ stages.Idle = ap (λ (z : Process K). z.stage) start.is in subst IsOverStage h over);
 }
 
@@ -546,8 +607,17 @@ Tells-run ready next parts channels p told x part at t = record {
   end_is_last = t.last;
   starts_bring = λ some. starts-kept (Waits channels x) (length x.inputs) told (t.brings some);
   wakes = t.wakes;
+  texts = λ none port text input ended. by none port text input ended (t.ends port (inr none) ended);
   has_run = λ none ended. subst (Begun x told) ended t.begun none;
 }
+  where
+    heard-some : (port : ℕ) (hs : List Happening) → HeardEnd port hs → hs ≢ []
+    heard-some port [] h is = h
+    heard-some port (e ∷ hs) h is = cc
+
+    by : NoneConnected x → (port : ℕ) (text : List ℕ) → slice_get x.inputs port ≡ Some (Text text) → HeardEnd port told → Exhausted channels x port → got port told ≡ text_packet text ∷ []
+    by none port text input ended (dry c from h) = absurd (let k : Some (From c) ≡ Some (Text text) = sym from ∙ input in cc)
+    by none port text input ended (taken other from f) = (t.texts none port text input).1 f (heard-some port told ended)
 
 -- a process that has ended got all that was put
 pub got-all : {K : Type 0} (ready : K → Held → Answer → Type 0) (next : K → Held → Answer → Outcome K → Type 0) (parts : List K) (s : State K) → InOrder s → AllTell ready next parts s → EndedGotAll s

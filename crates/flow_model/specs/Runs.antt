@@ -9,10 +9,10 @@ use Rattle.flow_component.specs.declared.Wish.TheVariants as wishes
 use Rattle.flow_component.specs.declared.Shape.{Shape}
 use Rattle.flow_component.specs.Laws.{Outcome}
 use Rattle.flow_component.specs.Happenings.{Happening, answer_of}
-use Rattle.flow_component.specs.Runs.{Poise, fresh, Grants, Runs, EndIsLast, StartsBring, Wakes}
+use Rattle.flow_component.specs.Runs.{Poise, fresh, Grants, Runs, EndIsLast, StartsBring, Wakes, HeardEnd, got, text_packet}
 use Rattle.flow_model.specs.declared.Stage.{Stage}
 use Rattle.flow_model.specs.declared.Stage.TheVariants as stages
-use Rattle.flow_model.specs.States.{Input, From, Process, State, got_at}
+use Rattle.flow_model.specs.States.{Input, From, Text, Process, State, got_at}
 use Rattle.flow_model.specs.Events.{is_connected}
 use Rattle.flow_model.specs.Schedules.{Journal, Leads, Step, Reaches}
 use Rattle.flow_model.specs.Plans.{Plan, start_of, StartsWell}
@@ -60,6 +60,8 @@ pub record HasRun {K : Type 0} (ready : K → Held → Answer → Type 0) (next 
   pub starts_bring : 0 < length x.inputs → StartsBring (length x.inputs) told
   -- each start but the first finds an input whose end wasn't heard
   pub wakes : Wakes (length x.inputs) [] told
+  -- where no input is connected, it got the text of each input whose end it heard, and nothing else there
+  pub texts : NoneConnected x → (port : ℕ) (text : List ℕ) → slice_get x.inputs port ≡ Some (Text text) → HeardEnd port told → got port told ≡ text_packet text ∷ []
   -- where no input is connected it has run before it ends
   pub has_run : NoneConnected x → x.stage ≡ stages.Ended → told ≢ []
 
