@@ -1,18 +1,15 @@
 -- What is at the inputs of a process: nothing that will come any more, or something that waits; and how a turn changes that.
-use Rattle.std.proofs.Common.{◌≡◌, ◌≢◌, ℕ, Bool, true, false, List, [], ◌∷◌, ◌++◌, length, map, not, Option, Some, None, refl, sym, ap, ◌∙◌, subst, cond, nat_eq, arith, ◌⊎◌, inl, inr, slice_get, slice_set, ◌||◌, ◌&&◌, zero, suc, ◌<◌}
+use Rattle.std.proofs.Common.{◌≡◌, ◌≢◌, ℕ, Bool, true, false, List, [], ◌∷◌, ◌++◌, length, map, not, Option, Some, None, refl, sym, ap, ◌∙◌, subst, cond, nat_eq, arith, inl, inr, slice_get, slice_set, ◌||◌, ◌&&◌, zero, suc, ◌<◌}
 use Rattle.std.specs.Prelude.{option_and_then, unwrap_or}
 use Rattle.std.specs.List.{list_any, list_all}
 use Rattle.std.proofs.lemmas.Bool.Decides.{nat_tests}
 use Rattle.flow_packet.specs.Tree.{Tree}
-use Rattle.flow_component.specs.declared.Port.{Port}
-use Rattle.flow_component.specs.declared.Wish.TheVariants as wishes
 use Rattle.flow_model.specs.declared.Stage.{Stage}
-use Rattle.flow_model.specs.declared.Stage.TheVariants as stages
-use Rattle.flow_model.specs.States.{Sender, Input, From, Text, Process, Channel, Kept, output_at, without_sender, change_at, changed}
-use Rattle.flow_model.specs.Events.{Event, Starts, Finishes, Gets, Takes_text, Hears_end, Sends, Learns, Sleeps, Closes, Look, look, looks, event_of, stage_event, idle_event, receive_event, received_from, received, is_fresh, is_connected, has_packet, has_ended, can_start, passes, holds_packet, is_empty, is_over}
+use Rattle.flow_model.specs.States.{Sender, Input, From, Text, Process, Channel, Kept, without_sender, change_at, changed}
+use Rattle.flow_model.specs.Events.{Event, Starts, Finishes, Gets, Takes_text, Hears_end, Sends, Learns, Sleeps, Closes, Look, looks, event_of, stage_event, idle_event, receive_event, received_from, received, is_fresh, is_connected, has_packet, has_ended, can_start, passes, holds_packet, is_empty, is_over}
 use Rattle.flow_model.specs.Turns.{process_after, channel_after, channels_after}
 use Rattle.flow_model.specs.Valid.{SendersOpen, HasToClose}
-use Rattle.flow_model.specs.Runs.{NoneConnected, EndsForGood}
+use Rattle.flow_model.specs.Runs.{NoneConnected}
 use Rattle.flow_model.proofs.Lists.{slice_get-set_same, slice_get-set_other, same_or_not, change_at-some}
 use Rattle.flow_model.proofs.Inverse.{explains, seen-there}
 use Rattle.flow_model.proofs.Blocks.{outlet-of}

@@ -1,7 +1,5 @@
 -- What was told of ends and starts, as one more happening comes.
-use Rattle.std.proofs.Common.{◌≡◌, ◌≢◌, ℕ, ◌<◌, List, [], ◌∷◌, ◌++◌, refl, sym, ap, ◌∙◌, subst, append-nil, append_assoc, ◌⊎◌, inl, inr, arith, nat_eq, false}
-use Rattle.std.proofs.lemmas.Bool.Decides.{nat_tests}
-use Rattle.flow_packet.specs.Tree.{Tree}
+use Rattle.std.proofs.Common.{◌≡◌, ℕ, ◌<◌, List, [], ◌∷◌, ◌++◌, refl, sym, ◌∙◌, subst, append-nil, append_assoc, ◌⊎◌, inl, inr}
 use Rattle.flow_component.specs.Happenings.{Happening, Started, Received, Ended, Sent, Learned}
 use Rattle.flow_component.specs.Runs.{content_got, got, EndIsLast, BringsFirst, StartsBring, IsEnd, HeardEnd, IsStart, Wakes}
 use Rattle.flow_component.proofs.Streams.{got-more}

@@ -1,5 +1,5 @@
 -- What each process was told is a run of its component, ends stand and starts bring something: so it is at the start, and turns and works keep it so.
-use Rattle.std.proofs.Common.{◌≡◌, ◌≢◌, ℕ, ◌+◌, ◌*◌, ◌<◌, ◌≤◌, Bool, true, false, List, [], ◌∷◌, ◌++◌, length, map, Option, Some, None, refl, sym, ap, ◌∙◌, subst, cond, nat_eq, nat_lt, arith, ◌⊎◌, inl, inr, slice_get, slice_set, slice_index, append-nil, ◌==◌, zero, suc}
+use Rattle.std.proofs.Common.{◌≡◌, ◌≢◌, ℕ, ◌+◌, ◌<◌, Bool, true, false, List, [], ◌∷◌, ◌++◌, length, map, Option, Some, None, refl, sym, ap, ◌∙◌, subst, cond, nat_eq, nat_lt, arith, ◌⊎◌, inl, inr, slice_get, slice_set, slice_index, append-nil, ◌==◌, zero, suc}
 use Rattle.std.proofs.lemmas.Bool.Decides.{nat_tests}
 use Rattle.flow_packet.specs.declared.packet.Kind.TheVariants as kinds
 use Rattle.flow_packet.specs.Tree.{Tree, id_of, kind_of, packet_of}
@@ -14,19 +14,19 @@ use Rattle.flow_component.specs.declared.Fail.TheVariants as fails
 use Rattle.flow_component.specs.declared.Shape.{Shape}
 use Rattle.flow_component.specs.Laws.{Outcome, Wishes, Fails, Obeys, StaysReady}
 use Rattle.flow_component.specs.Happenings.{Happening, Started, Received, Ended, Sent, Learned}
-use Rattle.flow_component.specs.Runs.{Poise, fresh, content_got, EndIsLast, HeardEnd, IsEnd, IsStart, Wakes, got, text_packet}
+use Rattle.flow_component.specs.Runs.{fresh, content_got, EndIsLast, HeardEnd, Wakes, got, text_packet}
 use Rattle.flow_component.proofs.Streams.{got-more}
 use Rattle.flow_model.specs.declared.Stage.{Stage}
 use Rattle.flow_model.specs.declared.Stage.TheVariants as stages
-use Rattle.flow_model.specs.States.{Input, From, Text, Process, Channel, Kept, Past, State, outlets, got_at, entry_of}
+use Rattle.flow_model.specs.States.{Input, From, Text, Process, Channel, Kept, State, outlets, got_at, entry_of}
 use Rattle.flow_model.specs.Events.{Event, Starts, Finishes, Gets, Takes_text, Hears_end, Sends, Learns, Sleeps, Closes, event_of, is_fresh}
 use Rattle.flow_model.specs.Turns.{process_after, channels_after, heard, past_after, limited, closing, closing_on, turn_limit, Turn}
 use Rattle.flow_model.specs.Works.{judged, sending, nests, worked, Work}
 use Rattle.flow_model.specs.Schedules.{Settles, LeadsBy, Leads, Journal, Step, Turned, Worked, Reaches}
-use Rattle.flow_model.specs.Plans.{Plan, PlanProcess, process_at_start, processes_at_start, start_of, StartsWell}
+use Rattle.flow_model.specs.Plans.{Plan, PlanProcess, process_at_start, processes_at_start, start_of}
 use Rattle.flow_model.specs.Order.{connection_of, input_of, packets_at, InOrder}
 use Rattle.flow_model.specs.Valid.{Valid, OneReceiver, SendersOpen, ReadyAt}
-use Rattle.flow_model.specs.Runs.{Follows, IsPending, NoneConnected, EndsForGood, HasRun, EndedGotAll}
+use Rattle.flow_model.specs.Runs.{Follows, NoneConnected, EndsForGood, HasRun, EndedGotAll}
 use Rattle.flow_model.proofs.Lists.{slice_get-set_same, slice_get-set_other, same_or_not}
 use Rattle.flow_model.proofs.Inverse.{explains}
 use Rattle.flow_model.proofs.Order.{inputs-after}
@@ -34,8 +34,8 @@ use Rattle.flow_model.proofs.Ready.{sound-hands}
 use Rattle.flow_model.proofs.Schedules.{Valid-turn, Valid-settles, Valid-work}
 use Rattle.flow_model.proofs.Start.{Valid-start}
 use Rattle.flow_model.proofs.Followings.{follows-event, follows-worked}
-use Rattle.flow_model.proofs.Exhausting.{IsDry, HoldsSome, Exhausted, dry, taken, Waits, packet_waits, text_waits, not-both, hears-exhausted, starts-first, finishes-later, start-waits, start-finds, fresh-start, fresh-set, fresh-other, fresh-gone, fresh-apart, dry-after, some-after, finishes-all, all-dry}
-use Rattle.flow_model.proofs.Hearing.{IsGot, heard-more, last-more, StartsKeep, starts-kept, starts-same, starts-more, wakes-more}
+use Rattle.flow_model.proofs.Exhausting.{IsDry, Exhausted, dry, taken, Waits, packet_waits, text_waits, not-both, hears-exhausted, starts-first, finishes-later, start-waits, start-finds, fresh-start, fresh-set, fresh-other, fresh-gone, fresh-apart, dry-after, some-after, finishes-all, all-dry}
+use Rattle.flow_model.proofs.Hearing.{heard-more, last-more, StartsKeep, starts-kept, starts-same, starts-more, wakes-more}
 
 -- Whether anything was told to a process that stands there.
 abbrev Begun : {K : Type 0} → Process K → List Happening → Stage → Type 0

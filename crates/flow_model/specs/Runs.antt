@@ -2,7 +2,7 @@
 -- an input brings something, and a process that nothing can wake has run before it ends. (This project's own.)
 use Rattle.std.specs.Prelude.{◌≡◌, ◌≢◌, ◌⊎◌, ℕ, ◌<◌, false, Bool, List, [], ◌∷◌, ◌++◌, length, Some, slice_get}
 use Rattle.std.specs.List.{list_any}
-use Rattle.flow_packet.specs.Held.{Held, Sound}
+use Rattle.flow_packet.specs.Held.{Held}
 use Rattle.flow_component.specs.declared.Answer.{Answer}
 use Rattle.flow_component.specs.declared.Wish.{Wish}
 use Rattle.flow_component.specs.declared.Wish.TheVariants as wishes
@@ -12,7 +12,7 @@ use Rattle.flow_component.specs.Happenings.{Happening, answer_of}
 use Rattle.flow_component.specs.Runs.{Poise, fresh, Grants, Runs, EndIsLast, StartsBring, Wakes, HeardEnd, got, text_packet}
 use Rattle.flow_model.specs.declared.Stage.{Stage}
 use Rattle.flow_model.specs.declared.Stage.TheVariants as stages
-use Rattle.flow_model.specs.States.{Input, From, Text, Process, State, got_at}
+use Rattle.flow_model.specs.States.{From, Text, Process, State, got_at}
 use Rattle.flow_model.specs.Events.{is_connected}
 use Rattle.flow_model.specs.Schedules.{Journal, Leads, Step, Reaches}
 use Rattle.flow_model.specs.Plans.{Plan, start_of, StartsWell}
