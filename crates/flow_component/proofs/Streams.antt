@@ -1,13 +1,17 @@
 -- What a component sends, from what it gets and what it still owes.
-use Rattle.std.proofs.Common.{◌≡◌, ℕ, List, [], ◌∷◌, ◌++◌, refl, sym, ap, ◌∙◌, subst, append_assoc, append-nil, Bool}
+use Rattle.std.proofs.Common.{◌≡◌, ℕ, List, [], ◌∷◌, ◌++◌, refl, sym, ap, ◌∙◌, subst, append_assoc, append-nil, Bool, Option, Some, None, ◌==◌, ◌<◌, nat_eq, true, IsTrue, arith}
 use Rattle.std.specs.List.{flat_map}
-use Rattle.flow_packet.specs.Tree.{Tree}
-use Rattle.flow_packet.specs.Held.{Held}
+use Rattle.std.proofs.lemmas.Bool.Decides.{nat_tests}
+use Rattle.flow_packet.specs.declared.packet.Kind.TheVariants.{Normal}
+use Rattle.flow_packet.specs.Tree.{Tree, node, id_of, kind_of, text_of, content}
+use Rattle.flow_packet.specs.Hands.{packet_at, without, kind_at, kind_in, text_at, text_in}
+use Rattle.flow_packet.specs.Held.{Held, next_id, with_made}
 use Rattle.flow_component.specs.declared.Answer.{Answer}
 use Rattle.flow_component.specs.declared.Shape.{Shape}
 use Rattle.flow_component.specs.Laws.{Outcome, Wishes, Obeys, IsAllowed}
 use Rattle.flow_component.specs.Happenings.{Happening, answer_of}
-use Rattle.flow_component.specs.Runs.{Poise, Steps, Runs, Comes, from_connection, from_text, content_got, content_sent, got, sent}
+use Rattle.flow_component.specs.Runs.{Poise, Steps, Runs, Comes, from_connection, from_text, content_got, content_sent, got, sent, text_packet}
+use Rattle.flow_component.proofs.Roots.{same_id}
 
 pub flat_map-append : {X A : Type 0} (f : X → List A) (xs ys : List X) → flat_map f (xs ++ ys) ≡ flat_map f xs ++ flat_map f ys
 flat_map-append f [] ys = refl
@@ -53,3 +57,38 @@ Runs-more ready next p (f ∷ es) m e q r s = (r.0, r.1, Runs-more ready next r.
 
 pub got-more : (port : ℕ) (es : List Happening) (e : Happening) → got port (es ++ e ∷ []) ≡ got port es ++ content_got port e
 got-more port es e = flat_map-append (content_got port) es (e ∷ []) ∙ ap (λ ts. got port es ++ ts) (append-nil (content_got port e))
+
+-- the content of a packet that is found
+abbrev pub contents_in : Option Tree → List Tree
+contents_in None = []
+contents_in (Some t) = content t ∷ []
+
+-- what was made in empty hands
+pub made_at : (held : Held) (text : List ℕ) → held.packets ≡ [] → contents_in (packet_at (with_made held Normal text).packets (next_id held)) ≡ text_packet text ∷ []
+made_at held text e = let s = same_id (next_id held) in rw (e, s) refl
+
+-- the first port, where only it is used, and where it is the only one
+pub port_zero : (port : ℕ) → IsTrue (port == 0) → nat_eq 0 port ≡ true
+port_zero port is = let h : nat_eq port 0 ≡ true = is in grind (arith, nat_tests)
+
+pub port_below_one : (port : ℕ) → port < 1 → nat_eq 0 port ≡ true
+port_below_one port l = grind (arith, nat_tests)
+
+-- a packet that is alone in the hands is found there
+pub one-alone : (ts : List Tree) (t : Tree) → ts ≡ t ∷ [] → packet_at ts (id_of t) ≡ Some t
+one-alone ts t e = let s = same_id (id_of t) in rw (e, s) refl
+
+pub kind-alone : (ts : List Tree) (t : Tree) → ts ≡ t ∷ [] → kind_at ts (id_of t) ≡ kind_of t
+kind-alone ts t e = ap kind_in (one-alone ts t e)
+
+pub text-alone : (ts : List Tree) (t : Tree) → ts ≡ t ∷ [] → text_at ts (id_of t) ≡ text_of t
+text-alone ts t e = ap text_in (one-alone ts t e)
+
+pub gone-alone : (ts : List Tree) (t : Tree) → ts ≡ t ∷ [] → without ts (id_of t) ≡ []
+gone-alone ts t e = let s = same_id (id_of t) in rw (e, s) refl
+
+pub content-kind : (t : Tree) → kind_of (content t) ≡ kind_of t
+content-kind (node id kind text cs) = refl
+
+pub content-text : (t : Tree) → text_of (content t) ≡ text_of t
+content-text (node id kind text cs) = refl

@@ -1,1 +1,3 @@
 pub mod Lining
+pub mod ReadLinesStream
+pub mod WriteLinesStream
