@@ -92,3 +92,7 @@ content-kind (node id kind text cs) = refl
 
 pub content-text : (t : Tree) → text_of (content t) ≡ text_of t
 content-text (node id kind text cs) = refl
+
+pub flat_map-single : {A : Type 0} (xs : List A) → flat_map (λ x. x ∷ []) xs ≡ xs
+flat_map-single [] = refl
+flat_map-single (x ∷ xs) = ap (λ ys. x ∷ ys) (flat_map-single xs)

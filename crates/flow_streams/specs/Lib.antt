@@ -1,2 +1,3 @@
 pub mod Passthru
 pub mod PassthruLaws
+pub mod Meanings

@@ -1,8 +1,10 @@
 //! Components on streams of packets.
 #![tactic(auto)]
 
+mod meanings;
 mod passthru;
 #[cfg(test)]
 mod tests;
 
+pub use meanings::passthru_keeps_its_meaning;
 pub use passthru::Passthru;
