@@ -79,3 +79,21 @@ last_alone (v ∷ w ∷ ts) t u e = cc
 -- the packet that came is the one that is alone
 pub HoldsOnly-last : (held : Held) (t : Tree) (h : HoldsOnly (with_packet held t) (id_of t)) → t ≡ h.packet
 HoldsOnly-last held t h = last_alone held.packets t h.packet h.holds
+
+-- a packet that is made in empty hands is alone
+pub HoldsOnly-made_alone : (held : Held) (kind : Kind) (text : List ℕ) → held.packets ≡ [] → Sound (with_made held kind text) → HoldsOnly (with_made held kind text) (next_id held)
+HoldsOnly-made_alone held kind text e s =
+    let t = packet_of (next_id held) kind text [] in
+    let h : (with_made held kind text).packets ≡ t ∷ [] = rw e refl in
+    record { packet = t; holds = h; named = refl; older = Sound-older (with_made held kind text) t s h }
+
+-- the packet at the end is the one that is alone
+pub HoldsOnly-end : (held : Held) (ts : List Tree) (t : Tree) → held.packets ≡ ts ++ t ∷ [] → (h : HoldsOnly held (id_of t)) → t ≡ h.packet
+HoldsOnly-end held ts t e h = last_alone ts t h.packet (sym e ∙ h.holds)
+
+-- once what was made has gone, the packet that was alone is so again, in sound hands
+pub HoldsOnly-left : (held : Held) (id : ℕ) (kind : Kind) (text : List ℕ) (h : HoldsOnly held id) → Sound (without_packet (with_made held kind text) (next_id held)) → HoldsOnly (without_packet (with_made held kind text) (next_id held)) id
+HoldsOnly-left held id kind text h s =
+    let left = without_packet (with_made held kind text) (next_id held) in
+    let holds = HoldsOnly-made held id kind text h in
+    record { packet = h.packet; holds = holds; named = h.named; older = λ e. Sound-older left h.packet s holds (h.named ∙ e) }

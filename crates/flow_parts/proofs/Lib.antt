@@ -1,3 +1,6 @@
 pub mod Lining
 pub mod ReadLinesStream
 pub mod WriteLinesStream
+pub mod Fillings
+pub mod OneFilling
+pub mod FillStream

@@ -3,3 +3,8 @@ pub mod ReadLinesLaws
 pub mod WriteLines
 pub mod WriteLinesLaws
 pub mod Meanings
+pub mod Text
+pub mod FillState
+pub mod Fill
+pub mod FillLaws
+pub mod Filling

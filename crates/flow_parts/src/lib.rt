@@ -1,12 +1,14 @@
 //! Components on the lines of files.
 #![tactic(auto)]
 
+mod fill;
 mod meanings;
 mod read_lines;
 #[cfg(test)]
 mod tests;
 mod write_lines;
 
+pub use fill::{Fill, FillPlace};
 pub use meanings::{read_lines_keeps_its_meaning, write_lines_keeps_its_meaning};
 pub use read_lines::ReadLines;
 pub use write_lines::WriteLines;
