@@ -1,3 +1,4 @@
+pub mod Wording
 pub mod Lining
 pub mod ReadLinesStream
 pub mod WriteLinesStream

@@ -8,3 +8,5 @@ pub mod FillState
 pub mod Fill
 pub mod FillLaws
 pub mod Filling
+pub mod Words
+pub mod WordsLaws

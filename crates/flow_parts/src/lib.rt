@@ -6,9 +6,11 @@ mod meanings;
 mod read_lines;
 #[cfg(test)]
 mod tests;
+mod words;
 mod write_lines;
 
 pub use fill::{Fill, FillPlace};
 pub use meanings::{read_lines_keeps_its_meaning, write_lines_keeps_its_meaning};
 pub use read_lines::ReadLines;
+pub use words::Words;
 pub use write_lines::WriteLines;
