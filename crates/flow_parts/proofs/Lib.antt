@@ -5,3 +5,4 @@ pub mod WriteLinesStream
 pub mod Fillings
 pub mod OneFilling
 pub mod FillStream
+pub mod WordsStream

@@ -55,7 +55,3 @@ pub data Filling (size : ℕ) : List Tree → List Tree → Type 0 where
   last_part : (part : List Tree) (lines : List Line) → Each IsNormal part → IsFilled size (words_in part) lines → Filling size part (line_packets lines)
   part_and_bracket : (part : List Tree) (lines : List Line) (bracket : Tree) (x y : List Tree) → Each IsNormal part → IsFilled size (words_in part) lines → IsBracket bracket
       → Filling size x y → Filling size (part ++ bracket ∷ x) (line_packets lines ++ bracket ∷ y)
-
--- There is one filling of a stream at most.
-abbrev pub OneFilling : Type 0
-OneFilling = (size : ℕ) (x y z : List Tree) → Filling size x y → Filling size x z → y ≡ z

@@ -1,7 +1,9 @@
 -- What the components make of their streams, from their first state to their end. (Morrison's components and JavaFBP's; the exact
 -- rules are this project's own.)
-use Rattle.std.specs.Prelude.{◌≡◌, ◌≢◌, ℕ, List, [], ◌++◌, map}
+use Rattle.std.specs.Prelude.{◌≡◌, ◌≢◌, ℕ, List, [], ◌∷◌, ◌++◌, map}
 use Rattle.std.specs.List.{flat_map}
+use Rattle.flow_packet.specs.declared.packet.Kind.{Kind}
+use Rattle.flow_packet.specs.declared.packet.Kind.TheVariants.{Normal, Open, Close}
 use Rattle.flow_packet.specs.Tree.{Tree, kind_of, text_of}
 use Rattle.flow_component.specs.Happenings.{Happening}
 use Rattle.flow_component.specs.Outcomes.{IsAtHand}
@@ -9,6 +11,10 @@ use Rattle.flow_component.specs.Runs.{EndedRun, EndIsLast, got, sent, text_packe
 use Rattle.flow_parts.specs.ReadLines.{ReadLinesNext, ReadLinesReady}
 use Rattle.flow_parts.specs.WriteLines.{WriteLinesNext, rendered}
 use Rattle.flow_parts.specs.declared.fill.FillPlace.TheVariants.{Waiting}
+use Rattle.flow_parts.specs.declared.words.Words.{Words}
+use Rattle.flow_parts.specs.declared.words.Words.TheVariants as words_parts
+use Rattle.flow_parts.specs.Text.{words}
+use Rattle.flow_parts.specs.Words.{WordsNext, WordsReady}
 use Rattle.flow_parts.specs.FillState.{FillState}
 use Rattle.flow_parts.specs.Fill.{FillNext, FillReady}
 use Rattle.flow_parts.specs.Filling.{Filling}
@@ -32,3 +38,20 @@ fresh_fill size = record { size = size; line = []; place = Waiting }
 -- What a Fill sends is a filling of what it gets.
 abbrev pub FillMeaning : Type 0
 FillMeaning = (size : ℕ) (told : List Happening) → EndedRun FillReady FillNext (fresh_fill size) told → EndIsLast 0 told → Filling size (got 0 told) (sent 0 told)
+
+-- A Normal packet as its words; a bracket stays as it is.
+abbrev pub words_as : Kind → Tree → List Tree
+words_as Normal packet = map text_packet (words (text_of packet))
+words_as Open packet = packet ∷ []
+words_as Close packet = packet ∷ []
+
+abbrev pub words_of : Tree → List Tree
+words_of packet = words_as (kind_of packet) packet
+
+-- A Words sends what it gets, each Normal packet replaced by its words.
+abbrev pub WordsMeaning : Type 0
+WordsMeaning = (told : List Happening) → EndedRun WordsReady WordsNext words_parts.Waiting told → sent 0 told ≡ flat_map words_of (got 0 told)
+
+-- There is at most one filling of a stream.
+abbrev pub OneFilling : Type 0
+OneFilling = (size : ℕ) (x y z : List Tree) → Filling size x y → Filling size x z → y ≡ z

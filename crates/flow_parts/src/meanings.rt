@@ -1,5 +1,5 @@
 //! What the components make of their streams: each law is the contract of a function that does nothing.
-ghost use Rattle.flow_parts.specs.Meanings.{ReadLinesMeaning, WriteLinesMeaning};
+ghost use Rattle.flow_parts.specs.Meanings.{FillMeaning, OneFilling, ReadLinesMeaning, WordsMeaning, WriteLinesMeaning};
 
 /// What a ReadLines that has run to its end has sent is a Normal packet for each of its lines.
 pub fn read_lines_keeps_its_meaning()
@@ -9,4 +9,15 @@ pub fn read_lines_keeps_its_meaning()
 /// What a WriteLines has written is what it got, each packet as a line.
 pub fn write_lines_keeps_its_meaning()
     ensures { WriteLinesMeaning }
+{}
+
+/// What a Words has sent is what it got, with each Normal packet replaced by its words.
+pub fn words_keeps_its_meaning()
+    ensures { WordsMeaning }
+{}
+
+/// What a Fill has sent is a filling of what it got, and there is no other.
+pub fn fill_keeps_its_meaning()
+    ensures filling { FillMeaning }
+    ensures one { OneFilling }
 {}
