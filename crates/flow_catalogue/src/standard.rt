@@ -5,7 +5,7 @@ ghost use Rattle.std.specs.Option.{option_copied};
 
 use flow_component::{Answer, Component, Shape, Stop, Wish};
 use flow_packet::Hands;
-use flow_parts::{ReadLines, WriteLines};
+use flow_parts::{Fill, ReadLines, Words, WriteLines};
 use flow_streams::Passthru;
 
 /// A standard component.
@@ -13,6 +13,8 @@ use flow_streams::Passthru;
 pub enum Std {
     ReadLines(ReadLines),
     WriteLines(WriteLines),
+    Words(Words),
+    Fill(Fill),
     Passthru(Passthru),
 }
 
@@ -26,6 +28,8 @@ impl Std {
         match self {
             Std::WriteLines(part) => Some(part.written()),
             Std::ReadLines(_) => None,
+            Std::Words(_) => None,
+            Std::Fill(_) => None,
             Std::Passthru(_) => None,
         }
     }
@@ -53,6 +57,8 @@ impl Component for Std {
         match self {
             Std::ReadLines(part) => part.shape(),
             Std::WriteLines(part) => part.shape(),
+            Std::Words(part) => part.shape(),
+            Std::Fill(part) => part.shape(),
             Std::Passthru(part) => part.shape(),
         }
     }
@@ -61,6 +67,8 @@ impl Component for Std {
         match self {
             Std::ReadLines(part) => part.resume(hands, answer),
             Std::WriteLines(part) => part.resume(hands, answer),
+            Std::Words(part) => part.resume(hands, answer),
+            Std::Fill(part) => part.resume(hands, answer),
             Std::Passthru(part) => part.resume(hands, answer),
         }
     }
