@@ -1,5 +1,6 @@
 //! What holds of every schedule: each law is the contract of a function that does nothing.
 ghost use Rattle.flow_model.specs.Laws.{KeepsPackets, KeepsOrder, KeepsPrefixes, KeepsOpen, KeepsFew, HasOneVerdict, KeepsOpenSenders, LeavesClosed, KeepsTotals, RoundRobinLeads, IsOneRoundRobin, HasPrefixes, TurnsAreSchedule};
+ghost use Rattle.flow_model.specs.Wires.{KeepsWires};
 ghost use Rattle.flow_model.specs.Runs.{KeepsRuns, KeepsRunsOpen, KeepsGotAll};
 
 use flow_component::Component;
@@ -63,4 +64,10 @@ pub fn every_process_has_run<K: Component>()
     ensures schedules { KeepsRuns K.shape_of K.uses K.ready K.next }
     ensures while_open { KeepsRunsOpen K.shape_of K.uses K.ready K.next }
     ensures got_all { KeepsGotAll K.shape_of K.uses K.ready K.next }
+{}
+
+/// After every schedule from such a start the inputs and outputs of each process are wired as at the start, and each packet of a
+/// connection was put there by an output that leads there.
+pub fn every_schedule_keeps_the_wires<K: Component>()
+    ensures { KeepsWires K.shape_of K.uses K.ready K.next }
 {}

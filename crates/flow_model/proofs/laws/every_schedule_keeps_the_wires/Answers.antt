@@ -1,0 +1,5 @@
+use Rattle.flow_model.proofs.Wiring.{wires-leads}
+use Rattle.flow_model.proofs.laws.every_schedule_keeps_the_wires.Goals as goal
+
+pub returns : goal.returns
+returns g c = λ plan parts journal s well leads. wires-leads g.K.Component.next plan parts journal s leads

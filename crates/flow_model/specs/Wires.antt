@@ -1,0 +1,32 @@
+-- What stays as the plan says: which connection, or which text, is at each input and output; and whose the packets of a connection are.
+-- (This project's own.)
+use Rattle.std.specs.Prelude.{◌≡◌, ℕ, Bool, List, map, Option, Some, slice_get}
+use Rattle.flow_packet.specs.Held.{Held}
+use Rattle.flow_component.specs.declared.Answer.{Answer}
+use Rattle.flow_component.specs.declared.Shape.{Shape}
+use Rattle.flow_component.specs.Laws.{Outcome}
+use Rattle.flow_model.specs.States.{Input, Process, Put, State}
+use Rattle.flow_model.specs.Order.{output_of}
+use Rattle.flow_model.specs.Schedules.{Journal, Leads}
+use Rattle.flow_model.specs.Plans.{Plan, start_of, StartsWell}
+
+-- What is at the inputs of a process, and at its outputs.
+pub record Wires : Type 0 where
+  pub inputs : List Input
+  pub outputs : List (Option ℕ)
+
+abbrev pub wires : {K : Type 0} → Process K → Wires
+wires x = record { inputs = x.inputs; outputs = x.outputs }
+
+-- The inputs and outputs of all processes are as they were.
+abbrev pub SameWires : {K : Type 0} → State K → State K → Type 0
+SameWires old new = map wires new.kept.processes ≡ map wires old.kept.processes
+
+-- Each packet of a connection was put there by an output that leads there.
+abbrev pub PutBySenders : {K : Type 0} → State K → Type 0
+PutBySenders s = (c k : ℕ) (put : Put) → slice_get (s.past.put c) k ≡ Some put → output_of put.sender.output (slice_get s.kept.processes put.sender.process) ≡ Some c
+
+-- So it is after every schedule from a start.
+abbrev pub KeepsWires : {K : Type 0} → (K → Shape) → (K → ℕ → Bool) → (K → Held → Answer → Type 0) → (K → Held → Answer → Outcome K → Type 0) → Type 0
+KeepsWires {K} shape_of uses ready next =
+    (plan : Plan) (parts : List K) (journal : Journal) (s : State K) → StartsWell shape_of uses ready plan parts → Leads next (start_of plan parts) journal s → SameWires (start_of plan parts) s × PutBySenders s
