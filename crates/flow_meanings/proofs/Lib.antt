@@ -1,0 +1,5 @@
+pub mod Lifting
+pub mod Single
+pub mod EndHeard
+pub mod Ending
+pub mod Composing

@@ -1,0 +1,23 @@
+-- Processes with one input, or with none.
+use Rattle.std.proofs.Common.{◌≡◌, ℕ, List, [], ◌∷◌, length, refl, Some, ◌⊎◌, inl, inr, arith, slice_get, sym, ap, ◌∙◌, false}
+use Rattle.std.specs.List.{list_any}
+use Rattle.flow_model.specs.States.{Input, From, Text, Process}
+use Rattle.flow_model.specs.Events.{is_connected}
+use Rattle.flow_model.specs.Runs.{NoneConnected, EndsForGood}
+
+no-inputs : (inputs : List Input) → 0 ≡ length inputs → list_any is_connected inputs ≡ false
+no-inputs [] is = refl
+no-inputs (i ∷ inputs) is = absurd (omega arith)
+
+pub none-alone : {K : Type 0} (x : Process K) → 0 ≡ length x.inputs → NoneConnected x
+none-alone x is = no-inputs x.inputs is
+
+one-input : (inputs : List Input) → 1 ≡ length inputs → ((c : ℕ) × (slice_get inputs 0 ≡ Some (From c))) ⊎ (list_any is_connected inputs ≡ false)
+one-input [] is = absurd (omega arith)
+one-input (From c ∷ []) is = inl (c, refl)
+one-input (Text text ∷ []) is = inr refl
+one-input (i ∷ j ∷ inputs) is = absurd (omega arith)
+
+-- the end of a single input is for good
+pub single-ends : {K : Type 0} (x : Process K) → 1 ≡ length x.inputs → EndsForGood x 0
+single-ends x is = one-input x.inputs is

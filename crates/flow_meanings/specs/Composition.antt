@@ -1,0 +1,49 @@
+-- What a network of standard components means: streams on its connections of which each process makes what its kind means. Nothing
+-- here speaks of turns or states. (This project's own.)
+use Rattle.std.specs.Prelude.{◌≡◌, ℕ, List, [], ◌∷◌, map, filter, Option, Some, None, slice_get, unwrap_or, option_and_then}
+use Rattle.flow_packet.specs.Tree.{Tree}
+use Rattle.flow_component.specs.Runs.{text_packet}
+use Rattle.flow_catalogue.specs.declared.standard.Std.{Std}
+use Rattle.flow_catalogue.specs.Std.{std_shape, std_uses, StdReady, StdNext, written_of}
+use Rattle.flow_model.specs.States.{Input, From, Text, Sender, is_sender, Process, State}
+use Rattle.flow_model.specs.Schedules.{Journal, Leads}
+use Rattle.flow_model.specs.Plans.{Plan, PlanProcess, input_at, sends_at, start_of, StartsWell}
+use Rattle.flow_model.specs.Verdicts.{IsFinished}
+use Rattle.flow_meanings.specs.Means.{IsFirst, Means, bytes_of}
+
+-- A packet on a connection: whose it is, and its content.
+pub record Sending : Type 0 where
+  pub sender : Sender
+  pub content : Tree
+
+-- The stream that arrives at an input: all that is on its connection, or its initial text.
+abbrev pub arriving : (ℕ → List Sending) → Input → List Tree
+arriving on (From c) = map (λ sending. sending.content) (on c)
+arriving on (Text text) = text_packet text ∷ []
+
+-- The stream that leaves an output: what is its own on its connection. Nothing leaves where there is none.
+abbrev pub leaving : (ℕ → List Sending) → Sender → Option ℕ → List Tree
+leaving on sender (Some c) = map (λ sending. sending.content) (filter (λ sending. is_sender sending.sender sender) (on c))
+leaving on sender None = []
+
+-- The network means these bytes, by process: there are streams on its connections, each made of packets of the connection's senders alone, of which each
+-- process with its component makes what that means.
+pub record Composes (plan : Plan) (parts : List Std) (wrote : ℕ → List ℕ) : Type 0 where
+  pub on : ℕ → List Sending
+  pub senders : (c k : ℕ) (sending : Sending) → slice_get (on c) k ≡ Some sending → sends_at plan sending.sender.process sending.sender.output ≡ Some c
+  pub each : (p : ℕ) (x : PlanProcess) (part : Std) → slice_get plan.processes p ≡ Some x → slice_get parts p ≡ Some part
+      → Means part (wrote p) (λ i. arriving on (input_at plan p x i)) (λ o. leaving on (record { process = p; output = o }) (sends_at plan p o))
+
+-- All components are in their first states.
+abbrev pub AreFirst : List Std → Type 0
+AreFirst parts = (p : ℕ) (part : Std) → slice_get parts p ≡ Some part → IsFirst part
+
+-- What a process has written.
+abbrev pub wrote_in : State Std → ℕ → List ℕ
+wrote_in s p = unwrap_or (option_and_then (λ (x : Process Std). written_of x.part) (slice_get s.kept.processes p)) []
+
+-- Whatever the schedule, where a network of standard components has finished, its writers have written what it means.
+abbrev pub FinishedComposes : Type 0
+FinishedComposes =
+    (plan : Plan) (parts : List Std) (journal : Journal) (s : State Std) → StartsWell std_shape std_uses StdReady plan parts → AreFirst parts → Leads StdNext (start_of plan parts) journal s → IsFinished s
+    → Composes plan parts (wrote_in s)
