@@ -1,16 +1,17 @@
 //! What a plan says of a process of a standard kind: its file, and the component that it runs.
 
-ghost use Rattle.std.specs.Prelude.{◌≡◌, ◌∷◌, [], ℕ, List, IfOk, IfSome, slice_get};
+ghost use Rattle.std.specs.Prelude.{◌≡◌, ◌≤◌, ◌∷◌, [], ℕ, List, IfOk, IfSome, slice_get};
 ghost use Rattle.flow_net.specs.Options.{IsFileName};
 ghost use Rattle.flow_catalogue.specs.Kinds.{name_of};
-ghost use Rattle.flow_catalogue.specs.Processes.{IsStandard, IsOfKind, NamesFile, IsMade, Fits};
+ghost use Rattle.flow_catalogue.specs.Processes.{IsStandard, IsOfKind, NamesFile, GivesSize, IsMade, Fits, first_number};
 ghost use Rattle.flow_catalogue.specs.Files.{UsesFile};
 
 use crate::standard::Std;
 use crate::table::StdKind;
 use flow_net::{Plan, Process};
-use flow_parts::{ReadLines, WriteLines};
+use flow_parts::{Fill, ReadLines, Words, WriteLines};
 use flow_streams::Passthru;
+use flow_text::decimal;
 use std::alloc::{AllocError, Global};
 use std::str;
 
@@ -41,6 +42,18 @@ fn file_name(process: &Process) -> &str
     }
 }
 
+fn line_size(process: &Process) -> u32
+    requires { GivesSize process.now }
+    ensures size { result ≡ first_number process.now.options }
+    ensures least { 1 ≤ result }
+    ensures most { result ≤ 1048576 }
+{
+    match decimal(process.options.as_slice()[0].1.as_slice(), 1, 1_048_576) {
+        Some(size) => size as u32,
+        None => unreachable!(),
+    }
+}
+
 /// The file that a process reads or writes; none where its kind has none. Takes no memory.
 pub fn file_of(plan: &Plan, process: u32) -> Option<FileUse<'_>>
     requires { IsStandard plan.now process }
@@ -52,6 +65,8 @@ pub fn file_of(plan: &Plan, process: u32) -> Option<FileUse<'_>>
         StdKind::ReadLines => Some(FileUse::Read(file_name(process))),
         StdKind::WriteLines => Some(FileUse::Write(file_name(process))),
         StdKind::Passthru => None,
+        StdKind::Words => None,
+        StdKind::Fill => None,
     }
 }
 
@@ -66,5 +81,10 @@ pub fn make(alloc: Global, plan: &Plan, process: u32, file: Vec<u8>) -> Result<S
         StdKind::ReadLines => Std::ReadLines(ReadLines::new(file)),
         StdKind::WriteLines => Std::WriteLines(WriteLines::new(alloc)),
         StdKind::Passthru => Std::Passthru(Passthru::new()),
+        StdKind::Words => Std::Words(Words::new()),
+        StdKind::Fill => Std::Fill(Fill::new(
+            alloc,
+            line_size(&plan.processes()[process as usize]),
+        )),
     })
 }

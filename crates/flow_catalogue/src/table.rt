@@ -13,6 +13,8 @@ pub enum StdKind {
     ReadLines,
     WriteLines,
     Passthru,
+    Words,
+    Fill,
 }
 
 impl StdKind {
@@ -24,6 +26,8 @@ impl StdKind {
             b"ReadLines" => Some(StdKind::ReadLines),
             b"WriteLines" => Some(StdKind::WriteLines),
             b"Passthru" => Some(StdKind::Passthru),
+            b"Words" => Some(StdKind::Words),
+            b"Fill" => Some(StdKind::Fill),
             _ => None,
         }
     }
@@ -85,6 +89,41 @@ fn passthru(alloc: Global) -> Result<KindSpec, AllocError>
     })
 }
 
+fn words(alloc: Global) -> Result<KindSpec, AllocError>
+    ensures { IfOk result (λ kind. kind ≡ spec_of StdKind.Words) }
+{
+    let name = Text::from_slice(alloc, b"Words")?;
+    let input = port(alloc, b"IN", PortClass::Stream)?;
+    let out = port(alloc, b"OUT", PortClass::Stream)?;
+    let inputs = Items::of(vec![in alloc; input]?);
+    let outputs = Items::of(vec![in alloc; out]?);
+    Ok(KindSpec {
+        name,
+        inputs,
+        outputs,
+    })
+}
+
+fn fill(alloc: Global) -> Result<KindSpec, AllocError>
+    ensures { IfOk result (λ kind. kind ≡ spec_of StdKind.Fill) }
+{
+    let name = Text::from_slice(alloc, b"Fill")?;
+    let size = PortClass::Number {
+        least: 1,
+        most: 1_048_576,
+    };
+    let size = port(alloc, b"SIZE", size)?;
+    let input = port(alloc, b"IN", PortClass::Stream)?;
+    let out = port(alloc, b"OUT", PortClass::Stream)?;
+    let inputs = Items::of(vec![in alloc; size, input]?);
+    let outputs = Items::of(vec![in alloc; out]?);
+    Ok(KindSpec {
+        name,
+        inputs,
+        outputs,
+    })
+}
+
 /// The table of the standard kinds, with their ports.
 pub fn kinds(alloc: Global) -> Result<Vec<KindSpec>, AllocError>
     ensures { IfOk result (λ kinds. kinds.items ≡ std_kinds) }
@@ -92,5 +131,7 @@ pub fn kinds(alloc: Global) -> Result<Vec<KindSpec>, AllocError>
     let reader = read_lines(alloc)?;
     let writer = write_lines(alloc)?;
     let passer = passthru(alloc)?;
-    Ok(vec![in alloc; reader, writer, passer]?)
+    let splitter = words(alloc)?;
+    let filler = fill(alloc)?;
+    Ok(vec![in alloc; reader, writer, passer, splitter, filler]?)
 }

@@ -12,6 +12,8 @@ fn the_table_has_the_standard_kinds(rt: HostRuntime) -> Result<(), Fail> {
         b"ReadLines".as_slice(),
         b"WriteLines".as_slice(),
         b"Passthru".as_slice(),
+        b"Words".as_slice(),
+        b"Fill".as_slice(),
     ]) {
         assert_eq!(rt; spec.name.as_slice(), name);
         assert!(rt; StdKind::named(name).is_some());

@@ -3,3 +3,4 @@ pub mod Single
 pub mod EndHeard
 pub mod Ending
 pub mod Composing
+pub mod Chaining

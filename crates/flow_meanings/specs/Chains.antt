@@ -1,0 +1,64 @@
+-- Networks without merges: what their compositions say more simply, and that there is one outcome where no connection leads back.
+-- (This project's own.)
+use Rattle.std.specs.Prelude.{◌≡◌, ℕ, ◌<◌, List, [], map, Some, slice_get, IsTrue}
+use Rattle.std.specs.List.{flat_map}
+use Rattle.flow_packet.specs.Tree.{Tree}
+use Rattle.flow_component.specs.Runs.{text_packet}
+use Rattle.flow_parts.specs.declared.words.Words.TheVariants as words_parts
+use Rattle.flow_parts.specs.Filling.{Filling}
+use Rattle.flow_parts.specs.Meanings.{rendered_all, words_of, fresh_fill}
+use Rattle.flow_catalogue.specs.declared.standard.Std.{Std}
+use Rattle.flow_catalogue.specs.declared.standard.Std.TheVariants as parts
+use Rattle.flow_catalogue.specs.Std.{std_shape}
+use Rattle.flow_model.specs.Plans.{Plan, PlanProcess, sends_at, receives_at}
+use Rattle.flow_meanings.specs.Composition.{Composes}
+
+-- Process p of the plan runs this component.
+pub record RunsPart (plan : Plan) (ks : List Std) (p : ℕ) (part : Std) : Type 0 where
+  pub process : PlanProcess
+  pub there : slice_get plan.processes p ≡ Some process
+  pub here : slice_get ks p ≡ Some part
+
+-- Output 0 of process p, and no other, sends to the connection at input 0 of process q.
+pub record LeadsTo (plan : Plan) (p q : ℕ) : Type 0 where
+  pub connection : ℕ
+  pub sends : sends_at plan p 0 ≡ Some connection
+  pub alone : (r o : ℕ) → sends_at plan r o ≡ Some connection → (r ≡ p) × (o ≡ 0)
+  pub receives : receives_at plan q 0 ≡ Some connection
+
+-- A chain of a reader, a Words, a Fill and a writer.
+pub record IsTelegram (plan : Plan) (ks : List Std) (a b c d : ℕ) (lines : List (List ℕ)) (size : ℕ) : Type 0 where
+  pub reader : RunsPart plan ks a (parts.ReadLines lines)
+  pub splitter : RunsPart plan ks b (parts.Words words_parts.Waiting)
+  pub filler : RunsPart plan ks c (parts.Fill (fresh_fill size))
+  pub writer : RunsPart plan ks d (parts.WriteLines [])
+  pub to_splitter : LeadsTo plan a b
+  pub to_filler : LeadsTo plan b c
+  pub to_writer : LeadsTo plan c d
+
+-- Its writer has written the lines of the one filling of the words of the reader's lines. (Naur's and Morrison's Telegram Problem.)
+abbrev pub TelegramMeans : Type 0
+TelegramMeans =
+    (plan : Plan) (ks : List Std) (wrote : ℕ → List ℕ) (a b c d : ℕ) (lines : List (List ℕ)) (size : ℕ) → Composes plan ks wrote → IsTelegram plan ks a b c d lines size
+    → (z : List Tree) × Filling size (flat_map words_of (map text_packet lines)) z × (wrote d ≡ rendered_all z)
+
+-- No connection has two senders.
+abbrev pub IsUnmerged : Plan → Type 0
+IsUnmerged plan = (c p o q r : ℕ) → sends_at plan p o ≡ Some c → sends_at plan q r ≡ Some c → (p ≡ q) × (o ≡ r)
+
+-- No connection leads back: each leads from a lower to a higher process by some order of them.
+pub record LeadsOn (plan : Plan) : Type 0 where
+  pub rank : ℕ → ℕ
+  pub rises : (p o q i c : ℕ) → sends_at plan p o ≡ Some c → receives_at plan q i ≡ Some c → rank p < rank q
+
+-- Each connection at an input has a sender, which is an output of a process of the plan with a component that uses it.
+abbrev pub AreFed : Plan → List Std → Type 0
+AreFed plan ks =
+    (q i c : ℕ) → receives_at plan q i ≡ Some c
+    → (p : ℕ) × (o : ℕ) × (part : Std) × RunsPart plan ks p part × (sends_at plan p o ≡ Some c) × IsTrue (Rattle.flow_catalogue.specs.Std.std_uses part o)
+
+-- Such a network means one outcome: what a process wrote is the same in all of its compositions.
+abbrev pub OneOutcome : Type 0
+OneOutcome =
+    (plan : Plan) (ks : List Std) (wrote other : ℕ → List ℕ) → IsUnmerged plan → LeadsOn plan → AreFed plan ks → Composes plan ks wrote → Composes plan ks other
+    → (p : ℕ) (bytes : List ℕ) → RunsPart plan ks p (parts.WriteLines bytes) → wrote p ≡ other p
