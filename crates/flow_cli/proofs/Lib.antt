@@ -8,3 +8,4 @@ pub mod Runs
 pub mod Stopping
 pub mod Tops
 pub mod Written
+pub mod Meaning

@@ -7,3 +7,4 @@ pub mod Runs
 pub mod Step
 pub mod Stops
 pub mod Top
+pub mod Meant

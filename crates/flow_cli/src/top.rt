@@ -4,6 +4,7 @@ ghost use Rattle.flow_text.specs.Edge.{Rose, Name, after_write};
 ghost use Rattle.flow_words.specs.Words.{Run, command_of};
 ghost use Rattle.flow_cli.specs.Step.{HoldsMore};
 ghost use Rattle.flow_cli.specs.Prepare.{Asks, IsCommand, IsRefused, IsReadFor};
+ghost use Rattle.flow_cli.specs.Meant.{IsFinishedStatus, LeavesMeaning};
 ghost use Rattle.flow_cli.specs.Stops.{text_of};
 ghost use Rattle.flow_cli.specs.Top.{IsCut, IsUntouched, Stands, PrintsStop, IsOver, StopsBefore, ComesToEnd, IsValid, NoFaults};
 ghost use Rattle.flow_cli.specs.declared.stop.Stop.TheVariants.{Words, Refused, ReadFault, WriteFault, TooLong, NoMemory};
@@ -12,7 +13,10 @@ use crate::after::print;
 use crate::parts::FILE_LIMIT;
 use crate::run::run;
 use crate::stop::{Stop, status, text};
+use flow_catalogue::{Std, a_plan_over_the_table_is_standard};
 use flow_journal::Journal;
+use flow_meanings::a_finished_network_composes_its_meanings;
+use flow_ready::a_valid_plan_is_ready;
 use flow_text::{Shelf, Sink};
 use std::alloc::Global;
 
@@ -35,6 +39,9 @@ pub fn plain_top<F: Shelf, O: Sink>(
 ) -> Outcome
     // A run came to its end, or a check did.
     ensures over { IsOver result.status → ComesToEnd (F.outside shelf.old) (F.outside shelf.new) (O.outside out.old) (O.outside out.new) words.now result }
+
+    // A run that finished left the files that its network means.
+    ensures meaning { IsFinishedStatus result.status → LeavesMeaning (F.outside shelf.old) (F.outside shelf.new) words.now }
 
     // Each other status has its cause.
     ensures words { result.status ≡ 2 → (command_of (map string_bytes words.now) ≡ None) × (F.outside shelf.new ≡ F.outside shelf.old)
@@ -73,6 +80,9 @@ pub fn plain_top<F: Shelf, O: Sink>(
     ensures complete { NoFaults (F.outside shelf.old) (F.outside shelf.new) (O.outside out.old) (O.outside out.new)
         → IfSome (F.outside shelf.old).files (λ files. IsValid files words.now FILE_LIMIT → IsOver result.status ⊎ (result.status ≡ 8)) }
 {
+    a_plan_over_the_table_is_standard();
+    a_valid_plan_is_ready::<Std>();
+    a_finished_network_composes_its_meanings();
     match run(alloc, words, shelf) {
         Ok(ending) => Outcome {
             status: print(out, &ending.text, ending.status),

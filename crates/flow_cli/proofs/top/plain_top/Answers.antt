@@ -3,6 +3,7 @@ use Rattle.flow_cli.specs.After.{Prints}
 use Rattle.flow_cli.specs.declared.top.Outcome.{Outcome}
 use Rattle.flow_cli.specs.declared.parts.TheConstants.{FILE_LIMIT}
 use Rattle.flow_cli.proofs.Tops.{stop-over, words-refused, refused, read-fault, write-fault, too-long, complete, memory, unmade, stop-small, stop-stands, ends, ends-complete, ends-status, ends-stand}
+use Rattle.flow_cli.proofs.Meaning.{meant, stop-unfinished}
 use Rattle.flow_cli.proofs.top.plain_top.Goals as goal
 
 pub returns-in-Err-clause-over : goal.returns-in-Err-clause-over
@@ -109,3 +110,17 @@ returns-in-Ok-clause-unmade g c = λ before.
     let ending = c.in-Ok.ending in
     let printed = subst (λ (l : List ℕ). Prints po pn l ending.status c.print.result) c.deref.ensures.value c.print.ensures in
     absurd ((ends-status o n po pn c.args.words.now ending c.print.result c.in-Ok.ensures printed).before before)
+
+pub returns-in-Err-clause-meaning : goal.returns-in-Err-clause-meaning
+returns-in-Err-clause-meaning g c = λ finished.
+    absurd (stop-over (g.O.Edge.outside c.args.out.now) (g.O.Edge.outside c.print_stop.new.out) c.in-Err.halt.stop c.print_stop.result c.print_stop.ensures (stop-unfinished c.print_stop.result finished))
+
+pub returns-in-Ok-clause-meaning : goal.returns-in-Ok-clause-meaning
+returns-in-Ok-clause-meaning g c = λ finished.
+    let o = g.F.Edge.outside c.args.shelf.now in
+    let n = g.F.Edge.outside c.run.new.shelf in
+    let po = g.O.Edge.outside c.args.out.now in
+    let pn = g.O.Edge.outside c.print.new.out in
+    let ending = c.in-Ok.ending in
+    let printed = subst (λ (l : List ℕ). Prints po pn l ending.status c.print.result) c.deref.ensures.value c.print.ensures in
+    meant c.a_plan_over_the_table_is_standard.ensures.connected c.a_valid_plan_is_ready.ensures.starts c.a_finished_network_composes_its_meanings.ensures o n po pn c.args.words.now ending c.print.result c.in-Ok.ensures printed finished
