@@ -1,6 +1,6 @@
 -- Runs of a component: what it was told, one answer after another, and what it came to after each. A component's stream meaning is
 -- told of its runs alone. (This project's own.)
-use Rattle.std.specs.Prelude.{◌≡◌, ◌⊎◌, ℕ, ◌<◌, ◌==◌, if◌then◌else◌, List, [], ◌∷◌, ◌++◌, Some}
+use Rattle.std.specs.Prelude.{◌≡◌, ◌⊎◌, ℕ, ◌+◌, ◌<◌, ◌==◌, if◌then◌else◌, List, [], ◌∷◌, ◌++◌, Some}
 use Rattle.std.specs.List.{flat_map}
 use Rattle.flow_packet.specs.declared.packet.Kind.TheVariants as kinds
 use Rattle.flow_packet.specs.Tree.{Tree, id_of, content, packet_of}
@@ -125,6 +125,15 @@ IsStart (Learned output level) = ⊥
 abbrev pub Wakes : ℕ → List Happening → List Happening → Type 0
 Wakes n before [] = Unit {0}
 Wakes n before (happening ∷ later) = (IsStart happening → (before ≡ []) ⊎ ((port : ℕ) × (port < n) × (HeardEnd port before → ⊥))) × Wakes n (before ++ happening ∷ []) later
+
+-- How often it was started.
+abbrev pub starts : List Happening → ℕ
+starts [] = 0
+starts (Started ∷ later) = starts later + 1
+starts (Received input packet ∷ later) = starts later
+starts (Ended input ∷ later) = starts later
+starts (Sent output packet ∷ later) = starts later
+starts (Learned output level ∷ later) = starts later
 
 -- A run from the first state of a component to a deactivation: all that a process that has ended was told.
 pub record EndedRun {K : Type 0} (ready : K → Held → Answer → Type 0) (next : K → Held → Answer → Outcome K → Type 0) (part : K) (happenings : List Happening) : Type 0 where

@@ -21,11 +21,12 @@ use Rattle.flow_model.specs.Plans.{Plan, PlanProcess, input_at, sends_at, proces
 use Rattle.flow_model.specs.Runs.{HasRun, NoneConnected, EndedGotAll}
 use Rattle.flow_model.specs.Wires.{Wires, wires, SameWires, PutBySenders}
 use Rattle.flow_model.specs.Schedules.{Journal, Leads}
+use Rattle.flow_model.specs.Valid.{Valid}
 use Rattle.flow_model.specs.Verdicts.{IsFinished}
 use Rattle.flow_model.proofs.Start.{Valid-start, port-at}
 use Rattle.flow_model.proofs.Schedules.{Valid-leads}
 use Rattle.flow_model.proofs.Fits.{Fit-start, Fit-leads}
-use Rattle.flow_model.proofs.Telling.{AllTell, AllTell-start, AllTell-leads, Tells-run, got-all}
+use Rattle.flow_model.proofs.Telling.{AllTell, AllTell-start, AllTell-leads, Tells-run, got-all, turns-most}
 use Rattle.flow_model.proofs.Wiring.{wires-leads}
 use Rattle.flow_meanings.specs.Means.{IsFirst, Means, bytes_of, contents, KeepsMeanings}
 use Rattle.flow_meanings.specs.Composition.{Sending, arriving, leaving, Composes, AreFirst, wrote_in, FinishedComposes}
@@ -36,12 +37,15 @@ module _ (plan : Plan) (parts : List Std) (journal : Journal) (s : State Std) (w
   told : AllTell StdReady StdNext parts s
   told = AllTell-leads StdReady StdNext std_shape std_uses std_obeys std_stays_ready parts (start_of plan parts) journal s (Valid-start StdReady std_shape std_uses plan parts well) (AllTell-start StdReady StdNext plan parts) leads
 
+  valid : Valid StdReady s
+  valid = Valid-leads StdReady StdNext std_shape std_uses std_obeys std_stays_ready (start_of plan parts) journal s (Valid-start StdReady std_shape std_uses plan parts well) leads
+
   order : InOrder s
-  order = (Valid-leads StdReady StdNext std_shape std_uses std_obeys std_stays_ready (start_of plan parts) journal s (Valid-start StdReady std_shape std_uses plan parts well) leads).in_order
+  order = valid.in_order
 
   over : (p : ℕ) (part : Std) (x : Process Std) → slice_get parts p ≡ Some part → slice_get s.kept.processes p ≡ Some x → x.stage ≡ stages.Ended → Over part p (s.past.told p) x
   over p part x at there ended = record {
-    run = Tells-run StdReady StdNext parts s.kept.channels p (s.past.told p) x part at (told p x there);
+    run = Tells-run StdReady StdNext parts s.kept.channels p (s.past.told p) x part at (turns-most x (valid.each p x there).turns) (told p x there);
     ended = ended;
     fits = ((Fit-leads std_shape std_uses StdReady StdNext std_obeys std_stays_ready std_steady (start_of plan parts) journal s (Fit-start std_shape std_uses StdReady plan parts well) leads).all_fit p x there).inputs;
   }
@@ -185,7 +189,7 @@ finished-composes plan parts journal s well first leads finished = record {
         let o = over plan parts journal s well leads p part x at there ended in
         let some = o.run.has_run none ended in
         let heard : HeardEnd 0 (s.past.told p) = ended-heard part p (s.past.told p) x (first p part at) o (subst (λ (m : ℕ). m < (std_shape part).inputs) one.0 l) some in
-        ap (λ (j : ℕ). contents (got_at s.past p j)) one.0 ∙ got-contents s.past p 0 ∙ o.run.texts none 0 text here heard
+        ap (λ (j : ℕ). contents (got_at s.past p j)) one.0 ∙ got-contents s.past p 0 ∙ o.run.texts (o.run.once none) 0 text here heard
 
     -- what leaves an output is what was sent there
     leaves : (p : ℕ) (x : Process Std) (o c : ℕ) → slice_get s.kept.processes p ≡ Some x → output_at x o ≡ Some c → contents (sent_at s.past p o) ≡ leaving (put_on s) (record { process = p; output = o }) (sends_at plan p o)

@@ -74,7 +74,7 @@ ended-means (parts.Words part) p told x first over =
 ended-means (parts.Fill state) p told x first over =
     let o = own parts.Fill FillReady fill_next (λ part held answer r. r) (λ part held answer. refl) state p told x over in
     let one : 1 ≡ length x.inputs = sym (ap (λ (k : Std). (std_shape k).inputs) o.is) ∙ over.fits in
-    let last = over.run.end_is_last 0 (single-ends x one) in
+    let last = over.run.end_is_last 0 (single-ends x told over.run.once one) in
     let run : EndedRun FillReady FillNext (fresh_fill first.0) told = subst (λ (w : FillState). EndedRun FillReady FillNext w told) first.1 o.run in
     subst (λ (w : FillState). Filling w.size (got 0 told) (sent 0 told)) (sym first.1) (fill_meaning first.0 told run last)
 ended-means (parts.Passthru part) p told x first over =

@@ -1,6 +1,8 @@
 -- Processes with one input, or with none.
-use Rattle.std.proofs.Common.{◌≡◌, ℕ, List, [], ◌∷◌, length, refl, Some, ◌⊎◌, inl, inr, arith, slice_get, sym, ap, ◌∙◌, false}
+use Rattle.std.proofs.Common.{◌≡◌, ◌≤◌, ℕ, List, [], ◌∷◌, length, refl, Some, ◌⊎◌, inl, inr, arith, slice_get, sym, ap, ◌∙◌, false}
 use Rattle.std.specs.List.{list_any}
+use Rattle.flow_component.specs.Happenings.{Happening}
+use Rattle.flow_component.specs.Runs.{starts}
 use Rattle.flow_model.specs.States.{Input, From, Text, Process}
 use Rattle.flow_model.specs.Events.{is_connected}
 use Rattle.flow_model.specs.Runs.{NoneConnected, EndsForGood}
@@ -19,5 +21,5 @@ one-input (Text text ∷ []) is = inr refl
 one-input (i ∷ j ∷ inputs) is = absurd (omega arith)
 
 -- the end of a single input is for good
-pub single-ends : {K : Type 0} (x : Process K) → 1 ≡ length x.inputs → EndsForGood x 0
-single-ends x is = one-input x.inputs is
+pub single-ends : {K : Type 0} (x : Process K) (told : List Happening) → (NoneConnected x → starts told ≤ 1) → 1 ≡ length x.inputs → EndsForGood x told 0
+single-ends x told once is = elim (one-input x.inputs is) [ inl at ↦ inl at | inr none ↦ inr (once none) ]

@@ -1,7 +1,7 @@
 -- What was told of ends and starts, as one more happening comes.
-use Rattle.std.proofs.Common.{◌≡◌, ℕ, ◌<◌, List, [], ◌∷◌, ◌++◌, refl, sym, ◌∙◌, subst, append-nil, append_assoc, ◌⊎◌, inl, inr}
+use Rattle.std.proofs.Common.{◌≡◌, ℕ, arith, ◌≢◌, ◌≤◌, ◌+◌, ◌<◌, List, [], ◌∷◌, ◌++◌, refl, sym, ◌∙◌, subst, append-nil, append_assoc, ◌⊎◌, inl, inr}
 use Rattle.flow_component.specs.Happenings.{Happening, Started, Received, Ended, Sent, Learned}
-use Rattle.flow_component.specs.Runs.{content_got, got, EndIsLast, BringsFirst, StartsBring, IsEnd, HeardEnd, IsStart, Wakes}
+use Rattle.flow_component.specs.Runs.{content_got, got, EndIsLast, BringsFirst, StartsBring, IsEnd, HeardEnd, IsStart, Wakes, starts}
 use Rattle.flow_component.proofs.Streams.{got-more}
 
 -- It is a packet at this input.
@@ -142,3 +142,16 @@ pub wakes-more : (n : ℕ) (before es : List Happening) (e : Happening) → Wake
 wakes-more n before [] e w starts = ((λ s. rw append-nil at (starts s)), tt)
 wakes-more n before (f ∷ es) e w starts =
     (w.0, wakes-more n (before ++ f ∷ []) es e w.1 (λ s. subst (λ (hs : List Happening). (hs ≡ []) ⊎ ((port : ℕ) × (port < n) × (HeardEnd port hs → ⊥))) (sym (append_assoc before (f ∷ []) es)) (starts s)))
+
+-- a start counts one more
+pub starts-count : (es : List Happening) (e : Happening) → starts (es ++ e ∷ []) ≡ starts es + starts (e ∷ [])
+starts-count [] e = omega arith
+starts-count (Started ∷ es) e = omega (arith, starts-count es e)
+starts-count (Received p t ∷ es) e = starts-count es e
+starts-count (Ended p ∷ es) e = starts-count es e
+starts-count (Sent p t ∷ es) e = starts-count es e
+starts-count (Learned p n ∷ es) e = starts-count es e
+
+pub never-told : (hs : List Happening) → starts hs ≡ 0 → (hs ≢ [] → 1 ≤ starts hs) → hs ≡ []
+never-told [] none some = refl
+never-told (h ∷ hs) none some = absurd (let l = some (λ e. cc) in omega arith)

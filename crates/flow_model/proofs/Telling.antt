@@ -1,5 +1,5 @@
 -- What each process was told is a run of its component, ends stand and starts bring something: so it is at the start, and turns and works keep it so.
-use Rattle.std.proofs.Common.{◌≡◌, ◌≢◌, ℕ, ◌+◌, ◌<◌, Bool, true, false, List, [], ◌∷◌, ◌++◌, length, map, Option, Some, None, refl, sym, ap, ◌∙◌, subst, cond, nat_eq, nat_lt, arith, ◌⊎◌, inl, inr, slice_get, slice_set, slice_index, append-nil, ◌==◌, zero, suc}
+use Rattle.std.proofs.Common.{◌≡◌, ◌≢◌, ℕ, length-append, ◌≤◌, ◌+◌, ◌<◌, Bool, true, false, List, [], ◌∷◌, ◌++◌, length, map, Option, Some, None, refl, sym, ap, ◌∙◌, subst, cond, nat_eq, nat_lt, arith, ◌⊎◌, inl, inr, slice_get, slice_set, slice_index, append-nil, ◌==◌, zero, suc}
 use Rattle.std.proofs.lemmas.Bool.Decides.{nat_tests}
 use Rattle.flow_packet.specs.declared.packet.Kind.TheVariants as kinds
 use Rattle.flow_packet.specs.Tree.{Tree, id_of, kind_of, packet_of}
@@ -14,7 +14,7 @@ use Rattle.flow_component.specs.declared.Fail.TheVariants as fails
 use Rattle.flow_component.specs.declared.Shape.{Shape}
 use Rattle.flow_component.specs.Laws.{Outcome, Wishes, Fails, Obeys, StaysReady}
 use Rattle.flow_component.specs.Happenings.{Happening, Started, Received, Ended, Sent, Learned}
-use Rattle.flow_component.specs.Runs.{fresh, content_got, EndIsLast, HeardEnd, Wakes, got, text_packet}
+use Rattle.flow_component.specs.Runs.{fresh, content_got, EndIsLast, HeardEnd, Wakes, got, text_packet, starts}
 use Rattle.flow_component.proofs.Streams.{got-more}
 use Rattle.flow_model.specs.declared.Stage.{Stage}
 use Rattle.flow_model.specs.declared.Stage.TheVariants as stages
@@ -25,17 +25,17 @@ use Rattle.flow_model.specs.Works.{judged, sending, nests, worked, Work}
 use Rattle.flow_model.specs.Schedules.{Settles, LeadsBy, Leads, Journal, Step, Turned, Worked, Reaches}
 use Rattle.flow_model.specs.Plans.{Plan, PlanProcess, process_at_start, processes_at_start, start_of}
 use Rattle.flow_model.specs.Order.{connection_of, input_of, packets_at, InOrder}
-use Rattle.flow_model.specs.Valid.{Valid, OneReceiver, SendersOpen, ReadyAt}
+use Rattle.flow_model.specs.Valid.{Valid, least_left, OneReceiver, SendersOpen, ReadyAt}
 use Rattle.flow_model.specs.Runs.{Follows, NoneConnected, EndsForGood, HasRun, EndedGotAll}
 use Rattle.flow_model.proofs.Lists.{slice_get-set_same, slice_get-set_other, same_or_not}
 use Rattle.flow_model.proofs.Inverse.{explains}
 use Rattle.flow_model.proofs.Order.{inputs-after}
 use Rattle.flow_model.proofs.Ready.{sound-hands}
-use Rattle.flow_model.proofs.Schedules.{Valid-turn, Valid-settles, Valid-work}
+use Rattle.flow_model.proofs.Schedules.{Valid-turn, Valid-settles, Valid-work, turns-after}
 use Rattle.flow_model.proofs.Start.{Valid-start}
 use Rattle.flow_model.proofs.Followings.{follows-event, follows-worked}
 use Rattle.flow_model.proofs.Exhausting.{IsDry, Exhausted, dry, taken, Waits, packet_waits, text_waits, not-both, hears-exhausted, starts-first, finishes-later, start-waits, start-finds, fresh-start, fresh-set, fresh-other, fresh-gone, fresh-apart, dry-after, some-after, finishes-all, all-dry}
-use Rattle.flow_model.proofs.Hearing.{heard-more, last-more, StartsKeep, starts-kept, starts-same, starts-more, wakes-more}
+use Rattle.flow_model.proofs.Hearing.{heard-more, last-more, StartsKeep, starts-kept, starts-same, starts-more, wakes-more, starts-count, never-told}
 
 -- Whether anything was told to a process that stands there.
 abbrev Begun : {K : Type 0} → Process K → List Happening → Stage → Type 0
@@ -178,17 +178,41 @@ heard-event port told x (Learns p level) h = elim (heard-more port told (Learned
 heard-event port told x Sleeps h = inl (subst (HeardEnd port) (append-nil told) h)
 heard-event port told x (Closes o c) h = inl (subst (HeardEnd port) (append-nil told) h)
 
+-- a turn tells one thing at most, and no start goes away
+starts-heard : {K : Type 0} (told : List Happening) (x : Process K) (e : Event) → starts told ≤ starts (told ++ heard x e)
+starts-heard told x Starts = omega (arith, starts-count told Started)
+starts-heard told x Finishes = rw append-nil (omega arith)
+starts-heard told x (Gets i c packet) = omega (arith, starts-count told (Received i packet))
+starts-heard told x (Takes_text i text) = omega (arith, starts-count told (Received i (packet_of (next_id x.held) kinds.Normal text [])))
+starts-heard told x (Hears_end i) = omega (arith, starts-count told (Ended i))
+starts-heard told x (Sends i c packet) = omega (arith, starts-count told (Sent i packet))
+starts-heard told x (Learns i level) = omega (arith, starts-count told (Learned i level))
+starts-heard told x Sleeps = rw append-nil (omega arith)
+starts-heard told x (Closes o c) = rw append-nil (omega arith)
+
+heard-one : {K : Type 0} (x : Process K) (e : Event) → length (heard x e) ≤ 1
+heard-one x Starts = omega arith
+heard-one x Finishes = omega arith
+heard-one x (Gets i c packet) = omega arith
+heard-one x (Takes_text i text) = omega arith
+heard-one x (Hears_end i) = omega arith
+heard-one x (Sends i c packet) = omega arith
+heard-one x (Learns i level) = omega arith
+heard-one x Sleeps = omega arith
+heard-one x (Closes o c) = omega arith
+
+-- where a process that is started now was started once at most, nothing was told before
+first-start : (told : List Happening) → (told ≢ [] → 1 ≤ starts told) → starts (told ++ Started ∷ []) ≤ 1 → told ≡ []
+first-start told some few = never-told told (omega (arith, starts-count told Started)) some
+
 -- a text that was taken isn't fresh again, where its end is for good
-taken-after : {K : Type 0} (channels : List Channel) (x : Process K) (n : ℕ) (told : List Happening) (e : Event) (port : ℕ) (text : List ℕ) → event_of channels x n ≡ Some e → Begun x told x.stage → EndsForGood x port → HeardEnd port told
-    → slice_get x.inputs port ≡ Some (Text text) → is_fresh x port ≡ false → is_fresh (process_after x e) port ≡ false
+taken-after : {K : Type 0} (channels : List Channel) (x : Process K) (n : ℕ) (told : List Happening) (e : Event) (port : ℕ) (text : List ℕ) → event_of channels x n ≡ Some e → (told ≢ [] → 1 ≤ starts told)
+    → EndsForGood x (told ++ heard x e) port → HeardEnd port told → slice_get x.inputs port ≡ Some (Text text) → is_fresh x port ≡ false → is_fresh (process_after x e) port ≡ false
 taken-after channels x n told Starts port text is was good ended input f = absurd (by good)
   where
-    by : EndsForGood x port → ⊥
+    by : EndsForGood x (told ++ Started ∷ []) port → ⊥
     by (inl at) = let h : Some (From at.0) ≡ Some (Text text) = sym at.1 ∙ input in cc
-    by (inr none) =
-        let idle = subst (Begun x told) (explains channels x n Starts is) was in
-        let h : told ≡ [] = idle.0 (starts-first channels x n none is) in
-        subst (HeardEnd port) h ended
+    by (inr few) = subst (HeardEnd port) (first-start told was few) ended
 taken-after channels x n told Finishes port text is was good ended input f = f
 taken-after channels x n told (Gets i c packet) port text is was good ended input f = f
 taken-after channels x n told (Takes_text i other) port text is was good ended input f = fresh-set x.fresh i port f
@@ -221,23 +245,31 @@ text-quiet told h port text fresh none some is = (λ f. same ∙ is.0 f, λ f _.
 pub record Tells {K : Type 0} (ready : K → Held → Answer → Type 0) (next : K → Held → Answer → Outcome K → Type 0) (parts : List K) (channels : List Channel) (p : ℕ) (told : List Happening) (x : Process K) : Type 0 where
   pub follows : (part : K) → slice_get parts p ≡ Some part → Follows ready next (fresh part p) told x x.stage
   pub begun : Begun x told x.stage
-  pub ends : (port : ℕ) → EndsForGood x port → HeardEnd port told → Exhausted channels x port
-  pub last : (port : ℕ) → EndsForGood x port → EndIsLast port told
+  pub started : told ≢ [] → 1 ≤ starts told
+  pub once : NoneConnected x → starts told ≤ 1
+  pub few : length told ≤ x.turns
+  pub ends : (port : ℕ) → EndsForGood x told port → HeardEnd port told → Exhausted channels x port
+  pub last : (port : ℕ) → EndsForGood x told port → EndIsLast port told
   pub brings : 0 < length x.inputs → StartsKeep (Waits channels x) (length x.inputs) told
   pub wakes : Wakes (length x.inputs) [] told
-  pub texts : NoneConnected x → (port : ℕ) (text : List ℕ) → slice_get x.inputs port ≡ Some (Text text) → TextIs told port text (is_fresh x port)
+  pub texts : starts told ≤ 1 → (port : ℕ) (text : List ℕ) → slice_get x.inputs port ≡ Some (Text text) → TextIs told port text (is_fresh x port)
   pub over : IsOverStage x.stage → (port c : ℕ) → slice_get x.inputs port ≡ Some (From c) → IsDry channels c
 
 module _ {K : Type 0} (ready : K → Held → Answer → Type 0) (next : K → Held → Answer → Outcome K → Type 0) (parts : List K) (kept : Kept K) (p : ℕ) (x : Process K) (n : ℕ) (there : slice_get kept.processes p ≡ Some x) (senders : SendersOpen kept)
     (one : OneReceiver kept.processes) where
-  exhausted-after : (told : List Happening) (e : Event) (port : ℕ) → event_of kept.channels x n ≡ Some e → Begun x told x.stage → EndsForGood x port → HeardEnd port told → Exhausted kept.channels x port
+  exhausted-after : (told : List Happening) (e : Event) (port : ℕ) → event_of kept.channels x n ≡ Some e → (told ≢ [] → 1 ≤ starts told) → EndsForGood x (told ++ heard x e) port → HeardEnd port told → Exhausted kept.channels x port
       → Exhausted (channels_after kept.channels p e) (process_after x e) port
   exhausted-after told e port is was good ended (dry c input h) = dry c (ap (λ (is : List Input). slice_get is port) (inputs-after x e) ∙ input) (dry-after kept p x n there senders e is c h)
   exhausted-after told e port is was good ended (taken text input f) =
       taken text (ap (λ (is : List Input). slice_get is port) (inputs-after x e) ∙ input) (taken-after kept.channels x n told e port text is was good ended input f)
 
-  good-before : (e : Event) (port : ℕ) → EndsForGood (process_after x e) port → EndsForGood x port
-  good-before e port good = subst (λ (is : List Input). ((c : ℕ) × (slice_get is port ≡ Some (From c))) ⊎ (Rattle.std.specs.List.list_any Rattle.flow_model.specs.Events.is_connected is ≡ false)) (inputs-after x e) good
+  good-before : (hs : List Happening) (e : Event) (port : ℕ) → EndsForGood (process_after x e) hs port → EndsForGood x hs port
+  good-before hs e port (inl at) = inl (at.0, ap (λ (is : List Input). slice_get is port) (sym (inputs-after x e)) ∙ at.1)
+  good-before hs e port (inr few) = inr few
+
+  good-less : (told : List Happening) (e : Event) (port : ℕ) → EndsForGood x (told ++ heard x e) port → EndsForGood x told port
+  good-less told e port (inl at) = inl at
+  good-less told e port (inr few) = inr (omega (arith, starts-heard told x e))
 
   just-heard : (port : ℕ) → event_of kept.channels x n ≡ Some (Hears_end port) → Exhausted kept.channels (process_after x (Hears_end port)) port
   just-heard port is = by (hears-exhausted kept.channels x n port is)
@@ -247,11 +279,13 @@ module _ {K : Type 0} (ready : K → Held → Answer → Type 0) (next : K → H
       by (taken text input f) = taken text input f
 
   ends-after : (told : List Happening) (e : Event) → event_of kept.channels x n ≡ Some e → Tells ready next parts kept.channels p told x
-      → (port : ℕ) → EndsForGood (process_after x e) port → HeardEnd port (told ++ heard x e) → Exhausted (channels_after kept.channels p e) (process_after x e) port
-  ends-after told e is was port good ended = elim (heard-event port told x e ended) [
-    | inl old ↦ exhausted-after told e port is was.begun (good-before e port good) old (was.ends port (good-before e port good) old)
-    | inr new ↦ subst (λ (f : Event). Exhausted (channels_after kept.channels p f) (process_after x f) port) (sym new) (just-heard port (is ∙ ap Some new))
-  ]
+      → (port : ℕ) → EndsForGood (process_after x e) (told ++ heard x e) port → HeardEnd port (told ++ heard x e) → Exhausted (channels_after kept.channels p e) (process_after x e) port
+  ends-after told e is was port good ended =
+      let was_good = good-before (told ++ heard x e) e port good in
+      elim (heard-event port told x e ended) [
+        | inl old ↦ exhausted-after told e port is was.started was_good old (was.ends port (good-less told e port was_good) old)
+        | inr new ↦ subst (λ (f : Event). Exhausted (channels_after kept.channels p f) (process_after x f) port) (sym new) (just-heard port (is ∙ ap Some new))
+      ]
 
   gets-waits : (i c : ℕ) (packet : Tree) → event_of kept.channels x n ≡ Some (Gets i c packet) → Waits kept.channels x i
   gets-waits i c packet is =
@@ -262,13 +296,13 @@ module _ {K : Type 0} (ready : K → Held → Answer → Type 0) (next : K → H
   takes-waits i text is = let from = explains kept.channels x n (Takes_text i text) is in text_waits text from.input from.fresh
 
   -- what waits isn't got after its end
-  nothing-got : (told : List Happening) (port i : ℕ) (t : Tree) → Tells ready next parts kept.channels p told x → EndsForGood x port → Waits kept.channels x i → HeardEnd port told → content_got port (Received i t) ≡ []
+  nothing-got : (told : List Happening) (port i : ℕ) (t : Tree) → Tells ready next parts kept.channels p told x → EndsForGood x told port → Waits kept.channels x i → HeardEnd port told → content_got port (Received i t) ≡ []
   nothing-got told port i t was good waits ended = elim (same_or_not port i) [
     | inl same ↦ absurd (not-both kept.channels x port (was.ends port good ended) (subst (Waits kept.channels x) (sym same) waits))
     | inr other ↦ not_got port i t other
   ]
 
-  last-after : (told : List Happening) (e : Event) → event_of kept.channels x n ≡ Some e → Tells ready next parts kept.channels p told x → (port : ℕ) → EndsForGood x port → EndIsLast port (told ++ heard x e)
+  last-after : (told : List Happening) (e : Event) → event_of kept.channels x n ≡ Some e → Tells ready next parts kept.channels p told x → (port : ℕ) → EndsForGood x told port → EndIsLast port (told ++ heard x e)
   last-after told Starts is was port good = last-more port told Started (was.last port good) (λ k. refl)
   last-after told Finishes is was port good = rw append-nil (was.last port good)
   last-after told (Gets i c packet) is was port good = last-more port told (Received i packet) (was.last port good) (nothing-got told port i packet was good (gets-waits i c packet is))
@@ -357,46 +391,83 @@ module _ {K : Type 0} (ready : K → Held → Answer → Type 0) (next : K → H
   wished : (told : List Happening) (wish : Wish) → x.stage ≡ stages.Wishing wish → Tells ready next parts kept.channels p told x → told ≢ []
   wished told wish at was = subst (Begun x told) at was.begun
 
-  texts-after : (told : List Happening) (e : Event) → event_of kept.channels x n ≡ Some e → Tells ready next parts kept.channels p told x → NoneConnected x → (port : ℕ) (text : List ℕ) → slice_get x.inputs port ≡ Some (Text text)
-      → TextIs (told ++ heard x e) port text (is_fresh (process_after x e) port)
-  texts-after told Starts is was none port text input =
+  less : (told : List Happening) (e : Event) → starts (told ++ heard x e) ≤ 1 → starts told ≤ 1
+  less told e few = omega (arith, starts-heard told x e)
+
+  started-after : (told : List Happening) (e : Event) → event_of kept.channels x n ≡ Some e → Tells ready next parts kept.channels p told x → told ++ heard x e ≢ [] → 1 ≤ starts (told ++ heard x e)
+  started-after told Starts is was some = omega (arith, starts-count told Started)
+  started-after told Finishes is was some = rw append-nil (was.started (λ h. some (append-nil told ∙ h)))
+  started-after told (Gets i c packet) is was some =
+      let from = explains kept.channels x n (Gets i c packet) is in
+      omega (arith, starts-count told (Received i packet), was.started (wished told (wishes.Receive from.wished) from.stage was))
+  started-after told (Takes_text i text) is was some =
+      let from = explains kept.channels x n (Takes_text i text) is in
+      omega (arith, starts-count told (Received i (packet_of (next_id x.held) kinds.Normal text [])), was.started (wished told (wishes.Receive from.wished) from.stage was))
+  started-after told (Hears_end i) is was some =
+      let from = explains kept.channels x n (Hears_end i) is in
+      omega (arith, starts-count told (Ended i), was.started (wished told (wishes.Receive from.wished) from.stage was))
+  started-after told (Sends i c packet) is was some =
+      let to = explains kept.channels x n (Sends i c packet) is in
+      omega (arith, starts-count told (Sent i packet), was.started (wished told (wishes.Send to.wished to.id) to.stage was))
+  started-after told (Learns i level) is was some =
+      let at = explains kept.channels x n (Learns i level) is in
+      omega (arith, starts-count told (Learned i level), was.started (wished told (wishes.Level at.wished) at.stage was))
+  started-after told Sleeps is was some = rw append-nil (was.started (λ h. some (append-nil told ∙ h)))
+  started-after told (Closes o c) is was some = rw append-nil (was.started (λ h. some (append-nil told ∙ h)))
+
+  once-after : (told : List Happening) (e : Event) → event_of kept.channels x n ≡ Some e → Tells ready next parts kept.channels p told x → NoneConnected x → starts (told ++ heard x e) ≤ 1
+  once-after told Starts is was none =
       let idle = subst (Begun x told) (explains kept.channels x n Starts is) was.begun in
-      let empty : told ≡ [] = idle.0 (starts-first kept.channels x n none is) in
+      let empty : starts told ≡ 0 = ap starts (idle.0 (starts-first kept.channels x n none is)) in
+      omega (arith, starts-count told Started)
+  once-after told Finishes is was none = rw append-nil (was.once none)
+  once-after told (Gets i c packet) is was none = omega (arith, starts-count told (Received i packet), was.once none)
+  once-after told (Takes_text i text) is was none = omega (arith, starts-count told (Received i (packet_of (next_id x.held) kinds.Normal text [])), was.once none)
+  once-after told (Hears_end i) is was none = omega (arith, starts-count told (Ended i), was.once none)
+  once-after told (Sends i c packet) is was none = omega (arith, starts-count told (Sent i packet), was.once none)
+  once-after told (Learns i level) is was none = omega (arith, starts-count told (Learned i level), was.once none)
+  once-after told Sleeps is was none = rw append-nil (was.once none)
+  once-after told (Closes o c) is was none = rw append-nil (was.once none)
+
+  texts-after : (told : List Happening) (e : Event) → event_of kept.channels x n ≡ Some e → Tells ready next parts kept.channels p told x → starts (told ++ heard x e) ≤ 1 → (port : ℕ) (text : List ℕ) → slice_get x.inputs port ≡ Some (Text text)
+      → TextIs (told ++ heard x e) port text (is_fresh (process_after x e) port)
+  texts-after told Starts is was few port text input =
+      let empty : told ≡ [] = first-start told was.started few in
       let fresh : is_fresh (process_after x Starts) port ≡ true = fresh-start x.inputs port text input in (
         λ f. ap (λ (hs : List Happening). got port (hs ++ Started ∷ [])) empty,
         λ f some. absurd (let h : true ≡ false = sym fresh ∙ f in cc),
       )
-  texts-after told Finishes is was none port text input = rw append-nil (was.texts none port text input)
-  texts-after told (Gets i c packet) is was none port text input =
+  texts-after told Finishes is was few port text input = rw append-nil (was.texts (less told Finishes few) port text input)
+  texts-after told (Gets i c packet) is was few port text input =
       let from = explains kept.channels x n (Gets i c packet) is in
       let apart : port ≢ i = λ same. (let h : Some (Text text) ≡ Some (From c) = sym input ∙ ap (slice_get x.inputs) same ∙ from.input in cc) in
-      text-quiet told (Received i packet) port text (is_fresh x port) (not_got port i packet apart) (wished told (wishes.Receive from.wished) from.stage was) (was.texts none port text input)
-  texts-after told (Takes_text i other) is was none port text input =
+      text-quiet told (Received i packet) port text (is_fresh x port) (not_got port i packet apart) (wished told (wishes.Receive from.wished) from.stage was) (was.texts (less told (Gets i c packet) few) port text input)
+  texts-after told (Takes_text i other) is was few port text input =
       let from = explains kept.channels x n (Takes_text i other) is in
       let packet = packet_of (next_id x.held) kinds.Normal other [] in
       elim (same_or_not port i) [
         | inl same ↦ (let h : Some (Text text) ≡ Some (Text other) = sym input ∙ ap (slice_get x.inputs) same ∙ from.input in
             let words : text ≡ other = cc in
-            let before : got port told ≡ [] = (was.texts none port text input).0 (ap (is_fresh x) same ∙ from.fresh) in
+            let before : got port told ≡ [] = (was.texts (less told (Takes_text i other) few) port text input).0 (ap (is_fresh x) same ∙ from.fresh) in
             let t : nat_eq port i ≡ true = grind (arith, nat_tests) in
             let now : content_got port (Received i packet) ≡ text_packet text ∷ [] = rw (t, words) refl in
             let all : got port (told ++ Received i packet ∷ []) ≡ text_packet text ∷ [] = got-more port told (Received i packet) ∙ (λ j. before j ++ now j) in
             let gone : is_fresh (process_after x (Takes_text i other)) port ≡ false = ap (is_fresh (process_after x (Takes_text i other))) same ∙ fresh-gone x.fresh i in
             ((λ f. absurd (let k : true ≡ false = sym f ∙ gone in cc)), (λ f some. all)))
         | inr apart ↦ subst (TextIs (told ++ Received i packet ∷ []) port text) (sym (fresh-apart x.fresh i port apart))
-            (text-quiet told (Received i packet) port text (is_fresh x port) (not_got port i packet apart) (wished told (wishes.Receive from.wished) from.stage was) (was.texts none port text input))
+            (text-quiet told (Received i packet) port text (is_fresh x port) (not_got port i packet apart) (wished told (wishes.Receive from.wished) from.stage was) (was.texts (less told (Takes_text i other) few) port text input))
       ]
-  texts-after told (Hears_end i) is was none port text input =
+  texts-after told (Hears_end i) is was few port text input =
       let from = explains kept.channels x n (Hears_end i) is in
-      text-quiet told (Ended i) port text (is_fresh x port) refl (wished told (wishes.Receive from.wished) from.stage was) (was.texts none port text input)
-  texts-after told (Sends i c packet) is was none port text input =
+      text-quiet told (Ended i) port text (is_fresh x port) refl (wished told (wishes.Receive from.wished) from.stage was) (was.texts (less told (Hears_end i) few) port text input)
+  texts-after told (Sends i c packet) is was few port text input =
       let to = explains kept.channels x n (Sends i c packet) is in
-      text-quiet told (Sent i packet) port text (is_fresh x port) refl (wished told (wishes.Send to.wished to.id) to.stage was) (was.texts none port text input)
-  texts-after told (Learns i level) is was none port text input =
+      text-quiet told (Sent i packet) port text (is_fresh x port) refl (wished told (wishes.Send to.wished to.id) to.stage was) (was.texts (less told (Sends i c packet) few) port text input)
+  texts-after told (Learns i level) is was few port text input =
       let at = explains kept.channels x n (Learns i level) is in
-      text-quiet told (Learned i level) port text (is_fresh x port) refl (wished told (wishes.Level at.wished) at.stage was) (was.texts none port text input)
-  texts-after told Sleeps is was none port text input = rw append-nil (was.texts none port text input)
-  texts-after told (Closes o c) is was none port text input = rw append-nil (was.texts none port text input)
+      text-quiet told (Learned i level) port text (is_fresh x port) refl (wished told (wishes.Level at.wished) at.stage was) (was.texts (less told (Learns i level) few) port text input)
+  texts-after told Sleeps is was few port text input = rw append-nil (was.texts (less told Sleeps few) port text input)
+  texts-after told (Closes o c) is was few port text input = rw append-nil (was.texts (less told (Closes o c) few) port text input)
 
   over-after : (told : List Happening) (e : Event) → event_of kept.channels x n ≡ Some e → Tells ready next parts kept.channels p told x → IsOverStage (process_after x e).stage → (port c : ℕ) → slice_get x.inputs port ≡ Some (From c)
       → IsDry (channels_after kept.channels p e) c
@@ -413,12 +484,15 @@ module _ {K : Type 0} (ready : K → Held → Answer → Type 0) (next : K → H
         follows = λ part at. follows-event ready next kept.channels (fresh part p) told x n e is (was.follows part at);
         begun = begun-event kept.channels x n told e is was.begun;
         ends = ends-after told e is was;
-        last = λ port good. last-after told e is was port (good-before e port good);
+        last = λ port good. last-after told e is was port (good-less told e port (good-before (told ++ heard x e) e port good));
+        started = started-after told e is was;
+        once = λ none. once-after told e is was (subst (λ (is : List Input). Rattle.std.specs.List.list_any Rattle.flow_model.specs.Events.is_connected is ≡ false) inputs none);
+        few = omega (arith, length-append told (heard x e), heard-one x e, turns-after x e, was.few);
         brings = λ some.
             subst (λ (m : ℕ). StartsKeep (Waits (channels_after kept.channels p e) (process_after x e)) m (told ++ heard x e)) (ap length (sym inputs))
             (brings-after told e is (subst (λ (m : ℕ). 0 < m) (ap length inputs) some) (was.brings (subst (λ (m : ℕ). 0 < m) (ap length inputs) some)));
         wakes = subst (λ (m : ℕ). Wakes m [] (told ++ heard x e)) (ap length (sym inputs)) (wakes-after told e is was);
-        texts = λ none port text input. texts-after told e is was (subst (λ (is : List Input). Rattle.std.specs.List.list_any Rattle.flow_model.specs.Events.is_connected is ≡ false) inputs none) port text (ap (λ (is : List Input). slice_get is port) (sym inputs) ∙ input);
+        texts = λ few port text input. texts-after told e is was few port text (ap (λ (is : List Input). slice_get is port) (sym inputs) ∙ input);
         over = λ over port c input. over-after told e is was over port c (ap (λ (is : List Input). slice_get is port) (sym inputs) ∙ input);
       }
 
@@ -433,6 +507,9 @@ module _ {K : Type 0} (ready : K → Held → Answer → Type 0) (next : K → H
     brings = λ some. starts-same (Waits kept.channels z) (Waits (channels_after kept.channels p e) z) (length z.inputs) (λ port w. waits-after kept.channels p z z e port refl (untaken port) (λ text input f. f) w) told (was.brings some);
     wakes = was.wakes;
     texts = was.texts;
+    started = was.started;
+    once = was.once;
+    few = was.few;
     over = λ over port c input. dry-after kept p x n there senders e is c (was.over over port c input);
   }
     where
@@ -491,6 +568,9 @@ Tells-worked {K} ready next parts channels p told x answer (Wishes part held wis
       brings = λ some. starts-same (Waits channels x) (Waits channels y) (length x.inputs) waits told (was.brings some);
       wakes = was.wakes;
       texts = was.texts;
+      started = was.started;
+      once = was.once;
+      few = was.few;
       over = λ over. absurd (judged-works x.depths held wish over);
     }
   where
@@ -511,6 +591,9 @@ Tells-worked {K} ready next parts channels p told x answer (Fails part held caus
       brings = λ some. starts-same (Waits channels x) (Waits channels y) (length x.inputs) waits told (was.brings some);
       wakes = was.wakes;
       texts = was.texts;
+      started = was.started;
+      once = was.once;
+      few = was.few;
       over = λ over. absurd over;
     }
   where
@@ -567,7 +650,10 @@ AllTell-start {K} ready next plan parts p x is = record {
   last = λ port good. tt;
   brings = λ some. tt;
   wakes = tt;
-  texts = λ none port text input. ((λ f. refl), (λ f some. absurd (some refl)));
+  texts = λ few port text input. ((λ f. refl), (λ f some. absurd (some refl)));
+  started = λ some. absurd (some refl);
+  once = λ none. omega arith;
+  few = omega arith;
   over = λ over. absurd (let start = Rattle.flow_model.proofs.Start.start-process plan parts p x is in let h : x.stage ≡ stages.Idle = ap (λ (z : Process K). z.stage) start.is in subst IsOverStage h over);
 }
 
@@ -599,15 +685,20 @@ module _ {K : Type 0} (ready : K → Held → Answer → Type 0) (next : K → H
   pub AllTell-leads : (s : State K) (journal : Journal) (s' : State K) → Valid ready s → AllTell ready next parts s → Leads next s journal s' → AllTell ready next parts s'
   AllTell-leads s journal s' valid all leads = AllTell-leads_by s journal.turns journal.seen s' valid all leads
 
+pub turns-most : {K : Type 0} (x : Process K) → x.turns + least_left x.stage ≤ turn_limit → x.turns ≤ turn_limit
+turns-most x most = omega (arith, most)
+
 -- what is promised of it
 pub Tells-run : {K : Type 0} (ready : K → Held → Answer → Type 0) (next : K → Held → Answer → Outcome K → Type 0) (parts : List K) (channels : List Channel) (p : ℕ) (told : List Happening) (x : Process K) (part : K)
-    → slice_get parts p ≡ Some part → Tells ready next parts channels p told x → HasRun ready next part p told x
-Tells-run ready next parts channels p told x part at t = record {
+    → slice_get parts p ≡ Some part → x.turns ≤ turn_limit → Tells ready next parts channels p told x → HasRun ready next part p told x
+Tells-run ready next parts channels p told x part at most t = record {
   follows = t.follows part at;
   end_is_last = t.last;
   starts_bring = λ some. starts-kept (Waits channels x) (length x.inputs) told (t.brings some);
   wakes = t.wakes;
-  texts = λ none port text input ended. by none port text input ended (t.ends port (inr none) ended);
+  once = t.once;
+  few = omega (arith, t.few);
+  texts = λ few port text input ended. by few port text input ended (t.ends port (inr few) ended);
   has_run = λ none ended. subst (Begun x told) ended t.begun none;
 }
   where
@@ -615,7 +706,7 @@ Tells-run ready next parts channels p told x part at t = record {
     heard-some port [] h is = h
     heard-some port (e ∷ hs) h is = cc
 
-    by : NoneConnected x → (port : ℕ) (text : List ℕ) → slice_get x.inputs port ≡ Some (Text text) → HeardEnd port told → Exhausted channels x port → got port told ≡ text_packet text ∷ []
+    by : starts told ≤ 1 → (port : ℕ) (text : List ℕ) → slice_get x.inputs port ≡ Some (Text text) → HeardEnd port told → Exhausted channels x port → got port told ≡ text_packet text ∷ []
     by none port text input ended (dry c from h) = absurd (let k : Some (From c) ≡ Some (Text text) = sym from ∙ input in cc)
     by none port text input ended (taken other from f) = (t.texts none port text input).1 f (heard-some port told ended)
 

@@ -25,6 +25,8 @@ pub made-anywhere : (bytes : List ℕ) (process : Process) (part : Std) → proc
 made-anywhere bytes process part other (kinds.ReadLines, named, is) = absurd (other named)
 made-anywhere bytes process part other (kinds.WriteLines, named, is) = (kinds.WriteLines, named, is)
 made-anywhere bytes process part other (kinds.Passthru, named, is) = (kinds.Passthru, named, is)
+made-anywhere bytes process part other (kinds.Words, named, is) = (kinds.Words, named, is)
+made-anywhere bytes process part other (kinds.Fill, named, is) = (kinds.Fill, named, is)
 
 pub writes-not-reads : (process : Process) → process.kind ≡ codes "WriteLines" → process.kind ≢ codes "ReadLines"
 writes-not-reads process writes reads = (let bad : codes "WriteLines" ≡ codes "ReadLines" = sym writes ∙ reads in cc)
