@@ -6,7 +6,7 @@ use Rattle.flow_net.specs.declared.plan.Process.{Process}
 use Rattle.flow_net.specs.declared.plan.PortRow.{PortRow}
 use Rattle.flow_net.specs.declared.plan.PortTable.{PortTable}
 use Rattle.flow_net.specs.Network.{Network, is_stream, elements_of, ports_of}
-use Rattle.flow_net.specs.Options.{IsFileName, IsOfClass}
+use Rattle.flow_net.specs.Options.{IsOfClass}
 use Rattle.flow_net.specs.Over.{entries, carries}
 use Rattle.flow_net.specs.Valid.{IsValid, needs_of, HasOptionPort, FitsOption}
 use Rattle.flow_catalogue.specs.declared.table.StdKind.{StdKind}

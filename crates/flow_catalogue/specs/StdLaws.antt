@@ -10,10 +10,8 @@ use Rattle.flow_parts.specs.ReadLines.{reads, ReadLinesReady}
 use Rattle.flow_parts.specs.ReadLinesLaws.{read_lines_obeys, read_lines_stays_ready}
 use Rattle.flow_parts.specs.WriteLines.{writes}
 use Rattle.flow_parts.specs.WriteLinesLaws.{write_lines_obeys, write_lines_stays_ready}
-use Rattle.flow_parts.specs.declared.words.Words.{Words}
 use Rattle.flow_parts.specs.Words.{words_next, WordsReady}
 use Rattle.flow_parts.specs.WordsLaws.{words_obeys, words_stays_ready}
-use Rattle.flow_parts.specs.FillState.{FillState}
 use Rattle.flow_parts.specs.Fill.{fill_next, FillReady}
 use Rattle.flow_parts.specs.FillLaws.{fill_obeys, fill_stays_ready}
 use Rattle.flow_streams.specs.PassthruLaws.{passthru_obeys, passthru_stays_ready}

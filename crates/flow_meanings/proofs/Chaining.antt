@@ -1,20 +1,19 @@
 -- Networks without merges.
-use Rattle.std.proofs.Common.{◌≡◌, ℕ, zero, suc, ◌<◌, ◌≤◌, List, [], ◌∷◌, map, filter, length, Some, None, Option, refl, sym, ap, ◌∙◌, subst, Bool, true, false, cond, slice_get, arith, nat_eq, ◌&&◌, IsTrue}
+use Rattle.std.proofs.Common.{◌≡◌, ℕ, zero, suc, ◌<◌, List, [], ◌∷◌, map, filter, Some, None, Option, refl, sym, ap, ◌∙◌, subst, Bool, true, false, slice_get, arith, nat_eq, IsTrue}
 use Rattle.std.specs.List.{flat_map}
 use Rattle.std.proofs.lemmas.Bool.Decides.{nat_tests}
 use Rattle.flow_packet.specs.Tree.{Tree}
-use Rattle.flow_component.specs.Runs.{text_packet}
 use Rattle.flow_parts.specs.Filling.{Filling}
 use Rattle.flow_parts.specs.Meanings.{rendered_all, words_of}
 use Rattle.flow_parts.proofs.OneFilling.{one_filling}
 use Rattle.flow_catalogue.specs.declared.standard.Std.{Std}
 use Rattle.flow_catalogue.specs.declared.standard.Std.TheVariants as parts
-use Rattle.flow_catalogue.specs.Std.{std_shape, std_uses}
-use Rattle.flow_model.specs.States.{Input, From, Text, Sender, is_sender}
+use Rattle.flow_catalogue.specs.Std.{std_uses}
+use Rattle.flow_model.specs.States.{Sender, is_sender}
 use Rattle.flow_model.specs.Plans.{Plan, PlanProcess, sends_at, receives_at, input_at, connected_or, text_at}
 use Rattle.flow_meanings.specs.Means.{Means}
 use Rattle.flow_meanings.specs.Composition.{Sending, arriving, leaving, Composes}
-use Rattle.flow_meanings.specs.Chains.{RunsPart, LeadsTo, IsTelegram, TelegramMeans, IsUnmerged, LeadsOn, AreFed, OneOutcome}
+use Rattle.flow_meanings.specs.Chains.{LeadsTo, TelegramMeans, IsUnmerged, LeadsOn, AreFed, OneOutcome}
 
 filter-all : {A : Type 0} (test : A → Bool) (xs : List A) → ((k : ℕ) (x : A) → slice_get xs k ≡ Some x → test x ≡ true) → filter test xs ≡ xs
 filter-all test [] all = refl

@@ -1,12 +1,11 @@
 -- The meanings of the processes of a finished network compose.
-use Rattle.std.proofs.Common.{◌≡◌, ◌≢◌, ℕ, ◌+◌, ◌<◌, List, [], ◌∷◌, ◌++◌, map, filter, length, Option, Some, None, IsSome, IsTrue, refl, sym, ap, ◌∙◌, subst, Bool, true, false, cond, slice_get, unwrap_or, zero, suc, arith, ◌⊎◌, inl, inr, ◌==◌}
+use Rattle.std.proofs.Common.{◌≡◌, ℕ, ◌+◌, ◌<◌, List, [], ◌∷◌, map, filter, length, Option, Some, None, IsSome, IsTrue, refl, sym, ap, ◌∙◌, subst, Bool, true, false, cond, slice_get, unwrap_or, zero, suc, arith}
 use Rattle.std.specs.Prelude.{option_and_then}
 use Rattle.std.specs.List.{flat_map, range_with_len, list_any}
 use Rattle.std.specs.Option.{option_map}
 use Rattle.std.proofs.lemmas.Option.{slice_get-map}
 use Rattle.flow_packet.specs.Tree.{Tree}
-use Rattle.flow_component.specs.Happenings.{Happening}
-use Rattle.flow_component.specs.Runs.{got, sent, text_packet, HeardEnd}
+use Rattle.flow_component.specs.Runs.{sent, HeardEnd}
 use Rattle.flow_parts.specs.Meanings.{rendered_all, words_of}
 use Rattle.flow_parts.specs.Filling.{Filling}
 use Rattle.flow_catalogue.specs.declared.standard.Std.{Std}
@@ -14,22 +13,21 @@ use Rattle.flow_catalogue.specs.declared.standard.Std.TheVariants as parts
 use Rattle.flow_catalogue.specs.Std.{std_shape, std_uses, StdReady, StdNext, written_of}
 use Rattle.flow_catalogue.specs.StdLaws.{std_obeys, std_stays_ready, std_steady}
 use Rattle.flow_model.specs.declared.Stage.TheVariants as stages
-use Rattle.flow_model.specs.States.{Input, From, Text, Sender, is_sender, Process, Put, Entry, State, output_at, got_at, sent_at}
+use Rattle.flow_model.specs.States.{Input, From, Text, Sender, is_sender, Process, Put, State, output_at, got_at, sent_at}
 use Rattle.flow_model.specs.Events.{is_connected}
 use Rattle.flow_model.specs.Order.{InOrder, entries, entries_by, output_of}
 use Rattle.flow_model.specs.Plans.{Plan, PlanProcess, input_at, sends_at, process_at_start, processes_at_start, start_of, StartsWell}
-use Rattle.flow_model.specs.Runs.{HasRun, NoneConnected, EndedGotAll}
+use Rattle.flow_model.specs.Runs.{NoneConnected, EndedGotAll}
 use Rattle.flow_model.specs.Wires.{Wires, wires, SameWires, PutBySenders}
 use Rattle.flow_model.specs.Schedules.{Journal, Leads}
 use Rattle.flow_model.specs.Valid.{Valid}
-use Rattle.flow_model.specs.Verdicts.{IsFinished}
 use Rattle.flow_model.proofs.Start.{Valid-start, port-at}
 use Rattle.flow_model.proofs.Schedules.{Valid-leads}
 use Rattle.flow_model.proofs.Fits.{Fit-start, Fit-leads}
 use Rattle.flow_model.proofs.Telling.{AllTell, AllTell-start, AllTell-leads, Tells-run, got-all, turns-most}
 use Rattle.flow_model.proofs.Wiring.{wires-leads}
 use Rattle.flow_meanings.specs.Means.{IsFirst, Means, bytes_of, contents, KeepsMeanings}
-use Rattle.flow_meanings.specs.Composition.{Sending, arriving, leaving, Composes, AreFirst, wrote_in, FinishedComposes}
+use Rattle.flow_meanings.specs.Composition.{Sending, arriving, leaving, wrote_in, FinishedComposes}
 use Rattle.flow_meanings.proofs.Ending.{Over, ended-means, ended-heard, got-contents, sent-contents}
 
 -- what a schedule leads to, from a start of standard components

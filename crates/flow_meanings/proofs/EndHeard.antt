@@ -19,7 +19,7 @@ use Rattle.flow_parts.specs.WriteLinesLaws.{write_lines_obeys}
 use Rattle.flow_parts.specs.declared.words.Words.{Words}
 use Rattle.flow_parts.specs.declared.words.Words.TheVariants as words_parts
 use Rattle.flow_parts.specs.Text.{word_start, word_end}
-use Rattle.flow_parts.specs.Words.{words_next, sends_piece, sends_next, takes, goes_on, WordsNext, WordsReady}
+use Rattle.flow_parts.specs.Words.{sends_piece, takes, goes_on, WordsNext, WordsReady}
 use Rattle.flow_parts.specs.WordsLaws.{words_obeys}
 use Rattle.flow_parts.specs.declared.fill.FillPlace.{FillPlace}
 use Rattle.flow_parts.specs.declared.fill.FillPlace.TheVariants as places

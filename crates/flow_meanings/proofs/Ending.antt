@@ -1,17 +1,16 @@
 -- A process of a standard kind that has ended has its meaning.
-use Rattle.std.proofs.Common.{◌≡◌, ◌≢◌, ℕ, List, [], ◌∷◌, ◌++◌, map, length, refl, sym, ap, ◌∙◌, subst, Some, nat_eq, Bool, true, false, cond, slice_get, unwrap_or, arith, ◌<◌}
+use Rattle.std.proofs.Common.{◌≡◌, ◌≢◌, ℕ, List, [], ◌∷◌, ◌++◌, map, length, refl, sym, ap, ◌∙◌, subst, nat_eq, Bool, true, false, cond, arith, ◌<◌}
 use Rattle.std.specs.List.{flat_map}
 use Rattle.flow_packet.specs.Held.{Held}
-use Rattle.flow_packet.specs.Tree.{Tree, content}
+use Rattle.flow_packet.specs.Tree.{content}
 use Rattle.flow_component.specs.declared.Answer.{Answer}
 use Rattle.flow_component.specs.declared.Wish.TheVariants as wishes
 use Rattle.flow_component.specs.Laws.{Outcome, Wishes}
 use Rattle.flow_component.specs.Outcomes.{IsAtHand}
 use Rattle.flow_component.specs.Happenings.{Happening, Started, Received, Ended, Sent, Learned}
 use Rattle.flow_component.specs.Runs.{Poise, fresh, Runs, EndedRun, content_got, content_sent, got, sent, HeardEnd}
-use Rattle.flow_parts.specs.declared.words.Words.TheVariants as words_parts
-use Rattle.flow_parts.specs.ReadLines.{reads, ReadLinesReady, ReadLinesNext}
-use Rattle.flow_parts.specs.WriteLines.{writes, WriteLinesNext}
+use Rattle.flow_parts.specs.ReadLines.{reads, ReadLinesReady}
+use Rattle.flow_parts.specs.WriteLines.{writes}
 use Rattle.flow_parts.specs.Words.{words_next, WordsReady, WordsNext}
 use Rattle.flow_parts.specs.FillState.{FillState}
 use Rattle.flow_parts.specs.Fill.{fill_next, FillReady, FillNext}
@@ -21,12 +20,12 @@ use Rattle.flow_parts.proofs.ReadLinesStream.{read_lines_meaning}
 use Rattle.flow_parts.proofs.WriteLinesStream.{write_lines_meaning}
 use Rattle.flow_parts.proofs.WordsStream.{words_meaning}
 use Rattle.flow_parts.proofs.FillStream.{fill_meaning}
-use Rattle.flow_streams.specs.Passthru.{passes, PassthruNext}
+use Rattle.flow_streams.specs.Passthru.{passes}
 use Rattle.flow_streams.specs.declared.passthru.Passthru.{Passthru}
 use Rattle.flow_streams.proofs.PassthruStream.{passthru_meaning}
 use Rattle.flow_catalogue.specs.declared.standard.Std.{Std}
 use Rattle.flow_catalogue.specs.declared.standard.Std.TheVariants as parts
-use Rattle.flow_catalogue.specs.Std.{std_shape, StdReady, std_next, StdNext, written_of}
+use Rattle.flow_catalogue.specs.Std.{std_shape, StdReady, std_next, StdNext}
 use Rattle.flow_model.specs.declared.Stage.TheVariants as stages
 use Rattle.flow_model.specs.States.{Entry, Process, Past, got_by, sent_by, got_at, sent_at}
 use Rattle.flow_model.specs.Runs.{poise, Follows, HasRun}

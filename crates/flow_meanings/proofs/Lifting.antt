@@ -1,5 +1,5 @@
 -- A run of a standard component is a run of its own kind.
-use Rattle.std.proofs.Common.{◌≡◌, List, [], ◌∷◌, refl, sym, ap, subst, ◌∙◌}
+use Rattle.std.proofs.Common.{◌≡◌, List, [], ◌∷◌, refl, subst, ◌∙◌}
 use Rattle.flow_component.specs.declared.Answer.{Answer}
 use Rattle.flow_packet.specs.Held.{Held}
 use Rattle.flow_component.specs.Laws.{Outcome, Wishes, Fails}

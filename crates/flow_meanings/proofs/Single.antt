@@ -1,5 +1,5 @@
 -- Processes with one input, or with none.
-use Rattle.std.proofs.Common.{◌≡◌, ◌≤◌, ℕ, List, [], ◌∷◌, length, refl, Some, ◌⊎◌, inl, inr, arith, slice_get, sym, ap, ◌∙◌, false}
+use Rattle.std.proofs.Common.{◌≡◌, ◌≤◌, ℕ, List, [], ◌∷◌, length, refl, Some, ◌⊎◌, inl, inr, arith, slice_get, false}
 use Rattle.std.specs.List.{list_any}
 use Rattle.flow_component.specs.Happenings.{Happening}
 use Rattle.flow_component.specs.Runs.{starts}

@@ -9,7 +9,7 @@ use Rattle.flow_model.specs.States.{Input, From, Text, Sender, is_sender, Proces
 use Rattle.flow_model.specs.Schedules.{Journal, Leads}
 use Rattle.flow_model.specs.Plans.{Plan, PlanProcess, input_at, sends_at, start_of, StartsWell}
 use Rattle.flow_model.specs.Verdicts.{IsFinished}
-use Rattle.flow_meanings.specs.Means.{IsFirst, Means, bytes_of}
+use Rattle.flow_meanings.specs.Means.{IsFirst, Means}
 
 -- A packet on a connection: whose it is, and its content.
 pub record Sending : Type 0 where

@@ -1,5 +1,5 @@
 -- What a standard component makes of its streams. (Morrison's components and JavaFBP's; the exact rules are this project's own.)
-use Rattle.std.specs.Prelude.{◌≡◌, ℕ, List, [], ◌++◌, map, Some, slice_get, unwrap_or}
+use Rattle.std.specs.Prelude.{◌≡◌, ℕ, List, [], map, Some, slice_get, unwrap_or}
 use Rattle.std.specs.List.{flat_map}
 use Rattle.flow_packet.specs.Tree.{Tree}
 use Rattle.flow_component.specs.Runs.{text_packet}

@@ -1,18 +1,17 @@
 -- The wires stay, and what is put in a connection was put by an output that leads there: turns and works keep it so.
-use Rattle.std.proofs.Common.{◌≡◌, ℕ, List, [], ◌∷◌, ◌++◌, map, Option, Some, None, refl, sym, ap, ◌∙◌, subst, cond, nat_eq, Bool, true, false, ◌⊎◌, inl, inr, slice_get, slice_set, zero, suc, arith}
+use Rattle.std.proofs.Common.{◌≡◌, ℕ, List, [], ◌∷◌, ◌++◌, map, Some, refl, sym, ap, ◌∙◌, subst, cond, nat_eq, Bool, true, false, ◌⊎◌, inl, inr, slice_get, slice_set, zero, suc, arith}
 use Rattle.std.proofs.lemmas.Bool.Decides.{nat_tests}
 use Rattle.flow_packet.specs.Held.{Held}
 use Rattle.flow_component.specs.declared.Answer.{Answer}
 use Rattle.flow_component.specs.Laws.{Outcome}
-use Rattle.flow_model.specs.States.{Process, Channel, Put, State, entry_of, Sender}
-use Rattle.flow_model.specs.Events.{Event, Starts, Finishes, Gets, Takes_text, Hears_end, Sends, Learns, Sleeps, Closes, event_of}
+use Rattle.flow_model.specs.States.{Process, Put, State, entry_of, Sender}
+use Rattle.flow_model.specs.Events.{Event, Starts, Finishes, Gets, Takes_text, Hears_end, Sends, Learns, Sleeps, Closes}
 use Rattle.flow_model.specs.Turns.{process_after, put_after, Turn}
 use Rattle.flow_model.specs.Works.{worked, Work}
 use Rattle.flow_model.specs.Schedules.{Settles, LeadsBy, Leads, Journal}
 use Rattle.flow_model.specs.Plans.{Plan, start_of}
 use Rattle.flow_model.specs.Order.{output_of}
 use Rattle.flow_model.specs.Wires.{Wires, wires, SameWires, PutBySenders}
-use Rattle.flow_model.proofs.Lists.{same_or_not}
 use Rattle.flow_model.proofs.Inverse.{explains}
 use Rattle.flow_model.proofs.Order.{inputs-after, outputs-after, inputs-worked, outputs-worked, output_of-set}
 

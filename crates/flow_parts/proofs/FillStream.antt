@@ -7,7 +7,7 @@ use Rattle.flow_packet.specs.declared.packet.Kind.TheVariants.{Normal, Open, Clo
 use Rattle.flow_packet.specs.Hands.{packet_at, text_at, kind_at, without}
 use Rattle.flow_component.specs.declared.Wish.{Wish}
 use Rattle.flow_component.specs.declared.Wish.TheVariants as wishes
-use Rattle.flow_packet.specs.Held.{Held, next_id, with_packet, without_packet, with_made}
+use Rattle.flow_packet.specs.Held.{Held, next_id, without_packet, with_made}
 use Rattle.flow_component.specs.Laws.{Outcome, Wishes, Fails, IsAllowed}
 use Rattle.flow_component.proofs.Roots.{same_id}
 use Rattle.flow_component.proofs.Lone.{HoldsOnly-packet_at, HoldsOnly-without, HoldsOnly-made_at, HoldsOnly-made, HoldsOnly-text, HoldsOnly-kind, HoldsOnly-end}

@@ -1,5 +1,5 @@
 -- What Words sends is the words of what it gets.
-use Rattle.std.proofs.Common.{◌≡◌, ℕ, ◌<◌, ◌≤◌, Bool, true, false, List, [], ◌∷◌, ◌++◌, map, drop, length, refl, sym, subst, ap, ◌∙◌, append-nil, arith, nat_eq, nat_lt, cond, Some}
+use Rattle.std.proofs.Common.{◌≡◌, ℕ, ◌<◌, ◌≤◌, Bool, true, false, List, [], ◌∷◌, ◌++◌, map, drop, length, refl, sym, ap, ◌∙◌, append-nil, arith, nat_eq, nat_lt, cond, Some}
 use Rattle.std.specs.Prelude.{slice_range}
 use Rattle.std.proofs.lemmas.Bool.Decides.{nat_tests}
 use Rattle.std.specs.List.{flat_map}
@@ -14,7 +14,7 @@ use Rattle.flow_component.specs.Laws.{Outcome, Wishes, Fails, IsAllowed}
 use Rattle.flow_component.specs.Alone.{HoldsOnly}
 use Rattle.flow_component.specs.Ports.{one_to_one, uses_first, receive_first, send_first}
 use Rattle.flow_component.specs.Happenings.{Happening, Started, Received, Ended, Sent, Learned}
-use Rattle.flow_component.specs.Runs.{Poise, fresh, Steps, content_got, content_sent, got, sent, text_packet}
+use Rattle.flow_component.specs.Runs.{Poise, fresh, Steps, content_got, content_sent, text_packet}
 use Rattle.flow_component.proofs.Roots.{same_id}
 use Rattle.flow_component.proofs.Lone.{HoldsOnly-packet_at, HoldsOnly-text, HoldsOnly-kind, HoldsOnly-made, HoldsOnly-made_at, HoldsOnly-end}
 use Rattle.flow_component.proofs.Streams.{owed-run, stays-allowed, Comes-packets, contents_in, content-kind, content-text, port_zero, port_below_one}

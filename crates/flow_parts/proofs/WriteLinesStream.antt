@@ -1,16 +1,16 @@
 -- What WriteLines writes is what it got.
-use Rattle.std.proofs.Common.{◌≡◌, ℕ, ◌<◌, true, List, [], ◌∷◌, ◌++◌, refl, sym, ap, ◌∙◌, subst, append-nil, append_assoc, nat_eq, arith}
+use Rattle.std.proofs.Common.{◌≡◌, ℕ, ◌<◌, true, List, [], ◌∷◌, ◌++◌, refl, sym, ap, ◌∙◌, append-nil, append_assoc, nat_eq}
 use Rattle.flow_packet.specs.Tree.{Tree, content, id_of, kind_of, text_of}
-use Rattle.flow_packet.specs.Hands.{kind_at, text_at, without}
+use Rattle.flow_packet.specs.Hands.{kind_at, text_at}
 use Rattle.flow_packet.specs.Held.{Held, without_packet}
 use Rattle.flow_component.specs.declared.Wish.TheVariants as wishes
-use Rattle.flow_component.specs.Laws.{Outcome, Wishes, IsAllowed}
+use Rattle.flow_component.specs.Laws.{Wishes, IsAllowed}
 use Rattle.flow_component.specs.Ports.{one_to_none, uses_none, receive_first}
 use Rattle.flow_component.specs.Outcomes.{IsAtHand}
 use Rattle.flow_component.specs.Happenings.{Happening, Started, Received, Ended, Sent, Learned}
 use Rattle.flow_component.specs.Runs.{Poise, fresh, Steps, Runs, got, content_got}
-use Rattle.flow_component.proofs.Streams.{flat_map-append, stays-allowed, Comes-packets, one-alone, kind-alone, text-alone, gone-alone, content-kind, content-text, port_below_one}
-use Rattle.flow_parts.specs.WriteLines.{rendered, writes, WriteLinesNext}
+use Rattle.flow_component.proofs.Streams.{flat_map-append, stays-allowed, Comes-packets, kind-alone, text-alone, gone-alone, content-kind, content-text, port_below_one}
+use Rattle.flow_parts.specs.WriteLines.{rendered, WriteLinesNext}
 use Rattle.flow_parts.specs.WriteLinesLaws.{write_lines_obeys}
 use Rattle.flow_parts.specs.Meanings.{rendered_all, WriteLinesMeaning}
 
@@ -41,8 +41,7 @@ step p (Received port t) q g s =
     let held : q.held ≡ without_packet s.held (id_of t) = cc in
     let part : q.part ≡ p.part ++ rendered (kind_at s.held.packets (id_of t)) (text_at s.held.packets (id_of t)) = cc in
     let kind : kind_at s.held.packets (id_of t) ≡ kind_of (content t) = kind-alone s.held.packets t alone ∙ sym (content-kind t) in
-    let text : text_at s.held.packets (id_of t) ≡ text_of (content t) = text-alone s.held.packets t alone ∙ sym (content-text t) in
-    (
+    let text : text_at s.held.packets (id_of t) ≡ text_of (content t) = text-alone s.held.packets t alone ∙ sym (content-text t) in (
       ap (λ (h : Held). h.packets) held ∙ gone-alone s.held.packets t alone,
       part ∙ (λ i. p.part ++ rendered (kind i) (text i)) ∙ rw z (ap (λ bs. p.part ++ bs) (sym (append-nil (rendered (kind_of (content t)) (text_of (content t)))))),
     )

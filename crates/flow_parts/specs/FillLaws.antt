@@ -4,7 +4,7 @@ use Rattle.flow_packet.specs.declared.packet.Kind.{Kind}
 use Rattle.flow_packet.specs.declared.packet.Kind.TheVariants.{Normal, Open, Close}
 use Rattle.flow_packet.specs.Hands.{text_at, kind_at}
 use Rattle.flow_packet.specs.Edits.{ComesBy}
-use Rattle.flow_packet.specs.Held.{Held, next_id, without_packet, with_made}
+use Rattle.flow_packet.specs.Held.{Held, without_packet}
 use Rattle.flow_component.specs.declared.Answer.{Answer}
 use Rattle.flow_component.specs.declared.Answer.TheVariants as answers
 use Rattle.flow_component.specs.Laws.{Outcome, Wishes, Obeys, StaysReady, IsSteady}

@@ -11,7 +11,6 @@ use Rattle.flow_component.specs.Runs.{EndedRun, EndIsLast, got, sent, text_packe
 use Rattle.flow_parts.specs.ReadLines.{ReadLinesNext, ReadLinesReady}
 use Rattle.flow_parts.specs.WriteLines.{WriteLinesNext, rendered}
 use Rattle.flow_parts.specs.declared.fill.FillPlace.TheVariants.{Waiting}
-use Rattle.flow_parts.specs.declared.words.Words.{Words}
 use Rattle.flow_parts.specs.declared.words.Words.TheVariants as words_parts
 use Rattle.flow_parts.specs.Text.{words}
 use Rattle.flow_parts.specs.Words.{WordsNext, WordsReady}

@@ -1,5 +1,5 @@
 -- Words keeps the laws of components.
-use Rattle.std.proofs.Common.{◌≡◌, ℕ, ◌<◌, ◌≤◌, Bool, ◌+◌, suc, true, false, List, [], ◌∷◌, length, drop, refl, sym, subst, arith, ap, ◌∙◌, nat_lt, cond}
+use Rattle.std.proofs.Common.{◌≡◌, ℕ, ◌<◌, ◌≤◌, Bool, suc, true, false, List, [], ◌∷◌, length, drop, refl, sym, subst, arith, ap, ◌∙◌, nat_lt, cond}
 use Rattle.std.specs.Prelude.{slice_range}
 use Rattle.std.proofs.lemmas.Bool.Decides.{nat_tests}
 use Rattle.std.proofs.lemmas.List.{length-drop}
@@ -63,8 +63,7 @@ sent_next held id taken h k = by (nat_lt (word_start text taken) (length text)) 
         let piece = slice_range text (word_start text taken) (word_end text taken) in
         let new = with_made held Normal piece in
         let e : (without_packet new (next_id held)).packets ≡ h.packet ∷ [] = HoldsOnly-made held id Normal piece h in
-        let l : word_start text taken < length text = grind (arith, nat_tests) in
-        (
+        let l : word_start text taken < length text = grind (arith, nat_tests) in (
           (comes_made held Normal piece (omega (arith, ap length h.holds)), (refl, IsAtRoot-made held Normal piece)),
           λ s. splitting (without_packet new (next_id held)) h.packet id (word_end text taken) (HoldsOnly-left held id Normal piece h s) e (rw (← HoldsOnly-text held id h) (end-most text taken l)) (sym (HoldsOnly-kind held id h) ∙ k),
         )

@@ -17,10 +17,7 @@ use flow_packet::{Hands, Kind, PacketId};
 pub enum Words {
     Waiting,
     /// The words of this packet that end in the bytes taken were sent.
-    Splitting {
-        packet: PacketId,
-        taken: usize,
-    },
+    Splitting { packet: PacketId, taken: usize },
 }
 
 fn is_blank(byte: u8) -> bool

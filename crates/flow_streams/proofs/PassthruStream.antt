@@ -1,18 +1,18 @@
 -- What Passthru sends is what it gets.
-use Rattle.std.proofs.Common.{◌≡◌, ℕ, ◌<◌, true, List, [], ◌∷◌, ◌++◌, Some, map, refl, sym, ap, ◌∙◌, subst, append-nil, nat_eq, arith}
+use Rattle.std.proofs.Common.{◌≡◌, ◌<◌, true, List, [], ◌∷◌, ◌++◌, Some, map, refl, sym, ap, ◌∙◌, append-nil, nat_eq}
 use Rattle.std.specs.List.{flat_map}
 use Rattle.flow_packet.specs.Tree.{Tree, content, id_of}
-use Rattle.flow_packet.specs.Hands.{packet_at, without}
-use Rattle.flow_packet.specs.Held.{Held, without_packet}
+use Rattle.flow_packet.specs.Hands.{packet_at}
+use Rattle.flow_packet.specs.Held.{Held}
 use Rattle.flow_component.specs.declared.Wish.{Wish}
 use Rattle.flow_component.specs.declared.Wish.TheVariants as wishes
-use Rattle.flow_component.specs.Laws.{Outcome, Wishes, IsAllowed}
+use Rattle.flow_component.specs.Laws.{Wishes, IsAllowed}
 use Rattle.flow_component.specs.Ports.{one_to_one, uses_first, receive_first, send_first}
 use Rattle.flow_component.specs.Outcomes.{IsAtHand}
 use Rattle.flow_component.specs.Happenings.{Happening, Started, Received, Ended, Sent, Learned}
-use Rattle.flow_component.specs.Runs.{Poise, fresh, Steps, Runs, got, sent, content_got, content_sent}
+use Rattle.flow_component.specs.Runs.{Poise, fresh, Steps, got, sent, content_got, content_sent}
 use Rattle.flow_component.proofs.Streams.{owed-run, good-run, stays-allowed, Comes-packets, one-alone, gone-alone, port_zero, port_below_one, flat_map-single}
-use Rattle.flow_streams.specs.Passthru.{passes, PassthruNext}
+use Rattle.flow_streams.specs.Passthru.{PassthruNext}
 use Rattle.flow_streams.specs.PassthruLaws.{passthru_obeys}
 use Rattle.flow_streams.specs.Meanings.{PassthruMeaning}
 
