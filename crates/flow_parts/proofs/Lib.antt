@@ -6,3 +6,4 @@ pub mod Fillings
 pub mod OneFilling
 pub mod FillStream
 pub mod WordsStream
+pub mod CountStream

@@ -10,3 +10,4 @@ pub mod FillLaws
 pub mod Filling
 pub mod Words
 pub mod WordsLaws
+pub mod Count

@@ -1,19 +1,21 @@
 -- What the components make of their streams, from their first state to their end. (Morrison's components and JavaFBP's; the exact
 -- rules are this project's own.)
-use Rattle.std.specs.Prelude.{◌≡◌, ◌≢◌, ℕ, List, [], ◌∷◌, ◌++◌, map}
+use Rattle.std.specs.Prelude.{◌≡◌, ◌≢◌, ℕ, List, [], ◌∷◌, ◌++◌, map, ◌+◌, ◌≤◌, Bool, true, false, length}
+use Rattle.std.specs.Fmt.{decimal}
 use Rattle.std.specs.List.{flat_map}
 use Rattle.flow_packet.specs.declared.packet.Kind.{Kind}
 use Rattle.flow_packet.specs.declared.packet.Kind.TheVariants.{Normal, Open, Close}
 use Rattle.flow_packet.specs.Tree.{Tree, kind_of, text_of}
 use Rattle.flow_component.specs.Happenings.{Happening}
 use Rattle.flow_component.specs.Outcomes.{IsAtHand}
-use Rattle.flow_component.specs.Runs.{EndedRun, EndIsLast, got, sent, text_packet}
+use Rattle.flow_component.specs.Runs.{EndedRun, EndIsLast, got, sent, text_packet, StartsBring, Wakes}
 use Rattle.flow_parts.specs.ReadLines.{ReadLinesNext, ReadLinesReady}
 use Rattle.flow_parts.specs.WriteLines.{WriteLinesNext, rendered}
 use Rattle.flow_parts.specs.declared.fill.FillPlace.TheVariants.{Waiting}
 use Rattle.flow_parts.specs.declared.words.Words.TheVariants as words_parts
 use Rattle.flow_parts.specs.Text.{words}
 use Rattle.flow_parts.specs.Words.{WordsNext, WordsReady}
+use Rattle.flow_parts.specs.Count.{CountState, CountNext, CountReady}
 use Rattle.flow_parts.specs.FillState.{FillState}
 use Rattle.flow_parts.specs.Fill.{FillNext, FillReady}
 use Rattle.flow_parts.specs.Filling.{Filling}
@@ -54,3 +56,28 @@ WordsMeaning = (told : List Happening) → EndedRun WordsReady WordsNext words_p
 -- There is at most one filling of a stream.
 abbrev pub OneFilling : Type 0
 OneFilling = (size : ℕ) (x y z : List Tree) → Filling size x y → Filling size x z → y ≡ z
+
+-- A Count at its start.
+abbrev pub fresh_count : Bool → CountState
+fresh_count connected = record { connected = connected; number = 0; leaving = false }
+
+-- How many of the packets are Normal.
+abbrev pub normal_one : Kind → ℕ
+normal_one Normal = 1
+normal_one Open = 0
+normal_one Close = 0
+
+abbrev pub normals : List Tree → ℕ
+normals [] = 0
+normals (packet ∷ x) = normal_one (kind_of packet) + normals x
+
+-- What a Count makes of x: it sends x on where its first output is connected, and to its second output one packet with the number of the Normal packets, or nothing
+-- where x is empty.
+pub record IsCounted (connected : Bool) (x y count : List Tree) : Type 0 where
+  pub passed : connected ≡ true → y ≡ x
+  pub nothing : x ≡ [] → count ≡ []
+  pub counted : x ≢ [] → count ≡ text_packet (decimal (normals x)) ∷ []
+
+abbrev pub CountMeaning : Type 0
+CountMeaning = (connected : Bool) (told : List Happening) → EndedRun CountReady CountNext (fresh_count connected) told → StartsBring 1 told → Wakes 1 [] told → length told ≤ 8388608
+    → IsCounted connected (got 0 told) (sent 0 told) (sent 1 told)

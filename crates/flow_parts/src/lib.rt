@@ -11,8 +11,8 @@ mod write_lines;
 
 pub use fill::{Fill, FillPlace};
 pub use meanings::{
-    fill_keeps_its_meaning, read_lines_keeps_its_meaning, words_keeps_its_meaning,
-    write_lines_keeps_its_meaning,
+    count_keeps_its_meaning, fill_keeps_its_meaning, read_lines_keeps_its_meaning,
+    words_keeps_its_meaning, write_lines_keeps_its_meaning,
 };
 pub use read_lines::ReadLines;
 pub use words::Words;

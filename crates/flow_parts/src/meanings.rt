@@ -1,5 +1,5 @@
 //! What the components make of their streams: each law is the contract of a function that does nothing.
-ghost use Rattle.flow_parts.specs.Meanings.{FillMeaning, OneFilling, ReadLinesMeaning, WordsMeaning, WriteLinesMeaning};
+ghost use Rattle.flow_parts.specs.Meanings.{CountMeaning, FillMeaning, OneFilling, ReadLinesMeaning, WordsMeaning, WriteLinesMeaning};
 
 /// What a ReadLines that has run to its end has sent is a Normal packet for each of its lines.
 pub fn read_lines_keeps_its_meaning()
@@ -20,4 +20,9 @@ pub fn words_keeps_its_meaning()
 pub fn fill_keeps_its_meaning()
     ensures filling { FillMeaning }
     ensures one { OneFilling }
+{}
+
+/// What a component that counts by these rules makes of its stream. (The component itself isn't written yet.)
+pub fn count_keeps_its_meaning()
+    ensures { CountMeaning }
 {}
