@@ -1,1 +1,2 @@
 pub mod PassthruStream
+pub mod ConcatStream

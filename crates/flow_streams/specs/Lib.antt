@@ -1,3 +1,4 @@
 pub mod Passthru
 pub mod PassthruLaws
+pub mod Concat
 pub mod Meanings

@@ -1,10 +1,27 @@
 -- What the components make of their streams, from their first state to their end. (The exact rules are this project's own.)
-use Rattle.std.specs.Prelude.{◌≡◌, List}
+use Rattle.std.specs.Prelude.{◌≡◌, ◌≢◌, ℕ, zero, suc, ◌+◌, ◌≤◌, List, [], ◌++◌}
+use Rattle.flow_packet.specs.Tree.{Tree}
 use Rattle.flow_component.specs.Happenings.{Happening}
 use Rattle.flow_component.specs.Outcomes.{IsAtHand}
-use Rattle.flow_component.specs.Runs.{EndedRun, got, sent}
+use Rattle.flow_component.specs.Runs.{EndedRun, got, sent, Wakes, HeardEnd, starts}
+use Rattle.flow_streams.specs.Concat.{ConcatState, ConcatNext, ConcatReady}
 use Rattle.flow_streams.specs.Passthru.{PassthruNext}
 
 -- A Passthru sends what it gets.
 abbrev pub PassthruMeaning : Type 0 → Type 0
 PassthruMeaning K = (part : K) (told : List Happening) → EndedRun (λ (_ : K). IsAtHand) PassthruNext part told → sent 0 told ≡ got 0 told
+
+-- A Concat at its start.
+abbrev pub fresh_concat : ℕ → ConcatState
+fresh_concat count = record { count = count; at = 0 }
+
+-- What was got at n inputs, from number k on, one after another.
+abbrev pub got_from : ℕ → ℕ → List Happening → List Tree
+got_from k zero told = []
+got_from k (suc n) told = got k told ++ got_from (k + 1) n told
+
+-- A Concat sends what it gets at its first input, then what it gets at the next, and so on; it was started once at most, and has heard the end of each input once it
+-- was started.
+abbrev pub ConcatMeaning : Type 0
+ConcatMeaning = (n : ℕ) (told : List Happening) → EndedRun ConcatReady ConcatNext (fresh_concat (n + 1)) told → Wakes (n + 1) [] told
+    → (sent 0 told ≡ got_from 0 (n + 1) told) × (starts told ≤ 1) × (told ≢ [] → (i : ℕ) → i ≤ n → HeardEnd i told)

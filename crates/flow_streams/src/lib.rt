@@ -6,5 +6,5 @@ mod passthru;
 #[cfg(test)]
 mod tests;
 
-pub use meanings::passthru_keeps_its_meaning;
+pub use meanings::{concat_keeps_its_meaning, passthru_keeps_its_meaning};
 pub use passthru::Passthru;
