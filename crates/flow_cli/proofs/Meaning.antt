@@ -1,12 +1,10 @@
 -- The files of a run that finished are what its network means.
-use Rattle.std.proofs.Common.{◌≡◌, ◌≢◌, inl, inr, ◌⊎◌, ℕ, List, [], Some, sym, ◌∙◌, ap, subst, refl, arith, slice_get}
+use Rattle.std.proofs.Common.{inl, inr, ℕ, List, sym, ◌∙◌, subst, refl, arith}
 use Rattle.std.specs.Prelude.{String}
 use Rattle.std.specs.declared.alloc.Global.{Global}
-use Rattle.flow_text.specs.Edge.{Outside, Name}
+use Rattle.flow_text.specs.Edge.{Outside}
 use Rattle.flow_net.specs.Network.{Network}
-use Rattle.flow_words.specs.Words.{Run, Check}
 use Rattle.flow_catalogue.specs.declared.standard.Std.{Std}
-use Rattle.flow_catalogue.specs.declared.standard.Std.TheVariants as parts
 use Rattle.flow_catalogue.specs.declared.table.StdKind.{StdKind}
 use Rattle.flow_catalogue.specs.declared.table.StdKind.TheVariants as kinds
 use Rattle.flow_catalogue.specs.Plans.{OverIsConnected}
@@ -14,7 +12,7 @@ use Rattle.flow_catalogue.specs.Processes.{IsMade, first_part}
 use Rattle.flow_catalogue.specs.Std.{std_shape, std_uses, StdReady}
 use Rattle.flow_machine.specs.PlanOf.{plan_of}
 use Rattle.flow_model.specs.States.{State}
-use Rattle.flow_model.specs.Verdicts.{Quiet, IsFinished}
+use Rattle.flow_model.specs.Verdicts.{IsFinished}
 use Rattle.flow_ready.specs.Ready.{StartsPlans}
 use Rattle.flow_report.specs.declared.report.Verdict.{Verdict}
 use Rattle.flow_report.specs.declared.report.Verdict.TheVariants.{Finished, FinishedLeft, Deadlock, Failed, Running}
@@ -22,14 +20,13 @@ use Rattle.flow_report.specs.States.{IsVerdict}
 use Rattle.flow_meanings.specs.Means.{IsFirst}
 use Rattle.flow_meanings.specs.Composition.{AreFirst, FinishedComposes, wrote_in}
 use Rattle.flow_cli.specs.Parts.{AreParts}
-use Rattle.flow_cli.specs.Prepare.{Asks}
 use Rattle.flow_cli.specs.After.{Prints, verdict_status}
 use Rattle.flow_cli.specs.Runs.{machine_journal}
-use Rattle.flow_cli.specs.Top.{IsWhole, IsOver}
-use Rattle.flow_cli.specs.Meant.{IsMeant, IsFinishedStatus, LeavesMeaning}
+use Rattle.flow_cli.specs.Top.{IsOver}
+use Rattle.flow_cli.specs.Meant.{IsFinishedStatus, LeavesMeaning}
 use Rattle.flow_cli.specs.declared.run.Ending.{Ending}
 use Rattle.flow_cli.proofs.Fitting.{parts-fit}
-use Rattle.flow_cli.proofs.Tops.{Comes, stop-over}
+use Rattle.flow_cli.proofs.Tops.{Comes}
 
 finished-of : (s : State Std) (verdict : Verdict) → IsVerdict s verdict → IsFinishedStatus (verdict_status verdict) → IsFinished s
 finished-of s Finished is e = is.0

@@ -1,6 +1,8 @@
 -- Networks without merges.
-use Rattle.std.proofs.Common.{◌≡◌, ℕ, zero, suc, ◌<◌, List, [], ◌∷◌, map, filter, Some, None, Option, refl, sym, ap, ◌∙◌, subst, Bool, true, false, slice_get, arith, nat_eq, IsTrue}
-use Rattle.std.specs.List.{flat_map}
+use Rattle.std.proofs.Common.{◌≡◌, ℕ, zero, suc, ◌+◌, ◌<◌, List, [], ◌∷◌, map, filter, length, Some, None, Option, refl, sym, ap, ◌∙◌, subst, Bool, true, false, slice_get, get_or, arith, nat_eq, ◌||◌, IsTrue}
+use Rattle.std.specs.List.{flat_map, list_any}
+use Rattle.std.proofs.lemmas.List.Quantifiers.{position-Some}
+use Rattle.std.proofs.lemmas.Option.{slice_get_within}
 use Rattle.std.proofs.lemmas.Bool.Decides.{nat_tests}
 use Rattle.flow_packet.specs.Tree.{Tree}
 use Rattle.flow_parts.specs.Filling.{Filling}
@@ -8,12 +10,14 @@ use Rattle.flow_parts.specs.Meanings.{rendered_all, words_of}
 use Rattle.flow_parts.proofs.OneFilling.{one_filling}
 use Rattle.flow_catalogue.specs.declared.standard.Std.{Std}
 use Rattle.flow_catalogue.specs.declared.standard.Std.TheVariants as parts
-use Rattle.flow_catalogue.specs.Std.{std_uses}
+use Rattle.flow_catalogue.specs.Std.{std_shape, std_uses, StdReady}
 use Rattle.flow_model.specs.States.{Sender, is_sender}
-use Rattle.flow_model.specs.Plans.{Plan, PlanProcess, sends_at, receives_at, input_at, connected_or, text_at}
+use Rattle.flow_model.specs.Plans.{Plan, PlanProcess, PlanConnection, sends_at, receives_at, input_at, connected_or, text_at, process_at_start, StartsWell}
+use Rattle.flow_model.proofs.Senders.{both-true}
 use Rattle.flow_meanings.specs.Means.{Means}
-use Rattle.flow_meanings.specs.Composition.{Sending, arriving, leaving, Composes}
-use Rattle.flow_meanings.specs.Chains.{LeadsTo, TelegramMeans, IsUnmerged, LeadsOn, AreFed, OneOutcome}
+use Rattle.flow_meanings.specs.Composition.{Sending, arriving, leaving, Composes, wrote_in}
+use Rattle.flow_meanings.specs.Chains.{RunsPart, LeadsTo, TelegramMeans, IsUnmerged, LeadsOn, OneOutcome, SameFiles}
+use Rattle.flow_meanings.proofs.Composing.{start-there, length-ports, finished-composes}
 
 filter-all : {A : Type 0} (test : A → Bool) (xs : List A) → ((k : ℕ) (x : A) → slice_get xs k ≡ Some x → test x ≡ true) → filter test xs ≡ xs
 filter-all test [] all = refl
@@ -64,30 +68,93 @@ one-stream (parts.Fill state) w w' x x' y y' ins m n (suc o) used = absurd (let 
 one-stream (parts.Passthru part) w w' x x' y y' ins m n zero used = m ∙ ins 0 ∙ sym n
 one-stream (parts.Passthru part) w w' x x' y y' ins m n (suc o) used = absurd (let t : nat_eq (suc o) 0 ≡ true = used in (let f : nat_eq (suc o) 0 ≡ false = grind (arith, nat_tests) in let h : true ≡ false = sym t ∙ f in cc))
 
+-- a standard component uses each of its outputs
+all-used : (part : Std) (o : ℕ) → o < (std_shape part).outputs → IsTrue (std_uses part o)
+all-used (parts.ReadLines left) zero l = refl
+all-used (parts.ReadLines left) (suc o) l = absurd (omega arith)
+all-used (parts.WriteLines bytes) o l = absurd (omega arith)
+all-used (parts.Words part) zero l = refl
+all-used (parts.Words part) (suc o) l = absurd (omega arith)
+all-used (parts.Fill state) zero l = refl
+all-used (parts.Fill state) (suc o) l = absurd (omega arith)
+all-used (parts.Passthru part) zero l = refl
+all-used (parts.Passthru part) (suc o) l = absurd (omega arith)
+
+get-there : {A : Type 0} (xs : List A) (c : ℕ) (d : A) → c < length xs → slice_get xs c ≡ Some (get_or xs c d)
+get-there [] c d l = absurd (omega arith)
+get-there (x ∷ xs) zero d l = refl
+get-there (x ∷ xs) (suc c) d l = get-there xs c d (omega arith)
+
+any-there : {A : Type 0} (test : A → Bool) (xs : List A) → list_any test xs ≡ true → (k : ℕ) × (y : A) × (slice_get xs k ≡ Some y) × (test y ≡ true)
+any-there {A} test [] is = absurd (cc)
+any-there {A} test (x ∷ xs) is = by (test x) refl (any-there test xs) is
+  where
+    by : (b : Bool) → test x ≡ b → (list_any test xs ≡ true → (k : ℕ) × (y : A) × (slice_get xs k ≡ Some y) × (test y ≡ true)) → (b || list_any test xs) ≡ true → (k : ℕ) × (y : A) × (slice_get (x ∷ xs) k ≡ Some y) × (test y ≡ true)
+    by true t rest is = (0, x, refl, t)
+    by false t rest is = let r = rest is in (suc r.0, r.1, r.2, r.3)
+
+no_connection : PlanConnection
+no_connection = record { receiver = 0; input = 0; capacity = 0; senders = [] }
+
+-- whoever sends to a connection is a process whose component uses that output
+feeds : (plan : Plan) (ks : List Std) → StartsWell std_shape std_uses StdReady plan ks → (p o c : ℕ) → sends_at plan p o ≡ Some c → (part : Std) × RunsPart plan ks p part × IsTrue (std_uses part o)
+feeds plan ks well p o c sends =
+    let sender : Sender = record { process = p; output = o } in
+    let pos = position-Some (λ (x : PlanConnection). list_any (is_sender sender) x.senders) plan.connections c no_connection sends in
+    let x = get_or plan.connections c no_connection in
+    let at = any-there (is_sender sender) x.senders pos.1 in
+    let who = both-true p at.1.process o at.1.output at.3 in
+    let q = well.wired.senders c at.0 x at.1 (get-there plan.connections c no_connection pos.0) at.2 in
+    let there : slice_get plan.processes p ≡ Some q.0 = ap (slice_get plan.processes) who.0 ∙ q.1 in
+    let below : p < length ks = omega (arith, slice_get_within plan.processes p q.0 there, well.one_each) in
+    let part = get_or ks p (parts.WriteLines []) in
+    let here : slice_get ks p ≡ Some part = get-there ks p (parts.WriteLines []) below in
+    let n : 0 + p ≡ p = omega arith in
+    let z = process_at_start plan p q.0 part in
+    let fit = well.fit p z (start-there plan 0 plan.processes ks p q.0 part there here ∙ ap (λ (m : ℕ). Some (process_at_start plan m q.0 part)) n) in
+    (part, record { process = q.0; there = there; here = here }, all-used part o (omega (arith, fit.outputs, length-ports (sends_at plan p) 0 q.0.outputs, who.1, q.2)))
+
 -- in a network without merges and without a way back, what arrives at a process is the same in each composition
-module _ (plan : Plan) (ks : List Std) (wrote other : ℕ → List ℕ) (unmerged : IsUnmerged plan) (order : LeadsOn plan) (fed : AreFed plan ks) (m : Composes plan ks wrote) (n : Composes plan ks other) where
-  contents_on : ℕ → (ℕ → List Sending) → List Tree
-  contents_on c on = map (λ (sending : Sending). sending.content) (on c)
+module _ (plan : Plan) (ks : List Std) (wrote other : ℕ → List ℕ) (well : StartsWell std_shape std_uses StdReady plan ks) (unmerged : IsUnmerged plan) (order : LeadsOn plan) (m : Composes plan ks wrote) (n : Composes plan ks other) where
+  abbrev Same : ℕ → Type 0
+  Same c = map (λ (sending : Sending). sending.content) (m.on c) ≡ map (λ (sending : Sending). sending.content) (n.on c)
+
+  abbrev Before : ℕ → Type 0
+  Before fuel = (p : ℕ) (y : PlanProcess) (j : ℕ) → order.rank p < fuel → arriving m.on (input_at plan p y j) ≡ arriving n.on (input_at plan p y j)
+
+  -- where someone sends there
+  same-sent : (fuel q i c : ℕ) → order.rank q < suc fuel → receives_at plan q i ≡ Some c → Before fuel → (sender : Sender) → sends_at plan sender.process sender.output ≡ Some c → Same c
+  same-sent fuel q i c less is rest sender sends =
+      let p = sender.process in
+      let o = sender.output in
+      let f = feeds plan ks well p o c sends in
+      let runs = f.1 in
+      let below : order.rank p < fuel = (let r = order.rises p o q i c sends is in omega arith) in
+      let alone : (r s : ℕ) → sends_at plan r s ≡ Some c → (r ≡ p) × (s ≡ o) = λ r s at. unmerged c r s p o at sends in
+      let one = one-stream f.0 (wrote p) (other p) (λ j. arriving m.on (input_at plan p runs.process j)) (λ j. arriving n.on (input_at plan p runs.process j))
+      (λ k. leaving m.on (record { process = p; output = k }) (sends_at plan p k)) (λ k. leaving n.on (record { process = p; output = k }) (sends_at plan p k)) (λ j. rest p runs.process j below) (m.each p runs.process f.0 runs.there runs.here)
+      (n.each p runs.process f.0 runs.there runs.here) o f.2 in
+      sym (own-stream plan ks wrote m p o c sends alone) ∙ one ∙ own-stream plan ks other n p o c sends alone
+
+  same-on : (fuel q i c : ℕ) → order.rank q < suc fuel → receives_at plan q i ≡ Some c → Before fuel → (a b : List Sending) → m.on c ≡ a → n.on c ≡ b → Same c
+  same-on fuel q i c less is rest [] [] a b = rw (a, b) refl
+  same-on fuel q i c less is rest [] (s ∷ ss) a b = same-sent fuel q i c less is rest s.sender (n.senders c 0 s (ap (λ (l : List Sending). slice_get l 0) b))
+  same-on fuel q i c less is rest (s ∷ ss) bs a b = same-sent fuel q i c less is rest s.sender (m.senders c 0 s (ap (λ (l : List Sending). slice_get l 0) a))
 
   same-input : (fuel q : ℕ) (x : PlanProcess) (i : ℕ) → order.rank q < fuel → arriving m.on (input_at plan q x i) ≡ arriving n.on (input_at plan q x i)
   same-input zero q x i less = absurd (omega arith)
   same-input (suc fuel) q x i less = by (receives_at plan q i) refl (λ p y j below. same-input fuel p y j below)
     where
-      by : (found : Option ℕ) → receives_at plan q i ≡ found → ((p : ℕ) (y : PlanProcess) (j : ℕ) → order.rank p < fuel → arriving m.on (input_at plan p y j) ≡ arriving n.on (input_at plan p y j))
-          → arriving m.on (connected_or (text_at x.initials i) found) ≡ arriving n.on (connected_or (text_at x.initials i) found)
+      by : (found : Option ℕ) → receives_at plan q i ≡ found → Before fuel → arriving m.on (connected_or (text_at x.initials i) found) ≡ arriving n.on (connected_or (text_at x.initials i) found)
       by None is rest = refl
-      by (Some c) is rest =
-          let f = fed q i c is in
-          let p = f.0 in
-          let o = f.1 in
-          let runs = f.3 in
-          let below : order.rank p < fuel = (let r = order.rises p o q i c f.4 is in omega arith) in
-          let alone : (r s : ℕ) → sends_at plan r s ≡ Some c → (r ≡ p) × (s ≡ o) = λ r s at. unmerged c r s p o at f.4 in
-          let one = one-stream f.2 (wrote p) (other p) _ _ _ _ (λ j. rest p runs.process j below) (m.each p runs.process f.2 runs.there runs.here) (n.each p runs.process f.2 runs.there runs.here) o f.5 in
-          sym (own-stream plan ks wrote m p o c f.4 alone) ∙ one ∙ own-stream plan ks other n p o c f.4 alone
+      by (Some c) is rest = same-on fuel q i c less is rest (m.on c) (n.on c) refl refl
 
 pub one-outcome : OneOutcome
-one-outcome plan ks wrote other unmerged order fed m n p bytes runs =
+one-outcome plan ks wrote other well unmerged order m n p bytes runs =
     let a = m.each p runs.process (parts.WriteLines bytes) runs.there runs.here in
     let b = n.each p runs.process (parts.WriteLines bytes) runs.there runs.here in
-    a ∙ ap rendered_all (same-input plan ks wrote other unmerged order fed m n (suc (order.rank p)) p runs.process 0 (omega arith)) ∙ sym b
+    a ∙ ap rendered_all (same-input plan ks wrote other well unmerged order m n (suc (order.rank p)) p runs.process 0 (omega arith)) ∙ sym b
+
+pub same-files : SameFiles
+same-files plan ks journal other s t well first unmerged order leads finished leads' finished' p bytes runs =
+    one-outcome plan ks (wrote_in s) (wrote_in t) well unmerged order (finished-composes plan ks journal s well first leads finished) (finished-composes plan ks other t well first leads' finished') p bytes runs

@@ -67,7 +67,7 @@ Means-change (parts.Words part) w w' x x' y y' e ins outs m = sym (outs 0 refl) 
 Means-change (parts.Fill state) w w' x x' y y' e ins outs m = subst (λ (b : List Tree). Filling state.size (x' 0) b) (outs 0 refl) (subst (λ (a : List Tree). Filling state.size a (y 0)) (ins 0 (omega arith)) m)
 Means-change (parts.Passthru part) w w' x x' y y' e ins outs m = sym (outs 0 refl) ∙ m ∙ ins 0 (omega arith)
 
-start-there : {K : Type 0} (plan : Plan) (p : ℕ) (xs : List PlanProcess) (ks : List K) (k : ℕ) (x : PlanProcess) (part : K) → slice_get xs k ≡ Some x → slice_get ks k ≡ Some part
+pub start-there : {K : Type 0} (plan : Plan) (p : ℕ) (xs : List PlanProcess) (ks : List K) (k : ℕ) (x : PlanProcess) (part : K) → slice_get xs k ≡ Some x → slice_get ks k ≡ Some part
     → slice_get (processes_at_start plan p xs ks) k ≡ Some (process_at_start plan (p + k) x part)
 start-there plan p [] ks k x part at here = absurd (cc)
 start-there plan p (y ∷ xs) [] k x part at here = absurd (cc)
@@ -85,7 +85,7 @@ range-at f k zero i l = absurd (omega arith)
 range-at f k (suc n) zero l = ap (λ (m : ℕ). Some (f m)) (let e : k ≡ k + zero = omega arith in e)
 range-at f k (suc n) (suc i) l = range-at f (k + 1) n i (omega arith) ∙ ap (λ (m : ℕ). Some (f m)) (let e : k + 1 + i ≡ k + suc i = omega arith in e)
 
-length-ports : {A : Type 0} (f : ℕ → A) (k n : ℕ) → length (map f (range_with_len k n)) ≡ n
+pub length-ports : {A : Type 0} (f : ℕ → A) (k n : ℕ) → length (map f (range_with_len k n)) ≡ n
 length-ports f k zero = refl
 length-ports f k (suc n) = omega (arith, length-ports f (k + 1) n)
 

@@ -1,6 +1,6 @@
 -- Networks without merges: what their compositions say more simply, and that there is one outcome where no connection leads back.
 -- (This project's own.)
-use Rattle.std.specs.Prelude.{◌≡◌, ℕ, ◌<◌, List, [], map, Some, slice_get, IsTrue}
+use Rattle.std.specs.Prelude.{◌≡◌, ℕ, ◌<◌, List, [], map, Some, slice_get}
 use Rattle.std.specs.List.{flat_map}
 use Rattle.flow_packet.specs.Tree.{Tree}
 use Rattle.flow_component.specs.Runs.{text_packet}
@@ -9,9 +9,12 @@ use Rattle.flow_parts.specs.Filling.{Filling}
 use Rattle.flow_parts.specs.Meanings.{rendered_all, words_of, fresh_fill}
 use Rattle.flow_catalogue.specs.declared.standard.Std.{Std}
 use Rattle.flow_catalogue.specs.declared.standard.Std.TheVariants as parts
-use Rattle.flow_catalogue.specs.Std.{std_shape}
-use Rattle.flow_model.specs.Plans.{Plan, PlanProcess, sends_at, receives_at}
-use Rattle.flow_meanings.specs.Composition.{Composes}
+use Rattle.flow_catalogue.specs.Std.{std_shape, std_uses, StdReady, StdNext}
+use Rattle.flow_model.specs.States.{State}
+use Rattle.flow_model.specs.Schedules.{Journal, Leads}
+use Rattle.flow_model.specs.Verdicts.{IsFinished}
+use Rattle.flow_model.specs.Plans.{Plan, PlanProcess, sends_at, receives_at, start_of, StartsWell}
+use Rattle.flow_meanings.specs.Composition.{Composes, AreFirst, wrote_in}
 
 -- Process p of the plan runs this component.
 pub record RunsPart (plan : Plan) (ks : List Std) (p : ℕ) (part : Std) : Type 0 where
@@ -51,14 +54,15 @@ pub record LeadsOn (plan : Plan) : Type 0 where
   pub rank : ℕ → ℕ
   pub rises : (p o q i c : ℕ) → sends_at plan p o ≡ Some c → receives_at plan q i ≡ Some c → rank p < rank q
 
--- Each connection at an input has a sender, which is an output of a process of the plan with a component that uses it.
-abbrev pub AreFed : Plan → List Std → Type 0
-AreFed plan ks =
-    (q i c : ℕ) → receives_at plan q i ≡ Some c
-    → (p : ℕ) × (o : ℕ) × (part : Std) × RunsPart plan ks p part × (sends_at plan p o ≡ Some c) × IsTrue (Rattle.flow_catalogue.specs.Std.std_uses part o)
-
--- Such a network means one outcome: what a process wrote is the same in all of its compositions.
+-- Such a network means one outcome: what a writer wrote is the same in all of its compositions.
 abbrev pub OneOutcome : Type 0
 OneOutcome =
-    (plan : Plan) (ks : List Std) (wrote other : ℕ → List ℕ) → IsUnmerged plan → LeadsOn plan → AreFed plan ks → Composes plan ks wrote → Composes plan ks other
+    (plan : Plan) (ks : List Std) (wrote other : ℕ → List ℕ) → StartsWell std_shape std_uses StdReady plan ks → IsUnmerged plan → LeadsOn plan → Composes plan ks wrote → Composes plan ks other
     → (p : ℕ) (bytes : List ℕ) → RunsPart plan ks p (parts.WriteLines bytes) → wrote p ≡ other p
+
+-- Whatever the schedules, two of them that finish leave the same files.
+abbrev pub SameFiles : Type 0
+SameFiles =
+    (plan : Plan) (ks : List Std) (journal other : Journal) (s t : State Std) → StartsWell std_shape std_uses StdReady plan ks → AreFirst ks → IsUnmerged plan → LeadsOn plan
+    → Leads StdNext (start_of plan ks) journal s → IsFinished s → Leads StdNext (start_of plan ks) other t → IsFinished t
+    → (p : ℕ) (bytes : List ℕ) → RunsPart plan ks p (parts.WriteLines bytes) → wrote_in s p ≡ wrote_in t p

@@ -3,7 +3,7 @@
 
 ghost use Rattle.flow_meanings.specs.Means.{KeepsMeanings};
 ghost use Rattle.flow_meanings.specs.Composition.{FinishedComposes};
-ghost use Rattle.flow_meanings.specs.Chains.{OneOutcome, TelegramMeans};
+ghost use Rattle.flow_meanings.specs.Chains.{OneOutcome, SameFiles, TelegramMeans};
 
 /// After every schedule each process of a standard kind that has ended has made of its streams what its kind means.
 pub fn every_ended_process_has_its_meaning()
@@ -20,7 +20,9 @@ pub fn a_telegram_is_the_filling_of_its_words()
     ensures { TelegramMeans }
 {}
 
-/// Where no connection has two senders and none leads back, a network means one outcome.
+/// Where no connection has two senders and none leads back, a network means one outcome, and all schedules that finish leave the same
+/// files.
 pub fn a_network_without_merges_means_one_outcome()
-    ensures { OneOutcome }
+    ensures one { OneOutcome }
+    ensures files { SameFiles }
 {}

@@ -1,21 +1,21 @@
 -- What Count makes of its stream.
-use Rattle.std.proofs.Common.{◌≡◌, ◌≢◌, ℕ, ◌+◌, ◌<◌, ◌≤◌, Bool, true, false, List, [], ◌∷◌, ◌++◌, length, refl, sym, ap, ◌∙◌, subst, arith, nat_eq, ◌⊎◌, inl, inr, Some, cond, Option, min}
+use Rattle.std.proofs.Common.{◌≡◌, ◌≢◌, ℕ, ◌+◌, ◌<◌, ◌≤◌, Bool, true, false, List, [], ◌∷◌, ◌++◌, length, refl, sym, ap, ◌∙◌, subst, arith, nat_eq, inl, inr, Some, cond}
 use Rattle.std.proofs.lemmas.Bool.Decides.{nat_tests}
 use Rattle.std.specs.Fmt.{decimal}
 use Rattle.flow_packet.specs.declared.packet.Kind.{Kind}
 use Rattle.flow_packet.specs.declared.packet.Kind.TheVariants.{Normal, Open, Close}
 use Rattle.flow_packet.specs.Tree.{Tree, content, id_of, kind_of}
 use Rattle.flow_packet.specs.Hands.{packet_at, kind_at}
-use Rattle.flow_packet.specs.Held.{Held, next_id, with_made, without_packet}
+use Rattle.flow_packet.specs.Held.{Held, next_id, with_made}
 use Rattle.flow_component.specs.declared.Wish.{Wish}
 use Rattle.flow_component.specs.declared.Wish.TheVariants as wishes
-use Rattle.flow_component.specs.Laws.{Outcome, Wishes}
+use Rattle.flow_component.specs.Laws.{Wishes}
 use Rattle.flow_component.specs.Ports.{receive_first, send_first}
 use Rattle.flow_component.specs.Happenings.{Happening, Started, Received, Ended, Sent, Learned}
 use Rattle.flow_component.specs.Runs.{Poise, fresh, Steps, Runs, got, sent, content_got, content_sent, text_packet, HeardEnd, IsEnd, BringsFirst, Wakes}
 use Rattle.flow_component.proofs.Lone.{HoldsOnly-kind, HoldsOnly-end}
 use Rattle.flow_component.proofs.Streams.{Comes-packets, contents_in, made_at, one-alone, content-kind}
-use Rattle.flow_parts.specs.Count.{CountState, one_more, passes_on, goes_on, count_next, CountNext, CountReady}
+use Rattle.flow_parts.specs.Count.{CountState, one_more, passes_on, goes_on, CountNext, CountReady}
 use Rattle.flow_parts.specs.Meanings.{fresh_count, normal_one, normals, IsCounted, CountMeaning}
 
 brought-step : (t : Tree) (es : List Happening) (c : Bool) → (got 0 es ≡ [] → ⊥) → cond c (content t ∷ []) [] ++ got 0 es ≡ [] → ⊥

@@ -1,5 +1,8 @@
-use Rattle.flow_meanings.proofs.Chaining.{one-outcome}
+use Rattle.flow_meanings.proofs.Chaining.{one-outcome, same-files}
 use Rattle.flow_meanings.proofs.a_network_without_merges_means_one_outcome.Goals as goal
 
-pub returns : goal.returns
-returns c = one-outcome
+pub returns-clause-one : goal.returns-clause-one
+returns-clause-one c = one-outcome
+
+pub returns-clause-files : goal.returns-clause-files
+returns-clause-files c = same-files
