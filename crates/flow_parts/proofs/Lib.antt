@@ -7,3 +7,4 @@ pub mod OneFilling
 pub mod FillStream
 pub mod WordsStream
 pub mod CountStream
+pub mod BracketsStream

@@ -11,3 +11,5 @@ pub mod Filling
 pub mod Words
 pub mod WordsLaws
 pub mod Count
+pub mod Brackets
+pub mod BracketsLaws

@@ -1,11 +1,11 @@
 -- What the components make of their streams, from their first state to their end. (Morrison's components and JavaFBP's; the exact
 -- rules are this project's own.)
-use Rattle.std.specs.Prelude.{◌≡◌, ◌≢◌, ℕ, List, [], ◌∷◌, ◌++◌, map, ◌+◌, ◌≤◌, Bool, true, false, length}
+use Rattle.std.specs.Prelude.{◌≡◌, ◌≢◌, ℕ, List, [], ◌∷◌, ◌++◌, map, ◌+◌, ◌≤◌, Bool, true, false, length, drop, Option, Some, None}
 use Rattle.std.specs.Fmt.{decimal}
 use Rattle.std.specs.List.{flat_map}
 use Rattle.flow_packet.specs.declared.packet.Kind.{Kind}
 use Rattle.flow_packet.specs.declared.packet.Kind.TheVariants.{Normal, Open, Close}
-use Rattle.flow_packet.specs.Tree.{Tree, kind_of, text_of}
+use Rattle.flow_packet.specs.Tree.{Tree, kind_of, text_of, packet_of}
 use Rattle.flow_component.specs.Happenings.{Happening}
 use Rattle.flow_component.specs.Outcomes.{IsAtHand}
 use Rattle.flow_component.specs.Runs.{EndedRun, EndIsLast, got, sent, text_packet, StartsBring, Wakes}
@@ -15,6 +15,7 @@ use Rattle.flow_parts.specs.declared.fill.FillPlace.TheVariants.{Waiting}
 use Rattle.flow_parts.specs.declared.words.Words.TheVariants as words_parts
 use Rattle.flow_parts.specs.Text.{words}
 use Rattle.flow_parts.specs.Words.{WordsNext, WordsReady}
+use Rattle.flow_parts.specs.Brackets.{bracket_of, BracketsNext, BracketsReady}
 use Rattle.flow_parts.specs.Count.{CountState, CountNext, CountReady}
 use Rattle.flow_parts.specs.FillState.{FillState}
 use Rattle.flow_parts.specs.Fill.{FillNext, FillReady}
@@ -81,3 +82,21 @@ pub record IsCounted (connected : Bool) (x y count : List Tree) : Type 0 where
 abbrev pub CountMeaning : Type 0
 CountMeaning = (connected : Bool) (told : List Happening) → EndedRun CountReady CountNext (fresh_count connected) told → StartsBring 1 told → Wakes 1 [] told → length told ≤ 8388608
     → IsCounted connected (got 0 told) (sent 0 told) (sent 1 told)
+
+-- A packet, or the bracket that its text names, with the rest of the text.
+abbrev pub bracketed_as : Option Kind → Tree → Tree
+bracketed_as None packet = packet
+bracketed_as (Some kind) packet = packet_of 0 kind (drop 1 (text_of packet)) []
+
+-- A Normal packet is turned so; a bracket stays as it is.
+abbrev pub bracketed_by : Kind → Tree → Tree
+bracketed_by Normal packet = bracketed_as (bracket_of (text_of packet)) packet
+bracketed_by Open packet = packet
+bracketed_by Close packet = packet
+
+abbrev pub bracketed : Tree → Tree
+bracketed packet = bracketed_by (kind_of packet) packet
+
+-- A Brackets sends what it gets, each Normal packet that names a bracket replaced by that.
+abbrev pub BracketsMeaning : Type 0 → Type 0
+BracketsMeaning K = (part : K) (told : List Happening) → EndedRun BracketsReady BracketsNext part told → sent 0 told ≡ map bracketed (got 0 told)

@@ -1,6 +1,7 @@
 //! Components on the lines of files.
 #![tactic(auto)]
 
+mod brackets;
 mod fill;
 mod meanings;
 mod read_lines;
@@ -9,10 +10,11 @@ mod tests;
 mod words;
 mod write_lines;
 
+pub use brackets::Brackets;
 pub use fill::{Fill, FillPlace};
 pub use meanings::{
-    count_keeps_its_meaning, fill_keeps_its_meaning, read_lines_keeps_its_meaning,
-    words_keeps_its_meaning, write_lines_keeps_its_meaning,
+    brackets_keeps_its_meaning, count_keeps_its_meaning, fill_keeps_its_meaning,
+    read_lines_keeps_its_meaning, words_keeps_its_meaning, write_lines_keeps_its_meaning,
 };
 pub use read_lines::ReadLines;
 pub use words::Words;

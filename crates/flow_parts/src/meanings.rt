@@ -1,5 +1,6 @@
 //! What the components make of their streams: each law is the contract of a function that does nothing.
-ghost use Rattle.flow_parts.specs.Meanings.{CountMeaning, FillMeaning, OneFilling, ReadLinesMeaning, WordsMeaning, WriteLinesMeaning};
+ghost use Rattle.flow_parts.specs.Meanings.{BracketsMeaning, CountMeaning, FillMeaning, OneFilling, ReadLinesMeaning, WordsMeaning, WriteLinesMeaning};
+ghost use Rattle.flow_parts.specs.declared.brackets.Brackets.{Brackets};
 
 /// What a ReadLines that has run to its end has sent is a Normal packet for each of its lines.
 pub fn read_lines_keeps_its_meaning()
@@ -25,4 +26,9 @@ pub fn fill_keeps_its_meaning()
 /// What a component that counts by these rules makes of its stream. (The component itself isn't written yet.)
 pub fn count_keeps_its_meaning()
     ensures { CountMeaning }
+{}
+
+/// What a Brackets has sent is what it got, with each Normal packet that names a bracket replaced by that.
+pub fn brackets_keeps_its_meaning()
+    ensures { BracketsMeaning Brackets }
 {}

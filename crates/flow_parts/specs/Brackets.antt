@@ -1,0 +1,46 @@
+-- The component that makes brackets of packets.
+use Rattle.std.specs.Prelude.{◌≡◌, ℕ, ◌==◌, List, [], ◌∷◌, Option, Some, None, if◌then◌else◌, length, slice_range}
+use Rattle.flow_packet.specs.declared.packet.Kind.{Kind}
+use Rattle.flow_packet.specs.declared.packet.Kind.TheVariants.{Normal, Open, Close}
+use Rattle.flow_packet.specs.Hands.{text_at, kind_at}
+use Rattle.flow_packet.specs.Held.{Held, next_id, without_packet, with_made}
+use Rattle.flow_component.specs.declared.Answer.{Answer}
+use Rattle.flow_component.specs.declared.Answer.TheVariants as answers
+use Rattle.flow_component.specs.declared.Wish.TheVariants.{Deactivate}
+use Rattle.flow_component.specs.Laws.{Outcome, Wishes}
+use Rattle.flow_component.specs.Ports.{receive_first, send_first}
+use Rattle.flow_component.specs.Alone.{HoldsOnly}
+
+-- The bracket that a text names by its first byte, if it does.
+abbrev pub bracket_of : List ℕ → Option Kind
+bracket_of [] = None
+bracket_of (b ∷ bs) = if b == 40 then Some Open else (if b == 41 then Some Close else None)
+
+-- A packet is passed on, or in its place a bracket with the rest of its text.
+abbrev pub turns : {K : Type 0} → K → Held → ℕ → List ℕ → Option Kind → Outcome K
+turns part held id text None = Wishes part held (send_first id)
+turns part held id text (Some kind) = Wishes part (without_packet (with_made held kind (slice_range text 1 (length text))) id) (send_first (next_id held))
+
+abbrev pub takes : {K : Type 0} → K → Held → ℕ → Kind → Outcome K
+takes part held id Normal = turns part held id (text_at held.packets id) (bracket_of (text_at held.packets id))
+takes part held id Open = Wishes part held (send_first id)
+takes part held id Close = Wishes part held (send_first id)
+
+abbrev pub brackets_next : {K : Type 0} → K → Held → Answer → Outcome K
+brackets_next part held answers.Start = Wishes part held receive_first
+brackets_next part held (answers.Got id) = takes part held id (kind_at held.packets id)
+brackets_next part held answers.End = Wishes part held Deactivate
+brackets_next part held answers.Sent = Wishes part held receive_first
+brackets_next part held (answers.Level n) = Wishes part held receive_first
+
+-- It comes to this alone.
+abbrev pub BracketsNext : {K : Type 0} → K → Held → Answer → Outcome K → Type 0
+BracketsNext part held answer outcome = outcome ≡ brackets_next part held answer
+
+-- Between packets its hands are empty.
+abbrev pub BracketsReady : {K : Type 0} → K → Held → Answer → Type 0
+BracketsReady part held answers.Start = held.packets ≡ []
+BracketsReady part held (answers.Got id) = HoldsOnly held id
+BracketsReady part held answers.End = held.packets ≡ []
+BracketsReady part held answers.Sent = held.packets ≡ []
+BracketsReady part held (answers.Level n) = ⊥

@@ -1,0 +1,67 @@
+-- Brackets keeps the laws of components.
+use Rattle.std.proofs.Common.{◌≡◌, ℕ, List, [], ◌∷◌, length, refl, sym, subst, arith, ap, Option, Some, None}
+use Rattle.std.specs.Prelude.{slice_range}
+use Rattle.flow_packet.specs.declared.packet.Kind.{Kind}
+use Rattle.flow_packet.specs.declared.packet.Kind.TheVariants.{Normal, Open, Close}
+use Rattle.flow_packet.specs.Tree.{packet_of}
+use Rattle.flow_packet.specs.Hands.{text_at, kind_at, without, IsAtRoot}
+use Rattle.flow_packet.specs.Held.{Held, next_id, without_packet, with_made}
+use Rattle.flow_component.specs.declared.Answer.{Answer}
+use Rattle.flow_component.specs.declared.Answer.TheVariants as answers
+use Rattle.flow_component.specs.Laws.{Outcome, Wishes, Obeys, StaysReady, IsSteady}
+use Rattle.flow_component.specs.Alone.{HoldsOnly}
+use Rattle.flow_component.specs.Ports.{one_to_one, uses_first, receive_first, send_first}
+use Rattle.flow_component.proofs.Roots.{same_id}
+use Rattle.flow_component.proofs.Comings.{comes_same, comes_renewed}
+use Rattle.flow_component.proofs.Lone.{HoldsOnly-without, HoldsOnly-root, HoldsOnly-came, HoldsOnly-made_alone}
+use Rattle.flow_parts.specs.Brackets.{bracket_of, turns, takes, brackets_next, BracketsNext, BracketsReady}
+
+-- in the place of the packet that was alone stands the one that was made
+pub renewed : (held : Held) (id : ℕ) (kind : Kind) (text : List ℕ) → HoldsOnly held id → (without_packet (with_made held kind text) id).packets ≡ packet_of (next_id held) kind text [] ∷ []
+renewed held id kind text h = let e = Rattle.std.proofs.Common.eq-eqb (Rattle.flow_packet.specs.Tree.id_of h.packet) id h.named in rw (h.holds, e) refl
+
+made-root : (n : ℕ) (kind : Kind) (text : List ℕ) → IsAtRoot (packet_of n kind text [] ∷ []) n
+made-root n kind text = let s = same_id n in rw s refl
+
+made-gone : (n : ℕ) (kind : Kind) (text : List ℕ) → without (packet_of n kind text [] ∷ []) n ≡ []
+made-gone n kind text = let s = same_id n in rw s refl
+
+module _ {K : Type 0} where
+  abbrev Lawful : Held → Outcome K → Type 0
+  Lawful held outcome = Obeys one_to_one uses_first held outcome × StaysReady BracketsReady outcome
+
+  idle : (part : K) (held : Held) → held.packets ≡ [] → Lawful held (Wishes part held receive_first)
+  idle part held e = ((comes_same held, omega arith), ((λ s. e), (λ t s. HoldsOnly-came held t e s), (λ text s. HoldsOnly-made_alone held Normal text e s)))
+
+  passed : (part : K) (held : Held) (id : ℕ) → HoldsOnly held id → Lawful held (Wishes part held (send_first id))
+  passed part held id h = ((comes_same held, (refl, HoldsOnly-root held id h)), λ s. HoldsOnly-without held id h)
+
+  turned : (part : K) (held : Held) (id : ℕ) (text : List ℕ) (kind : Option Kind) → HoldsOnly held id → Lawful held (turns part held id text kind)
+  turned part held id text None h = passed part held id h
+  turned part held id text (Some kind) h =
+      let rest = slice_range text 1 (length text) in
+      let e = renewed held id kind rest h in (
+        (comes_renewed held kind rest id (omega (arith, ap length h.holds)) (HoldsOnly-root held id h), (refl, rw e (made-root (next_id held) kind rest))),
+        λ s. rw e (made-gone (next_id held) kind rest),
+      )
+
+  taken : (part : K) (held : Held) (id : ℕ) (kind : Kind) → HoldsOnly held id → Lawful held (takes part held id kind)
+  taken part held id Normal h = turned part held id (text_at held.packets id) (bracket_of (text_at held.packets id)) h
+  taken part held id Open h = passed part held id h
+  taken part held id Close h = passed part held id h
+
+  lawful : (part : K) (held : Held) (answer : Answer) → BracketsReady part held answer → Lawful held (brackets_next part held answer)
+  lawful part held answers.Start r = idle part held r
+  lawful part held (answers.Got id) r = taken part held id (kind_at held.packets id) r
+  lawful part held answers.End r = ((comes_same held, tt), λ s. r)
+  lawful part held answers.Sent r = idle part held r
+  lawful part held (answers.Level n) r = absurd r
+
+  pub brackets_obeys : (part : K) (held : Held) (answer : Answer) (outcome : Outcome K) → BracketsReady part held answer → BracketsNext part held answer outcome → Obeys one_to_one uses_first held outcome
+  brackets_obeys part held answer outcome r is = subst (Obeys one_to_one uses_first held) (sym is) (lawful part held answer r).0
+
+  pub brackets_stays_ready : (part : K) (held : Held) (answer : Answer) (outcome : Outcome K) → BracketsReady part held answer → BracketsNext part held answer outcome → StaysReady BracketsReady outcome
+  brackets_stays_ready part held answer outcome r is = subst (StaysReady BracketsReady) (sym is) (lawful part held answer r).1
+
+  pub brackets_steady : (part : K) (held : Held) (answer : Answer) (outcome : Outcome K) → BracketsNext part held answer outcome → IsSteady (λ _. one_to_one) (λ _. uses_first) part outcome
+  brackets_steady part held answer outcome is = subst (IsSteady (λ _. one_to_one) (λ _. uses_first) part) (sym is) (record { shape = refl; outputs = refl })
