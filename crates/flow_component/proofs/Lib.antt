@@ -5,3 +5,4 @@ pub mod Lone
 pub mod Lifting
 pub mod Loopers
 pub mod Streams
+pub mod Several

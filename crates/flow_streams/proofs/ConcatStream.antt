@@ -150,7 +150,7 @@ step n k r c es before p m q (Received port t) Receiving st s run w rec =
     let h : wishes.Receive (record { 0 = port }) ≡ receive_at k = sym s.grants.0 ∙ st.0 in
     let port_is : port ≡ k = ap port_of h in
     let z : nat_eq k port ≡ true = grind (arith, nat_tests) in
-    let one = s.is_ready in
+    let one = s.is_ready.1 in
     let same : t ≡ one.packet = HoldsOnly-end s.held p.held.packets t (Comes-packets p.held t s.held s.grants.1) one in
     let alone : s.held.packets ≡ t ∷ [] = one.holds ∙ ap (λ (u : Tree). u ∷ []) (sym same) in
     let comes : Wishes m.part m.held m.wish ≡ Wishes p.part s.held (send_first (id_of t)) = s.comes_to in

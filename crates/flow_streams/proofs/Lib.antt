@@ -1,2 +1,9 @@
 pub mod PassthruStream
 pub mod ConcatStream
+pub mod Firsts
+pub mod Levels
+pub mod Merging
+pub mod Seats
+pub mod Gathering
+pub mod CollateStream
+pub mod Silence

@@ -1,10 +1,11 @@
 -- The component that passes on one input after another.
-use Rattle.std.specs.Prelude.{◌≡◌, ℕ, ◌+◌, Bool, true, false, [], nat_lt}
+use Rattle.std.specs.Prelude.{◌≡◌, ℕ, ◌+◌, ◌<◌, Bool, true, false, [], nat_lt}
 use Rattle.flow_packet.specs.Held.{Held}
 use Rattle.flow_component.specs.declared.Answer.{Answer}
 use Rattle.flow_component.specs.declared.Answer.TheVariants as answers
 use Rattle.flow_component.specs.declared.Wish.{Wish}
 use Rattle.flow_component.specs.declared.Wish.TheVariants.{Receive, Deactivate}
+use Rattle.flow_component.specs.declared.Shape.{Shape}
 use Rattle.flow_component.specs.Laws.{Outcome, Wishes}
 use Rattle.flow_component.specs.Ports.{send_first}
 use Rattle.flow_component.specs.Alone.{HoldsOnly}
@@ -32,10 +33,14 @@ concat_next state held (answers.Level n) = Wishes state held Deactivate
 abbrev pub ConcatNext : ConcatState → Held → Answer → Outcome ConcatState → Type 0
 ConcatNext state held answer outcome = outcome ≡ concat_next state held answer
 
+-- As many inputs as its state says, and one output.
+abbrev pub concat_shape : ConcatState → Shape
+concat_shape state = record { inputs = state.count; outputs = 1 }
+
 -- Between packets its hands are empty.
 abbrev pub ConcatReady : ConcatState → Held → Answer → Type 0
-ConcatReady state held answers.Start = held.packets ≡ []
-ConcatReady state held (answers.Got id) = HoldsOnly held id
-ConcatReady state held answers.End = held.packets ≡ []
-ConcatReady state held answers.Sent = held.packets ≡ []
+ConcatReady state held answers.Start = (state.at < state.count) × (held.packets ≡ [])
+ConcatReady state held (answers.Got id) = (state.at < state.count) × HoldsOnly held id
+ConcatReady state held answers.End = (state.at < state.count) × (held.packets ≡ [])
+ConcatReady state held answers.Sent = (state.at < state.count) × (held.packets ≡ [])
 ConcatReady state held (answers.Level n) = ⊥

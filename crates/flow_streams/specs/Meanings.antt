@@ -1,10 +1,16 @@
 -- What the components make of their streams, from their first state to their end. (The exact rules are this project's own.)
-use Rattle.std.specs.Prelude.{◌≡◌, ◌≢◌, ℕ, zero, suc, ◌+◌, ◌≤◌, List, [], ◌++◌}
+use Rattle.std.specs.Prelude.{◌≡◌, ◌≢◌, ℕ, zero, suc, ◌+◌, ◌<◌, ◌≤◌, false, List, [], ◌++◌, length}
 use Rattle.flow_packet.specs.Tree.{Tree}
 use Rattle.flow_component.specs.Happenings.{Happening}
 use Rattle.flow_component.specs.Outcomes.{IsAtHand}
 use Rattle.flow_component.specs.Runs.{EndedRun, got, sent, Wakes, HeardEnd, starts}
 use Rattle.flow_streams.specs.Concat.{ConcatState, ConcatNext, ConcatReady}
+use Rattle.flow_streams.specs.declared.collate.CollatePlace.TheVariants.{Filling}
+use Rattle.flow_streams.specs.CollateState.{CollateState}
+use Rattle.flow_streams.specs.Collate.{CollateNext, CollateReady}
+use Rattle.flow_streams.specs.Collated.{collation, listed}
+use Rattle.flow_streams.specs.Discard.{DiscardNext}
+use Rattle.flow_streams.specs.Hoard.{HoardNext}
 use Rattle.flow_streams.specs.Passthru.{PassthruNext}
 
 -- A Passthru sends what it gets.
@@ -25,3 +31,20 @@ got_from k (suc n) told = got k told ++ got_from (k + 1) n told
 abbrev pub ConcatMeaning : Type 0
 ConcatMeaning = (n : ℕ) (told : List Happening) → EndedRun ConcatReady ConcatNext (fresh_concat (n + 1)) told → Wakes (n + 1) [] told
     → (sent 0 told ≡ got_from 0 (n + 1) told) × (starts told ≤ 1) × (told ≢ [] → (i : ℕ) → i ≤ n → HeardEnd i told)
+
+-- A Collate at its start.
+abbrev pub fresh_collate : List ℕ → ℕ → CollateState
+fresh_collate fields elements = record { fields = fields; elements = elements; owners = []; opened = false; last = []; place = Filling 0 }
+
+-- A Collate that has come to its end has sent the collation of what it got at its inputs; it was started once at most, and has heard the end of each input once it
+-- was started.
+abbrev pub CollateMeaning : Type 0
+CollateMeaning = (fields : List ℕ) (n : ℕ) (told : List Happening) → 1 ≤ length fields → 1 ≤ n → EndedRun CollateReady CollateNext (fresh_collate fields n) told → Wakes n [] told
+    → (sent 0 told ≡ collation fields (listed 0 n (λ i. got i told))) × (starts told ≤ 1) × (told ≢ [] → (i : ℕ) → i < n → HeardEnd i told)
+
+-- A Discard sends nothing, and neither does a Hoard.
+abbrev pub DiscardMeaning : Type 0 → Type 0
+DiscardMeaning K = (part : K) (told : List Happening) → EndedRun (λ (_ : K). IsAtHand) DiscardNext part told → (port : ℕ) → sent port told ≡ []
+
+abbrev pub HoardMeaning : Type 0 → Type 0
+HoardMeaning K = (part : K) (told : List Happening) → EndedRun (λ (_ : K). IsAtHand) HoardNext part told → (port : ℕ) → sent port told ≡ []

@@ -1,10 +1,27 @@
 //! Components on streams of packets.
 #![tactic(auto)]
 
+mod bundle;
+mod collate;
+mod concat;
+mod copy;
+mod discard;
+mod hoard;
 mod meanings;
 mod passthru;
 #[cfg(test)]
 mod tests;
+mod unbundle;
 
-pub use meanings::{concat_keeps_its_meaning, passthru_keeps_its_meaning};
+pub use bundle::Bundle;
+pub use collate::{Collate, CollatePlace};
+pub use concat::Concat;
+pub use copy::{Copy, CopyPlace};
+pub use discard::Discard;
+pub use hoard::Hoard;
+pub use meanings::{
+    collate_keeps_its_meaning, concat_keeps_its_meaning, discard_keeps_its_meaning,
+    hoard_keeps_its_meaning, passthru_keeps_its_meaning,
+};
 pub use passthru::Passthru;
+pub use unbundle::Unbundle;

@@ -1,5 +1,7 @@
 //! What the components make of their streams: each law is the contract of a function that does nothing.
-ghost use Rattle.flow_streams.specs.Meanings.{ConcatMeaning, PassthruMeaning};
+ghost use Rattle.flow_streams.specs.Meanings.{CollateMeaning, ConcatMeaning, DiscardMeaning, HoardMeaning, PassthruMeaning};
+ghost use Rattle.flow_streams.specs.declared.discard.Discard.{Discard};
+ghost use Rattle.flow_streams.specs.declared.hoard.Hoard.{Hoard};
 ghost use Rattle.flow_streams.specs.declared.passthru.Passthru.{Passthru};
 
 /// What a Passthru that has come to its end has sent is what it got.
@@ -7,7 +9,22 @@ pub fn passthru_keeps_its_meaning()
     ensures { PassthruMeaning Passthru }
 {}
 
-/// What a component that passes on one input after another by these rules makes of its streams. (The component itself isn't written yet.)
+/// What a Concat that has come to its end has sent is what it got at its first input, then what it got at the next, and so on.
 pub fn concat_keeps_its_meaning()
     ensures { ConcatMeaning }
+{}
+
+/// What a Collate that has come to its end has sent is the collation of what it got at its inputs.
+pub fn collate_keeps_its_meaning()
+    ensures { CollateMeaning }
+{}
+
+/// A Discard sends nothing.
+pub fn discard_keeps_its_meaning()
+    ensures { DiscardMeaning Discard }
+{}
+
+/// A Hoard sends nothing.
+pub fn hoard_keeps_its_meaning()
+    ensures { HoardMeaning Hoard }
 {}

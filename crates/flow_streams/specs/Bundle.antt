@@ -1,0 +1,83 @@
+-- The component that makes one packet of each substream.
+use Rattle.std.specs.Prelude.{◌≡◌, ℕ, ◌+◌, ◌-◌, ◌==◌, min, nat_lt, List, [], ◌∷◌, if◌then◌else◌}
+use Rattle.flow_packet.specs.declared.packet.Kind.{Kind}
+use Rattle.flow_packet.specs.declared.packet.Kind.TheVariants.{Normal, Open, Close}
+use Rattle.flow_packet.specs.Tree.{Tree, id_of}
+use Rattle.flow_packet.specs.Hands.{text_at, kind_at, height_at, attached}
+use Rattle.flow_packet.specs.Held.{Held, next_id, without_packet, with_made}
+use Rattle.flow_component.specs.declared.Answer.{Answer}
+use Rattle.flow_component.specs.declared.Answer.TheVariants as answers
+use Rattle.flow_component.specs.declared.Wish.TheVariants.{Deactivate}
+use Rattle.flow_component.specs.declared.Fail.TheVariants.{TreeDepth}
+use Rattle.flow_component.specs.Laws.{Outcome, Wishes, Fails}
+use Rattle.flow_component.specs.Ports.{receive_first, send_first}
+use Rattle.flow_component.specs.Alone.{HoldsOnly}
+use Rattle.flow_streams.specs.declared.bundle.Bundle.{Bundle}
+use Rattle.flow_streams.specs.declared.bundle.Bundle.TheVariants.{Outside, Inside}
+
+-- The name of the chain: items.
+abbrev pub items : List ℕ
+items = 105 ∷ 116 ∷ 101 ∷ 109 ∷ 115 ∷ []
+
+-- One level deeper. The depth stands still at its greatest value.
+abbrev pub deeper : ℕ → ℕ
+deeper depth = min (depth + 1) 4294967295
+
+-- An Open packet begins a bundle: a Normal packet with its text.
+abbrev pub begins : Held → ℕ → Outcome Bundle
+begins held id = Wishes (Inside (next_id held) 1) (without_packet (with_made held Normal (text_at held.packets id)) id) receive_first
+
+-- A packet goes to the end of the bundle's chain, unless it is too high.
+abbrev pub gathers : Bundle → Held → ℕ → ℕ → ℕ → Outcome Bundle
+gathers part held bundle id depth =
+    if height_at held.packets id == 16 then Fails part held TreeDepth else Wishes (Inside bundle depth) (record held { packets = attached held.packets bundle items id }) receive_first
+
+-- The matching Close is dropped, and the bundle is sent.
+abbrev pub ends_bundle : Held → ℕ → ℕ → Outcome Bundle
+ends_bundle held bundle id = Wishes Outside (without_packet held id) (send_first bundle)
+
+-- Packets outside are passed on; those inside are gathered, brackets of inner substreams included.
+abbrev pub bundles : Bundle → Held → ℕ → Kind → Outcome Bundle
+bundles Outside held id Normal = Wishes Outside held (send_first id)
+bundles Outside held id Open = begins held id
+bundles Outside held id Close = Wishes Outside held (send_first id)
+bundles (Inside bundle depth) held id Normal = gathers (Inside bundle depth) held bundle id depth
+bundles (Inside bundle depth) held id Open = gathers (Inside bundle depth) held bundle id (deeper depth)
+bundles (Inside bundle depth) held id Close = if nat_lt 1 depth then gathers (Inside bundle depth) held bundle id (depth - 1) else ends_bundle held bundle id
+
+abbrev pub bundle_next : Bundle → Held → Answer → Outcome Bundle
+bundle_next part held answers.Start = Wishes part held receive_first
+bundle_next part held (answers.Got id) = bundles part held id (kind_at held.packets id)
+bundle_next part held answers.End = Wishes part held Deactivate
+bundle_next part held answers.Sent = Wishes part held receive_first
+bundle_next part held (answers.Level n) = Wishes part held Deactivate
+
+-- It comes to this alone.
+abbrev pub BundleNext : Bundle → Held → Answer → Outcome Bundle → Type 0
+BundleNext part held answer outcome = outcome ≡ bundle_next part held answer
+
+-- The hands hold the packets with these two ids, in this order, and the next id is another than the first.
+pub record HoldsTwo (held : Held) (one two : ℕ) : Type 0 where
+  pub first : Tree
+  pub second : Tree
+  pub holds : held.packets ≡ first ∷ second ∷ []
+  pub first_named : id_of first ≡ one
+  pub second_named : id_of second ≡ two
+  pub apart : one ≡ two → ⊥
+  pub older : one ≡ next_id held → ⊥
+
+-- Between packets it holds the bundle, if one is begun.
+abbrev pub IsBetween : Bundle → Held → Type 0
+IsBetween Outside held = held.packets ≡ []
+IsBetween (Inside bundle depth) held = HoldsOnly held bundle
+
+abbrev pub HasCome : Bundle → Held → ℕ → Type 0
+HasCome Outside held id = HoldsOnly held id
+HasCome (Inside bundle depth) held id = HoldsTwo held bundle id
+
+abbrev pub BundleReady : Bundle → Held → Answer → Type 0
+BundleReady part held answers.Start = IsBetween part held
+BundleReady part held (answers.Got id) = HasCome part held id
+BundleReady part held answers.End = IsBetween part held
+BundleReady part held answers.Sent = IsBetween part held
+BundleReady part held (answers.Level n) = ⊥

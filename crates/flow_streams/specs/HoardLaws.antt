@@ -1,0 +1,34 @@
+-- Hoard keeps the laws of components.
+use Rattle.std.proofs.Common.{refl, sym, subst, arith}
+use Rattle.flow_packet.specs.Held.{Held}
+use Rattle.flow_component.specs.declared.Answer.{Answer}
+use Rattle.flow_component.specs.declared.Answer.TheVariants as answers
+use Rattle.flow_component.specs.Laws.{Outcome, Obeys, StaysReady, IsSteady, IsAllowed, ReadyAfter}
+use Rattle.flow_component.specs.Ports.{one_to_none, uses_none, first_port}
+use Rattle.flow_component.specs.Outcomes.{IsAtHand}
+use Rattle.flow_component.proofs.Comings.{comes_same}
+use Rattle.flow_component.proofs.Loopers.{at_hand_received, at_hand_idle}
+use Rattle.flow_streams.specs.Hoard.{hoards, HoardNext}
+
+allowed : (held : Held) (answer : Answer) → IsAtHand held answer → IsAllowed one_to_none uses_none held (hoards answer)
+allowed held answers.Start r = omega arith
+allowed held (answers.Got id) r = omega arith
+allowed held answers.End r = tt
+allowed held answers.Sent r = omega arith
+allowed held (answers.Level n) r = absurd r
+
+after : (held : Held) (answer : Answer) → ReadyAfter IsAtHand held (hoards answer)
+after held answers.Start = at_hand_received held first_port
+after held (answers.Got id) = at_hand_received held first_port
+after held answers.End = at_hand_idle held
+after held answers.Sent = at_hand_received held first_port
+after held (answers.Level n) = at_hand_idle held
+
+pub hoard_obeys : {K : Type 0} (part : K) (held : Held) (answer : Answer) (outcome : Outcome K) → IsAtHand held answer → HoardNext part held answer outcome → Obeys one_to_none uses_none held outcome
+hoard_obeys part held answer outcome r is = subst (Obeys one_to_none uses_none held) (sym is) (comes_same held, allowed held answer r)
+
+pub hoard_stays_ready : {K : Type 0} (part : K) (held : Held) (answer : Answer) (outcome : Outcome K) → IsAtHand held answer → HoardNext part held answer outcome → StaysReady (λ (_ : K). IsAtHand) outcome
+hoard_stays_ready {K} part held answer outcome r is = subst (StaysReady (λ (_ : K). IsAtHand)) (sym is) (after held answer)
+
+pub hoard_steady : {K : Type 0} (part : K) (held : Held) (answer : Answer) (outcome : Outcome K) → HoardNext part held answer outcome → IsSteady (λ _. one_to_none) (λ _. uses_none) part outcome
+hoard_steady part held answer outcome is = subst (IsSteady (λ _. one_to_none) (λ _. uses_none) part) (sym is) (record { shape = refl; outputs = refl })
