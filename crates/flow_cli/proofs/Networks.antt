@@ -5,8 +5,8 @@ use Rattle.flow_net.specs.Network.{Network}
 use Rattle.flow_parse.specs.declared.value.NetText.{NetText}
 use Rattle.flow_parse.specs.Files.{Spells}
 use Rattle.flow_parse.proofs.OneOutcome.{one_outcome}
-use Rattle.flow_expand.specs.Flat.{IsFlat}
-use Rattle.flow_expand.proofs.OnePlan.{one_plan}
+use Rattle.flow_flat.specs.Faults.{ComesTo}
+use Rattle.flow_flat.proofs.Once.{comes_once}
 use Rattle.flow_catalogue.specs.Kinds.{std_kinds}
 use Rattle.flow_cli.specs.Networks.{Holds, RefusedFor}
 use Rattle.flow_cli.specs.declared.net_file.Refusal.{Refusal}
@@ -23,6 +23,6 @@ holds-or-refused net text plan refusals.Subnets holds refused =
     refused.2 (ap (λ (t : NetText). t.subnets) same ∙ holds.plain)
 holds-or-refused net text plan (refusals.Plan fault) holds refused =
     let same = one-text net refused.0 text refused.1 holds.spelled in
-    let flat = subst (λ (t : NetText). IsFlat std_kinds t.main (Err fault)) same refused.3 in
-    let both = one_plan std_kinds text.main (Ok plan) (Err fault) holds.flat flat in
+    let flat = subst (λ (t : NetText). ComesTo std_kinds t.main (Err fault)) same refused.3 in
+    let both = comes_once std_kinds text.main (Ok plan) (Err fault) holds.flat flat in
     cc

@@ -6,7 +6,7 @@ use Rattle.flow_net.specs.Valid.{IsValid}
 use Rattle.flow_net.specs.Over.{IsOver}
 use Rattle.flow_parse.specs.declared.value.NetText.{NetText}
 use Rattle.flow_parse.specs.Files.{Spells, Refused}
-use Rattle.flow_expand.specs.Flat.{IsFlat}
+use Rattle.flow_flat.specs.Faults.{ComesTo}
 use Rattle.flow_catalogue.specs.Kinds.{std_kinds}
 use Rattle.flow_cli.specs.declared.net_file.Refusal.{Refusal}
 use Rattle.flow_cli.specs.declared.net_file.Refusal.TheVariants as refusals
@@ -18,13 +18,13 @@ use Rattle.flow_cli.specs.declared.net_file.NetworkStop.TheVariants.{Refused as 
 pub record Holds (net : List ℕ) (text : NetText) (plan : Network) : Type 0 where
   pub spelled : Spells net text
   pub plain : text.subnets ≡ []
-  pub flat : IsFlat std_kinds text.main (Ok plan)
+  pub flat : ComesTo std_kinds text.main (Ok plan)
 
 -- The bytes are refused: a line has a fault; or they spell a value that has subnets, which aren't built yet; or one whose plan has a fault.
 abbrev pub RefusedFor : List ℕ → Refusal → Type 0
 RefusedFor net (refusals.Line fault) = Refused net fault
 RefusedFor net refusals.Subnets = (text : NetText) × Spells net text × (text.subnets ≢ [])
-RefusedFor net (refusals.Plan fault) = (text : NetText) × Spells net text × (text.subnets ≡ []) × IsFlat std_kinds text.main (Err fault)
+RefusedFor net (refusals.Plan fault) = (text : NetText) × Spells net text × (text.subnets ≡ []) × ComesTo std_kinds text.main (Err fault)
 
 -- The plan is a valid one over the standard kinds.
 pub record IsStandardPlan (plan : Network) : Type 0 where

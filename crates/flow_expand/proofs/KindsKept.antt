@@ -8,7 +8,7 @@ use Rattle.flow_net.specs.Calls.{kind_for, with_process, after_process, ends_of,
 use Rattle.flow_net.proofs.Ends.{bind_ok}
 use Rattle.flow_parse.specs.declared.value.Statement.{Statement}
 use Rattle.flow_parse.specs.declared.value.Statement.TheVariants.{Connect, Initial, InPort, OutPort}
-use Rattle.flow_expand.specs.Flat.{after_processes, AfterText, AfterStatement, AfterStatements}
+use Rattle.flow_flat.specs.Told.{after_processes, AfterText, AfterStatement, AfterStatements}
 
 process_keeps : (draft next : Draft) (name kind : List ℕ) → after_process draft name kind ≡ Ok next → next.kinds ≡ draft.kinds
 process_keeps draft next name kind is =

@@ -16,7 +16,7 @@ use Rattle.flow_parse.specs.declared.value.Statement.{Statement}
 use Rattle.flow_parse.specs.declared.value.NetText.{NetText}
 use Rattle.flow_parse.specs.Files.{may_stand, kinds_agree, mentions_in, mentions_of, lines_now, is_new_subnet, Open, Parts, nothing, Said, remark, says, wrong, put_into, close, with_line, statements_of, statements_in, first_failing, reason_at, fault_at, or_fault, text_fits, is_within_limits, after, at_end, LeadsTo, Spells}
 use Rattle.flow_parse.specs.Names.{is_named, is_numbered}
-use Rattle.flow_expand.specs.Flat.{IsShort, HasShortTexts}
+use Rattle.flow_flat.specs.Told.{IsShort, HasShortTexts}
 
 -- The main part so far gives short texts.
 abbrev IsShortSoFar : Option Parts → Type 0

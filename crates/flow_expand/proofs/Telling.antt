@@ -9,7 +9,7 @@ use Rattle.flow_net.specs.Drafts.{Draft, ◌>>=◌, Becomes}
 use Rattle.flow_net.specs.Calls.{after_process, after_connect}
 use Rattle.flow_parse.specs.declared.value.Statement.{Statement}
 use Rattle.flow_parse.specs.declared.value.Statement.TheVariants.{Connect}
-use Rattle.flow_expand.specs.Flat.{after_processes, AfterStatement, AfterStatements}
+use Rattle.flow_flat.specs.Told.{after_processes, AfterStatement, AfterStatements}
 use Rattle.flow_expand.specs.Outcomes.{Leaves}
 
 -- The list from one element on.

@@ -1,3 +1,2 @@
-pub mod Flat
 pub mod Outcomes
 pub mod Refusals

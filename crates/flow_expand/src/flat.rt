@@ -6,7 +6,8 @@ ghost use Rattle.flow_net.specs.Network.{Network};
 ghost use Rattle.flow_net.specs.Calls.{after_process};
 ghost use Rattle.flow_net.specs.Kinds.{is_table};
 ghost use Rattle.flow_net.specs.Over.{IsOver};
-ghost use Rattle.flow_expand.specs.Flat.{IsShort, HasShortTexts, after_processes, AfterStatement, AfterStatements, IsDraft, IsFlat};
+ghost use Rattle.flow_flat.specs.Faults.{ComesTo};
+ghost use Rattle.flow_flat.specs.Told.{IsShort, HasShortTexts, after_processes, AfterStatement, AfterStatements, IsDraft, IsFlat};
 ghost use Rattle.flow_expand.specs.Outcomes.{Leads, Leaves, Gives, IfFault};
 
 use crate::stop::ExpandStop;
@@ -91,6 +92,16 @@ fn flat_plan(alloc: Global, part: &NetPart, kinds: Vec<KindSpec>) -> Result<Plan
     builder.finish()
 }
 
+// The same, said of the part itself.
+fn said_plan(alloc: Global, part: &NetPart, kinds: Vec<KindSpec>) -> Result<Plan, PlanStop>
+    requires table { IsTrue (is_table kinds.items) }
+    requires short { HasShortTexts part.now }
+    ensures said { Leads result (λ outcome. ComesTo kinds.items part.now outcome) }
+    ensures over { IfOk result (IsOver kinds.items) }
+{
+    flat_plan(alloc, part, kinds)
+}
+
 /// The plan of a text, or the first thing that is against it: what is wrong with the processes of the
 /// main part, in their order, then with its statements, in theirs, and then with the whole. The order is
 /// this project's own.
@@ -98,19 +109,19 @@ pub fn expand(alloc: Global, text: &NetText, kinds: Vec<KindSpec>) -> Result<Pla
     requires table { IsTrue (is_table kinds.items) }
     requires short { HasShortTexts text.now.main }
     // A plan is that of a text without subnets.
-    ensures plan { IfOk result (λ plan. (text.now.subnets ≡ []) × IsFlat kinds.items text.now.main (Ok plan)) }
+    ensures plan { IfOk result (λ plan. (text.now.subnets ≡ []) × ComesTo kinds.items text.now.main (Ok plan)) }
     // Each of its processes is of a kind of the table.
     ensures over { IfOk result (IsOver kinds.items) }
     // A text is refused for its subnets exactly where it has some.
     ensures subnets { (result ≡ Err ExpandStop.Subnets) ↔ (text.now.subnets ≢ []) }
     // A fault is one of a text without subnets.
-    ensures fault { IfErr result (λ stop. IfFault stop (λ fault. (text.now.subnets ≡ []) × IsFlat kinds.items text.now.main (Err fault))) }
+    ensures fault { IfErr result (λ stop. IfFault stop (λ fault. (text.now.subnets ≡ []) × ComesTo kinds.items text.now.main (Err fault))) }
     // What a text without subnets comes to is the answer, unless memory runs out.
-    ensures exact { (outcome : Result Network PlanFault) → text.now.subnets ≡ [] → IsFlat kinds.items text.now.main outcome → Gives result (λ found. found ≡ outcome) }
+    ensures exact { (outcome : Result Network PlanFault) → text.now.subnets ≡ [] → ComesTo kinds.items text.now.main outcome → Gives result (λ found. found ≡ outcome) }
 {
     if !text.subnets.is_empty() {
         return Err(ExpandStop::Subnets);
     }
-    let plan = flat_plan(alloc, &text.main, kinds)?;
+    let plan = said_plan(alloc, &text.main, kinds)?;
     Ok(plan)
 }

@@ -4,7 +4,7 @@ use Rattle.flow_net.specs.declared.plan.Process.{Process}
 use Rattle.flow_net.specs.Network.{Network}
 use Rattle.flow_parse.specs.declared.value.NetText.{NetText}
 use Rattle.flow_parse.specs.Files.{Spells}
-use Rattle.flow_expand.specs.Flat.{IsFlat}
+use Rattle.flow_flat.specs.Faults.{ComesTo}
 use Rattle.flow_machine.specs.PlanOf.{plan_of}
 use Rattle.flow_machine.specs.Values.{NetValue}
 use Rattle.flow_machine.specs.Starts.{StartsNet}
@@ -17,7 +17,7 @@ pub record IsPlanOf (text : List ℕ) (plan : Network) : Type 0 where
   pub value : NetText
   pub spelled : Spells text value
   pub plain : value.subnets ≡ []
-  pub flat : IsFlat std_kinds value.main (Ok plan)
+  pub flat : ComesTo std_kinds value.main (Ok plan)
 
 -- The part is the process's own in its first state, on these bytes where it reads a file.
 pub record IsPartOn (bytes : List ℕ) (process : Process) (part : Std) : Type 0 where

@@ -6,7 +6,9 @@ use Rattle.flow_net.specs.declared.draft.End.{End}
 use Rattle.flow_net.specs.Drafts.{Draft}
 use Rattle.flow_net.specs.Calls.{with_process, joined, given}
 use Rattle.flow_net.specs.Options.{IsFileName}
-use Rattle.flow_expand.specs.Flat.{IsDraft, IsFlat, empty}
+use Rattle.flow_flat.specs.Faults.{ComesTo}
+use Rattle.flow_flat.specs.Told.{HasShortTexts, IsDraft, IsFlat, empty}
+use Rattle.flow_flat.proofs.Outcomes.{told_is_said}
 use Rattle.flow_catalogue.specs.declared.table.StdKind.TheVariants as kinds
 use Rattle.flow_catalogue.specs.Kinds.{spec_of, std_kinds}
 use Rattle.flow_witness.specs.FirstRun.{first_network, first_part}
@@ -82,5 +84,12 @@ out_name = (omega arith, omega arith, IsUtf8-from_ascii (codes "out.txt") out_as
 drafted : IsDraft std_kinds first_part (Ok with_output)
 drafted = (Ok with_input, (at 0, refl, in_name, refl), (Ok with_first, refl, (Ok with_second, refl, (Ok with_output, (at 4, refl, out_name, refl), refl))))
 
-pub planned : IsFlat std_kinds first_part (Ok first_network)
-planned = (Ok with_output, drafted, refl)
+short : HasShortTexts first_part
+short zero d below = omega arith
+short (suc zero) d below = tt
+short (suc (suc zero)) d below = tt
+short (suc (suc (suc zero))) d below = omega arith
+short (suc (suc (suc (suc k)))) d below = absurd (omega (arith, below))
+
+pub planned : ComesTo std_kinds first_part (Ok first_network)
+planned = told_is_said std_kinds first_part (Ok first_network) refl short (Ok with_output, drafted, refl)

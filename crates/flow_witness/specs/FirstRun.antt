@@ -4,7 +4,7 @@ use Rattle.flow_net.specs.Network.{Network}
 use Rattle.flow_net.specs.declared.kind.PortRef.{PortRef}
 use Rattle.flow_parse.specs.declared.value.NetPart.{NetPart}
 use Rattle.flow_parse.specs.declared.value.Statement.TheVariants.{Connect, Initial}
-use Rattle.flow_expand.specs.Flat.{IsFlat}
+use Rattle.flow_flat.specs.Faults.{ComesTo}
 use Rattle.flow_catalogue.specs.Kinds.{std_kinds}
 use Rattle.flow_witness.specs.Chain.{chain_of}
 use Rattle.flow_streams.specs.declared.passthru.Passthru.{Passthru}
@@ -61,7 +61,7 @@ first_journal = record { turns = (replicate 5 0 ++ replicate 7 1) ++ replicate 5
 -- The network is the plan of that part; the plan with these components starts well; the journal is its round robin, after which every process has ended, no packet is left, and the writer has
 -- the line and a line feed.
 pub record IsFirstRun : Type 0 where
-  pub planned : IsFlat std_kinds first_part (Ok first_network)
+  pub planned : ComesTo std_kinds first_part (Ok first_network)
   pub starts : StartsWell std_shape std_uses StdReady first_plan first_parts
   pub last : State Std
   pub round : RoundRobin StdNext first_start first_journal last

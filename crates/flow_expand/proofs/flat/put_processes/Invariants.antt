@@ -1,5 +1,5 @@
 use Rattle.std.proofs.Common.{◌≡◌, drop}
-use Rattle.flow_expand.specs.Flat.{after_processes}
+use Rattle.flow_flat.specs.Told.{after_processes}
 use Rattle.flow_expand.proofs.flat.put_processes.Given as goal
 
 abbrev pub invariant-processes : goal.invariant-processes

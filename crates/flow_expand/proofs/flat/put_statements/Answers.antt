@@ -1,7 +1,7 @@
 use Rattle.std.proofs.Common.{subst, sym}
 use Rattle.std.proofs.lemmas.Result.{err_from_is_err_and}
 use Rattle.flow_parse.specs.declared.value.Statement.{Statement}
-use Rattle.flow_expand.specs.Flat.{IsShort}
+use Rattle.flow_flat.specs.Told.{IsShort}
 use Rattle.flow_expand.proofs.Telling.{one_taken, taking_stops, all_taken}
 use Rattle.flow_expand.proofs.flat.put_statements.Goals as goal
 

@@ -1,0 +1,11 @@
+//! What network a text is, said of the text itself.
+#![tactic(auto)]
+
+mod fault;
+mod laws;
+
+pub use fault::ExpandFault;
+pub use laws::{
+    a_builder_gives_the_plan_of_its_text, a_flat_text_has_one_outcome, a_flat_text_is_in_order,
+    a_text_has_one_outcome,
+};
