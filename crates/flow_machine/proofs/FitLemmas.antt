@@ -65,7 +65,7 @@ shown-after {K} old p n e stamp new turn =
     λ i. record { bodies = bodies i; channels = turn.channels i }
 
 -- the other bodies stay
-by-place : {K : Type 0} (bodies : List (BodyValue K)) (p : ℕ) (b b' : BodyValue K) (P : ℕ → BodyValue K → Type 0) → slice_get bodies p ≡ Some b → P p b' → ((q : ℕ) (x : BodyValue K) → q ≢ p → slice_get bodies q ≡ Some x → P q x)
+pub by-place : {K : Type 0} (bodies : List (BodyValue K)) (p : ℕ) (b b' : BodyValue K) (P : ℕ → BodyValue K → Type 0) → slice_get bodies p ≡ Some b → P p b' → ((q : ℕ) (x : BodyValue K) → q ≢ p → slice_get bodies q ≡ Some x → P q x)
     → (q : ℕ) (x : BodyValue K) → slice_get (slice_set bodies p b') q ≡ Some x → P q x
 by-place {K} bodies p b b' P there here others q x is = elim (same_or_not q p) [
   | inl same ↦ (let h : Some b' ≡ Some x = sym (ap (slice_get (slice_set bodies p b')) same ∙ slice_get-set_same bodies p b b' there) ∙ is in
@@ -83,7 +83,7 @@ length-change xs i f = by (slice_get xs i)
     by (Some x) = length-set xs i (f x)
     by None = refl
 
-channels-len : (e : Event) (channels : List ChannelShown) → length (all_shown_after e channels) ≡ length channels
+pub channels-len : (e : Event) (channels : List ChannelShown) → length (all_shown_after e channels) ≡ length channels
 channels-len (Gets port c packet) channels = length-change channels c (shown_after (Gets port c packet))
 channels-len (Sends port c packet) channels = length-change channels c (shown_after (Sends port c packet))
 channels-len (Closes output c) channels = length-change channels c (shown_after (Closes output c))
@@ -120,7 +120,7 @@ puts-after (Hears_end port) channels m most = λ d ch is. omega (arith, most d c
 puts-after (Learns port level) channels m most = λ d ch is. omega (arith, most d ch is)
 puts-after Sleeps channels m most = λ d ch is. omega (arith, most d ch is)
 
-wired-same : {K : Type 0} (channels : ℕ) (b b' : BodyValue K) → b'.process.inputs ≡ b.process.inputs → b'.process.outputs ≡ b.process.outputs → IsWiredBody channels b → IsWiredBody channels b'
+pub wired-same : {K : Type 0} (channels : ℕ) (b b' : BodyValue K) → b'.process.inputs ≡ b.process.inputs → b'.process.outputs ≡ b.process.outputs → IsWiredBody channels b → IsWiredBody channels b'
 wired-same {K} channels b b' inputs outputs wired = record {
   inputs = λ i c is. wired.inputs i c (ap (λ ins. slice_get ins i) (sym inputs) ∙ is);
   outputs = λ o c is. wired.outputs o c (ap (λ outs. output_in outs o) (sym outputs) ∙ is);
@@ -224,7 +224,7 @@ module _ {K : Type 0} (shape_of : K → Shape) (uses : K → ℕ → Bool) (read
       let each = turns-few net.bodies turn_limit (λ p b is. omega (arith, (fit.fit.valid.each p b.process (process-in net fit.state p b fit.stands is)).turns)) in
       omega (arith, each, fit.few)
 
-  get-below : {A : Type 0} (xs : List A) (i : ℕ) (x : A) → slice_get xs i ≡ Some x → i < length xs
+  pub get-below : {A : Type 0} (xs : List A) (i : ℕ) (x : A) → slice_get xs i ≡ Some x → i < length xs
   get-below [] i x is = absurd (cc)
   get-below (y ∷ xs) zero x is = omega arith
   get-below (y ∷ xs) (suc i) x is = omega (arith, get-below xs i x is)

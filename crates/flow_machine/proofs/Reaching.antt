@@ -29,12 +29,12 @@ passed-on (Ok x) e P is p = tt
 passed-on (Err y) e P is p = subst P (sym is) p
 
 -- steps after steps
-reaches-append : {K : Type 0} (next : K → Held → Answer → Outcome K → Type 0) (s : State K) (a b : List Step) (mid s' : State K) → Reaches next s a mid → Reaches next mid b s' → Reaches next s (a ++ b) s'
+pub reaches-append : {K : Type 0} (next : K → Held → Answer → Outcome K → Type 0) (s : State K) (a b : List Step) (mid s' : State K) → Reaches next s a mid → Reaches next mid b s' → Reaches next s (a ++ b) s'
 reaches-append {K} next s [] b mid s' first rest = subst (λ (t : State K). Reaches next t b s') first rest
 reaches-append next s (Turned p seen ∷ a) b mid s' first rest = (first.0, first.1, first.2, first.3, reaches-append next first.1 a b mid s' first.4 rest)
 reaches-append next s (Worked p ∷ a) b mid s' first rest = (first.0, first.1, reaches-append next first.0 a b mid s' first.2 rest)
 
-steps-append : (a b : List Step) → steps_journal (a ++ b) ≡ then_turns (steps_journal a) (steps_journal b)
+pub steps-append : (a b : List Step) → steps_journal (a ++ b) ≡ then_turns (steps_journal a) (steps_journal b)
 steps-append [] b = refl
 steps-append (Turned p seen ∷ a) b =
     ap (then_turns (record { turns = p ∷ []; seen = seen })) (steps-append a b)
@@ -42,7 +42,7 @@ steps-append (Turned p seen ∷ a) b =
 steps-append (Worked p ∷ a) b = steps-append a b
 
 -- what bodies remember of one turn
-remember-one : {K : Type 0} (old new : NetValue K) (p k m : ℕ) (e : Event) → NetTurn old p k e m new → Remembers m old.bodies (record { process = p; seen = seen_by e } ∷ []) new.bodies
+pub remember-one : {K : Type 0} (old new : NetValue K) (p k m : ℕ) (e : Event) → NetTurn old p k e m new → Remembers m old.bodies (record { process = p; seen = seen_by e } ∷ []) new.bodies
 remember-one {K} old new p k m e turn q b b' was is = elim (same_or_not q p) [
   | inl same ↦ (
       let here : Some turn.after ≡ Some b' = sym (slice_get-set_same old.bodies p turn.before turn.after turn.there) ∙ ap (λ (bs : List (BodyValue K)). slice_get bs p) (sym turn.bodies) ∙ ap (slice_get new.bodies) (sym same) ∙ is in
@@ -61,7 +61,7 @@ remember-one {K} old new p k m e turn q b b' was is = elim (same_or_not q p) [
 ]
 
 -- a thought keeps what bodies remember
-remember-kept : {K : Type 0} (old new : List (BodyValue K)) (p n : ℕ) (before after : BodyValue K) → slice_get old p ≡ Some before → KeepsTurns before after → new ≡ slice_set old p after → Remembers n old [] new
+pub remember-kept : {K : Type 0} (old new : List (BodyValue K)) (p n : ℕ) (before after : BodyValue K) → slice_get old p ≡ Some before → KeepsTurns before after → new ≡ slice_set old p after → Remembers n old [] new
 remember-kept {K} old new p n before after there keeps bodies q b b' was is = elim (same_or_not q p) [
   | inl same ↦ (let here : Some after ≡ Some b' = sym (slice_get-set_same old p before after there) ∙ ap (λ (bs : List (BodyValue K)). slice_get bs p) (sym bodies) ∙ ap (slice_get new) (sym same) ∙ is in
       let after_is : after ≡ b' = cc in

@@ -1,5 +1,8 @@
 //! A process of a network that runs.
-ghost use Rattle.std.specs.Prelude.{◌≡◌, ℕ, ◌+◌, ◌-◌, ◌^◌, ◌<◌, ◌≤◌, ◌↔◌, [], ◌∷◌, ◌++◌, length, IsTrue, IfOk, IfSome, None, Some};
+ghost use Rattle.std.specs.Prelude.{◌≡◌, ℕ, ◌+◌, ◌-◌, ◌^◌, ◌<◌, ◌≤◌, ◌↔◌, [], ◌∷◌, ◌++◌, length, IsTrue, IfOk, IfSome, None, Some, slice_get};
+ghost use Rattle.flow_model.specs.Order.{connection_of};
+ghost use Rattle.flow_model.specs.Events.{is_connected};
+ghost use Rattle.std.specs.List.{list_any};
 ghost use Rattle.flow_packet.specs.Tree.{id_of, kind_of};
 ghost use Rattle.flow_packet.specs.Held.{held_of, without_packet};
 ghost use Rattle.flow_packet.specs.Hands.{packet_at};
@@ -7,6 +10,7 @@ ghost use Rattle.flow_model.specs.Schedules.{IsThoughtStage};
 ghost use Rattle.flow_model.specs.declared.Stage.TheVariants.{Wishing};
 ghost use Rattle.flow_machine.specs.Answers.{status_of, case_of};
 ghost use Rattle.flow_machine.specs.Effects.{WishesSend, id_sent};
+ghost use Rattle.flow_machine.specs.Outlets.{output_in};
 
 use crate::answers::{Case, Over, Status};
 use crate::inlet::Inlet;
@@ -129,6 +133,48 @@ impl<K: Component> Body<K> {
         &self.levels
     }
 
+    /// How many inputs it has.
+    pub fn inputs(&self) -> usize
+        ensures { result ≡ length self.now.process.inputs }
+    {
+        self.inlets.len()
+    }
+
+    /// The connection at an input, if there is one.
+    pub fn input(&self, input: usize) -> Option<u32>
+        requires { input < length self.now.process.inputs }
+        ensures { connection_of (slice_get self.now.process.inputs input) ≡ result }
+    {
+        match &self.inlets[input] {
+            Inlet::Connection(connection) => Some(*connection),
+            Inlet::Text(_) => None,
+        }
+    }
+
+    /// How many outputs it has.
+    pub fn outputs(&self) -> usize
+        ensures { result ≡ length self.now.process.outputs }
+    {
+        self.outputs.len()
+    }
+
+    /// The connection at an output, if there is one.
+    pub fn output(&self, output: usize) -> Option<u32>
+        ensures { result ≡ output_in self.now.process.outputs output }
+    {
+        match self.outputs.get(output) {
+            Some(connection) => *connection,
+            None => None,
+        }
+    }
+
+    /// Some input has a connection.
+    pub fn is_connected(&self) -> bool
+        ensures { result ≡ list_any is_connected self.now.process.inputs }
+    {
+        idle::any_connected(&self.inlets)
+    }
+
     /// The kind of turn that its status and wish ask for.
     pub fn case(&self) -> Case
         requires whole { self.now.leaving ≡ None }
@@ -191,7 +237,7 @@ impl<K: Component> Body<K> {
     }
 
     /// Gives it up, and spends what it holds.
-    pub(crate) fn discard(self) {
+    pub fn discard(self) {
         let Body {
             number: _,
             stage: _,

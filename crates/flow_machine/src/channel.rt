@@ -86,7 +86,7 @@ impl Channel {
     }
 
     /// How many packets are in it.
-    pub(crate) fn level(&self) -> usize
+    pub fn level(&self) -> usize
         ensures { result ≡ length self.now.packets }
     {
         self.packets.len()
@@ -154,7 +154,7 @@ impl Channel {
     }
 
     /// Spends the packets that are in it. Only calls that give up a whole run use it.
-    pub(crate) fn discard(self) {
+    pub fn discard(self) {
         let Channel {
             mut packets,
             capacity: _,

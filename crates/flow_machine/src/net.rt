@@ -66,6 +66,13 @@ impl<K: Component> Net<K> {
         self.bodies.len() as u32
     }
 
+    /// How many connections it has.
+    pub fn connections(&self) -> usize
+        ensures { result ≡ length self.now.channels }
+    {
+        self.channels.len()
+    }
+
     pub fn body(&self, process: u32) -> &Body<K>
         requires { process < length self.now.bodies }
         ensures { slice_get self.now.bodies process ≡ Some result.now }

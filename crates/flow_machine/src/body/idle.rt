@@ -21,7 +21,7 @@ fn any_packet(inlets: &[Inlet], channels: &[Channel]) -> bool
     false
 }
 
-fn any_connected(inlets: &[Inlet]) -> bool
+pub(crate) fn any_connected(inlets: &[Inlet]) -> bool
     ensures { result ≡ list_any is_connected (map input_shown inlets.now) }
 {
     for inlet in inlets {

@@ -1,0 +1,98 @@
+-- What a floor leaves when it is closed.
+use Rattle.std.proofs.Common.{◌≡◌, ℕ, ◌+◌, Bool, true, List, length, arith, map, get_or, refl, ap, sym, subst, ◌∙◌, Some, None, slice_get, ◌⊎◌, inl, inr}
+use lib.ListN.{get_elem?}
+use mathlib.Core.Option.{some}
+use Rattle.atomic_table.specs.Table.{Final, Seen}
+use Rattle.flow_packet.specs.Held.{Held}
+use Rattle.flow_component.specs.declared.Answer.{Answer}
+use Rattle.flow_component.specs.declared.Shape.{Shape}
+use Rattle.flow_component.specs.Laws.{Outcome}
+use Rattle.flow_model.specs.declared.Stage.{Stage}
+use Rattle.flow_model.specs.declared.Stage.TheVariants as stages
+use Rattle.flow_model.specs.States.{State}
+use Rattle.flow_model.specs.Events.{event_from, stage_event}
+use Rattle.flow_model.specs.Schedules.{IsThoughtStage}
+use Rattle.flow_model.specs.Stands.{ChannelShown, StandsForOpen}
+use Rattle.flow_model.specs.Verdicts.{Quiet}
+use Rattle.flow_machine.specs.Values.{BodyValue, NetValue, shown_net}
+use Rattle.flow_machine.specs.Logs.{Logged, turns_made}
+use Rattle.flow_machine.specs.Nets.{looks_of}
+use Rattle.flow_machine.specs.FitNets.{FitNet}
+use Rattle.flow_machine.specs.Solo.{GoesBy, reached}
+use Rattle.flow_floor.specs.declared.board.Slot.{Slot}
+use Rattle.flow_floor.specs.declared.board.Slot.TheVariants as slot
+use Rattle.flow_floor.specs.declared.board.View.{View}
+use Rattle.flow_floor.specs.Rule.{Law}
+use Rattle.flow_floor.specs.Shut.{IsOverStage, IsShut, HasBodies, HasChannels, BodiesIn, ChannelsIn}
+use Rattle.flow_floor.proofs.Shutting.{same-lists}
+use Rattle.flow_floor.proofs.Seats.{St, get-exists, get-within}
+use Rattle.flow_floor.proofs.Ends.{closes}
+use Rattle.flow_floor.proofs.Quiet.{quiet-at-zero}
+
+over-still : {K : Type 0} (channels : List ChannelShown) (b : BodyValue K) (stage : Stage) → b.process.stage ≡ stage → IsOverStage stage → IsThoughtStage stage × ((m : ℕ) → event_from (looks_of channels) b.process m ≡ None)
+over-still channels b stages.Ended at over = (tt, λ m. ap (stage_event (looks_of channels) b.process m) at)
+over-still channels b (stages.Failed cause) at over = (tt, λ m. ap (stage_event (looks_of channels) b.process m) at)
+over-still channels b stages.Idle at over = absurd over
+over-still channels b (stages.Told answer) at over = absurd over
+over-still channels b (stages.Wishing wish) at over = absurd over
+over-still channels b (stages.Closing i) at over = absurd over
+
+module _ {K : Type 0} (shape_of : K → Shape) (uses : K → ℕ → Bool) (ready : K → Held → Answer → Type 0) (next : K → Held → Answer → Outcome K → Type 0) (start : NetValue K) where
+  abbrev Rule : St K → Type 0
+  Rule = Law shape_of uses ready next start
+
+  -- The net at the end: it is well; the net of the opening goes on to it by the turns of all workers, in the order of their stamps; each body and each
+  -- channel is in its slot; and where no process is left that was starved, it is quiet.
+  pub record Closes (v : View K) (ws : List ℕ) (xs : List (Slot K)) : Type 0 where
+    pub now : NetValue K
+    pub log : List Logged
+    pub fit : FitNet shape_of uses ready now
+    pub goes : GoesBy shape_of uses ready (reached next) start (turns_made start) log now
+    pub turns : map (λ (e : ℕ × ℕ). e.1) v.made ≡ map (λ (t : Logged). t.process) log
+    pub total : turns_made now ≡ turns_made start + length log
+    pub sizes : (length now.bodies ≡ length start.bodies) × (length now.channels ≡ length start.channels)
+    pub bodies : (p : ℕ) (b : BodyValue K) → slice_get now.bodies p ≡ Some b → get_elem? xs p ≡ some (slot.Body b)
+    pub channels : (c : ℕ) (k : ChannelShown) → slice_get now.channels c ≡ Some k → get_elem? xs (length start.bodies + c) ≡ some (slot.Channel k)
+    pub slots : length xs ≡ length start.bodies + length start.channels
+    pub quiet : v.read_zero ≡ true → ((p : ℕ) (b : BodyValue K) → slice_get now.bodies p ≡ Some b → (get_or ws p 0 ≡ 0) ⊎ IsOverStage b.process.stage) → (t : State K) → StandsForOpen (shown_net now) t → Quiet t
+
+  pub closing : (id : ℕ) (v : View K) (ws : List ℕ) (xs : List (Slot K)) → v.parts ≡ 32 → v.held ≡ None → Final (Seen Rule id v) ws xs → Closes v ws xs
+  closing id v ws xs all idle (s, seen, words, deep, homes) =
+      let r = seen.0 in
+      let ended = closes shape_of uses ready next start id v ws xs all idle (s, seen, words, deep, homes) in
+      record {
+        now = r.beside.now;
+        log = r.beside.log;
+        fit = r.flow.fit;
+        goes = r.flow.goes;
+        turns = ended.turns;
+        total = r.flow.total;
+        sizes = r.flow.same;
+        bodies = ended.bodies;
+        channels = ended.channels;
+        slots = sym deep ∙ r.flow.deep;
+        quiet = λ zero_read over t stands. quiet-at-zero shape_of uses ready next start s r ((r.wakes.each id v seen.1).zero zero_read)
+            (λ p b there. elim (over p b there) [
+              | inl parked ↦ inl (ap (λ (l : List ℕ). get_or l p 0) words ∙ parked)
+              | inr done ↦ inr (over-still r.beside.now.channels b b.process.stage refl done)
+            ]) t stands;
+      }
+
+  pub has-bodies : (v : View K) (ws : List ℕ) (xs : List (Slot K)) → Closes v ws xs → HasBodies (length start.bodies) xs
+  has-bodies v ws xs c p below = let b = get-exists c.now.bodies p (omega (arith, below, c.sizes.0)) in (b.0, c.bodies p b.0 b.1)
+
+  pub has-channels : (v : View K) (ws : List ℕ) (xs : List (Slot K)) → Closes v ws xs → HasChannels (length start.bodies) (length start.channels) xs
+  has-channels v ws xs c p below = let k = get-exists c.now.channels p (omega (arith, below, c.sizes.1)) in (k.0, c.channels p k.0 k.1)
+
+  -- the pieces are the net
+  pub pieces : (v : View K) (ws : List ℕ) (xs : List (Slot K)) (bs : List (BodyValue K)) (ks : List ChannelShown) (c : Closes v ws xs) → BodiesIn (length start.bodies) xs bs → ChannelsIn (length start.bodies) (length start.channels) xs ks → c.now ≡ record { bodies = bs; channels = ks }
+  pieces v ws xs bs ks c have have' =
+      let bodies : bs ≡ c.now.bodies = same-lists bs c.now.bodies (have.0 ∙ sym c.sizes.0) (λ i y is. have.1 i y (omega (arith, get-within c.now.bodies i y is, c.sizes.0)) (c.bodies i y is)) in
+      let channels : ks ≡ c.now.channels = same-lists ks c.now.channels (have'.0 ∙ sym c.sizes.1) (λ i y is. have'.1 i y (omega (arith, get-within c.now.channels i y is, c.sizes.1)) (c.channels i y is)) in
+      λ i. record { bodies = sym bodies i; channels = sym channels i }
+
+  pub is-shut : (v : View K) (ws : List ℕ) (xs : List (Slot K)) (net : NetValue K) (c : Closes v ws xs) → c.now ≡ net → IsShut shape_of uses ready next start v net
+  is-shut v ws xs net c is = subst (IsShut shape_of uses ready next start v) is (record { words = ws; log = c.log; goes = c.goes; len = c.sizes.0; total = c.total; turns = c.turns; quiet = c.quiet })
+
+  pub fit-pieces : (v : View K) (ws : List ℕ) (xs : List (Slot K)) (net : NetValue K) (c : Closes v ws xs) → c.now ≡ net → FitNet shape_of uses ready net
+  fit-pieces v ws xs net c is = subst (FitNet shape_of uses ready) is c.fit

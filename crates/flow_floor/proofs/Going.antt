@@ -1,0 +1,115 @@
+-- The net of the rule goes on by works and turns.
+use Rattle.std.proofs.Common.{◌≡◌, ℕ, ◌+◌, List, [], ◌∷◌, ◌++◌, length, Some, refl, ap, sym, subst, ◌∙◌, slice_get, slice_set, length-set, append-nil, ◌⊎◌, inl, inr, Bool}
+use Rattle.flow_packet.specs.Held.{Held}
+use Rattle.flow_component.specs.declared.Answer.{Answer}
+use Rattle.flow_component.specs.declared.Shape.{Shape}
+use Rattle.flow_component.specs.Laws.{Outcome, Obeys, StaysReady, IsSteady}
+use Rattle.flow_model.specs.declared.Stage.{Stage}
+use Rattle.flow_model.specs.declared.Stage.TheVariants as stages
+use Rattle.flow_model.specs.States.{State, Process}
+use Rattle.flow_model.specs.Events.{Event, event_from, seen_by}
+use Rattle.flow_model.specs.Schedules.{IsThoughtStage, Step, Turned, Worked, then_turns}
+use Rattle.flow_model.specs.Schedules.{journal_of as steps_journal}
+use Rattle.flow_model.specs.Stands.{StandsForOpen}
+use Rattle.flow_model.specs.Fit.{Fit}
+use Rattle.flow_machine.specs.Values.{BodyValue, NetValue, shown_net}
+use Rattle.flow_machine.specs.declared.answers.Thought.{Thought}
+use Rattle.flow_machine.specs.declared.answers.Thought.TheVariants as thoughts
+use Rattle.flow_machine.specs.Nets.{looks_of, NetTurn}
+use Rattle.flow_machine.specs.NetSteps.{ThinksNet}
+use Rattle.flow_machine.specs.Thoughts.{Thinks, SameBody, WorkedBody, SettlesBody, HasNotFailed}
+use Rattle.flow_machine.specs.Logs.{Logged, journal_of, turns_made, Remembers}
+use Rattle.flow_machine.specs.FitNets.{FitNet}
+use Rattle.flow_machine.specs.Solo.{GoesBy, reached}
+use Rattle.flow_machine.proofs.FitLemmas.{goes-by, goes-same, goes-work, fit-think}
+use Rattle.flow_machine.proofs.SoloLemmas.{journal_of-append, remember-then, think-count}
+use Rattle.flow_machine.proofs.Reaching.{reaches-append, steps-append, remember-one, remember-kept}
+use Rattle.flow_floor.specs.Law.{Rests}
+use Rattle.flow_floor.specs.Turning.{turned_body, with_body, turned_net, logged}
+
+-- a body that hasn't changed rests
+pub rests-same : {K : Type 0} (next : K → Held → Answer → Outcome K → Type 0) (b d : BodyValue K) → b ≡ d → Rests next b d
+rests-same next b d is = subst (Rests next b) is (inl (record { process = refl; dropped = refl }), record { stamps = refl; levels = refl; leaving = refl })
+
+module _ {K : Type 0} (next : K → Held → Answer → Outcome K → Type 0) where
+  -- a body that rests came to be so by some thought
+  thought-of : (old new : BodyValue K) → Rests next old new → (t : Thought) × Thinks next old t new
+  thought-of old new r = by new.process.stage refl
+    where
+      settled : (cause : _) → new.process.stage ≡ stages.Failed cause → SameBody old new ⊎ WorkedBody next old new → SettlesBody next old new
+      settled cause at (inl same) = inl (subst IsThoughtStage (sym at ∙ ap (λ (x : Process K). x.stage) same.process) tt, same)
+      settled cause at (inr work) = inr work
+
+      other : (stage : Stage) → new.process.stage ≡ stage → HasNotFailed stage → (t : Thought) × Thinks next old t new
+      other stage at has = (thoughts.NoMemory, (r.0, subst HasNotFailed (sym at) has))
+
+      by : (stage : Stage) → new.process.stage ≡ stage → (t : Thought) × Thinks next old t new
+      by (stages.Failed cause) at = (thoughts.Failed cause, (settled cause at r.0, at))
+      by stages.Idle at = other stages.Idle at tt
+      by (stages.Told answer) at = other (stages.Told answer) at tt
+      by (stages.Wishing wish) at = other (stages.Wishing wish) at tt
+      by (stages.Closing i) at = other (stages.Closing i) at tt
+      by stages.Ended at = other stages.Ended at tt
+
+  abbrev Thought-of : NetValue K → ℕ → BodyValue K → Type 0
+  Thought-of now p b = (t : Thought) × ThinksNet next now p t (with_body now p b)
+
+  rests-net : (now : NetValue K) (p : ℕ) (b d : BodyValue K) → slice_get now.bodies p ≡ Some b → Rests next b d → Thought-of now p d
+  rests-net now p b d there r = let t = thought-of b d r in (t.0, record { before = b; after = d; there = there; thinks = t.1; keeps = r.1; bodies = refl; channels = refl })
+
+-- a turn of the net
+pub turned : {K : Type 0} (now : NetValue K) (p n : ℕ) (b : BodyValue K) (e : Event) (stamp : ℕ) → slice_get now.bodies p ≡ Some b → event_from (looks_of now.channels) b.process n ≡ Some e → NetTurn now p n e stamp (turned_net now p b e stamp)
+turned now p n b e stamp there happens = record {
+  before = b;
+  after = turned_body e stamp b;
+  there = there;
+  happens = happens;
+  turn = record { process = refl; dropped = refl; leaving = refl; stamps = refl; levels = refl };
+  bodies = refl;
+  channels = refl;
+}
+
+module _ {K : Type 0} (shape_of : K → Shape) (uses : K → ℕ → Bool) (ready : K → Held → Answer → Type 0) (next : K → Held → Answer → Outcome K → Type 0)
+    (obeys : (part : K) (held : Held) (answer : Answer) (outcome : Outcome K) → ready part held answer → next part held answer outcome → Obeys (shape_of part) (uses part) held outcome)
+    (stays : (part : K) (held : Held) (answer : Answer) (outcome : Outcome K) → ready part held answer → next part held answer outcome → StaysReady ready outcome)
+    (steady : (part : K) (held : Held) (answer : Answer) (outcome : Outcome K) → next part held answer outcome → IsSteady shape_of uses part outcome) where
+  abbrev Going : NetValue K → List Logged → NetValue K → Type 0
+  Going start log now = GoesBy shape_of uses ready (reached next) start (turns_made start) log now
+
+  -- a held body that did its work
+  pub rest-fit : (now : NetValue K) (p : ℕ) (b d : BodyValue K) → slice_get now.bodies p ≡ Some b → Rests next b d → FitNet shape_of uses ready now → FitNet shape_of uses ready (with_body now p d)
+  rest-fit now p b d there r fit = let t = rests-net next now p b d there r in fit-think shape_of uses ready next obeys stays steady now p t.0 (with_body now p d) t.1 fit
+
+  pub rest-count : (now : NetValue K) (p : ℕ) (b d : BodyValue K) → slice_get now.bodies p ≡ Some b → Rests next b d → turns_made (with_body now p d) ≡ turns_made now
+  rest-count now p b d there r = let t = rests-net next now p b d there r in think-count next now p t.0 (with_body now p d) t.1
+
+  pub rest-goes : (start now : NetValue K) (log : List Logged) (p : ℕ) (b d : BodyValue K) → slice_get now.bodies p ≡ Some b → Rests next b d → turns_made now ≡ turns_made start + length log → Going start log now → Going start log (with_body now p d)
+  rest-goes start now log p b d there r total goes = record {
+    remembers = subst (λ (l : List Logged). Remembers (turns_made start) start.bodies l (with_body now p d).bodies) (append-nil log)
+        (remember-then start.bodies now.bodies (with_body now p d).bodies (turns_made start) (turns_made now) log [] goes.remembers total (remember-kept now.bodies (slice_set now.bodies p d) p (turns_made now) b d there r.1 refl) (sym (length-set now.bodies p d)));
+    states = λ s fit stands. let g = goes.states s fit stands in on s g.0 g.2 g.3 g.1 r.0;
+  }
+    where
+      on : (s t : State K) → Fit shape_of uses ready t → StandsForOpen (shown_net now) t → reached next (journal_of log) s t → SameBody b d ⊎ WorkedBody next b d
+          → (s' : State K) × reached next (journal_of log) s s' × Fit shape_of uses ready s' × StandsForOpen (shown_net (with_body now p d)) s'
+      on s t fit stands way (inl same) = (t, way, fit, goes-same shape_of uses ready next obeys stays steady now p b d (with_body now p d) there same refl refl t stands)
+      on s t fit stands way (inr work) =
+          let g = goes-work shape_of uses ready next obeys stays steady now p b d (with_body now p d) there work refl refl t fit stands in
+          let more : List Step = way.0 ++ Worked p ∷ [] in
+          (g.0, (more, way.1 ∙ sym (steps-append way.0 (Worked p ∷ []) ∙ (λ i. record { turns = append-nil (steps_journal way.0).turns i; seen = append-nil (steps_journal way.0).seen i })), reaches-append next s way.0 (Worked p ∷ []) t g.0 way.2 (g.0, g.1, refl)), g.2, g.3)
+
+  -- a turn
+  pub turn-goes : (start now : NetValue K) (log : List Logged) (p n : ℕ) (b : BodyValue K) (e : Event) (stamp : ℕ) → slice_get now.bodies p ≡ Some b → event_from (looks_of now.channels) b.process n ≡ Some e → stamp ≡ turns_made now
+      → turns_made now ≡ turns_made start + length log → Going start log now → Going start (log ++ logged p e ∷ []) (turned_net now p b e stamp)
+  turn-goes start now log p n b e stamp there happens at total goes =
+      let turn = turned now p n b e stamp there happens in
+      let new = turned_net now p b e stamp in
+      record {
+        remembers = remember-then start.bodies now.bodies new.bodies (turns_made start) (turns_made now) log (logged p e ∷ []) goes.remembers total
+            (subst (λ (m : ℕ). Remembers m now.bodies (logged p e ∷ []) new.bodies) at (remember-one now new p n stamp e turn)) (sym (length-set now.bodies p (turned_body e stamp b)));
+        states = λ s fit stands.
+            let g = goes.states s fit stands in
+            let h = goes-by shape_of uses ready now p n e stamp new turn g.0 g.2 g.3 in
+            let one : List Step = Turned p (seen_by e) ∷ [] in
+            (h.0, (g.1.0 ++ one, journal_of-append log (logged p e ∷ []) ∙ (λ i. then_turns (g.1.1 i) (steps_journal one)) ∙ sym (steps-append g.1.0 one), reaches-append next s g.1.0 one g.0 h.0 g.1.2 (e, h.0, h.1, refl, refl)), h.2, h.3);
+      }

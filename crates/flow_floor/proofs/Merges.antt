@@ -1,0 +1,97 @@
+-- When one seat takes in the turns of another.
+use Rattle.std.proofs.Common.{◌≡◌, ◌≢◌, ℕ, suc, ◌+◌, ◌<◌, ◌≤◌, Bool, true, false, List, [], ◌∷◌, map, length, sym, refl, ap, ◌∙◌, subst, arith, eq-eqb, ne_eqb, if◌then◌else◌, ◌==◌}
+use mathlib.Core.Logic.{dite}
+use native.Mathlib.Decide.{ℕ_discrete}
+use Rattle.std.proofs.lemmas.Bool.{lt-ltb, le-ltb}
+use Rattle.flow_machine.specs.Logs.{Logged}
+use Rattle.flow_floor.specs.Law.{turns_by, AllBelow}
+use Rattle.flow_floor.specs.Plays.{insert, merge, renamed}
+
+abbrev Above : ℕ → List (ℕ × ℕ) → Type 0
+Above n [] = Unit {0}
+Above n (e ∷ es) = (n < e.0) × Above n es
+
+turns_by-above : (j n k : ℕ) (by : List ℕ) (log : List Logged) → k < n → Above k (turns_by j n by log)
+turns_by-above j n k [] log l = tt
+turns_by-above j n k (s ∷ by) [] l = tt
+turns_by-above j n k (s ∷ by) (t ∷ log) l = go (j == s) (turns_by-above j (n + 1) k by log (omega arith))
+  where
+    go : (b : Bool) → Above k (turns_by j (n + 1) by log) → Above k (if b then (n, t.process) ∷ turns_by j (n + 1) by log else turns_by j (n + 1) by log)
+    go true h = (l, h)
+    go false h = h
+
+insert_front : (n p : ℕ) (l : List (ℕ × ℕ)) → Above n l → insert (n, p) l ≡ (n, p) ∷ l
+insert_front n p [] a = refl
+insert_front n p (y ∷ ys) a = ap (λ b. if b then (n, p) ∷ y ∷ ys else y ∷ insert (n, p) ys) (lt-ltb n y.0 a.0)
+
+merge_front : (n p : ℕ) (xs ys : List (ℕ × ℕ)) → Above n xs → merge xs ((n, p) ∷ ys) ≡ (n, p) ∷ merge xs ys
+merge_front n p [] ys a = refl
+merge_front n p (x ∷ xs) ys a = let h = a.0 in ap (insert x) (merge_front n p xs ys a.1) ∙ ap (λ b. if b then x ∷ (n, p) ∷ merge xs ys else (n, p) ∷ insert x (merge xs ys)) (le-ltb x.0 n (omega arith))
+
+turns_by-head : (j n s : ℕ) (by : List ℕ) (t : Logged) (log : List Logged) → j ≡ s → turns_by j n (s ∷ by) (t ∷ log) ≡ (n, t.process) ∷ turns_by j (n + 1) by log
+turns_by-head j n s by t log is = ap (λ b. if b then (n, t.process) ∷ turns_by j (n + 1) by log else turns_by j (n + 1) by log) (eq-eqb j s is)
+
+turns_by-skip : (j n s : ℕ) (by : List ℕ) (t : Logged) (log : List Logged) → j ≢ s → turns_by j n (s ∷ by) (t ∷ log) ≡ turns_by j (n + 1) by log
+turns_by-skip j n s by t log is = ap (λ b. if b then (n, t.process) ∷ turns_by j (n + 1) by log else turns_by j (n + 1) by log) (ne_eqb j s is)
+
+name_here : (o i k : ℕ) → k ≡ o → (if k == o then i else k) ≡ i
+name_here o i k e = ap (λ b. if b then i else k) (eq-eqb k o e)
+
+name_else : (o i k : ℕ) → k ≢ o → (if k == o then i else k) ≡ k
+name_else o i k e = ap (λ b. if b then i else k) (ne_eqb k o e)
+
+pub merge-turns : (o i n : ℕ) (by : List ℕ) (log : List Logged) → o ≢ i → merge (turns_by o n by log) (turns_by i n by log) ≡ turns_by i n (renamed o i by) log
+merge-turns o i n [] log other = refl
+merge-turns o i n (s ∷ by) [] other = refl
+merge-turns o i n (s ∷ by) (t ∷ log) other = let r = merge-turns o i (n + 1) by log other in let R = turns_by i (n + 1) (renamed o i by) log in let a = turns_by o (n + 1) by log in let b = turns_by i (n + 1) by log in
+    let x : ℕ = if s == o then i else s in
+    dite (ℕ_discrete s o)
+    (λ is. let away : i ≢ s = λ z. other (sym (z ∙ is)) in
+    ap (λ l. merge l (turns_by i n (s ∷ by) (t ∷ log))) (turns_by-head o n s by t log (sym is)) ∙ (ap (λ l. insert (n, t.process) (merge a l)) (turns_by-skip i n s by t log away) ∙ (ap (insert (n, t.process)) r
+    ∙ (insert_front n t.process R (turns_by-above i (n + 1) n (renamed o i by) log (omega arith)) ∙ sym (turns_by-head i n x (renamed o i by) t log (sym (name_here o i s is)))))))
+    (λ not_o. ap (λ l. merge l (turns_by i n (s ∷ by) (t ∷ log))) (turns_by-skip o n s by t log (λ z. not_o (sym z))) ∙ dite (ℕ_discrete s i)
+    (λ is. ap (merge a) (turns_by-head i n s by t log (sym is)) ∙ (merge_front n t.process a b (turns_by-above o (n + 1) n by log (omega arith)) ∙ (ap (λ l. (n, t.process) ∷ l) r
+    ∙ sym (turns_by-head i n x (renamed o i by) t log (sym (name_else o i s not_o ∙ is))))))
+    (λ not_i. ap (merge a) (turns_by-skip i n s by t log (λ z. not_i (sym z))) ∙ (r ∙ sym (turns_by-skip i n x (renamed o i by) t log (λ z. not_i (sym (z ∙ name_else o i s not_o)))))))
+
+pub turns_by-renamed_else : (o i j n : ℕ) (by : List ℕ) (log : List Logged) → j ≢ o → j ≢ i → turns_by j n (renamed o i by) log ≡ turns_by j n by log
+turns_by-renamed_else o i j n [] log a b = refl
+turns_by-renamed_else o i j n (s ∷ by) [] a b = refl
+turns_by-renamed_else o i j n (s ∷ by) (t ∷ log) a b = let r = turns_by-renamed_else o i j (n + 1) by log a b in let x : ℕ = if s == o then i else s in
+    dite (ℕ_discrete s o)
+    (λ is. turns_by-skip j n x (renamed o i by) t log (λ z. b (z ∙ name_here o i s is)) ∙ (r ∙ sym (turns_by-skip j n s by t log (λ z. a (z ∙ is)))))
+    (λ not_o. ap (λ k. if j == k then (n, t.process) ∷ turns_by j (n + 1) (renamed o i by) log else turns_by j (n + 1) (renamed o i by) log) (name_else o i s not_o)
+    ∙ ap (λ l. if j == s then (n, t.process) ∷ l else l) r)
+
+pub turns_by-renamed_gone : (o i n : ℕ) (by : List ℕ) (log : List Logged) → o ≢ i → turns_by o n (renamed o i by) log ≡ []
+turns_by-renamed_gone o i n [] log other = refl
+turns_by-renamed_gone o i n (s ∷ by) [] other = refl
+turns_by-renamed_gone o i n (s ∷ by) (t ∷ log) other = turns_by-skip o n (if s == o then i else s) (renamed o i by) t log
+    (λ z. dite (ℕ_discrete s o) (λ is. other (z ∙ name_here o i s is)) (λ not_o. not_o (sym (z ∙ name_else o i s not_o)))) ∙ turns_by-renamed_gone o i (n + 1) by log other
+
+pub length-renamed : (o i : ℕ) (by : List ℕ) → length (renamed o i by) ≡ length by
+length-renamed o i [] = refl
+length-renamed o i (s ∷ by) = ap suc (length-renamed o i by)
+
+pub below-renamed : (o i m : ℕ) (by : List ℕ) → i < m → AllBelow m by → AllBelow m (renamed o i by)
+below-renamed o i m [] l h = tt
+below-renamed o i m (s ∷ by) l h = (dite (ℕ_discrete s o) (λ is. subst (λ k. k < m) (sym (name_here o i s is)) l) (λ not_o. subst (λ k. k < m) (sym (name_else o i s not_o)) h.0), below-renamed o i m by l h.1)
+
+pub below-more : (m n : ℕ) (by : List ℕ) → m ≤ n → AllBelow m by → AllBelow n by
+below-more m n [] le all = tt
+below-more m n (s ∷ by) le all = (omega (arith, all.0, le), below-more m n by le all.1)
+
+-- a seat that isn't there made no turn
+pub turns_by-none : (j m n : ℕ) (by : List ℕ) (log : List Logged) → AllBelow m by → m ≤ j → turns_by j n by log ≡ []
+turns_by-none j m n [] log all le = refl
+turns_by-none j m n (s ∷ by) [] all le = refl
+turns_by-none j m n (s ∷ by) (t ∷ log) all le = turns_by-skip j n s by t log (λ e. omega (arith, e, all.0, le)) ∙ turns_by-none j m (n + 1) by log all.1 le
+
+-- where one seat made all turns, its list is the log
+pub turns_by-all : (i m n : ℕ) (by : List ℕ) (log : List Logged) → length by ≡ length log → AllBelow m by → ((j : ℕ) → j < m → j ≢ i → turns_by j n by log ≡ []) → map (λ (e : ℕ × ℕ). e.1) (turns_by i n by log) ≡ map (λ (t : Logged). t.process) log
+turns_by-all i m n [] [] len h none = refl
+turns_by-all i m n [] (t ∷ log) len h none = absurd (omega (arith, len))
+turns_by-all i m n (s ∷ by) [] len h none = absurd (omega (arith, len))
+turns_by-all i m n (s ∷ by) (t ∷ log) len h none = dite (ℕ_discrete s i)
+    (λ is. ap (map (λ (x : ℕ × ℕ). x.1)) (turns_by-head i n s by t log (sym is)) ∙ ap (λ l. t.process ∷ l) (turns_by-all i m (n + 1) by log (omega (arith, len)) h.1 (λ j l other. sym (turns_by-skip j n s by t log (λ z. other (z ∙ is))) ∙ none j l other)))
+    (λ other. absurd (let z : (n, t.process) ∷ turns_by s (n + 1) by log ≡ [] = sym (turns_by-head s n s by t log refl) ∙ none s h.0 other in cc))

@@ -1,0 +1,62 @@
+-- What follows from the moment at which a connection was taken.
+use Rattle.std.proofs.Common.{◌≡◌, ℕ, ◌<◌, ◌≤◌, Bool, Some, Option, length, sym, ap, subst, slice_get, arith}
+use Rattle.std.specs.Prelude.{IsSome, option_and_then}
+use Rattle.flow_packet.specs.Hands.{packet_at}
+use Rattle.flow_model.specs.Valid.{IsGranted}
+use Rattle.flow_machine.specs.Effects.{id_sent}
+use Rattle.flow_machine.specs.Outlets.{connection_at}
+use Rattle.flow_machine.proofs.Standings.{process-in}
+use Rattle.flow_floor.proofs.Turnings.{closed-is}
+use Rattle.flow_packet.specs.Held.{Held as Hands}
+use Rattle.flow_component.specs.declared.Answer.{Answer}
+use Rattle.flow_component.specs.declared.Port.{Port}
+use Rattle.flow_component.specs.declared.Shape.{Shape}
+use Rattle.flow_component.specs.declared.Wish.TheVariants as wishes
+use Rattle.flow_component.specs.Laws.{Outcome, Obeys, StaysReady, IsSteady}
+use Rattle.flow_model.specs.declared.Stage.TheVariants as stages
+use Rattle.flow_model.specs.States.{From, outlets}
+use Rattle.flow_model.specs.Stands.{ChannelShown}
+use Rattle.flow_model.proofs.Lists.{slice_get-set_same}
+use Rattle.flow_machine.specs.Values.{BodyValue, NetValue}
+use Rattle.flow_machine.specs.Nets.{GetsSound, SendsAt, packet_wished}
+use Rattle.flow_machine.specs.FitNets.{FitNet}
+use Rattle.flow_machine.proofs.FitLemmas.{sound-got, level-fits, turns-most, sender-open}
+use Rattle.flow_floor.specs.Law.{Rests}
+use Rattle.flow_floor.specs.Turning.{with_body}
+use Rattle.flow_floor.specs.Plays.{WasSo, HeldIn}
+use Rattle.flow_floor.proofs.Going.{rest-fit}
+
+module _ {K : Type 0} (shape_of : K → Shape) (uses : K → ℕ → Bool) (ready : K → Hands → Answer → Type 0) (next : K → Hands → Answer → Outcome K → Type 0)
+    (obeys : (part : K) (held : Hands) (answer : Answer) (outcome : Outcome K) → ready part held answer → next part held answer outcome → Obeys (shape_of part) (uses part) held outcome)
+    (stays : (part : K) (held : Hands) (answer : Answer) (outcome : Outcome K) → ready part held answer → next part held answer outcome → StaysReady ready outcome)
+    (steady : (part : K) (held : Hands) (answer : Answer) (outcome : Outcome K) → next part held answer outcome → IsSteady shape_of uses part outcome) where
+  -- the held body, its work done, and the channel are in one net that is well
+  pub both-fit : (h : Option (ℕ × BodyValue K)) (p c : ℕ) (b d : BodyValue K) (k : ChannelShown) → WasSo shape_of uses ready h c k → h ≡ Some (p, b) → Rests next b d
+      → (now : NetValue K) × FitNet shape_of uses ready now × (slice_get now.bodies p ≡ Some d) × (slice_get now.channels c ≡ Some k)
+  both-fit h p c b d k (now, fit, at, held) is rests =
+      let there : slice_get now.bodies p ≡ Some b = subst (HeldIn now) is held in
+      (with_body now p d, rest-fit shape_of uses ready next obeys stays steady now p b d there rests fit, slice_get-set_same now.bodies p b d there, at)
+
+  pub sound-grabbed : (h : Option (ℕ × BodyValue K)) (p c : ℕ) (b d : BodyValue K) (k : ChannelShown) (port : Port) → WasSo shape_of uses ready h c k → h ≡ Some (p, b) → Rests next b d
+      → d.process.stage ≡ stages.Wishing (wishes.Receive port) → slice_get d.process.inputs port.0 ≡ Some (From c) → GetsSound d.process k.packets
+  sound-grabbed h p c b d k port so is rests stage input = let t = both-fit h p c b d k so is rests in sound-got shape_of uses ready t.0 p c port d k t.1 t.2 stage input t.3
+
+  pub sent-grabbed : (h : Option (ℕ × BodyValue K)) (p c : ℕ) (b d : BodyValue K) (k : ChannelShown) (port : Port) → WasSo shape_of uses ready h c k → h ≡ Some (p, b) → Rests next b d → SendsAt d.process.stage port
+      → (k.capacity < 65536) × (k.puts ≤ 1073741824) × IsSome (packet_wished d.process)
+  sent-grabbed h p c b d k port so is rests stage =
+      let t = both-fit h p c b d k so is rests in
+      let fit = t.1 in
+      let granted = subst (IsGranted d.process) stage.1 (fit.fit.all_fit p d.process (process-in t.0 fit.state p d fit.stands t.2)).granted in (
+        (level-fits shape_of uses ready t.0 c k fit t.3).1,
+        omega (arith, fit.puts c k t.3, fit.total, turns-most shape_of uses ready t.0 fit),
+        subst (λ (o : Option ℕ). IsSome (option_and_then (packet_at d.process.held.packets) o)) (sym (ap id_sent stage.1)) granted.1,
+      )
+
+  pub within-grabbed : (h : Option (ℕ × BodyValue K)) (p c : ℕ) (b d : BodyValue K) (k : ChannelShown) → WasSo shape_of uses ready h c k → h ≡ Some (p, b) → Rests next b d → length k.packets ≤ k.capacity
+  within-grabbed h p c b d k so is rests = let t = both-fit h p c b d k so is rests in (level-fits shape_of uses ready t.0 c k t.1 t.3).0
+
+  pub open-grabbed : (h : Option (ℕ × BodyValue K)) (p c i : ℕ) (b d : BodyValue K) (k : ChannelShown) → WasSo shape_of uses ready h c k → h ≡ Some (p, b) → Rests next b d → d.process.stage ≡ stages.Closing i → connection_at (outlets d.process) i ≡ Some c → 0 < k.open_senders
+  open-grabbed h p c i b d k so is rests stage outlet =
+      let t = both-fit h p c b d k so is rests in
+      let o = closed-is (slice_get (outlets d.process) i) c outlet in
+      (sender-open shape_of uses ready t.0 p c i d o.0 t.1 t.2 stage o.1 o.2).1 k t.3

@@ -1,0 +1,105 @@
+-- A held body that thinks still agrees with what the machine has.
+use Rattle.std.proofs.Common.{◌≡◌, ℕ, ◌<◌, Bool, true, false, cond, List, [], ◌∷◌, length, Option, Some, None, nat_lt, ap, sym, subst, ◌∙◌, ◌⊎◌, inl, inr}
+use Rattle.std.specs.Prelude.{slice_index}
+use Rattle.atomic_table.specs.Seated.{TableId}
+use Rattle.flow_packet.specs.Tree.{Tree, kind_of}
+use Rattle.flow_packet.specs.Hands.{packet_at}
+use Rattle.flow_packet.specs.Held.{Held as Hands}
+use Rattle.flow_packet.specs.Edits.{hands_limit}
+use Rattle.flow_component.specs.declared.Answer.{Answer}
+use Rattle.flow_component.specs.declared.Wish.{Wish}
+use Rattle.flow_component.specs.declared.Wish.TheVariants as wishes
+use Rattle.flow_component.specs.declared.Fail.TheVariants as fails
+use Rattle.flow_component.specs.Laws.{Outcome, Wishes, Fails, held_after}
+use Rattle.flow_component.specs.Resumes.{drops_between, dropped_count}
+use Rattle.flow_model.specs.declared.Stage.TheVariants as stages
+use Rattle.flow_model.specs.States.{Process}
+use Rattle.flow_model.specs.Works.{worked, judged, sending, nests}
+use Rattle.flow_model.specs.Schedules.{IsThoughtStage}
+use Rattle.flow_machine.specs.Values.{BodyValue}
+use Rattle.flow_machine.specs.declared.answers.Thought.{Thought}
+use Rattle.flow_machine.specs.Thoughts.{Thinks, SameBody, WorkedBody, KeepsTurns}
+use Rattle.flow_machine.proofs.FitLemmas.{thinks-step, wired-same}
+use Rattle.flow_machine.specs.FitNets.{IsWiredBody}
+use Rattle.flow_machine.specs.Nets.{BodyTurn}
+use Rattle.flow_model.specs.Events.{Event}
+use Rattle.flow_model.proofs.Order.{inputs-after, outputs-after, inputs-worked, outputs-worked}
+use Rattle.flow_machine.proofs.Thinking.{keeps-then}
+use Rattle.flow_floor.specs.declared.board.Slot.TheVariants as slot
+use Rattle.flow_floor.specs.declared.floor.Worker.{Worker}
+use Rattle.flow_floor.specs.declared.floor.Held.{Held}
+use Rattle.flow_floor.specs.Law.{Rests}
+use Rattle.flow_floor.specs.Workers.{IsHeldBy}
+
+thought-judged : (depths : List ℕ) (held : Hands) (wish : Wish) → IsThoughtStage (judged depths held wish)
+thought-judged depths held (wishes.Receive port) = by (nat_lt (length held.packets) hands_limit)
+  where
+    by : (b : Bool) → IsThoughtStage (cond b (stages.Wishing (wishes.Receive port)) (stages.Failed fails.HandsLimit))
+    by true = tt
+    by false = tt
+thought-judged depths held (wishes.Send port id) = by (packet_at held.packets id)
+  where
+    by-nests : (b : Bool) → IsThoughtStage (cond b (stages.Wishing (wishes.Send port id)) (stages.Failed (fails.Unnested port)))
+    by-nests true = tt
+    by-nests false = tt
+
+    by : (found : Option Tree) → IsThoughtStage (sending depths port id found)
+    by None = tt
+    by (Some packet) = by-nests (nests (kind_of packet) (slice_index depths port.0))
+thought-judged depths held (wishes.Level port) = tt
+thought-judged depths held wishes.Deactivate = tt
+
+-- after a work no work is to come
+thought-worked : {K : Type 0} (x : Process K) (outcome : Outcome K) → IsThoughtStage (worked x outcome).stage
+thought-worked x (Wishes part held wish) = thought-judged x.depths held wish
+thought-worked x (Fails part held cause) = tt
+
+module _ {K : Type 0} (next : K → Hands → Answer → Outcome K → Type 0) where
+  same-worked : (a b c : BodyValue K) → SameBody a b → WorkedBody next b c → WorkedBody next a c
+  same-worked a b c same work = record {
+    answer = work.answer;
+    outcome = work.outcome;
+    told = sym (ap (λ (x : Process K). x.stage) same.process) ∙ work.told;
+    comes = subst (λ (x : Process K). next x.part x.held work.answer work.outcome) same.process work.comes;
+    process = work.process ∙ ap (λ (x : Process K). worked x work.outcome) same.process;
+    dropped = work.dropped ∙ (λ i. dropped_count (same.dropped i) (drops_between (same.process i).held (held_after work.outcome)));
+  }
+
+  worked-same : (a b c : BodyValue K) → WorkedBody next a b → SameBody b c → WorkedBody next a c
+  worked-same a b c work same = record { answer = work.answer; outcome = work.outcome; told = work.told; comes = work.comes; process = same.process ∙ work.process; dropped = same.dropped ∙ work.dropped }
+
+  -- a thought of a body that rests
+  pub rests-think : (b h h' : BodyValue K) (t : Thought) → Rests next b h → Thinks next h t h' → KeepsTurns h h' → Rests next b h'
+  rests-think b h h' t rests thinks keeps = (by rests.0 (thinks-step next h t h' thinks), keeps-then b h h' rests.1 keeps)
+    where
+      by : SameBody b h ⊎ WorkedBody next b h → SameBody h h' ⊎ WorkedBody next h h' → SameBody b h' ⊎ WorkedBody next b h'
+      by (inl same) (inl same') = inl (record { process = same'.process ∙ same.process; dropped = same'.dropped ∙ same.dropped })
+      by (inl same) (inr work) = inr (same-worked b h h' same work)
+      by (inr work) (inl same) = inr (worked-same b h h' work same)
+      by (inr work) (inr again) =
+          let thought : IsThoughtStage h.process.stage = subst IsThoughtStage (sym (ap (λ (x : Process K). x.stage) work.process)) (thought-worked b.process work.outcome) in
+          absurd (subst IsThoughtStage again.told thought)
+
+  pub held-think : (z : TableId) (n : ℕ) (w : Worker K) (h h' : Held K) (t : Thought) → IsHeldBy next z n w h → Thinks next h.body t h'.body → KeepsTurns h.body h'.body → h'.process ≡ h.process → IsHeldBy next z n w h'
+  held-think z n w h h' t q thinks keeps process = record {
+    calm = q.calm;
+    below = subst (λ m. m < n) (sym process) q.below;
+    agrees = record {
+      base = q.agrees.base;
+      held = q.agrees.held ∙ ap (λ m. let r : Option (ℕ × BodyValue K) = Some (m, q.agrees.base) in r) (sym process);
+      rests = rests-think q.agrees.base h.body h'.body t q.agrees.rests thinks keeps;
+      whole = keeps.leaving ∙ q.agrees.whole;
+    };
+    slots = q.slots ∙ ap (λ m. (m, slot.Vacant) ∷ []) (sym process);
+  }
+
+-- a held body's connections stay where it thinks, and where it has a turn
+pub wired-think : {K : Type 0} (next : K → Hands → Answer → Outcome K → Type 0) (m : ℕ) (h h' : BodyValue K) (t : Thought) → Thinks next h t h' → IsWiredBody m h → IsWiredBody m h'
+wired-think {K} next m h h' t thinks wired = by (thinks-step next h t h' thinks)
+  where
+    by : SameBody h h' ⊎ WorkedBody next h h' → IsWiredBody m h'
+    by (inl same) = wired-same m h h' (ap (λ (x : Process K). x.inputs) same.process) (ap (λ (x : Process K). x.outputs) same.process) wired
+    by (inr work) = wired-same m h h' (ap (λ (x : Process K). x.inputs) work.process ∙ inputs-worked h.process work.outcome) (ap (λ (x : Process K). x.outputs) work.process ∙ outputs-worked h.process work.outcome) wired
+
+pub wired-turn : {K : Type 0} (m : ℕ) (h h' : BodyValue K) (e : Event) (r : ℕ) → BodyTurn h e r h' → IsWiredBody m h → IsWiredBody m h'
+wired-turn {K} m h h' e r turn wired = wired-same m h h' (ap (λ (x : Process K). x.inputs) turn.process ∙ inputs-after h.process e) (ap (λ (x : Process K). x.outputs) turn.process ∙ outputs-after h.process e) wired

@@ -1,0 +1,39 @@
+use Rattle.std.proofs.Common.{◌≡◌, ◌<◌, [], ◌∷◌, None, arith, refl, sym, ap, ◌∙◌, subst}
+use Rattle.atomic_table.specs.Table.{rest}
+use Rattle.flow_floor.specs.declared.board.Slot.TheVariants as slot
+use Rattle.flow_floor.specs.Plays.{claiming}
+use Rattle.flow_machine.specs.FitNets.{IsWiredBody}
+use Rattle.flow_floor.proofs.Keeps.{claims}
+use Rattle.flow_floor.proofs.Going.{rests-same}
+use Rattle.flow_floor.proofs.Slots.{head-is, body-is}
+use Rattle.flow_floor.proofs.floor.Floor.claim_at.Goals as goal
+
+pub compare_exchange-found-requires : goal.compare_exchange-found-requires
+compare_exchange-found-requires g c = let q = c.requires.worker in let f = c.args.self.now in (
+  q.calm.table,
+  omega (arith, f.words, c.requires.range),
+  claims g.K.Component.shape_of g.K.Component.uses g.K.Component.ready g.K.Component.next g.met.K.Component.obeys g.met.K.Component.stays_ready g.met.K.Component.steady f.table.shared.key.value _ _ _ _ _ (c.requires.spot ∙ sym f.channels) (omega (arith, f.bodies, c.requires.range)) q.held q.calm.part,
+)
+
+pub exchange-old-requires : goal.exchange-old-requires
+exchange-old-requires g c = let e = c.compare_exchange-found.ensures in let t = e.2.0 c.if-found-ne-READY.false in
+    (e.0 ∙ c.requires.worker.calm.table, (slot.Body t.0, ap (λ m. m.1) t.3 ∙ ap (λ cs. (c.args.process, slot.Body t.0) ∷ rest cs) (sym (ap (λ m. m.1) t.3))))
+
+pub returns : goal.returns
+returns g c = let q = c.requires.worker in let e = c.compare_exchange-found.ensures in let t = e.2.0 c.if-found-ne-READY.false in let x = c.exchange-old.ensures in
+    let b = t.0 in
+    let listed : (c.args.process, c.exchange-old.result) ∷ rest c.compare_exchange-found.new.seat.me.1 ≡ (c.args.process, slot.Body b) ∷ c.args.worker.now.seat.me.1 = sym x.2 ∙ ap (λ m. m.1) t.3 in
+    let slot_is : c.exchange-old.result ≡ slot.Body b = head-is c.args.process c.exchange-old.result (slot.Body b) (rest c.compare_exchange-found.new.seat.me.1) c.args.worker.now.seat.me.1 listed in
+    let body_is : b ≡ c.in-Body.body = body-is c.exchange-old.result b c.in-Body.body slot_is c.in-Body.is in
+    let me0 : c.exchange-old.new.seat.me.0 ≡ claiming c.args.worker.now.seat.me.0 c.args.process 2 b = ap (λ m. m.0) x.3 ∙ ap (λ m. m.0) t.3 ∙ ap (λ r. claiming c.args.worker.now.seat.me.0 c.args.process r b) c.if-found-ne-READY.false in
+    let me1 : c.exchange-old.new.seat.me.1 ≡ (c.args.process, slot.Vacant) ∷ [] = ap (λ m. m.1) x.3 ∙ ap (λ cs. (c.args.process, slot.Vacant) ∷ rest cs) (ap (λ m. m.1) t.3) ∙ ap (λ cs. (c.args.process, slot.Vacant) ∷ cs) q.slots in (
+      refl,
+      record {
+        calm = record { table = x.0 ∙ e.0 ∙ q.calm.table; part = subst (λ n. 0 < n) (sym (ap (λ v. v.parts) me0)) q.calm.part; grab = ap (λ v. v.grab) me0 ∙ q.calm.grab; noted = ap (λ v. v.noted) me0 ∙ q.calm.noted; spare = ap (λ v. v.spare) me0 ∙ q.calm.spare };
+        below = c.requires.range;
+        agrees = record { base = b; held = ap (λ v. v.held) me0; rests = rests-same g.K.Component.next b c.in-Body.body body_is; whole = subst (λ z. z.leaving ≡ None) body_is t.1 };
+        slots = me1;
+      },
+      subst (λ z. IsWiredBody c.args.self.now.connections z) body_is (subst (λ n. IsWiredBody n b) c.requires.spot t.2),
+      me0 ∙ ap (λ z. claiming c.args.worker.now.seat.me.0 c.args.process 2 z) body_is,
+    )

@@ -1,0 +1,9 @@
+use Rattle.std.proofs.Common.{[], ◌∷◌, ◌++◌}
+use Rattle.flow_floor.specs.Crew.{IsCrew}
+use Rattle.flow_floor.proofs.floor.Floor.gather.Given as goal
+
+abbrev pub invariant-loop-worker : goal.invariant-loop-worker
+invariant-loop-worker g l = IsCrew l.self.table.shared.table_id (l.workers.items ++ l.first ∷ [])
+
+abbrev pub decreases-loop-worker : goal.decreases-loop-worker
+decreases-loop-worker g l = goal.left-loop-worker g l

@@ -1,0 +1,59 @@
+use Rattle.std.proofs.Common.{◌≡◌, ◌+◌, ◌<◌, [], ◌∷◌, Some, length, arith, sym, ap, ◌∙◌, subst}
+use Rattle.atomic_table.specs.Table.{rest}
+use Rattle.flow_floor.specs.declared.board.Slot.TheVariants as slot
+use Rattle.flow_ring.specs.Words.{senders_in, level_in}
+use Rattle.flow_floor.specs.Plays.{grabbing}
+use Rattle.flow_floor.proofs.Keeps.{grabs}
+use Rattle.flow_floor.proofs.Slots.{head-is, channel-is}
+use Rattle.flow_floor.proofs.floor.Floor.grab.Goals as goal
+
+pub fetch_or-word-requires : goal.fetch_or-word-requires
+fetch_or-word-requires g c = let q = c.requires.held in let f = c.args.self.now in let a = q.agrees in (
+  q.calm.table,
+  omega (arith, f.words, c.requires.range),
+  rw c.requires.spot
+      (grabs g.K.Component.shape_of g.K.Component.uses g.K.Component.ready g.K.Component.next g.met.K.Component.obeys g.met.K.Component.stays_ready g.met.K.Component.steady f.table.shared.key.value _ _ _ _ c.args.connection _ _ a.base (ap (λ n. n + c.args.connection) (sym f.bodies)) (omega (arith, f.channels, c.requires.range)) c.requires.most a.held q.calm.grab),
+)
+
+pub returns-then-word-ge-HELD : goal.returns-then-word-ge-HELD
+returns-then-word-ge-HELD g c = let q = c.requires.held in let e = c.fetch_or-word.ensures in let high = c.if-word-ge-HELD.true in let m = e.2.1 high in let v = ap (λ x. x.0) m in (
+  high,
+  record {
+    calm = record { table = e.0 ∙ q.calm.table; part = subst (λ n. 0 < n) (sym (ap (λ x. x.parts) v)) q.calm.part; grab = ap (λ x. x.grab) v ∙ q.calm.grab; noted = ap (λ x. x.noted) v ∙ q.calm.noted; spare = ap (λ x. x.spare) v ∙ q.calm.spare };
+    below = q.below;
+    agrees = record { base = q.agrees.base; held = ap (λ x. x.held) v ∙ q.agrees.held; rests = q.agrees.rests; whole = q.agrees.whole };
+    slots = ap (λ x. x.1) m ∙ q.slots;
+  },
+  v,
+)
+
+pub exchange-old-requires : goal.exchange-old-requires
+exchange-old-requires g c = let e = c.fetch_or-word.ensures in let k = e.2.0 c.if-word-ge-HELD.false in let i = c.args.self.now.processes + c.args.connection in
+    (e.0 ∙ c.requires.held.calm.table, (slot.Channel k.0, ap (λ m. m.1) k.5 ∙ ap (λ cs. (i, slot.Channel k.0) ∷ rest cs) (sym (ap (λ m. m.1) k.5))))
+
+pub returns : goal.returns
+returns g c = let q = c.requires.held in let e = c.fetch_or-word.ensures in let t = e.2.0 c.if-word-ge-HELD.false in let x = c.exchange-old.ensures in let i = c.args.self.now.processes + c.args.connection in
+    let k = t.0 in
+    let old = c.args.worker.now.seat.me in
+    let listed : (i, c.exchange-old.result) ∷ rest c.fetch_or-word.new.seat.me.1 ≡ (i, slot.Channel k) ∷ old.1 = sym x.2 ∙ ap (λ m. m.1) t.5 in
+    let slot_is : c.exchange-old.result ≡ slot.Channel k = head-is i c.exchange-old.result (slot.Channel k) (rest c.fetch_or-word.new.seat.me.1) old.1 listed in
+    let k_is : k ≡ c.in-Channel.channel = channel-is c.exchange-old.result k c.in-Channel.channel slot_is c.in-Channel.is in
+    let r = c.fetch_or-word.result in
+    let me0 : c.exchange-old.new.seat.me.0 ≡ grabbing old.0 i r c.args.connection k = ap (λ m. m.0) x.3 ∙ ap (λ m. m.0) t.5 ∙ ap (λ n. grabbing old.0 i r n k) c.requires.spot in
+    let me1 : c.exchange-old.new.seat.me.1 ≡ (i, slot.Vacant) ∷ (c.args.held.now.process, slot.Vacant) ∷ [] = ap (λ m. m.1) x.3 ∙ ap (λ cs. (i, slot.Vacant) ∷ rest cs) (ap (λ m. m.1) t.5) ∙ ap (λ cs. (i, slot.Vacant) ∷ cs) q.slots in
+    let level : level_in r ≡ length c.in-Channel.channel.packets = t.1 ∙ ap (λ z. length z.packets) k_is in
+    let senders : senders_in r ≡ c.in-Channel.channel.open_senders = t.2 ∙ ap (λ z. z.open_senders) k_is in (
+      record {
+        table = x.0 ∙ e.0 ∙ q.calm.table;
+        part = subst (λ n. 0 < n) (sym (ap (λ v. v.parts) me0)) q.calm.part;
+        noted = ap (λ v. v.noted) me0 ∙ q.calm.noted;
+        spare = ap (λ v. v.spare) me0 ∙ q.calm.spare;
+        below = q.below;
+        agrees = record { base = q.agrees.base; held = ap (λ v. v.held) me0 ∙ q.agrees.held; rests = q.agrees.rests; whole = q.agrees.whole };
+        grab = ap (λ v. v.grab) me0 ∙ ap (λ z. Some (c.args.connection, z)) k_is;
+        slots = me1;
+        level = omega (arith, level);
+        senders = omega (arith, senders);
+      },
+      record { word = r; level = level; senders = senders; capacity = ap (λ z. z.capacity) (sym k_is) ∙ t.3 ∙ c.requires.most; so = rw (← k_is, ← c.requires.spot) t.4; view = me0 ∙ ap (λ z. grabbing old.0 i r c.args.connection z) k_is },
+    )

@@ -1,0 +1,15 @@
+use Rattle.std.proofs.Common.{◌+◌, ◌<◌, arith, sym, ap, ◌∙◌, subst}
+use Rattle.flow_floor.proofs.Keeps.{looks}
+use Rattle.flow_floor.proofs.floor.Floor.look.Goals as goal
+
+pub load-requires : goal.load-requires
+load-requires g c = let f = c.args.self.now in let q = c.requires.held in
+    (q.calm.table, omega (arith, f.words, c.requires.range), looks g.K.Component.shape_of g.K.Component.uses g.K.Component.ready g.K.Component.next g.met.K.Component.obeys g.met.K.Component.stays_ready g.met.K.Component.steady f.table.shared.key.value _ _ _ c.args.held.now.process c.args.connection _ q.agrees.base (ap (λ n. n + c.args.connection) (sym f.bodies)) q.agrees.held q.calm.grab)
+
+pub returns-clause-held : goal.returns-clause-held
+returns-clause-held g c = let q = c.requires.held in let e = c.load.ensures in let v = ap (λ m. m.0) e.2 in record {
+  calm = record { table = e.0 ∙ q.calm.table; part = subst (λ n. 0 < n) (sym (ap (λ x. x.parts) v)) q.calm.part; grab = ap (λ x. x.grab) v ∙ q.calm.grab; noted = ap (λ x. x.noted) v ∙ q.calm.noted; spare = ap (λ x. x.spare) v ∙ q.calm.spare };
+  below = q.below;
+  agrees = record { base = q.agrees.base; held = ap (λ x. x.held) v ∙ q.agrees.held; rests = q.agrees.rests; whole = q.agrees.whole };
+  slots = ap (λ m. m.1) e.2 ∙ q.slots;
+}

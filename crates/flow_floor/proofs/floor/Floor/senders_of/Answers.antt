@@ -1,0 +1,19 @@
+use Rattle.std.proofs.Common.{◌≡◌, ℕ, [], All, ◌<◌, List, true, nat_eq, Some, slice_get, sym, ap, ◌∙◌, subst}
+use Rattle.std.specs.Prelude.{unwrap_or}
+use Rattle.std.specs.List.{list_any}
+use Rattle.std.specs.Option.{option_map}
+use Rattle.std.proofs.lemmas.Option.{slice_get_read}
+use Rattle.flow_floor.proofs.Slots.{any-in}
+use Rattle.flow_floor.proofs.floor.Floor.senders_of.Goals as goal
+
+pub returns-clause-senders : goal.returns-clause-senders
+returns-clause-senders g c = let f = c.args.self.now in
+    let at = slice_get_read f.senders.items f.connections c.args.connection c.index.result.now (sym f.rows.1) c.requires c.index.ensures in
+    let row = ap (λ o. unwrap_or (option_map (λ w. w.items) o) []) at ∙ sym c.as_slice.ensures.value in
+    λ q b there is. any-in q c.as_slice.result.now (subst (λ (xs : List ℕ). list_any (λ (x : ℕ). nat_eq x q) xs ≡ true) row (f.sends q b is.0 c.args.connection there is.1 c.requires))
+
+pub returns-clause-below : goal.returns-clause-below
+returns-clause-below g c = let f = c.args.self.now in
+    let at = slice_get_read f.senders.items f.connections c.args.connection c.index.result.now (sym f.rows.1) c.requires c.index.ensures in
+    let row = ap (λ o. unwrap_or (option_map (λ w. w.items) o) []) at ∙ sym c.as_slice.ensures.value in
+    subst (λ (xs : List ℕ). All (λ q. q < f.processes) xs) row (f.named c.args.connection).1

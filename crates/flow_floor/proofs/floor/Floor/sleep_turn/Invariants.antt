@@ -1,0 +1,5 @@
+use Rattle.flow_model.specs.Events.{Sleeps}
+use Rattle.flow_floor.proofs.floor.Floor.sleep_turn.Given as goal
+
+abbrev pub ghosts-deactivate_as : goal.ghosts-deactivate_as
+ghosts-deactivate_as g a = record { event = Sleeps; after = λ b. a.held.now.body }

@@ -1,0 +1,9 @@
+-- All workers of a floor.
+use Rattle.std.specs.Prelude.{◌≡◌, ℕ, List, All, sum_by}
+use Rattle.atomic_table.specs.Seated.{TableId}
+use Rattle.flow_floor.specs.declared.floor.Worker.{Worker}
+use Rattle.flow_floor.specs.Workers.{IsIdle}
+
+-- Idle workers of this floor, which have all its parts.
+abbrev pub IsCrew : {K : Type 0} → TableId → List (Worker K) → Type 0
+IsCrew {K} z ws = All (IsIdle z) ws × (sum_by (λ (w : Worker K). w.seat.me.0.parts) ws ≡ 32)

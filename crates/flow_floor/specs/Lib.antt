@@ -1,0 +1,12 @@
+pub mod Seats
+pub mod Law
+pub mod Turning
+pub mod Waking
+pub mod Rule
+pub mod Plays
+pub mod Workers
+pub mod Idle
+pub mod Shut
+pub mod Wiring
+pub mod Opening
+pub mod Crew

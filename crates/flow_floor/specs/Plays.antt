@@ -1,0 +1,143 @@
+-- What each step tells.
+use Rattle.std.specs.Prelude.{◌≡◌, ◌≢◌, ℕ, ◌+◌, ◌-◌, ◌<◌, ◌≤◌, ◌==◌, ◌||◌, if◌then◌else◌, Bool, List, [], ◌∷◌, ◌++◌, length, Option, Some, None, is_some, slice_get, nat_lt}
+use Rattle.atomic_table.specs.Table.{Me, Step, rest}
+use Rattle.flow_packet.specs.Held.{Held}
+use Rattle.flow_component.specs.declared.Answer.{Answer}
+use Rattle.flow_component.specs.declared.Shape.{Shape}
+use Rattle.flow_model.specs.Events.{Event}
+use Rattle.flow_model.specs.Stands.{ChannelShown}
+use Rattle.flow_machine.specs.Values.{BodyValue, NetValue}
+use Rattle.flow_machine.specs.FitNets.{FitNet, IsWiredBody}
+use Rattle.flow_ring.specs.Words.{level_in, senders_in, held_bit}
+use Rattle.flow_floor.specs.declared.board.Slot.{Slot}
+use Rattle.flow_floor.specs.declared.board.Slot.TheVariants as slot
+use Rattle.flow_floor.specs.declared.board.View.{View}
+use Rattle.flow_floor.specs.declared.board.Look.{Look}
+use Rattle.flow_floor.specs.Turning.{turned_body, grab_after}
+
+abbrev pub Sat : Type 0 → Type 0
+Sat K = Me (Slot K) (View K)
+
+-- Each stamp is below n.
+abbrev pub Below : ℕ → List (ℕ × ℕ) → Type 0
+Below n [] = Unit {0}
+Below n (turn ∷ turns) = (turn.0 < n) × Below n turns
+
+abbrev pub tail : List ℕ → List ℕ
+tail [] = []
+tail (x ∷ xs) = xs
+
+module _ {K : Type 0} where
+  abbrev pub look_at : View K → ℕ → ℕ → Look
+  look_at v i r = record { word = i; read = r; holding = is_some v.grab; at = v.steps + 1 }
+
+  abbrev pub looked : View K → ℕ → ℕ → View K
+  looked v i r = record v { steps = v.steps + 1; look = look_at v i r }
+
+  abbrev pub seeing : View K → ℕ → ℕ → View K
+  seeing v i r = record (looked v i r) { seen = look_at v i r ∷ v.seen }
+
+  abbrev pub claiming : View K → ℕ → ℕ → BodyValue K → View K
+  claiming v i r b = record (looked v i r) { held = Some (i, b); seen = [] }
+
+  abbrev pub grabbing : View K → ℕ → ℕ → ℕ → ChannelShown → View K
+  grabbing v i r c k = record (seeing v i r) { grab = Some (c, k); word = r }
+
+  abbrev pub held_after : Event → (BodyValue K → BodyValue K) → ℕ → Option (ℕ × BodyValue K) → Option (ℕ × BodyValue K)
+  held_after e f r (Some held) = Some (held.0, turned_body e r (f held.1))
+  held_after e f r None = None
+
+  abbrev pub turn_of : ℕ → Option (ℕ × BodyValue K) → List (ℕ × ℕ)
+  turn_of r (Some held) = (r, held.0) ∷ []
+  turn_of r None = []
+
+  abbrev pub stamping : View K → ℕ → ℕ → Event → (BodyValue K → BodyValue K) → View K
+  stamping v i r e f = record (looked v i r) { held = held_after e f r v.held; grab = grab_after e v.grab; made = v.made ++ turn_of r v.held; seen = [] }
+
+  abbrev pub releasing : View K → ℕ → ℕ → List ℕ → View K
+  releasing v i r notes = record (looked v i r) { grab = None; noted = notes ++ v.noted }
+
+  abbrev pub leaving : View K → ℕ → ℕ → View K
+  leaving v i r = record (looked v i r) { held = None; seen = [] }
+
+  abbrev pub parking : View K → ℕ → ℕ → View K
+  parking v i r = record (leaving v i r) { spare = v.spare + 1 }
+
+  abbrev pub raising : View K → ℕ → ℕ → View K
+  raising v i r = record (looked v i r) { spare = v.spare + 1 }
+
+  abbrev pub poking : View K → ℕ → ℕ → View K
+  poking v i r = record (looked v i r) { noted = tail v.noted; spare = if r == 0 then v.spare - 1 else v.spare }
+
+  abbrev pub lowering : View K → ℕ → ℕ → View K
+  lowering v i r = record (looked v i r) { spare = v.spare - 1 }
+
+  abbrev pub reading : View K → ℕ → ℕ → View K
+  reading v i r = record (looked v i r) { read_zero = v.read_zero || (r == 0) }
+
+  abbrev pub HeldIn : NetValue K → Option (ℕ × BodyValue K) → Type 0
+  HeldIn now (Some held) = slice_get now.bodies held.0 ≡ Some held.1
+  HeldIn now None = Unit {0}
+
+  -- At some moment the machine had this channel at connection c, and the body that is held.
+  abbrev pub WasSo : (K → Shape) → (K → ℕ → Bool) → (K → Held → Answer → Type 0) → Option (ℕ × BodyValue K) → ℕ → ChannelShown → Type 0
+  WasSo shape_of uses ready held c k = (now : NetValue K) × FitNet shape_of uses ready now × (slice_get now.channels c ≡ Some k) × HeldIn now held
+
+  abbrev pub claimed : ℕ → Step (Slot K) → Sat K → ℕ → Sat K → Type 0
+  claimed n st m r m' = (r ≡ 2 → (b : BodyValue K) × (b.leaving ≡ None) × IsWiredBody n b × (m' ≡ (claiming m.0 st.word r b, (st.word, slot.Body b) ∷ m.1))) × (r ≢ 2 → m' ≡ (looked m.0 st.word r, m.1))
+
+  abbrev pub grabbed : (K → Shape) → (K → ℕ → Bool) → (K → Held → Answer → Type 0) → ℕ → ℕ → Step (Slot K) → Sat K → ℕ → Sat K → Type 0
+  grabbed shape_of uses ready c most st m r m' =
+      (r < held_bit → (k : ChannelShown) × (level_in r ≡ length k.packets) × (senders_in r ≡ k.open_senders) × (k.capacity ≡ most) × WasSo shape_of uses ready m.0.held c k × (m' ≡ (grabbing m.0 st.word r c k, (st.word, slot.Channel k) ∷ m.1)))
+      × (held_bit ≤ r → m' ≡ (seeing m.0 st.word r, m.1))
+
+  abbrev pub saw : Step (Slot K) → Sat K → ℕ → Sat K → Type 0
+  saw st m r m' = m' ≡ (seeing m.0 st.word r, m.1)
+
+  abbrev pub stamped : Event → (BodyValue K → BodyValue K) → Step (Slot K) → Sat K → ℕ → Sat K → Type 0
+  stamped e f st m r m' = (m' ≡ (stamping m.0 st.word r e f, m.1)) × Below r m.0.made × (r ≤ 1073741824)
+
+  abbrev pub released : List ℕ → Step (Slot K) → Sat K → ℕ → Sat K → Type 0
+  released notes st m r m' = m' ≡ (releasing m.0 st.word r notes, rest m.1)
+
+  abbrev pub left : Step (Slot K) → Sat K → ℕ → Sat K → Type 0
+  left st m r m' = m' ≡ (leaving m.0 st.word r, rest m.1)
+
+  abbrev pub parked : Step (Slot K) → Sat K → ℕ → Sat K → Type 0
+  parked st m r m' = (r ≡ 1 → m' ≡ (parking m.0 st.word r, rest m.1)) × (r ≢ 1 → (r ≡ 3) × (m' ≡ (looked m.0 st.word r, m.1)))
+
+  abbrev pub retired : Step (Slot K) → Sat K → ℕ → Sat K → Type 0
+  retired st m r m' = m' ≡ (parking m.0 st.word r, rest m.1)
+
+  abbrev pub raised : Step (Slot K) → Sat K → ℕ → Sat K → Type 0
+  raised st m r m' = m' ≡ (raising m.0 st.word r, m.1)
+
+  abbrev pub poked : Step (Slot K) → Sat K → ℕ → Sat K → Type 0
+  poked st m r m' = m' ≡ (poking m.0 st.word r, m.1)
+
+  abbrev pub lowered : Step (Slot K) → Sat K → ℕ → Sat K → Type 0
+  lowered st m r m' = m' ≡ (lowering m.0 st.word r, m.1)
+
+  abbrev pub told_live : Step (Slot K) → Sat K → ℕ → Sat K → Type 0
+  told_live st m r m' = m' ≡ (reading m.0 st.word r, m.1)
+
+-- How seats are cut and joined.
+abbrev pub insert : ℕ × ℕ → List (ℕ × ℕ) → List (ℕ × ℕ)
+insert x [] = x ∷ []
+insert x (y ∷ ys) = if nat_lt x.0 y.0 then x ∷ y ∷ ys else y ∷ insert x ys
+
+-- The turns of both, in the order of their stamps.
+abbrev pub merge : List (ℕ × ℕ) → List (ℕ × ℕ) → List (ℕ × ℕ)
+merge [] ys = ys
+merge (x ∷ xs) ys = insert x (merge xs ys)
+
+-- The seats of the turns, where those of seat o are given to seat i.
+abbrev pub renamed : ℕ → ℕ → List ℕ → List ℕ
+renamed o i [] = []
+renamed o i (k ∷ ks) = (if k == o then i else k) ∷ renamed o i ks
+
+abbrev pub cut : {K : Type 0} → View K → View K
+cut v = record v { parts = v.parts - 1 }
+
+abbrev pub merged : {K : Type 0} → View K → View K → View K
+merged v w = record v { parts = v.parts + w.parts; made = merge w.made v.made; read_zero = v.read_zero || w.read_zero }

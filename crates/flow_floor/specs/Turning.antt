@@ -1,0 +1,61 @@
+-- What a step does to the net of the rule.
+use Rattle.std.specs.Prelude.{◌≡◌, length, slice_get, ℕ, List, [], ◌∷◌, ◌++◌, Option, Some, None, slice_set}
+use Rattle.flow_model.specs.Events.{Event, Gets, Hears_end, Sends, Sleeps, Closes, seen_by, event_from}
+use Rattle.flow_packet.specs.Tree.{Tree}
+use Rattle.flow_model.specs.States.{Outlet}
+use Rattle.flow_model.specs.Turns.{process_after}
+use Rattle.flow_model.specs.Stands.{ChannelShown, shown_after, all_shown_after}
+use Rattle.flow_machine.specs.Values.{BodyValue, NetValue}
+use Rattle.flow_machine.specs.Nets.{levels_told, looks_of}
+use Rattle.flow_machine.proofs.NetTurns.{IsOn}
+use Rattle.flow_floor.specs.declared.board.Look.{Look}
+use Rattle.flow_floor.specs.Law.{AllSeen}
+use Rattle.flow_machine.specs.Logs.{Logged}
+
+-- A body after a turn with this stamp.
+abbrev pub turned_body : {K : Type 0} → Event → ℕ → BodyValue K → BodyValue K
+turned_body e stamp b = record b { process = process_after b.process e; leaving = None; stamps = b.stamps ++ stamp ∷ []; levels = b.levels ++ levels_told e stamp }
+
+abbrev pub with_body : {K : Type 0} → NetValue K → ℕ → BodyValue K → NetValue K
+with_body now p b = record { bodies = slice_set now.bodies p b; channels = now.channels }
+
+-- The net after a turn of process p, which was b, with this stamp.
+abbrev pub turned_net : {K : Type 0} → NetValue K → ℕ → BodyValue K → Event → ℕ → NetValue K
+turned_net now p b e stamp = record { bodies = slice_set now.bodies p (turned_body e stamp b); channels = all_shown_after e now.channels }
+
+abbrev pub logged : ℕ → Event → Logged
+logged p e = record { process = p; seen = seen_by e }
+
+-- What a turn leaves of the connection that its seat holds, if it holds one.
+abbrev pub grab_after : Event → Option (ℕ × ChannelShown) → Option (ℕ × ChannelShown)
+grab_after e (Some grab) = Some (grab.0, shown_after e grab.1)
+grab_after e None = None
+
+-- The net has this channel, if the seat holds one.
+abbrev pub GrabIn : {K : Type 0} → NetValue K → Option (ℕ × ChannelShown) → Type 0
+GrabIn now (Some grab) = slice_get now.channels grab.0 ≡ Some grab.1
+GrabIn now None = Unit {0}
+
+-- Wherever the machine has this body for process p, the channel that the seat holds, and what the seat saw, the turn of p is this event.
+abbrev pub Happens : {K : Type 0} → (NetValue K → Type 0) → ℕ → ℕ → ℕ → BodyValue K → Option (ℕ × ChannelShown) → List Look → Event → Type 0
+Happens {K} fits n m p d grab seen e = (now : NetValue K) → fits now → slice_get now.bodies p ≡ Some d → GrabIn now grab → AllSeen n now (Some (p, d)) seen → length now.channels ≡ m → (level : ℕ) × (event_from (looks_of now.channels) d.process level ≡ Some e)
+
+-- The turn fits what the seat holds: it is at the connection that the seat holds, or at none where it holds none.
+abbrev pub At : Event → Option (ℕ × ChannelShown) → Type 0
+At e None = (cs : List ChannelShown) → all_shown_after e cs ≡ cs
+At e (Some grab) = IsOn grab.0 e
+
+-- The turn of a receive from a connection that holds these packets, or that is over.
+abbrev pub received_event : ℕ → ℕ → List Tree → Event
+received_event port c [] = Hears_end port
+received_event port c (packet ∷ packets) = Gets port c packet
+
+-- The turn of a send of this packet.
+abbrev pub sent_event : ℕ → ℕ → Option Tree → Event
+sent_event port c (Some packet) = Sends port c packet
+sent_event port c None = Sleeps
+
+-- The turn that closes this output.
+abbrev pub closed_event : Option Outlet → Event
+closed_event (Some outlet) = Closes outlet.output outlet.connection
+closed_event None = Sleeps

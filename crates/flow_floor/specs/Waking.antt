@@ -1,0 +1,101 @@
+-- The second half of the rule: who is woken, and when nothing is left to do.
+use Rattle.std.specs.Prelude.{◌≡◌, ℕ, zero, suc, ◌+◌, ◌<◌, ◌≤◌, ◌⊎◌, ◌==◌, ◌||◌, if◌then◌else◌, true, List, [], ◌∷◌, length, slice_index, slice_get, sum_by, Some, None, unwrap_or}
+use Rattle.std.specs.Option.{option_map}
+use mathlib.Core.Option.{some}
+use lib.ListN.{get_elem?}
+use Rattle.atomic_table.specs.Table.{State}
+use Rattle.flow_component.specs.declared.Wish.TheVariants as wishes
+use Rattle.flow_model.specs.declared.Stage.{Stage}
+use Rattle.flow_model.specs.declared.Stage.TheVariants as stages
+use Rattle.flow_model.specs.States.{From, output_at}
+use Rattle.flow_model.specs.Schedules.{IsThoughtStage}
+use Rattle.flow_model.specs.Stands.{ChannelShown}
+use Rattle.flow_machine.specs.Values.{BodyValue, NetValue}
+use Rattle.flow_ring.specs.Words.{level_in, senders_in}
+use Rattle.flow_floor.specs.declared.board.Slot.{Slot}
+use Rattle.flow_floor.specs.declared.board.View.{View}
+use Rattle.flow_floor.specs.declared.board.Look.{Look}
+use Rattle.flow_floor.specs.Law.{Beside, IsInput}
+
+-- A process word counts where the process is ready or held, poked or not.
+abbrev pub counts : ℕ → ℕ
+counts w = if (w == 1) || ((w == 2) || (w == 3)) then 1 else 0
+
+-- How many of the first n words count.
+abbrev pub live_in : ℕ → List ℕ → ℕ
+live_in zero words = 0
+live_in (suc n) [] = 0
+live_in (suc n) (w ∷ words) = counts w + live_in n words
+
+abbrev pub InList : ℕ → List ℕ → Type 0
+InList q [] = ⊥
+InList q (x ∷ xs) = (q ≡ x) ⊎ InList q xs
+
+-- The capacity of this connection.
+abbrev pub capacity_at : List ChannelShown → ℕ → ℕ
+capacity_at channels c = unwrap_or (option_map (λ (k : ChannelShown). k.capacity) (slice_get channels c)) 0
+
+module _ {K : Type 0} where
+  -- The connection is an output of the process.
+  abbrev pub IsOutput : BodyValue K → ℕ → Type 0
+  IsOutput b c = (o : ℕ) × (output_at b.process o ≡ Some c)
+
+  -- Some seat noted the process.
+  abbrev pub IsNoted : List (View K) → ℕ → Type 0
+  IsNoted views q = (j : ℕ) × (v : View K) × (get_elem? views j ≡ some v) × InList q v.noted
+
+  -- The words block a process at this stage, where n is the number of processes and the connections are these.
+  abbrev pub WordsBlock : ℕ → List ChannelShown → List ℕ → BodyValue K → Stage → Type 0
+  WordsBlock n channels words b stages.Idle = ((c : ℕ) → IsInput b c → level_in (slice_index words (n + c)) ≡ 0) × ((c : ℕ) × IsInput b c × (0 < senders_in (slice_index words (n + c))))
+  WordsBlock n channels words b (stages.Wishing (wishes.Receive port)) = (c : ℕ) × (slice_get b.process.inputs port.0 ≡ Some (From c)) × (level_in (slice_index words (n + c)) ≡ 0) × (0 < senders_in (slice_index words (n + c)))
+  WordsBlock n channels words b (stages.Wishing (wishes.Send port id)) =
+      (c : ℕ) × (k : ChannelShown) × (output_at b.process port.0 ≡ Some c) × (slice_get channels c ≡ Some k) × (k.capacity ≤ level_in (slice_index words (n + c)))
+  WordsBlock n channels words b (stages.Wishing (wishes.Level port)) = ⊥
+  WordsBlock n channels words b (stages.Wishing wishes.Deactivate) = ⊥
+  WordsBlock n channels words b (stages.Told answer) = ⊥
+  WordsBlock n channels words b (stages.Closing i) = ⊥
+  WordsBlock n channels words b stages.Ended = ⊥
+  WordsBlock n channels words b (stages.Failed cause) = ⊥
+
+  -- A word that was looked at, and that blocked its process, still blocks it.
+  abbrev pub StillBlocks : ℕ → List ChannelShown → List ℕ → BodyValue K → Look → Type 0
+  StillBlocks n channels words b look = (c : ℕ) → look.word ≡ n + c
+      → (IsInput b c → (level_in look.read ≡ 0 → level_in (slice_index words (n + c)) ≡ 0) × (0 < senders_in look.read → 0 < senders_in (slice_index words (n + c))))
+      × (IsOutput b c → (k : ChannelShown) → slice_get channels c ≡ Some k → k.capacity ≤ level_in look.read → k.capacity ≤ level_in (slice_index words (n + c)))
+
+  abbrev pub AllBlock : ℕ → List ChannelShown → List ℕ → BodyValue K → List Look → Type 0
+  AllBlock n channels words b [] = Unit {0}
+  AllBlock n channels words b (look ∷ seen) = StillBlocks n channels words b look × AllBlock n channels words b seen
+
+  -- What stays as it was when the floor was opened.
+  pub record IsWiredAs (start now : NetValue K) : Type 0 where
+    pub inputs : (p : ℕ) (b b0 : BodyValue K) → slice_get now.bodies p ≡ Some b → slice_get start.bodies p ≡ Some b0 → b.process.inputs ≡ b0.process.inputs
+    pub outputs : (p : ℕ) (b b0 : BodyValue K) → slice_get now.bodies p ≡ Some b → slice_get start.bodies p ≡ Some b0 → b.process.outputs ≡ b0.process.outputs
+    pub capacities : (c : ℕ) (k k0 : ChannelShown) → slice_get now.channels c ≡ Some k → slice_get start.channels c ≡ Some k0 → k.capacity ≡ k0.capacity
+
+  -- What holds of a seat: it has no more spare tokens than parts; only a seat that holds a process has noted one; where it has read 0 the live word is
+  -- 0; and one without parts holds nothing and made no turn.
+  pub record Keeps (live : ℕ) (v : View K) : Type 0 where
+    pub spare : v.spare ≤ v.parts
+    pub noted : v.held ≡ None → v.noted ≡ []
+    pub zero : v.read_zero ≡ true → live ≡ 0
+    pub bare : v.parts ≡ 0 → (v.held ≡ None) × (v.made ≡ [])
+
+  pub record Wakes (start : NetValue K) (s : State (Slot K) (View K)) (g : Beside K) : Type 0 where
+    pub wired : IsWiredAs start g.now
+    -- Q1
+    pub live : slice_index s.words (length start.bodies + length start.channels + 1) ≡ live_in (length start.bodies) s.words + sum_by (λ (v : View K). v.spare) s.views
+    pub parts : sum_by (λ (v : View K). v.parts) s.views ≡ 32
+    -- Q3 and Q4
+    pub each : (j : ℕ) (v : View K) → get_elem? s.views j ≡ some v → Keeps (slice_index s.words (length start.bodies + length start.channels + 1)) v
+    -- Q2
+    pub parked : (q : ℕ) (b : BodyValue K) → slice_get g.now.bodies q ≡ Some b → slice_index s.words q ≡ 0
+        → IsThoughtStage b.process.stage × (WordsBlock (length start.bodies) start.channels s.words b b.process.stage ⊎ IsNoted s.views q)
+    pub held : (j q : ℕ) (v : View K) (b : BodyValue K) → get_elem? s.views j ≡ some v → v.held ≡ Some (q, b) → slice_index s.words q ≡ 1
+        → AllBlock (length start.bodies) start.channels s.words b v.seen ⊎ IsNoted s.views q
+
+  -- The word of a connection changes from old to new, and those whom that may unblock are among the noted: where the level rises or a sender closes,
+  -- the receiver; where the level falls, the senders.
+  pub record Notes (start : NetValue K) (c old new : ℕ) (noted : List ℕ) : Type 0 where
+    pub receiver : ((level_in new ≤ level_in old) × (senders_in old ≤ senders_in new)) ⊎ ((q : ℕ) (b : BodyValue K) → slice_get start.bodies q ≡ Some b → IsInput b c → InList q noted)
+    pub senders : (level_in old ≤ level_in new) ⊎ ((q : ℕ) (b : BodyValue K) → slice_get start.bodies q ≡ Some b → IsOutput b c → InList q noted)

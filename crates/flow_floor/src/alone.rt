@@ -1,0 +1,143 @@
+//! Looks, and turns of a held body at no connection.
+ghost use Rattle.std.specs.Prelude.{List, ◌≡◌, ℕ, ◌+◌, ◌<◌, length, Some, None, slice_get};
+ghost use Rattle.flow_model.specs.Events.{Starts, Finishes, Sleeps, is_fresh};
+ghost use Rattle.flow_model.specs.declared.Stage.TheVariants.{Idle, Wishing};
+ghost use Rattle.flow_component.specs.declared.Wish.TheVariants.{Deactivate, Receive};
+ghost use Rattle.flow_machine.specs.Values.{BodyValue};
+ghost use Rattle.flow_machine.specs.Thoughts.{HasRoom};
+ghost use Rattle.flow_machine.specs.Nets.{BodyTurn};
+ghost use Rattle.flow_machine.specs.FitNets.{FitNet};
+ghost use Rattle.flow_model.specs.States.{From, Text};
+ghost use Rattle.flow_machine.specs.Effects.{text_event};
+ghost use Rattle.flow_floor.specs.Workers.{view, IsHeldBy, MatchSaw};
+ghost use Rattle.flow_floor.specs.Idle.{SawPacket, SawNone, SawOver, SawSender, AllSaw, SawOne};
+ghost use Rattle.flow_floor.specs.Plays.{seeing, stamping, Below};
+ghost use Rattle.flow_floor.specs.Turning.{Happens};
+
+use crate::floor::{Floor, Held, Saw, Worker};
+use crate::plays::{Deed, Look};
+use flow_component::{Component, Port};
+use flow_machine::Effect;
+
+impl<K: Component> Floor<K> {
+    /// Reads the word of a connection, and keeps what it read.
+    pub(crate) fn look(&self, worker: &mut Worker<K>, held: &Held<K>, connection: usize) -> u64
+        requires held { IsHeldBy K.next self.now.table.shared.table_id self.now.processes worker.old held.now }
+        requires range { connection < self.now.connections }
+        ensures held { IsHeldBy K.next self.now.table.shared.table_id self.now.processes worker.new held.now }
+        ensures view { view worker.new ≡ seeing (view worker.old) (self.now.processes + connection) result }
+    {
+        let _ = held;
+        self.table
+            .shared
+            .load::<Look>(&mut worker.seat, self.processes + connection)
+    }
+
+    /// Looks at the connected inputs one by one, up to one that holds a packet.
+    pub(crate) fn look_over(&self, worker: &mut Worker<K>, held: &Held<K>) -> Saw
+        requires held { IsHeldBy K.next self.now.table.shared.table_id self.now.processes worker.old held.now }
+        requires wired { (i c : ℕ) → slice_get held.now.body.process.inputs i ≡ Some (From c) → c < self.now.connections }
+        ensures held { IsHeldBy K.next self.now.table.shared.table_id self.now.processes worker.new held.now }
+        ensures made { (view worker.new).made ≡ (view worker.old).made }
+        ensures saw { MatchSaw result (SawOne (SawPacket self.now.processes) held.now.body.process.inputs (view worker.new).seen) (AllSaw (SawNone self.now.processes) (length held.now.body.process.inputs) held.now.body.process.inputs (view worker.new).seen × SawOne (SawSender self.now.processes) held.now.body.process.inputs (view worker.new).seen) (AllSaw (SawOver self.now.processes) (length held.now.body.process.inputs) held.now.body.process.inputs (view worker.new).seen) }
+    {
+        let mut open = false;
+        for i in 0..held.body.inputs() {
+            if let Some(connection) = held.body.input(i) {
+                let word = self.look(worker, held, connection as usize);
+                if word % 65536 != 0 {
+                    return Saw::Packet;
+                }
+                if word / 65536 % 65536 != 0 {
+                    open = true;
+                }
+            }
+        }
+        if open { Saw::Sender } else { Saw::Over }
+    }
+
+    /// Starts.
+    pub(crate) fn start_as<D: Deed<K>>(&self, worker: &mut Worker<K>, held: &mut Held<K>) -> u64
+        requires event { D.event ≡ Starts }
+        requires after { (b : BodyValue _) → D.after b ≡ held.old.body }
+        requires held { IsHeldBy K.next self.now.table.shared.table_id self.now.processes worker.old held.old }
+        requires stage { held.old.body.process.stage ≡ Idle }
+        requires room { HasRoom held.old.body }
+        requires happens { Happens (FitNet K.shape_of K.uses K.ready) self.now.processes self.now.connections held.old.process held.old.body None (view worker.old).seen Starts }
+        ensures held { IsHeldBy K.next self.now.table.shared.table_id self.now.processes worker.new held.new }
+        ensures process { held.new.process ≡ held.old.process }
+        ensures body { BodyTurn held.old.body Starts result held.new.body }
+        ensures view { view worker.new ≡ stamping (view worker.old) (self.now.processes + self.now.connections) result D.event D.after }
+        ensures above { Below result (view worker.old).made }
+    {
+        let stamp = self.stamp::<D>(worker, held);
+        held.body.effect(Effect::Start, stamp as u32);
+        stamp
+    }
+
+    /// Goes to its end.
+    pub(crate) fn finish_as<D: Deed<K>>(&self, worker: &mut Worker<K>, held: &mut Held<K>) -> u64
+        requires event { D.event ≡ Finishes }
+        requires after { (b : BodyValue _) → D.after b ≡ held.old.body }
+        requires held { IsHeldBy K.next self.now.table.shared.table_id self.now.processes worker.old held.old }
+        requires stage { held.old.body.process.stage ≡ Idle }
+        requires room { HasRoom held.old.body }
+        requires happens { Happens (FitNet K.shape_of K.uses K.ready) self.now.processes self.now.connections held.old.process held.old.body None (view worker.old).seen Finishes }
+        ensures held { IsHeldBy K.next self.now.table.shared.table_id self.now.processes worker.new held.new }
+        ensures process { held.new.process ≡ held.old.process }
+        ensures body { BodyTurn held.old.body Finishes result held.new.body }
+        ensures view { view worker.new ≡ stamping (view worker.old) (self.now.processes + self.now.connections) result D.event D.after }
+        ensures above { Below result (view worker.old).made }
+    {
+        let stamp = self.stamp::<D>(worker, held);
+        held.body.effect(Effect::ToClosing, stamp as u32);
+        stamp
+    }
+
+    /// Deactivates, as it wished.
+    pub(crate) fn deactivate_as<D: Deed<K>>(
+        &self,
+        worker: &mut Worker<K>,
+        held: &mut Held<K>,
+    ) -> u64
+        requires event { D.event ≡ Sleeps }
+        requires after { (b : BodyValue _) → D.after b ≡ held.old.body }
+        requires held { IsHeldBy K.next self.now.table.shared.table_id self.now.processes worker.old held.old }
+        requires stage { held.old.body.process.stage ≡ Wishing Deactivate }
+        requires room { HasRoom held.old.body }
+        ensures held { IsHeldBy K.next self.now.table.shared.table_id self.now.processes worker.new held.new }
+        ensures process { held.new.process ≡ held.old.process }
+        ensures body { BodyTurn held.old.body Sleeps result held.new.body }
+        ensures view { view worker.new ≡ stamping (view worker.old) (self.now.processes + self.now.connections) result D.event D.after }
+        ensures above { Below result (view worker.old).made }
+    {
+        let stamp = self.stamp::<D>(worker, held);
+        held.body.effect(Effect::Deactivate, stamp as u32);
+        stamp
+    }
+
+    /// Receives on a port with an initial text.
+    pub(crate) fn text_as<D: Deed<K>>(
+        &self,
+        worker: &mut Worker<K>,
+        held: &mut Held<K>,
+        port: Port,
+    ) -> u64
+        requires event { D.event ≡ text_event port.0 (is_fresh held.old.body.process port.0) (slice_get held.old.body.process.inputs port.0) }
+        requires after { (b : BodyValue _) → D.after b ≡ held.old.body }
+        requires held { IsHeldBy K.next self.now.table.shared.table_id self.now.processes worker.old held.old }
+        requires stage { held.old.body.process.stage ≡ Wishing (Receive port) }
+        requires input { (text : List ℕ) × (slice_get held.old.body.process.inputs port.0 ≡ Some (Text text)) }
+        requires room { HasRoom held.old.body }
+        ensures held { IsHeldBy K.next self.now.table.shared.table_id self.now.processes worker.new held.new }
+        ensures process { held.new.process ≡ held.old.process }
+        ensures body { BodyTurn held.old.body D.event result held.new.body }
+        ensures view { view worker.new ≡ stamping (view worker.old) (self.now.processes + self.now.connections) result D.event D.after }
+        ensures above { Below result (view worker.old).made }
+    {
+        let _ = port;
+        let stamp = self.stamp::<D>(worker, held);
+        held.body.effect(Effect::Initial, stamp as u32);
+        stamp
+    }
+}

@@ -1,0 +1,57 @@
+//! The table that the workers share. Words 0 to n - 1 are the processes', the next m the connections', then the clock and the live word. Slots lie in
+//! the same order.
+
+use atomic_table::TableRule;
+use flow_component::Component;
+use flow_machine::{Body, Channel, Net};
+use std::collections::LinkedList;
+use std::snapshot::Snapshot;
+
+/// What lies in a slot. It is vacant while a worker has the body or the channel.
+pub enum Slot<K: Component> {
+    Vacant,
+    Body(Body<K>),
+    Channel(Channel),
+}
+
+/// What a step read: the word, the number, whether the seat held a connection then, and its number of steps after it.
+pub struct Look {
+    pub word: u64,
+    pub read: u64,
+    pub holding: bool,
+    pub at: u64,
+}
+
+/// What a seat knows. No value of it is made.
+pub struct View<K: Component> {
+    /// Its parts of the right to be a seat: all seats have 32.
+    pub parts: u64,
+    /// The process that it holds, with its body as the machine has it.
+    pub held: Option<(u64, Body<K>)>,
+    /// The connection that it holds, with its channel as the machine has it.
+    pub grab: Option<(u64, Channel)>,
+    /// The word of that connection as it was found, without the held bit.
+    pub word: u64,
+    /// Its turns: stamp and process.
+    pub made: LinkedList<(u64, u64)>,
+    /// The connections that it looked at for the present wish of its process, each with the word, and its number of steps after it.
+    pub seen: LinkedList<Look>,
+    /// The processes that it noted for waking.
+    pub noted: LinkedList<u64>,
+    /// The tokens that it has to give to a process, or to the live word.
+    pub spare: u64,
+    pub read_zero: bool,
+    pub steps: u64,
+    pub look: Look,
+}
+
+pub struct Lawful;
+
+impl<K: Component> TableRule<Slot<K>, View<K>, Snapshot<Net<K>>> for Lawful {
+    ghost use Rattle.flow_floor.specs.Rule.{Law};
+    ghost use Rattle.flow_floor.specs.Seats.{newcomer};
+
+    ghost holds = { λ key. Law K.shape_of K.uses K.ready K.next key.value };
+
+    ghost first = { λ _. newcomer 32 };
+}

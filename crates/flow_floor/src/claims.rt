@@ -1,0 +1,141 @@
+//! How a worker takes a process, and gives it back.
+ghost use Rattle.std.specs.Prelude.{◌≡◌, ◌≢◌, ℕ, ◌<◌, None, Some, true};
+ghost use Rattle.atomic_table.specs.Seated.{TableId};
+ghost use Rattle.flow_floor.specs.declared.floor.Worker.{Worker};
+ghost use Rattle.flow_machine.specs.Thoughts.{Thinks, KeepsTurns};
+ghost use Rattle.flow_machine.specs.FitNets.{IsWiredBody};
+ghost use Rattle.flow_floor.specs.Workers.{view, IsIdle, IsHeldBy, IsDone, SeenBlocks, MatchClaim};
+ghost use Rattle.flow_floor.specs.Plays.{looked, claiming, leaving};
+
+use crate::board::Slot;
+use crate::floor::{Claim, Floor, Held, Worker};
+use crate::plays::{Leave, Live, Lower, Park, Retire, Spot, Take};
+use flow_component::{Component, Gate};
+use flow_machine::Thought;
+use std::marker::Brand;
+
+const READY: u64 = 2;
+
+const HELD: u64 = 1;
+
+const PARKED: u64 = 0;
+
+const DONE: u64 = 4;
+
+impl<K: Component> Floor<K> {
+    fn claim_at<S: Spot>(&self, worker: &mut Worker<K>, process: usize) -> Claim<K>
+        requires spot { S.connection ≡ self.now.connections }
+        requires worker { IsIdle self.now.table.shared.table_id worker.old }
+        requires range { process < self.now.processes }
+        ensures { MatchClaim result (λ h. (h.process ≡ process) × IsHeldBy K.next self.now.table.shared.table_id self.now.processes worker.new h × IsWiredBody self.now.connections h.body × (view worker.new ≡ claiming (view worker.old) process 2 h.body)) (λ n. (n ≢ 2) × IsIdle self.now.table.shared.table_id worker.new × (view worker.new ≡ looked (view worker.old) process n)) }
+    {
+        let shared = &self.table.shared;
+        let found = shared.compare_exchange::<Take<S>>(&mut worker.seat, process, READY, HELD);
+        if found != READY {
+            return Claim::NotReady(found);
+        }
+        let old = shared.exchange(&mut worker.seat, process, Slot::Vacant);
+        let Slot::Body(body) = old else {
+            unreachable!()
+        };
+        Claim::Held(Held { body, process })
+    }
+
+    /// Claims the process if it is ready. `NotReady` has what this call's exchange read.
+    pub fn claim(&self, worker: &mut Worker<K>, process: usize) -> Claim<K>
+        requires worker { IsIdle self.now.table.shared.table_id worker.old }
+        requires range { process < self.now.processes }
+        ensures { MatchClaim result (λ h. (h.process ≡ process) × IsHeldBy K.next self.now.table.shared.table_id self.now.processes worker.new h × IsWiredBody self.now.connections h.body × (view worker.new ≡ claiming (view worker.old) process 2 h.body)) (λ n. (n ≢ 2) × IsIdle self.now.table.shared.table_id worker.new × (view worker.new ≡ looked (view worker.old) process n)) }
+    {
+        self.claim_at::<Brand>(worker, process)
+    }
+
+    /// The process is ready again.
+    pub fn hand_back(&self, worker: &mut Worker<K>, held: Held<K>)
+        requires { IsHeldBy K.next self.now.table.shared.table_id self.now.processes worker.old held }
+        ensures idle { IsIdle self.now.table.shared.table_id worker.new }
+        ensures made { (view worker.new).made ≡ (view worker.old).made }
+    {
+        let Held { body, process } = held;
+        let shared = &self.table.shared;
+        let old = shared.exchange(&mut worker.seat, process, Slot::Body(body));
+        let Slot::Vacant = old else { unreachable!() };
+        shared.swap::<Leave>(&mut worker.seat, process, READY);
+    }
+
+    /// The process is done.
+    pub fn retire(&self, worker: &mut Worker<K>, held: Held<K>)
+        requires { IsHeldBy K.next self.now.table.shared.table_id self.now.processes worker.old held }
+        ensures idle { IsIdle self.now.table.shared.table_id worker.new }
+        ensures made { (view worker.new).made ≡ (view worker.old).made }
+    {
+        let Held { body, process } = held;
+        let shared = &self.table.shared;
+        let old = shared.exchange(&mut worker.seat, process, Slot::Body(body));
+        let Slot::Vacant = old else { unreachable!() };
+        shared.swap::<Retire>(&mut worker.seat, process, DONE);
+        self.lower(worker);
+    }
+
+    /// The process is parked, unless it was poked since it was claimed. Then it is ready again.
+    pub fn park(&self, worker: &mut Worker<K>, held: Held<K>)
+        requires held { IsHeldBy K.next self.now.table.shared.table_id self.now.processes worker.old held }
+        requires blocked { SeenBlocks self.now.table.shared.key.value held.body (view worker.old).seen }
+        ensures idle { IsIdle self.now.table.shared.table_id worker.new }
+        ensures made { (view worker.new).made ≡ (view worker.old).made }
+    {
+        let Held { body, process } = held;
+        let shared = &self.table.shared;
+        let old = shared.exchange(&mut worker.seat, process, Slot::Body(body));
+        let Slot::Vacant = old else { unreachable!() };
+        let found = shared.compare_exchange::<Park>(&mut worker.seat, process, HELD, PARKED);
+        if found == HELD {
+            self.lower(worker);
+        } else {
+            shared.swap::<Leave>(&mut worker.seat, process, READY);
+        }
+    }
+
+    /// Takes the spare token from the live word.
+    fn lower(&self, worker: &mut Worker<K>)
+        requires { IsDone self.now.table.shared.table_id worker.old 1 }
+        ensures idle { IsIdle self.now.table.shared.table_id worker.new }
+        ensures made { (view worker.new).made ≡ (view worker.old).made }
+    {
+        self.table
+            .shared
+            .fetch_sub::<Lower>(&mut worker.seat, self.processes + self.connections + 1, 1);
+    }
+
+    /// How many processes are ready or held, with the tokens on their way. At 0 no process but a starved one will ever have a turn again.
+    pub fn live(&self, worker: &mut Worker<K>) -> u64
+        requires { IsIdle self.now.table.shared.table_id worker.old }
+        ensures idle { IsIdle self.now.table.shared.table_id worker.new }
+        ensures made { (view worker.new).made ≡ (view worker.old).made }
+        ensures seen { result ≡ 0 → (view worker.new).read_zero ≡ true }
+    {
+        self.table
+            .shared
+            .load::<Live>(&mut worker.seat, self.processes + self.connections + 1)
+    }
+}
+
+impl<K: Component> Held<K> {
+    pub fn process(&self) -> usize
+        ensures { result ≡ self.now.process }
+    {
+        self.process
+    }
+
+    /// The body's think: does the pending work, if any, and takes the room of the next turn. It stays its worker's.
+    pub fn think<G: Gate>(&mut self, gate: &G) -> Thought
+        requires { self.old.body.leaving ≡ None }
+        ensures thinks { Thinks K.next self.old.body result self.new.body }
+        ensures keeps { KeepsTurns self.old.body self.new.body }
+        ensures process { self.new.process ≡ self.old.process }
+        ensures wired { (m : ℕ) → IsWiredBody m self.old.body → IsWiredBody m self.new.body }
+        ensures held { (z : TableId) (n : ℕ) (w : Worker _) → IsHeldBy K.next z n w self.old → IsHeldBy K.next z n w self.new }
+    {
+        self.body.think(gate)
+    }
+}

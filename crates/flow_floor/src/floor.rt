@@ -1,0 +1,71 @@
+//! The floor, its workers, and what they hold.
+ghost use Rattle.std.specs.Prelude.{◌≡◌, ℕ, ◌+◌, ◌<◌, length, Some, slice_get};
+ghost use Rattle.flow_machine.specs.Values.{BodyValue};
+ghost use Rattle.flow_model.specs.States.{From, output_at};
+ghost use Rattle.std.specs.List.{list_any};
+ghost use Rattle.std.specs.Option.{option_map};
+ghost use Rattle.std.specs.Prelude.{◌==◌, unwrap_or, [], true, All};
+
+use crate::board::{Lawful, Slot, View};
+use atomic_table::{Seat, Table};
+use flow_component::Component;
+use flow_machine::{Body, Channel, Net};
+use std::alloc::Global;
+use std::snapshot::Snapshot;
+
+/// A network on which workers run.
+pub struct Floor<K: Component> {
+    pub(crate) table: Table<Slot<K>, View<K>, Snapshot<Net<K>>, Lawful, Global>,
+    pub(crate) processes: usize,
+    pub(crate) connections: usize,
+    pub ghost slots: { table.shared.table_id.slots ≡ processes + connections },
+    pub ghost words: { table.shared.table_id.words ≡ processes + connections + 2 },
+    pub ghost bodies: { length table.shared.key.value.bodies ≡ processes },
+    pub ghost channels: { length table.shared.key.value.channels ≡ connections },
+    pub ghost small: { processes + connections < 4294967296 },
+    /// By connection, the processes that receive there, and those that send there.
+    pub(crate) receivers: Vec<Vec<u32>>,
+    pub(crate) senders: Vec<Vec<u32>>,
+    pub ghost rows: { (length receivers.items ≡ connections) × (length senders.items ≡ connections) },
+    pub ghost receives: { (p : ℕ) (b : BodyValue _) (i c : ℕ) → slice_get table.shared.key.value.bodies p ≡ Some b → slice_get b.process.inputs i ≡ Some (From c) → c < connections → list_any (λ q. q == p) (unwrap_or (option_map (λ w. w.items) (slice_get receivers.items c)) []) ≡ true },
+    pub ghost sends: { (p : ℕ) (b : BodyValue _) (o c : ℕ) → slice_get table.shared.key.value.bodies p ≡ Some b → output_at b.process o ≡ Some c → c < connections → list_any (λ q. q == p) (unwrap_or (option_map (λ w. w.items) (slice_get senders.items c)) []) ≡ true },
+    pub ghost named: { (c : ℕ) → All (λ q. q < processes) (unwrap_or (option_map (λ w. w.items) (slice_get receivers.items c)) []) × All (λ q. q < processes) (unwrap_or (option_map (λ w. w.items) (slice_get senders.items c)) []) },
+}
+
+/// A worker of a floor.
+#[derive(Drop)]
+pub struct Worker<K: Component> {
+    pub(crate) seat: Seat<Slot<K>, View<K>>,
+}
+
+/// A body that a worker claimed. It must be spent.
+pub struct Held<K: Component> {
+    pub(crate) body: Body<K>,
+    pub(crate) process: usize,
+}
+
+pub enum Claim<K: Component> {
+    Held(Held<K>),
+    /// The word that the exchange read.
+    NotReady(u64),
+}
+
+pub(crate) enum Grabbed {
+    Busy(u64),
+    Got(Channel),
+}
+
+/// What a call for a turn came to: the stamp, the word that was found held, what blocks it, or that it is over.
+pub enum Turned {
+    Made(u64),
+    Busy(u64),
+    Blocked(u64),
+    Over,
+}
+
+/// What an idle process saw at its inputs.
+pub(crate) enum Saw {
+    Packet,
+    Sender,
+    Over,
+}

@@ -1,0 +1,23 @@
+//! The shared object on which workers run a network.
+#![tactic(auto)]
+
+mod alone;
+mod board;
+mod claims;
+mod crew;
+mod floor;
+mod idle;
+mod open;
+mod plays;
+mod receive;
+mod send;
+mod shut;
+mod steps;
+mod turn;
+mod turns;
+mod wake;
+mod wiring;
+
+pub use board::{Lawful, Slot, View};
+pub use floor::{Claim, Floor, Held, Turned, Worker};
+pub use open::{OpenStop, Opened, Rooms};

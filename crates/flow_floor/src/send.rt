@@ -1,0 +1,109 @@
+//! Whole turns at an output.
+ghost use Rattle.std.specs.Prelude.{◌≡◌, ℕ, ◌+◌, ◌<◌, ◌≤◌, All, length, Some, slice_get};
+ghost use Rattle.flow_component.specs.declared.Wish.TheVariants.{Level};
+ghost use Rattle.flow_model.specs.declared.Stage.TheVariants.{Wishing, Closing};
+ghost use Rattle.flow_model.specs.States.{outlets, output_at};
+ghost use Rattle.flow_machine.specs.Values.{BodyValue};
+ghost use Rattle.flow_machine.specs.Thoughts.{HasRoom};
+ghost use Rattle.flow_machine.specs.Nets.{SendsAt};
+ghost use Rattle.flow_machine.specs.Outlets.{connection_at};
+ghost use Rattle.flow_floor.specs.Workers.{view, IsHeldBy, IsMade, IsUnmade, SeenBlocks, MatchTurned};
+ghost use Rattle.flow_floor.specs.Waking.{InList};
+ghost use Rattle.flow_floor.specs.Law.{IsInput};
+
+use crate::floor::{Floor, Grabbed, Held, Turned, Worker};
+use flow_component::{Component, Port};
+use std::marker::Brand;
+
+impl<K: Component> Floor<K> {
+    /// Sends the packet of the wish, where there is room. The processes that receive there are woken.
+    pub(crate) fn send_turn(
+        &self,
+        worker: &mut Worker<K>,
+        held: &mut Held<K>,
+        connection: usize,
+        port: Port,
+        receivers: &[u32],
+    ) -> Turned
+        requires held { IsHeldBy K.next self.now.table.shared.table_id self.now.processes worker.old held.old }
+        requires range { connection < self.now.connections }
+        requires stage { SendsAt held.old.body.process.stage port }
+        requires output { output_at held.old.body.process port.0 ≡ Some connection }
+        requires room { HasRoom held.old.body }
+        requires receivers { (q : ℕ) (b : BodyValue _) → slice_get self.now.table.shared.key.value.bodies q ≡ Some b → IsInput b connection → InList q receivers.now }
+        requires below { All (λ q. q < self.now.processes) receivers.now }
+        ensures held { IsHeldBy K.next self.now.table.shared.table_id self.now.processes worker.new held.new }
+        ensures turned { MatchTurned result (IsMade held.old worker.old held.new worker.new) (λ w. IsUnmade held.old worker.old held.new worker.new) (λ w. IsUnmade held.old worker.old held.new worker.new × SeenBlocks self.now.table.shared.key.value held.new.body (view worker.new).seen) }
+    {
+        match self.grab::<Brand>(worker, held, connection) {
+            Grabbed::Busy(word) => Turned::Busy(word),
+            Grabbed::Got(mut channel) => {
+                let level = channel.level();
+                if level >= channel.capacity() as usize {
+                    self.give_back(worker, held, channel, connection, &[]);
+                    return Turned::Blocked(level as u64);
+                }
+                let stamp = self.send_as::<Brand>(worker, held, &mut channel, connection, port);
+                self.give_back(worker, held, channel, connection, receivers);
+                self.wake_all(worker, held, receivers);
+                Turned::Made(stamp)
+            }
+        }
+    }
+
+    /// Is told the number of packets in the connection.
+    pub(crate) fn level_turn(
+        &self,
+        worker: &mut Worker<K>,
+        held: &mut Held<K>,
+        connection: usize,
+        port: Port,
+    ) -> Turned
+        requires held { IsHeldBy K.next self.now.table.shared.table_id self.now.processes worker.old held.old }
+        requires range { connection < self.now.connections }
+        requires stage { held.old.body.process.stage ≡ Wishing (Level port) }
+        requires output { output_at held.old.body.process port.0 ≡ Some connection }
+        requires room { HasRoom held.old.body }
+        ensures held { IsHeldBy K.next self.now.table.shared.table_id self.now.processes worker.new held.new }
+        ensures turned { MatchTurned result (IsMade held.old worker.old held.new worker.new) (λ w. IsUnmade held.old worker.old held.new worker.new) (λ w. IsUnmade held.old worker.old held.new worker.new × SeenBlocks self.now.table.shared.key.value held.new.body (view worker.new).seen) }
+    {
+        match self.grab::<Brand>(worker, held, connection) {
+            Grabbed::Busy(word) => Turned::Busy(word),
+            Grabbed::Got(channel) => {
+                let stamp = self.learn_as::<Brand>(worker, held, &channel, connection, port);
+                self.give_back(worker, held, channel, connection, &[]);
+                Turned::Made(stamp)
+            }
+        }
+    }
+
+    /// Closes one more of its connected outputs. The processes that receive there are woken.
+    pub(crate) fn close_turn(
+        &self,
+        worker: &mut Worker<K>,
+        held: &mut Held<K>,
+        connection: usize,
+        place: u32,
+        receivers: &[u32],
+    ) -> Turned
+        requires held { IsHeldBy K.next self.now.table.shared.table_id self.now.processes worker.old held.old }
+        requires range { connection < self.now.connections }
+        requires stage { held.old.body.process.stage ≡ Closing place }
+        requires outlet { connection_at (outlets held.old.body.process) place ≡ Some connection }
+        requires room { HasRoom held.old.body }
+        requires receivers { (q : ℕ) (b : BodyValue _) → slice_get self.now.table.shared.key.value.bodies q ≡ Some b → IsInput b connection → InList q receivers.now }
+        requires below { All (λ q. q < self.now.processes) receivers.now }
+        ensures held { IsHeldBy K.next self.now.table.shared.table_id self.now.processes worker.new held.new }
+        ensures turned { MatchTurned result (IsMade held.old worker.old held.new worker.new) (λ w. IsUnmade held.old worker.old held.new worker.new) (λ w. IsUnmade held.old worker.old held.new worker.new × SeenBlocks self.now.table.shared.key.value held.new.body (view worker.new).seen) }
+    {
+        match self.grab::<Brand>(worker, held, connection) {
+            Grabbed::Busy(word) => Turned::Busy(word),
+            Grabbed::Got(mut channel) => {
+                let stamp = self.close_as::<Brand>(worker, held, &mut channel, connection, place);
+                self.give_back(worker, held, channel, connection, receivers);
+                self.wake_all(worker, held, receivers);
+                Turned::Made(stamp)
+            }
+        }
+    }
+}

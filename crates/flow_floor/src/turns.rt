@@ -1,0 +1,149 @@
+//! Turns of a held body.
+ghost use Rattle.std.specs.Prelude.{◌≡◌, ℕ, ◌+◌, ◌-◌, ◌^◌, ◌<◌, ◌≤◌, ◌⊎◌, length, IsSome, Some, None, slice_get};
+ghost use Rattle.flow_component.specs.declared.Wish.TheVariants.{Receive, Level};
+ghost use Rattle.flow_model.specs.declared.Stage.TheVariants.{Wishing, Closing};
+ghost use Rattle.flow_model.specs.States.{From, outlets, output_at};
+ghost use Rattle.flow_model.specs.Events.{Learns};
+ghost use Rattle.flow_model.specs.Stands.{shown_after};
+ghost use Rattle.flow_machine.specs.Values.{BodyValue};
+ghost use Rattle.flow_machine.specs.Thoughts.{HasRoom};
+ghost use Rattle.flow_machine.specs.Nets.{BodyTurn, GetsSound, SendsAt, packet_wished};
+ghost use Rattle.flow_machine.specs.Outlets.{connection_at};
+ghost use Rattle.flow_floor.specs.Workers.{view, IsGrabbing};
+ghost use Rattle.flow_floor.specs.Plays.{stamping, Below};
+ghost use Rattle.flow_floor.specs.Turning.{received_event, sent_event, closed_event};
+
+use crate::floor::{Floor, Held, Worker};
+use crate::plays::Deed;
+use flow_component::{Component, Port};
+use flow_machine::{Channel, Effect};
+
+impl<K: Component> Floor<K> {
+    /// Receives the oldest packet of the connection that the worker holds, or hears its end.
+    pub(crate) fn receive_as<D: Deed<K>>(
+        &self,
+        worker: &mut Worker<K>,
+        held: &mut Held<K>,
+        channel: &mut Channel,
+        connection: usize,
+        port: Port,
+    ) -> u64
+        requires event { D.event ≡ received_event port.0 connection channel.old.packets }
+        requires after { (b : BodyValue _) → D.after b ≡ held.old.body }
+        requires held { IsGrabbing K.next self.now.table.shared.table_id self.now.processes worker.old held.old connection channel.old }
+        requires stage { held.old.body.process.stage ≡ Wishing (Receive port) }
+        requires input { slice_get held.old.body.process.inputs port.0 ≡ Some (From connection) }
+        requires room { HasRoom held.old.body }
+        requires may { (0 < length channel.old.packets) ⊎ (channel.old.open_senders ≡ 0) }
+        requires sound { GetsSound held.old.body.process channel.old.packets }
+        ensures held { IsGrabbing K.next self.now.table.shared.table_id self.now.processes worker.new held.new connection channel.new }
+        ensures process { held.new.process ≡ held.old.process }
+        ensures body { BodyTurn held.old.body (received_event port.0 connection channel.old.packets) result held.new.body }
+        ensures channel { channel.new ≡ shown_after (received_event port.0 connection channel.old.packets) channel.old }
+        ensures view { view worker.new ≡ stamping (view worker.old) (self.now.processes + self.now.connections) result D.event D.after }
+        ensures above { Below result (view worker.old).made }
+    {
+        let stamp = self.stamp::<D>(worker, held);
+        if channel.level() == 0 {
+            held.body.effect(Effect::End, stamp as u32);
+            return stamp;
+        }
+        let packet = channel.take();
+        held.body.effect(Effect::Got(packet), stamp as u32);
+        stamp
+    }
+
+    /// Sends the packet of the wish on the connection that the worker holds.
+    pub(crate) fn send_as<D: Deed<K>>(
+        &self,
+        worker: &mut Worker<K>,
+        held: &mut Held<K>,
+        channel: &mut Channel,
+        connection: usize,
+        port: Port,
+    ) -> u64
+        requires event { D.event ≡ sent_event port.0 connection (packet_wished held.old.body.process) }
+        requires after { (b : BodyValue _) → D.after b ≡ held.old.body }
+        requires held { IsGrabbing K.next self.now.table.shared.table_id self.now.processes worker.old held.old connection channel.old }
+        requires stage { SendsAt held.old.body.process.stage port }
+        requires output { output_at held.old.body.process port.0 ≡ Some connection }
+        requires room { HasRoom held.old.body }
+        requires space { length channel.old.packets < channel.old.capacity }
+        requires most { channel.old.capacity < 65536 }
+        requires counted { channel.old.puts < 2 ^ 64 - 1 }
+        requires wished { IsSome (packet_wished held.old.body.process) }
+        ensures held { IsGrabbing K.next self.now.table.shared.table_id self.now.processes worker.new held.new connection channel.new }
+        ensures process { held.new.process ≡ held.old.process }
+        ensures body { BodyTurn held.old.body (sent_event port.0 connection (packet_wished held.old.body.process)) result held.new.body }
+        ensures channel { channel.new ≡ shown_after (sent_event port.0 connection (packet_wished held.old.body.process)) channel.old }
+        ensures view { view worker.new ≡ stamping (view worker.old) (self.now.processes + self.now.connections) result D.event D.after }
+        ensures above { Below result (view worker.old).made }
+    {
+        let stamp = self.stamp::<D>(worker, held);
+        let packet = held.body.outgoing();
+        channel.put(packet);
+        held.body.effect(Effect::Sent, stamp as u32);
+        stamp
+    }
+
+    /// Is told the level of the connection that the worker holds.
+    pub(crate) fn learn_as<D: Deed<K>>(
+        &self,
+        worker: &mut Worker<K>,
+        held: &mut Held<K>,
+        channel: &Channel,
+        connection: usize,
+        port: Port,
+    ) -> u64
+        requires event { D.event ≡ Learns port.0 (length channel.now.packets) }
+        requires after { (b : BodyValue _) → D.after b ≡ held.old.body }
+        requires held { IsGrabbing K.next self.now.table.shared.table_id self.now.processes worker.old held.old connection channel.now }
+        requires stage { held.old.body.process.stage ≡ Wishing (Level port) }
+        requires output { output_at held.old.body.process port.0 ≡ Some connection }
+        requires room { HasRoom held.old.body }
+        requires within { length channel.now.packets ≤ channel.now.capacity }
+        ensures held { IsGrabbing K.next self.now.table.shared.table_id self.now.processes worker.new held.new connection channel.now }
+        ensures process { held.new.process ≡ held.old.process }
+        ensures body { BodyTurn held.old.body (Learns port.0 (length channel.now.packets)) result held.new.body }
+        ensures view { view worker.new ≡ stamping (view worker.old) (self.now.processes + self.now.connections) result D.event D.after }
+        ensures above { Below result (view worker.old).made }
+    {
+        let _ = connection;
+        let _ = port;
+        let stamp = self.stamp::<D>(worker, held);
+        held.body
+            .effect(Effect::Level(channel.level() as u32), stamp as u32);
+        stamp
+    }
+
+    /// Closes one more of its connected outputs, whose connection the worker holds.
+    pub(crate) fn close_as<D: Deed<K>>(
+        &self,
+        worker: &mut Worker<K>,
+        held: &mut Held<K>,
+        channel: &mut Channel,
+        connection: usize,
+        place: u32,
+    ) -> u64
+        requires event { D.event ≡ closed_event (slice_get (outlets held.old.body.process) place) }
+        requires after { (b : BodyValue _) → D.after b ≡ held.old.body }
+        requires held { IsGrabbing K.next self.now.table.shared.table_id self.now.processes worker.old held.old connection channel.old }
+        requires stage { held.old.body.process.stage ≡ Closing place }
+        requires outlet { connection_at (outlets held.old.body.process) place ≡ Some connection }
+        requires room { HasRoom held.old.body }
+        requires open { 0 < channel.old.open_senders }
+        ensures held { IsGrabbing K.next self.now.table.shared.table_id self.now.processes worker.new held.new connection channel.new }
+        ensures process { held.new.process ≡ held.old.process }
+        ensures body { BodyTurn held.old.body (closed_event (slice_get (outlets held.old.body.process) place)) result held.new.body }
+        ensures channel { channel.new ≡ shown_after (closed_event (slice_get (outlets held.old.body.process) place)) channel.old }
+        ensures view { view worker.new ≡ stamping (view worker.old) (self.now.processes + self.now.connections) result D.event D.after }
+        ensures above { Below result (view worker.old).made }
+    {
+        let _ = connection;
+        let _ = place;
+        let stamp = self.stamp::<D>(worker, held);
+        channel.close_one();
+        held.body.effect(Effect::Closed, stamp as u32);
+        stamp
+    }
+}

@@ -1,0 +1,28 @@
+-- How the floor's words read, and where its words and slots lie.
+use Rattle.std.specs.Prelude.{ℕ, ◌+◌, ◌*◌, ◌/◌, ◌%◌, Bool, if◌then◌else◌}
+
+-- A connection word: the level in bits 0 to 15, the open senders in bits 16 to 31, and whether a worker holds it in bit 63.
+abbrev pub held_bit : ℕ
+held_bit = 9223372036854775808
+
+abbrev pub free_word : ℕ → ℕ → ℕ
+free_word level senders = level + senders * 65536
+
+abbrev pub packed : ℕ → ℕ → Bool → ℕ
+packed level senders held = if held then free_word level senders + held_bit else free_word level senders
+
+abbrev pub level_in : ℕ → ℕ
+level_in word = word % 65536
+
+abbrev pub senders_in : ℕ → ℕ
+senders_in word = word / 65536 % 65536
+
+-- Words: those of the processes, those of the connections, the clock, and the live word. Slots lie in the same order.
+abbrev pub connection_at : ℕ → ℕ → ℕ
+connection_at processes connection = processes + connection
+
+abbrev pub clock_at : ℕ → ℕ → ℕ
+clock_at processes connections = processes + connections
+
+abbrev pub live_at : ℕ → ℕ → ℕ
+live_at processes connections = processes + connections + 1
