@@ -11,5 +11,6 @@ pub mod Filling
 pub mod Words
 pub mod WordsLaws
 pub mod Count
+pub mod CountLaws
 pub mod Brackets
 pub mod BracketsLaws

@@ -2,6 +2,7 @@
 #![tactic(auto)]
 
 mod brackets;
+mod count;
 mod fill;
 mod meanings;
 mod read_lines;
@@ -11,6 +12,7 @@ mod words;
 mod write_lines;
 
 pub use brackets::Brackets;
+pub use count::Count;
 pub use fill::{Fill, FillPlace};
 pub use meanings::{
     brackets_keeps_its_meaning, count_keeps_its_meaning, fill_keeps_its_meaning,
