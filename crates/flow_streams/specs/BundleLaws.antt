@@ -65,7 +65,8 @@ with_chains-id t cs = refl
 abbrev Lawful : Held → Outcome Bundle → Type 0
 Lawful held outcome = Obeys one_to_one uses_first held outcome × StaysReady BundleReady outcome
 
-came-two : (held new : Held) (t : Tree) (bundle : ℕ) → HoldsOnly held bundle → new.packets ≡ held.packets ++ t ∷ [] → Sound new → HoldsTwo new bundle (id_of t)
+-- a packet that comes behind one that is alone
+pub came-two : (held new : Held) (t : Tree) (bundle : ℕ) → HoldsOnly held bundle → new.packets ≡ held.packets ++ t ∷ [] → Sound new → HoldsTwo new bundle (id_of t)
 came-two held new t bundle h e s =
     let holds : new.packets ≡ h.packet ∷ t ∷ [] = e ∙ ap (λ (ts : List Tree). ts ++ t ∷ []) h.holds in
     let root : IsAtRoot new.packets bundle = subst (λ (k : ℕ). IsAtRoot new.packets k) h.named (subst (λ (ts : List Tree). IsAtRoot ts (id_of h.packet)) (sym holds) (first-root h.packet t)) in

@@ -18,3 +18,7 @@ pub mod BundleLaws
 pub mod Unbundle
 pub mod UnbundleLaws
 pub mod Meanings
+pub mod LoadBalance
+pub mod LoadBalanceLaws
+pub mod Select
+pub mod SelectLaws

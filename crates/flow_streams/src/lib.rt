@@ -7,8 +7,10 @@ mod concat;
 mod copy;
 mod discard;
 mod hoard;
+mod load_balance;
 mod meanings;
 mod passthru;
+mod select;
 #[cfg(test)]
 mod tests;
 mod unbundle;
@@ -19,9 +21,11 @@ pub use concat::Concat;
 pub use copy::{Copy, CopyPlace};
 pub use discard::Discard;
 pub use hoard::Hoard;
+pub use load_balance::{LoadBalance, LoadPlace};
 pub use meanings::{
     collate_keeps_its_meaning, concat_keeps_its_meaning, discard_keeps_its_meaning,
     hoard_keeps_its_meaning, passthru_keeps_its_meaning,
 };
 pub use passthru::Passthru;
+pub use select::{Select, SelectPlace};
 pub use unbundle::Unbundle;
