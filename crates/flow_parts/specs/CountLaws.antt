@@ -1,20 +1,19 @@
 -- Count keeps the laws of components.
-use Rattle.std.proofs.Common.{◌≡◌, ℕ, ◌+◌, ◌==◌, Bool, true, false, List, [], length, if◌then◌else◌, refl, sym, subst, ap, ◌∙◌, arith}
+use Rattle.std.proofs.Common.{◌≡◌, ℕ, ◌==◌, Bool, true, false, [], length, if◌then◌else◌, refl, sym, subst, ap, ◌∙◌, arith}
 use Rattle.std.specs.Fmt.{decimal}
-use Rattle.flow_packet.specs.declared.packet.Kind.{Kind}
 use Rattle.flow_packet.specs.declared.packet.Kind.TheVariants.{Normal}
 use Rattle.flow_packet.specs.Hands.{kind_at}
-use Rattle.flow_packet.specs.Held.{Held, next_id, without_packet, with_made}
+use Rattle.flow_packet.specs.Held.{Held, without_packet}
 use Rattle.flow_packet.specs.Edits.{ComesBy}
 use Rattle.flow_component.specs.declared.Answer.{Answer}
 use Rattle.flow_component.specs.declared.Answer.TheVariants as answers
 use Rattle.flow_component.specs.Laws.{Outcome, Wishes, Obeys, StaysReady, IsSteady, part_after}
 use Rattle.flow_component.specs.Alone.{HoldsOnly}
-use Rattle.flow_component.specs.Ports.{receive_first, send_first}
+use Rattle.flow_component.specs.Ports.{receive_first}
 use Rattle.flow_component.proofs.Roots.{IsAtRoot-made, made_gone}
 use Rattle.flow_component.proofs.Comings.{comes_same, comes_dropped, comes_made}
 use Rattle.flow_component.proofs.Lone.{HoldsOnly-without, HoldsOnly-root, HoldsOnly-came, HoldsOnly-made_alone}
-use Rattle.flow_parts.specs.Count.{CountState, one_more, passes_on, counts, goes_on, count_next, CountNext, CountReady, count_shape, count_uses}
+use Rattle.flow_parts.specs.Count.{CountState, one_more, passes_on, goes_on, count_next, CountNext, CountReady, count_shape, count_uses}
 
 -- The outputs that are used where the first one is connected, or isn't.
 abbrev used : Bool → ℕ → Bool

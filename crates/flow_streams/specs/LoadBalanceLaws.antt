@@ -1,13 +1,11 @@
 -- LoadBalance keeps the laws of components.
-use Rattle.std.proofs.Common.{◌≡◌, ℕ, zero, suc, ◌+◌, ◌<◌, ◌≤◌, Bool, true, false, [], length, refl, sym, ap, ◌∙◌, subst, arith, nat_lt, if◌then◌else◌}
+use Rattle.std.proofs.Common.{◌≡◌, ℕ, zero, suc, ◌+◌, ◌<◌, Bool, true, false, [], refl, sym, ap, ◌∙◌, subst, arith, nat_lt, if◌then◌else◌}
 use Rattle.std.proofs.lemmas.Bool.Decides.{nat_tests}
-use Rattle.flow_packet.specs.declared.packet.Kind.{Kind}
 use Rattle.flow_packet.specs.declared.packet.Kind.TheVariants.{Normal}
 use Rattle.flow_packet.specs.Hands.{kind_at}
-use Rattle.flow_packet.specs.Held.{Held, next_id}
+use Rattle.flow_packet.specs.Held.{Held}
 use Rattle.flow_component.specs.declared.Answer.{Answer}
 use Rattle.flow_component.specs.declared.Answer.TheVariants as answers
-use Rattle.flow_component.specs.declared.Wish.TheVariants.{Deactivate}
 use Rattle.flow_component.specs.Laws.{Outcome, Wishes, Obeys, StaysReady, IsSteady, part_after}
 use Rattle.flow_component.specs.Ports.{receive_first}
 use Rattle.flow_component.specs.Alone.{HoldsOnly}
@@ -15,7 +13,7 @@ use Rattle.flow_component.proofs.Comings.{comes_same}
 use Rattle.flow_component.proofs.Lone.{HoldsOnly-without, HoldsOnly-root, HoldsOnly-came, HoldsOnly-made_alone}
 use Rattle.flow_streams.specs.declared.load_balance.LoadPlace.{LoadPlace}
 use Rattle.flow_streams.specs.declared.load_balance.LoadPlace.TheVariants.{Waiting, Asking}
-use Rattle.flow_streams.specs.LoadBalance.{LoadState, send_at, level_at, depth_after, no_level, comes_at, comes, asks_on, weighs, learns, load_next, LoadNext, load_shape, load_uses, IsAsking, LoadReady}
+use Rattle.flow_streams.specs.LoadBalance.{LoadState, send_at, level_at, depth_after, no_level, comes_at, asks_on, learns, load_next, LoadNext, load_shape, load_uses, IsAsking, LoadReady}
 
 -- The work from these hands leads to a lawful outcome.
 abbrev Lawful : ℕ → Held → Outcome LoadState → Type 0

@@ -1,5 +1,5 @@
 -- The component that accepts packets whose text begins with a key: its state, its rule, and what it is ready for.
-use Rattle.std.specs.Prelude.{◌≡◌, ℕ, ◌==◌, nat_eq, Bool, true, false, List, [], if◌then◌else◌}
+use Rattle.std.specs.Prelude.{◌≡◌, ℕ, ◌==◌, nat_eq, Bool, [], if◌then◌else◌}
 use Rattle.std.specs.List.{starts_with}
 use Rattle.flow_packet.specs.declared.packet.Kind.{Kind}
 use Rattle.flow_packet.specs.declared.packet.Kind.TheVariants.{Normal, Open, Close}
@@ -10,7 +10,6 @@ use Rattle.flow_component.specs.declared.Answer.TheVariants as answers
 use Rattle.flow_component.specs.declared.Fail.TheVariants.{BracketIn}
 use Rattle.flow_component.specs.declared.Port.{Port}
 use Rattle.flow_component.specs.declared.Shape.{Shape}
-use Rattle.flow_component.specs.declared.Wish.{Wish}
 use Rattle.flow_component.specs.declared.Wish.TheVariants.{Receive, Send, Deactivate}
 use Rattle.flow_component.specs.Laws.{Outcome, Wishes, Fails}
 use Rattle.flow_component.specs.Alone.{HoldsOnly}

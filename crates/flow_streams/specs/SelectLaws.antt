@@ -1,25 +1,24 @@
 -- Select keeps the laws of components.
-use Rattle.std.proofs.Common.{◌≡◌, ℕ, ◌<◌, ◌==◌, nat_eq, Bool, true, false, List, [], ◌∷◌, refl, sym, ap, ◌∙◌, subst, arith, Some, if◌then◌else◌}
+use Rattle.std.proofs.Common.{◌≡◌, ℕ, ◌<◌, ◌==◌, nat_eq, Bool, true, false, List, [], ◌∷◌, refl, sym, ap, ◌∙◌, subst, arith, if◌then◌else◌}
 use Rattle.std.specs.List.{starts_with}
 use Rattle.flow_packet.specs.declared.packet.Kind.{Kind}
 use Rattle.flow_packet.specs.declared.packet.Kind.TheVariants.{Normal, Open, Close}
 use Rattle.flow_packet.specs.Tree.{Tree, id_of, packet_of}
-use Rattle.flow_packet.specs.Hands.{IsAtRoot, kind_at, text_at, packet_at, without}
+use Rattle.flow_packet.specs.Hands.{IsAtRoot, kind_at, text_at, without}
 use Rattle.flow_packet.specs.Edits.{ComesBy, Drops}
 use Rattle.flow_packet.specs.Held.{Held, Sound, next_id, with_packet, with_made, without_packet}
 use Rattle.flow_component.specs.declared.Answer.{Answer}
 use Rattle.flow_component.specs.declared.Answer.TheVariants as answers
 use Rattle.flow_component.specs.declared.Wish.TheVariants.{Receive, Send, Deactivate}
-use Rattle.flow_component.specs.Laws.{Outcome, Wishes, Fails, Obeys, StaysReady, IsSteady, part_after}
-use Rattle.flow_component.specs.Alone.{HoldsOnly}
-use Rattle.flow_component.proofs.Roots.{same_id, other_id}
+use Rattle.flow_component.specs.Laws.{Outcome, Wishes, Obeys, StaysReady, IsSteady, part_after}
+use Rattle.flow_component.proofs.Roots.{same_id}
 use Rattle.flow_component.proofs.Comings.{comes_same, comes_dropped}
 use Rattle.flow_component.proofs.Lone.{HoldsOnly-without, HoldsOnly-root, HoldsOnly-came, HoldsOnly-made_alone}
 use Rattle.flow_streams.specs.Bundle.{HoldsTwo}
-use Rattle.flow_streams.specs.BundleLaws.{first-root, came-two, one-root}
+use Rattle.flow_streams.specs.BundleLaws.{came-two, one-root}
 use Rattle.flow_streams.specs.declared.select.SelectPlace.{SelectPlace}
 use Rattle.flow_streams.specs.declared.select.SelectPlace.TheVariants.{Waiting, Keyed, Unkeyed, Passing}
-use Rattle.flow_streams.specs.Select.{SelectState, key_port, in_port, accepted_port, rejected_port, at_place, rejects_packet, selects, comes, port_of, comes_as, hears_end, select_next, SelectNext, select_shape, select_uses, IsBetween, HasCome, SelectReady}
+use Rattle.flow_streams.specs.Select.{SelectState, key_port, in_port, accepted_port, rejected_port, at_place, rejects_packet, comes, port_of, comes_as, hears_end, select_next, SelectNext, select_shape, select_uses, IsBetween, HasCome, SelectReady}
 
 -- The outputs that are used where the second one is connected, or isn't.
 abbrev used : Bool → ℕ → Bool

@@ -1,4 +1,4 @@
-use Rattle.std.proofs.Common.{ap, ◌∙◌, ◌^◌, ◌<◌, ◌≤◌, ◌≡◌, length, arith, lit<, Err}
+use Rattle.std.proofs.Common.{ap, ◌∙◌, length, arith, lit<, Err}
 use Rattle.std.proofs.lemmas.Fmt.{length-decimal-le}
 use Rattle.flow_parts.proofs.count.Count.tell.Goals as goal
 
