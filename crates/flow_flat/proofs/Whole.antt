@@ -55,7 +55,7 @@ module _ (kinds : List KindSpec) (text : NetText) (ss : List Statement) where
           let cut : take first.place (map meant_well ss) ≡ map meant_well (take first.place ss) = take-map meant_well first.place ss in
           let found = map_some meant_well (slice_get (take first.place ss) k) x (sym (slice_get-map meant_well (take first.place ss) k) ∙ ap (λ (l : List (Result Statement ExpandFault)). slice_get l k) (sym cut) ∙ is) in
           let taken : filter_map said (take k (take first.place (map meant_well ss))) ≡ take k (take first.place ss) =
-              ap (λ (l : List (Result Statement ExpandFault)). filter_map said (take k l)) cut ∙ said_taken (take first.place ss) k in
+          ap (λ (l : List (Result Statement ExpandFault)). filter_map said (take k l)) cut ∙ said_taken (take first.place ss) k in
           subst (λ (y : Result Statement ExpandFault). MeaningPasses kinds text (take k (take first.place (map meant_well ss))) y (Ok tt)) found.2
           (subst (λ (l : List Statement). StatementPasses kinds (flat_of text) l found.0 (Ok tt)) (sym taken) (first.before k found.0 found.1))
 

@@ -13,11 +13,7 @@ pub fn pack(level: u32, senders: u32, held: bool) -> u64
     ensures { result ≡ packed level senders held }
 {
     let word = level as u64 + senders as u64 * 65536;
-    if held {
-        word + HELD
-    } else {
-        word
-    }
+    if held { word + HELD } else { word }
 }
 
 /// How many packets are in the connection.
