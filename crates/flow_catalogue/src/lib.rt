@@ -10,5 +10,5 @@ mod tests;
 
 pub use plans::a_plan_over_the_table_is_standard;
 pub use process::{FileUse, file_of, make};
-pub use standard::Std;
+pub use standard::{Std, standard_components_come_to_one_outcome};
 pub use table::{StdKind, kinds};

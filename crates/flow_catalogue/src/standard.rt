@@ -2,6 +2,8 @@
 
 ghost use Rattle.std.specs.Prelude.{◌≡◌};
 ghost use Rattle.std.specs.Option.{option_copied};
+ghost use Rattle.flow_component.specs.Laws.{AtMostOneOutcome};
+ghost use Rattle.flow_catalogue.specs.Std.{StdNext};
 
 use flow_component::{Answer, Component, Shape, Stop, Wish};
 use flow_packet::Hands;
@@ -36,7 +38,8 @@ impl Std {
 }
 
 impl Component for Std {
-    ghost use Rattle.flow_catalogue.specs.Std.{std_shape, std_uses, StdReady, StdNext};
+    ghost use Rattle.std.specs.Prelude.{refl};
+    ghost use Rattle.flow_catalogue.specs.Std.{std_shape, std_uses, StdReady, StdNext, std_next};
     ghost use Rattle.flow_catalogue.specs.StdLaws.{std_obeys, std_stays_ready, std_steady};
 
     ghost shape_of = { std_shape };
@@ -52,6 +55,8 @@ impl Component for Std {
     ghost stays_ready = { std_stays_ready };
 
     ghost steady = { std_steady };
+
+    ghost has_outcome = { λ part held answer _. (std_next part held answer, refl) };
 
     fn shape(&self) -> Shape {
         match self {
@@ -73,3 +78,8 @@ impl Component for Std {
         }
     }
 }
+
+/// Told the same in the same state with the same hands, a standard component comes to at most one outcome.
+pub fn standard_components_come_to_one_outcome()
+    ensures { AtMostOneOutcome StdNext }
+{}

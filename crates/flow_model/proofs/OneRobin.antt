@@ -1,19 +1,19 @@
--- From a state there is at most one round robin, where components come to one result.
+-- From a state there is at most one round robin, and a schedule leads to at most one state, where components come to one outcome.
 use Rattle.std.proofs.Common.{◌≡◌, ℕ, List, [], ◌∷◌, ◌++◌, length, Option, Some, None, Bool, true, false, cond, refl, ap, sym, subst, ◌∙◌, zero, suc, inl, inr, slice_get, slice_set, nat_le, ◌&&◌}
 use Rattle.std.specs.Prelude.{option_and_then}
 use Rattle.flow_packet.specs.Held.{Held}
 use Rattle.flow_component.specs.declared.Answer.{Answer}
 use Rattle.flow_component.specs.declared.Wish.TheVariants as wishes
-use Rattle.flow_component.specs.Laws.{Outcome, held_after}
+use Rattle.flow_component.specs.Laws.{Outcome, held_after, AtMostOneOutcome}
 use Rattle.flow_model.specs.declared.Stage.{Stage}
 use Rattle.flow_model.specs.declared.Stage.TheVariants as stages
 use Rattle.flow_model.specs.States.{Process, Kept, State, output_at}
 use Rattle.flow_model.specs.Events.{Event, Learns, Look, looks, level_at, told_level, stage_event, event_of, seen_by}
 use Rattle.flow_model.specs.Turns.{Turn, process_after, past_after}
 use Rattle.flow_model.specs.Works.{Work, worked, past_worked}
-use Rattle.flow_model.specs.Schedules.{IsThoughtStage, Settles, Journal, no_turns, then_turns}
+use Rattle.flow_model.specs.Schedules.{IsThoughtStage, Settles, LeadsBy, Leads, Journal, no_turns, then_turns}
 use Rattle.flow_model.specs.Verdicts.{HasNoTurn, exact_level_for}
-use Rattle.flow_model.specs.Robin.{IsExact, ExactTurn, TurnsOf, Burst, PassBelow, Pass, Passes, joined, RoundRobin, OneResult}
+use Rattle.flow_model.specs.Robin.{IsExact, ExactTurn, TurnsOf, Burst, PassBelow, Pass, Passes, joined, RoundRobin}
 
 -- a told level is the number that was given
 told-learns : (port n : ℕ) (found : Option Look) (e : Event) → told_level port n found ≡ Some e → e ≡ Learns port n
@@ -66,7 +66,28 @@ same-turn {K} s p e a b one two =
     (one.kept.channels ∙ sym two.kept.channels)
     (one.past ∙ ap (λ (x : Process K). past_after s.past p x e) before ∙ sym two.past)
 
-module _ {K : Type 0} (next : K → Held → Answer → Outcome K → Type 0) (one_result : OneResult next) where
+-- two turns of a process that saw the same are the same turn
+seen-event : {K : Type 0} (channels : List Look) (x : Process K) (n m : ℕ) (e f : Event) (rest rest' : List ℕ) (stage : Stage) → stage_event channels x n stage ≡ Some e → stage_event channels x m stage ≡ Some f → seen_by e ++ rest ≡ seen_by f ++ rest' → e ≡ f
+seen-event channels x n m e f rest rest' stages.Idle is is' saw = same-some e f (sym is ∙ is')
+seen-event channels x n m e f rest rest' (stages.Told answer) is is' saw = same-some e f (sym is ∙ is')
+seen-event channels x n m e f rest rest' (stages.Wishing (wishes.Receive port)) is is' saw = same-some e f (sym is ∙ is')
+seen-event channels x n m e f rest rest' (stages.Wishing (wishes.Send port id)) is is' saw = same-some e f (sym is ∙ is')
+seen-event channels x n m e f rest rest' (stages.Wishing wishes.Deactivate) is is' saw = same-some e f (sym is ∙ is')
+seen-event channels x n m e f rest rest' (stages.Closing i) is is' saw = same-some e f (sym is ∙ is')
+seen-event channels x n m e f rest rest' stages.Ended is is' saw = same-some e f (sym is ∙ is')
+seen-event channels x n m e f rest rest' (stages.Failed cause) is is' saw = same-some e f (sym is ∙ is')
+seen-event channels x n m e f rest rest' (stages.Wishing (wishes.Level port)) is is' saw =
+    let one : e ≡ Learns port.0 n = learns-at channels x port.0 n (output_at x port.0) e is in
+    let two : f ≡ Learns port.0 m = learns-at channels x port.0 m (output_at x port.0) f is' in
+    let numbers : n ∷ rest ≡ m ∷ rest' = ap (λ (g : Event). seen_by g ++ rest) (sym one) ∙ saw ∙ ap (λ (g : Event). seen_by g ++ rest') two in
+    let same : n ≡ m = cc in
+    one ∙ ap (Learns port.0) same ∙ sym two
+
+append-cancel : (xs ys zs : List ℕ) → xs ++ ys ≡ xs ++ zs → ys ≡ zs
+append-cancel [] ys zs is = is
+append-cancel (x ∷ xs) ys zs is = append-cancel xs ys zs (let same : xs ++ ys ≡ xs ++ zs = cc in same)
+
+module _ {K : Type 0} (next : K → Held → Answer → Outcome K → Type 0) (one_outcome : AtMostOneOutcome next) where
   -- a work leads to one state
   same-work : (s : State K) (p : ℕ) (a b : State K) → Work next s p a → Work next s p b → a ≡ b
   same-work s p a b one two =
@@ -75,7 +96,7 @@ module _ {K : Type 0} (next : K → Held → Answer → Outcome K → Type 0) (o
       let answer : one.kept.answer ≡ two.kept.answer = cc in
       let comes : next two.before.part two.before.held two.kept.answer one.outcome =
       subst (λ (w : Answer). next two.before.part two.before.held w one.outcome) answer (subst (λ (x : Process K). next x.part x.held one.kept.answer one.outcome) before one.kept.comes) in
-      let outcome : one.outcome ≡ two.outcome = one_result two.before.part two.before.held two.kept.answer one.outcome two.outcome comes two.kept.comes in
+      let outcome : one.outcome ≡ two.outcome = one_outcome two.before.part two.before.held two.kept.answer one.outcome two.outcome comes two.kept.comes in
       same-state a b
       (one.kept.processes ∙ (λ i. slice_set s.kept.processes p (worked (before i) (outcome i))) ∙ sym two.kept.processes)
       (one.kept.channels ∙ sym two.kept.channels)
@@ -153,3 +174,21 @@ module _ {K : Type 0} (next : K → Held → Answer → Outcome K → Type 0) (o
   one-robin s j a k b one two =
       let same = same-passes s one.passes a two.passes b one.go one.last two.go two.last in
       (one.parts ∙ ap joined same.0 ∙ sym two.parts, same.1)
+
+  same-leads_by : (s : State K) (turns seen : List ℕ) (a b : State K) → LeadsBy next s turns seen a → LeadsBy next s turns seen b → a ≡ b
+  same-leads_by s [] seen a b one two = one.1 ∙ sym two.1
+  same-leads_by s (p ∷ turns) seen a b one two =
+      let x = one.3.1.kept.before in
+      let before : two.3.1.kept.before ≡ x = same-some two.3.1.kept.before x (sym two.3.1.kept.there ∙ one.3.1.kept.there) in
+      let happens : event_of s.kept.channels x two.3.1.kept.level ≡ Some two.0 = subst (λ (y : Process K). event_of s.kept.channels y two.3.1.kept.level ≡ Some two.0) before two.3.1.kept.happens in
+      let event : one.0 ≡ two.0 = seen-event (looks s.kept.channels) x one.3.1.kept.level two.3.1.kept.level one.0 two.0 one.2 two.2 x.stage one.3.1.kept.happens happens (sym one.4 ∙ two.4) in
+      let rest : one.2 ≡ two.2 = append-cancel (seen_by two.0) one.2 two.2 (ap (λ (e : Event). seen_by e ++ one.2) (sym event) ∙ sym one.4 ∙ two.4) in
+      let turn : Turn s p two.0 one.3.0 = subst (λ (e : Event). Turn s p e one.3.0) event one.3.1 in
+      let mid : one.3.0 ≡ two.3.0 = same-turn s p two.0 one.3.0 two.3.0 turn two.3.1 in
+      let after : one.1 ≡ two.1 = same-settles two.3.0 p one.1 two.1 (subst (λ (m : State K). Settles next m p one.1) mid one.3.2) two.3.2 in
+      let more : LeadsBy next one.1 turns two.2 a = subst (λ (ns : List ℕ). LeadsBy next one.1 turns ns a) rest one.5 in
+      same-leads_by two.1 turns two.2 a b (subst (λ (m : State K). LeadsBy next m turns two.2 a) after more) two.5
+
+  -- a schedule leads to one state
+  pub same-leads : (s : State K) (journal : Journal) (a b : State K) → Leads next s journal a → Leads next s journal b → a ≡ b
+  same-leads s journal a b one two = same-leads_by s journal.turns journal.seen a b one two

@@ -1,5 +1,5 @@
 //! What holds of every schedule: each law is the contract of a function that does nothing.
-ghost use Rattle.flow_model.specs.Laws.{KeepsPackets, KeepsOrder, KeepsPrefixes, KeepsOpen, KeepsFew, HasOneVerdict, KeepsOpenSenders, LeavesClosed, KeepsTotals, RoundRobinLeads, IsOneRoundRobin, HasPrefixes, TurnsAreSchedule};
+ghost use Rattle.flow_model.specs.Laws.{KeepsPackets, KeepsOrder, KeepsPrefixes, KeepsOpen, KeepsFew, HasOneVerdict, KeepsOpenSenders, LeavesClosed, KeepsTotals, RoundRobinLeads, IsOneRoundRobin, HasRoundRobin, HasOneRoundRobin, LeadsToOneState, HasPrefixes, TurnsAreSchedule};
 ghost use Rattle.flow_model.specs.Wires.{KeepsWires};
 ghost use Rattle.flow_model.specs.Runs.{KeepsRuns, KeepsRunsOpen, KeepsGotAll};
 
@@ -41,9 +41,20 @@ pub fn round_robins_are_schedules<K: Component>()
     ensures { RoundRobinLeads K.next }
 {}
 
-/// From a state there is at most one round robin, where components come to one result.
+/// Where components come to one outcome, a schedule leads to at most one state.
+pub fn schedules_lead_to_one_state<K: Component>()
+    ensures { LeadsToOneState K.next }
+{}
+
+/// From a state there is at most one round robin, where components come to one outcome.
 pub fn there_is_one_round_robin<K: Component>()
     ensures { IsOneRoundRobin K.next }
+{}
+
+/// From every start of a plan whose components fit there is a round robin, and exactly one where components come to one outcome.
+pub fn every_start_has_a_round_robin<K: Component>()
+    ensures some { HasRoundRobin K.shape_of K.uses K.ready K.next }
+    ensures one { HasOneRoundRobin K.shape_of K.uses K.ready K.next }
 {}
 
 /// A schedule has a prefix of each length.

@@ -50,8 +50,9 @@ impl Brackets {
 }
 
 impl Component for Brackets {
+    ghost use Rattle.std.specs.Prelude.{refl};
     ghost use Rattle.flow_component.specs.Ports.{one_to_one, uses_first};
-    ghost use Rattle.flow_parts.specs.Brackets.{BracketsReady, BracketsNext};
+    ghost use Rattle.flow_parts.specs.Brackets.{BracketsReady, BracketsNext, brackets_next};
     ghost use Rattle.flow_parts.specs.BracketsLaws.{brackets_obeys, brackets_stays_ready, brackets_steady};
 
     ghost shape_of = { λ _. one_to_one };
@@ -67,6 +68,8 @@ impl Component for Brackets {
     ghost stays_ready = { brackets_stays_ready };
 
     ghost steady = { brackets_steady };
+
+    ghost has_outcome = { λ part held answer _. (brackets_next part held answer, refl) };
 
     fn shape(&self) -> Shape {
         Shape {

@@ -151,8 +151,9 @@ impl Fill {
 }
 
 impl Component for Fill {
+    ghost use Rattle.std.specs.Prelude.{refl};
     ghost use Rattle.flow_component.specs.Ports.{one_to_one, uses_first};
-    ghost use Rattle.flow_parts.specs.Fill.{FillReady, FillNext};
+    ghost use Rattle.flow_parts.specs.Fill.{FillReady, FillNext, fill_next};
     ghost use Rattle.flow_parts.specs.FillLaws.{fill_obeys, fill_stays_ready, fill_steady};
 
     ghost shape_of = { λ _. one_to_one };
@@ -168,6 +169,8 @@ impl Component for Fill {
     ghost stays_ready = { fill_stays_ready };
 
     ghost steady = { fill_steady };
+
+    ghost has_outcome = { λ part held answer _. (fill_next part held answer, refl) };
 
     fn shape(&self) -> Shape {
         Shape {

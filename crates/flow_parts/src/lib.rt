@@ -5,6 +5,7 @@ mod brackets;
 mod count;
 mod fill;
 mod meanings;
+mod outcomes;
 mod read_lines;
 #[cfg(test)]
 mod tests;
@@ -18,6 +19,7 @@ pub use meanings::{
     brackets_keeps_its_meaning, count_keeps_its_meaning, fill_keeps_its_meaning,
     read_lines_keeps_its_meaning, words_keeps_its_meaning, write_lines_keeps_its_meaning,
 };
+pub use outcomes::each_comes_to_one_outcome;
 pub use read_lines::ReadLines;
 pub use words::Words;
 pub use write_lines::WriteLines;

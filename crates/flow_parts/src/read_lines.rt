@@ -93,8 +93,9 @@ impl ReadLines {
 }
 
 impl Component for ReadLines {
+    ghost use Rattle.std.specs.Prelude.{refl};
     ghost use Rattle.flow_component.specs.Ports.{none_to_one, uses_first};
-    ghost use Rattle.flow_parts.specs.ReadLines.{ReadLinesReady, ReadLinesNext};
+    ghost use Rattle.flow_parts.specs.ReadLines.{ReadLinesReady, ReadLinesNext, reads};
     ghost use Rattle.flow_parts.specs.ReadLinesLaws.{read_lines_obeys, read_lines_stays_ready, read_lines_steady};
 
     ghost shape_of = { λ _. none_to_one };
@@ -110,6 +111,8 @@ impl Component for ReadLines {
     ghost stays_ready = { read_lines_stays_ready };
 
     ghost steady = { read_lines_steady };
+
+    ghost has_outcome = { λ part held _ _. (reads held part, refl) };
 
     fn shape(&self) -> Shape {
         Shape {

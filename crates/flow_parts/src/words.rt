@@ -114,8 +114,9 @@ impl Words {
 }
 
 impl Component for Words {
+    ghost use Rattle.std.specs.Prelude.{refl};
     ghost use Rattle.flow_component.specs.Ports.{one_to_one, uses_first};
-    ghost use Rattle.flow_parts.specs.Words.{WordsReady, WordsNext};
+    ghost use Rattle.flow_parts.specs.Words.{WordsReady, WordsNext, words_next};
     ghost use Rattle.flow_parts.specs.WordsLaws.{words_obeys, words_stays_ready, words_steady};
 
     ghost shape_of = { λ _. one_to_one };
@@ -131,6 +132,8 @@ impl Component for Words {
     ghost stays_ready = { words_stays_ready };
 
     ghost steady = { words_steady };
+
+    ghost has_outcome = { λ part held answer _. (words_next part held answer, refl) };
 
     fn shape(&self) -> Shape {
         Shape {

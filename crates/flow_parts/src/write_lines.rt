@@ -86,9 +86,10 @@ impl WriteLines {
 }
 
 impl Component for WriteLines {
+    ghost use Rattle.std.specs.Prelude.{refl};
     ghost use Rattle.flow_component.specs.Ports.{one_to_none, uses_none};
     ghost use Rattle.flow_component.specs.Outcomes.{IsAtHand};
-    ghost use Rattle.flow_parts.specs.WriteLines.{WriteLinesNext};
+    ghost use Rattle.flow_parts.specs.WriteLines.{WriteLinesNext, writes};
     ghost use Rattle.flow_parts.specs.WriteLinesLaws.{write_lines_obeys, write_lines_stays_ready, write_lines_steady};
 
     ghost shape_of = { λ _. one_to_none };
@@ -104,6 +105,8 @@ impl Component for WriteLines {
     ghost stays_ready = { write_lines_stays_ready };
 
     ghost steady = { write_lines_steady };
+
+    ghost has_outcome = { λ part held answer _. (writes part held answer, refl) };
 
     fn shape(&self) -> Shape {
         Shape {

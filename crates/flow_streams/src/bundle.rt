@@ -79,8 +79,9 @@ impl Bundle {
 }
 
 impl Component for Bundle {
+    ghost use Rattle.std.specs.Prelude.{refl};
     ghost use Rattle.flow_component.specs.Ports.{one_to_one, uses_first};
-    ghost use Rattle.flow_streams.specs.Bundle.{BundleReady, BundleNext};
+    ghost use Rattle.flow_streams.specs.Bundle.{BundleReady, BundleNext, bundle_next};
     ghost use Rattle.flow_streams.specs.BundleLaws.{bundle_obeys, bundle_stays_ready, bundle_steady};
 
     ghost shape_of = { λ _. one_to_one };
@@ -96,6 +97,8 @@ impl Component for Bundle {
     ghost stays_ready = { bundle_stays_ready };
 
     ghost steady = { bundle_steady };
+
+    ghost has_outcome = { λ part held answer _. (bundle_next part held answer, refl) };
 
     fn shape(&self) -> Shape {
         Shape {

@@ -421,8 +421,9 @@ impl Collate {
 }
 
 impl Component for Collate {
+    ghost use Rattle.std.specs.Prelude.{refl};
     ghost use Rattle.flow_component.specs.Ports.{uses_first};
-    ghost use Rattle.flow_streams.specs.Collate.{CollateReady, CollateNext, collate_shape};
+    ghost use Rattle.flow_streams.specs.Collate.{CollateReady, CollateNext, collate_shape, collate_next};
     ghost use Rattle.flow_streams.specs.CollateLaws.{collate_obeys, collate_stays_ready, collate_steady};
 
     ghost shape_of = { collate_shape };
@@ -438,6 +439,8 @@ impl Component for Collate {
     ghost stays_ready = { collate_stays_ready };
 
     ghost steady = { collate_steady };
+
+    ghost has_outcome = { λ part held answer _. (collate_next part held answer, refl) };
 
     fn shape(&self) -> Shape {
         Shape {

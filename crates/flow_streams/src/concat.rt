@@ -37,8 +37,9 @@ impl Concat {
 }
 
 impl Component for Concat {
+    ghost use Rattle.std.specs.Prelude.{refl};
     ghost use Rattle.flow_component.specs.Ports.{uses_first};
-    ghost use Rattle.flow_streams.specs.Concat.{ConcatReady, ConcatNext, concat_shape};
+    ghost use Rattle.flow_streams.specs.Concat.{ConcatReady, ConcatNext, concat_shape, concat_next};
     ghost use Rattle.flow_streams.specs.ConcatLaws.{concat_obeys, concat_stays_ready, concat_steady};
 
     ghost shape_of = { concat_shape };
@@ -54,6 +55,8 @@ impl Component for Concat {
     ghost stays_ready = { concat_stays_ready };
 
     ghost steady = { concat_steady };
+
+    ghost has_outcome = { λ part held answer _. (concat_next part held answer, refl) };
 
     fn shape(&self) -> Shape {
         Shape {

@@ -88,7 +88,8 @@ impl Copy {
 }
 
 impl Component for Copy {
-    ghost use Rattle.flow_streams.specs.Copy.{CopyReady, CopyNext, copy_shape, copy_uses};
+    ghost use Rattle.std.specs.Prelude.{refl};
+    ghost use Rattle.flow_streams.specs.Copy.{CopyReady, CopyNext, copy_shape, copy_uses, copy_next};
     ghost use Rattle.flow_streams.specs.CopyLaws.{copy_obeys, copy_stays_ready, copy_steady};
 
     ghost shape_of = { copy_shape };
@@ -104,6 +105,8 @@ impl Component for Copy {
     ghost stays_ready = { copy_stays_ready };
 
     ghost steady = { copy_steady };
+
+    ghost has_outcome = { λ part held answer _. (copy_next part held answer, refl) };
 
     fn shape(&self) -> Shape {
         Shape {

@@ -15,9 +15,10 @@ impl Discard {
 }
 
 impl Component for Discard {
+    ghost use Rattle.std.specs.Prelude.{refl};
     ghost use Rattle.flow_component.specs.Ports.{one_to_none, uses_none};
     ghost use Rattle.flow_component.specs.Outcomes.{IsAtHand};
-    ghost use Rattle.flow_streams.specs.Discard.{DiscardNext};
+    ghost use Rattle.flow_streams.specs.Discard.{DiscardNext, discards};
     ghost use Rattle.flow_streams.specs.DiscardLaws.{discard_obeys, discard_stays_ready, discard_steady};
 
     ghost shape_of = { λ _. one_to_none };
@@ -33,6 +34,8 @@ impl Component for Discard {
     ghost stays_ready = { discard_stays_ready };
 
     ghost steady = { discard_steady };
+
+    ghost has_outcome = { λ part held answer _. (discards part held answer, refl) };
 
     fn shape(&self) -> Shape {
         Shape {

@@ -15,9 +15,11 @@ impl Hoard {
 }
 
 impl Component for Hoard {
+    ghost use Rattle.std.specs.Prelude.{refl};
+    ghost use Rattle.flow_component.specs.Laws.{Wishes};
     ghost use Rattle.flow_component.specs.Ports.{one_to_none, uses_none};
     ghost use Rattle.flow_component.specs.Outcomes.{IsAtHand};
-    ghost use Rattle.flow_streams.specs.Hoard.{HoardNext};
+    ghost use Rattle.flow_streams.specs.Hoard.{HoardNext, hoards};
     ghost use Rattle.flow_streams.specs.HoardLaws.{hoard_obeys, hoard_stays_ready, hoard_steady};
 
     ghost shape_of = { λ _. one_to_none };
@@ -33,6 +35,8 @@ impl Component for Hoard {
     ghost stays_ready = { hoard_stays_ready };
 
     ghost steady = { hoard_steady };
+
+    ghost has_outcome = { λ part held answer _. (Wishes part held (hoards answer), refl) };
 
     fn shape(&self) -> Shape {
         Shape {

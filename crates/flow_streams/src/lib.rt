@@ -9,6 +9,7 @@ mod discard;
 mod hoard;
 mod load_balance;
 mod meanings;
+mod outcomes;
 mod passthru;
 mod select;
 #[cfg(test)]
@@ -26,6 +27,7 @@ pub use meanings::{
     collate_keeps_its_meaning, concat_keeps_its_meaning, discard_keeps_its_meaning,
     hoard_keeps_its_meaning, passthru_keeps_its_meaning,
 };
+pub use outcomes::each_comes_to_one_outcome;
 pub use passthru::Passthru;
 pub use select::{Select, SelectPlace};
 pub use unbundle::Unbundle;

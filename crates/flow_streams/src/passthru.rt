@@ -15,9 +15,11 @@ impl Passthru {
 }
 
 impl Component for Passthru {
+    ghost use Rattle.std.specs.Prelude.{refl};
+    ghost use Rattle.flow_component.specs.Laws.{Wishes};
     ghost use Rattle.flow_component.specs.Ports.{one_to_one, uses_first};
     ghost use Rattle.flow_component.specs.Outcomes.{IsAtHand};
-    ghost use Rattle.flow_streams.specs.Passthru.{PassthruNext};
+    ghost use Rattle.flow_streams.specs.Passthru.{PassthruNext, passes};
     ghost use Rattle.flow_streams.specs.PassthruLaws.{passthru_obeys, passthru_stays_ready, passthru_steady};
 
     ghost shape_of = { λ _. one_to_one };
@@ -33,6 +35,8 @@ impl Component for Passthru {
     ghost stays_ready = { passthru_stays_ready };
 
     ghost steady = { passthru_steady };
+
+    ghost has_outcome = { λ part held answer _. (Wishes part held (passes answer), refl) };
 
     fn shape(&self) -> Shape {
         Shape {

@@ -88,8 +88,9 @@ impl Unbundle {
 }
 
 impl Component for Unbundle {
+    ghost use Rattle.std.specs.Prelude.{refl};
     ghost use Rattle.flow_component.specs.Ports.{one_to_one, uses_first};
-    ghost use Rattle.flow_streams.specs.Unbundle.{UnbundleReady, UnbundleNext};
+    ghost use Rattle.flow_streams.specs.Unbundle.{UnbundleReady, UnbundleNext, unbundle_next};
     ghost use Rattle.flow_streams.specs.UnbundleLaws.{unbundle_obeys, unbundle_stays_ready, unbundle_steady};
 
     ghost shape_of = { λ _. one_to_one };
@@ -105,6 +106,8 @@ impl Component for Unbundle {
     ghost stays_ready = { unbundle_stays_ready };
 
     ghost steady = { unbundle_steady };
+
+    ghost has_outcome = { λ part held answer _. (unbundle_next part held answer, refl) };
 
     fn shape(&self) -> Shape {
         Shape {

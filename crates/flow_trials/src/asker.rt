@@ -10,7 +10,9 @@ pub struct Asker {
 }
 
 impl Component for Asker {
-    ghost use Rattle.flow_trials.specs.Asker.{shape_asked, uses_asked, AlwaysReady, AskerNext, asker_obeys, asker_stays_ready, asker_steady};
+    ghost use Rattle.std.specs.Prelude.{refl};
+    ghost use Rattle.flow_component.specs.Laws.{Wishes};
+    ghost use Rattle.flow_trials.specs.Asker.{shape_asked, uses_asked, AlwaysReady, AskerNext, asker_obeys, asker_stays_ready, asker_steady, asks};
 
     ghost shape_of = { shape_asked };
 
@@ -25,6 +27,8 @@ impl Component for Asker {
     ghost stays_ready = { asker_stays_ready };
 
     ghost steady = { asker_steady };
+
+    ghost has_outcome = { λ part held answer _. (Wishes part held (asks part.shape answer), refl) };
 
     fn shape(&self) -> Shape {
         self.shape

@@ -1,3 +1,4 @@
 pub mod Chain
 pub mod FirstRun
 pub mod Twice
+pub mod Mute

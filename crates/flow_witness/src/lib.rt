@@ -4,6 +4,7 @@
 #![tactic(auto)]
 
 ghost use Rattle.flow_witness.specs.FirstRun.{IsFirstRun};
+ghost use Rattle.flow_witness.specs.Mute.{MuteIsRefused};
 ghost use Rattle.flow_witness.specs.Twice.{TwiceIsRefused};
 
 /// The chain of a reader of the one line `x`, a process that passes it on and a writer is the plan of what a network file says of it,
@@ -16,4 +17,9 @@ pub fn the_first_run()
 /// A part that sends each packet that it got a second time breaks the laws of components, whatever it claims to be ready for.
 pub fn a_part_that_sends_twice_is_no_component()
     ensures { TwiceIsRefused }
+{}
+
+/// A part that comes to no outcome breaks the laws of components, whatever it claims to be ready for.
+pub fn a_part_without_outcomes_is_no_component()
+    ensures { MuteIsRefused }
 {}
