@@ -1,5 +1,5 @@
 -- From every start there is a round robin: a process has an exact turn or none, and its turns are limited.
-use Rattle.std.proofs.Common.{Bool, ◌≡◌, ◌≢◌, ℕ, ◌+◌, ◌*◌, ◌<◌, ◌≤◌, List, [], ◌∷◌, ◌++◌, length, Option, Some, None, IsSome, refl, ap, arith, sym, subst, ◌∙◌, suc, zero, ◌⊎◌, inl, inr, slice_get, slice_set, length-set, length-append}
+use Rattle.std.proofs.Common.{Bool, ◌≡◌, ℕ, ◌+◌, ◌*◌, ◌<◌, ◌≤◌, List, [], ◌∷◌, ◌++◌, length, Option, Some, None, IsSome, refl, ap, arith, sym, subst, ◌∙◌, suc, zero, ◌⊎◌, inl, inr, slice_get, slice_set, length-set}
 use Rattle.std.specs.List.{sum_by}
 use Rattle.std.proofs.lemmas.List.Sums.{sum_by-cons}
 use Rattle.flow_packet.specs.Held.{Held}
@@ -25,7 +25,7 @@ use Rattle.flow_model.proofs.Ready.{sound-hands}
 use Rattle.flow_model.proofs.Blocks.{IsOverOrOwes, turn-or-block, block-no_turn}
 use Rattle.flow_model.proofs.Fits.{Fit-turn, Fit-settles, Fit-leads}
 use Rattle.flow_model.proofs.Replay.{turned}
-use Rattle.flow_model.proofs.Journals.{turns-lead, pass-leads}
+use Rattle.flow_model.proofs.Journals.{pass-leads}
 use Rattle.flow_model.proofs.OneRobin.{one-robin}
 
 -- the turn that the exact level gives is exact

@@ -88,7 +88,8 @@ impl Count {
 }
 
 impl Component for Count {
-    ghost use Rattle.flow_parts.specs.Count.{CountReady, CountNext, count_shape, count_uses};
+    ghost use Rattle.std.specs.Prelude.{refl};
+    ghost use Rattle.flow_parts.specs.Count.{CountReady, CountNext, count_shape, count_uses, count_next};
     ghost use Rattle.flow_parts.specs.CountLaws.{count_obeys, count_stays_ready, count_steady};
 
     ghost shape_of = { λ _. count_shape };
@@ -104,6 +105,8 @@ impl Component for Count {
     ghost stays_ready = { count_stays_ready };
 
     ghost steady = { count_steady };
+
+    ghost has_outcome = { λ part held answer _. (count_next part held answer, refl) };
 
     fn shape(&self) -> Shape {
         Shape {

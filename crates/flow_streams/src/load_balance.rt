@@ -128,7 +128,8 @@ impl LoadBalance {
 }
 
 impl Component for LoadBalance {
-    ghost use Rattle.flow_streams.specs.LoadBalance.{LoadReady, LoadNext, load_shape, load_uses};
+    ghost use Rattle.std.specs.Prelude.{refl};
+    ghost use Rattle.flow_streams.specs.LoadBalance.{LoadReady, LoadNext, load_shape, load_uses, load_next};
     ghost use Rattle.flow_streams.specs.LoadBalanceLaws.{load_obeys, load_stays_ready, load_steady};
 
     ghost shape_of = { load_shape };
@@ -144,6 +145,8 @@ impl Component for LoadBalance {
     ghost stays_ready = { load_stays_ready };
 
     ghost steady = { load_steady };
+
+    ghost has_outcome = { λ part held answer _. (load_next part held answer, refl) };
 
     fn shape(&self) -> Shape {
         Shape {

@@ -1,7 +1,9 @@
 //! That each component of this crate comes to one outcome.
 ghost use Rattle.flow_component.specs.Laws.{AtMostOneOutcome};
 
-use crate::{Bundle, Collate, Concat, Copy, Discard, Hoard, Passthru, Unbundle};
+use crate::{
+    Bundle, Collate, Concat, Copy, Discard, Hoard, LoadBalance, Passthru, Select, Unbundle,
+};
 use flow_component::Component;
 
 /// Told the same in the same state with the same hands, each of them comes to at most one outcome.
@@ -14,4 +16,6 @@ pub fn each_comes_to_one_outcome()
     ensures hoard { AtMostOneOutcome ⟦<Hoard as Component>⟧.next }
     ensures passthru { AtMostOneOutcome ⟦<Passthru as Component>⟧.next }
     ensures unbundle { AtMostOneOutcome ⟦<Unbundle as Component>⟧.next }
+    ensures load_balance { AtMostOneOutcome ⟦<LoadBalance as Component>⟧.next }
+    ensures select { AtMostOneOutcome ⟦<Select as Component>⟧.next }
 {}

@@ -156,7 +156,8 @@ impl Select {
 }
 
 impl Component for Select {
-    ghost use Rattle.flow_streams.specs.Select.{SelectReady, SelectNext, select_shape, select_uses};
+    ghost use Rattle.std.specs.Prelude.{refl};
+    ghost use Rattle.flow_streams.specs.Select.{SelectReady, SelectNext, select_shape, select_uses, select_next};
     ghost use Rattle.flow_streams.specs.SelectLaws.{select_obeys, select_stays_ready, select_steady};
 
     ghost shape_of = { λ _. select_shape };
@@ -172,6 +173,8 @@ impl Component for Select {
     ghost stays_ready = { select_stays_ready };
 
     ghost steady = { select_steady };
+
+    ghost has_outcome = { λ part held answer _. (select_next part held answer, refl) };
 
     fn shape(&self) -> Shape {
         Shape {

@@ -7,7 +7,7 @@ use Rattle.flow_net.specs.Drafts.{Draft}
 use Rattle.flow_net.specs.Calls.{with_process, joined, given}
 use Rattle.flow_net.specs.Options.{IsFileName}
 use Rattle.flow_flat.specs.Faults.{ComesTo}
-use Rattle.flow_flat.specs.Told.{HasShortTexts, IsDraft, IsFlat, empty}
+use Rattle.flow_flat.specs.Told.{HasShortTexts, IsDraft, empty}
 use Rattle.flow_flat.proofs.Outcomes.{told_is_said}
 use Rattle.flow_catalogue.specs.declared.table.StdKind.TheVariants as kinds
 use Rattle.flow_catalogue.specs.Kinds.{spec_of, std_kinds}
