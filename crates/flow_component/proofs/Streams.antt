@@ -22,20 +22,26 @@ pub Comes-packets : (old : Held) (packet : Tree) (new : Held) → Comes old pack
 Comes-packets old packet new (from_connection is) = ap (λ (h : Held). h.packets) is
 Comes-packets old packet new (from_text text named is) = ap (λ (h : Held). h.packets) is ∙ ap (λ (t : Tree). old.packets ++ t ∷ []) (sym named)
 
--- where each step sends what was owed and owes what it got, a run does
+-- where each step sends to an output what was owed there, and owes what it got, a run does
+pub owed-to : {K : Type 0} (ready : K → Held → Answer → Type 0) (next : K → Held → Answer → Outcome K → Type 0) (output : ℕ) (Good : Poise K → Type 0) (f : Tree → List Tree) (owed : Poise K → List Tree)
+    → ((p : Poise K) (e : Happening) (q : Poise K) → Good p → Steps ready next p e q → Good q × (owed p ++ flat_map f (content_got 0 e) ≡ content_sent output e ++ owed q))
+    → (p : Poise K) (es : List Happening) (q : Poise K) → Good p → Runs ready next p es q → owed p ++ flat_map f (got 0 es) ≡ sent output es ++ owed q
+owed-to ready next output Good f owed step p [] q g r = rw r (simp (append-nil))
+owed-to ready next output Good f owed step p (e ∷ es) q g r =
+    let m = r.0 in
+    let s = step p e m g r.1 in
+    let t : owed m ++ flat_map f (got 0 es) ≡ sent output es ++ owed q = owed-to ready next output Good f owed step m es q s.0 r.2 in
+    let x = content_got 0 e in
+    let y = content_sent output e in
+    ap (λ zs. owed p ++ zs) (flat_map-append f x (got 0 es)) ∙ sym (append_assoc (owed p) (flat_map f x) (flat_map f (got 0 es)))
+    ∙ ap (λ zs. zs ++ flat_map f (got 0 es)) s.1 ∙ append_assoc y (owed m) (flat_map f (got 0 es))
+    ∙ ap (λ zs. y ++ zs) t ∙ sym (append_assoc y (sent output es) (owed q))
+
+-- the same at the first output
 pub owed-run : {K : Type 0} (ready : K → Held → Answer → Type 0) (next : K → Held → Answer → Outcome K → Type 0) (Good : Poise K → Type 0) (f : Tree → List Tree) (owed : Poise K → List Tree)
     → ((p : Poise K) (e : Happening) (q : Poise K) → Good p → Steps ready next p e q → Good q × (owed p ++ flat_map f (content_got 0 e) ≡ content_sent 0 e ++ owed q))
     → (p : Poise K) (es : List Happening) (q : Poise K) → Good p → Runs ready next p es q → owed p ++ flat_map f (got 0 es) ≡ sent 0 es ++ owed q
-owed-run ready next Good f owed step p [] q g r = rw r (simp (append-nil))
-owed-run ready next Good f owed step p (e ∷ es) q g r =
-    let m = r.0 in
-    let s = step p e m g r.1 in
-    let t : owed m ++ flat_map f (got 0 es) ≡ sent 0 es ++ owed q = owed-run ready next Good f owed step m es q s.0 r.2 in
-    let x = content_got 0 e in
-    let y = content_sent 0 e in
-    ap (λ zs. owed p ++ zs) (flat_map-append f x (got 0 es)) ∙ sym (append_assoc (owed p) (flat_map f x) (flat_map f (got 0 es)))
-    ∙ ap (λ zs. zs ++ flat_map f (got 0 es)) s.1 ∙ append_assoc y (owed m) (flat_map f (got 0 es))
-    ∙ ap (λ zs. y ++ zs) t ∙ sym (append_assoc y (sent 0 es) (owed q))
+owed-run ready next Good f owed step p es q g r = owed-to ready next 0 Good f owed step p es q g r
 
 -- what holds of a component between answers, and is kept by each step, holds after a run
 pub good-run : {K : Type 0} (ready : K → Held → Answer → Type 0) (next : K → Held → Answer → Outcome K → Type 0) (Good : Poise K → Type 0)

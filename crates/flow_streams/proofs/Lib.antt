@@ -1,5 +1,6 @@
 pub mod PassthruStream
 pub mod ConcatStream
+pub mod CopyStream
 pub mod Firsts
 pub mod Levels
 pub mod Merging

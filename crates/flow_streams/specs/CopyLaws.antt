@@ -53,7 +53,8 @@ on-count : (state : CopyState) (held : Held) (place : CopyPlace) → (part_after
 on-count state held Waiting = refl
 on-count state held (Copying id output) = copies-count state held id output
 
-next-count : (state : CopyState) (held : Held) (answer : Answer) → (part_after (copy_next state held answer)).count ≡ state.count
+-- how many outputs there are stays
+pub next-count : (state : CopyState) (held : Held) (answer : Answer) → (part_after (copy_next state held answer)).count ≡ state.count
 next-count state held answers.Start = refl
 next-count state held (answers.Got id) = copies-count state held id 0
 next-count state held answers.End = refl

@@ -1,9 +1,11 @@
 -- What the components make of their streams, from their first state to their end. (The exact rules are this project's own.)
-use Rattle.std.specs.Prelude.{◌≡◌, ◌≢◌, ℕ, zero, suc, ◌+◌, ◌<◌, ◌≤◌, false, List, [], ◌++◌, length}
-use Rattle.flow_packet.specs.Tree.{Tree}
+use Rattle.std.specs.Prelude.{◌≡◌, ◌≢◌, ℕ, zero, suc, ◌+◌, ◌<◌, ◌≤◌, false, List, [], ◌++◌, length, map, nat_lt, if◌then◌else◌}
+use Rattle.flow_packet.specs.Tree.{Tree, packet_of, kind_of, text_of}
 use Rattle.flow_component.specs.Happenings.{Happening}
 use Rattle.flow_component.specs.Outcomes.{IsAtHand}
 use Rattle.flow_component.specs.Runs.{EndedRun, got, sent, Wakes, HeardEnd, starts}
+use Rattle.flow_streams.specs.declared.copy.CopyPlace.TheVariants.{Waiting}
+use Rattle.flow_streams.specs.Copy.{CopyState, CopyNext, CopyReady}
 use Rattle.flow_streams.specs.Concat.{ConcatState, ConcatNext, ConcatReady}
 use Rattle.flow_streams.specs.declared.collate.CollatePlace.TheVariants.{Filling}
 use Rattle.flow_streams.specs.CollateState.{CollateState}
@@ -16,6 +18,22 @@ use Rattle.flow_streams.specs.Passthru.{PassthruNext}
 -- A Passthru sends what it gets.
 abbrev pub PassthruMeaning : Type 0 → Type 0
 PassthruMeaning K = (part : K) (told : List Happening) → EndedRun (λ (_ : K). IsAtHand) PassthruNext part told → sent 0 told ≡ got 0 told
+
+-- A Copy at its start.
+abbrev pub fresh_copy : ℕ → CopyState
+fresh_copy count = record { count = count; place = Waiting }
+
+-- A packet of the same kind and text, without chains.
+abbrev pub bare : Tree → Tree
+bare packet = packet_of 0 (kind_of packet) (text_of packet) []
+
+-- What output o of n gets of a packet: the last one the packet itself, each other one a packet of its kind and text without chains.
+abbrev pub share : ℕ → ℕ → Tree → Tree
+share n o packet = if nat_lt (o + 1) n then bare packet else packet
+
+-- A Copy sends to each of its n outputs, for each packet that it gets, the share of that output.
+abbrev pub CopyMeaning : Type 0
+CopyMeaning = (n : ℕ) (told : List Happening) → EndedRun CopyReady CopyNext (fresh_copy n) told → (o : ℕ) → o < n → sent o told ≡ map (share n o) (got 0 told)
 
 -- A Concat at its start.
 abbrev pub fresh_concat : ℕ → ConcatState

@@ -1,5 +1,5 @@
 //! What the components make of their streams: each law is the contract of a function that does nothing.
-ghost use Rattle.flow_streams.specs.Meanings.{CollateMeaning, ConcatMeaning, DiscardMeaning, HoardMeaning, PassthruMeaning};
+ghost use Rattle.flow_streams.specs.Meanings.{CollateMeaning, ConcatMeaning, CopyMeaning, DiscardMeaning, HoardMeaning, PassthruMeaning};
 ghost use Rattle.flow_streams.specs.declared.discard.Discard.{Discard};
 ghost use Rattle.flow_streams.specs.declared.hoard.Hoard.{Hoard};
 ghost use Rattle.flow_streams.specs.declared.passthru.Passthru.{Passthru};
@@ -7,6 +7,12 @@ ghost use Rattle.flow_streams.specs.declared.passthru.Passthru.{Passthru};
 /// What a Passthru that has come to its end has sent is what it got.
 pub fn passthru_keeps_its_meaning()
     ensures { PassthruMeaning Passthru }
+{}
+
+/// What a Copy has sent to each of its outputs is what it got: to the last one the packets themselves, to each other one packets of
+/// the same kind and text without chains.
+pub fn copy_keeps_its_meaning()
+    ensures { CopyMeaning }
 {}
 
 /// What a Concat that has come to its end has sent is what it got at its first input, then what it got at the next, and so on.
