@@ -8,3 +8,4 @@ pub mod Seats
 pub mod Gathering
 pub mod CollateStream
 pub mod Silence
+pub mod UnbundleStream

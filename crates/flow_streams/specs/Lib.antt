@@ -17,6 +17,7 @@ pub mod Bundle
 pub mod BundleLaws
 pub mod Unbundle
 pub mod UnbundleLaws
+pub mod Unbundled
 pub mod Meanings
 pub mod LoadBalance
 pub mod LoadBalanceLaws

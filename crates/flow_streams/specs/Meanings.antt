@@ -1,5 +1,6 @@
 -- What the components make of their streams, from their first state to their end. (The exact rules are this project's own.)
 use Rattle.std.specs.Prelude.{◌≡◌, ◌≢◌, ℕ, zero, suc, ◌+◌, ◌<◌, ◌≤◌, false, List, [], ◌++◌, length, map, nat_lt, if◌then◌else◌}
+use Rattle.std.specs.List.{flat_map}
 use Rattle.flow_packet.specs.Tree.{Tree, packet_of, kind_of, text_of}
 use Rattle.flow_component.specs.Happenings.{Happening}
 use Rattle.flow_component.specs.Outcomes.{IsAtHand}
@@ -14,6 +15,9 @@ use Rattle.flow_streams.specs.Collated.{collation, listed}
 use Rattle.flow_streams.specs.Discard.{DiscardNext}
 use Rattle.flow_streams.specs.Hoard.{HoardNext}
 use Rattle.flow_streams.specs.Passthru.{PassthruNext}
+use Rattle.flow_streams.specs.declared.unbundle.Unbundle.TheVariants as unbundles
+use Rattle.flow_streams.specs.Unbundle.{UnbundleNext, UnbundleReady}
+use Rattle.flow_streams.specs.Unbundled.{unbundled}
 
 -- A Passthru sends what it gets.
 abbrev pub PassthruMeaning : Type 0 → Type 0
@@ -66,3 +70,7 @@ DiscardMeaning K = (part : K) (told : List Happening) → EndedRun (λ (_ : K). 
 
 abbrev pub HoardMeaning : Type 0 → Type 0
 HoardMeaning K = (part : K) (told : List Happening) → EndedRun (λ (_ : K). IsAtHand) HoardNext part told → (port : ℕ) → sent port told ≡ []
+
+-- An Unbundle sends what it gets, with each packet that has a chain of items replaced by a substream of them.
+abbrev pub UnbundleMeaning : Type 0
+UnbundleMeaning = (told : List Happening) → EndedRun UnbundleReady UnbundleNext unbundles.Waiting told → sent 0 told ≡ flat_map unbundled (got 0 told)

@@ -43,7 +43,7 @@ ids-parts : (t : Tree) → ids t ≡ id_of t ∷ chain_ids (chains_of t)
 ids-parts t = ap ids (sym (with_chains-same t)) ∙ ap (λ (ns : List ℕ). id_of t ∷ ns) (ids-to_chains (chains_of t))
 
 -- a packet of a chain has another id than the packet whose chain it is
-child-apart : (held : Held) (t child : Tree) (children : List Tree) → Sound held → held.packets ≡ t ∷ [] → chain_at (chains_of t) items ≡ child ∷ children → id_of t ≡ id_of child → ⊥
+pub child-apart : (held : Held) (t child : Tree) (children : List Tree) → Sound held → held.packets ≡ t ∷ [] → chain_at (chains_of t) items ≡ child ∷ children → id_of t ≡ id_of child → ⊥
 child-apart held t child children s e chain same =
     let once : times (id_of child) (all_ids (t ∷ [])) ≤ 1 = subst (λ (ts : List Tree). times (id_of child) (all_ids ts) ≤ 1) e (s.once (id_of child)) in
     let parts : times (id_of child) (all_ids (t ∷ [])) ≡ times (id_of child) ((id_of t ∷ chain_ids (chains_of t)) ++ []) = ap (λ (ns : List ℕ). times (id_of child) (ns ++ [])) (ids-parts t) in

@@ -1,5 +1,5 @@
 //! What the components make of their streams: each law is the contract of a function that does nothing.
-ghost use Rattle.flow_streams.specs.Meanings.{CollateMeaning, ConcatMeaning, CopyMeaning, DiscardMeaning, HoardMeaning, PassthruMeaning};
+ghost use Rattle.flow_streams.specs.Meanings.{CollateMeaning, ConcatMeaning, CopyMeaning, DiscardMeaning, HoardMeaning, PassthruMeaning, UnbundleMeaning};
 ghost use Rattle.flow_streams.specs.declared.discard.Discard.{Discard};
 ghost use Rattle.flow_streams.specs.declared.hoard.Hoard.{Hoard};
 ghost use Rattle.flow_streams.specs.declared.passthru.Passthru.{Passthru};
@@ -33,4 +33,9 @@ pub fn discard_keeps_its_meaning()
 /// A Hoard sends nothing.
 pub fn hoard_keeps_its_meaning()
     ensures { HoardMeaning Hoard }
+{}
+
+/// What an Unbundle has sent is what it got, with each packet that has a chain of items replaced by a substream of them.
+pub fn unbundle_keeps_its_meaning()
+    ensures { UnbundleMeaning }
 {}
