@@ -1,10 +1,10 @@
 -- What Copy sends to each output is what it gets, as that output's share.
-use Rattle.std.proofs.Common.{◌≡◌, ℕ, ◌+◌, ◌<◌, ◌≤◌, Bool, true, false, List, [], ◌∷◌, ◌++◌, map, refl, sym, ap, ◌∙◌, subst, append-nil, arith, nat_eq, nat_lt, nat_le, if◌then◌else◌, Option, Some, None}
+use Rattle.std.proofs.Common.{◌≡◌, ℕ, ◌+◌, ◌<◌, ◌≤◌, Bool, true, false, List, [], ◌∷◌, ◌++◌, map, refl, sym, ap, ◌∙◌, subst, append-nil, arith, nat_eq, nat_lt, nat_le, if◌then◌else◌}
 use Rattle.std.proofs.lemmas.Bool.Decides.{nat_tests}
 use Rattle.std.specs.List.{flat_map}
 use Rattle.flow_packet.specs.declared.packet.Kind.{Kind}
-use Rattle.flow_packet.specs.Tree.{Tree, content, id_of, kind_of, text_of, packet_of}
-use Rattle.flow_packet.specs.Hands.{packet_at, text_at, kind_at, without}
+use Rattle.flow_packet.specs.Tree.{Tree, content, id_of, kind_of, text_of}
+use Rattle.flow_packet.specs.Hands.{packet_at, text_at, kind_at}
 use Rattle.flow_packet.specs.Held.{Held, next_id, without_packet, with_made}
 use Rattle.flow_component.specs.declared.Wish.{Wish}
 use Rattle.flow_component.specs.declared.Wish.TheVariants as wishes
@@ -17,9 +17,9 @@ use Rattle.flow_component.proofs.Lone.{HoldsOnly-packet_at, HoldsOnly-text, Hold
 use Rattle.flow_component.proofs.Streams.{owed-to, Comes-packets, contents_in, content-kind, content-text, port_below_one}
 use Rattle.flow_streams.specs.declared.copy.CopyPlace.{CopyPlace}
 use Rattle.flow_streams.specs.declared.copy.CopyPlace.TheVariants.{Waiting, Copying}
-use Rattle.flow_streams.specs.Copy.{CopyState, send_at, copies, goes_on, copy_next, CopyNext, CopyReady, IsReadyOn}
+use Rattle.flow_streams.specs.Copy.{CopyState, send_at, copies, goes_on, CopyNext, CopyReady, IsReadyOn}
 use Rattle.flow_streams.specs.CopyLaws.{copy_obeys, next-count}
-use Rattle.flow_streams.specs.Meanings.{fresh_copy, bare, share, CopyMeaning}
+use Rattle.flow_streams.specs.Meanings.{fresh_copy, share, CopyMeaning}
 
 -- how many outputs there are, and the output of which is spoken
 module _ (n o : ℕ) where

@@ -1,11 +1,11 @@
 -- What Unbundle sends is what it gets, with each bundle unpacked.
-use Rattle.std.proofs.Common.{◌≡◌, ℕ, ◌<◌, Bool, true, false, List, [], ◌∷◌, ◌++◌, map, drop, refl, sym, ap, ◌∙◌, subst, append-nil, append_assoc, arith, nat_eq, if◌then◌else◌, Option, Some, None}
+use Rattle.std.proofs.Common.{◌≡◌, ℕ, Bool, true, false, List, [], ◌∷◌, ◌++◌, map, drop, refl, sym, ap, ◌∙◌, append-nil, nat_eq, if◌then◌else◌, Option, Some, None}
 use Rattle.std.specs.List.{flat_map}
 use Rattle.std.specs.Str.{bytes_eq}
-use Rattle.flow_packet.specs.declared.packet.Kind.TheVariants.{Normal, Open, Close}
+use Rattle.flow_packet.specs.declared.packet.Kind.TheVariants.{Open, Close}
 use Rattle.flow_packet.specs.Tree.{Tree, node, Chain, Chains, no_chains, chain, Trees, no_trees, tree, from_chains, from_trees, content, content_of_chains, content_of_trees, chains_of, with_chains, detach_from, before, chain_at, id_of, text_of, packet_of}
 use Rattle.flow_packet.specs.Hands.{packet_at, text_at, without, chain_of_root, detached}
-use Rattle.flow_packet.specs.Held.{Held, Sound, next_id, without_packet, with_made}
+use Rattle.flow_packet.specs.Held.{Held, Sound, next_id, without_packet}
 use Rattle.flow_packet.proofs.Trees.{from-to_chains}
 use Rattle.flow_component.specs.declared.Wish.{Wish}
 use Rattle.flow_component.specs.declared.Wish.TheVariants as wishes
@@ -13,17 +13,17 @@ use Rattle.flow_component.specs.Laws.{Outcome, Wishes, Fails, IsAllowed}
 use Rattle.flow_component.specs.Alone.{HoldsOnly}
 use Rattle.flow_component.specs.Ports.{one_to_one, uses_first}
 use Rattle.flow_component.specs.Happenings.{Happening, Started, Received, Ended, Sent, Learned}
-use Rattle.flow_component.specs.Runs.{Poise, fresh, Steps, content_got, content_sent, got, sent}
+use Rattle.flow_component.specs.Runs.{Poise, fresh, Steps, content_got, content_sent}
 use Rattle.flow_component.proofs.Roots.{same_id}
 use Rattle.flow_component.proofs.Lone.{HoldsOnly-packet_at, HoldsOnly-text, HoldsOnly-made, HoldsOnly-made_at, HoldsOnly-end}
-use Rattle.flow_component.proofs.Streams.{owed-run, stays-allowed, Comes-packets, contents_in, content-text, one-alone, port_zero, port_below_one}
+use Rattle.flow_component.proofs.Streams.{owed-run, stays-allowed, Comes-packets, contents_in, content-text, port_zero, port_below_one}
 use Rattle.flow_streams.specs.Bundle.{items}
 use Rattle.flow_streams.specs.BundleLaws.{renewed, second-found, second-gone}
 use Rattle.flow_streams.specs.declared.unbundle.Unbundle.{Unbundle}
 use Rattle.flow_streams.specs.declared.unbundle.Unbundle.TheVariants.{Waiting, Unpacking}
 use Rattle.flow_streams.specs.Unbundle.{opens_up, unpacks, goes_on, UnbundleNext, UnbundleReady, IsReadyOn}
 use Rattle.flow_streams.specs.UnbundleLaws.{unbundle_obeys, chain-alone, detached-only, child-apart}
-use Rattle.flow_streams.specs.Unbundled.{and_behind, members, unbundled_with, unbundled}
+use Rattle.flow_streams.specs.Unbundled.{and_behind, members, unbundled}
 use Rattle.flow_streams.specs.Meanings.{UnbundleMeaning}
 
 -- Members and chains

@@ -1,5 +1,5 @@
 -- What becomes of a bundle that is unpacked.
-use Rattle.std.specs.Prelude.{ℕ, List, [], ◌∷◌, ◌++◌, Bool, if◌then◌else◌}
+use Rattle.std.specs.Prelude.{ℕ, List, [], ◌∷◌, ◌++◌, if◌then◌else◌}
 use Rattle.std.specs.Str.{bytes_eq}
 use Rattle.flow_packet.specs.declared.packet.Kind.TheVariants.{Open, Close}
 use Rattle.flow_packet.specs.Tree.{Tree, Chain, chains_of, packet_of, text_of}
