@@ -9,3 +9,4 @@ pub mod Gathering
 pub mod CollateStream
 pub mod Silence
 pub mod UnbundleStream
+pub mod LoadStream

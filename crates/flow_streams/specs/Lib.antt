@@ -18,6 +18,7 @@ pub mod BundleLaws
 pub mod Unbundle
 pub mod UnbundleLaws
 pub mod Unbundled
+pub mod Split
 pub mod Meanings
 pub mod LoadBalance
 pub mod LoadBalanceLaws

@@ -75,7 +75,8 @@ came-count : (state : LoadState) (held : Held) (id depth : ℕ) → (part_after 
 came-count state held id zero = refl
 came-count state held id (suc outer) = refl
 
-next-count : (state : LoadState) (held : Held) (answer : Answer) → (part_after (load_next state held answer)).count ≡ state.count
+-- how many outputs there are stays
+pub next-count : (state : LoadState) (held : Held) (answer : Answer) → (part_after (load_next state held answer)).count ≡ state.count
 next-count state held answers.Start = refl
 next-count state held (answers.Got id) = came-count (record state { depth = depth_after (kind_at held.packets id) state.depth }) held id state.depth
 next-count state held answers.End = refl

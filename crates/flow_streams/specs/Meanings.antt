@@ -14,6 +14,9 @@ use Rattle.flow_streams.specs.Collate.{CollateNext, CollateReady}
 use Rattle.flow_streams.specs.Collated.{collation, listed}
 use Rattle.flow_streams.specs.Discard.{DiscardNext}
 use Rattle.flow_streams.specs.Hoard.{HoardNext}
+use Rattle.flow_streams.specs.declared.load_balance.LoadPlace.TheVariants as loads
+use Rattle.flow_streams.specs.LoadBalance.{LoadState, LoadNext, LoadReady}
+use Rattle.flow_streams.specs.Split.{IsSplit}
 use Rattle.flow_streams.specs.Passthru.{PassthruNext}
 use Rattle.flow_streams.specs.declared.unbundle.Unbundle.TheVariants as unbundles
 use Rattle.flow_streams.specs.Unbundle.{UnbundleNext, UnbundleReady}
@@ -74,3 +77,11 @@ HoardMeaning K = (part : K) (told : List Happening) → EndedRun (λ (_ : K). Is
 -- An Unbundle sends what it gets, with each packet that has a chain of items replaced by a substream of them.
 abbrev pub UnbundleMeaning : Type 0
 UnbundleMeaning = (told : List Happening) → EndedRun UnbundleReady UnbundleNext unbundles.Waiting told → sent 0 told ≡ flat_map unbundled (got 0 told)
+
+-- A LoadBalance at its start.
+abbrev pub fresh_load : ℕ → LoadState
+fresh_load count = record { count = count; depth = 0; chosen = 0; place = loads.Waiting }
+
+-- What a LoadBalance sends is a split of what it gets, substreams whole.
+abbrev pub LoadBalanceMeaning : Type 0
+LoadBalanceMeaning = (n : ℕ) (told : List Happening) → EndedRun LoadReady LoadNext (fresh_load n) told → IsSplit n (got 0 told) (λ o. sent o told)

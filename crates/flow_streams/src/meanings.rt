@@ -1,5 +1,5 @@
 //! What the components make of their streams: each law is the contract of a function that does nothing.
-ghost use Rattle.flow_streams.specs.Meanings.{CollateMeaning, ConcatMeaning, CopyMeaning, DiscardMeaning, HoardMeaning, PassthruMeaning, UnbundleMeaning};
+ghost use Rattle.flow_streams.specs.Meanings.{CollateMeaning, ConcatMeaning, CopyMeaning, DiscardMeaning, HoardMeaning, LoadBalanceMeaning, PassthruMeaning, UnbundleMeaning};
 ghost use Rattle.flow_streams.specs.declared.discard.Discard.{Discard};
 ghost use Rattle.flow_streams.specs.declared.hoard.Hoard.{Hoard};
 ghost use Rattle.flow_streams.specs.declared.passthru.Passthru.{Passthru};
@@ -38,4 +38,10 @@ pub fn hoard_keeps_its_meaning()
 /// What an Unbundle has sent is what it got, with each packet that has a chain of items replaced by a substream of them.
 pub fn unbundle_keeps_its_meaning()
     ensures { UnbundleMeaning }
+{}
+
+/// What a LoadBalance has sent is a split of what it got: each packet went to one of its outputs, in order, and the packets of a
+/// substream to the same.
+pub fn load_balance_keeps_its_meaning()
+    ensures { LoadBalanceMeaning }
 {}
