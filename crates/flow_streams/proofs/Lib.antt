@@ -10,3 +10,4 @@ pub mod CollateStream
 pub mod Silence
 pub mod UnbundleStream
 pub mod LoadStream
+pub mod BundleStream

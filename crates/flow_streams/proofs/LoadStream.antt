@@ -1,25 +1,23 @@
 -- What LoadBalance sends is a split of what it gets, substreams whole.
-use Rattle.std.proofs.Common.{◌≡◌, ◌⊎◌, inl, inr, ℕ, zero, suc, ◌+◌, ◌<◌, ◌≤◌, Bool, true, false, List, [], ◌∷◌, ◌++◌, map, filter, refl, sym, ap, ◌∙◌, subst, append-nil, append_assoc, arith, nat_eq, nat_lt, if◌then◌else◌, cond, Option, Some, None, IsTrue}
+use Rattle.std.proofs.Common.{◌≡◌, ◌⊎◌, inl, inr, ℕ, zero, suc, ◌+◌, ◌<◌, Bool, true, false, List, [], ◌∷◌, ◌++◌, map, refl, sym, ap, ◌∙◌, subst, arith, nat_eq, nat_lt, if◌then◌else◌, cond, Some}
 use Rattle.std.proofs.lemmas.Bool.Decides.{nat_tests}
 use Rattle.std.specs.List.{flat_map}
 use Rattle.flow_packet.specs.declared.packet.Kind.{Kind}
 use Rattle.flow_packet.specs.Tree.{Tree, content, id_of, kind_of}
 use Rattle.flow_packet.specs.Hands.{packet_at, kind_at}
-use Rattle.flow_packet.specs.Held.{Held, without_packet}
+use Rattle.flow_packet.specs.Held.{Held}
 use Rattle.flow_component.specs.declared.Wish.{Wish}
 use Rattle.flow_component.specs.declared.Wish.TheVariants as wishes
-use Rattle.flow_component.specs.Laws.{Outcome, Wishes, Fails, IsAllowed, part_after}
-use Rattle.flow_component.specs.Alone.{HoldsOnly}
+use Rattle.flow_component.specs.Laws.{Wishes}
 use Rattle.flow_component.specs.Ports.{receive_first}
-use Rattle.flow_component.specs.Happenings.{Happening, Started, Received, Ended, Sent, Learned, answer_of}
-use Rattle.flow_component.specs.Runs.{Poise, fresh, Steps, Runs, content_got, content_sent, got, sent}
-use Rattle.flow_component.proofs.Lone.{HoldsOnly-packet_at, HoldsOnly-kind, HoldsOnly-end}
+use Rattle.flow_component.specs.Happenings.{Happening, Started, Received, Ended, Sent, Learned}
+use Rattle.flow_component.specs.Runs.{Poise, fresh, Steps, Runs, content_sent, got, sent}
+use Rattle.flow_component.proofs.Lone.{HoldsOnly-kind, HoldsOnly-end}
 use Rattle.flow_component.proofs.Streams.{Comes-packets, contents_in, content-kind, port_below_one, flat_map-append}
 use Rattle.flow_streams.specs.declared.load_balance.LoadPlace.{LoadPlace}
 use Rattle.flow_streams.specs.declared.load_balance.LoadPlace.TheVariants.{Waiting, Asking}
 use Rattle.flow_streams.specs.LoadBalance.{LoadState, send_at, level_at, depth_after, no_level, comes_at, comes, asks_on, weighs, learns, load_next, LoadNext, LoadReady}
-use Rattle.flow_streams.specs.LoadBalanceLaws.{load_obeys, next-count}
-use Rattle.flow_streams.specs.Split.{Routed, StaysWhole, AreWithin, going_to, IsSplit}
+use Rattle.flow_streams.specs.Split.{Routed, StaysWhole, AreWithin, going_to}
 use Rattle.flow_streams.specs.Meanings.{fresh_load, LoadBalanceMeaning}
 
 -- What was sent, with its outputs
@@ -221,7 +219,7 @@ step n es p m q (Sent port t) (Passing u) st s r rec =
       λ depth before d w. (
         elim w as (λ _. (depth ≡ 0) ⊎ (port ≡ before)) [ inl none ↦ inl none | inr at ↦ inr (port_is ∙ at) ],
         subst (λ (k : ℕ). StaysWhole (depth_after (kind_of (content t)) depth) k (routes_of es)) (sym port_is)
-        (subst (λ (k : ℕ). StaysWhole k p.part.chosen (routes_of es)) (d ∙ ap (λ (x : Tree). depth_after (kind_of (content x)) depth) (sym same)) whole),
+            (subst (λ (k : ℕ). StaysWhole k p.part.chosen (routes_of es)) (d ∙ ap (λ (x : Tree). depth_after (kind_of (content x)) depth) (sym same)) whole),
       ),
     )
 

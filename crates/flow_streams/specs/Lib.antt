@@ -19,6 +19,7 @@ pub mod Unbundle
 pub mod UnbundleLaws
 pub mod Unbundled
 pub mod Split
+pub mod Bundled
 pub mod Meanings
 pub mod LoadBalance
 pub mod LoadBalanceLaws

@@ -17,6 +17,9 @@ use Rattle.flow_streams.specs.Hoard.{HoardNext}
 use Rattle.flow_streams.specs.declared.load_balance.LoadPlace.TheVariants as loads
 use Rattle.flow_streams.specs.LoadBalance.{LoadState, LoadNext, LoadReady}
 use Rattle.flow_streams.specs.Split.{IsSplit}
+use Rattle.flow_streams.specs.declared.bundle.Bundle.TheVariants as bundles
+use Rattle.flow_streams.specs.Bundle.{BundleNext, BundleReady}
+use Rattle.flow_streams.specs.Bundled.{bundled, Outside}
 use Rattle.flow_streams.specs.Passthru.{PassthruNext}
 use Rattle.flow_streams.specs.declared.unbundle.Unbundle.TheVariants as unbundles
 use Rattle.flow_streams.specs.Unbundle.{UnbundleNext, UnbundleReady}
@@ -85,3 +88,7 @@ fresh_load count = record { count = count; depth = 0; chosen = 0; place = loads.
 -- What a LoadBalance sends is a split of what it gets, substreams whole.
 abbrev pub LoadBalanceMeaning : Type 0
 LoadBalanceMeaning = (n : ℕ) (told : List Happening) → EndedRun LoadReady LoadNext (fresh_load n) told → IsSplit n (got 0 told) (λ o. sent o told)
+
+-- A Bundle sends what it gets, with each substream replaced by its bundle.
+abbrev pub BundleMeaning : Type 0
+BundleMeaning = (told : List Happening) → EndedRun BundleReady BundleNext bundles.Outside told → sent 0 told ≡ bundled Outside (got 0 told)

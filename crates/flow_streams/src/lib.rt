@@ -24,9 +24,9 @@ pub use discard::Discard;
 pub use hoard::Hoard;
 pub use load_balance::{LoadBalance, LoadPlace};
 pub use meanings::{
-    collate_keeps_its_meaning, concat_keeps_its_meaning, copy_keeps_its_meaning,
-    discard_keeps_its_meaning, hoard_keeps_its_meaning, load_balance_keeps_its_meaning,
-    passthru_keeps_its_meaning, unbundle_keeps_its_meaning,
+    bundle_keeps_its_meaning, collate_keeps_its_meaning, concat_keeps_its_meaning,
+    copy_keeps_its_meaning, discard_keeps_its_meaning, hoard_keeps_its_meaning,
+    load_balance_keeps_its_meaning, passthru_keeps_its_meaning, unbundle_keeps_its_meaning,
 };
 pub use outcomes::each_comes_to_one_outcome;
 pub use passthru::Passthru;

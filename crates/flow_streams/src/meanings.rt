@@ -1,5 +1,5 @@
 //! What the components make of their streams: each law is the contract of a function that does nothing.
-ghost use Rattle.flow_streams.specs.Meanings.{CollateMeaning, ConcatMeaning, CopyMeaning, DiscardMeaning, HoardMeaning, LoadBalanceMeaning, PassthruMeaning, UnbundleMeaning};
+ghost use Rattle.flow_streams.specs.Meanings.{BundleMeaning, CollateMeaning, ConcatMeaning, CopyMeaning, DiscardMeaning, HoardMeaning, LoadBalanceMeaning, PassthruMeaning, UnbundleMeaning};
 ghost use Rattle.flow_streams.specs.declared.discard.Discard.{Discard};
 ghost use Rattle.flow_streams.specs.declared.hoard.Hoard.{Hoard};
 ghost use Rattle.flow_streams.specs.declared.passthru.Passthru.{Passthru};
@@ -44,4 +44,9 @@ pub fn unbundle_keeps_its_meaning()
 /// substream to the same.
 pub fn load_balance_keeps_its_meaning()
     ensures { LoadBalanceMeaning }
+{}
+
+/// What a Bundle has sent is what it got, with each substream replaced by its bundle.
+pub fn bundle_keeps_its_meaning()
+    ensures { BundleMeaning }
 {}
