@@ -16,7 +16,9 @@ use Rattle.flow_model.specs.Plans.{Plan, PlanProcess, PlanConnection, sends_at, 
 use Rattle.flow_model.proofs.Senders.{both-true}
 use Rattle.flow_meanings.specs.Means.{Means}
 use Rattle.flow_meanings.specs.Composition.{Sending, arriving, leaving, Composes, wrote_in}
-use Rattle.flow_meanings.specs.Chains.{RunsPart, LeadsTo, TelegramMeans, IsUnmerged, LeadsOn, OneOutcome, SameFiles}
+use Rattle.flow_model.specs.Rising.{LeadsOn}
+use Rattle.flow_model.proofs.Rising.{finished-leads_on}
+use Rattle.flow_meanings.specs.Chains.{RunsPart, LeadsTo, TelegramMeans, IsUnmerged, OneOutcome, SameFiles}
 use Rattle.flow_meanings.proofs.Composing.{start-there, length-ports, finished-composes}
 
 filter-all : {A : Type 0} (test : A → Bool) (xs : List A) → ((k : ℕ) (x : A) → slice_get xs k ≡ Some x → test x ≡ true) → filter test xs ≡ xs
@@ -156,5 +158,6 @@ one-outcome plan ks wrote other well unmerged order m n p bytes runs =
     a ∙ ap rendered_all (same-input plan ks wrote other well unmerged order m n (suc (order.rank p)) p runs.process 0 (omega arith)) ∙ sym b
 
 pub same-files : SameFiles
-same-files plan ks journal other s t well first unmerged order leads finished leads' finished' p bytes runs =
+same-files plan ks journal other s t well first unmerged leads finished leads' finished' p bytes runs =
+    let order = finished-leads_on std_shape std_uses StdReady StdNext plan ks journal s well leads finished in
     one-outcome plan ks (wrote_in s) (wrote_in t) well unmerged order (finished-composes plan ks journal s well first leads finished) (finished-composes plan ks other t well first leads' finished') p bytes runs

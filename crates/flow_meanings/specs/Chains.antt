@@ -13,6 +13,7 @@ use Rattle.flow_catalogue.specs.Std.{std_shape, std_uses, StdReady, StdNext}
 use Rattle.flow_model.specs.States.{State}
 use Rattle.flow_model.specs.Schedules.{Journal, Leads}
 use Rattle.flow_model.specs.Verdicts.{IsFinished}
+use Rattle.flow_model.specs.Rising.{LeadsOn}
 use Rattle.flow_model.specs.Plans.{Plan, PlanProcess, sends_at, receives_at, start_of, StartsWell}
 use Rattle.flow_meanings.specs.Composition.{Composes, AreFirst, wrote_in}
 
@@ -49,20 +50,15 @@ TelegramMeans =
 abbrev pub IsUnmerged : Plan → Type 0
 IsUnmerged plan = (c p o q r : ℕ) → sends_at plan p o ≡ Some c → sends_at plan q r ≡ Some c → (p ≡ q) × (o ≡ r)
 
--- No connection leads back: each leads from a lower to a higher process by some order of them.
-pub record LeadsOn (plan : Plan) : Type 0 where
-  pub rank : ℕ → ℕ
-  pub rises : (p o q i c : ℕ) → sends_at plan p o ≡ Some c → receives_at plan q i ≡ Some c → rank p < rank q
-
 -- Such a network means one outcome: what a writer wrote is the same in all of its compositions.
 abbrev pub OneOutcome : Type 0
 OneOutcome =
     (plan : Plan) (ks : List Std) (wrote other : ℕ → List ℕ) → StartsWell std_shape std_uses StdReady plan ks → IsUnmerged plan → LeadsOn plan → Composes plan ks wrote → Composes plan ks other
     → (p : ℕ) (bytes : List ℕ) → RunsPart plan ks p (parts.WriteLines bytes) → wrote p ≡ other p
 
--- Whatever the schedules, two of them that finish leave the same files.
+-- Whatever the schedules, two of them that finish leave the same files. (That a network finishes shows that no connection leads back.)
 abbrev pub SameFiles : Type 0
 SameFiles =
-    (plan : Plan) (ks : List Std) (journal other : Journal) (s t : State Std) → StartsWell std_shape std_uses StdReady plan ks → AreFirst ks → IsUnmerged plan → LeadsOn plan
+    (plan : Plan) (ks : List Std) (journal other : Journal) (s t : State Std) → StartsWell std_shape std_uses StdReady plan ks → AreFirst ks → IsUnmerged plan
     → Leads StdNext (start_of plan ks) journal s → IsFinished s → Leads StdNext (start_of plan ks) other t → IsFinished t
     → (p : ℕ) (bytes : List ℕ) → RunsPart plan ks p (parts.WriteLines bytes) → wrote_in s p ≡ wrote_in t p

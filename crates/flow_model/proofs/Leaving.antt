@@ -319,7 +319,7 @@ ended-closed {K} s tell p j x outlet channel there ended at is goes =
     none j (inr failed) = failed
 
 -- an open sender stands somewhere in the list
-open-place : (sender : Sender) (senders : List Sender) → IsOpenSender sender senders → (k : ℕ) × (slice_get senders k ≡ Some sender)
+pub open-place : (sender : Sender) (senders : List Sender) → IsOpenSender sender senders → (k : ℕ) × (slice_get senders k ≡ Some sender)
 open-place sender [] is = absurd (cc)
 open-place sender (s ∷ senders) is = by (is_sender sender s) refl is (open-place sender senders)
   where
@@ -352,7 +352,7 @@ outlet-found k (Some d ∷ os) (suc m) c is = let r = outlet-found (k + 1) os m 
 outlet-found k (None ∷ os) (suc m) c is = let r = outlet-found (k + 1) os m c is in let n : k + 1 + m ≡ k + suc m = omega arith in (r.0, r.1 ∙ (λ i. Some (let o : Outlet = record { output = n i; connection = c } in o)))
 
 -- the ports, as a list from k on
-ports-at : {A : Type 0} (f : ℕ → A) (k n i : ℕ) → i < n → slice_get (map f (range_with_len k n)) i ≡ Some (f (k + i))
+pub ports-at : {A : Type 0} (f : ℕ → A) (k n i : ℕ) → i < n → slice_get (map f (range_with_len k n)) i ≡ Some (f (k + i))
 ports-at f k zero i within = absurd (omega (arith, within))
 ports-at f k (suc n) zero within = let h : k ≡ k + zero = omega arith in ap (λ m. Some (f m)) h
 ports-at f k (suc n) (suc i) within = ports-at f (k + 1) n i (omega (arith, within)) ∙ (let h : k + 1 + i ≡ k + suc i = omega arith in ap (λ m. Some (f m)) h)
@@ -366,7 +366,7 @@ position-only p xs i x is passes only = by (position p xs) refl
     by (Some k) at = let found = position-Some p xs k x at in ap (λ n. Some n) (only k (get_or xs k x) (slice_get-get_or xs k x found.0) found.1)
 
 -- a process of the plan stands at the start, with some component
-process-there : {K : Type 0} (plan : Plan) (n : ℕ) (xs : List PlanProcess) (parts : List K) (k : ℕ) (x : PlanProcess) → length parts ≡ length xs → slice_get xs k ≡ Some x
+pub process-there : {K : Type 0} (plan : Plan) (n : ℕ) (xs : List PlanProcess) (parts : List K) (k : ℕ) (x : PlanProcess) → length parts ≡ length xs → slice_get xs k ≡ Some x
     → (part : K) × (slice_get (processes_at_start plan n xs parts) k ≡ Some (process_at_start plan (n + k) x part))
 process-there plan n [] parts k x each is = absurd (cc)
 process-there plan n (y ∷ xs) [] k x each is = absurd (omega (arith, each))

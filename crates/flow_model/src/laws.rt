@@ -1,6 +1,7 @@
 //! What holds of every schedule: each law is the contract of a function that does nothing.
 ghost use Rattle.flow_model.specs.Laws.{KeepsPackets, KeepsOrder, KeepsPrefixes, KeepsOpen, KeepsFew, HasOneVerdict, KeepsOpenSenders, LeavesClosed, KeepsTotals, RoundRobinLeads, IsOneRoundRobin, HasRoundRobin, HasOneRoundRobin, LeadsToOneState, HasPrefixes, TurnsAreSchedule};
 ghost use Rattle.flow_model.specs.Wires.{KeepsWires};
+ghost use Rattle.flow_model.specs.Rising.{FinishedLeadsOn};
 ghost use Rattle.flow_model.specs.Runs.{KeepsRuns, KeepsRunsOpen, KeepsGotAll};
 
 use flow_component::Component;
@@ -81,4 +82,9 @@ pub fn every_process_has_run<K: Component>()
 /// connection was put there by an output that leads there.
 pub fn every_schedule_keeps_the_wires<K: Component>()
     ensures { KeepsWires K.shape_of K.uses K.ready K.next }
+{}
+
+/// Where a network has finished, no connection leads back: a process begins to close only once all that feed it have.
+pub fn a_finished_network_leads_on<K: Component>()
+    ensures { FinishedLeadsOn K.shape_of K.uses K.ready K.next }
 {}

@@ -1,0 +1,417 @@
+-- Each process begins to close after all that feed it.
+use Rattle.std.proofs.Common.{◌≡◌, ◌≢◌, ◌⊎◌, inl, inr, ℕ, ◌+◌, ◌<◌, Bool, true, false, List, [], ◌∷◌, map, length, Option, Some, None, refl, sym, ap, ◌∙◌, subst, cond, nat_eq, nat_lt, arith, slice_get, slice_set, suc, zero, if◌then◌else◌, get_or, ◌==◌, ◌&&◌}
+use Rattle.std.specs.Prelude.{option_and_then, option_map, slice_index}
+use Rattle.std.specs.List.{list_any}
+use Rattle.std.proofs.lemmas.Bool.Decides.{nat_tests}
+use Rattle.std.proofs.lemmas.Option.{slice_get-map}
+use Rattle.std.proofs.lemmas.List.Quantifiers.{position-Some}
+use Rattle.flow_packet.specs.Tree.{Tree, id_of, kind_of}
+use Rattle.flow_packet.specs.Held.{Held, next_id}
+use Rattle.flow_packet.specs.Edits.{hands_limit}
+use Rattle.flow_packet.specs.Hands.{packet_at}
+use Rattle.flow_component.specs.declared.Answer.{Answer}
+use Rattle.flow_component.specs.declared.Answer.TheVariants as answers
+use Rattle.flow_component.specs.declared.Shape.{Shape}
+use Rattle.flow_component.specs.declared.Fail.TheVariants as fails
+use Rattle.flow_component.specs.declared.Wish.{Wish}
+use Rattle.flow_component.specs.declared.Wish.TheVariants as wishes
+use Rattle.flow_component.specs.Laws.{Outcome, Wishes, Fails}
+use Rattle.flow_model.specs.declared.Stage.{Stage}
+use Rattle.flow_model.specs.declared.Stage.TheVariants as stages
+use Rattle.flow_model.specs.States.{Input, From, Process, Channel, Sender, is_sender, Kept, State, outlets, output_at}
+use Rattle.flow_model.specs.Plans.{Plan, PlanConnection, sends_at, receives_at, input_at, connected_or, text_at, process_at_start, processes_at_start, start_of, StartsWell}
+use Rattle.flow_model.specs.Wires.{Wires, wires, SameWires}
+use Rattle.flow_model.specs.Rising.{LeadsOn}
+use Rattle.flow_model.specs.Events.{Event, Starts, Finishes, Gets, Takes_text, Hears_end, Sends, Learns, Sleeps, Closes, Look, looks, event_of, stage_event}
+use Rattle.flow_model.specs.Turns.{Turn, process_after, limited, closing_on, turn_limit}
+use Rattle.flow_model.specs.Works.{Work, worked, judged, sending, nests}
+use Rattle.flow_model.specs.Schedules.{Settles, Journal, Leads, LeadsBy}
+use Rattle.flow_model.specs.Valid.{HasToClose, SendersOpen, IsFailedStage}
+use Rattle.flow_model.specs.Verdicts.{IsFinished}
+use Rattle.flow_model.proofs.Lists.{slice_get-set_same, slice_get-set_other, same_or_not}
+use Rattle.flow_model.proofs.Inverse.{explains}
+use Rattle.flow_model.proofs.Blocks.{outlet-of}
+use Rattle.flow_model.proofs.Order.{inputs-after, outputs-after, outputs-worked}
+use Rattle.flow_model.proofs.Senders.{SendersOpen-turn, SendersOpen-work, both-true}
+use Rattle.flow_model.proofs.Start.{start-process, start-senders, no_connection}
+use Rattle.flow_model.proofs.Leaving.{process-there, ports-at, open-place}
+use Rattle.flow_model.proofs.Wiring.{wires-leads}
+use Rattle.flow_model.proofs.Exhausting.{IsDry, finishes-all, all-dry}
+
+-- It closes its outputs, or has closed them.
+abbrev pub HasBegun : Stage → Type 0
+HasBegun stages.Idle = ⊥
+HasBegun (stages.Told answer) = ⊥
+HasBegun (stages.Wishing wish) = ⊥
+HasBegun (stages.Closing i) = Unit {0}
+HasBegun stages.Ended = Unit {0}
+HasBegun (stages.Failed cause) = ⊥
+
+-- What a turn does to the stages
+
+told-not : (b : Bool) (answer : Answer) → HasBegun (cond b (stages.Failed fails.TurnLimit) (stages.Told answer)) → ⊥
+told-not true answer has = has
+told-not false answer has = has
+
+idle-not : (b : Bool) → HasBegun (cond b (stages.Failed fails.TurnLimit) stages.Idle) → ⊥
+idle-not true has = has
+idle-not false has = has
+
+-- one that begins by a turn finishes by it
+begun-before : {K : Type 0} (channels : List Channel) (x : Process K) (n : ℕ) (e : Event) → event_of channels x n ≡ Some e → HasBegun (process_after x e).stage → HasBegun x.stage ⊎ (e ≡ Finishes)
+begun-before channels x n Starts is has = absurd (told-not (x.turns + 1 == turn_limit) answers.Start has)
+begun-before channels x n Finishes is has = inr refl
+begun-before channels x n (Gets port c packet) is has = absurd (told-not (x.turns + 1 == turn_limit) (answers.Got (id_of packet)) has)
+begun-before channels x n (Takes_text port text) is has = absurd (told-not (x.turns + 1 == turn_limit) (answers.Got (next_id x.held)) has)
+begun-before channels x n (Hears_end port) is has = absurd (told-not (x.turns + 1 == turn_limit) answers.End has)
+begun-before channels x n (Sends port c packet) is has = absurd (told-not (x.turns + 1 == turn_limit) answers.Sent has)
+begun-before channels x n (Learns port level) is has = absurd (told-not (x.turns + 1 == turn_limit) (answers.Level level) has)
+begun-before channels x n Sleeps is has = absurd (idle-not (x.turns + 1 == turn_limit) has)
+begun-before channels x n (Closes output c) is has = inl (subst HasBegun (sym (explains channels x n (Closes output c) is).stage) tt)
+
+limited-begun : (n : ℕ) (b c : Bool) (i : ℕ) → (n == turn_limit) ≡ c → HasBegun (limited n (cond b (stages.Closing i) stages.Ended)) ⊎ IsFailedStage (limited n (cond b (stages.Closing i) stages.Ended))
+limited-begun n true true i t = inr (rw t tt)
+limited-begun n true false i t = inl (rw t tt)
+limited-begun n false c i t = inl tt
+
+-- one that closes goes on closing, has closed all, or fails
+begun-after : {K : Type 0} (channels : List Channel) (x : Process K) (n : ℕ) (e : Event) → event_of channels x n ≡ Some e → HasBegun x.stage → HasBegun (process_after x e).stage ⊎ IsFailedStage (process_after x e).stage
+begun-after channels x n Starts is has = absurd (subst HasBegun (explains channels x n Starts is) has)
+begun-after channels x n Finishes is has = absurd (subst HasBegun (explains channels x n Finishes is) has)
+begun-after channels x n (Gets port c packet) is has = absurd (subst HasBegun (explains channels x n (Gets port c packet) is).stage has)
+begun-after channels x n (Takes_text port text) is has = absurd (subst HasBegun (explains channels x n (Takes_text port text) is).stage has)
+begun-after channels x n (Hears_end port) is has = absurd (subst HasBegun (explains channels x n (Hears_end port) is).stage has)
+begun-after channels x n (Sends port c packet) is has = absurd (subst HasBegun (explains channels x n (Sends port c packet) is).stage has)
+begun-after channels x n (Learns port level) is has = absurd (subst HasBegun (explains channels x n (Learns port level) is).stage has)
+begun-after channels x n Sleeps is has = absurd (subst HasBegun (explains channels x n Sleeps is) has)
+begun-after channels x n (Closes output c) is has =
+    let at = explains channels x n (Closes output c) is in
+    let Goal : Stage → Type 0 = λ stage. HasBegun (limited (x.turns + 1) (closing_on x stage)) ⊎ IsFailedStage (limited (x.turns + 1) (closing_on x stage)) in
+    subst Goal (sym at.stage) (limited-begun (x.turns + 1) (nat_lt (at.i + 1) (length (outlets x))) (x.turns + 1 == turn_limit) (at.i + 1) refl)
+
+-- one that has failed has no turn
+stays-failed : {K : Type 0} (ls : List Look) (x : Process K) (n : ℕ) (e : Event) (stage : Stage) → stage_event ls x n stage ≡ Some e → IsFailedStage stage → ⊥
+stays-failed ls x n e stages.Idle is has = has
+stays-failed ls x n e (stages.Told answer) is has = has
+stays-failed ls x n e (stages.Wishing wish) is has = has
+stays-failed ls x n e (stages.Closing i) is has = has
+stays-failed ls x n e stages.Ended is has = has
+stays-failed ls x n e (stages.Failed cause) is has = cc
+
+-- a work begins nothing
+judged-not : (depths : List ℕ) (held : Held) (wish : Wish) → HasBegun (judged depths held wish) → ⊥
+judged-not depths held (wishes.Receive port) has = by (nat_lt (length held.packets) hands_limit) has
+  where
+    by : (b : Bool) → HasBegun (cond b (stages.Wishing (wishes.Receive port)) (stages.Failed fails.HandsLimit)) → ⊥
+    by true h = h
+    by false h = h
+judged-not depths held (wishes.Send port id) has = by (packet_at held.packets id) has
+  where
+    nested : (b : Bool) → HasBegun (cond b (stages.Wishing (wishes.Send port id)) (stages.Failed (fails.Unnested port))) → ⊥
+    nested true h = h
+    nested false h = h
+
+    by : (found : Option Tree) → HasBegun (sending depths port id found) → ⊥
+    by (Some packet) h = nested (nests (kind_of packet) (slice_index depths port.0)) h
+    by None h = h
+judged-not depths held (wishes.Level port) has = has
+judged-not depths held wishes.Deactivate has = has
+
+worked-not : {K : Type 0} (x : Process K) (outcome : Outcome K) → HasBegun (worked x outcome).stage → ⊥
+worked-not x (Wishes part held wish) has = judged-not x.depths held wish has
+worked-not x (Fails part held cause) has = has
+
+-- The order in which processes began to close
+
+-- Those that have begun have a rank below this number, and each has a higher one than all that feed it, which have begun or failed.
+record Ranks {K : Type 0} (processes : List (Process K)) (rank : ℕ → ℕ) (top : ℕ) : Type 0 where
+  below : (p : ℕ) (y : Process K) → slice_get processes p ≡ Some y → HasBegun y.stage → rank p < top
+  rises : (q p o i c : ℕ) (x y : Process K) → slice_get processes q ≡ Some x → output_at x o ≡ Some c → slice_get processes p ≡ Some y → slice_get y.inputs i ≡ Some (From c) → HasBegun y.stage
+      → (HasBegun x.stage × (rank q < rank p)) ⊎ IsFailedStage x.stage
+
+-- in a list where a process was set stands that one, or another that stood there
+found-set : {K : Type 0} (processes : List (Process K)) (p : ℕ) (x y : Process K) → slice_get processes p ≡ Some x → (q : ℕ) (z : Process K) → slice_get (slice_set processes p y) q ≡ Some z
+    → ((q ≡ p) × (y ≡ z)) ⊎ ((q ≢ p) × (slice_get processes q ≡ Some z))
+found-set processes p x y there q z is = elim (same_or_not q p) as (λ _. ((q ≡ p) × (y ≡ z)) ⊎ ((q ≢ p) × (slice_get processes q ≡ Some z))) [
+  | inl same ↦ (let h : Some y ≡ Some z = sym (ap (slice_get (slice_set processes p y)) same ∙ slice_get-set_same processes p x y there) ∙ is in let e : y ≡ z = cc in inl (same, e))
+  | inr other ↦ inr (other, sym (slice_get-set_other processes p q y other) ∙ is)
+]
+
+-- where a process may still close an output, its connection isn't dry
+open-not-dry : {K : Type 0} (kept : Kept K) → SendersOpen kept → (q o c : ℕ) (x : Process K) → slice_get kept.processes q ≡ Some x → output_at x o ≡ Some c → ((j : ℕ) → HasToClose x.stage j) → IsDry kept.channels c → ⊥
+open-not-dry {K} kept senders q o c x there out has h = by (slice_get x.outputs o) refl out
+  where
+    by : (found : Option (Option ℕ)) → slice_get x.outputs o ≡ found → option_and_then (λ (d : Option ℕ). d) found ≡ Some c → ⊥
+    by None at is = cc
+    by (Some None) at is = cc
+    by (Some (Some d)) at is =
+        let same : d ≡ c = cc in
+        let let_out = outlet-of 0 x.outputs o d at in
+        let open_one = senders q let_out.0 x let_out.1 there let_out.2 (has let_out.0) in
+        let k : Some h.channel ≡ Some open_one.0 = sym h.there ∙ ap (slice_get kept.channels) (sym same ∙ sym let_out.3) ∙ open_one.1 in
+        let ch : h.channel ≡ open_one.0 = cc in
+        let z : open_one.0.open_senders ≡ [] = sym (ap (λ (c : Channel). c.open_senders) ch) ∙ h.closed in
+        (let bad = rw z at open_one.2 in cc)
+
+-- a process may still close all, has begun, or has failed
+stands : (stage : Stage) → ((j : ℕ) → HasToClose stage j) ⊎ (HasBegun stage ⊎ IsFailedStage stage)
+stands stages.Idle = inl (λ j. tt)
+stands (stages.Told answer) = inl (λ j. tt)
+stands (stages.Wishing wish) = inl (λ j. tt)
+stands (stages.Closing i) = inr (inl tt)
+stands stages.Ended = inr (inl tt)
+stands (stages.Failed cause) = inr (inr tt)
+
+abbrev placed : ℕ → ℕ → (ℕ → ℕ) → ℕ → ℕ
+placed p top rank j = if j == p then top else rank j
+
+placed-here : (p top : ℕ) (rank : ℕ → ℕ) (j : ℕ) → j ≡ p → placed p top rank j ≡ top
+placed-here p top rank j same = let t : nat_eq j p ≡ true = grind (arith, nat_tests) in rw t refl
+
+placed-other : (p top : ℕ) (rank : ℕ → ℕ) (j : ℕ) → j ≢ p → placed p top rank j ≡ rank j
+placed-other p top rank j other = let t : nat_eq j p ≡ false = grind (arith, nat_tests) in rw t refl
+
+is-finish : (e : Event) → (e ≡ Finishes) ⊎ (e ≡ Finishes → ⊥)
+is-finish Starts = inr (λ h. cc)
+is-finish Finishes = inl refl
+is-finish (Gets port c packet) = inr (λ h. cc)
+is-finish (Takes_text port text) = inr (λ h. cc)
+is-finish (Hears_end port) = inr (λ h. cc)
+is-finish (Sends port c packet) = inr (λ h. cc)
+is-finish (Learns port level) = inr (λ h. cc)
+is-finish Sleeps = inr (λ h. cc)
+is-finish (Closes output c) = inr (λ h. cc)
+
+module _ {K : Type 0} (kept : Kept K) (p : ℕ) (x : Process K) (n : ℕ) (e : Event) (there : slice_get kept.processes p ≡ Some x) (happens : event_of kept.channels x n ≡ Some e) (rank : ℕ → ℕ) (top : ℕ) (old : Ranks kept.processes rank top) where
+  abbrev Edge : (ℕ → ℕ) → ℕ → ℕ → Process K → Type 0
+  Edge ranks q r u = (HasBegun u.stage × (ranks q < ranks r)) ⊎ IsFailedStage u.stage
+
+  out-before : (o c : ℕ) (u : Process K) → process_after x e ≡ u → output_at u o ≡ Some c → output_at x o ≡ Some c
+  out-before o c u same out = ap (λ (os : List (Option ℕ)). option_and_then (λ (d : Option ℕ). d) (slice_get os o)) (sym (outputs-after x e) ∙ ap (λ (z : Process K). z.outputs) same) ∙ out
+
+  in-before : (i c : ℕ) (u : Process K) → process_after x e ≡ u → slice_get u.inputs i ≡ Some (From c) → slice_get x.inputs i ≡ Some (From c)
+  in-before i c u same at = ap (λ (is : List Input). slice_get is i) (sym (inputs-after x e) ∙ ap (λ (z : Process K). z.inputs) same) ∙ at
+
+  -- a turn that isn't a finish leaves the ranks as they are
+  module _ (goes_on : e ≡ Finishes → ⊥) where
+    begun : (u : Process K) → process_after x e ≡ u → HasBegun u.stage → HasBegun x.stage
+    begun u same has = elim (begun-before kept.channels x n e happens (subst (λ (z : Process K). HasBegun z.stage) (sym same) has)) [ inl b ↦ b | inr f ↦ absurd (goes_on f) ]
+
+    from-edge : (q r o i c : ℕ) (u y : Process K) → slice_get (slice_set kept.processes p (process_after x e)) q ≡ Some u → output_at u o ≡ Some c → slice_get kept.processes r ≡ Some y → slice_get y.inputs i ≡ Some (From c) → HasBegun y.stage → Edge rank q r u
+    from-edge q r o i c u y is out at inp has = elim (found-set kept.processes p x (process_after x e) there q u is) as (λ _. Edge rank q r u) [
+      | inl same ↦ elim (old.rises p r o i c x y there (out-before o c u same.1 out) at inp has) as (λ _. Edge rank q r u) [
+        | inl b ↦ elim (begun-after kept.channels x n e happens b.0) as (λ _. Edge rank q r u) [
+          | inl more ↦ inl (subst (λ (z : Process K). HasBegun z.stage) same.1 more, subst (λ (k : ℕ). rank k < rank r) (sym same.0) b.1)
+          | inr failed ↦ inr (subst (λ (z : Process K). IsFailedStage z.stage) same.1 failed)
+        ]
+        | inr failed ↦ absurd (stays-failed (looks kept.channels) x n e x.stage happens failed)
+      ]
+      | inr other ↦ old.rises q r o i c u y other.1 out at inp has
+    ]
+
+    ranks-on : Ranks (slice_set kept.processes p (process_after x e)) rank (suc top)
+    ranks-on = record {
+      below = λ q y is has. elim (found-set kept.processes p x (process_after x e) there q y is) as (λ _. rank q < suc top) [
+        | inl same ↦ (let b = old.below p x there (begun y same.1 has) in let z = same.0 in let w : rank q < top = subst (λ (k : ℕ). rank k < top) (sym z) b in omega (arith, w))
+        | inr other ↦ (let b = old.below q y other.1 has in omega (arith, b))
+      ];
+      rises = λ q r o i c u y is out at inp has. elim (found-set kept.processes p x (process_after x e) there r y at) as (λ _. Edge rank q r u) [
+        | inl same ↦ (let edge = from-edge q p o i c u x is out there (in-before i c y same.1 inp) (begun y same.1 has) in subst (λ (k : ℕ). Edge rank q k u) (sym same.0) edge)
+        | inr other ↦ from-edge q r o i c u y is out other.1 inp has
+      ];
+    }
+
+  -- one that finishes gets a rank above all
+  module _ (senders : SendersOpen kept) (finishes : e ≡ Finishes) where
+    was-idle : x.stage ≡ stages.Idle
+    was-idle = explains kept.channels x n Finishes (happens ∙ ap (λ (f : Event). Some f) finishes)
+
+    dry : (i c : ℕ) → slice_get x.inputs i ≡ Some (From c) → IsDry kept.channels c
+    dry i c at = all-dry kept.channels x.inputs (finishes-all kept.channels x n (happens ∙ ap (λ (f : Event). Some f) finishes)) i c at
+
+    into : (q o i c : ℕ) (u : Process K) → slice_get (slice_set kept.processes p (process_after x e)) q ≡ Some u → output_at u o ≡ Some c → slice_get x.inputs i ≡ Some (From c) → Edge (placed p top rank) q p u
+    into q o i c u is out inp = elim (found-set kept.processes p x (process_after x e) there q u is) as (λ _. Edge (placed p top rank) q p u) [
+      | inl same ↦ absurd (open-not-dry kept senders p o c x there (out-before o c u same.1 out) (λ j. subst (λ (st : Stage). HasToClose st j) (sym was-idle) tt) (dry i c inp))
+      | inr other ↦ elim (stands u.stage) as (λ _. Edge (placed p top rank) q p u) [
+        | inl has ↦ absurd (open-not-dry kept senders q o c u other.1 out has (dry i c inp))
+        | inr over ↦ elim over as (λ _. Edge (placed p top rank) q p u) [
+          | inl b ↦ inl (b, (let l = old.below q u other.1 b in let here = placed-here p top rank p refl in let there' = placed-other p top rank q other.0 in omega (arith, l, here, there')))
+          | inr failed ↦ inr failed
+        ]
+      ]
+    ]
+
+    beside : (q r o i c : ℕ) (u y : Process K) → slice_get (slice_set kept.processes p (process_after x e)) q ≡ Some u → output_at u o ≡ Some c → r ≢ p → slice_get kept.processes r ≡ Some y → slice_get y.inputs i ≡ Some (From c) → HasBegun y.stage → Edge (placed p top rank) q r u
+    beside q r o i c u y is out apart at inp has = elim (found-set kept.processes p x (process_after x e) there q u is) as (λ _. Edge (placed p top rank) q r u) [
+      | inl same ↦ elim (old.rises p r o i c x y there (out-before o c u same.1 out) at inp has) as (λ _. Edge (placed p top rank) q r u) [
+        | inl b ↦ absurd (subst HasBegun was-idle b.0)
+        | inr failed ↦ absurd (subst IsFailedStage was-idle failed)
+      ]
+      | inr other ↦ elim (old.rises q r o i c u y other.1 out at inp has) as (λ _. Edge (placed p top rank) q r u) [
+        | inl b ↦ inl (b.0, (let l = b.1 in let one = placed-other p top rank q other.0 in let two = placed-other p top rank r apart in omega (arith, l, one, two)))
+        | inr failed ↦ inr failed
+      ]
+    ]
+
+    ranks-finish : Ranks (slice_set kept.processes p (process_after x e)) (placed p top rank) (suc top)
+    ranks-finish = record {
+      below = λ q y is has. elim (found-set kept.processes p x (process_after x e) there q y is) as (λ _. placed p top rank q < suc top) [
+        | inl same ↦ (let here = placed-here p top rank q same.0 in omega (arith, here))
+        | inr other ↦ (let b = old.below q y other.1 has in let one = placed-other p top rank q other.0 in omega (arith, b, one))
+      ];
+      rises = λ q r o i c u y is out at inp has. elim (found-set kept.processes p x (process_after x e) there r y at) as (λ _. Edge (placed p top rank) q r u) [
+        | inl same ↦ subst (λ (k : ℕ). Edge (placed p top rank) q k u) (sym same.0) (into q o i c u is out (in-before i c y same.1 inp))
+        | inr other ↦ beside q r o i c u y is out other.0 other.1 inp has
+      ];
+    }
+
+-- Some ranks there are.
+record Ranked {K : Type 0} (kept : Kept K) : Type 0 where
+  rank : ℕ → ℕ
+  top : ℕ
+  ranks : Ranks kept.processes rank top
+  senders : SendersOpen kept
+
+ranked-turn : {K : Type 0} (s : State K) (p : ℕ) (e : Event) (s' : State K) → Turn s p e s' → Ranked s.kept → Ranked s'.kept
+ranked-turn {K} s p e s' turn r = elim (is-finish e) as (λ _. Ranked s'.kept) [
+  | inl f ↦ record {
+    rank = placed p r.top r.rank;
+    top = suc r.top;
+    ranks = subst (λ (ps : List (Process K)). Ranks ps (placed p r.top r.rank) (suc r.top)) (sym turn.kept.processes) (ranks-finish s.kept p turn.kept.before turn.kept.level e turn.kept.there turn.kept.happens r.rank r.top r.ranks r.senders f);
+    senders = SendersOpen-turn s p e s' turn r.senders;
+  }
+  | inr on ↦ record {
+    rank = r.rank;
+    top = suc r.top;
+    ranks = subst (λ (ps : List (Process K)). Ranks ps r.rank (suc r.top)) (sym turn.kept.processes) (ranks-on s.kept p turn.kept.before turn.kept.level e turn.kept.there turn.kept.happens r.rank r.top r.ranks on);
+    senders = SendersOpen-turn s p e s' turn r.senders;
+  }
+]
+
+module _ {K : Type 0} (next : K → Held → Answer → Outcome K → Type 0) where
+  module _ (s : State K) (p : ℕ) (s' : State K) (work : Work next s p s') (rank : ℕ → ℕ) (top : ℕ) (old : Ranks s.kept.processes rank top) where
+    abbrev x : Process K
+    x = work.before
+
+    abbrev y : Process K
+    y = worked work.before work.outcome
+
+    told-none : HasBegun x.stage → ⊥
+    told-none has = subst HasBegun work.kept.told has
+
+    told-stands : IsFailedStage x.stage → ⊥
+    told-stands has = subst IsFailedStage work.kept.told has
+
+    ranks-work : Ranks (slice_set s.kept.processes p y) rank top
+    ranks-work = record {
+      below = λ q z is has. elim (found-set s.kept.processes p x y work.kept.there q z is) as (λ _. rank q < top) [
+        | inl same ↦ absurd (worked-not work.before work.outcome (subst (λ (w : Process K). HasBegun w.stage) (sym same.1) has))
+        | inr other ↦ old.below q z other.1 has
+      ];
+      rises = λ q r o i c u z is out at inp has. elim (found-set s.kept.processes p x y work.kept.there r z at) as (λ _. (HasBegun u.stage × (rank q < rank r)) ⊎ IsFailedStage u.stage) [
+        | inl same ↦ absurd (worked-not work.before work.outcome (subst (λ (w : Process K). HasBegun w.stage) (sym same.1) has))
+        | inr other ↦ elim (found-set s.kept.processes p x y work.kept.there q u is) as (λ _. (HasBegun u.stage × (rank q < rank r)) ⊎ IsFailedStage u.stage) [
+          | inl same ↦ (let out' : output_at x o ≡ Some c = ap (λ (os : List (Option ℕ)). option_and_then (λ (d : Option ℕ). d) (slice_get os o)) (sym (outputs-worked x work.outcome) ∙ ap (λ (w : Process K). w.outputs) same.1) ∙ out in
+              elim (old.rises p r o i c x z work.kept.there out' other.1 inp has) as (λ _. (HasBegun u.stage × (rank q < rank r)) ⊎ IsFailedStage u.stage) [ inl b ↦ absurd (told-none b.0) | inr failed ↦ absurd (told-stands failed) ])
+          | inr apart ↦ old.rises q r o i c u z apart.1 out other.1 inp has
+        ]
+      ];
+    }
+
+  ranked-work : (s : State K) (p : ℕ) (s' : State K) → Work next s p s' → Ranked s.kept → Ranked s'.kept
+  ranked-work s p s' work r = record {
+    rank = r.rank;
+    top = r.top;
+    ranks = subst (λ (ps : List (Process K)). Ranks ps r.rank r.top) (sym work.kept.processes) (ranks-work s p s' work r.rank r.top r.ranks);
+    senders = SendersOpen-work next s p s' work r.senders;
+  }
+
+  ranked-settles : (s : State K) (p : ℕ) (s' : State K) → Settles next s p s' → Ranked s.kept → Ranked s'.kept
+  ranked-settles s p s' (inl none) r = subst (λ (t : State K). Ranked t.kept) (sym none.1) r
+  ranked-settles s p s' (inr work) r = ranked-work s p s' work r
+
+  ranked-leads : (s : State K) (turns seen : List ℕ) (s' : State K) → LeadsBy next s turns seen s' → Ranked s.kept → Ranked s'.kept
+  ranked-leads s [] seen s' leads r = subst (λ (t : State K). Ranked t.kept) (sym leads.1) r
+  ranked-leads s (p ∷ turns) seen s' leads r =
+      let whole = leads.3 in
+      ranked-leads leads.1 turns leads.2 s' leads.5 (ranked-settles whole.0 p leads.1 whole.2 (ranked-turn s p leads.0 whole.0 whole.1 r))
+
+-- The plan's ports in the last state
+
+map-found : {A B : Type 0} (f : A → B) (xs : List A) (k : ℕ) (y : B) → slice_get (map f xs) k ≡ Some y → (x : A) × (slice_get xs k ≡ Some x) × (f x ≡ y)
+map-found f [] k y is = absurd (cc)
+map-found f (x ∷ xs) zero y is = (x, refl, (let h : f x ≡ y = cc in h))
+map-found f (x ∷ xs) (suc k) y is = map-found f xs k y is
+
+get-there : {A : Type 0} (xs : List A) (c : ℕ) (d : A) → c < length xs → slice_get xs c ≡ Some (get_or xs c d)
+get-there [] c d l = absurd (omega arith)
+get-there (x ∷ xs) zero d l = refl
+get-there (x ∷ xs) (suc c) d l = get-there xs c d (omega arith)
+
+module _ {K : Type 0} (shape_of : K → Shape) (uses : K → ℕ → Bool) (ready : K → Held → Answer → Type 0) (next : K → Held → Answer → Outcome K → Type 0) (plan : Plan) (parts : List K) (journal : Journal) (s : State K) (well : StartsWell shape_of uses ready plan parts) (leads : Leads next (start_of plan parts) journal s) where
+  kept-wires : SameWires (start_of plan parts) s
+  kept-wires = (wires-leads next plan parts journal s leads).0
+
+  now : (p : ℕ) (z : Process K) → slice_get (processes_at_start plan 0 plan.processes parts) p ≡ Some z → (x : Process K) × (slice_get s.kept.processes p ≡ Some x) × (wires x ≡ wires z)
+  now p z there =
+      let h : slice_get (map wires s.kept.processes) p ≡ Some (wires z) = ap (λ (ws : List Wires). slice_get ws p) kept-wires ∙ slice_get-map wires (processes_at_start plan 0 plan.processes parts) p ∙ ap (option_map wires) there in
+      map-found wires s.kept.processes p (wires z) h
+
+  -- whoever sends by the plan does so in the last state
+  sends-now : (p o c : ℕ) → sends_at plan p o ≡ Some c → (x : Process K) × (slice_get s.kept.processes p ≡ Some x) × (output_at x o ≡ Some c)
+  sends-now p o c sends =
+      let sender : Sender = record { process = p; output = o } in
+      let pos = position-Some (λ (x : PlanConnection). list_any (is_sender sender) x.senders) plan.connections c no_connection sends in
+      let connection = get_or plan.connections c no_connection in
+      let at = open-place sender connection.senders pos.1 in
+      let spec = well.wired.senders c at.0 connection sender (get-there plan.connections c no_connection pos.0) at.1 in
+      let found = process-there plan 0 plan.processes parts p spec.0 well.one_each spec.1 in
+      let zero_p : 0 + p ≡ p = omega arith in
+      let z : Process K = process_at_start plan p spec.0 found.0 in
+      let x = now p z (found.1 ∙ ap (λ (m : ℕ). Some (process_at_start plan m spec.0 found.0)) zero_p) in
+      let zero_o : 0 + o ≡ o = omega arith in
+      let output : slice_get z.outputs o ≡ Some (Some c) = ports-at (sends_at plan p) 0 spec.0.outputs o spec.2 ∙ ap (λ (m : ℕ). Some (sends_at plan p m)) zero_o ∙ ap (λ (d : Option ℕ). Some d) sends in
+      (x.0, x.1, ap (λ (w : Wires). option_and_then (λ (d : Option ℕ). d) (slice_get w.outputs o)) x.2 ∙ ap (option_and_then (λ (d : Option ℕ). d)) output)
+
+  -- and whoever receives by the plan
+  receives-now : (q i c : ℕ) → receives_at plan q i ≡ Some c → (y : Process K) × (slice_get s.kept.processes q ≡ Some y) × (slice_get y.inputs i ≡ Some (From c))
+  receives-now q i c receive =
+      let pos = position-Some (λ (x : PlanConnection). (x.receiver == q) && (x.input == i)) plan.connections c no_connection receive in
+      let connection = get_or plan.connections c no_connection in
+      let is = both-true connection.receiver q connection.input i pos.1 in
+      let spec = well.wired.receivers c connection (get-there plan.connections c no_connection pos.0) in
+      let there : slice_get plan.processes q ≡ Some spec.0 = ap (slice_get plan.processes) (sym is.0) ∙ spec.1 in
+      let found = process-there plan 0 plan.processes parts q spec.0 well.one_each there in
+      let zero_q : 0 + q ≡ q = omega arith in
+      let z : Process K = process_at_start plan q spec.0 found.0 in
+      let y = now q z (found.1 ∙ ap (λ (m : ℕ). Some (process_at_start plan m spec.0 found.0)) zero_q) in
+      let below : i < spec.0.inputs = (let l = spec.2 in omega (arith, l, is.1)) in
+      let zero_i : 0 + i ≡ i = omega arith in
+      let input : slice_get z.inputs i ≡ Some (From c) = ports-at (input_at plan q spec.0) 0 spec.0.inputs i below ∙ ap (λ (m : ℕ). Some (input_at plan q spec.0 m)) zero_i ∙ ap (λ (d : Option ℕ). Some (connected_or (text_at spec.0.initials i) d)) receive in
+      (y.0, y.1, ap (λ (w : Wires). slice_get w.inputs i) y.2 ∙ input)
+
+  start-ranked : Ranked (start_of plan parts).kept
+  start-ranked = record {
+    rank = λ _. 0;
+    top = 0;
+    ranks = record {
+      below = λ p y is has. absurd (idle-start p y is has);
+      rises = λ q p o i c x y hx ho hy hi has. absurd (idle-start p y hy has);
+    };
+    senders = start-senders plan parts;
+  }
+    where
+      idle-start : (p : ℕ) (y : Process K) → slice_get (processes_at_start plan 0 plan.processes parts) p ≡ Some y → HasBegun y.stage → ⊥
+      idle-start p y is has = subst (λ (z : Process K). HasBegun z.stage) (start-process plan parts p y is).is has
+
+  pub finished-leads_on : IsFinished s → LeadsOn plan
+  finished-leads_on finished =
+      let r = ranked-leads next (start_of plan parts) journal.turns journal.seen s leads start-ranked in
+      record {
+        rank = r.rank;
+        rises = λ p o q i c sends receive. (
+            let x = sends-now p o c sends in
+            let y = receives-now q i c receive in
+            elim (r.ranks.rises p q o i c x.0 y.0 x.1 x.2 y.1 y.2 (subst HasBegun (sym (finished q y.0 y.1)) tt)) [ inl b ↦ b.1 | inr failed ↦ absurd (subst IsFailedStage (finished p x.0 x.1) failed) ]
+            );
+      }

@@ -1,0 +1,22 @@
+-- That no connection leads back. (This project's own; Morrison's book tells of loops among the causes of deadlocks.)
+use Rattle.std.specs.Prelude.{◌≡◌, ℕ, ◌<◌, Some}
+use Rattle.std.specs.Prelude.{List, Bool}
+use Rattle.flow_packet.specs.Held.{Held}
+use Rattle.flow_component.specs.declared.Answer.{Answer}
+use Rattle.flow_component.specs.declared.Shape.{Shape}
+use Rattle.flow_component.specs.Laws.{Outcome}
+use Rattle.flow_model.specs.States.{State}
+use Rattle.flow_model.specs.Schedules.{Journal, Leads}
+use Rattle.flow_model.specs.Plans.{Plan, sends_at, receives_at, start_of, StartsWell}
+use Rattle.flow_model.specs.Verdicts.{IsFinished}
+
+-- No connection leads back: each leads from a lower to a higher process by some order of them.
+pub record LeadsOn (plan : Plan) : Type 0 where
+  pub rank : ℕ → ℕ
+  pub rises : (p o q i c : ℕ) → sends_at plan p o ≡ Some c → receives_at plan q i ≡ Some c → rank p < rank q
+
+-- Whatever the schedule, where a network has finished no connection of its plan leads back: a process begins to close only once all that feed it have, so those on
+-- a circle never do.
+abbrev pub FinishedLeadsOn : {K : Type 0} → (K → Shape) → (K → ℕ → Bool) → (K → Held → Answer → Type 0) → (K → Held → Answer → Outcome K → Type 0) → Type 0
+FinishedLeadsOn {K} shape_of uses ready next =
+    (plan : Plan) (parts : List K) (journal : Journal) (s : State K) → StartsWell shape_of uses ready plan parts → Leads next (start_of plan parts) journal s → IsFinished s → LeadsOn plan
