@@ -10,7 +10,7 @@ use Rattle.flow_parts.specs.Meanings.{rendered_all, words_of}
 use Rattle.flow_parts.proofs.OneFilling.{one_filling}
 use Rattle.flow_catalogue.specs.declared.standard.Std.{Std}
 use Rattle.flow_catalogue.specs.declared.standard.Std.TheVariants as parts
-use Rattle.flow_catalogue.specs.Std.{std_shape, std_uses, StdReady}
+use Rattle.flow_catalogue.specs.Std.{std_shape, std_uses, StdReady, StdNext}
 use Rattle.flow_model.specs.States.{Sender, is_sender}
 use Rattle.flow_model.specs.Plans.{Plan, PlanProcess, PlanConnection, sends_at, receives_at, input_at, connected_or, text_at, process_at_start, StartsWell}
 use Rattle.flow_model.proofs.Senders.{both-true}
