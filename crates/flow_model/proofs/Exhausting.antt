@@ -182,7 +182,7 @@ pub record FirstInput (channels : List Channel) (inputs : List Input) : Type 0 w
 one-later : (channels : List Channel) (i : Input) (inputs : List Input) → FirstInput channels inputs → FirstInput channels (i ∷ inputs)
 one-later channels i inputs f = record { port = suc f.port; within = (let h = f.within in omega arith); connection = f.connection; input = f.input; some = f.some }
 
-first-input : (channels : List Channel) (inputs : List Input) → list_any (has_packet (looks channels)) inputs ≡ true → FirstInput channels inputs
+pub first-input : (channels : List Channel) (inputs : List Input) → list_any (has_packet (looks channels)) inputs ≡ true → FirstInput channels inputs
 first-input channels [] is = absurd (cc)
 first-input channels (From c ∷ inputs) is = by (passes holds_packet (slice_get (looks channels) c)) refl (first-input channels inputs) is
   where

@@ -130,7 +130,7 @@ record Ranks {K : Type 0} (processes : List (Process K)) (rank : ℕ → ℕ) (t
       → (HasBegun x.stage × (rank q < rank p)) ⊎ IsFailedStage x.stage
 
 -- in a list where a process was set stands that one, or another that stood there
-found-set : {K : Type 0} (processes : List (Process K)) (p : ℕ) (x y : Process K) → slice_get processes p ≡ Some x → (q : ℕ) (z : Process K) → slice_get (slice_set processes p y) q ≡ Some z
+pub found-set : {K : Type 0} (processes : List (Process K)) (p : ℕ) (x y : Process K) → slice_get processes p ≡ Some x → (q : ℕ) (z : Process K) → slice_get (slice_set processes p y) q ≡ Some z
     → ((q ≡ p) × (y ≡ z)) ⊎ ((q ≢ p) × (slice_get processes q ≡ Some z))
 found-set processes p x y there q z is = elim (same_or_not q p) as (λ _. ((q ≡ p) × (y ≡ z)) ⊎ ((q ≢ p) × (slice_get processes q ≡ Some z))) [
   | inl same ↦ (let h : Some y ≡ Some z = sym (ap (slice_get (slice_set processes p y)) same ∙ slice_get-set_same processes p x y there) ∙ is in let e : y ≡ z = cc in inl (same, e))

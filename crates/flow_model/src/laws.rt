@@ -2,6 +2,7 @@
 ghost use Rattle.flow_model.specs.Laws.{KeepsPackets, KeepsOrder, KeepsPrefixes, KeepsOpen, KeepsFew, HasOneVerdict, KeepsOpenSenders, LeavesClosed, KeepsTotals, RoundRobinLeads, IsOneRoundRobin, HasRoundRobin, HasOneRoundRobin, LeadsToOneState, HasPrefixes, TurnsAreSchedule};
 ghost use Rattle.flow_model.specs.Wires.{KeepsWires};
 ghost use Rattle.flow_model.specs.Rising.{FinishedLeadsOn};
+ghost use Rattle.flow_model.specs.Woken.{KeepsWoken};
 ghost use Rattle.flow_model.specs.Runs.{KeepsRuns, KeepsRunsOpen, KeepsGotAll};
 
 use flow_component::Component;
@@ -87,4 +88,9 @@ pub fn every_schedule_keeps_the_wires<K: Component>()
 /// Where a network has finished, no connection leads back: a process begins to close only once all that feed it have.
 pub fn a_finished_network_leads_on<K: Component>()
     ensures { FinishedLeadsOn K.shape_of K.uses K.ready K.next }
+{}
+
+/// After every schedule from such a start a process that was started has no connected input, or a packet was put for it.
+pub fn every_start_was_woken<K: Component>()
+    ensures { KeepsWoken K.shape_of K.uses K.ready K.next }
 {}

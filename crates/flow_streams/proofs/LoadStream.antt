@@ -235,4 +235,4 @@ load_run n (e ∷ es) q d p phase st r = step n es p r.0 q e phase st r.1 r.2 (l
 pub load_meaning : LoadBalanceMeaning
 load_meaning n told run =
     let l = load_run n told run.last run.idle (fresh (fresh_load n) run.maker) Resting (refl, inr refl) run.runs in
-    record { routes = routes_of told; all = l.0; each = λ o. sent-routed o told; within = l.1; whole = l.2 }
+    record { routes = routes_of told; all = l.0; each = λ o below. sent-routed o told; within = l.1; whole = l.2 }

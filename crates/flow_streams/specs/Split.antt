@@ -26,6 +26,6 @@ going_to output routes = map (λ routed. routed.content) (filter (λ routed. rou
 pub record IsSplit (n : ℕ) (x : List Tree) (y : ℕ → List Tree) : Type 0 where
   pub routes : List Routed
   pub all : map (λ routed. routed.content) routes ≡ x
-  pub each : (output : ℕ) → y output ≡ going_to output routes
+  pub each : (output : ℕ) → output < n → y output ≡ going_to output routes
   pub within : AreWithin n routes
   pub whole : StaysWhole 0 0 routes
