@@ -58,7 +58,7 @@ at_number c n leaving = record { connected = c; number = n; leaving = leaving }
 
 abbrev Stands : Bool → ℕ → List Happening → Poise CountState → Phase → Type 0
 Stands c n before p Receiving = (p.wish ≡ receive_first) × (p.part ≡ at_number c n false)
-Stands c n before p (Passing t) = (p.wish ≡ send_first (id_of t)) × (p.part ≡ at_number c n false) × (p.held.packets ≡ t ∷ [])
+Stands c n before p (Passing t) = (p.wish ≡ send_first (id_of t)) × (p.part ≡ at_number c n false) × (p.held.packets ≡ t ∷ []) × (c ≡ true)
 Stands c n before p (Leaving id) = (p.wish ≡ wishes.Send (record { 0 = 1 }) id) × (p.part ≡ at_number c n true) × (contents_in (packet_at p.held.packets id) ≡ text_packet (decimal n) ∷ []) × HeardEnd 0 before
 Stands c n before p Over = (p.wish ≡ wishes.Deactivate) × HeardEnd 0 before
 
@@ -67,6 +67,7 @@ record Makes (c : Bool) (n : ℕ) (owed : List Tree) (es : List Happening) : Typ
   heard : HeardEnd 0 es
   count : sent 1 es ≡ text_packet (decimal (n + normals (got 0 es))) ∷ []
   passed : c ≡ true → sent 0 es ≡ owed ++ got 0 es
+  silent : c ≡ false → sent 0 es ≡ []
 
 abbrev Leads : Bool → ℕ → Phase → List Happening → Type 0
 Leads c n Receiving es = Makes c n [] es
@@ -104,12 +105,13 @@ takes true n es before port t held m q kind z alone k comes r w few rec =
     let wish : m.wish ≡ send_first (id_of t) = cc in
     let number : one_more kind n ≡ n + normal_one kind = counted-one kind n (omega arith) in
     let most : normal_one kind ≤ 1 = most-one kind in
-    let made : Makes true (one_more kind n) (content t ∷ []) es = rec (one_more kind n) (before ++ Received port t ∷ []) m (Passing t) (wish, part, ap (λ (h : Held). h.packets) hands ∙ alone) r w (omega arith) in
+    let made : Makes true (one_more kind n) (content t ∷ []) es = rec (one_more kind n) (before ++ Received port t ∷ []) m (Passing t) (wish, part, ap (λ (h : Held). h.packets) hands ∙ alone, refl) r w (omega arith) in
     let sum : one_more kind n + normals (got 0 es) ≡ n + (normal_one (kind_of (content t)) + normals (got 0 es)) = omega (arith, number, ap normal_one k) in
     record {
       heard = inr made.heard;
       count = rw z (made.count ∙ ap (λ (j : ℕ). text_packet (decimal j) ∷ []) sum);
       passed = λ e. rw z (made.passed refl);
+      silent = λ e. absurd (let h : true ≡ false = e in cc);
     }
   where
     most-one : (kind : Kind) → normal_one kind ≤ 1
@@ -127,6 +129,7 @@ takes false n es before port t held m q kind z alone k comes r w few rec =
       heard = inr made.heard;
       count = rw z (made.count ∙ ap (λ (j : ℕ). text_packet (decimal j) ∷ []) sum);
       passed = λ e. absurd (let h : false ≡ true = e in cc);
+      silent = λ e. made.silent refl;
     }
   where
     most-one : (kind : Kind) → normal_one kind ≤ 1
@@ -166,6 +169,7 @@ step c n es before p m q (Ended port) Receiving st s r w few rec =
       heard = inl port_is;
       count = l.2 ∙ ap (λ (j : ℕ). text_packet (decimal j) ∷ []) (zero ∙ ap (λ (ts : List Tree). n + normals ts) (sym l.0));
       passed = λ e. l.1 ∙ sym l.0;
+      silent = λ e. l.1;
     }
 step c n es before p m q (Sent port t) Receiving st s r w few rec = absurd (let h : wishes.Send (record { 0 = port }) (id_of t) ≡ receive_first = sym s.grants.0 ∙ st.0 in cc)
 step c n es before p m q (Learned port level) Receiving st s r w few rec = absurd s.is_ready
@@ -188,6 +192,7 @@ step c n es before p m q (Sent port t) (Passing u) st s r w few rec =
       heard = inr made.heard;
       count = rw y made.count;
       passed = λ e. rw z (λ i. content (same i) ∷ made.passed e i);
+      silent = λ e. absurd (let h : true ≡ false = sym st.3 ∙ e in cc);
     }
 step c n es before p m q (Learned port level) (Passing u) st s r w few rec = absurd s.is_ready
 step c n es before p m q Started (Leaving id) st s r w few rec = absurd (let h : wishes.Deactivate ≡ wishes.Send (record { 0 = 1 }) id = sym s.grants.0 ∙ st.0 in cc)
@@ -234,6 +239,7 @@ begun c Started es p m q is s r d brings w few =
     let first : BringsFirst 0 es = subst (λ (i : ℕ). BringsFirst i es) (zero_below brings.0.0 brings.0.1) brings.0.2 in
     record {
       passed = made.passed;
+      silent = made.silent;
       nothing = λ none. absurd (brought es first made.heard none);
       counted = λ some. made.count ∙ ap (λ (j : ℕ). text_packet (decimal j) ∷ []) (let e : 0 + normals (got 0 es) ≡ normals (got 0 es) = omega arith in e);
     }
@@ -243,5 +249,5 @@ begun c (Sent port t) es p m q is s r d brings w few = absurd (let h : wishes.Se
 begun c (Learned port level) es p m q is s r d brings w few = absurd s.is_ready
 
 pub count_meaning : CountMeaning
-count_meaning c [] run brings w few = record { passed = λ e. refl; nothing = λ e. refl; counted = λ some. absurd (some refl) }
+count_meaning c [] run brings w few = record { passed = λ e. refl; silent = λ e. refl; nothing = λ e. refl; counted = λ some. absurd (some refl) }
 count_meaning c (e ∷ es) run brings w few = begun c e es (fresh (fresh_count c) run.maker) run.runs.0 run.last refl run.runs.1 run.runs.2 run.idle brings w few

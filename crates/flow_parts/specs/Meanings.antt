@@ -72,10 +72,11 @@ abbrev pub normals : List Tree → ℕ
 normals [] = 0
 normals (packet ∷ x) = normal_one (kind_of packet) + normals x
 
--- What a Count makes of x: it sends x on where its first output is connected, and to its second output one packet with the number of the Normal packets, or nothing
+-- What a Count makes of x: it sends x on where its first output is connected, and nothing there otherwise; and to its second output one packet with the number of the Normal packets, or nothing
 -- where x is empty.
 pub record IsCounted (connected : Bool) (x y count : List Tree) : Type 0 where
   pub passed : connected ≡ true → y ≡ x
+  pub silent : connected ≡ false → y ≡ []
   pub nothing : x ≡ [] → count ≡ []
   pub counted : x ≢ [] → count ≡ text_packet (decimal (normals x)) ∷ []
 
