@@ -1,3 +1,6 @@
 pub mod Names
-pub mod Tables
-pub mod Standards
+mod Tables
+mod Rows
+mod Standards
+pub mod Connected
+mod Firsts

@@ -34,22 +34,6 @@ there-at [] p lt = absurd (omega arith)
 there-at (x ∷ xs) zero lt = (x, refl)
 there-at (x ∷ xs) (suc p) lt = there-at xs p (omega arith)
 
--- rows with one entry, and with two
-pub one-row : (rows : List PortRow) (spec : PortSpec) → entries rows ≡ spec ∷ [] → (row : PortRow) × (rows ≡ row ∷ []) × (row.spec ≡ spec)
-one-row [] spec is = absurd cc
-one-row (row ∷ []) spec is = let same : row.spec ≡ spec = cc in (row, refl, same)
-one-row (row ∷ other ∷ rows) spec is = absurd cc
-
-pub two-rows : (rows : List PortRow) (a b : PortSpec) → entries rows ≡ a ∷ b ∷ [] → (row : PortRow) × (other : PortRow) × (rows ≡ row ∷ other ∷ []) × (row.spec ≡ a) × (other.spec ≡ b)
-two-rows [] a b is = absurd cc
-two-rows (row ∷ []) a b is = absurd cc
-two-rows (row ∷ other ∷ []) a b is = let first : row.spec ≡ a = cc in let second : other.spec ≡ b = cc in (row, other, refl, first, second)
-two-rows (row ∷ other ∷ third ∷ rows) a b is = absurd cc
-
-pub no-row : (rows : List PortRow) → entries rows ≡ [] → rows ≡ []
-no-row [] is = refl
-no-row (row ∷ rows) is = absurd cc
-
 -- a list of options that are all at place 0, no two of them at different places of the list, is one option
 pub only-option : (options : List (ℕ × List ℕ)) (k : ℕ) (text : List ℕ) → slice_get options k ≡ Some (0, text)
     → ((j i : ℕ) (t : List ℕ) → slice_get options j ≡ Some (i, t) → i ≡ 0)

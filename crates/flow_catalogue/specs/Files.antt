@@ -1,8 +1,13 @@
 -- The file that a process reads or writes.
-use Rattle.std.specs.Prelude.{◌≡◌, ◌≢◌, [], ◌∷◌, Option, Some, None, codes}
+use Rattle.std.specs.Prelude.{◌≡◌, ◌≢◌, ℕ, List, [], ◌∷◌, Option, Some, None, codes}
+use Rattle.flow_net.specs.Options.{IsFileName}
 use Rattle.flow_net.specs.declared.plan.Process.{Process}
 use Rattle.flow_catalogue.specs.declared.process.FileUse.{FileUse}
 use Rattle.flow_catalogue.specs.declared.process.FileUse.TheVariants.{Read, Write}
+
+-- The only option of the process is the name of a file.
+abbrev pub NamesFile : Process → Type 0
+NamesFile process = (file : List ℕ) × (process.options ≡ (0, file) ∷ []) × IsFileName file
 
 -- A ReadLines reads the file that its option names, a WriteLines writes it, and no other kind has a file.
 abbrev pub UsesFile : Process → Option FileUse → Type 0

@@ -1,48 +1,43 @@
--- The table of the standard kinds.
-use Rattle.std.specs.Prelude.{ℕ, List, [], ◌∷◌, codes, true, false}
-use Rattle.flow_net.specs.declared.kind.PortClass.{PortClass}
-use Rattle.flow_net.specs.declared.kind.PortClass.TheVariants.{Stream, Number, File}
+-- The table of the standard kinds: one row for each. (Morrison's components and JavaFBP's; the ports are this project's own.)
+use Rattle.std.specs.Prelude.{ℕ, List, [], ◌∷◌, map, codes}
+use Rattle.flow_net.specs.declared.kind.PortClass.TheVariants.{Number, Fields, File}
 use Rattle.flow_net.specs.declared.kind.PortSpec.{PortSpec}
 use Rattle.flow_net.specs.declared.kind.KindSpec.{KindSpec}
 use Rattle.flow_catalogue.specs.declared.table.StdKind.{StdKind}
-use Rattle.flow_catalogue.specs.declared.table.StdKind.TheVariants.{ReadLines, WriteLines, Passthru, Words, Fill}
+use Rattle.flow_catalogue.specs.declared.table.StdKind.TheVariants.{ReadLines, WriteLines, Passthru, Words, Fill, Brackets, Copy, Concat, Collate, Discard, Bundle, Unbundle, Hoard, Count, LoadBalance, Select}
+use Rattle.flow_catalogue.specs.Rows.{option_port, stream_port, array_port, optional_port}
 
--- A kind's name in a network file.
-abbrev pub name_of : StdKind → List ℕ
-name_of ReadLines = codes "ReadLines"
-name_of WriteLines = codes "WriteLines"
-name_of Passthru = codes "Passthru"
-name_of Words = codes "Words"
-name_of Fill = codes "Fill"
-
--- A port that has to be bound, and isn't an array.
-abbrev pub needed_port : List ℕ → PortClass → PortSpec
-needed_port name class = record { name = name; class = class; array = false; needed = true }
-
--- Its option port for a file.
-abbrev pub file_port : PortSpec
-file_port = needed_port (codes "FILE") File
-
--- Its option port for the size of a line.
-abbrev pub size_port : PortSpec
-size_port = needed_port (codes "SIZE") (Number 1 1048576)
-
--- Its input for packets.
-abbrev pub in_port : PortSpec
-in_port = needed_port (codes "IN") Stream
-
--- Its output.
-abbrev pub out_port : PortSpec
-out_port = needed_port (codes "OUT") Stream
+-- A kind of this name, with these ports.
+abbrev pub row : List ℕ → List PortSpec → List PortSpec → KindSpec
+row name inputs outputs = record { name = name; inputs = inputs; outputs = outputs }
 
 -- A kind with its ports.
 abbrev pub spec_of : StdKind → KindSpec
-spec_of ReadLines = record { name = name_of ReadLines; inputs = file_port ∷ []; outputs = out_port ∷ [] }
-spec_of WriteLines = record { name = name_of WriteLines; inputs = file_port ∷ in_port ∷ []; outputs = [] }
-spec_of Passthru = record { name = name_of Passthru; inputs = in_port ∷ []; outputs = out_port ∷ [] }
-spec_of Words = record { name = name_of Words; inputs = in_port ∷ []; outputs = out_port ∷ [] }
-spec_of Fill = record { name = name_of Fill; inputs = size_port ∷ in_port ∷ []; outputs = out_port ∷ [] }
+spec_of ReadLines = row (codes "ReadLines") (option_port (codes "FILE") File ∷ []) (stream_port (codes "OUT") ∷ [])
+spec_of WriteLines = row (codes "WriteLines") (option_port (codes "FILE") File ∷ stream_port (codes "IN") ∷ []) []
+spec_of Passthru = row (codes "Passthru") (stream_port (codes "IN") ∷ []) (stream_port (codes "OUT") ∷ [])
+spec_of Words = row (codes "Words") (stream_port (codes "IN") ∷ []) (stream_port (codes "OUT") ∷ [])
+spec_of Fill = row (codes "Fill") (option_port (codes "SIZE") (Number 1 1048576) ∷ stream_port (codes "IN") ∷ []) (stream_port (codes "OUT") ∷ [])
+spec_of Brackets = row (codes "Brackets") (stream_port (codes "IN") ∷ []) (stream_port (codes "OUT") ∷ [])
+spec_of Copy = row (codes "Copy") (stream_port (codes "IN") ∷ []) (array_port (codes "OUT") ∷ [])
+spec_of Concat = row (codes "Concat") (array_port (codes "IN") ∷ []) (stream_port (codes "OUT") ∷ [])
+spec_of Collate = row (codes "Collate") (option_port (codes "FIELDS") Fields ∷ array_port (codes "IN") ∷ []) (stream_port (codes "OUT") ∷ [])
+spec_of Discard = row (codes "Discard") (stream_port (codes "IN") ∷ []) []
+spec_of Bundle = row (codes "Bundle") (stream_port (codes "IN") ∷ []) (stream_port (codes "OUT") ∷ [])
+spec_of Unbundle = row (codes "Unbundle") (stream_port (codes "IN") ∷ []) (stream_port (codes "OUT") ∷ [])
+spec_of Hoard = row (codes "Hoard") (stream_port (codes "IN") ∷ []) []
+spec_of Count = row (codes "Count") (stream_port (codes "IN") ∷ []) (optional_port (codes "OUT") ∷ stream_port (codes "COUNT") ∷ [])
+spec_of LoadBalance = row (codes "LoadBalance") (stream_port (codes "IN") ∷ []) (array_port (codes "OUT") ∷ [])
+spec_of Select = row (codes "Select") (stream_port (codes "KEY") ∷ stream_port (codes "IN") ∷ []) (stream_port (codes "ACC") ∷ optional_port (codes "REJ") ∷ [])
+
+-- A kind's name in a network file.
+abbrev pub name_of : StdKind → List ℕ
+name_of kind = (spec_of kind).name
 
 -- All standard kinds, in the order of the table.
+abbrev pub all_kinds : List StdKind
+all_kinds = ReadLines ∷ WriteLines ∷ Passthru ∷ Words ∷ Fill ∷ Brackets ∷ Copy ∷ Concat ∷ Collate ∷ Discard ∷ Bundle ∷ Unbundle ∷ Hoard ∷ Count ∷ LoadBalance ∷ Select ∷ []
+
+-- The table.
 abbrev pub std_kinds : List KindSpec
-std_kinds = spec_of ReadLines ∷ spec_of WriteLines ∷ spec_of Passthru ∷ spec_of Words ∷ spec_of Fill ∷ []
+std_kinds = map spec_of all_kinds

@@ -1,5 +1,8 @@
+pub mod Kinded
+pub mod Parts
 pub mod Std
 pub mod StdLaws
+pub mod Rows
 pub mod Kinds
 pub mod Plans
 pub mod Processes

@@ -1,80 +1,102 @@
 -- What a plan says of a process of a standard kind.
-use Rattle.std.specs.Prelude.{◌≡◌, ℕ, ◌<◌, List, [], ◌∷◌, Some, slice_get, IsTrue}
+use Rattle.std.specs.Prelude.{◌≡◌, ℕ, ◌<◌, ◌==◌, ◌&&◌, Bool, true, List, [], ◌∷◌, map, Some, slice_get, IsTrue}
+use Rattle.std.specs.List.{list_any, slice_split}
 use Rattle.std.specs.Str.Lines.{lines}
 use Rattle.flow_net.specs.declared.plan.Process.{Process}
+use Rattle.flow_net.specs.declared.plan.Connection.{Connection}
+use Rattle.flow_net.specs.declared.plan.Sender.{Sender}
 use Rattle.flow_net.specs.Network.{Network}
-use Rattle.flow_net.specs.Options.{IsFileName, IsNumberWithin}
+use Rattle.flow_net.specs.Over.{carries}
+use Rattle.flow_net.specs.Valid.{HasSender}
 use Rattle.flow_text.specs.Text.{number_of}
-use Rattle.flow_component.specs.declared.Shape.{Shape}
-use Rattle.flow_component.specs.Ports.{none_to_one, one_to_none, one_to_one}
 use Rattle.flow_component.specs.Laws.{CanStart}
 use Rattle.flow_parts.specs.declared.words.Words.TheVariants as words_parts
-use Rattle.flow_parts.specs.Meanings.{fresh_fill}
+use Rattle.flow_parts.specs.Meanings.{fresh_fill, fresh_count}
+use Rattle.flow_streams.specs.declared.copy.CopyPlace.TheVariants as copy_places
+use Rattle.flow_streams.specs.declared.bundle.Bundle.TheVariants as bundle_parts
+use Rattle.flow_streams.specs.declared.unbundle.Unbundle.TheVariants as unbundle_parts
+use Rattle.flow_streams.specs.declared.load_balance.LoadPlace.TheVariants as load_places
+use Rattle.flow_streams.specs.declared.select.SelectPlace.TheVariants as select_places
+use Rattle.flow_streams.specs.Meanings.{fresh_concat, fresh_collate}
 use Rattle.flow_catalogue.specs.declared.table.StdKind.{StdKind}
 use Rattle.flow_catalogue.specs.declared.table.StdKind.TheVariants as kinds
 use Rattle.flow_catalogue.specs.declared.standard.Std.{Std}
 use Rattle.flow_catalogue.specs.declared.standard.Std.TheVariants as parts
-use Rattle.flow_catalogue.specs.Kinds.{name_of}
+use Rattle.flow_catalogue.specs.Rows.{IsCount, count_on, option_of, HasOption, needs}
+use Rattle.flow_catalogue.specs.Kinds.{name_of, spec_of}
 use Rattle.flow_catalogue.specs.Std.{std_shape, std_uses, StdReady}
 
--- The only option of the process is the name of a file.
-abbrev pub NamesFile : Process → Type 0
-NamesFile process = (file : List ℕ) × (process.options ≡ (0, file) ∷ []) × IsFileName file
-
--- The only option of the process is the size of a line.
-abbrev pub GivesSize : Process → Type 0
-GivesSize process = (size : List ℕ) × (process.options ≡ (0, size) ∷ []) × IsNumberWithin 1 1048576 size
-
--- The process has the options that its kind asks for.
-abbrev pub HasOptions : StdKind → Process → Type 0
-HasOptions kinds.ReadLines process = NamesFile process
-HasOptions kinds.WriteLines process = NamesFile process
-HasOptions kinds.Passthru process = process.options ≡ []
-HasOptions kinds.Words process = process.options ≡ []
-HasOptions kinds.Fill process = GivesSize process
-
--- How many inputs and outputs a process of this kind has.
-abbrev pub shape_of_kind : StdKind → Shape
-shape_of_kind kinds.ReadLines = none_to_one
-shape_of_kind kinds.WriteLines = one_to_none
-shape_of_kind kinds.Passthru = one_to_one
-shape_of_kind kinds.Words = one_to_one
-shape_of_kind kinds.Fill = one_to_one
-
--- The process is of this kind, with the options and ports that the kind asks for.
-pub record IsOfKind (kind : StdKind) (process : Process) : Type 0 where
+-- Process p of the network is of this kind: it has the kind's name, an option where the kind has an option port, as many inputs and outputs as the kind's row
+-- says, and a connection at each output that needs one.
+pub record IsOfKind (network : Network) (p : ℕ) (process : Process) (kind : StdKind) : Type 0 where
   pub named : process.kind ≡ name_of kind
-  pub options : HasOptions kind process
-  pub inputs : process.inputs ≡ (shape_of_kind kind).inputs
-  pub outputs : process.outputs ≡ (shape_of_kind kind).outputs
+  pub option : HasOption (option_of (spec_of kind).inputs) process.options
+  pub inputs : IsCount (count_on (spec_of kind).inputs) process.inputs
+  pub outputs : IsCount (count_on (map carries (spec_of kind).outputs)) process.outputs
+  pub needed : (o : ℕ) → slice_get (needs (map carries (spec_of kind).outputs) process.outputs) o ≡ Some true → HasSender network p o
 
 -- The plan has a process of this number, which is of a standard kind.
 pub record IsStandard (network : Network) (number : ℕ) : Type 0 where
   pub process : Process
   pub there : slice_get network.processes number ≡ Some process
   pub kind : StdKind
-  pub is_of_kind : IsOfKind kind process
+  pub is_of_kind : IsOfKind network number process kind
 
--- The number that the first option spells.
-abbrev pub first_number : List (ℕ × List ℕ) → ℕ
-first_number [] = 0
-first_number (option ∷ more) = number_of option.1
+-- The text of the first option.
+abbrev pub option_text : List (ℕ × List ℕ) → List ℕ
+option_text [] = []
+option_text (option ∷ more) = option.1
+
+-- The lengths that a text of fields spells.
+abbrev pub fields_of : List ℕ → List ℕ
+fields_of text = map number_of (slice_split (λ b. b == 32) text)
+
+-- Whether output o of process p is among the senders of a connection.
+abbrev pub has_sender : ℕ → ℕ → Connection → Bool
+has_sender p o connection = list_any (λ (s : Sender). (s.process == p) && (s.output == o)) connection.senders
+
+-- Whether output o of process p sends to a connection.
+abbrev pub is_connected : Network → ℕ → ℕ → Bool
+is_connected network p o = list_any (has_sender p o) network.connections
+
+-- All that a component is made of, as the plan says it: its numbers of inputs and outputs, the text of its option, and which of its outputs are connected.
+pub record Given : Type 0 where
+  pub inputs : ℕ
+  pub outputs : ℕ
+  pub option : List ℕ
+  pub connected : ℕ → Bool
+
+abbrev pub given : Network → ℕ → Process → Given
+given network p process = record { inputs = process.inputs; outputs = process.outputs; option = option_text process.options; connected = is_connected network p }
 
 -- The component of a process of this kind in its first state, on this file where it reads one.
-abbrev pub first_part : StdKind → Process → List ℕ → Std
-first_part kinds.ReadLines process file = parts.ReadLines (lines file)
-first_part kinds.WriteLines process file = parts.WriteLines []
-first_part kinds.Passthru process file = parts.Passthru (record {})
-first_part kinds.Words process file = parts.Words words_parts.Waiting
-first_part kinds.Fill process file = parts.Fill (fresh_fill (first_number process.options))
+abbrev pub first_part : StdKind → Given → List ℕ → Std
+first_part kinds.ReadLines given file = parts.ReadLines (lines file)
+first_part kinds.WriteLines given file = parts.WriteLines []
+first_part kinds.Passthru given file = parts.Passthru (record {})
+first_part kinds.Words given file = parts.Words words_parts.Waiting
+first_part kinds.Fill given file = parts.Fill (fresh_fill (number_of given.option))
+first_part kinds.Brackets given file = parts.Brackets (record {})
+first_part kinds.Copy given file = parts.Copy (record { count = given.outputs; place = copy_places.Waiting })
+first_part kinds.Concat given file = parts.Concat (record { count = given.inputs; at = 0 })
+first_part kinds.Collate given file = parts.Collate (fresh_collate (fields_of given.option) given.inputs)
+first_part kinds.Discard given file = parts.Discard (record {})
+first_part kinds.Bundle given file = parts.Bundle bundle_parts.Outside
+first_part kinds.Unbundle given file = parts.Unbundle unbundle_parts.Waiting
+first_part kinds.Hoard given file = parts.Hoard (record {})
+first_part kinds.Count given file = parts.Count (fresh_count (given.connected 0))
+first_part kinds.LoadBalance given file = parts.LoadBalance (record { count = given.outputs; depth = 0; chosen = 0; place = load_places.Waiting })
+first_part kinds.Select given file = parts.Select (record { rejects = given.connected 1; place = select_places.Waiting })
 
--- The component is the process's own, in its first state on this file.
-abbrev pub IsMade : Process → List ℕ → Std → Type 0
-IsMade process file part = (kind : StdKind) × (process.kind ≡ name_of kind) × (part ≡ first_part kind process file)
+-- The component is that of process p, in its first state on this file.
+pub record IsMade (network : Network) (p : ℕ) (process : Process) (file : List ℕ) (part : Std) : Type 0 where
+  pub kind : StdKind
+  pub named : process.kind ≡ name_of kind
+  pub is : part ≡ first_part kind (given network p process) file
 
--- The component fits the process: it has its numbers of inputs and outputs, uses only outputs that the process has, and can start with empty hands.
-pub record Fits (process : Process) (part : Std) : Type 0 where
+-- The component fits process p: it has its numbers of inputs and outputs, each output that it uses has its connection, and it can start with empty hands.
+pub record Fits (network : Network) (p : ℕ) (process : Process) (part : Std) : Type 0 where
   pub inputs : (std_shape part).inputs ≡ process.inputs
   pub outputs : (std_shape part).outputs ≡ process.outputs
-  pub uses : (output : ℕ) → IsTrue (std_uses part output) → output < process.outputs
+  pub uses : (output : ℕ) → IsTrue (std_uses part output) → HasSender network p output
   pub starts : CanStart (StdReady part)

@@ -1,6 +1,7 @@
 //! The standard components as one type, and how a plan makes them.
 #![tactic(auto)]
 
+mod options;
 mod plans;
 mod process;
 mod standard;
@@ -8,7 +9,8 @@ mod table;
 #[cfg(test)]
 mod tests;
 
-pub use plans::a_plan_over_the_table_is_standard;
+pub use options::is_connected;
+pub use plans::{a_first_component_fits, a_plan_over_the_table_is_standard};
 pub use process::{FileUse, file_of, make};
 pub use standard::{Std, standard_components_come_to_one_outcome};
 pub use table::{StdKind, kinds};

@@ -1,17 +1,22 @@
 //! What a plan says of a process of a standard kind: its file, and the component that it runs.
 
-ghost use Rattle.std.specs.Prelude.{◌≡◌, ◌≤◌, ◌∷◌, [], ℕ, List, IfOk, IfSome, slice_get};
-ghost use Rattle.flow_net.specs.Options.{IsFileName};
-ghost use Rattle.flow_catalogue.specs.Kinds.{name_of};
-ghost use Rattle.flow_catalogue.specs.Processes.{IsStandard, IsOfKind, NamesFile, GivesSize, IsMade, Fits, first_number};
-ghost use Rattle.flow_catalogue.specs.Files.{UsesFile};
+ghost use Rattle.std.specs.Prelude.{◌≡◌, ◌≤◌, ◌∷◌, [], Some, IfOk, IfSome, slice_get};
+ghost use Rattle.flow_text.specs.Text.{number_of};
+ghost use Rattle.flow_streams.specs.Meanings.{fresh_collate};
+ghost use Rattle.flow_catalogue.specs.Rows.{IsCount, Elements, HasOption};
+ghost use Rattle.flow_catalogue.specs.Processes.{IsStandard, IsOfKind, IsMade, Fits, first_part, given, fields_of, option_text};
+ghost use Rattle.flow_catalogue.specs.Files.{UsesFile, NamesFile};
 
+use crate::options::{fields, is_connected, number as number_in, option_text};
+use crate::plans::a_first_component_fits;
 use crate::standard::Std;
 use crate::table::StdKind;
-use flow_net::{Plan, Process};
-use flow_parts::{Fill, ReadLines, Words, WriteLines};
-use flow_streams::Passthru;
-use flow_text::decimal;
+use flow_net::{Plan, PortClass, Process};
+use flow_parts::{Brackets, Count, Fill, ReadLines, Words, WriteLines};
+use flow_streams::{
+    Bundle, Collate, Concat, Copy as CopyEach, Discard, Hoard, LoadBalance, Passthru, Select,
+    Unbundle,
+};
 use std::alloc::{AllocError, Global};
 use std::str;
 
@@ -24,7 +29,7 @@ pub enum FileUse<'a> {
 
 fn kind_of(plan: &Plan, process: u32) -> StdKind
     requires { IsStandard plan.now process }
-    ensures { IfSome (slice_get plan.now.processes process) (IsOfKind result) }
+    ensures { IfSome (slice_get plan.now.processes process) (λ p. IsOfKind plan.now process p result) }
 {
     match StdKind::named(plan.processes()[process as usize].kind.as_slice()) {
         Some(kind) => kind,
@@ -43,15 +48,12 @@ fn file_name(process: &Process) -> &str
 }
 
 fn line_size(process: &Process) -> u32
-    requires { GivesSize process.now }
-    ensures size { result ≡ first_number process.now.options }
+    requires { HasOption (Some (PortClass.Number 1 1048576)) process.now.options }
+    ensures size { result ≡ number_of (option_text process.now.options) }
     ensures least { 1 ≤ result }
     ensures most { result ≤ 1048576 }
 {
-    match decimal(process.options.as_slice()[0].1.as_slice(), 1, 1_048_576) {
-        Some(size) => size as u32,
-        None => unreachable!(),
-    }
+    number_in(option_text(process), 1, 1_048_576) as u32
 }
 
 /// The file that a process reads or writes; none where its kind has none. Takes no memory.
@@ -64,9 +66,48 @@ pub fn file_of(plan: &Plan, process: u32) -> Option<FileUse<'_>>
     match kind {
         StdKind::ReadLines => Some(FileUse::Read(file_name(process))),
         StdKind::WriteLines => Some(FileUse::Write(file_name(process))),
-        StdKind::Passthru => None,
-        StdKind::Words => None,
-        StdKind::Fill => None,
+        _ => None,
+    }
+}
+
+fn collate(alloc: Global, process: &Process) -> Result<Collate, AllocError>
+    requires fields { HasOption (Some PortClass.Fields) process.now.options }
+    requires inputs { IsCount Elements process.now.inputs }
+    ensures { IfOk result (λ part. part ≡ fresh_collate (fields_of (option_text process.now.options)) process.now.inputs) }
+{
+    let fields = fields(alloc, option_text(process))?;
+    Ok(Collate::new(fields, process.inputs))
+}
+
+// The component of a process of this kind, in its first state.
+fn first_part(
+    alloc: Global,
+    plan: &Plan,
+    number: u32,
+    process: &Process,
+    kind: StdKind,
+    file: Vec<u8>,
+) -> Result<Std, AllocError>
+    requires { IsOfKind plan.now number process.now kind }
+    ensures { IfOk result (λ part. part ≡ first_part kind (given plan.now number process.now) file.items) }
+{
+    match kind {
+        StdKind::ReadLines => Ok(Std::ReadLines(ReadLines::new(file))),
+        StdKind::WriteLines => Ok(Std::WriteLines(WriteLines::new(alloc))),
+        StdKind::Passthru => Ok(Std::Passthru(Passthru::new())),
+        StdKind::Words => Ok(Std::Words(Words::new())),
+        StdKind::Fill => Ok(Std::Fill(Fill::new(alloc, line_size(process)))),
+        StdKind::Brackets => Ok(Std::Brackets(Brackets::new())),
+        StdKind::Copy => Ok(Std::Copy(CopyEach::new(process.outputs))),
+        StdKind::Concat => Ok(Std::Concat(Concat::new(process.inputs))),
+        StdKind::Collate => Ok(Std::Collate(collate(alloc, process)?)),
+        StdKind::Discard => Ok(Std::Discard(Discard::new())),
+        StdKind::Bundle => Ok(Std::Bundle(Bundle::new())),
+        StdKind::Unbundle => Ok(Std::Unbundle(Unbundle::new())),
+        StdKind::Hoard => Ok(Std::Hoard(Hoard::new())),
+        StdKind::Count => Ok(Std::Count(Count::new(alloc, is_connected(plan, number, 0)))),
+        StdKind::LoadBalance => Ok(Std::LoadBalance(LoadBalance::new(process.outputs))),
+        StdKind::Select => Ok(Std::Select(Select::new(is_connected(plan, number, 1)))),
     }
 }
 
@@ -74,17 +115,11 @@ pub fn file_of(plan: &Plan, process: u32) -> Option<FileUse<'_>>
 /// other kind they are let go.
 pub fn make(alloc: Global, plan: &Plan, process: u32, file: Vec<u8>) -> Result<Std, AllocError>
     requires { IsStandard plan.now process }
-    ensures made { IfOk result (λ part. IfSome (slice_get plan.now.processes process) (λ p. IsMade p file.items part)) }
-    ensures fits { IfOk result (λ part. IfSome (slice_get plan.now.processes process) (λ p. Fits p part)) }
+    ensures made { IfOk result (λ part. IfSome (slice_get plan.now.processes process) (λ p. IsMade plan.now process p file.items part)) }
+    ensures fits { IfOk result (λ part. IfSome (slice_get plan.now.processes process) (λ p. Fits plan.now process p part)) }
 {
-    Ok(match kind_of(plan, process) {
-        StdKind::ReadLines => Std::ReadLines(ReadLines::new(file)),
-        StdKind::WriteLines => Std::WriteLines(WriteLines::new(alloc)),
-        StdKind::Passthru => Std::Passthru(Passthru::new()),
-        StdKind::Words => Std::Words(Words::new()),
-        StdKind::Fill => Std::Fill(Fill::new(
-            alloc,
-            line_size(&plan.processes()[process as usize]),
-        )),
-    })
+    a_first_component_fits();
+    let kind = kind_of(plan, process);
+    let of = &plan.processes()[process as usize];
+    first_part(alloc, plan, process, of, kind, file)
 }

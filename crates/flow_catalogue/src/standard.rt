@@ -7,8 +7,11 @@ ghost use Rattle.flow_catalogue.specs.Std.{StdNext};
 
 use flow_component::{Answer, Component, Shape, Stop, Wish};
 use flow_packet::Hands;
-use flow_parts::{Fill, ReadLines, Words, WriteLines};
-use flow_streams::Passthru;
+use flow_parts::{Brackets, Count, Fill, ReadLines, Words, WriteLines};
+use flow_streams::{
+    Bundle, Collate, Concat, Copy as CopyEach, Discard, Hoard, LoadBalance, Passthru, Select,
+    Unbundle,
+};
 
 /// A standard component.
 #[derive(Drop)]
@@ -17,7 +20,18 @@ pub enum Std {
     WriteLines(WriteLines),
     Words(Words),
     Fill(Fill),
+    Brackets(Brackets),
     Passthru(Passthru),
+    Copy(CopyEach),
+    Concat(Concat),
+    Collate(Collate),
+    Discard(Discard),
+    Bundle(Bundle),
+    Unbundle(Unbundle),
+    Hoard(Hoard),
+    Count(Count),
+    LoadBalance(LoadBalance),
+    Select(Select),
 }
 
 impl Std {
@@ -32,7 +46,18 @@ impl Std {
             Std::ReadLines(_) => None,
             Std::Words(_) => None,
             Std::Fill(_) => None,
+            Std::Brackets(_) => None,
             Std::Passthru(_) => None,
+            Std::Copy(_) => None,
+            Std::Concat(_) => None,
+            Std::Collate(_) => None,
+            Std::Discard(_) => None,
+            Std::Bundle(_) => None,
+            Std::Unbundle(_) => None,
+            Std::Hoard(_) => None,
+            Std::Count(_) => None,
+            Std::LoadBalance(_) => None,
+            Std::Select(_) => None,
         }
     }
 }
@@ -64,7 +89,18 @@ impl Component for Std {
             Std::WriteLines(part) => part.shape(),
             Std::Words(part) => part.shape(),
             Std::Fill(part) => part.shape(),
+            Std::Brackets(part) => part.shape(),
             Std::Passthru(part) => part.shape(),
+            Std::Copy(part) => part.shape(),
+            Std::Concat(part) => part.shape(),
+            Std::Collate(part) => part.shape(),
+            Std::Discard(part) => part.shape(),
+            Std::Bundle(part) => part.shape(),
+            Std::Unbundle(part) => part.shape(),
+            Std::Hoard(part) => part.shape(),
+            Std::Count(part) => part.shape(),
+            Std::LoadBalance(part) => part.shape(),
+            Std::Select(part) => part.shape(),
         }
     }
 
@@ -74,7 +110,18 @@ impl Component for Std {
             Std::WriteLines(part) => part.resume(hands, answer),
             Std::Words(part) => part.resume(hands, answer),
             Std::Fill(part) => part.resume(hands, answer),
+            Std::Brackets(part) => part.resume(hands, answer),
             Std::Passthru(part) => part.resume(hands, answer),
+            Std::Copy(part) => part.resume(hands, answer),
+            Std::Concat(part) => part.resume(hands, answer),
+            Std::Collate(part) => part.resume(hands, answer),
+            Std::Discard(part) => part.resume(hands, answer),
+            Std::Bundle(part) => part.resume(hands, answer),
+            Std::Unbundle(part) => part.resume(hands, answer),
+            Std::Hoard(part) => part.resume(hands, answer),
+            Std::Count(part) => part.resume(hands, answer),
+            Std::LoadBalance(part) => part.resume(hands, answer),
+            Std::Select(part) => part.resume(hands, answer),
         }
     }
 }

@@ -1,7 +1,8 @@
 //! The table of the standard kinds.
 
-ghost use Rattle.std.specs.Prelude.{◌≡◌, ◌≢◌, IfOk, MatchOption};
-ghost use Rattle.flow_catalogue.specs.Kinds.{name_of, needed_port, spec_of, std_kinds};
+ghost use Rattle.std.specs.Prelude.{◌≡◌, ◌≢◌, ◌∷◌, [], IfOk, MatchOption, codes};
+ghost use Rattle.flow_catalogue.specs.Kinds.{name_of, row, spec_of, std_kinds};
+ghost use Rattle.flow_catalogue.specs.Rows.{option_port, stream_port, array_port, optional_port};
 
 use flow_items::{Items, Text};
 use flow_net::{KindSpec, PortClass, PortSpec};
@@ -15,123 +16,273 @@ pub enum StdKind {
     Passthru,
     Words,
     Fill,
+    Brackets,
+    Copy,
+    Concat,
+    Collate,
+    Discard,
+    Bundle,
+    Unbundle,
+    Hoard,
+    Count,
+    LoadBalance,
+    Select,
 }
 
+// All kinds, in the order of the table.
+const ALL: [StdKind; 16] = [
+    StdKind::ReadLines,
+    StdKind::WriteLines,
+    StdKind::Passthru,
+    StdKind::Words,
+    StdKind::Fill,
+    StdKind::Brackets,
+    StdKind::Copy,
+    StdKind::Concat,
+    StdKind::Collate,
+    StdKind::Discard,
+    StdKind::Bundle,
+    StdKind::Unbundle,
+    StdKind::Hoard,
+    StdKind::Count,
+    StdKind::LoadBalance,
+    StdKind::Select,
+];
+
 impl StdKind {
+    /// The kind's name in a network file.
+    pub fn name(self) -> &'static [u8]
+        ensures { result.now ≡ name_of self }
+    {
+        match self {
+            StdKind::ReadLines => b"ReadLines",
+            StdKind::WriteLines => b"WriteLines",
+            StdKind::Passthru => b"Passthru",
+            StdKind::Words => b"Words",
+            StdKind::Fill => b"Fill",
+            StdKind::Brackets => b"Brackets",
+            StdKind::Copy => b"Copy",
+            StdKind::Concat => b"Concat",
+            StdKind::Collate => b"Collate",
+            StdKind::Discard => b"Discard",
+            StdKind::Bundle => b"Bundle",
+            StdKind::Unbundle => b"Unbundle",
+            StdKind::Hoard => b"Hoard",
+            StdKind::Count => b"Count",
+            StdKind::LoadBalance => b"LoadBalance",
+            StdKind::Select => b"Select",
+        }
+    }
+
     /// The kind of this name, where it is a standard one.
     pub fn named(name: &[u8]) -> Option<StdKind>
         ensures { MatchOption result ((kind : StdKind) → name_of kind ≢ name.now) (λ kind. name_of kind ≡ name.now) }
     {
-        match name {
-            b"ReadLines" => Some(StdKind::ReadLines),
-            b"WriteLines" => Some(StdKind::WriteLines),
-            b"Passthru" => Some(StdKind::Passthru),
-            b"Words" => Some(StdKind::Words),
-            b"Fill" => Some(StdKind::Fill),
-            _ => None,
+        for kind in &ALL {
+            if kind.name() == name {
+                return Some(*kind);
+            }
         }
+        None
     }
 }
 
-fn port(alloc: Global, name: &[u8], class: PortClass) -> Result<PortSpec, AllocError>
-    ensures { IfOk result (λ port. port ≡ needed_port name.now class) }
+// A port that takes one text before the network runs.
+fn option(alloc: Global, name: &[u8], class: PortClass) -> Result<PortSpec, AllocError>
+    ensures { IfOk result (λ port. port ≡ option_port name.now class) }
 {
-    let name = Text::from_slice(alloc, name)?;
     Ok(PortSpec {
-        name,
+        name: Text::from_slice(alloc, name)?,
         class,
         array: false,
         needed: true,
     })
 }
 
+// A port for packets that has to be connected.
+fn stream(alloc: Global, name: &[u8]) -> Result<PortSpec, AllocError>
+    ensures { IfOk result (λ port. port ≡ stream_port name.now) }
+{
+    option(alloc, name, PortClass::Stream)
+}
+
+// A port for packets with elements.
+fn array(alloc: Global, name: &[u8]) -> Result<PortSpec, AllocError>
+    ensures { IfOk result (λ port. port ≡ array_port name.now) }
+{
+    Ok(PortSpec {
+        name: Text::from_slice(alloc, name)?,
+        class: PortClass::Stream,
+        array: true,
+        needed: true,
+    })
+}
+
+// An output that may be left open.
+fn optional(alloc: Global, name: &[u8]) -> Result<PortSpec, AllocError>
+    ensures { IfOk result (λ port. port ≡ optional_port name.now) }
+{
+    Ok(PortSpec {
+        name: Text::from_slice(alloc, name)?,
+        class: PortClass::Stream,
+        array: false,
+        needed: false,
+    })
+}
+
+// A row of the table.
+fn kind(
+    alloc: Global,
+    name: &[u8],
+    inputs: Vec<PortSpec>,
+    outputs: Vec<PortSpec>,
+) -> Result<KindSpec, AllocError>
+    ensures { IfOk result (λ kind. kind ≡ row name.now inputs.items outputs.items) }
+{
+    Ok(KindSpec {
+        name: Text::from_slice(alloc, name)?,
+        inputs: Items::of(inputs),
+        outputs: Items::of(outputs),
+    })
+}
+
+// A row with one input for packets and one output.
+fn passing(alloc: Global, name: &[u8]) -> Result<KindSpec, AllocError>
+    ensures { IfOk result (λ kind. kind ≡ row name.now (stream_port (codes "IN") ∷ []) (stream_port (codes "OUT") ∷ [])) }
+{
+    let input = stream(alloc, b"IN")?;
+    let output = stream(alloc, b"OUT")?;
+    let inputs = vec![in alloc; input]?;
+    kind(alloc, name, inputs, vec![in alloc; output]?)
+}
+
+// A row with one input for packets and no output.
+fn ending(alloc: Global, name: &[u8]) -> Result<KindSpec, AllocError>
+    ensures { IfOk result (λ kind. kind ≡ row name.now (stream_port (codes "IN") ∷ []) []) }
+{
+    let input = stream(alloc, b"IN")?;
+    let inputs = vec![in alloc; input]?;
+    kind(alloc, name, inputs, Vec::new(alloc))
+}
+
+// A row with one input for packets and an array of outputs.
+fn spreading(alloc: Global, name: &[u8]) -> Result<KindSpec, AllocError>
+    ensures { IfOk result (λ kind. kind ≡ row name.now (stream_port (codes "IN") ∷ []) (array_port (codes "OUT") ∷ [])) }
+{
+    let input = stream(alloc, b"IN")?;
+    let output = array(alloc, b"OUT")?;
+    let inputs = vec![in alloc; input]?;
+    kind(alloc, name, inputs, vec![in alloc; output]?)
+}
+
 fn read_lines(alloc: Global) -> Result<KindSpec, AllocError>
     ensures { IfOk result (λ kind. kind ≡ spec_of StdKind.ReadLines) }
 {
-    let name = Text::from_slice(alloc, b"ReadLines")?;
-    let file = port(alloc, b"FILE", PortClass::File)?;
-    let out = port(alloc, b"OUT", PortClass::Stream)?;
-    let inputs = Items::of(vec![in alloc; file]?);
-    let outputs = Items::of(vec![in alloc; out]?);
-    Ok(KindSpec {
-        name,
-        inputs,
-        outputs,
-    })
+    let file = option(alloc, b"FILE", PortClass::File)?;
+    let output = stream(alloc, b"OUT")?;
+    let inputs = vec![in alloc; file]?;
+    kind(alloc, b"ReadLines", inputs, vec![in alloc; output]?)
 }
 
 fn write_lines(alloc: Global) -> Result<KindSpec, AllocError>
     ensures { IfOk result (λ kind. kind ≡ spec_of StdKind.WriteLines) }
 {
-    let name = Text::from_slice(alloc, b"WriteLines")?;
-    let file = port(alloc, b"FILE", PortClass::File)?;
-    let input = port(alloc, b"IN", PortClass::Stream)?;
-    let inputs = Items::of(vec![in alloc; file, input]?);
-    Ok(KindSpec {
-        name,
-        inputs,
-        outputs: Items::new(alloc),
-    })
-}
-
-fn passthru(alloc: Global) -> Result<KindSpec, AllocError>
-    ensures { IfOk result (λ kind. kind ≡ spec_of StdKind.Passthru) }
-{
-    let name = Text::from_slice(alloc, b"Passthru")?;
-    let input = port(alloc, b"IN", PortClass::Stream)?;
-    let out = port(alloc, b"OUT", PortClass::Stream)?;
-    let inputs = Items::of(vec![in alloc; input]?);
-    let outputs = Items::of(vec![in alloc; out]?);
-    Ok(KindSpec {
-        name,
-        inputs,
-        outputs,
-    })
-}
-
-fn words(alloc: Global) -> Result<KindSpec, AllocError>
-    ensures { IfOk result (λ kind. kind ≡ spec_of StdKind.Words) }
-{
-    let name = Text::from_slice(alloc, b"Words")?;
-    let input = port(alloc, b"IN", PortClass::Stream)?;
-    let out = port(alloc, b"OUT", PortClass::Stream)?;
-    let inputs = Items::of(vec![in alloc; input]?);
-    let outputs = Items::of(vec![in alloc; out]?);
-    Ok(KindSpec {
-        name,
-        inputs,
-        outputs,
-    })
+    let file = option(alloc, b"FILE", PortClass::File)?;
+    let input = stream(alloc, b"IN")?;
+    let inputs = vec![in alloc; file, input]?;
+    kind(alloc, b"WriteLines", inputs, Vec::new(alloc))
 }
 
 fn fill(alloc: Global) -> Result<KindSpec, AllocError>
     ensures { IfOk result (λ kind. kind ≡ spec_of StdKind.Fill) }
 {
-    let name = Text::from_slice(alloc, b"Fill")?;
-    let size = PortClass::Number {
+    let sizes = PortClass::Number {
         least: 1,
         most: 1_048_576,
     };
-    let size = port(alloc, b"SIZE", size)?;
-    let input = port(alloc, b"IN", PortClass::Stream)?;
-    let out = port(alloc, b"OUT", PortClass::Stream)?;
-    let inputs = Items::of(vec![in alloc; size, input]?);
-    let outputs = Items::of(vec![in alloc; out]?);
-    Ok(KindSpec {
-        name,
+    let size = option(alloc, b"SIZE", sizes)?;
+    let input = stream(alloc, b"IN")?;
+    let output = stream(alloc, b"OUT")?;
+    let inputs = vec![in alloc; size, input]?;
+    kind(alloc, b"Fill", inputs, vec![in alloc; output]?)
+}
+
+fn count(alloc: Global) -> Result<KindSpec, AllocError>
+    ensures { IfOk result (λ kind. kind ≡ spec_of StdKind.Count) }
+{
+    let input = stream(alloc, b"IN")?;
+    let output = optional(alloc, b"OUT")?;
+    let number = stream(alloc, b"COUNT")?;
+    let inputs = vec![in alloc; input]?;
+    kind(alloc, b"Count", inputs, vec![in alloc; output, number]?)
+}
+
+fn select(alloc: Global) -> Result<KindSpec, AllocError>
+    ensures { IfOk result (λ kind. kind ≡ spec_of StdKind.Select) }
+{
+    let key = stream(alloc, b"KEY")?;
+    let input = stream(alloc, b"IN")?;
+    let accepted = stream(alloc, b"ACC")?;
+    let rejected = optional(alloc, b"REJ")?;
+    let inputs = vec![in alloc; key, input]?;
+    kind(
+        alloc,
+        b"Select",
         inputs,
-        outputs,
-    })
+        vec![in alloc; accepted, rejected]?,
+    )
+}
+
+fn concat(alloc: Global) -> Result<KindSpec, AllocError>
+    ensures { IfOk result (λ kind. kind ≡ spec_of StdKind.Concat) }
+{
+    let input = array(alloc, b"IN")?;
+    let output = stream(alloc, b"OUT")?;
+    let inputs = vec![in alloc; input]?;
+    kind(alloc, b"Concat", inputs, vec![in alloc; output]?)
+}
+
+fn collate(alloc: Global) -> Result<KindSpec, AllocError>
+    ensures { IfOk result (λ kind. kind ≡ spec_of StdKind.Collate) }
+{
+    let fields = option(alloc, b"FIELDS", PortClass::Fields)?;
+    let input = array(alloc, b"IN")?;
+    let output = stream(alloc, b"OUT")?;
+    let inputs = vec![in alloc; fields, input]?;
+    kind(alloc, b"Collate", inputs, vec![in alloc; output]?)
+}
+
+// The row of a kind.
+fn spec(alloc: Global, kind: StdKind) -> Result<KindSpec, AllocError>
+    ensures { IfOk result (λ spec. spec ≡ spec_of kind) }
+{
+    match kind {
+        StdKind::ReadLines => read_lines(alloc),
+        StdKind::WriteLines => write_lines(alloc),
+        StdKind::Passthru => passing(alloc, b"Passthru"),
+        StdKind::Words => passing(alloc, b"Words"),
+        StdKind::Fill => fill(alloc),
+        StdKind::Brackets => passing(alloc, b"Brackets"),
+        StdKind::Copy => spreading(alloc, b"Copy"),
+        StdKind::Concat => concat(alloc),
+        StdKind::Collate => collate(alloc),
+        StdKind::Discard => ending(alloc, b"Discard"),
+        StdKind::Bundle => passing(alloc, b"Bundle"),
+        StdKind::Unbundle => passing(alloc, b"Unbundle"),
+        StdKind::Hoard => ending(alloc, b"Hoard"),
+        StdKind::Count => count(alloc),
+        StdKind::LoadBalance => spreading(alloc, b"LoadBalance"),
+        StdKind::Select => select(alloc),
+    }
 }
 
 /// The table of the standard kinds, with their ports.
 pub fn kinds(alloc: Global) -> Result<Vec<KindSpec>, AllocError>
     ensures { IfOk result (λ kinds. kinds.items ≡ std_kinds) }
 {
-    let reader = read_lines(alloc)?;
-    let writer = write_lines(alloc)?;
-    let passer = passthru(alloc)?;
-    let splitter = words(alloc)?;
-    let filler = fill(alloc)?;
-    Ok(vec![in alloc; reader, writer, passer, splitter, filler]?)
+    let mut specs = Vec::new(alloc);
+    for kind in &ALL {
+        specs.push(spec(alloc, *kind)?)?;
+    }
+    Ok(specs)
 }

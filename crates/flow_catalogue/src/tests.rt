@@ -14,6 +14,17 @@ fn the_table_has_the_standard_kinds(rt: HostRuntime) -> Result<(), Fail> {
         b"Passthru".as_slice(),
         b"Words".as_slice(),
         b"Fill".as_slice(),
+        b"Brackets".as_slice(),
+        b"Copy".as_slice(),
+        b"Concat".as_slice(),
+        b"Collate".as_slice(),
+        b"Discard".as_slice(),
+        b"Bundle".as_slice(),
+        b"Unbundle".as_slice(),
+        b"Hoard".as_slice(),
+        b"Count".as_slice(),
+        b"LoadBalance".as_slice(),
+        b"Select".as_slice(),
     ]) {
         assert_eq!(rt; spec.name.as_slice(), name);
         assert!(rt; StdKind::named(name).is_some());

@@ -5,22 +5,20 @@ use Rattle.flow_net.specs.Network.{Network}
 use Rattle.flow_ready.specs.Ready.{PartsFit}
 use Rattle.flow_catalogue.specs.declared.standard.Std.{Std}
 use Rattle.flow_catalogue.specs.Std.{std_shape, std_uses, StdReady}
-use Rattle.flow_catalogue.specs.Plans.{OverIsConnected}
 use Rattle.flow_catalogue.specs.Processes.{Fits}
-use Rattle.flow_cli.specs.Networks.{IsStandardPlan}
 use Rattle.flow_cli.specs.Parts.{IsPart, AreParts, HasParts}
 
-pub parts-fit : (plan : Network) (parts : List Std) → OverIsConnected → IsStandardPlan plan → HasParts plan parts → PartsFit std_shape std_uses StdReady plan parts
-parts-fit plan parts connected standard has = record {
+pub parts-fit : (plan : Network) (parts : List Std) → HasParts plan parts → PartsFit std_shape std_uses StdReady plan parts
+parts-fit plan parts has = record {
   one_each = are.count;
   fit = λ p process part there at.
       let is : IsPart has.0 plan p part = are.each p part at in
       let same : is.process ≡ process = (let h = is.there in cc) in
-      let fits = subst (λ (x : Process). Fits x part) same is.fits in
+      let fits = subst (λ (x : Process). Fits plan p x part) same is.fits in
       record {
         inputs = fits.inputs;
         outputs = fits.outputs;
-        used = λ o uses. connected plan standard.valid standard.over p o (process, there, fits.uses o uses);
+        used = fits.uses;
         can_start = fits.starts;
       };
 } where

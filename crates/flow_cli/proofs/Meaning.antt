@@ -7,8 +7,7 @@ use Rattle.flow_net.specs.Network.{Network}
 use Rattle.flow_catalogue.specs.declared.standard.Std.{Std}
 use Rattle.flow_catalogue.specs.declared.table.StdKind.{StdKind}
 use Rattle.flow_catalogue.specs.declared.table.StdKind.TheVariants as kinds
-use Rattle.flow_catalogue.specs.Plans.{OverIsConnected}
-use Rattle.flow_catalogue.specs.Processes.{IsMade, first_part}
+use Rattle.flow_catalogue.specs.Processes.{IsMade, Given, first_part}
 use Rattle.flow_catalogue.specs.Std.{std_shape, std_uses, StdReady}
 use Rattle.flow_machine.specs.PlanOf.{plan_of}
 use Rattle.flow_model.specs.States.{State}
@@ -35,27 +34,38 @@ finished-of s Deadlock is e = absurd (grind arith)
 finished-of s Failed is e = absurd (grind arith)
 finished-of s Running is e = absurd (grind arith)
 
-first-first : (kind : StdKind) (process : _) (bytes : List ℕ) → IsFirst (first_part kind process bytes)
-first-first kinds.ReadLines process bytes = tt
-first-first kinds.WriteLines process bytes = refl
-first-first kinds.Passthru process bytes = tt
-first-first kinds.Words process bytes = refl
-first-first kinds.Fill process bytes = (_, refl)
+first-first : (kind : StdKind) (given : Given) (bytes : List ℕ) → IsFirst (first_part kind given bytes)
+first-first kinds.ReadLines given bytes = tt
+first-first kinds.WriteLines given bytes = refl
+first-first kinds.Passthru given bytes = tt
+first-first kinds.Words given bytes = refl
+first-first kinds.Fill given bytes = (_, refl)
+first-first kinds.Brackets given bytes = tt
+first-first kinds.Copy given bytes = tt
+first-first kinds.Concat given bytes = tt
+first-first kinds.Collate given bytes = tt
+first-first kinds.Discard given bytes = tt
+first-first kinds.Bundle given bytes = tt
+first-first kinds.Unbundle given bytes = tt
+first-first kinds.Hoard given bytes = tt
+first-first kinds.Count given bytes = tt
+first-first kinds.LoadBalance given bytes = tt
+first-first kinds.Select given bytes = tt
 
-made-first : (part : Std) (process : _) (bytes : List ℕ) → IsMade process bytes part → IsFirst part
-made-first part process bytes made = subst IsFirst (sym made.2) (first-first made.0 process bytes)
+made-first : (plan : Network) (p : ℕ) (part : Std) (process : _) (bytes : List ℕ) → IsMade plan p process bytes part → IsFirst part
+made-first plan p part process bytes made = subst IsFirst (sym made.is) (first-first made.kind _ bytes)
 
 are-first : (told : _) (plan : Network) (ks : List Std) → AreParts told plan ks → AreFirst ks
-are-first told plan ks are p part at = let is = are.each p part at in made-first part is.process is.bytes is.made
+are-first told plan ks are p part at = let is = are.each p part at in made-first plan p part is.process is.bytes is.made
 
 -- with the laws of plans and of meanings, a run that finished left what its network means
-pub meant : OverIsConnected → StartsPlans std_shape std_uses StdReady → FinishedComposes → (o n po pn : Outside) (words : List (String Global)) (ending : Ending) (status : ℕ)
+pub meant : StartsPlans std_shape std_uses StdReady → FinishedComposes → (o n po pn : Outside) (words : List (String Global)) (ending : Ending) (status : ℕ)
     → Comes o n words ending → Prints po pn ending.text.items ending.status status → IsFinishedStatus status → LeavesMeaning o n words
-meant connected starts composes o n po pn words ending status (inl run) (inl p) finished =
+meant starts composes o n po pn words ending status (inl run) (inl p) finished =
     let whole = run.2 in
     let ks = whole.run.parts in
     let plan = whole.plan in
-    let well = starts plan ks whole.run.standard.valid (parts-fit plan ks connected whole.run.standard (o.files, whole.run.are_parts)) in
+    let well = starts plan ks whole.run.standard.valid (parts-fit plan ks (o.files, whole.run.are_parts)) in
     let ends = finished-of whole.last whole.report.verdict whole.tells.verdict (subst IsFinishedStatus (p.0 ∙ whole.status) finished) in
     inl (
       run.0,
@@ -71,8 +81,8 @@ meant connected starts composes o n po pn words ending status (inl run) (inl p) 
         files = whole.files;
       },
     )
-meant connected starts composes o n po pn words ending status (inl run) (inr p) finished = absurd (let h = p.0 in grind arith)
-meant connected starts composes o n po pn words ending status (inr check) p finished = inr (check.0, check.1)
+meant starts composes o n po pn words ending status (inl run) (inr p) finished = absurd (let h = p.0 in grind arith)
+meant starts composes o n po pn words ending status (inr check) p finished = inr (check.0, check.1)
 
 pub stop-unfinished : (status : ℕ) → IsFinishedStatus status → IsOver status
 stop-unfinished status (inl e) = inl e

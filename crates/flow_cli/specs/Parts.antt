@@ -29,8 +29,8 @@ pub record IsPart (told : Option Files) (plan : Network) (p : ℕ) (part : Std) 
   pub process : Process
   pub there : slice_get plan.processes p ≡ Some process
   pub bytes : List ℕ
-  pub made : IsMade process bytes part
-  pub fits : Fits process part
+  pub made : IsMade plan p process bytes part
+  pub fits : Fits plan p process part
   pub input : (name : Name) → Reads process name → IfSome told (λ files. files name ≡ Some bytes)
 
 -- The parts are those of the plan's processes, in order.

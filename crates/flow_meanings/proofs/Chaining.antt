@@ -6,7 +6,7 @@ use Rattle.std.proofs.lemmas.Option.{slice_get_within}
 use Rattle.std.proofs.lemmas.Bool.Decides.{nat_tests}
 use Rattle.flow_packet.specs.Tree.{Tree}
 use Rattle.flow_parts.specs.Filling.{Filling}
-use Rattle.flow_parts.specs.Meanings.{rendered_all, words_of}
+use Rattle.flow_parts.specs.Meanings.{rendered_all, words_of, bracketed}
 use Rattle.flow_parts.proofs.OneFilling.{one_filling}
 use Rattle.flow_catalogue.specs.declared.standard.Std.{Std}
 use Rattle.flow_catalogue.specs.declared.standard.Std.TheVariants as parts
@@ -18,7 +18,7 @@ use Rattle.flow_meanings.specs.Means.{Means}
 use Rattle.flow_meanings.specs.Composition.{Sending, arriving, leaving, Composes, wrote_in}
 use Rattle.flow_model.specs.Rising.{LeadsOn}
 use Rattle.flow_model.proofs.Rising.{finished-leads_on}
-use Rattle.flow_meanings.specs.Chains.{RunsPart, LeadsTo, TelegramMeans, IsUnmerged, OneOutcome, SameFiles}
+use Rattle.flow_meanings.specs.Chains.{RunsPart, LeadsTo, TelegramMeans, IsSettled, AreSettled, IsUnmerged, OneOutcome, SameFiles}
 use Rattle.flow_meanings.proofs.Composing.{start-there, length-ports, finished-composes}
 
 filter-all : {A : Type 0} (test : A → Bool) (xs : List A) → ((k : ℕ) (x : A) → slice_get xs k ≡ Some x → test x ≡ true) → filter test xs ≡ xs
@@ -58,29 +58,55 @@ telegram-means plan ks wrote a b c d lines size m is =
     let z = leaving m.on (record { process = c; output = 0 }) (sends_at plan c 0) in
     (z, subst (λ (ts : List Tree). Filling size ts z) x2 fills, writes ∙ ap rendered_all (led plan ks wrote m c d is.writer.process is.to_writer))
 
--- a meaning gives one stream at each output that is used, and one file
-one-stream : (part : Std) (w w' : List ℕ) (x x' y y' : ℕ → List Tree) → ((i : ℕ) → x i ≡ x' i) → Means part w x y → Means part w' x' y' → (o : ℕ) → IsTrue (std_uses part o) → y o ≡ y' o
-one-stream (parts.ReadLines left) w w' x x' y y' ins m n zero used = m ∙ sym n
-one-stream (parts.ReadLines left) w w' x x' y y' ins m n (suc o) used = absurd (let t : nat_eq (suc o) 0 ≡ true = used in (let f : nat_eq (suc o) 0 ≡ false = grind (arith, nat_tests) in let h : true ≡ false = sym t ∙ f in cc))
-one-stream (parts.WriteLines bytes) w w' x x' y y' ins m n o used = absurd (let h : false ≡ true = used in cc)
-one-stream (parts.Words part) w w' x x' y y' ins m n zero used = m ∙ ap (λ (ts : List Tree). flat_map words_of ts) (ins 0) ∙ sym n
-one-stream (parts.Words part) w w' x x' y y' ins m n (suc o) used = absurd (let t : nat_eq (suc o) 0 ≡ true = used in (let f : nat_eq (suc o) 0 ≡ false = grind (arith, nat_tests) in let h : true ≡ false = sym t ∙ f in cc))
-one-stream (parts.Fill state) w w' x x' y y' ins m n zero used = one_filling state.size (x' 0) (y 0) (y' 0) (subst (λ (ts : List Tree). Filling state.size ts (y 0)) (ins 0) m) n
-one-stream (parts.Fill state) w w' x x' y y' ins m n (suc o) used = absurd (let t : nat_eq (suc o) 0 ≡ true = used in (let f : nat_eq (suc o) 0 ≡ false = grind (arith, nat_tests) in let h : true ≡ false = sym t ∙ f in cc))
-one-stream (parts.Passthru part) w w' x x' y y' ins m n zero used = m ∙ ins 0 ∙ sym n
-one-stream (parts.Passthru part) w w' x x' y y' ins m n (suc o) used = absurd (let t : nat_eq (suc o) 0 ≡ true = used in (let f : nat_eq (suc o) 0 ≡ false = grind (arith, nat_tests) in let h : true ≡ false = sym t ∙ f in cc))
+no-second : (o : ℕ) → nat_eq (suc o) 0 ≡ true → ⊥
+no-second o used = let f : nat_eq (suc o) 0 ≡ false = grind (arith, nat_tests) in let h : true ≡ false = sym used ∙ f in cc
 
--- a standard component uses each of its outputs
-all-used : (part : Std) (o : ℕ) → o < (std_shape part).outputs → IsTrue (std_uses part o)
-all-used (parts.ReadLines left) zero l = refl
-all-used (parts.ReadLines left) (suc o) l = absurd (omega arith)
-all-used (parts.WriteLines bytes) o l = absurd (omega arith)
-all-used (parts.Words part) zero l = refl
-all-used (parts.Words part) (suc o) l = absurd (omega arith)
-all-used (parts.Fill state) zero l = refl
-all-used (parts.Fill state) (suc o) l = absurd (omega arith)
-all-used (parts.Passthru part) zero l = refl
-all-used (parts.Passthru part) (suc o) l = absurd (omega arith)
+-- a meaning gives one stream at each output that is used, and one file
+one-stream : (part : Std) (w w' : List ℕ) (x x' y y' : ℕ → List Tree) → IsSettled part → ((i : ℕ) → x i ≡ x' i) → Means part w x y → Means part w' x' y' → (o : ℕ) → IsTrue (std_uses part o) → y o ≡ y' o
+one-stream (parts.ReadLines left) w w' x x' y y' s ins m n zero used = m ∙ sym n
+one-stream (parts.ReadLines left) w w' x x' y y' s ins m n (suc o) used = absurd (no-second o used)
+one-stream (parts.WriteLines bytes) w w' x x' y y' s ins m n o used = absurd (let h : false ≡ true = used in cc)
+one-stream (parts.Words part) w w' x x' y y' s ins m n zero used = m ∙ ap (λ (ts : List Tree). flat_map words_of ts) (ins 0) ∙ sym n
+one-stream (parts.Words part) w w' x x' y y' s ins m n (suc o) used = absurd (no-second o used)
+one-stream (parts.Fill state) w w' x x' y y' s ins m n zero used = one_filling state.size (x' 0) (y 0) (y' 0) (subst (λ (ts : List Tree). Filling state.size ts (y 0)) (ins 0) m) n
+one-stream (parts.Fill state) w w' x x' y y' s ins m n (suc o) used = absurd (no-second o used)
+one-stream (parts.Brackets part) w w' x x' y y' s ins m n zero used = m ∙ ap (λ (ts : List Tree). map bracketed ts) (ins 0) ∙ sym n
+one-stream (parts.Brackets part) w w' x x' y y' s ins m n (suc o) used = absurd (no-second o used)
+one-stream (parts.Passthru part) w w' x x' y y' s ins m n zero used = m ∙ ins 0 ∙ sym n
+one-stream (parts.Passthru part) w w' x x' y y' s ins m n (suc o) used = absurd (no-second o used)
+one-stream (parts.Discard part) w w' x x' y y' s ins m n o used = absurd (let h : false ≡ true = used in cc)
+one-stream (parts.Hoard part) w w' x x' y y' s ins m n o used = absurd (let h : false ≡ true = used in cc)
+one-stream (parts.Copy part) w w' x x' y y' s ins m n o used = absurd s
+one-stream (parts.Concat part) w w' x x' y y' s ins m n o used = absurd s
+one-stream (parts.Collate part) w w' x x' y y' s ins m n o used = absurd s
+one-stream (parts.Bundle part) w w' x x' y y' s ins m n o used = absurd s
+one-stream (parts.Unbundle part) w w' x x' y y' s ins m n o used = absurd s
+one-stream (parts.Count part) w w' x x' y y' s ins m n o used = absurd s
+one-stream (parts.LoadBalance part) w w' x x' y y' s ins m n o used = absurd s
+one-stream (parts.Select part) w w' x x' y y' s ins m n o used = absurd s
+
+first-out : (o : ℕ) → o < 1 → IsTrue (nat_eq o 0)
+first-out zero l = refl
+first-out (suc o) l = absurd (omega arith)
+
+-- a component that uses its only output, or has none
+all-used : (part : Std) (o : ℕ) → IsSettled part → o < (std_shape part).outputs → IsTrue (std_uses part o)
+all-used (parts.ReadLines left) o s l = first-out o l
+all-used (parts.WriteLines bytes) o s l = absurd (omega arith)
+all-used (parts.Words part) o s l = first-out o l
+all-used (parts.Fill state) o s l = first-out o l
+all-used (parts.Brackets part) o s l = first-out o l
+all-used (parts.Passthru part) o s l = first-out o l
+all-used (parts.Discard part) o s l = absurd (omega arith)
+all-used (parts.Hoard part) o s l = absurd (omega arith)
+all-used (parts.Copy part) o s l = absurd s
+all-used (parts.Concat part) o s l = absurd s
+all-used (parts.Collate part) o s l = absurd s
+all-used (parts.Bundle part) o s l = absurd s
+all-used (parts.Unbundle part) o s l = absurd s
+all-used (parts.Count part) o s l = absurd s
+all-used (parts.LoadBalance part) o s l = absurd s
+all-used (parts.Select part) o s l = absurd s
 
 get-there : {A : Type 0} (xs : List A) (c : ℕ) (d : A) → c < length xs → slice_get xs c ≡ Some (get_or xs c d)
 get-there [] c d l = absurd (omega arith)
@@ -99,8 +125,8 @@ no_connection : PlanConnection
 no_connection = record { receiver = 0; input = 0; capacity = 0; senders = [] }
 
 -- whoever sends to a connection is a process whose component uses that output
-feeds : (plan : Plan) (ks : List Std) → StartsWell std_shape std_uses StdReady plan ks → (p o c : ℕ) → sends_at plan p o ≡ Some c → (part : Std) × RunsPart plan ks p part × IsTrue (std_uses part o)
-feeds plan ks well p o c sends =
+feeds : (plan : Plan) (ks : List Std) → StartsWell std_shape std_uses StdReady plan ks → AreSettled ks → (p o c : ℕ) → sends_at plan p o ≡ Some c → (part : Std) × RunsPart plan ks p part × IsTrue (std_uses part o)
+feeds plan ks well settled p o c sends =
     let sender : Sender = record { process = p; output = o } in
     let pos = position-Some (λ (x : PlanConnection). list_any (is_sender sender) x.senders) plan.connections c no_connection sends in
     let x = get_or plan.connections c no_connection in
@@ -114,10 +140,10 @@ feeds plan ks well p o c sends =
     let n : 0 + p ≡ p = omega arith in
     let z = process_at_start plan p q.0 part in
     let fit = well.fit p z (start-there plan 0 plan.processes ks p q.0 part there here ∙ ap (λ (m : ℕ). Some (process_at_start plan m q.0 part)) n) in
-    (part, record { process = q.0; there = there; here = here }, all-used part o (omega (arith, fit.outputs, length-ports (sends_at plan p) 0 q.0.outputs, who.1, q.2)))
+    (part, record { process = q.0; there = there; here = here }, all-used part o (settled p part here) (omega (arith, fit.outputs, length-ports (sends_at plan p) 0 q.0.outputs, who.1, q.2)))
 
 -- in a network without merges and without a way back, what arrives at a process is the same in each composition
-module _ (plan : Plan) (ks : List Std) (wrote other : ℕ → List ℕ) (well : StartsWell std_shape std_uses StdReady plan ks) (unmerged : IsUnmerged plan) (order : LeadsOn plan) (m : Composes plan ks wrote) (n : Composes plan ks other) where
+module _ (plan : Plan) (ks : List Std) (wrote other : ℕ → List ℕ) (well : StartsWell std_shape std_uses StdReady plan ks) (settled : AreSettled ks) (unmerged : IsUnmerged plan) (order : LeadsOn plan) (m : Composes plan ks wrote) (n : Composes plan ks other) where
   abbrev Same : ℕ → Type 0
   Same c = map (λ (sending : Sending). sending.content) (m.on c) ≡ map (λ (sending : Sending). sending.content) (n.on c)
 
@@ -129,12 +155,12 @@ module _ (plan : Plan) (ks : List Std) (wrote other : ℕ → List ℕ) (well : 
   same-sent fuel q i c less is rest sender sends =
       let p = sender.process in
       let o = sender.output in
-      let f = feeds plan ks well p o c sends in
+      let f = feeds plan ks well settled p o c sends in
       let runs = f.1 in
       let below : order.rank p < fuel = (let r = order.rises p o q i c sends is in omega arith) in
       let alone : (r s : ℕ) → sends_at plan r s ≡ Some c → (r ≡ p) × (s ≡ o) = λ r s at. unmerged c r s p o at sends in
       let one = one-stream f.0 (wrote p) (other p) (λ j. arriving m.on (input_at plan p runs.process j)) (λ j. arriving n.on (input_at plan p runs.process j))
-      (λ k. leaving m.on (record { process = p; output = k }) (sends_at plan p k)) (λ k. leaving n.on (record { process = p; output = k }) (sends_at plan p k)) (λ j. rest p runs.process j below) (m.each p runs.process f.0 runs.there runs.here)
+      (λ k. leaving m.on (record { process = p; output = k }) (sends_at plan p k)) (λ k. leaving n.on (record { process = p; output = k }) (sends_at plan p k)) (settled p f.0 runs.here) (λ j. rest p runs.process j below) (m.each p runs.process f.0 runs.there runs.here)
       (n.each p runs.process f.0 runs.there runs.here) o f.2 in
       sym (own-stream plan ks wrote m p o c sends alone) ∙ one ∙ own-stream plan ks other n p o c sends alone
 
@@ -152,12 +178,12 @@ module _ (plan : Plan) (ks : List Std) (wrote other : ℕ → List ℕ) (well : 
       by (Some c) is rest = same-on fuel q i c less is rest (m.on c) (n.on c) refl refl
 
 pub one-outcome : OneOutcome
-one-outcome plan ks wrote other well unmerged order m n p bytes runs =
+one-outcome plan ks wrote other well settled unmerged order m n p bytes runs =
     let a = m.each p runs.process (parts.WriteLines bytes) runs.there runs.here in
     let b = n.each p runs.process (parts.WriteLines bytes) runs.there runs.here in
-    a ∙ ap rendered_all (same-input plan ks wrote other well unmerged order m n (suc (order.rank p)) p runs.process 0 (omega arith)) ∙ sym b
+    a ∙ ap rendered_all (same-input plan ks wrote other well settled unmerged order m n (suc (order.rank p)) p runs.process 0 (omega arith)) ∙ sym b
 
 pub same-files : SameFiles
-same-files plan ks journal other s t well first unmerged leads finished leads' finished' p bytes runs =
+same-files plan ks journal other s t well first settled unmerged leads finished leads' finished' p bytes runs =
     let order = finished-leads_on std_shape std_uses StdReady StdNext plan ks journal s well leads finished in
-    one-outcome plan ks (wrote_in s) (wrote_in t) well unmerged order (finished-composes plan ks journal s well first leads finished) (finished-composes plan ks other t well first leads' finished') p bytes runs
+    one-outcome plan ks (wrote_in s) (wrote_in t) well settled unmerged order (finished-composes plan ks journal s well first leads finished) (finished-composes plan ks other t well first leads' finished') p bytes runs

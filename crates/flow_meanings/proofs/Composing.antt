@@ -6,7 +6,7 @@ use Rattle.std.specs.Option.{option_map}
 use Rattle.std.proofs.lemmas.Option.{slice_get-map}
 use Rattle.flow_packet.specs.Tree.{Tree}
 use Rattle.flow_component.specs.Runs.{sent, HeardEnd}
-use Rattle.flow_parts.specs.Meanings.{rendered_all, words_of}
+use Rattle.flow_parts.specs.Meanings.{rendered_all, words_of, bracketed}
 use Rattle.flow_parts.specs.Filling.{Filling}
 use Rattle.flow_catalogue.specs.declared.standard.Std.{Std}
 use Rattle.flow_catalogue.specs.declared.standard.Std.TheVariants as parts
@@ -28,7 +28,7 @@ use Rattle.flow_model.proofs.Telling.{AllTell, AllTell-start, AllTell-leads, Tel
 use Rattle.flow_model.proofs.Wiring.{wires-leads}
 use Rattle.flow_meanings.specs.Means.{IsFirst, Means, bytes_of, contents, KeepsMeanings}
 use Rattle.flow_meanings.specs.Composition.{Sending, arriving, leaving, wrote_in, FinishedComposes}
-use Rattle.flow_meanings.proofs.Ending.{Over, ended-means, ended-heard, got-contents, sent-contents}
+use Rattle.flow_meanings.proofs.Ending.{Over, meant_inputs, ended-means, ended-heard, got-contents, sent-contents}
 
 -- what a schedule leads to, from a start of standard components
 module _ (plan : Plan) (parts : List Std) (journal : Journal) (s : State Std) (well : StartsWell std_shape std_uses StdReady plan parts) (leads : Leads StdNext (start_of plan parts) journal s) where
@@ -60,12 +60,23 @@ pub keeps-meanings : KeepsMeanings
 keeps-meanings plan parts journal s well leads p part x at first there ended = means plan parts journal s well leads p part x at first there ended
 
 -- a meaning speaks of the ports of the component alone
-Means-change : (part : Std) (w w' : List ℕ) (x x' y y' : ℕ → List Tree) → w ≡ w' → ((i : ℕ) → i < (std_shape part).inputs → x i ≡ x' i) → ((o : ℕ) → IsTrue (std_uses part o) → y o ≡ y' o) → Means part w x y → Means part w' x' y'
+Means-change : (part : Std) (w w' : List ℕ) (x x' y y' : ℕ → List Tree) → w ≡ w' → ((i : ℕ) → i < meant_inputs part → x i ≡ x' i) → ((o : ℕ) → IsTrue (std_uses part o) → y o ≡ y' o) → Means part w x y → Means part w' x' y'
 Means-change (parts.ReadLines left) w w' x x' y y' e ins outs m = sym (outs 0 refl) ∙ m
 Means-change (parts.WriteLines bytes) w w' x x' y y' e ins outs m = sym e ∙ m ∙ ap rendered_all (ins 0 (omega arith))
 Means-change (parts.Words part) w w' x x' y y' e ins outs m = sym (outs 0 refl) ∙ m ∙ ap (λ (ts : List Tree). flat_map words_of ts) (ins 0 (omega arith))
 Means-change (parts.Fill state) w w' x x' y y' e ins outs m = subst (λ (b : List Tree). Filling state.size (x' 0) b) (outs 0 refl) (subst (λ (a : List Tree). Filling state.size a (y 0)) (ins 0 (omega arith)) m)
+Means-change (parts.Brackets part) w w' x x' y y' e ins outs m = sym (outs 0 refl) ∙ m ∙ ap (λ (ts : List Tree). map bracketed ts) (ins 0 (omega arith))
 Means-change (parts.Passthru part) w w' x x' y y' e ins outs m = sym (outs 0 refl) ∙ m ∙ ins 0 (omega arith)
+Means-change (parts.Copy part) w w' x x' y y' e ins outs m = tt
+Means-change (parts.Concat part) w w' x x' y y' e ins outs m = tt
+Means-change (parts.Collate part) w w' x x' y y' e ins outs m = tt
+Means-change (parts.Discard part) w w' x x' y y' e ins outs m = tt
+Means-change (parts.Bundle part) w w' x x' y y' e ins outs m = tt
+Means-change (parts.Unbundle part) w w' x x' y y' e ins outs m = tt
+Means-change (parts.Hoard part) w w' x x' y y' e ins outs m = tt
+Means-change (parts.Count part) w w' x x' y y' e ins outs m = tt
+Means-change (parts.LoadBalance part) w w' x x' y y' e ins outs m = tt
+Means-change (parts.Select part) w w' x x' y y' e ins outs m = tt
 
 pub start-there : {K : Type 0} (plan : Plan) (p : ℕ) (xs : List PlanProcess) (ks : List K) (k : ℕ) (x : PlanProcess) (part : K) → slice_get xs k ≡ Some x → slice_get ks k ≡ Some part
     → slice_get (processes_at_start plan p xs ks) k ≡ Some (process_at_start plan (p + k) x part)
@@ -121,12 +132,24 @@ alone-text (From c ∷ []) text one at = absurd (cc)
 alone-text (Text t ∷ []) text one at = refl
 alone-text (i ∷ j ∷ inputs) text one at = absurd (omega arith)
 
-most-one : (part : Std) → (i : ℕ) → i < (std_shape part).inputs → (i ≡ 0) × ((std_shape part).inputs ≡ 1)
+-- where a meaning speaks of an input, the component has that one alone
+most-one : (part : Std) → (i : ℕ) → i < meant_inputs part → (i ≡ 0) × ((std_shape part).inputs ≡ 1)
 most-one (parts.ReadLines left) i l = absurd (omega arith)
 most-one (parts.WriteLines bytes) i l = (omega arith, refl)
 most-one (parts.Words part) i l = (omega arith, refl)
 most-one (parts.Fill state) i l = (omega arith, refl)
+most-one (parts.Brackets part) i l = (omega arith, refl)
 most-one (parts.Passthru part) i l = (omega arith, refl)
+most-one (parts.Copy part) i l = absurd (omega arith)
+most-one (parts.Concat part) i l = absurd (omega arith)
+most-one (parts.Collate part) i l = absurd (omega arith)
+most-one (parts.Discard part) i l = absurd (omega arith)
+most-one (parts.Bundle part) i l = absurd (omega arith)
+most-one (parts.Unbundle part) i l = absurd (omega arith)
+most-one (parts.Hoard part) i l = absurd (omega arith)
+most-one (parts.Count part) i l = absurd (omega arith)
+most-one (parts.LoadBalance part) i l = absurd (omega arith)
+most-one (parts.Select part) i l = absurd (omega arith)
 
 pub finished-composes : FinishedComposes
 finished-composes plan parts journal s well first leads finished = record {
@@ -177,7 +200,7 @@ finished-composes plan parts journal s well first leads finished = record {
     gots = got-all StdReady StdNext parts s (order plan parts journal s well leads) (told plan parts journal s well leads)
 
     -- what arrives at an input is what was got there
-    arrives : (p : ℕ) (part : Std) (x : Process Std) (i : ℕ) → slice_get parts p ≡ Some part → slice_get s.kept.processes p ≡ Some x → x.stage ≡ stages.Ended → (std_shape part).inputs ≡ length x.inputs → i < (std_shape part).inputs
+    arrives : (p : ℕ) (part : Std) (x : Process Std) (i : ℕ) → slice_get parts p ≡ Some part → slice_get s.kept.processes p ≡ Some x → x.stage ≡ stages.Ended → (std_shape part).inputs ≡ length x.inputs → i < meant_inputs part
         → (input : Input) → slice_get x.inputs i ≡ Some input → contents (got_at s.past p i) ≡ arriving (put_on s) input
     arrives p part x i at there ended fits l (From c) input = sym (all-contents (s.past.put c) ∙ ap contents (gots p i c x there ended input))
     arrives p part x i at there ended fits l (Text text) input =
@@ -186,7 +209,7 @@ finished-composes plan parts journal s well first leads finished = record {
         let none : NoneConnected x = alone-text x.inputs text (sym one.1 ∙ fits) here in
         let o = over plan parts journal s well leads p part x at there ended in
         let some = o.run.has_run none ended in
-        let heard : HeardEnd 0 (s.past.told p) = ended-heard part p (s.past.told p) x (first p part at) o (subst (λ (m : ℕ). m < (std_shape part).inputs) one.0 l) some in
+        let heard : HeardEnd 0 (s.past.told p) = ended-heard part p (s.past.told p) x (first p part at) o (subst (λ (m : ℕ). m < meant_inputs part) one.0 l) some in
         ap (λ (j : ℕ). contents (got_at s.past p j)) one.0 ∙ got-contents s.past p 0 ∙ o.run.texts (o.run.once none) 0 text here heard
 
     -- what leaves an output is what was sent there
@@ -216,6 +239,6 @@ finished-composes plan parts journal s well first leads finished = record {
         Means-change part (bytes_of y.0.part) (wrote_in s p) (λ i. contents (got_at s.past p i)) (λ i. arriving (put_on s) (input_at plan p x i)) (λ o. contents (sent_at s.past p o))
         (λ o. leaving (put_on s) (record { process = p; output = o }) (sends_at plan p o)) wrote
         (λ i l. arrives p part y.0 i at y.1 ended fits l (input_at plan p x i)
-        (ap (λ (is : List Input). slice_get is i) inputs ∙ range-at (input_at plan p x) 0 x.inputs i (omega (arith, l, fit.inputs, length-ports (input_at plan p x) 0 x.inputs)) ∙ ap (λ (m : ℕ). Some (input_at plan p x m)) (let e : 0 + i ≡ i = omega arith in e)))
+        (ap (λ (is : List Input). slice_get is i) inputs ∙ range-at (input_at plan p x) 0 x.inputs i (omega (arith, (most-one part i l).0, (most-one part i l).1, fit.inputs, length-ports (input_at plan p x) 0 x.inputs)) ∙ ap (λ (m : ℕ). Some (input_at plan p x m)) (let e : 0 + i ≡ i = omega arith in e)))
         (λ o used. leaves-used p y.0 o (output_at y.0 o) y.1 refl (subst (λ (os : List (Option ℕ)). IsSome (option_and_then (λ (c : Option ℕ). c) (slice_get os o))) (sym outputs) (fit.used o used)))
         (means plan parts journal s well leads p part y.0 at (first p part at) y.1 ended)

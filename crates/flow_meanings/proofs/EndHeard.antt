@@ -1,5 +1,5 @@
 -- A component with one input that has come to its end, once it was started, has heard the end of that input.
-use Rattle.std.proofs.Common.{◌≡◌, ◌≢◌, ℕ, ◌<◌, List, [], ◌∷◌, length, refl, sym, ap, ◌∙◌, subst, ◌⊎◌, inl, inr, arith, nat_le, nat_lt, Bool, true, false, cond, ◌+◌, ◌++◌}
+use Rattle.std.proofs.Common.{◌≡◌, ◌≢◌, ℕ, ◌<◌, List, [], ◌∷◌, length, refl, sym, ap, ◌∙◌, subst, ◌⊎◌, inl, inr, arith, nat_le, nat_lt, Bool, true, false, cond, ◌+◌, ◌++◌, Option, Some, None}
 use Rattle.flow_packet.specs.Held.{Held, without_packet, with_made, next_id}
 use Rattle.flow_packet.specs.Hands.{text_at, kind_at}
 use Rattle.flow_packet.specs.declared.packet.Kind.{Kind}
@@ -21,6 +21,9 @@ use Rattle.flow_parts.specs.declared.words.Words.TheVariants as words_parts
 use Rattle.flow_parts.specs.Text.{word_start, word_end}
 use Rattle.flow_parts.specs.Words.{sends_piece, takes, goes_on, WordsNext, WordsReady}
 use Rattle.flow_parts.specs.WordsLaws.{words_obeys}
+use Rattle.flow_parts.specs.Brackets as brackets
+use Rattle.flow_parts.specs.Brackets.{turns, bracket_of, BracketsNext, BracketsReady}
+use Rattle.flow_parts.specs.BracketsLaws.{brackets_obeys}
 use Rattle.flow_parts.specs.declared.fill.FillPlace.{FillPlace}
 use Rattle.flow_parts.specs.declared.fill.FillPlace.TheVariants as places
 use Rattle.flow_parts.specs.FillState.{FillState}
@@ -107,6 +110,23 @@ words-hears part told run some =
     (λ p q s l. elim l [ inl d ↦ (let c : Wishes q.part q.held q.wish ≡ Wishes words_parts.Waiting s.held receive_first = s.comes_to in cc) | inr n ↦ n ])
     (λ p port t q s l. elim l [ inl d ↦ subst GoesOn (sym s.comes_to) (words-takes s.held (Rattle.flow_packet.specs.Tree.id_of t) (kind_at s.held.packets (Rattle.flow_packet.specs.Tree.id_of t))) d | inr n ↦ n ])
     (λ p port t q s l. elim l [ inl d ↦ subst GoesOn (sym s.comes_to) (words-goes s.held p.part) d | inr n ↦ n ])
+    (λ p port level q s. s.is_ready) part told run (λ n. n) some
+
+brackets-turn : {K : Type 0} (part : K) (held : Held) (id : ℕ) (text : List ℕ) (kind : Option Kind) → GoesOn (turns part held id text kind)
+brackets-turn part held id text None = λ d. cc
+brackets-turn part held id text (Some kind) = λ d. cc
+
+brackets-take : {K : Type 0} (part : K) (held : Held) (id : ℕ) (kind : Kind) → GoesOn (brackets.takes part held id kind)
+brackets-take part held id Normal = brackets-turn part held id (text_at held.packets id) (bracket_of (text_at held.packets id))
+brackets-take part held id Open = λ d. cc
+brackets-take part held id Close = λ d. cc
+
+pub brackets-hears : {K : Type 0} (part : K) (told : List Happening) → EndedRun BracketsReady BracketsNext part told → told ≢ [] → HeardEnd 0 told
+brackets-hears {K} part told run some =
+    end-heard {K = K} BracketsReady BracketsNext one_to_one uses_first refl brackets_obeys Never
+    (λ p q s l. elim l [ inl d ↦ subst GoesOn (sym s.comes_to) (λ e. cc) d | inr n ↦ n ])
+    (λ p port t q s l. elim l [ inl d ↦ subst GoesOn (sym s.comes_to) (brackets-take p.part s.held (Rattle.flow_packet.specs.Tree.id_of t) (kind_at s.held.packets (Rattle.flow_packet.specs.Tree.id_of t))) d | inr n ↦ n ])
+    (λ p port t q s l. elim l [ inl d ↦ subst GoesOn (sym s.comes_to) (λ e. cc) d | inr n ↦ n ])
     (λ p port level q s. s.is_ready) part told run (λ n. n) some
 
 -- A Fill leaves once its last line was sent.

@@ -20,6 +20,8 @@ use Rattle.flow_parts.proofs.ReadLinesStream.{read_lines_meaning}
 use Rattle.flow_parts.proofs.WriteLinesStream.{write_lines_meaning}
 use Rattle.flow_parts.proofs.WordsStream.{words_meaning}
 use Rattle.flow_parts.proofs.FillStream.{fill_meaning}
+use Rattle.flow_parts.specs.Brackets.{brackets_next, BracketsReady}
+use Rattle.flow_parts.proofs.BracketsStream.{brackets_meaning}
 use Rattle.flow_streams.specs.Passthru.{passes}
 use Rattle.flow_streams.specs.declared.passthru.Passthru.{Passthru}
 use Rattle.flow_streams.proofs.PassthruStream.{passthru_meaning}
@@ -32,7 +34,7 @@ use Rattle.flow_model.specs.Runs.{poise, Follows, HasRun}
 use Rattle.flow_meanings.specs.Means.{IsFirst, Means, bytes_of, contents}
 use Rattle.flow_meanings.proofs.Lifting.{own-run}
 use Rattle.flow_meanings.proofs.Single.{none-alone, single-ends}
-use Rattle.flow_meanings.proofs.EndHeard.{write_lines-hears, words-hears, fill-hears, passthru-hears}
+use Rattle.flow_meanings.proofs.EndHeard.{write_lines-hears, words-hears, fill-hears, brackets-hears, passthru-hears}
 
 -- A process that has ended, with what it was told, and the shape that its component has.
 pub record Over (part : Std) (p : ℕ) (told : List Happening) (x : Process Std) : Type 0 where
@@ -79,6 +81,19 @@ ended-means (parts.Fill state) p told x first over =
 ended-means (parts.Passthru part) p told x first over =
     let o = own parts.Passthru (λ (_ : Passthru). IsAtHand) (λ part held answer. Wishes part held (passes answer)) (λ part held answer r. r) (λ part held answer. refl) part p told x over in
     passthru_meaning part told o.run
+ended-means (parts.Brackets part) p told x first over =
+    let o = own parts.Brackets BracketsReady brackets_next (λ part held answer r. r) (λ part held answer. refl) part p told x over in
+    brackets_meaning part told o.run
+ended-means (parts.Copy part) p told x first over = tt
+ended-means (parts.Concat part) p told x first over = tt
+ended-means (parts.Collate part) p told x first over = tt
+ended-means (parts.Discard part) p told x first over = tt
+ended-means (parts.Bundle part) p told x first over = tt
+ended-means (parts.Unbundle part) p told x first over = tt
+ended-means (parts.Hoard part) p told x first over = tt
+ended-means (parts.Count part) p told x first over = tt
+ended-means (parts.LoadBalance part) p told x first over = tt
+ended-means (parts.Select part) p told x first over = tt
 
 -- contents of entries, read off what was told
 got-step : (port : ℕ) (h : Happening) → contents (got_by port h) ≡ content_got port h
@@ -113,8 +128,17 @@ got-contents past p port = map-flat (λ (e : Entry). e.content) (got_by port) (c
 pub sent-contents : (past : Past) (p port : ℕ) → contents (sent_at past p port) ≡ sent port (past.told p)
 sent-contents past p port = map-flat (λ (e : Entry). e.content) (sent_by port) (content_sent port) (sent-step port) (past.told p)
 
--- such a process with one input, once it was told anything, has heard the end of that input
-pub ended-heard : (part : Std) (p : ℕ) (told : List Happening) (x : Process Std) → IsFirst part → Over part p told x → 0 < (std_shape part).inputs → told ≢ [] → HeardEnd 0 told
+-- how many inputs a meaning speaks of
+abbrev pub meant_inputs : Std → ℕ
+meant_inputs (parts.WriteLines bytes) = 1
+meant_inputs (parts.Words part) = 1
+meant_inputs (parts.Fill state) = 1
+meant_inputs (parts.Brackets part) = 1
+meant_inputs (parts.Passthru part) = 1
+meant_inputs part = 0
+
+-- such a process whose meaning speaks of an input, once it was told anything, has heard the end of that input
+pub ended-heard : (part : Std) (p : ℕ) (told : List Happening) (x : Process Std) → IsFirst part → Over part p told x → 0 < meant_inputs part → told ≢ [] → HeardEnd 0 told
 ended-heard (parts.ReadLines left) p told x first over one some = absurd (omega arith)
 ended-heard (parts.WriteLines bytes) p told x first over one some =
     write_lines-hears bytes told (own parts.WriteLines (λ (_ : List ℕ). IsAtHand) writes (λ part held answer r. r) (λ part held answer. refl) bytes p told x over).run some
@@ -124,3 +148,15 @@ ended-heard (parts.Fill state) p told x first over one some =
     fill-hears first.0 told (subst (λ (w : FillState). EndedRun FillReady FillNext w told) first.1 o.run) some
 ended-heard (parts.Passthru part) p told x first over one some =
     passthru-hears part told (own parts.Passthru (λ (_ : Passthru). IsAtHand) (λ part held answer. Wishes part held (passes answer)) (λ part held answer r. r) (λ part held answer. refl) part p told x over).run some
+ended-heard (parts.Brackets part) p told x first over one some =
+    brackets-hears part told (own parts.Brackets BracketsReady brackets_next (λ part held answer r. r) (λ part held answer. refl) part p told x over).run some
+ended-heard (parts.Copy part) p told x first over one some = absurd (omega arith)
+ended-heard (parts.Concat part) p told x first over one some = absurd (omega arith)
+ended-heard (parts.Collate part) p told x first over one some = absurd (omega arith)
+ended-heard (parts.Discard part) p told x first over one some = absurd (omega arith)
+ended-heard (parts.Bundle part) p told x first over one some = absurd (omega arith)
+ended-heard (parts.Unbundle part) p told x first over one some = absurd (omega arith)
+ended-heard (parts.Hoard part) p told x first over one some = absurd (omega arith)
+ended-heard (parts.Count part) p told x first over one some = absurd (omega arith)
+ended-heard (parts.LoadBalance part) p told x first over one some = absurd (omega arith)
+ended-heard (parts.Select part) p told x first over one some = absurd (omega arith)

@@ -1,4 +1,5 @@
--- Networks without merges: what their compositions say more simply, and that there is one outcome where no connection leads back.
+-- Networks without merges: what their compositions say more simply, and that there is one outcome where no connection leads back and each component's meaning
+-- settles what it sends.
 -- (This project's own.)
 use Rattle.std.specs.Prelude.{◌≡◌, ℕ, ◌<◌, List, [], map, Some, slice_get}
 use Rattle.std.specs.List.{flat_map}
@@ -46,6 +47,22 @@ TelegramMeans =
     (plan : Plan) (ks : List Std) (wrote : ℕ → List ℕ) (a b c d : ℕ) (lines : List (List ℕ)) (size : ℕ) → Composes plan ks wrote → IsTelegram plan ks a b c d lines size
     → (z : List Tree) × Filling size (flat_map words_of (map text_packet lines)) z × (wrote d ≡ rendered_all z)
 
+-- What the component sends and writes follows from what it gets. (Of a kind whose meaning isn't stated yet that isn't said.)
+abbrev pub IsSettled : Std → Type 0
+IsSettled (parts.ReadLines left) = Unit {0}
+IsSettled (parts.WriteLines bytes) = Unit {0}
+IsSettled (parts.Words part) = Unit {0}
+IsSettled (parts.Fill state) = Unit {0}
+IsSettled (parts.Brackets part) = Unit {0}
+IsSettled (parts.Passthru part) = Unit {0}
+IsSettled (parts.Discard part) = Unit {0}
+IsSettled (parts.Hoard part) = Unit {0}
+IsSettled part = ⊥
+
+-- All components are such.
+abbrev pub AreSettled : List Std → Type 0
+AreSettled ks = (p : ℕ) (part : Std) → slice_get ks p ≡ Some part → IsSettled part
+
 -- No connection has two senders.
 abbrev pub IsUnmerged : Plan → Type 0
 IsUnmerged plan = (c p o q r : ℕ) → sends_at plan p o ≡ Some c → sends_at plan q r ≡ Some c → (p ≡ q) × (o ≡ r)
@@ -53,12 +70,12 @@ IsUnmerged plan = (c p o q r : ℕ) → sends_at plan p o ≡ Some c → sends_a
 -- Such a network means one outcome: what a writer wrote is the same in all of its compositions.
 abbrev pub OneOutcome : Type 0
 OneOutcome =
-    (plan : Plan) (ks : List Std) (wrote other : ℕ → List ℕ) → StartsWell std_shape std_uses StdReady plan ks → IsUnmerged plan → LeadsOn plan → Composes plan ks wrote → Composes plan ks other
+    (plan : Plan) (ks : List Std) (wrote other : ℕ → List ℕ) → StartsWell std_shape std_uses StdReady plan ks → AreSettled ks → IsUnmerged plan → LeadsOn plan → Composes plan ks wrote → Composes plan ks other
     → (p : ℕ) (bytes : List ℕ) → RunsPart plan ks p (parts.WriteLines bytes) → wrote p ≡ other p
 
 -- Whatever the schedules, two of them that finish leave the same files. (That a network finishes shows that no connection leads back.)
 abbrev pub SameFiles : Type 0
 SameFiles =
-    (plan : Plan) (ks : List Std) (journal other : Journal) (s t : State Std) → StartsWell std_shape std_uses StdReady plan ks → AreFirst ks → IsUnmerged plan
+    (plan : Plan) (ks : List Std) (journal other : Journal) (s t : State Std) → StartsWell std_shape std_uses StdReady plan ks → AreFirst ks → AreSettled ks → IsUnmerged plan
     → Leads StdNext (start_of plan ks) journal s → IsFinished s → Leads StdNext (start_of plan ks) other t → IsFinished t
     → (p : ℕ) (bytes : List ℕ) → RunsPart plan ks p (parts.WriteLines bytes) → wrote_in s p ≡ wrote_in t p

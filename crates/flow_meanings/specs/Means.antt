@@ -5,7 +5,7 @@ use Rattle.flow_packet.specs.Tree.{Tree}
 use Rattle.flow_component.specs.Runs.{text_packet}
 use Rattle.flow_parts.specs.declared.words.Words.TheVariants as words_parts
 use Rattle.flow_parts.specs.Filling.{Filling}
-use Rattle.flow_parts.specs.Meanings.{rendered_all, words_of, fresh_fill}
+use Rattle.flow_parts.specs.Meanings.{rendered_all, words_of, bracketed, fresh_fill}
 use Rattle.flow_catalogue.specs.declared.standard.Std.{Std}
 use Rattle.flow_catalogue.specs.declared.standard.Std.TheVariants as parts
 use Rattle.flow_catalogue.specs.Std.{std_shape, std_uses, StdReady, StdNext, written_of}
@@ -20,16 +20,19 @@ IsFirst (parts.ReadLines left) = Unit {0}
 IsFirst (parts.WriteLines bytes) = bytes ≡ []
 IsFirst (parts.Words part) = part ≡ words_parts.Waiting
 IsFirst (parts.Fill state) = (size : ℕ) × (state ≡ fresh_fill size)
-IsFirst (parts.Passthru part) = Unit {0}
+IsFirst part = Unit {0}
 
 -- A component of this first state, where the streams x come in and it works to its end, sends the streams y and has written these bytes: a ReadLines its lines; a
--- Words its input with each Normal packet replaced by its words; a Fill a filling of its input; a Passthru its input; and a WriteLines writes its input.
+-- Words its input with each Normal packet replaced by its words; a Fill a filling of its input; a Brackets its input with each packet that names a bracket
+-- replaced by that; a Passthru its input; and a WriteLines writes its input. Of the other kinds nothing is said yet.
 abbrev pub Means : Std → List ℕ → (ℕ → List Tree) → (ℕ → List Tree) → Type 0
 Means (parts.ReadLines left) wrote x y = y 0 ≡ map text_packet left
 Means (parts.WriteLines bytes) wrote x y = wrote ≡ rendered_all (x 0)
 Means (parts.Words part) wrote x y = y 0 ≡ flat_map words_of (x 0)
 Means (parts.Fill state) wrote x y = Filling state.size (x 0) (y 0)
+Means (parts.Brackets part) wrote x y = y 0 ≡ map bracketed (x 0)
 Means (parts.Passthru part) wrote x y = y 0 ≡ x 0
+Means part wrote x y = Unit {0}
 
 -- The bytes that a component has written, none where it writes no file.
 abbrev pub bytes_of : Std → List ℕ

@@ -20,8 +20,8 @@ pub fn a_telegram_is_the_filling_of_its_words()
     ensures { TelegramMeans }
 {}
 
-/// Where no connection has two senders, all schedules that finish leave the same files: no connection leads back in a network that
-/// finishes, and such a network means one outcome.
+/// Where no connection has two senders and each component's meaning settles what it sends, all schedules that finish leave the same
+/// files: no connection leads back in a network that finishes, and such a network means one outcome.
 pub fn a_network_without_merges_means_one_outcome()
     ensures one { OneOutcome }
     ensures files { SameFiles }

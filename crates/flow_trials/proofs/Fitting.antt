@@ -5,43 +5,55 @@ use Rattle.std.proofs.lemmas.Bool.Decides.{nat_tests}
 use Rattle.std.proofs.lemmas.List.{length-map}
 use Rattle.flow_net.specs.declared.plan.Process.{Process}
 use Rattle.flow_net.specs.Network.{Network}
-use Rattle.flow_net.specs.Valid.{IsValid}
-use Rattle.flow_net.specs.Over.{IsOver}
 use Rattle.flow_ready.specs.Ready.{PartFits, PartsFit}
 use Rattle.flow_ready.proofs.Lookups.{map-there}
 use Rattle.flow_catalogue.specs.declared.standard.Std.{Std}
 use Rattle.flow_catalogue.specs.declared.table.StdKind.TheVariants as kinds
-use Rattle.flow_catalogue.specs.Kinds.{std_kinds}
+use Rattle.flow_catalogue.specs.declared.table.StdKind.{StdKind}
+use Rattle.flow_catalogue.specs.Kinds.{name_of}
 use Rattle.flow_catalogue.specs.Std.{std_shape, std_uses, StdReady}
-use Rattle.flow_catalogue.specs.Plans.{OverIsConnected}
-use Rattle.flow_catalogue.specs.Processes.{IsMade, Fits}
+use Rattle.flow_catalogue.specs.Processes.{IsMade, Fits, first_part, given}
 use Rattle.flow_trials.specs.declared.asker.Asker.{Asker}
 use Rattle.flow_trials.specs.Asker.{shape_asked, uses_asked, AlwaysReady}
-use Rattle.flow_trials.specs.Askers.{asker_of}
+use Rattle.flow_trials.specs.Askers.{asker_of, IsAllConnected}
 use Rattle.flow_trials.specs.Networks.{ArePartsOn, HasPart}
 
 -- the bytes are of no matter to a process that reads none
-pub made-anywhere : (bytes : List ℕ) (process : Process) (part : Std) → process.kind ≢ codes "ReadLines" → IsMade process [] part → IsMade process bytes part
-made-anywhere bytes process part other (kinds.ReadLines, named, is) = absurd (other named)
-made-anywhere bytes process part other (kinds.WriteLines, named, is) = (kinds.WriteLines, named, is)
-made-anywhere bytes process part other (kinds.Passthru, named, is) = (kinds.Passthru, named, is)
-made-anywhere bytes process part other (kinds.Words, named, is) = (kinds.Words, named, is)
-made-anywhere bytes process part other (kinds.Fill, named, is) = (kinds.Fill, named, is)
+pub made-anywhere : (bytes : List ℕ) (plan : Network) (p : ℕ) (process : Process) (part : Std) → process.kind ≢ codes "ReadLines" → IsMade plan p process [] part → IsMade plan p process bytes part
+made-anywhere bytes plan p process part other made = record { kind = made.kind; named = made.named; is = made.is ∙ same made.kind made.named }
+  where
+    same : (kind : StdKind) → process.kind ≡ name_of kind → first_part kind (given plan p process) [] ≡ first_part kind (given plan p process) bytes
+    same kinds.ReadLines named = absurd (other named)
+    same kinds.WriteLines named = refl
+    same kinds.Passthru named = refl
+    same kinds.Words named = refl
+    same kinds.Fill named = refl
+    same kinds.Brackets named = refl
+    same kinds.Copy named = refl
+    same kinds.Concat named = refl
+    same kinds.Collate named = refl
+    same kinds.Discard named = refl
+    same kinds.Bundle named = refl
+    same kinds.Unbundle named = refl
+    same kinds.Hoard named = refl
+    same kinds.Count named = refl
+    same kinds.LoadBalance named = refl
+    same kinds.Select named = refl
 
 pub writes-not-reads : (process : Process) → process.kind ≡ codes "WriteLines" → process.kind ≢ codes "ReadLines"
 writes-not-reads process writes reads = (let bad : codes "WriteLines" ≡ codes "ReadLines" = sym writes ∙ reads in cc)
 
-pub parts-fit : (bytes : List ℕ) (plan : Network) (parts : List Std) → OverIsConnected → IsValid plan → IsOver std_kinds plan → ArePartsOn bytes plan parts → PartsFit std_shape std_uses StdReady plan parts
-parts-fit bytes plan parts connected valid over are = record {
+pub parts-fit : (bytes : List ℕ) (plan : Network) (parts : List Std) → ArePartsOn bytes plan parts → PartsFit std_shape std_uses StdReady plan parts
+parts-fit bytes plan parts are = record {
   one_each = are.count;
   fit = λ p process part there at.
       let has : HasPart bytes plan p part = are.each p part at in
       let same : has.process ≡ process = (let h = has.there in cc) in
-      let fits = subst (λ (x : Process). Fits x part) same has.is.fits in
+      let fits = subst (λ (x : Process). Fits plan p x part) same has.is.fits in
       record {
         inputs = fits.inputs;
         outputs = fits.outputs;
-        used = λ o uses. connected plan valid over p o (process, there, fits.uses o uses);
+        used = fits.uses;
         can_start = fits.starts;
       };
 }
@@ -49,13 +61,13 @@ parts-fit bytes plan parts connected valid over are = record {
 below : (a b : ℕ) → IsTrue (nat_lt a b) → a < b
 below a b is = grind (arith, nat_tests)
 
-pub askers-fit : (plan : Network) → OverIsConnected → IsValid plan → IsOver std_kinds plan → PartsFit shape_asked uses_asked AlwaysReady plan (map asker_of plan.processes)
-askers-fit plan connected valid over = record {
+pub askers-fit : (plan : Network) → IsAllConnected plan → PartsFit shape_asked uses_asked AlwaysReady plan (map asker_of plan.processes)
+askers-fit plan connected = record {
   one_each = length-map plan.processes asker_of;
   fit = λ p process part there at.
       let is : part ≡ asker_of process = mapped plan.processes p process part there at in
       subst (λ (a : Asker). PartFits shape_asked uses_asked AlwaysReady plan p process a) (sym is)
-      (record { inputs = refl; outputs = refl; used = λ o uses. connected plan valid over p o (process, there, below o process.outputs uses); can_start = λ held none. tt });
+      (record { inputs = refl; outputs = refl; used = λ o uses. connected p o (process, there, below o process.outputs uses); can_start = λ held none. tt });
 } where
   mapped : (xs : List Process) (k : ℕ) (x : Process) (part : Asker) → slice_get xs k ≡ Some x → slice_get (map asker_of xs) k ≡ Some part → part ≡ asker_of x
   mapped xs k x part there at = let found = map-there asker_of xs k x there in cc

@@ -20,15 +20,15 @@ pub record IsPlanOf (text : List ℕ) (plan : Network) : Type 0 where
   pub flat : ComesTo std_kinds value.main (Ok plan)
 
 -- The part is the process's own in its first state, on these bytes where it reads a file.
-pub record IsPartOn (bytes : List ℕ) (process : Process) (part : Std) : Type 0 where
-  pub made : IsMade process bytes part
-  pub fits : Fits process part
+pub record IsPartOn (bytes : List ℕ) (plan : Network) (p : ℕ) (process : Process) (part : Std) : Type 0 where
+  pub made : IsMade plan p process bytes part
+  pub fits : Fits plan p process part
 
 -- The part is that of process p of the plan.
 pub record HasPart (bytes : List ℕ) (plan : Network) (p : ℕ) (part : Std) : Type 0 where
   pub process : Process
   pub there : slice_get plan.processes p ≡ Some process
-  pub is : IsPartOn bytes process part
+  pub is : IsPartOn bytes plan p process part
 
 -- The parts are those of the plan's processes, in order, each reader on the same bytes.
 pub record ArePartsOn (bytes : List ℕ) (plan : Network) (parts : List Std) : Type 0 where

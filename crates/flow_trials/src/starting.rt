@@ -1,5 +1,6 @@
 //! Networks at their start: of standard components, and of components that ask for a level.
-ghost use Rattle.std.specs.Prelude.{◌≡◌, IfOk, map};
+ghost use Rattle.std.specs.Prelude.{◌≡◌, ◌<◌, ℕ, IfOk, IsTrue, map};
+ghost use Rattle.flow_net.specs.Valid.{HasSender};
 ghost use Rattle.flow_net.specs.Network.{Network};
 ghost use Rattle.flow_net.specs.Over.{IsOver};
 ghost use Rattle.flow_model.specs.Plans.{StartsWell};
@@ -8,12 +9,14 @@ ghost use Rattle.flow_catalogue.specs.Kinds.{std_kinds};
 ghost use Rattle.flow_catalogue.specs.Processes.{IsStandard};
 ghost use Rattle.flow_catalogue.specs.Std.{std_shape, std_uses, StdReady};
 ghost use Rattle.flow_trials.specs.Asker.{shape_asked, uses_asked, AlwaysReady};
-ghost use Rattle.flow_trials.specs.Askers.{asker_of};
+ghost use Rattle.flow_trials.specs.Askers.{asker_of, IsAllConnected};
 ghost use Rattle.flow_trials.specs.Networks.{ArePartsOn, HasPart, HasStarted, IsPlanOf};
 
 use crate::asker::Asker;
 use crate::network::{TrialStop, plan_of_text};
-use flow_catalogue::{FileUse, Std, a_plan_over_the_table_is_standard, file_of, make};
+use flow_catalogue::{
+    FileUse, Std, a_plan_over_the_table_is_standard, file_of, is_connected, make,
+};
 use flow_component::Shape;
 use flow_machine::Net;
 use flow_net::{Plan, Process};
@@ -36,14 +39,40 @@ fn parts_of(alloc: Global, processes: &[Process]) -> Result<Vec<Asker>, AllocErr
     Ok(parts)
 }
 
-/// A component of the shape that it needs for each process of a plan over the standard kinds, whose outputs are all connected.
-pub fn askers(alloc: Global, plan: &Plan) -> Result<Vec<Asker>, AllocError>
-    requires { IsOver std_kinds plan.now }
+// Whether the outputs of a process, from number 0 on, are all connected.
+fn outputs_connected(plan: &Plan, process: u32, outputs: u32) -> bool
+    ensures { IsTrue result → (o : ℕ) → o < outputs → HasSender plan.now process o }
+{
+    for output in 0..outputs {
+        if !is_connected(plan, process, output) {
+            return false;
+        }
+    }
+    true
+}
+
+// Whether the outputs of all processes are connected.
+fn all_connected(plan: &Plan) -> bool
+    ensures { IsTrue result → IsAllConnected plan.now }
+{
+    let processes = plan.processes();
+    for process in 0..processes.len() {
+        if !outputs_connected(plan, process as u32, processes[process].outputs) {
+            return false;
+        }
+    }
+    true
+}
+
+/// A component of the shape that it needs for each process of a plan. A plan with an output that is left open is refused.
+pub fn askers(alloc: Global, plan: &Plan) -> Result<Vec<Asker>, TrialStop>
     ensures { IfOk result (λ parts. StartsWell shape_asked uses_asked AlwaysReady (plan_of plan.now) parts.items) }
 {
-    a_plan_over_the_table_is_standard();
     a_valid_plan_is_ready::<Asker>();
-    parts_of(alloc, plan.processes())
+    if !all_connected(plan) {
+        return Err(TrialStop::Refused);
+    }
+    Ok(parts_of(alloc, plan.processes())?)
 }
 
 /// The component of a process, on these bytes where it reads a file.

@@ -123,4 +123,4 @@ returns-in-Ok-clause-meaning g c = λ finished.
     let pn = g.O.Edge.outside c.print.new.out in
     let ending = c.in-Ok.ending in
     let printed = subst (λ (l : List ℕ). Prints po pn l ending.status c.print.result) c.deref.ensures.value c.print.ensures in
-    meant c.a_plan_over_the_table_is_standard.ensures.connected c.a_valid_plan_is_ready.ensures.starts c.a_finished_network_composes_its_meanings.ensures o n po pn c.args.words.now ending c.print.result c.in-Ok.ensures printed finished
+    meant c.a_valid_plan_is_ready.ensures.starts c.a_finished_network_composes_its_meanings.ensures o n po pn c.args.words.now ending c.print.result c.in-Ok.ensures printed finished

@@ -25,5 +25,5 @@ returns-clause-well c =
     let same = ap length ends.processes in
     let plan = c.args.plan.now in
     let parts = c.loop-process.parts.items in
-    let fit = parts-fit c.args.bytes.now plan parts c.a_plan_over_the_table_is_standard.ensures.connected ends.valid c.requires (record { count = omega arith; each = i.made }) in
+    let fit = parts-fit c.args.bytes.now plan parts (record { count = omega arith; each = i.made }) in
     c.a_valid_plan_is_ready.ensures.starts plan parts ends.valid fit

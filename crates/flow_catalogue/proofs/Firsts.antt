@@ -1,0 +1,86 @@
+-- The component of a process of a standard kind, in its first state, fits the process.
+use Rattle.std.proofs.Common.{◌≡◌, ℕ, zero, suc, ◌+◌, ◌<◌, ◌≤◌, Bool, true, false, List, [], ◌∷◌, map, Some, refl, sym, ap, ◌∙◌, subst, arith, slice_get, nat_eq, nat_lt, length}
+use Rattle.std.specs.Prelude.{IsTrue, if◌then◌else◌}
+use Rattle.std.proofs.lemmas.Bool.{false≢true}
+use Rattle.std.specs.List.{range_with_len}
+use Rattle.std.proofs.lemmas.Bool.Decides.{nat_tests}
+use Rattle.flow_packet.specs.Held.{Held, next_id}
+use Rattle.flow_packet.specs.Hands.{IsAtRoot}
+use Rattle.flow_component.specs.Ports.{uses_first, uses_none}
+use Rattle.flow_component.specs.Laws.{CanStart}
+use Rattle.flow_net.specs.declared.plan.Process.{Process}
+use Rattle.flow_net.specs.Network.{Network}
+use Rattle.flow_net.specs.Valid.{HasSender}
+use Rattle.flow_catalogue.specs.declared.table.StdKind.{StdKind}
+use Rattle.flow_catalogue.specs.declared.table.StdKind.TheVariants as kinds
+use Rattle.flow_catalogue.specs.Std.{std_shape, std_uses, StdReady}
+use Rattle.flow_parts.specs.Count.{count_uses}
+use Rattle.flow_parts.specs.Meanings.{fresh_count}
+use Rattle.flow_streams.specs.declared.select.SelectPlace.TheVariants.{Waiting}
+use Rattle.flow_streams.specs.Select.{select_uses}
+use Rattle.flow_catalogue.specs.Processes.{IsOfKind, Fits, first_part, given, is_connected}
+use Rattle.flow_catalogue.proofs.Connected.{connected-sends}
+use Rattle.flow_catalogue.specs.Plans.{FirstFits}
+
+-- a component that uses its first output alone
+first-used : (network : Network) (p : ℕ) → HasSender network p 0 → (o : ℕ) → IsTrue (uses_first o) → HasSender network p o
+first-used network p has zero used = has
+first-used network p has (suc o) used = absurd (let f : nat_eq (suc o) 0 ≡ false = grind (arith, nat_tests) in let h : true ≡ false = sym used ∙ f in cc)
+
+none-used : (network : Network) (p : ℕ) (o : ℕ) → IsTrue (uses_none o) → HasSender network p o
+none-used network p o used = absurd (let h : false ≡ true = used in cc)
+
+-- each of n numbers is needed
+range-at : (k n o : ℕ) → o < n → slice_get (map (λ (_ : ℕ). true) (range_with_len k n)) o ≡ Some true
+range-at k zero o l = absurd (omega (arith, l))
+range-at k (suc n) zero l = refl
+range-at k (suc n) (suc o) l = range-at (k + 1) n o (omega (arith, l))
+
+below : (o n : ℕ) → IsTrue (nat_lt o n) → o < n
+below o n used = grind (arith, nat_tests)
+
+not-there : (held : Held) → held.packets ≡ [] → IsAtRoot held.packets (next_id held) → ⊥
+not-there held none at = let h : IsAtRoot [] (next_id held) = subst (λ ts. IsAtRoot ts (next_id held)) none at in cc
+
+-- a number above 1 is neither 0 nor 1
+other-than : (o k j : ℕ) → j < 2 → k < 2 → (b : Bool) → IsTrue (if nat_eq (suc (suc o)) j then b else nat_eq (suc (suc o)) k) → ⊥
+other-than o k j l m b used =
+    let f : nat_eq (suc (suc o)) j ≡ false = grind (arith, nat_tests) in
+    let g : nat_eq (suc (suc o)) k ≡ false = grind (arith, nat_tests) in
+    let h : (if nat_eq (suc (suc o)) j then b else nat_eq (suc (suc o)) k) ≡ false = rw (f, g) refl in
+    false≢true (sym h ∙ used)
+
+-- a component that uses its first output where that is connected, and its second
+count-used : (network : Network) (p : ℕ) → HasSender network p 1 → (o : ℕ) → IsTrue (count_uses (fresh_count (is_connected network p 0)) o) → HasSender network p o
+count-used network p has zero used = connected-sends network p 0 used
+count-used network p has (suc zero) used = has
+count-used network p has (suc (suc o)) used = absurd (other-than o 1 0 (omega arith) (omega arith) (is_connected network p 0) used)
+
+-- and one that uses its second output where that is connected, and its first
+select-used : (network : Network) (p : ℕ) → HasSender network p 0 → (o : ℕ) → IsTrue (select_uses (record { rejects = is_connected network p 1; place = Waiting }) o) → HasSender network p o
+select-used network p has zero used = has
+select-used network p has (suc zero) used = connected-sends network p 1 used
+select-used network p has (suc (suc o)) used = absurd (other-than o 0 1 (omega arith) (omega arith) (is_connected network p 1) used)
+
+pub first-fits : FirstFits
+first-fits n p x kinds.ReadLines file is = record { inputs = sym is.inputs; outputs = sym is.outputs; uses = first-used n p (is.needed 0 refl); starts = λ held none. none }
+first-fits n p x kinds.WriteLines file is = record { inputs = sym is.inputs; outputs = sym is.outputs; uses = none-used n p; starts = λ held none. tt }
+first-fits n p x kinds.Passthru file is = record { inputs = sym is.inputs; outputs = sym is.outputs; uses = first-used n p (is.needed 0 refl); starts = λ held none. tt }
+first-fits n p x kinds.Words file is = record { inputs = sym is.inputs; outputs = sym is.outputs; uses = first-used n p (is.needed 0 refl); starts = λ held none. (tt, none) }
+first-fits n p x kinds.Fill file is = record { inputs = sym is.inputs; outputs = sym is.outputs; uses = first-used n p (is.needed 0 refl); starts = λ held none. (refl, none) }
+first-fits n p x kinds.Brackets file is = record { inputs = sym is.inputs; outputs = sym is.outputs; uses = first-used n p (is.needed 0 refl); starts = λ held none. none }
+first-fits n p x kinds.Copy file is = record { inputs = sym is.inputs; outputs = refl; uses = λ o used. is.needed o (range-at 0 x.outputs o (below o x.outputs used)); starts = λ held none. (is.outputs.0, refl, none) }
+first-fits n p x kinds.Concat file is = record { inputs = refl; outputs = sym is.outputs; uses = first-used n p (is.needed 0 refl); starts = λ held none. (is.inputs.0, none) }
+first-fits n p x kinds.Collate file is = record {
+  inputs = refl;
+  outputs = sym is.outputs;
+  uses = first-used n p (is.needed 0 refl);
+  starts = λ held none. (record { new = not-there held none; inputs = tt; some = is.inputs.0; most = is.inputs.1 }, record { place = refl; owners = refl; opened = refl }, none);
+}
+first-fits n p x kinds.Discard file is = record { inputs = sym is.inputs; outputs = sym is.outputs; uses = none-used n p; starts = λ held none. tt }
+first-fits n p x kinds.Bundle file is = record { inputs = sym is.inputs; outputs = sym is.outputs; uses = first-used n p (is.needed 0 refl); starts = λ held none. none }
+first-fits n p x kinds.Unbundle file is = record { inputs = sym is.inputs; outputs = sym is.outputs; uses = first-used n p (is.needed 0 refl); starts = λ held none. (tt, none) }
+first-fits n p x kinds.Hoard file is = record { inputs = sym is.inputs; outputs = sym is.outputs; uses = none-used n p; starts = λ held none. tt }
+first-fits n p x kinds.Count file is = record { inputs = sym is.inputs; outputs = sym is.outputs; uses = count-used n p (is.needed 1 refl); starts = λ held none. (refl, none) }
+first-fits n p x kinds.LoadBalance file is = record { inputs = sym is.inputs; outputs = refl; uses = λ o used. is.needed o (range-at 0 x.outputs o (below o x.outputs used)); starts = λ held none. (is.outputs.0, refl, none) }
+first-fits n p x kinds.Select file is = record { inputs = sym is.inputs; outputs = sym is.outputs; uses = select-used n p (is.needed 0 refl); starts = λ held none. (refl, none) }

@@ -1,0 +1,15 @@
+use Rattle.std.proofs.Common.{◌≡◌, ◌∙◌, ◌∷◌, ◌+◌, ◌-◌, ap, sym, take, drop, length, rules}
+use Rattle.std.specs.List.{slice_split}
+use Rattle.std.proofs.lemmas.List.{take_all, length-drop}
+use Rattle.flow_net.proofs.Spaces.{ends, split_some, split_none}
+use Rattle.flow_catalogue.proofs.options.first_field.Goals as goal
+
+pub returns-in-None-clause-last : goal.returns-in-None-clause-last
+returns-in-None-clause-last c = split_none c.args.text.now (sym c.in-None.ensures)
+
+pub returns-in-Some-clause-first : goal.returns-in-Some-clause-first
+returns-in-Some-clause-first c =
+    let text = c.args.text.now in
+    let end = c.in-Some.end in
+    let whole : take (length text - (end + 1)) (drop (end + 1) text) ≡ drop (end + 1) text = search (rules, take_all, length-drop) in
+    split_some text end (sym c.in-Some.ensures) ∙ ap (λ rest. take end text ∷ slice_split ends rest) (sym whole)

@@ -1,0 +1,86 @@
+-- The rows of the table of kinds: their ports as they are spelled in Morrison's diagrams, and what a process of a row has.
+use Rattle.std.specs.Prelude.{◌≡◌, ℕ, zero, suc, ◌+◌, ◌≤◌, ◌<◌, ◌&&◌, ◌==◌, if◌then◌else◌, not, nat_le, Bool, true, false, List, [], ◌∷◌, map, drop, length, Option, Some, None, slice_get, codes}
+use Rattle.std.specs.List.{list_all, list_any, range_with_len}
+use Rattle.flow_net.specs.declared.kind.PortClass.{PortClass}
+use Rattle.flow_net.specs.declared.kind.PortClass.TheVariants.{Stream}
+use Rattle.flow_net.specs.declared.kind.PortSpec.{PortSpec}
+use Rattle.flow_net.specs.declared.kind.KindSpec.{KindSpec}
+use Rattle.flow_net.specs.Network.{is_stream}
+use Rattle.flow_net.specs.Over.{carries}
+use Rattle.flow_net.specs.Options.{IsOfClass}
+
+-- A port that takes one text before the network runs.
+abbrev pub option_port : List ℕ → PortClass → PortSpec
+option_port name class = record { name = name; class = class; array = false; needed = true }
+
+-- A port for packets that has to be connected.
+abbrev pub stream_port : List ℕ → PortSpec
+stream_port name = record { name = name; class = Stream; array = false; needed = true }
+
+-- A port for packets with elements, of which there is one at least.
+abbrev pub array_port : List ℕ → PortSpec
+array_port name = record { name = name; class = Stream; array = true; needed = true }
+
+-- An output that may be left open.
+abbrev pub optional_port : List ℕ → PortSpec
+optional_port name = record { name = name; class = Stream; array = false; needed = false }
+
+-- How many numbered ports: a fixed number, or as many as an array has elements. Of a side with an array beside other ports nothing is said.
+pub data Count : Type 0 where
+  Exactly : (number : ℕ) → Count
+  Elements : Count
+  Unsaid : Count
+
+-- Such a count is this number. An array has 1 to 512 elements.
+abbrev pub IsCount : Count → ℕ → Type 0
+IsCount (Exactly number) n = n ≡ number
+IsCount Elements n = (1 ≤ n) × (n ≤ 512)
+IsCount Unsaid n = Unit {0}
+
+-- An option port has no number, an array one for each element, and every other port one.
+abbrev pub count_of : PortSpec → Count
+count_of spec = if is_stream spec.class then (if spec.array then Elements else Exactly 1) else Exactly 0
+
+-- The ports of both.
+abbrev pub together : Count → Count → Count
+together (Exactly m) (Exactly n) = Exactly (m + n)
+together (Exactly zero) Elements = Elements
+together (Exactly (suc m)) Elements = Unsaid
+together Elements (Exactly zero) = Elements
+together Elements (Exactly (suc n)) = Unsaid
+together Elements Elements = Unsaid
+together Elements Unsaid = Unsaid
+together (Exactly m) Unsaid = Unsaid
+together Unsaid other = Unsaid
+
+-- The numbered ports of one side of a row.
+abbrev pub count_on : List PortSpec → Count
+count_on [] = Exactly 0
+count_on (spec ∷ specs) = together (count_of spec) (count_on specs)
+
+-- The class of a row's option port, if it has one; an option port stands first.
+abbrev pub option_of : List PortSpec → Option PortClass
+option_of [] = None
+option_of (spec ∷ specs) = if is_stream spec.class then None else Some spec.class
+
+-- A process has a text of this class for its only option, and no option where its row has none.
+abbrev pub HasOption : Option PortClass → List (ℕ × List ℕ) → Type 0
+HasOption None options = options ≡ []
+HasOption (Some class) options = (text : List ℕ) × (options ≡ (0, text) ∷ []) × IsOfClass class text
+
+-- Which of a process's outputs have to be connected: those of an array all, of other ports those that are needed.
+abbrev pub needs : List PortSpec → ℕ → List Bool
+needs specs n = if list_any (λ spec. spec.array) specs then map (λ (_ : ℕ). true) (range_with_len 0 n) else map (λ spec. spec.needed) specs
+
+-- No port but the first is an option port, and that isn't an array.
+abbrev pub has_plain_inputs : List PortSpec → Bool
+has_plain_inputs [] = true
+has_plain_inputs (spec ∷ specs) = (if is_stream spec.class then true else not spec.array) && list_all (λ (other : PortSpec). is_stream other.class) specs
+
+-- An array is the only port on its side, and needed; each output is one for packets.
+abbrev pub has_plain_outputs : List PortSpec → Bool
+has_plain_outputs specs = if list_any (λ spec. spec.array) specs then (nat_le (length specs) 1 && list_all (λ (spec : PortSpec). spec.needed) specs) else true
+
+-- What holds of each row of the table.
+abbrev pub is_plain : KindSpec → Bool
+is_plain kind = has_plain_inputs kind.inputs && has_plain_outputs (map carries kind.outputs)

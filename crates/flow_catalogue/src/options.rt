@@ -1,0 +1,89 @@
+//! What a plan says of a process for its component, read in one place: the text of its option and what
+//! that spells, and whether an output is connected. Its numbers of inputs and outputs are fields of the
+//! process.
+
+ghost use Rattle.std.specs.Prelude.{◌≡◌, ◌≤◌, ◌<◌, ◌==◌, ◌∷◌, [], IfOk, IfSome, IfNone, length, position};
+ghost use Rattle.std.specs.List.{slice_split};
+ghost use Rattle.flow_text.specs.Text.{number_of};
+ghost use Rattle.flow_net.specs.Options.{IsNumberWithin, IsFields};
+ghost use Rattle.flow_catalogue.specs.Processes.{option_text, fields_of, has_sender, is_connected};
+
+use flow_net::{Connection, Plan, Process};
+use flow_text::decimal;
+use std::alloc::{AllocError, Global};
+
+/// The text of the only option; empty where there is none.
+pub(crate) fn option_text(process: &Process) -> &[u8]
+    ensures { result.now ≡ option_text process.now.options }
+{
+    match process.options.as_slice() {
+        [] => &[],
+        [option, ..] => option.1.as_slice(),
+    }
+}
+
+/// The number that a text spells.
+pub(crate) fn number(text: &[u8], least: u64, most: u64) -> u64
+    requires { IsNumberWithin least most text.now }
+    ensures number { result ≡ number_of text.now }
+    ensures least { least ≤ result }
+    ensures most { result ≤ most }
+{
+    match decimal(text, least, most) {
+        Some(number) => number,
+        None => unreachable!(),
+    }
+}
+
+// Where the first space is.
+fn space(text: &[u8]) -> Option<usize>
+    ensures { result ≡ position (λ b. b == 32) text.now }
+{
+    text.iter().position(|b| *b == b' ')
+}
+
+// The first field, and the text behind the space that ends it.
+fn first_field(text: &[u8]) -> Option<(&[u8], &[u8])>
+    ensures first { IfSome result (λ p. slice_split (λ b. b == 32) text.now ≡ p.0.now ∷ slice_split (λ b. b == 32) p.1.now) }
+    ensures shorter { IfSome result (λ p. length p.1.now < length text.now) }
+    ensures last { IfNone result (slice_split (λ b. b == 32) text.now ≡ text.now ∷ []) }
+{
+    match space(text) {
+        None => None,
+        Some(end) => Some((&text[..end], &text[end + 1..])),
+    }
+}
+
+/// The lengths that a text of fields spells.
+pub(crate) fn fields(alloc: Global, text: &[u8]) -> Result<Vec<u8>, AllocError>
+    requires { IsFields text.now }
+    ensures fields { IfOk result (λ fields. fields.items ≡ fields_of text.now) }
+    ensures some { IfOk result (λ fields. 1 ≤ length fields.items) }
+    ensures few { IfOk result (λ fields. length fields.items ≤ 8) }
+{
+    let mut lengths = Vec::new(alloc);
+    let mut rest = text;
+    'parts: while let Some((field, after)) = first_field(rest) {
+        lengths.push(number(field, 1, 255) as u8)?;
+        rest = after;
+    }
+    lengths.push(number(rest, 1, 255) as u8)?;
+    Ok(lengths)
+}
+
+// Whether an output is among the senders of a connection.
+fn sends(connection: &Connection, process: u32, output: u32) -> bool
+    ensures { result ≡ has_sender process output connection.now }
+{
+    connection.senders.as_slice().iter().any(|sender| sender.process == process
+        && sender.output == output)
+}
+
+/// Whether an output sends to a connection.
+pub fn is_connected(plan: &Plan, process: u32, output: u32) -> bool
+    ensures { result ≡ is_connected plan.now process output }
+{
+    plan.connections()
+        .iter()
+        .any(|connection| sends(connection, process, output))
+}
