@@ -1,25 +1,34 @@
 -- Networks without merges.
-use Rattle.std.proofs.Common.{◌≡◌, ℕ, zero, suc, ◌+◌, ◌<◌, List, [], ◌∷◌, map, filter, length, Some, None, Option, refl, sym, ap, ◌∙◌, subst, Bool, true, false, slice_get, get_or, arith, nat_eq, ◌||◌, IsTrue}
+use Rattle.std.proofs.Common.{◌≡◌, ℕ, zero, suc, ◌+◌, ◌<◌, List, [], ◌∷◌, map, filter, length, Some, None, Option, refl, sym, ap, ◌∙◌, subst, Bool, true, false, slice_get, get_or, arith, nat_eq, ◌||◌, not}
+use Rattle.std.specs.Fmt.{decimal}
 use Rattle.std.specs.List.{flat_map, list_any}
 use Rattle.std.proofs.lemmas.List.Quantifiers.{position-Some}
 use Rattle.std.proofs.lemmas.Option.{slice_get_within}
 use Rattle.std.proofs.lemmas.Bool.Decides.{nat_tests}
 use Rattle.flow_packet.specs.Tree.{Tree}
 use Rattle.flow_parts.specs.Filling.{Filling}
-use Rattle.flow_parts.specs.Meanings.{rendered_all, words_of, bracketed}
+use Rattle.flow_component.specs.Runs.{text_packet}
+use Rattle.flow_parts.specs.Meanings.{rendered_all, words_of, bracketed, IsCounted, normals}
+use Rattle.flow_streams.specs.Meanings.{share}
+use Rattle.flow_streams.specs.Collated.{collation}
+use Rattle.flow_streams.specs.Bundled as bundling
+use Rattle.flow_streams.specs.Bundled.{bundled}
+use Rattle.flow_streams.specs.Unbundled.{unbundled}
 use Rattle.flow_parts.proofs.OneFilling.{one_filling}
 use Rattle.flow_catalogue.specs.declared.standard.Std.{Std}
 use Rattle.flow_catalogue.specs.declared.standard.Std.TheVariants as parts
 use Rattle.flow_catalogue.specs.Std.{std_shape, std_uses, StdReady, StdNext}
-use Rattle.flow_model.specs.States.{Sender, is_sender}
+use Rattle.flow_model.specs.States.{Input, From, Sender, is_sender}
+use Rattle.flow_model.specs.Events.{is_connected, is_empty}
+use Rattle.flow_model.proofs.Start.{port-at}
 use Rattle.flow_model.specs.Plans.{Plan, PlanProcess, PlanConnection, sends_at, receives_at, input_at, connected_or, text_at, process_at_start, StartsWell}
 use Rattle.flow_model.proofs.Senders.{both-true}
 use Rattle.flow_meanings.specs.Means.{Means}
-use Rattle.flow_meanings.specs.Composition.{Sending, arriving, leaving, Composes, wrote_in}
+use Rattle.flow_meanings.specs.Composition.{Sending, brings, is_woken, inputs_of, arriving, leaving, Composes, wrote_in}
 use Rattle.flow_model.specs.Rising.{LeadsOn}
 use Rattle.flow_model.proofs.Rising.{finished-leads_on}
 use Rattle.flow_meanings.specs.Chains.{RunsPart, LeadsTo, TelegramMeans, IsSettled, AreSettled, IsUnmerged, OneOutcome, SameFiles}
-use Rattle.flow_meanings.proofs.Composing.{start-there, length-ports, finished-composes}
+use Rattle.flow_meanings.proofs.Composing.{start-there, length-ports, joined-same, listed-same, finished-composes}
 
 filter-all : {A : Type 0} (test : A → Bool) (xs : List A) → ((k : ℕ) (x : A) → slice_get xs k ≡ Some x → test x ≡ true) → filter test xs ≡ xs
 filter-all test [] all = refl
@@ -42,9 +51,9 @@ own-stream plan ks wrote m p o c sends alone =
 
 -- what leaves output 0 of p arrives at input 0 of q
 led : (plan : Plan) (ks : List Std) (wrote : ℕ → List ℕ) (m : Composes plan ks wrote) (p q : ℕ) (x : PlanProcess) → LeadsTo plan p q
-    → arriving m.on (input_at plan q x 0) ≡ leaving m.on (record { process = p; output = 0 }) (sends_at plan p 0)
+    → arriving m.on (is_woken m.on (inputs_of plan q x)) (input_at plan q x 0) ≡ leaving m.on (record { process = p; output = 0 }) (sends_at plan p 0)
 led plan ks wrote m p q x l =
-    ap (λ (found : Option ℕ). arriving m.on (connected_or (text_at x.initials 0) found)) l.receives ∙ sym (own-stream plan ks wrote m p 0 l.connection l.sends l.alone)
+    ap (λ (found : Option ℕ). arriving m.on (is_woken m.on (inputs_of plan q x)) (connected_or (text_at x.initials 0) found)) l.receives ∙ sym (own-stream plan ks wrote m p 0 l.connection l.sends l.alone)
 
 pub telegram-means : TelegramMeans
 telegram-means plan ks wrote a b c d lines size m is =
@@ -58,55 +67,50 @@ telegram-means plan ks wrote a b c d lines size m is =
     let z = leaving m.on (record { process = c; output = 0 }) (sends_at plan c 0) in
     (z, subst (λ (ts : List Tree). Filling size ts z) x2 fills, writes ∙ ap rendered_all (led plan ks wrote m c d is.writer.process is.to_writer))
 
-no-second : (o : ℕ) → nat_eq (suc o) 0 ≡ true → ⊥
-no-second o used = let f : nat_eq (suc o) 0 ≡ false = grind (arith, nat_tests) in let h : true ≡ false = sym used ∙ f in cc
+-- the number that a Count sends follows from its stream
+counted-same : (connected : Bool) (x x' y y' n n' : List Tree) → IsCounted connected x y n → IsCounted connected x' y' n' → x ≡ x' → n ≡ n'
+counted-same connected [] x' y y' n n' m k e = m.nothing refl ∙ sym (k.nothing (sym e))
+counted-same connected (t ∷ ts) x' y y' n n' m k e =
+    m.counted (λ h. cc) ∙ ap (λ (us : List Tree). text_packet (decimal (normals us)) ∷ []) e ∙ sym (k.counted (λ h. (let z : t ∷ ts ≡ [] = e ∙ h in cc)))
 
--- a meaning gives one stream at each output that is used, and one file
-one-stream : (part : Std) (w w' : List ℕ) (x x' y y' : ℕ → List Tree) → IsSettled part → ((i : ℕ) → x i ≡ x' i) → Means part w x y → Means part w' x' y' → (o : ℕ) → IsTrue (std_uses part o) → y o ≡ y' o
-one-stream (parts.ReadLines left) w w' x x' y y' s ins m n zero used = m ∙ sym n
-one-stream (parts.ReadLines left) w w' x x' y y' s ins m n (suc o) used = absurd (no-second o used)
-one-stream (parts.WriteLines bytes) w w' x x' y y' s ins m n o used = absurd (let h : false ≡ true = used in cc)
-one-stream (parts.Words part) w w' x x' y y' s ins m n zero used = m ∙ ap (λ (ts : List Tree). flat_map words_of ts) (ins 0) ∙ sym n
-one-stream (parts.Words part) w w' x x' y y' s ins m n (suc o) used = absurd (no-second o used)
-one-stream (parts.Fill state) w w' x x' y y' s ins m n zero used = one_filling state.size (x' 0) (y 0) (y' 0) (subst (λ (ts : List Tree). Filling state.size ts (y 0)) (ins 0) m) n
-one-stream (parts.Fill state) w w' x x' y y' s ins m n (suc o) used = absurd (no-second o used)
-one-stream (parts.Brackets part) w w' x x' y y' s ins m n zero used = m ∙ ap (λ (ts : List Tree). map bracketed ts) (ins 0) ∙ sym n
-one-stream (parts.Brackets part) w w' x x' y y' s ins m n (suc o) used = absurd (no-second o used)
-one-stream (parts.Passthru part) w w' x x' y y' s ins m n zero used = m ∙ ins 0 ∙ sym n
-one-stream (parts.Passthru part) w w' x x' y y' s ins m n (suc o) used = absurd (no-second o used)
-one-stream (parts.Discard part) w w' x x' y y' s ins m n o used = absurd (let h : false ≡ true = used in cc)
-one-stream (parts.Hoard part) w w' x x' y y' s ins m n o used = absurd (let h : false ≡ true = used in cc)
-one-stream (parts.Copy part) w w' x x' y y' s ins m n o used = absurd s
-one-stream (parts.Concat part) w w' x x' y y' s ins m n o used = absurd s
-one-stream (parts.Collate part) w w' x x' y y' s ins m n o used = absurd s
-one-stream (parts.Bundle part) w w' x x' y y' s ins m n o used = absurd s
-one-stream (parts.Unbundle part) w w' x x' y y' s ins m n o used = absurd s
-one-stream (parts.Count part) w w' x x' y y' s ins m n o used = absurd s
-one-stream (parts.LoadBalance part) w w' x x' y y' s ins m n o used = absurd s
-one-stream (parts.Select part) w w' x x' y y' s ins m n o used = absurd s
+-- and what it passes on
+passed-same : (connected : Bool) (x x' y y' n n' : List Tree) → IsCounted connected x y n → IsCounted connected x' y' n' → x ≡ x' → y ≡ y'
+passed-same true x x' y y' n n' m k e = m.passed refl ∙ e ∙ sym (k.passed refl)
+passed-same false x x' y y' n n' m k e = m.silent refl ∙ sym (k.silent refl)
 
-first-out : (o : ℕ) → o < 1 → IsTrue (nat_eq o 0)
-first-out zero l = refl
-first-out (suc o) l = absurd (omega arith)
+-- a meaning gives one stream at each output
+one-stream : (part : Std) (w w' : List ℕ) (x x' y y' : ℕ → List Tree) → IsSettled part → ((i : ℕ) → x i ≡ x' i) → Means part w x y → Means part w' x' y' → (o : ℕ) → o < (std_shape part).outputs → y o ≡ y' o
+one-stream (parts.ReadLines left) w w' x x' y y' s ins m n zero l = m ∙ sym n
+one-stream (parts.ReadLines left) w w' x x' y y' s ins m n (suc o) l = absurd (omega arith)
+one-stream (parts.WriteLines bytes) w w' x x' y y' s ins m n o l = absurd (omega arith)
+one-stream (parts.Words part) w w' x x' y y' s ins m n zero l = m ∙ ap (λ (ts : List Tree). flat_map words_of ts) (ins 0) ∙ sym n
+one-stream (parts.Words part) w w' x x' y y' s ins m n (suc o) l = absurd (omega arith)
+one-stream (parts.Fill state) w w' x x' y y' s ins m n zero l = one_filling state.size (x' 0) (y 0) (y' 0) (subst (λ (ts : List Tree). Filling state.size ts (y 0)) (ins 0) m) n
+one-stream (parts.Fill state) w w' x x' y y' s ins m n (suc o) l = absurd (omega arith)
+one-stream (parts.Brackets part) w w' x x' y y' s ins m n zero l = m ∙ ap (λ (ts : List Tree). map bracketed ts) (ins 0) ∙ sym n
+one-stream (parts.Brackets part) w w' x x' y y' s ins m n (suc o) l = absurd (omega arith)
+one-stream (parts.Passthru part) w w' x x' y y' s ins m n zero l = m ∙ ins 0 ∙ sym n
+one-stream (parts.Passthru part) w w' x x' y y' s ins m n (suc o) l = absurd (omega arith)
+one-stream (parts.Copy state) w w' x x' y y' s ins m n o l = m o l ∙ ap (λ (ts : List Tree). map (share state.count o) ts) (ins 0) ∙ sym (n o l)
+one-stream (parts.Concat state) w w' x x' y y' s ins m n zero l = m ∙ joined-same 0 state.count x x' (λ i below. ins i) ∙ sym n
+one-stream (parts.Concat state) w w' x x' y y' s ins m n (suc o) l = absurd (omega arith)
+one-stream (parts.Collate state) w w' x x' y y' s ins m n zero l = m ∙ ap (collation state.fields) (listed-same 0 state.elements x x' (λ i below. ins i)) ∙ sym n
+one-stream (parts.Collate state) w w' x x' y y' s ins m n (suc o) l = absurd (omega arith)
+one-stream (parts.Discard part) w w' x x' y y' s ins m n o l = absurd (omega arith)
+one-stream (parts.Bundle part) w w' x x' y y' s ins m n zero l = m ∙ ap (bundled bundling.Outside) (ins 0) ∙ sym n
+one-stream (parts.Bundle part) w w' x x' y y' s ins m n (suc o) l = absurd (omega arith)
+one-stream (parts.Unbundle part) w w' x x' y y' s ins m n zero l = m ∙ ap (λ (ts : List Tree). flat_map unbundled ts) (ins 0) ∙ sym n
+one-stream (parts.Unbundle part) w w' x x' y y' s ins m n (suc o) l = absurd (omega arith)
+one-stream (parts.Hoard part) w w' x x' y y' s ins m n o l = absurd (omega arith)
+one-stream (parts.Count state) w w' x x' y y' s ins m n zero l = passed-same state.connected (x 0) (x' 0) (y 0) (y' 0) (y 1) (y' 1) m n (ins 0)
+one-stream (parts.Count state) w w' x x' y y' s ins m n (suc zero) l = counted-same state.connected (x 0) (x' 0) (y 0) (y' 0) (y 1) (y' 1) m n (ins 0)
+one-stream (parts.Count state) w w' x x' y y' s ins m n (suc (suc o)) l = absurd (omega arith)
+one-stream (parts.LoadBalance state) w w' x x' y y' s ins m n o l = absurd s
+one-stream (parts.Select state) w w' x x' y y' s ins m n o l = absurd s
 
--- a component that uses its only output, or has none
-all-used : (part : Std) (o : ℕ) → IsSettled part → o < (std_shape part).outputs → IsTrue (std_uses part o)
-all-used (parts.ReadLines left) o s l = first-out o l
-all-used (parts.WriteLines bytes) o s l = absurd (omega arith)
-all-used (parts.Words part) o s l = first-out o l
-all-used (parts.Fill state) o s l = first-out o l
-all-used (parts.Brackets part) o s l = first-out o l
-all-used (parts.Passthru part) o s l = first-out o l
-all-used (parts.Discard part) o s l = absurd (omega arith)
-all-used (parts.Hoard part) o s l = absurd (omega arith)
-all-used (parts.Copy part) o s l = absurd s
-all-used (parts.Concat part) o s l = absurd s
-all-used (parts.Collate part) o s l = absurd s
-all-used (parts.Bundle part) o s l = absurd s
-all-used (parts.Unbundle part) o s l = absurd s
-all-used (parts.Count part) o s l = absurd s
-all-used (parts.LoadBalance part) o s l = absurd s
-all-used (parts.Select part) o s l = absurd s
+any-same : (f g : Input → Bool) (inputs : List Input) → ((i : ℕ) (input : Input) → slice_get inputs i ≡ Some input → f input ≡ g input) → list_any f inputs ≡ list_any g inputs
+any-same f g [] same = refl
+any-same f g (x ∷ inputs) same = λ j. same 0 x refl j || any-same f g inputs (λ i input at. same (suc i) input at) j
 
 get-there : {A : Type 0} (xs : List A) (c : ℕ) (d : A) → c < length xs → slice_get xs c ≡ Some (get_or xs c d)
 get-there [] c d l = absurd (omega arith)
@@ -124,9 +128,9 @@ any-there {A} test (x ∷ xs) is = by (test x) refl (any-there test xs) is
 no_connection : PlanConnection
 no_connection = record { receiver = 0; input = 0; capacity = 0; senders = [] }
 
--- whoever sends to a connection is a process whose component uses that output
-feeds : (plan : Plan) (ks : List Std) → StartsWell std_shape std_uses StdReady plan ks → AreSettled ks → (p o c : ℕ) → sends_at plan p o ≡ Some c → (part : Std) × RunsPart plan ks p part × IsTrue (std_uses part o)
-feeds plan ks well settled p o c sends =
+-- whoever sends to a connection is a process whose component has that output
+feeds : (plan : Plan) (ks : List Std) → StartsWell std_shape std_uses StdReady plan ks → (p o c : ℕ) → sends_at plan p o ≡ Some c → (part : Std) × RunsPart plan ks p part × (o < (std_shape part).outputs)
+feeds plan ks well p o c sends =
     let sender : Sender = record { process = p; output = o } in
     let pos = position-Some (λ (x : PlanConnection). list_any (is_sender sender) x.senders) plan.connections c no_connection sends in
     let x = get_or plan.connections c no_connection in
@@ -140,7 +144,7 @@ feeds plan ks well settled p o c sends =
     let n : 0 + p ≡ p = omega arith in
     let z = process_at_start plan p q.0 part in
     let fit = well.fit p z (start-there plan 0 plan.processes ks p q.0 part there here ∙ ap (λ (m : ℕ). Some (process_at_start plan m q.0 part)) n) in
-    (part, record { process = q.0; there = there; here = here }, all-used part o (settled p part here) (omega (arith, fit.outputs, length-ports (sends_at plan p) 0 q.0.outputs, who.1, q.2)))
+    (part, record { process = q.0; there = there; here = here }, omega (arith, fit.outputs, length-ports (sends_at plan p) 0 q.0.outputs, who.1, q.2))
 
 -- in a network without merges and without a way back, what arrives at a process is the same in each composition
 module _ (plan : Plan) (ks : List Std) (wrote other : ℕ → List ℕ) (well : StartsWell std_shape std_uses StdReady plan ks) (settled : AreSettled ks) (unmerged : IsUnmerged plan) (order : LeadsOn plan) (m : Composes plan ks wrote) (n : Composes plan ks other) where
@@ -148,18 +152,18 @@ module _ (plan : Plan) (ks : List Std) (wrote other : ℕ → List ℕ) (well : 
   Same c = map (λ (sending : Sending). sending.content) (m.on c) ≡ map (λ (sending : Sending). sending.content) (n.on c)
 
   abbrev Before : ℕ → Type 0
-  Before fuel = (p : ℕ) (y : PlanProcess) (j : ℕ) → order.rank p < fuel → arriving m.on (input_at plan p y j) ≡ arriving n.on (input_at plan p y j)
+  Before fuel = (p : ℕ) (y : PlanProcess) (j : ℕ) → order.rank p < fuel → arriving m.on (is_woken m.on (inputs_of plan p y)) (input_at plan p y j) ≡ arriving n.on (is_woken n.on (inputs_of plan p y)) (input_at plan p y j)
 
   -- where someone sends there
   same-sent : (fuel q i c : ℕ) → order.rank q < suc fuel → receives_at plan q i ≡ Some c → Before fuel → (sender : Sender) → sends_at plan sender.process sender.output ≡ Some c → Same c
   same-sent fuel q i c less is rest sender sends =
       let p = sender.process in
       let o = sender.output in
-      let f = feeds plan ks well settled p o c sends in
+      let f = feeds plan ks well p o c sends in
       let runs = f.1 in
       let below : order.rank p < fuel = (let r = order.rises p o q i c sends is in omega arith) in
       let alone : (r s : ℕ) → sends_at plan r s ≡ Some c → (r ≡ p) × (s ≡ o) = λ r s at. unmerged c r s p o at sends in
-      let one = one-stream f.0 (wrote p) (other p) (λ j. arriving m.on (input_at plan p runs.process j)) (λ j. arriving n.on (input_at plan p runs.process j))
+      let one = one-stream f.0 (wrote p) (other p) (λ j. arriving m.on (is_woken m.on (inputs_of plan p runs.process)) (input_at plan p runs.process j)) (λ j. arriving n.on (is_woken n.on (inputs_of plan p runs.process)) (input_at plan p runs.process j))
       (λ k. leaving m.on (record { process = p; output = k }) (sends_at plan p k)) (λ k. leaving n.on (record { process = p; output = k }) (sends_at plan p k)) (settled p f.0 runs.here) (λ j. rest p runs.process j below) (m.each p runs.process f.0 runs.there runs.here)
       (n.each p runs.process f.0 runs.there runs.here) o f.2 in
       sym (own-stream plan ks wrote m p o c sends alone) ∙ one ∙ own-stream plan ks other n p o c sends alone
@@ -169,12 +173,35 @@ module _ (plan : Plan) (ks : List Std) (wrote other : ℕ → List ℕ) (well : 
   same-on fuel q i c less is rest [] (s ∷ ss) a b = same-sent fuel q i c less is rest s.sender (n.senders c 0 s (ap (λ (l : List Sending). slice_get l 0) b))
   same-on fuel q i c less is rest (s ∷ ss) bs a b = same-sent fuel q i c less is rest s.sender (m.senders c 0 s (ap (λ (l : List Sending). slice_get l 0) a))
 
-  same-input : (fuel q : ℕ) (x : PlanProcess) (i : ℕ) → order.rank q < fuel → arriving m.on (input_at plan q x i) ≡ arriving n.on (input_at plan q x i)
+  -- whether something arrives is seen from what arrives
+  same-brings : (c : ℕ) → Same c → brings m.on (From c) ≡ brings n.on (From c)
+  same-brings c same = sym (emptied (m.on c)) ∙ ap (λ (ts : List Tree). not (is_empty ts)) same ∙ emptied (n.on c)
+    where
+      emptied : (l : List Sending) → not (is_empty (map (λ (sending : Sending). sending.content) l)) ≡ not (is_empty l)
+      emptied [] = refl
+      emptied (x ∷ l) = refl
+
+  same-woken : (fuel q : ℕ) (x : PlanProcess) → order.rank q < suc fuel → Before fuel → is_woken m.on (inputs_of plan q x) ≡ is_woken n.on (inputs_of plan q x)
+  same-woken fuel q x less rest =
+      ap (λ b. not (list_any is_connected (inputs_of plan q x)) || b) (any-same (brings m.on) (brings n.on) (inputs_of plan q x) (λ i input at. one i input (receives_at plan q i) refl (port-at (input_at plan q x) 0 x.inputs i input at)))
+    where
+      at-input : (i : ℕ) (found : Option ℕ) → receives_at plan q i ≡ found → brings m.on (connected_or (text_at x.initials i) found) ≡ brings n.on (connected_or (text_at x.initials i) found)
+      at-input i None is = refl
+      at-input i (Some c) is = same-brings c (same-on fuel q i c less is rest (m.on c) (n.on c) refl refl)
+
+      one : (i : ℕ) (input : Input) (found : Option ℕ) → receives_at plan q i ≡ found → input_at plan q x (0 + i) ≡ input → brings m.on input ≡ brings n.on input
+      one i input found is at =
+          let e : 0 + i ≡ i = omega arith in
+          let here : connected_or (text_at x.initials i) found ≡ input = ap (connected_or (text_at x.initials i)) (sym is) ∙ ap (input_at plan q x) (sym e) ∙ at in
+          ap (brings m.on) (sym here) ∙ at-input i found is ∙ ap (brings n.on) here
+
+  same-input : (fuel q : ℕ) (x : PlanProcess) (i : ℕ) → order.rank q < fuel → arriving m.on (is_woken m.on (inputs_of plan q x)) (input_at plan q x i) ≡ arriving n.on (is_woken n.on (inputs_of plan q x)) (input_at plan q x i)
   same-input zero q x i less = absurd (omega arith)
   same-input (suc fuel) q x i less = by (receives_at plan q i) refl (λ p y j below. same-input fuel p y j below)
     where
-      by : (found : Option ℕ) → receives_at plan q i ≡ found → Before fuel → arriving m.on (connected_or (text_at x.initials i) found) ≡ arriving n.on (connected_or (text_at x.initials i) found)
-      by None is rest = refl
+      by : (found : Option ℕ) → receives_at plan q i ≡ found → Before fuel
+          → arriving m.on (is_woken m.on (inputs_of plan q x)) (connected_or (text_at x.initials i) found) ≡ arriving n.on (is_woken n.on (inputs_of plan q x)) (connected_or (text_at x.initials i) found)
+      by None is rest = ap (λ (b : Bool). arriving m.on b (connected_or (text_at x.initials i) None)) (same-woken fuel q x less rest)
       by (Some c) is rest = same-on fuel q i c less is rest (m.on c) (n.on c) refl refl
 
 pub one-outcome : OneOutcome

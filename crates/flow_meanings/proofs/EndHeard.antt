@@ -1,5 +1,5 @@
 -- A component with one input that has come to its end, once it was started, has heard the end of that input.
-use Rattle.std.proofs.Common.{◌≡◌, ◌≢◌, ℕ, ◌<◌, List, [], ◌∷◌, length, refl, sym, ap, ◌∙◌, subst, ◌⊎◌, inl, inr, arith, nat_le, nat_lt, Bool, true, false, cond, ◌+◌, ◌++◌, Option, Some, None}
+use Rattle.std.proofs.Common.{◌≡◌, ◌≢◌, ℕ, List, [], ◌∷◌, length, refl, sym, ap, ◌∙◌, subst, ◌⊎◌, inl, inr, arith, nat_le, nat_lt, Bool, true, false, cond, ◌+◌, ◌-◌, ◌==◌, ◌++◌, zero, suc, Option, Some, None}
 use Rattle.flow_packet.specs.Held.{Held, without_packet, with_made, next_id}
 use Rattle.flow_packet.specs.Hands.{text_at, kind_at}
 use Rattle.flow_packet.specs.declared.packet.Kind.{Kind}
@@ -7,13 +7,13 @@ use Rattle.flow_packet.specs.declared.packet.Kind.TheVariants.{Normal, Open, Clo
 use Rattle.flow_component.specs.declared.Answer.{Answer}
 use Rattle.flow_component.specs.declared.Wish.{Wish}
 use Rattle.flow_component.specs.declared.Wish.TheVariants as wishes
+use Rattle.flow_component.specs.declared.Fail.TheVariants.{TreeDepth}
 use Rattle.flow_component.specs.declared.Shape.{Shape}
 use Rattle.flow_component.specs.Laws.{Outcome, Wishes, Fails, Obeys, IsAllowed}
 use Rattle.flow_component.specs.Outcomes.{IsAtHand}
 use Rattle.flow_component.specs.Ports.{one_to_none, one_to_one, uses_none, uses_first, receive_first, send_first}
 use Rattle.flow_component.specs.Happenings.{Happening, Started, Received, Ended, Sent, Learned, answer_of}
 use Rattle.flow_component.specs.Runs.{Poise, fresh, Steps, Runs, EndedRun, IsEnd, HeardEnd}
-use Rattle.flow_component.proofs.Streams.{stays-allowed}
 use Rattle.flow_parts.specs.WriteLines.{WriteLinesNext}
 use Rattle.flow_parts.specs.WriteLinesLaws.{write_lines_obeys}
 use Rattle.flow_parts.specs.declared.words.Words.{Words}
@@ -31,32 +31,74 @@ use Rattle.flow_parts.specs.Fill as fill
 use Rattle.flow_parts.specs.Fill.{fill_next, FillNext, FillReady}
 use Rattle.flow_parts.specs.FillLaws.{fill_obeys}
 use Rattle.flow_parts.specs.Meanings.{fresh_fill}
+use Rattle.flow_parts.specs.Count as count
+use Rattle.flow_parts.specs.Count.{CountState, CountNext, CountReady, count_shape, count_uses}
+use Rattle.flow_parts.specs.CountLaws.{count_obeys}
+use Rattle.flow_parts.specs.Meanings.{fresh_count}
+use Rattle.flow_packet.specs.Tree.{Tree, id_of}
+use Rattle.flow_packet.specs.Hands.{chain_of_root, height_at}
+use Rattle.flow_streams.specs.declared.copy.CopyPlace.{CopyPlace}
+use Rattle.flow_streams.specs.declared.copy.CopyPlace.TheVariants as copy_places
+use Rattle.flow_streams.specs.Copy as copy
+use Rattle.flow_streams.specs.Copy.{CopyState, CopyNext, CopyReady, copy_shape, copy_uses}
+use Rattle.flow_streams.specs.CopyLaws.{copy_obeys}
+use Rattle.flow_streams.specs.declared.load_balance.LoadPlace.{LoadPlace}
+use Rattle.flow_streams.specs.declared.load_balance.LoadPlace.TheVariants as load_places
+use Rattle.flow_streams.specs.LoadBalance as load
+use Rattle.flow_streams.specs.LoadBalance.{LoadState, LoadNext, LoadReady, load_shape, load_uses}
+use Rattle.flow_streams.specs.LoadBalanceLaws.{load_obeys}
+use Rattle.flow_streams.specs.declared.bundle.Bundle.{Bundle}
+use Rattle.flow_streams.specs.declared.bundle.Bundle.TheVariants as bundle_parts
+use Rattle.flow_streams.specs.Bundle as bundle
+use Rattle.flow_streams.specs.Bundle.{BundleNext, BundleReady, items}
+use Rattle.flow_streams.specs.BundleLaws.{bundle_obeys}
+use Rattle.flow_streams.specs.declared.unbundle.Unbundle.{Unbundle}
+use Rattle.flow_streams.specs.declared.unbundle.Unbundle.TheVariants as unbundle_parts
+use Rattle.flow_streams.specs.Unbundle as unbundle
+use Rattle.flow_streams.specs.Unbundle.{UnbundleNext, UnbundleReady}
+use Rattle.flow_streams.specs.UnbundleLaws.{unbundle_obeys}
 use Rattle.flow_streams.specs.Passthru.{passes, PassthruNext}
 use Rattle.flow_streams.specs.PassthruLaws.{passthru_obeys}
 
 -- where only an end leads to a deactivation, or what is on the way to one since an end
-module _ {K : Type 0} (ready : K → Held → Answer → Type 0) (next : K → Held → Answer → Outcome K → Type 0) (shape : Shape) (uses : ℕ → Bool) (one : shape.inputs ≡ 1)
-    (obeys : (part : K) (held : Held) (answer : Answer) (outcome : Outcome K) → ready part held answer → next part held answer outcome → Obeys shape uses held outcome)
+module _ {K : Type 0} (ready : K → Held → Answer → Type 0) (next : K → Held → Answer → Outcome K → Type 0) (shape_of : K → Shape) (uses : K → ℕ → Bool) (one : (part : K) → (shape_of part).inputs ≡ 1)
+    (obeys : (part : K) (held : Held) (answer : Answer) (outcome : Outcome K) → ready part held answer → next part held answer outcome → Obeys (shape_of part) (uses part) held outcome)
     (Leaves : K → Type 0)
     (start : (p : Poise K) (q : Poise K) → Steps ready next p Started q → (q.wish ≡ wishes.Deactivate) ⊎ Leaves q.part → ⊥)
     (got : (p : Poise K) (port : ℕ) (t : _) (q : Poise K) → Steps ready next p (Received port t) q → (q.wish ≡ wishes.Deactivate) ⊎ Leaves q.part → ⊥)
     (sent : (p : Poise K) (port : ℕ) (t : _) (q : Poise K) → Steps ready next p (Sent port t) q → (q.wish ≡ wishes.Deactivate) ⊎ Leaves q.part → Leaves p.part)
-    (learned : (p : Poise K) (port level : ℕ) (q : Poise K) → Steps ready next p (Learned port level) q → ⊥) where
-  heard-step : (p : Poise K) (e : Happening) (q : Poise K) → IsAllowed shape uses p.held p.wish → Steps ready next p e q → (q.wish ≡ wishes.Deactivate) ⊎ Leaves q.part → IsEnd 0 e ⊎ Leaves p.part
+    (learned : (p : Poise K) (port level : ℕ) (q : Poise K) → Steps ready next p (Learned port level) q → (q.wish ≡ wishes.Deactivate) ⊎ Leaves q.part → ⊥) where
+  -- it receives from its one input alone
+  abbrev FromFirst : Wish → Type 0
+  FromFirst (wishes.Receive port) = port.0 ≡ 0
+  FromFirst (wishes.Send port id) = Unit {0}
+  FromFirst (wishes.Level port) = Unit {0}
+  FromFirst wishes.Deactivate = Unit {0}
+
+  from-first : (part : K) (held : Held) (wish : Wish) → IsAllowed (shape_of part) (uses part) held wish → FromFirst wish
+  from-first part held (wishes.Receive port) a = omega (arith, a, one part)
+  from-first part held (wishes.Send port id) a = tt
+  from-first part held (wishes.Level port) a = tt
+  from-first part held wishes.Deactivate a = tt
+
+  stays-first : (p : Poise K) (e : Happening) (q : Poise K) → Steps ready next p e q → FromFirst q.wish
+  stays-first p e q s = from-first p.part q.held q.wish (obeys p.part s.held (answer_of e) (Wishes q.part q.held q.wish) s.is_ready s.comes_to).1
+
+  heard-step : (p : Poise K) (e : Happening) (q : Poise K) → FromFirst p.wish → Steps ready next p e q → (q.wish ≡ wishes.Deactivate) ⊎ Leaves q.part → IsEnd 0 e ⊎ Leaves p.part
   heard-step p Started q a s l = absurd (start p q s l)
   heard-step p (Received port t) q a s l = absurd (got p port t q s l)
-  heard-step p (Ended port) q a s l = (let b : port < shape.inputs = rw s.grants.0 at a in let z : port ≡ 0 = omega arith in inl z)
+  heard-step p (Ended port) q a s l = (let z : port ≡ 0 = rw s.grants.0 at a in inl z)
   heard-step p (Sent port t) q a s l = inr (sent p port t q s l)
-  heard-step p (Learned port level) q a s l = absurd (learned p port level q s)
+  heard-step p (Learned port level) q a s l = absurd (learned p port level q s l)
 
-  heard-run : (es : List Happening) (p q : Poise K) → IsAllowed shape uses p.held p.wish → Runs ready next p es q → q.wish ≡ wishes.Deactivate → es ≢ [] → HeardEnd 0 es ⊎ Leaves p.part
+  heard-run : (es : List Happening) (p q : Poise K) → FromFirst p.wish → Runs ready next p es q → q.wish ≡ wishes.Deactivate → es ≢ [] → HeardEnd 0 es ⊎ Leaves p.part
   heard-run [] p q a r d some = absurd (some refl)
   heard-run (e ∷ []) p q a r d some =
       let w : r.0.wish ≡ wishes.Deactivate = ap (λ (u : Poise K). u.wish) (sym r.2) ∙ d in
       elim (heard-step p e r.0 a r.1 (inl w)) [ inl h ↦ inl (inl h) | inr l ↦ inr l ]
   heard-run (e ∷ f ∷ es) p q a r d some =
       let m = r.0 in
-      elim (heard-run (f ∷ es) m q (stays-allowed ready next shape uses obeys p e m r.1) r.2 d (λ h. cc)) [
+      elim (heard-run (f ∷ es) m q (stays-first p e m r.1) r.2 d (λ h. cc)) [
         | inl h ↦ inl (inr h)
         | inr l ↦ elim (heard-step p e m a r.1 (inr l)) [ inl h ↦ inl (inl h) | inr k ↦ inr k ]
       ]
@@ -69,19 +111,19 @@ Never part = ⊥
 
 pub write_lines-hears : (bytes : List ℕ) (told : List Happening) → EndedRun (λ (_ : List ℕ). IsAtHand) WriteLinesNext bytes told → told ≢ [] → HeardEnd 0 told
 write_lines-hears bytes told run some =
-    end-heard (λ (_ : List ℕ). IsAtHand) WriteLinesNext one_to_none uses_none refl write_lines_obeys Never
+    end-heard (λ (_ : List ℕ). IsAtHand) WriteLinesNext (λ _. one_to_none) (λ _. uses_none) (λ _. refl) write_lines_obeys Never
     (λ p q s l. elim l [ inl d ↦ (let c : Wishes q.part q.held q.wish ≡ Wishes p.part s.held receive_first = s.comes_to in cc) | inr n ↦ n ])
     (λ p port t q s l. elim l [ inl d ↦ (let c = s.comes_to in let w : q.wish ≡ receive_first = cc in cc) | inr n ↦ n ])
     (λ p port t q s l. elim l [ inl d ↦ (let c : Wishes q.part q.held q.wish ≡ Wishes p.part s.held receive_first = s.comes_to in cc) | inr n ↦ n ])
-    (λ p port level q s. s.is_ready) bytes told run (λ n. n) some
+    (λ p port level q s l. s.is_ready) bytes told run (λ n. n) some
 
 pub passthru-hears : {K : Type 0} (part : K) (told : List Happening) → EndedRun (λ (_ : K). IsAtHand) PassthruNext part told → told ≢ [] → HeardEnd 0 told
 passthru-hears {K} part told run some =
-    end-heard (λ (_ : K). IsAtHand) PassthruNext one_to_one uses_first refl passthru_obeys Never
+    end-heard (λ (_ : K). IsAtHand) PassthruNext (λ _. one_to_one) (λ _. uses_first) (λ _. refl) passthru_obeys Never
     (λ p q s l. elim l [ inl d ↦ (let c : Wishes q.part q.held q.wish ≡ Wishes p.part s.held receive_first = s.comes_to in cc) | inr n ↦ n ])
     (λ p port t q s l. elim l [ inl d ↦ (let c = s.comes_to in let w : q.wish ≡ passes (answer_of (Received port t)) = cc in cc) | inr n ↦ n ])
     (λ p port t q s l. elim l [ inl d ↦ (let c : Wishes q.part q.held q.wish ≡ Wishes p.part s.held receive_first = s.comes_to in cc) | inr n ↦ n ])
-    (λ p port level q s. s.is_ready) part told run (λ n. n) some
+    (λ p port level q s l. s.is_ready) part told run (λ n. n) some
 
 -- where the outcome goes on
 abbrev GoesOn : {K : Type 0} → Outcome K → Type 0
@@ -106,11 +148,11 @@ words-goes held (words_parts.Splitting id taken) = words-piece held id (text_at 
 
 pub words-hears : (part : Words) (told : List Happening) → EndedRun WordsReady WordsNext part told → told ≢ [] → HeardEnd 0 told
 words-hears part told run some =
-    end-heard WordsReady WordsNext one_to_one uses_first refl words_obeys Never
+    end-heard WordsReady WordsNext (λ _. one_to_one) (λ _. uses_first) (λ _. refl) words_obeys Never
     (λ p q s l. elim l [ inl d ↦ (let c : Wishes q.part q.held q.wish ≡ Wishes words_parts.Waiting s.held receive_first = s.comes_to in cc) | inr n ↦ n ])
     (λ p port t q s l. elim l [ inl d ↦ subst GoesOn (sym s.comes_to) (words-takes s.held (Rattle.flow_packet.specs.Tree.id_of t) (kind_at s.held.packets (Rattle.flow_packet.specs.Tree.id_of t))) d | inr n ↦ n ])
     (λ p port t q s l. elim l [ inl d ↦ subst GoesOn (sym s.comes_to) (words-goes s.held p.part) d | inr n ↦ n ])
-    (λ p port level q s. s.is_ready) part told run (λ n. n) some
+    (λ p port level q s l. s.is_ready) part told run (λ n. n) some
 
 brackets-turn : {K : Type 0} (part : K) (held : Held) (id : ℕ) (text : List ℕ) (kind : Option Kind) → GoesOn (turns part held id text kind)
 brackets-turn part held id text None = λ d. cc
@@ -123,11 +165,11 @@ brackets-take part held id Close = λ d. cc
 
 pub brackets-hears : {K : Type 0} (part : K) (told : List Happening) → EndedRun BracketsReady BracketsNext part told → told ≢ [] → HeardEnd 0 told
 brackets-hears {K} part told run some =
-    end-heard {K = K} BracketsReady BracketsNext one_to_one uses_first refl brackets_obeys Never
+    end-heard {K = K} BracketsReady BracketsNext (λ _. one_to_one) (λ _. uses_first) (λ _. refl) brackets_obeys Never
     (λ p q s l. elim l [ inl d ↦ subst GoesOn (sym s.comes_to) (λ e. cc) d | inr n ↦ n ])
     (λ p port t q s l. elim l [ inl d ↦ subst GoesOn (sym s.comes_to) (brackets-take p.part s.held (Rattle.flow_packet.specs.Tree.id_of t) (kind_at s.held.packets (Rattle.flow_packet.specs.Tree.id_of t))) d | inr n ↦ n ])
     (λ p port t q s l. elim l [ inl d ↦ subst GoesOn (sym s.comes_to) (λ e. cc) d | inr n ↦ n ])
-    (λ p port level q s. s.is_ready) part told run (λ n. n) some
+    (λ p port level q s l. s.is_ready) part told run (λ n. n) some
 
 -- A Fill leaves once its last line was sent.
 abbrev IsLeaving : FillState → Type 0
@@ -177,8 +219,141 @@ fill-goes state held places.Leaving w = λ h. w
 
 pub fill-hears : (size : ℕ) (told : List Happening) → EndedRun FillReady FillNext (fresh_fill size) told → told ≢ [] → HeardEnd 0 told
 fill-hears size told run some =
-    end-heard FillReady FillNext one_to_one uses_first refl fill_obeys IsLeaving
+    end-heard FillReady FillNext (λ _. one_to_one) (λ _. uses_first) (λ _. refl) fill_obeys IsLeaving
     (λ p q s l. subst Stays (sym s.comes_to) (stays-waiting p.part receive_first s.is_ready.0 (λ d. cc)) l)
     (λ p port t q s l. subst Stays (sym s.comes_to) (fill-packet p.part s.held (Rattle.flow_packet.specs.Tree.id_of t) (kind_at s.held.packets (Rattle.flow_packet.specs.Tree.id_of t)) s.is_ready.0) l)
     (λ p port t q s l. subst (Left p.part) (sym s.comes_to) (fill-goes p.part s.held p.part.place refl) l)
-    (λ p port level q s. s.is_ready) (fresh_fill size) told run (λ l. let h : places.Waiting ≡ places.Leaving = l in cc) some
+    (λ p port level q s l. s.is_ready) (fresh_fill size) told run (λ l. let h : places.Waiting ≡ places.Leaving = l in cc) some
+
+-- Copy
+
+copy-goes : (state : CopyState) (held : Held) (id output : ℕ) → GoesOn (copy.copies state held id output)
+copy-goes state held id output = by (nat_lt (output + 1) state.count)
+  where
+    by : (b : Bool) → GoesOn (cond b (Wishes (record state { place = copy_places.Copying id (output + 1) }) (with_made held (kind_at held.packets id) (text_at held.packets id)) (copy.send_at output (next_id held))) (Wishes (record state { place = copy_places.Waiting }) held (copy.send_at output id)))
+    by true = λ d. cc
+    by false = λ d. cc
+
+copy-on : (state : CopyState) (held : Held) (place : CopyPlace) → GoesOn (copy.goes_on state held place)
+copy-on state held copy_places.Waiting = λ d. cc
+copy-on state held (copy_places.Copying id output) = copy-goes state held id output
+
+pub copy-hears : (part : CopyState) (told : List Happening) → EndedRun CopyReady CopyNext part told → told ≢ [] → HeardEnd 0 told
+copy-hears part told run some =
+    end-heard CopyReady CopyNext copy_shape copy_uses (λ _. refl) copy_obeys Never
+    (λ p q s l. elim l [ inl d ↦ subst GoesOn (sym s.comes_to) (λ e. cc) d | inr n ↦ n ])
+    (λ p port t q s l. elim l [ inl d ↦ subst GoesOn (sym s.comes_to) (copy-goes p.part s.held (id_of t) 0) d | inr n ↦ n ])
+    (λ p port t q s l. elim l [ inl d ↦ subst GoesOn (sym s.comes_to) (copy-on p.part s.held p.part.place) d | inr n ↦ n ])
+    (λ p port level q s l. s.is_ready) part told run (λ n. n) some
+
+-- Count, which leaves once its number was sent
+
+abbrev IsTelling : CountState → Type 0
+IsTelling state = state.leaving ≡ true
+
+abbrev Counts : CountState → Outcome CountState → Type 0
+Counts old (Wishes state held wish) = (wish ≡ wishes.Deactivate) ⊎ IsTelling state → IsTelling old
+Counts old (Fails state held cause) = Unit {0}
+
+count-goes : (connected : Bool) (state : CountState) (held : Held) (id : ℕ) → Counts state (count.passes_on connected state held id)
+count-goes true state held id = λ h. elim h [ inl d ↦ absurd (cc) | inr l ↦ l ]
+count-goes false state held id = λ h. elim h [ inl d ↦ absurd (cc) | inr l ↦ l ]
+
+count-on : (leaving : Bool) (state : CountState) (held : Held) → state.leaving ≡ leaving → Counts state (count.goes_on leaving state held)
+count-on true state held is = λ h. is
+count-on false state held is = λ h. elim h [ inl d ↦ absurd (cc) | inr l ↦ l ]
+
+not-telling : (state : CountState) → state.leaving ≡ false → IsTelling state → ⊥
+not-telling state f l = let h : false ≡ true = sym f ∙ l in cc
+
+pub count-hears : (connected : Bool) (told : List Happening) → EndedRun CountReady CountNext (fresh_count connected) told → told ≢ [] → HeardEnd 0 told
+count-hears connected told run some =
+    end-heard CountReady CountNext (λ _. count_shape) count_uses (λ _. refl) count_obeys IsTelling
+    (λ p q s l. not-telling p.part s.is_ready.0 (subst (Counts p.part) (sym s.comes_to) (λ h. elim h [ inl d ↦ absurd (cc) | inr k ↦ k ]) l))
+    (λ p port t q s l. not-telling p.part s.is_ready.0 (subst (Counts p.part) (sym s.comes_to) (count-goes p.part.connected (record p.part { number = count.one_more (kind_at s.held.packets (id_of t)) p.part.number }) s.held (id_of t)) l))
+    (λ p port t q s l. subst (Counts p.part) (sym s.comes_to) (count-on p.part.leaving p.part s.held refl) l)
+    (λ p port level q s l. s.is_ready) (fresh_count connected) told run (λ l. let h : false ≡ true = l in cc) some
+
+-- LoadBalance
+
+load-asks : (state : LoadState) (held : Held) (id output least : ℕ) → GoesOn (load.asks_on state held id output least)
+load-asks state held id output least = by (nat_lt (output + 1) state.count)
+  where
+    by : (b : Bool) → GoesOn (cond b (Wishes (record state { place = load_places.Asking id (output + 1) least }) held (load.level_at (output + 1))) (Wishes (record state { place = load_places.Waiting }) held (load.send_at state.chosen id)))
+    by true = λ d. cc
+    by false = λ d. cc
+
+load-weighs : (state : LoadState) (held : Held) (id output least level : ℕ) → GoesOn (load.weighs state held id output least level)
+load-weighs state held id output least level = by (nat_lt level least)
+  where
+    by : (b : Bool) → GoesOn (cond b (load.asks_on (record state { chosen = output }) held id output level) (load.asks_on state held id output least))
+    by true = load-asks (record state { chosen = output }) held id output level
+    by false = load-asks state held id output least
+
+load-learns : (state : LoadState) (held : Held) (place : LoadPlace) (level : ℕ) → load.IsAsking state held place → GoesOn (load.learns state held place level)
+load-learns state held load_places.Waiting level a = absurd a
+load-learns state held (load_places.Asking id output least) level a = load-weighs state held id output least level
+
+load-comes : (state : LoadState) (held : Held) (id depth : ℕ) → GoesOn (load.comes_at state held id depth)
+load-comes state held id zero = λ d. cc
+load-comes state held id (suc outer) = λ d. cc
+
+pub load-hears : (part : LoadState) (told : List Happening) → EndedRun LoadReady LoadNext part told → told ≢ [] → HeardEnd 0 told
+load-hears part told run some =
+    end-heard LoadReady LoadNext load_shape load_uses (λ _. refl) load_obeys Never
+    (λ p q s l. elim l [ inl d ↦ subst GoesOn (sym s.comes_to) (λ e. cc) d | inr n ↦ n ])
+    (λ p port t q s l. elim l [ inl d ↦ subst GoesOn (sym s.comes_to) (load-comes (record p.part { depth = load.depth_after (kind_at s.held.packets (id_of t)) p.part.depth }) s.held (id_of t) p.part.depth) d | inr n ↦ n ])
+    (λ p port t q s l. elim l [ inl d ↦ subst GoesOn (sym s.comes_to) (λ e. cc) d | inr n ↦ n ])
+    (λ p port level q s l. elim l [ inl d ↦ subst GoesOn (sym s.comes_to) (load-learns p.part s.held p.part.place level s.is_ready.1) d | inr n ↦ n ])
+    part told run (λ n. n) some
+
+-- Bundle
+
+bundle-gathers : (part : Bundle) (held : Held) (id packet depth : ℕ) → GoesOn (bundle.gathers part held id packet depth)
+bundle-gathers part held id packet depth = by (height_at held.packets packet == 16)
+  where
+    by : (b : Bool) → GoesOn (cond b (Fails part held TreeDepth) (Wishes (bundle_parts.Inside id depth) (record held { packets = Rattle.flow_packet.specs.Hands.attached held.packets id items packet }) receive_first))
+    by true = tt
+    by false = λ d. cc
+
+bundle-takes : (part : Bundle) (held : Held) (id : ℕ) (kind : Kind) → GoesOn (bundle.bundles part held id kind)
+bundle-takes bundle_parts.Outside held id Normal = λ d. cc
+bundle-takes bundle_parts.Outside held id Open = λ d. cc
+bundle-takes bundle_parts.Outside held id Close = λ d. cc
+bundle-takes (bundle_parts.Inside id depth) held packet Normal = bundle-gathers (bundle_parts.Inside id depth) held id packet depth
+bundle-takes (bundle_parts.Inside id depth) held packet Open = bundle-gathers (bundle_parts.Inside id depth) held id packet (bundle.deeper depth)
+bundle-takes (bundle_parts.Inside id depth) held packet Close = by (nat_lt 1 depth)
+  where
+    by : (b : Bool) → GoesOn (cond b (bundle.gathers (bundle_parts.Inside id depth) held id packet (depth - 1)) (bundle.ends_bundle held id packet))
+    by true = bundle-gathers (bundle_parts.Inside id depth) held id packet (depth - 1)
+    by false = λ d. cc
+
+pub bundle-hears : (part : Bundle) (told : List Happening) → EndedRun BundleReady BundleNext part told → told ≢ [] → HeardEnd 0 told
+bundle-hears part told run some =
+    end-heard BundleReady BundleNext (λ _. one_to_one) (λ _. uses_first) (λ _. refl) bundle_obeys Never
+    (λ p q s l. elim l [ inl d ↦ subst GoesOn (sym s.comes_to) (λ e. cc) d | inr n ↦ n ])
+    (λ p port t q s l. elim l [ inl d ↦ subst GoesOn (sym s.comes_to) (bundle-takes p.part s.held (id_of t) (kind_at s.held.packets (id_of t))) d | inr n ↦ n ])
+    (λ p port t q s l. elim l [ inl d ↦ subst GoesOn (sym s.comes_to) (λ e. cc) d | inr n ↦ n ])
+    (λ p port level q s l. s.is_ready) part told run (λ n. n) some
+
+-- Unbundle
+
+unbundle-opens : (held : Held) (id : ℕ) (chain : List Tree) → GoesOn (unbundle.opens_up held id chain)
+unbundle-opens held id [] = λ d. cc
+unbundle-opens held id (child ∷ children) = λ d. cc
+
+unbundle-unpacks : (held : Held) (id : ℕ) (chain : List Tree) → GoesOn (unbundle.unpacks held id chain)
+unbundle-unpacks held id [] = λ d. cc
+unbundle-unpacks held id (child ∷ children) = λ d. cc
+
+unbundle-on : (held : Held) (part : Unbundle) → GoesOn (unbundle.goes_on held part)
+unbundle-on held unbundle_parts.Waiting = λ d. cc
+unbundle-on held (unbundle_parts.Unpacking id) = unbundle-unpacks held id (chain_of_root held.packets id items)
+
+pub unbundle-hears : (part : Unbundle) (told : List Happening) → EndedRun UnbundleReady UnbundleNext part told → told ≢ [] → HeardEnd 0 told
+unbundle-hears part told run some =
+    end-heard UnbundleReady UnbundleNext (λ _. one_to_one) (λ _. uses_first) (λ _. refl) unbundle_obeys Never
+    (λ p q s l. elim l [ inl d ↦ subst GoesOn (sym s.comes_to) (λ e. cc) d | inr n ↦ n ])
+    (λ p port t q s l. elim l [ inl d ↦ subst GoesOn (sym s.comes_to) (unbundle-opens s.held (id_of t) (chain_of_root s.held.packets (id_of t) items)) d | inr n ↦ n ])
+    (λ p port t q s l. elim l [ inl d ↦ subst GoesOn (sym s.comes_to) (unbundle-on s.held p.part) d | inr n ↦ n ])
+    (λ p port level q s l. s.is_ready) part told run (λ n. n) some

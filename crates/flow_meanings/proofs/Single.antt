@@ -23,3 +23,10 @@ one-input (i ∷ j ∷ inputs) is = absurd (omega arith)
 -- the end of a single input is for good
 pub single-ends : {K : Type 0} (x : Process K) (told : List Happening) → (NoneConnected x → starts told ≤ 1) → 1 ≡ length x.inputs → EndsForGood x told 0
 single-ends x told once is = elim (one-input x.inputs is) [ inl at ↦ inl at | inr none ↦ inr (once none) ]
+
+-- where the one input has a text, none is connected
+pub alone-text : (inputs : List Input) (text : List ℕ) → 1 ≡ length inputs → slice_get inputs 0 ≡ Some (Text text) → list_any is_connected inputs ≡ false
+alone-text [] text one at = absurd (omega arith)
+alone-text (From c ∷ []) text one at = absurd (cc)
+alone-text (Text t ∷ []) text one at = refl
+alone-text (i ∷ j ∷ inputs) text one at = absurd (omega arith)

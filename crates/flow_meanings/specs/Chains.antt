@@ -1,7 +1,7 @@
 -- Networks without merges: what their compositions say more simply, and that there is one outcome where no connection leads back and each component's meaning
 -- settles what it sends.
 -- (This project's own.)
-use Rattle.std.specs.Prelude.{◌≡◌, ℕ, ◌<◌, List, [], map, Some, slice_get}
+use Rattle.std.specs.Prelude.{◌≡◌, ℕ, List, [], map, Some, slice_get}
 use Rattle.std.specs.List.{flat_map}
 use Rattle.flow_packet.specs.Tree.{Tree}
 use Rattle.flow_component.specs.Runs.{text_packet}
@@ -47,17 +47,24 @@ TelegramMeans =
     (plan : Plan) (ks : List Std) (wrote : ℕ → List ℕ) (a b c d : ℕ) (lines : List (List ℕ)) (size : ℕ) → Composes plan ks wrote → IsTelegram plan ks a b c d lines size
     → (z : List Tree) × Filling size (flat_map words_of (map text_packet lines)) z × (wrote d ≡ rendered_all z)
 
--- What the component sends and writes follows from what it gets. (Of a kind whose meaning isn't stated yet that isn't said.)
+-- What the component sends and writes follows from what it gets: it doesn't balance load, and isn't a Select.
 abbrev pub IsSettled : Std → Type 0
+IsSettled (parts.LoadBalance state) = ⊥
+IsSettled (parts.Select state) = ⊥
 IsSettled (parts.ReadLines left) = Unit {0}
 IsSettled (parts.WriteLines bytes) = Unit {0}
 IsSettled (parts.Words part) = Unit {0}
 IsSettled (parts.Fill state) = Unit {0}
 IsSettled (parts.Brackets part) = Unit {0}
 IsSettled (parts.Passthru part) = Unit {0}
+IsSettled (parts.Copy state) = Unit {0}
+IsSettled (parts.Concat state) = Unit {0}
+IsSettled (parts.Collate state) = Unit {0}
 IsSettled (parts.Discard part) = Unit {0}
+IsSettled (parts.Bundle part) = Unit {0}
+IsSettled (parts.Unbundle part) = Unit {0}
 IsSettled (parts.Hoard part) = Unit {0}
-IsSettled part = ⊥
+IsSettled (parts.Count state) = Unit {0}
 
 -- All components are such.
 abbrev pub AreSettled : List Std → Type 0

@@ -358,7 +358,7 @@ module _ {K : Type 0} (shape_of : K → Shape) (uses : K → ℕ → Bool) (read
       map-found wires s.kept.processes p (wires z) h
 
   -- whoever sends by the plan does so in the last state
-  sends-now : (p o c : ℕ) → sends_at plan p o ≡ Some c → (x : Process K) × (slice_get s.kept.processes p ≡ Some x) × (output_at x o ≡ Some c)
+  pub sends-now : (p o c : ℕ) → sends_at plan p o ≡ Some c → (x : Process K) × (slice_get s.kept.processes p ≡ Some x) × (output_at x o ≡ Some c)
   sends-now p o c sends =
       let sender : Sender = record { process = p; output = o } in
       let pos = position-Some (λ (x : PlanConnection). list_any (is_sender sender) x.senders) plan.connections c no_connection sends in

@@ -625,7 +625,7 @@ AllTell-work {K} ready next parts s p s' work valid all q z is =
     rw (work.kept.channels, work.past) now
 
 -- a process of the start with its component
-begins : {K : Type 0} (plan : Plan) (p : ℕ) (xs : List PlanProcess) (parts : List K) (k : ℕ) (z : Process K) (part : K) → slice_get (processes_at_start plan p xs parts) k ≡ Some z → slice_get parts k ≡ Some part
+pub begins : {K : Type 0} (plan : Plan) (p : ℕ) (xs : List PlanProcess) (parts : List K) (k : ℕ) (z : Process K) (part : K) → slice_get (processes_at_start plan p xs parts) k ≡ Some z → slice_get parts k ≡ Some part
     → (spec : PlanProcess) × (z ≡ process_at_start plan (p + k) spec part)
 begins plan p [] parts k z part is at = absurd (cc)
 begins plan p (x ∷ xs) [] k z part is at = absurd (cc)

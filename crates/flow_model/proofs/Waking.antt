@@ -1,17 +1,16 @@
 -- A process is started only where a packet is at one of its connected inputs, or where it has none.
-use Rattle.std.proofs.Common.{◌≡◌, ◌≢◌, ◌⊎◌, inl, inr, ℕ, ◌+◌, ◌<◌, Bool, true, false, List, [], ◌∷◌, ◌++◌, map, length, not, ◌||◌, ◌&&◌, Option, Some, None, refl, sym, ap, ◌∙◌, subst, cond, nat_eq, arith, slice_get, slice_set, append-nil}
+use Rattle.std.proofs.Common.{◌≡◌, ◌≢◌, ◌⊎◌, inl, inr, ℕ, ◌+◌, ◌<◌, Bool, true, false, List, [], ◌∷◌, ◌++◌, map, not, ◌||◌, ◌&&◌, Some, refl, sym, ap, ◌∙◌, subst, cond, nat_eq, arith, slice_get, slice_set}
 use Rattle.std.specs.List.{list_any}
 use Rattle.std.proofs.lemmas.Bool.Decides.{nat_tests}
 use Rattle.flow_packet.specs.Held.{Held}
-use Rattle.flow_packet.specs.Tree.{Tree}
 use Rattle.flow_component.specs.declared.Answer.{Answer}
 use Rattle.flow_component.specs.declared.Shape.{Shape}
 use Rattle.flow_component.specs.Laws.{Outcome, Obeys, StaysReady}
 use Rattle.flow_component.specs.Happenings.{Happening, Started, Received, Ended, Sent, Learned}
 use Rattle.flow_component.specs.Runs.{starts}
 use Rattle.flow_model.specs.States.{Input, From, Process, Channel, Put, State, Entry, entry_of, got_at}
-use Rattle.flow_model.specs.Events.{Event, Starts, Finishes, Gets, Takes_text, Hears_end, Sends, Learns, Sleeps, Closes, looks, event_of, is_connected, has_packet, can_start}
-use Rattle.flow_model.specs.Turns.{Turn, process_after, heard, put_after, add_at, past_after}
+use Rattle.flow_model.specs.Events.{Event, Starts, Finishes, Gets, Takes_text, Hears_end, Sends, Learns, Sleeps, Closes, looks, event_of, is_connected, has_packet}
+use Rattle.flow_model.specs.Turns.{Turn, process_after, heard, put_after, past_after}
 use Rattle.flow_model.specs.Works.{Work, worked}
 use Rattle.flow_model.specs.Schedules.{Settles, Journal, Leads, LeadsBy}
 use Rattle.flow_model.specs.Order.{InOrder, entries, input_of, packets_at}
