@@ -1,5 +1,8 @@
 -- The files of a run that finished are what its network means.
-use Rattle.std.proofs.Common.{inl, inr, ℕ, List, sym, ◌∙◌, subst, refl, arith}
+use Rattle.std.proofs.Common.{inl, inr, ℕ, ◌≤◌, ◌==◌, List, length, sym, ◌∙◌, subst, refl, arith, length-map}
+use Rattle.std.specs.List.{slice_split}
+use Rattle.std.proofs.lemmas.List.Splits.{length-slice_split}
+use Rattle.flow_text.specs.Text.{number_of}
 use Rattle.std.specs.Prelude.{String}
 use Rattle.std.specs.declared.alloc.Global.{Global}
 use Rattle.flow_text.specs.Edge.{Outside}
@@ -7,7 +10,7 @@ use Rattle.flow_net.specs.Network.{Network}
 use Rattle.flow_catalogue.specs.declared.standard.Std.{Std}
 use Rattle.flow_catalogue.specs.declared.table.StdKind.{StdKind}
 use Rattle.flow_catalogue.specs.declared.table.StdKind.TheVariants as kinds
-use Rattle.flow_catalogue.specs.Processes.{IsMade, Given, first_part}
+use Rattle.flow_catalogue.specs.Processes.{IsMade, Given, fields_of, first_part}
 use Rattle.flow_catalogue.specs.Std.{std_shape, std_uses, StdReady}
 use Rattle.flow_machine.specs.PlanOf.{plan_of}
 use Rattle.flow_model.specs.States.{State}
@@ -34,6 +37,10 @@ finished-of s Deadlock is e = absurd (grind arith)
 finished-of s Failed is e = absurd (grind arith)
 finished-of s Running is e = absurd (grind arith)
 
+-- a text of fields has one at least
+some-fields : (text : List ℕ) → 1 ≤ length (fields_of text)
+some-fields text = omega (arith, length-map (slice_split (λ b. b == 32) text) number_of, length-slice_split (λ b. b == 32) text)
+
 first-first : (kind : StdKind) (given : Given) (bytes : List ℕ) → IsFirst (first_part kind given bytes)
 first-first kinds.ReadLines given bytes = tt
 first-first kinds.WriteLines given bytes = refl
@@ -41,16 +48,16 @@ first-first kinds.Passthru given bytes = tt
 first-first kinds.Words given bytes = refl
 first-first kinds.Fill given bytes = (_, refl)
 first-first kinds.Brackets given bytes = tt
-first-first kinds.Copy given bytes = tt
-first-first kinds.Concat given bytes = tt
-first-first kinds.Collate given bytes = tt
+first-first kinds.Copy given bytes = refl
+first-first kinds.Concat given bytes = refl
+first-first kinds.Collate given bytes = (some-fields given.option, refl)
 first-first kinds.Discard given bytes = tt
-first-first kinds.Bundle given bytes = tt
-first-first kinds.Unbundle given bytes = tt
+first-first kinds.Bundle given bytes = refl
+first-first kinds.Unbundle given bytes = refl
 first-first kinds.Hoard given bytes = tt
-first-first kinds.Count given bytes = tt
-first-first kinds.LoadBalance given bytes = tt
-first-first kinds.Select given bytes = tt
+first-first kinds.Count given bytes = refl
+first-first kinds.LoadBalance given bytes = refl
+first-first kinds.Select given bytes = refl
 
 made-first : (plan : Network) (p : ℕ) (part : Std) (process : _) (bytes : List ℕ) → IsMade plan p process bytes part → IsFirst part
 made-first plan p part process bytes made = subst IsFirst (sym made.is) (first-first made.kind _ bytes)
