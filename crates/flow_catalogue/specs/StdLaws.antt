@@ -1,14 +1,12 @@
 -- The standard components keep the laws of components, since their kinds do.
-use Rattle.std.proofs.Common.{◌≡◌, ℕ, refl, sym, ◌∙◌, ap, subst}
+use Rattle.std.proofs.Common.{◌≡◌, refl, sym, ◌∙◌, ap, subst}
 use Rattle.flow_packet.specs.Held.{Held}
 use Rattle.flow_component.specs.declared.Answer.{Answer}
-use Rattle.flow_component.specs.declared.Wish.{Wish}
 use Rattle.flow_component.specs.Laws.{Outcome, Obeys, StaysReady, IsSteady, ReadyAfter, part_after}
-use Rattle.flow_component.specs.Outcomes.{outcome_as}
 use Rattle.flow_component.proofs.Lifting.{Obeys-as, StaysReady-as, part_after-as}
 use Rattle.flow_catalogue.specs.declared.standard.Std.{Std}
 use Rattle.flow_catalogue.specs.declared.standard.Std.TheVariants as parts
-use Rattle.flow_catalogue.specs.Std.{Standing, Stands, standing, shape_standing, uses_standing, ReadyStanding, next_standing, std_shape, std_uses, StdReady, std_next, StdNext}
+use Rattle.flow_catalogue.specs.Std.{Standing, Stands, standing, shape_standing, uses_standing, ReadyStanding, next_standing, std_shape, std_uses, StdReady, StdNext}
 
 -- A component in another state is of the same kind.
 abbrev pub KeepsKind : Standing → Type 1
