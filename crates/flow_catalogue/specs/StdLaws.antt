@@ -14,21 +14,7 @@ KeepsKind (Stands K kind within part) = (k : K) → standing (within k) ≡ Stan
 
 pub keeps-kind : (part : Std) → KeepsKind (standing part)
 keeps-kind (parts.ReadLines part) = λ k. refl
-keeps-kind (parts.WriteLines part) = λ k. refl
-keeps-kind (parts.Words part) = λ k. refl
-keeps-kind (parts.Fill part) = λ k. refl
-keeps-kind (parts.Brackets part) = λ k. refl
-keeps-kind (parts.Passthru part) = λ k. refl
-keeps-kind (parts.Copy part) = λ k. refl
-keeps-kind (parts.Concat part) = λ k. refl
-keeps-kind (parts.Collate part) = λ k. refl
-keeps-kind (parts.Discard part) = λ k. refl
-keeps-kind (parts.Bundle part) = λ k. refl
-keeps-kind (parts.Unbundle part) = λ k. refl
-keeps-kind (parts.Hoard part) = λ k. refl
-keeps-kind (parts.Count part) = λ k. refl
-keeps-kind (parts.LoadBalance part) = λ k. refl
-keeps-kind (parts.Select part) = λ k. refl
+keeps-kind part = λ k. refl
 
 obeys : (s : Standing) (held : Held) (answer : Answer) → ReadyStanding s held answer → Obeys (shape_standing s) (uses_standing s) held (next_standing s held answer)
 obeys (Stands K kind within part) held answer r = Obeys-as within (kind.shape part) (kind.uses part) held (kind.next part held answer) (kind.obeys part held answer (kind.next part held answer) r refl)
