@@ -1,9 +1,8 @@
 -- An output that is found among the senders of the connections is one of them.
-use Rattle.std.proofs.Common.{◌≡◌, ℕ, zero, suc, List, [], ◌∷◌, Some, Bool, true, false, refl, sym, ap, ◌∙◌, slice_get, nat_eq}
+use Rattle.std.proofs.Common.{◌≡◌, ℕ, suc, List, [], ◌∷◌, Some, Bool, true, false, refl, ap, ◌∙◌, slice_get}
 use Rattle.std.specs.Prelude.{◌&&◌, ◌||◌, ◌==◌}
 use Rattle.std.specs.List.{list_any}
 use Rattle.std.proofs.lemmas.Bool.{false≢true}
-use Rattle.flow_net.specs.declared.plan.Connection.{Connection}
 use Rattle.flow_net.specs.declared.plan.Sender.{Sender}
 use Rattle.flow_net.specs.Network.{Network}
 use Rattle.flow_net.specs.Valid.{HasSender}

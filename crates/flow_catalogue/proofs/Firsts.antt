@@ -1,5 +1,5 @@
 -- The component of a process of a standard kind, in its first state, fits the process.
-use Rattle.std.proofs.Common.{◌≡◌, ℕ, zero, suc, ◌+◌, ◌<◌, ◌≤◌, Bool, true, false, List, [], ◌∷◌, map, Some, refl, sym, ap, ◌∙◌, subst, arith, slice_get, nat_eq, nat_lt, length}
+use Rattle.std.proofs.Common.{◌≡◌, ℕ, zero, suc, ◌+◌, ◌<◌, Bool, true, false, [], map, Some, refl, sym, ◌∙◌, subst, arith, slice_get, nat_eq, nat_lt}
 use Rattle.std.specs.Prelude.{IsTrue, if◌then◌else◌}
 use Rattle.std.proofs.lemmas.Bool.{false≢true}
 use Rattle.std.specs.List.{range_with_len}
@@ -7,18 +7,14 @@ use Rattle.std.proofs.lemmas.Bool.Decides.{nat_tests}
 use Rattle.flow_packet.specs.Held.{Held, next_id}
 use Rattle.flow_packet.specs.Hands.{IsAtRoot}
 use Rattle.flow_component.specs.Ports.{uses_first, uses_none}
-use Rattle.flow_component.specs.Laws.{CanStart}
-use Rattle.flow_net.specs.declared.plan.Process.{Process}
 use Rattle.flow_net.specs.Network.{Network}
 use Rattle.flow_net.specs.Valid.{HasSender}
-use Rattle.flow_catalogue.specs.declared.table.StdKind.{StdKind}
 use Rattle.flow_catalogue.specs.declared.table.StdKind.TheVariants as kinds
-use Rattle.flow_catalogue.specs.Std.{std_shape, std_uses, StdReady}
 use Rattle.flow_parts.specs.Count.{count_uses}
 use Rattle.flow_parts.specs.Meanings.{fresh_count}
 use Rattle.flow_streams.specs.declared.select.SelectPlace.TheVariants.{Waiting}
 use Rattle.flow_streams.specs.Select.{select_uses}
-use Rattle.flow_catalogue.specs.Processes.{IsOfKind, Fits, first_part, given, is_connected}
+use Rattle.flow_catalogue.specs.Processes.{is_connected}
 use Rattle.flow_catalogue.proofs.Connected.{connected-sends}
 use Rattle.flow_catalogue.specs.Plans.{FirstFits}
 

@@ -1,7 +1,7 @@
 -- The rows of the table of kinds, and the numbered ports of a process of a row.
 use Rattle.std.proofs.Common.{◌≡◌, ℕ, zero, suc, ◌+◌, ◌<◌, ◌≤◌, Bool, true, false, List, [], ◌∷◌, ◌++◌, map, length, Some, None, refl, sym, ap, ◌∙◌, subst, cond, arith, slice_get, length-append}
-use Rattle.std.specs.Prelude.{◌&&◌, ◌||◌, if◌then◌else◌, nat_le, not}
-use Rattle.std.specs.List.{list_all, list_any, range_with_len, flat_map}
+use Rattle.std.specs.Prelude.{◌&&◌, ◌||◌, nat_le}
+use Rattle.std.specs.List.{list_all, list_any, range_with_len}
 use Rattle.std.proofs.lemmas.Bool.{false≢true}
 use Rattle.std.proofs.lemmas.Bool.Decides.{nat_tests}
 use Rattle.std.proofs.lemmas.List.FromFn.{length-map-range_with_len}

@@ -1,5 +1,5 @@
 -- What a plan says of a process of a standard kind.
-use Rattle.std.specs.Prelude.{◌≡◌, ℕ, ◌<◌, ◌==◌, ◌&&◌, Bool, true, List, [], ◌∷◌, map, Some, slice_get, IsTrue}
+use Rattle.std.specs.Prelude.{◌≡◌, ℕ, ◌==◌, ◌&&◌, Bool, true, List, [], ◌∷◌, map, Some, slice_get, IsTrue}
 use Rattle.std.specs.List.{list_any, slice_split}
 use Rattle.std.specs.Str.Lines.{lines}
 use Rattle.flow_net.specs.declared.plan.Process.{Process}
@@ -17,7 +17,7 @@ use Rattle.flow_streams.specs.declared.bundle.Bundle.TheVariants as bundle_parts
 use Rattle.flow_streams.specs.declared.unbundle.Unbundle.TheVariants as unbundle_parts
 use Rattle.flow_streams.specs.declared.load_balance.LoadPlace.TheVariants as load_places
 use Rattle.flow_streams.specs.declared.select.SelectPlace.TheVariants as select_places
-use Rattle.flow_streams.specs.Meanings.{fresh_concat, fresh_collate}
+use Rattle.flow_streams.specs.Meanings.{fresh_collate}
 use Rattle.flow_catalogue.specs.declared.table.StdKind.{StdKind}
 use Rattle.flow_catalogue.specs.declared.table.StdKind.TheVariants as kinds
 use Rattle.flow_catalogue.specs.declared.standard.Std.{Std}

@@ -33,6 +33,8 @@ standing (parts.Count part) = Stands _ count_kind parts.Count part
 standing (parts.LoadBalance part) = Stands _ load_balance_kind parts.LoadBalance part
 standing (parts.Select part) = Stands _ select_kind parts.Select part
 
+-- What its kind says of it: its numbers of inputs and outputs, the outputs that it uses, the answers and hands for which it is ready, what it comes to, and the
+-- bytes of its file.
 abbrev pub shape_standing : Standing → Shape
 shape_standing (Stands K kind within part) = kind.shape part
 

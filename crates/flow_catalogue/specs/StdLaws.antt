@@ -1,14 +1,12 @@
 -- The standard components keep the laws of components, since their kinds do.
-use Rattle.std.proofs.Common.{◌≡◌, ℕ, refl, sym, ◌∙◌, ap, subst}
+use Rattle.std.proofs.Common.{◌≡◌, refl, sym, ◌∙◌, ap, subst}
 use Rattle.flow_packet.specs.Held.{Held}
 use Rattle.flow_component.specs.declared.Answer.{Answer}
-use Rattle.flow_component.specs.declared.Wish.{Wish}
 use Rattle.flow_component.specs.Laws.{Outcome, Obeys, StaysReady, IsSteady, ReadyAfter, part_after}
-use Rattle.flow_component.specs.Outcomes.{outcome_as}
 use Rattle.flow_component.proofs.Lifting.{Obeys-as, StaysReady-as, part_after-as}
 use Rattle.flow_catalogue.specs.declared.standard.Std.{Std}
 use Rattle.flow_catalogue.specs.declared.standard.Std.TheVariants as parts
-use Rattle.flow_catalogue.specs.Std.{Standing, Stands, standing, shape_standing, uses_standing, ReadyStanding, next_standing, std_shape, std_uses, StdReady, std_next, StdNext}
+use Rattle.flow_catalogue.specs.Std.{Standing, Stands, standing, shape_standing, uses_standing, ReadyStanding, next_standing, std_shape, std_uses, StdReady, StdNext}
 
 -- A component in another state is of the same kind.
 abbrev pub KeepsKind : Standing → Type 1
@@ -16,21 +14,7 @@ KeepsKind (Stands K kind within part) = (k : K) → standing (within k) ≡ Stan
 
 pub keeps-kind : (part : Std) → KeepsKind (standing part)
 keeps-kind (parts.ReadLines part) = λ k. refl
-keeps-kind (parts.WriteLines part) = λ k. refl
-keeps-kind (parts.Words part) = λ k. refl
-keeps-kind (parts.Fill part) = λ k. refl
-keeps-kind (parts.Brackets part) = λ k. refl
-keeps-kind (parts.Passthru part) = λ k. refl
-keeps-kind (parts.Copy part) = λ k. refl
-keeps-kind (parts.Concat part) = λ k. refl
-keeps-kind (parts.Collate part) = λ k. refl
-keeps-kind (parts.Discard part) = λ k. refl
-keeps-kind (parts.Bundle part) = λ k. refl
-keeps-kind (parts.Unbundle part) = λ k. refl
-keeps-kind (parts.Hoard part) = λ k. refl
-keeps-kind (parts.Count part) = λ k. refl
-keeps-kind (parts.LoadBalance part) = λ k. refl
-keeps-kind (parts.Select part) = λ k. refl
+keeps-kind part = λ k. refl
 
 obeys : (s : Standing) (held : Held) (answer : Answer) → ReadyStanding s held answer → Obeys (shape_standing s) (uses_standing s) held (next_standing s held answer)
 obeys (Stands K kind within part) held answer r = Obeys-as within (kind.shape part) (kind.uses part) held (kind.next part held answer) (kind.obeys part held answer (kind.next part held answer) r refl)

@@ -43,21 +43,7 @@ impl Std {
     {
         match self {
             Std::WriteLines(part) => Some(part.written()),
-            Std::ReadLines(_) => None,
-            Std::Words(_) => None,
-            Std::Fill(_) => None,
-            Std::Brackets(_) => None,
-            Std::Passthru(_) => None,
-            Std::Copy(_) => None,
-            Std::Concat(_) => None,
-            Std::Collate(_) => None,
-            Std::Discard(_) => None,
-            Std::Bundle(_) => None,
-            Std::Unbundle(_) => None,
-            Std::Hoard(_) => None,
-            Std::Count(_) => None,
-            Std::LoadBalance(_) => None,
-            Std::Select(_) => None,
+            _ => None,
         }
     }
 }

@@ -24,21 +24,7 @@ made-anywhere bytes plan p process part other made = record { kind = made.kind; 
   where
     same : (kind : StdKind) → process.kind ≡ name_of kind → first_part kind (given plan p process) [] ≡ first_part kind (given plan p process) bytes
     same kinds.ReadLines named = absurd (other named)
-    same kinds.WriteLines named = refl
-    same kinds.Passthru named = refl
-    same kinds.Words named = refl
-    same kinds.Fill named = refl
-    same kinds.Brackets named = refl
-    same kinds.Copy named = refl
-    same kinds.Concat named = refl
-    same kinds.Collate named = refl
-    same kinds.Discard named = refl
-    same kinds.Bundle named = refl
-    same kinds.Unbundle named = refl
-    same kinds.Hoard named = refl
-    same kinds.Count named = refl
-    same kinds.LoadBalance named = refl
-    same kinds.Select named = refl
+    same kind named = refl
 
 pub writes-not-reads : (process : Process) → process.kind ≡ codes "WriteLines" → process.kind ≢ codes "ReadLines"
 writes-not-reads process writes reads = (let bad : codes "WriteLines" ≡ codes "ReadLines" = sym writes ∙ reads in cc)

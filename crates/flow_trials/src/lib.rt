@@ -8,6 +8,8 @@ mod by_hand;
 mod circle;
 #[cfg(test)]
 mod levels;
+#[cfg(test)]
+mod loads;
 mod network;
 mod starting;
 

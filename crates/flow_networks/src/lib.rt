@@ -1,0 +1,11 @@
+//! Worked networks of every kind, run through the program's top call over files in memory.
+#![tactic(auto)]
+
+#[cfg(test)]
+mod examples;
+#[cfg(test)]
+mod refused;
+#[cfg(test)]
+mod run;
+#[cfg(test)]
+mod worked;

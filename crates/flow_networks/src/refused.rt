@@ -1,0 +1,160 @@
+//! Networks that a row of the table of kinds refuses: each next to one that it takes.
+use crate::run::{NONE, ROW, Row, run_row};
+use std::test::Fail;
+
+fn refused(net: &'static [u8], printed: &'static [u8]) -> Row {
+    Row {
+        net,
+        inputs: [("i", b""), NONE, NONE],
+        status: 3,
+        printed: Some(printed),
+        ..ROW
+    }
+}
+
+#[test]
+fn ports_are_those_of_their_kind(rt: HostRuntime) -> Result<(), Fail> {
+    let rows = [
+        // An array's elements stand without a gap.
+        refused(
+            b"flow 1\n'i' -> FILE R(ReadLines)\nR OUT -> IN C(Copy)\nC OUT[0] -> IN A\nC OUT[2] -> IN B\n'a' -> FILE A(WriteLines)\n'b' -> FILE B(WriteLines)\n",
+            b"network refused: element gap C.OUT[1]\n",
+        ),
+        // A Copy has one element at least.
+        refused(
+            b"flow 1\n'i' -> FILE R(ReadLines)\nR OUT -> IN C(Copy)\n",
+            b"network refused: port missing C.OUT\n",
+        ),
+        // A Concat's input is an array, its output isn't.
+        refused(
+            b"flow 1\n'i' -> FILE R(ReadLines)\nR OUT -> IN[0] C(Concat)\nC OUT[0] -> IN A\n'a' -> FILE A(WriteLines)\n",
+            b"network refused: unknown port C.OUT[0]\n",
+        ),
+        // A Passthru's ports have no elements.
+        refused(
+            b"flow 1\n'i' -> FILE R(ReadLines)\nR OUT -> IN[0] P(Passthru)\nP OUT -> IN A\n'a' -> FILE A(WriteLines)\n",
+            b"network refused: unknown port P.IN[0]\n",
+        ),
+        // A Fill needs its size.
+        refused(
+            b"flow 1\n'i' -> FILE R(ReadLines)\nR OUT -> IN F(Fill)\nF OUT -> IN A\n'a' -> FILE A(WriteLines)\n",
+            b"network refused: port missing F.SIZE\n",
+        ),
+        // A size is at least 1,
+        refused(
+            b"flow 1\n'i' -> FILE R(ReadLines)\nR OUT -> IN F(Fill)\n'0' -> SIZE F\nF OUT -> IN A\n'a' -> FILE A(WriteLines)\n",
+            b"network refused: bad option F.SIZE\n",
+        ),
+        // and at most 1,048,576.
+        refused(
+            b"flow 1\n'i' -> FILE R(ReadLines)\nR OUT -> IN F(Fill)\n'1048577' -> SIZE F\nF OUT -> IN A\n'a' -> FILE A(WriteLines)\n",
+            b"network refused: bad option F.SIZE\n",
+        ),
+        // No connection leads to an option port.
+        refused(
+            b"flow 1\n'i' -> FILE R(ReadLines)\nR OUT -> SIZE F(Fill)\n",
+            b"network refused: needs initial F.SIZE\n",
+        ),
+        // A field is at least 1,
+        refused(
+            b"flow 1\n'i' -> FILE R(ReadLines)\nR OUT -> IN[0] C(Collate)\n'1 0' -> FIELDS C\nC OUT -> IN A\n'a' -> FILE A(WriteLines)\n",
+            b"network refused: bad option C.FIELDS\n",
+        ),
+        // at most 255,
+        refused(
+            b"flow 1\n'i' -> FILE R(ReadLines)\nR OUT -> IN[0] C(Collate)\n'256' -> FIELDS C\nC OUT -> IN A\n'a' -> FILE A(WriteLines)\n",
+            b"network refused: bad option C.FIELDS\n",
+        ),
+        // and there are at most eight.
+        refused(
+            b"flow 1\n'i' -> FILE R(ReadLines)\nR OUT -> IN[0] C(Collate)\n'1 1 1 1 1 1 1 1 1' -> FIELDS C\nC OUT -> IN A\n'a' -> FILE A(WriteLines)\n",
+            b"network refused: bad option C.FIELDS\n",
+        ),
+        // A Count's COUNT has to be connected, its OUT may be left open.
+        refused(
+            b"flow 1\n'i' -> FILE R(ReadLines)\nR OUT -> IN C(Count)\nC OUT -> IN A\n'a' -> FILE A(WriteLines)\n",
+            b"network refused: port missing C.COUNT\n",
+        ),
+        // A Select's ACC has to be connected, its REJ may be left open.
+        refused(
+            b"flow 1\n'i' -> FILE R(ReadLines)\nR OUT -> IN S(Select)\n'a' -> KEY S\nS REJ -> IN A\n'a' -> FILE A(WriteLines)\n",
+            b"network refused: port missing S.ACC\n",
+        ),
+    ];
+    for row in rows {
+        run_row(&rt, rt.alloc(), row)?;
+    }
+    Ok(())
+}
+
+#[test]
+fn outputs_and_files_are_those_of_their_kind(rt: HostRuntime) -> Result<(), Fail> {
+    let rows = [
+        // A Select needs a key.
+        refused(
+            b"flow 1\n'i' -> FILE R(ReadLines)\nR OUT -> IN S(Select)\nS ACC -> IN A\n'a' -> FILE A(WriteLines)\n",
+            b"network refused: port missing S.KEY\n",
+        ),
+        // A LoadBalance's outputs are an array,
+        refused(
+            b"flow 1\n'i' -> FILE R(ReadLines)\nR OUT -> IN L(LoadBalance)\nL OUT[1] -> IN A\n'a' -> FILE A(WriteLines)\n",
+            b"network refused: element gap L.OUT[0]\n",
+        ),
+        // its input isn't.
+        refused(
+            b"flow 1\n'i' -> FILE R(ReadLines)\nR OUT -> IN[1] L(LoadBalance)\nL OUT -> IN A\n'a' -> FILE A(WriteLines)\n",
+            b"network refused: unknown port L.IN[1]\n",
+        ),
+        // A Discard has no output,
+        refused(
+            b"flow 1\n'i' -> FILE R(ReadLines)\nR OUT -> IN D(Discard)\nD OUT -> IN A\n'a' -> FILE A(WriteLines)\n",
+            b"network refused: unknown port D.OUT\n",
+        ),
+        // nor has a Hoard,
+        refused(
+            b"flow 1\n'i' -> FILE R(ReadLines)\nR OUT -> IN H(Hoard)\nH OUT -> IN A\n'a' -> FILE A(WriteLines)\n",
+            b"network refused: unknown port H.OUT\n",
+        ),
+        // nor a WriteLines.
+        refused(
+            b"flow 1\n'i' -> FILE R(ReadLines)\nR OUT -> IN W(WriteLines)\n'w' -> FILE W\nW OUT -> IN A\n'a' -> FILE A(WriteLines)\n",
+            b"network refused: unknown port W.OUT\n",
+        ),
+        // A ReadLines has no input but its file.
+        refused(
+            b"flow 1\n'i' -> FILE R(ReadLines)\nR OUT -> IN S(ReadLines)\n",
+            b"network refused: unknown port S.IN\n",
+        ),
+        // A file's name isn't empty.
+        refused(
+            b"flow 1\n'' -> FILE R(ReadLines)\nR OUT -> IN A\n'a' -> FILE A(WriteLines)\n",
+            b"network refused: bad option R.FILE\n",
+        ),
+        // The outputs of these have to be connected.
+        refused(
+            b"flow 1\n'i' -> FILE R(ReadLines)\nR OUT -> IN X(Words)\n",
+            b"network refused: port missing X.OUT\n",
+        ),
+        refused(
+            b"flow 1\n'i' -> FILE R(ReadLines)\nR OUT -> IN X(Brackets)\n",
+            b"network refused: port missing X.OUT\n",
+        ),
+        refused(
+            b"flow 1\n'i' -> FILE R(ReadLines)\nR OUT -> IN X(Bundle)\n",
+            b"network refused: port missing X.OUT\n",
+        ),
+        refused(
+            b"flow 1\n'i' -> FILE R(ReadLines)\nR OUT -> IN X(Unbundle)\n",
+            b"network refused: port missing X.OUT\n",
+        ),
+        // Kinds are known by their whole names.
+        refused(
+            b"flow 1\n'i' -> FILE R(ReadLines)\nR OUT -> IN X(Unbundled)\n",
+            b"network refused: unknown kind Unbundled of X\n",
+        ),
+    ];
+    for row in rows {
+        run_row(&rt, rt.alloc(), row)?;
+    }
+    Ok(())
+}

@@ -1,0 +1,319 @@
+//! Networks whose files and printed lines are known from elsewhere.
+use crate::run::{NONE, ROW, Row, run_on, run_row};
+use std::test::Fail;
+
+#[test]
+fn the_telegram_problem(rt: HostRuntime) -> Result<(), Fail> {
+    let rows = [
+        Row {
+            net: b"flow 1\n# the telegram problem\n'in.txt' -> FILE Read(ReadLines)\nRead OUT -> IN Words(Words)\nWords OUT->(20) IN Fill(Fill)\n'12' -> SIZE Fill\nFill OUT -> IN Write(WriteLines)\n'out.txt' -> FILE Write\n",
+            inputs: [
+                ("in.txt", b"To be or not to be\nthat is the question\n"),
+                NONE,
+                NONE,
+            ],
+            printed: Some(b"verdict finished\ntotal turns 50 made 16 dropped 16 left 0\n"),
+            outputs: [
+                ("out.txt", b"To be or not\nto be that\nis the\nquestion\n"),
+                NONE,
+            ],
+            ..ROW
+        },
+        Row {
+            net: b"flow 1\n# the telegram problem\n'in.txt' -> FILE Read(ReadLines)\nRead OUT -> IN Words(Words)\nWords OUT->(20) IN Fill(Fill)\n'12' -> SIZE Fill\nFill OUT -> IN Write(WriteLines)\n'out.txt' -> FILE Write\n",
+            inputs: [("in.txt", b""), NONE, NONE],
+            printed: Some(b"verdict finished\ntotal turns 9 made 0 dropped 0 left 0\n"),
+            outputs: [("out.txt", b""), NONE],
+            ..ROW
+        },
+        Row {
+            net: b"flow 1\n# the telegram problem\n'in.txt' -> FILE Read(ReadLines)\nRead OUT -> IN Words(Words)\nWords OUT->(20) IN Fill(Fill)\n'5' -> SIZE Fill\nFill OUT -> IN Write(WriteLines)\n'out.txt' -> FILE Write\n",
+            inputs: [("in.txt", b"ab incomprehensible cd\n"), NONE, NONE],
+            outputs: [("out.txt", b"ab\nincomprehensible\ncd\n"), NONE],
+            ..ROW
+        },
+        Row {
+            net: b"flow 1\n# the telegram problem\n'in.txt' -> FILE Read(ReadLines)\nRead OUT -> IN Words(Words)\nWords OUT->(20) IN Fill(Fill)\n'12' -> SIZE Fill\nFill OUT -> IN Write(WriteLines)\n'out.txt' -> FILE Write\n",
+            inputs: [("in.txt", b"a\tb\n\n c"), NONE, NONE],
+            outputs: [("out.txt", b"a b c\n"), NONE],
+            ..ROW
+        },
+    ];
+    for row in rows {
+        run_row(&rt, rt.alloc(), row)?;
+    }
+    Ok(())
+}
+
+#[test]
+fn copies_are_put_behind_one_another(rt: HostRuntime) -> Result<(), Fail> {
+    let rows = [
+        // Five packets are made: three lines, and a copy of each of two.
+        Row {
+            net: b"flow 1\n'i' -> FILE Read(ReadLines)\nRead OUT -> IN Copy(Copy)\nCopy OUT[0] -> (1) IN[0] Concat(Concat)\nCopy OUT[1] -> (1) IN[1] Concat\nConcat OUT -> IN Write(WriteLines)\n'o' -> FILE Write\n",
+            inputs: [("i", b"a\nb\nc\n"), NONE, NONE],
+            status: 4,
+            printed: Some(
+                b"verdict deadlock\nblocked Copy full OUT[1]\nblocked Concat empty IN[0]\nblocked Write empty IN\ntotal turns 21 made 5 dropped 2 left 3\n",
+            ),
+            outputs: [("o", b"a\nb\n"), NONE],
+            ..ROW
+        },
+        Row {
+            net: b"flow 1\n'i' -> FILE Read(ReadLines)\nRead OUT -> IN Copy(Copy)\nCopy OUT[0] -> (3) IN[0] Concat(Concat)\nCopy OUT[1] -> (3) IN[1] Concat\nConcat OUT -> IN Write(WriteLines)\n'o' -> FILE Write\n",
+            inputs: [("i", b"a\nb\nc\n"), NONE, NONE],
+            printed: Some(b"verdict finished\ntotal turns 50 made 6 dropped 6 left 0\n"),
+            outputs: [("o", b"a\nb\nc\na\nb\nc\n"), NONE],
+            ..ROW
+        },
+    ];
+    for row in rows {
+        run_row(&rt, rt.alloc(), row)?;
+    }
+    Ok(())
+}
+
+#[test]
+fn inputs_are_collated(rt: HostRuntime) -> Result<(), Fail> {
+    let rows = [
+        Row {
+            net: b"flow 1\n'i0' -> FILE R0(ReadLines)\nR0 OUT -> IN[0] Collate(Collate)\n'i1' -> FILE R1(ReadLines)\nR1 OUT -> IN[1] Collate\n'1' -> FIELDS Collate\nCollate OUT -> IN Write(WriteLines)\n'o' -> FILE Write\n",
+            inputs: [("i0", b"a1\nb1\n"), ("i1", b"a2\nc2\n"), NONE],
+            outputs: [("o", b"(a\na1\na2\n)\n(b\nb1\n)\n(c\nc2\n)\n"), NONE],
+            ..ROW
+        },
+        Row {
+            net: b"flow 1\n'i0' -> FILE R0(ReadLines)\nR0 OUT -> IN[0] Collate(Collate)\n'1 1' -> FIELDS Collate\nCollate OUT -> IN Write(WriteLines)\n'o' -> FILE Write\n",
+            inputs: [("i0", b"ax\nay\nbx\n"), NONE, NONE],
+            outputs: [
+                ("o", b"(a\n(ax\nax\n)\n(ay\nay\n)\n)\n(b\n(bx\nbx\n)\n)\n"),
+                NONE,
+            ],
+            ..ROW
+        },
+        Row {
+            net: b"flow 1\n'i0' -> FILE R0(ReadLines)\nR0 OUT -> IN[0] Collate(Collate)\n'i1' -> FILE R1(ReadLines)\nR1 OUT -> IN[1] Collate\n'1' -> FIELDS Collate\nCollate OUT -> IN Write(WriteLines)\n'o' -> FILE Write\n",
+            inputs: [("i0", b""), ("i1", b""), NONE],
+            outputs: [("o", b""), NONE],
+            ..ROW
+        },
+        // Inputs that aren't sorted are collated by the same rule.
+        Row {
+            net: b"flow 1\n'i0' -> FILE R0(ReadLines)\nR0 OUT -> IN[0] Collate(Collate)\n'i1' -> FILE R1(ReadLines)\nR1 OUT -> IN[1] Collate\n'1' -> FIELDS Collate\nCollate OUT -> IN Write(WriteLines)\n'o' -> FILE Write\n",
+            inputs: [("i0", b"b\na\n"), ("i1", b""), NONE],
+            outputs: [("o", b"(b\nb\n)\n(a\na\n)\n"), NONE],
+            ..ROW
+        },
+    ];
+    for row in rows {
+        run_row(&rt, rt.alloc(), row)?;
+    }
+    Ok(())
+}
+
+#[test]
+fn brackets_and_bundles(rt: HostRuntime) -> Result<(), Fail> {
+    let rows = [
+        Row {
+            net: b"flow 1\n'i' -> FILE Read(ReadLines)\nRead OUT -> IN Brackets(Brackets)\nBrackets OUT -> IN Write(WriteLines)\n'o' -> FILE Write\n",
+            inputs: [("i", b"x\n)\ny\n"), NONE, NONE],
+            status: 5,
+            printed: Some(
+                b"verdict failed\nblocked Write empty IN\nfailed Brackets unnested OUT\ntotal turns 13 made 4 dropped 2 left 2\n",
+            ),
+            outputs: [("o", b"x\n"), NONE],
+            ..ROW
+        },
+        Row {
+            net: b"flow 1\n'i' -> FILE Read(ReadLines)\nRead OUT -> IN Brackets(Brackets)\nBrackets OUT -> IN Bundle(Bundle)\nBundle OUT -> IN Hoard(Hoard)\n",
+            inputs: [("i", b"(g\np\nq\n)\n"), NONE, NONE],
+            status: 1,
+            printed: Some(
+                b"verdict finished, packets left\ntotal turns 36 made 7 dropped 4 left 3\n",
+            ),
+            ..ROW
+        },
+        Row {
+            net: b"flow 1\n'i' -> FILE Read(ReadLines)\nRead OUT -> IN Brackets(Brackets)\nBrackets OUT -> IN Bundle(Bundle)\nBundle OUT -> IN Unbundle(Unbundle)\nUnbundle OUT -> IN Write(WriteLines)\n'o' -> FILE Write\n",
+            inputs: [("i", b"(g\np\nq\n)\n"), NONE, NONE],
+            outputs: [("o", b"(g\np\nq\n)\n"), NONE],
+            ..ROW
+        },
+        // A Collate takes no brackets.
+        Row {
+            net: b"flow 1\n'i' -> FILE Read(ReadLines)\nRead OUT -> IN Brackets(Brackets)\nBrackets OUT -> IN[0] Collate(Collate)\n'1' -> FIELDS Collate\nCollate OUT -> IN Write(WriteLines)\n'o' -> FILE Write\n",
+            inputs: [("i", b"a\n(b\n"), NONE, NONE],
+            status: 5,
+            outputs: [("o", b"(a\na\n"), NONE],
+            ..ROW
+        },
+    ];
+    for row in rows {
+        run_row(&rt, rt.alloc(), row)?;
+    }
+    Ok(())
+}
+
+#[test]
+fn lines_are_selected(rt: HostRuntime) -> Result<(), Fail> {
+    let rows = [
+        // The text is a key anew at each activation.
+        Row {
+            net: b"flow 1\n'i' -> FILE Read(ReadLines)\n'a' -> KEY Sel(Select)\nRead OUT -> IN Sel\nSel ACC -> IN Write(WriteLines)\n'o' -> FILE Write\n",
+            inputs: [("i", b"ab\nb\n"), NONE, NONE],
+            printed: Some(b"verdict finished\ntotal turns 22 made 4 dropped 4 left 0\n"),
+            outputs: [("o", b"ab\n"), NONE],
+            ..ROW
+        },
+        // Behind the last key every line is rejected.
+        Row {
+            net: b"flow 1\n'k' -> FILE Keys(ReadLines)\n'i' -> FILE Read(ReadLines)\nKeys OUT -> KEY Sel(Select)\nRead OUT -> IN Sel\nSel ACC -> IN A(WriteLines)\n'o' -> FILE A\nSel REJ -> IN R(WriteLines)\n'r' -> FILE R\n",
+            inputs: [
+                ("k", b"a\nb\nc\n"),
+                ("i", b"apple\ncherry\ncurrant\nplum\n"),
+                NONE,
+            ],
+            outputs: [("o", b"apple\ncurrant\n"), ("r", b"cherry\nplum\n")],
+            ..ROW
+        },
+    ];
+    for row in rows {
+        run_row(&rt, rt.alloc(), row)?;
+    }
+    Ok(())
+}
+
+#[test]
+fn packets_are_counted(rt: HostRuntime) -> Result<(), Fail> {
+    let rows = [
+        Row {
+            net: b"flow 1\n'i' -> FILE Read(ReadLines)\nRead OUT -> IN Count(Count)\nCount COUNT -> IN N(WriteLines)\n'n' -> FILE N\nCount OUT -> IN Write(WriteLines)\n'o' -> FILE Write\n",
+            inputs: [("i", b"a\nb\nc\n"), NONE, NONE],
+            outputs: [("o", b"a\nb\nc\n"), ("n", b"3\n")],
+            ..ROW
+        },
+        // Where OUT isn't connected, what was counted is dropped.
+        Row {
+            net: b"flow 1\n'i' -> FILE Read(ReadLines)\nRead OUT -> IN Count(Count)\nCount COUNT -> IN N(WriteLines)\n'n' -> FILE N\n",
+            inputs: [("i", b"a\nb\nc\n"), NONE, NONE],
+            outputs: [("n", b"3\n"), NONE],
+            ..ROW
+        },
+        // A Count that gets nothing isn't activated, and sends no number.
+        Row {
+            net: b"flow 1\n'i' -> FILE Read(ReadLines)\nRead OUT -> IN Count(Count)\nCount COUNT -> IN N(WriteLines)\n'n' -> FILE N\n",
+            inputs: [("i", b""), NONE, NONE],
+            outputs: [("n", b""), NONE],
+            ..ROW
+        },
+    ];
+    for row in rows {
+        run_row(&rt, rt.alloc(), row)?;
+    }
+    Ok(())
+}
+
+#[test]
+fn packets_are_dropped_or_kept(rt: HostRuntime) -> Result<(), Fail> {
+    let rows = [
+        Row {
+            net: b"flow 1\n'i' -> FILE Read(ReadLines)\nRead OUT -> IN Drop(Discard)\n",
+            inputs: [("i", b"a\nb\n"), NONE, NONE],
+            ..ROW
+        },
+        Row {
+            net: b"flow 1\n'i' -> FILE Read(ReadLines)\nRead OUT -> IN Hoard(Hoard)\n",
+            inputs: [("i", b"a\nb\n"), NONE, NONE],
+            status: 1,
+            ..ROW
+        },
+    ];
+    for row in rows {
+        run_row(&rt, rt.alloc(), row)?;
+    }
+    Ok(())
+}
+
+#[test]
+fn a_load_is_balanced(rt: HostRuntime) -> Result<(), Fail> {
+    let row = Row {
+        net: b"flow 1\n'i' -> FILE Read(ReadLines)\nRead OUT -> IN Load(LoadBalance)\nLoad OUT[0] -> IN A(WriteLines)\nLoad OUT[1] -> IN B(WriteLines)\n'o' -> FILE A\n'p' -> FILE B\n",
+        inputs: [("i", b"a\nb\nc\nd\n"), NONE, NONE],
+        outputs: [("o", b"a\nc\n"), ("p", b"b\nd\n")],
+        ..ROW
+    };
+    let seen = run_row(&rt, rt.alloc(), row)?;
+    assert_eq!(rt; seen.as_slice(), [0u16, 0, 1, 0, 1, 1, 2, 1].as_slice());
+    Ok(())
+}
+
+const TELEGRAM: Row = Row {
+    net: b"flow 1\n# the telegram problem\n'in.txt' -> FILE Read(ReadLines)\nRead OUT -> IN Words(Words)\nWords OUT->(20) IN Fill(Fill)\n'12' -> SIZE Fill\nFill OUT -> IN Write(WriteLines)\n'out.txt' -> FILE Write\n",
+    inputs: [
+        ("in.txt", b"To be or not to be\nthat is the question\n"),
+        NONE,
+        NONE,
+    ],
+    ..ROW
+};
+
+#[test]
+fn files_that_fail_stop_the_telegram(rt: HostRuntime) -> Result<(), Fail> {
+    let rows = [
+        // The network file is opened and read twice, and the input is opened and read once, before the call that fails.
+        Row {
+            read_fail: 6,
+            status: 6,
+            printed: Some(b"read fault: in.txt\n"),
+            absent: "out.txt",
+            ..TELEGRAM
+        },
+        Row {
+            piece: 5,
+            write_fail: 3,
+            status: 7,
+            printed: Some(b"write fault: out.txt\n"),
+            outputs: [("out.txt", b"To be"), NONE],
+            ..TELEGRAM
+        },
+        Row {
+            inputs: [NONE; 3],
+            status: 6,
+            printed: Some(b"read fault: in.txt\n"),
+            absent: "out.txt",
+            ..TELEGRAM
+        },
+        Row {
+            check: true,
+            printed: Some(
+                b"flow 1\nRead(ReadLines)\nWords(Words)\nFill(Fill)\nWrite(WriteLines)\n'in.txt' -> FILE Read\nRead OUT -> IN Words\nWords OUT -> (20) IN Fill\n'12' -> SIZE Fill\nFill OUT -> IN Write\n'out.txt' -> FILE Write\n",
+            ),
+            absent: "out.txt",
+            ..TELEGRAM
+        },
+    ];
+    for row in rows {
+        run_row(&rt, rt.alloc(), row)?;
+    }
+    Ok(())
+}
+
+const LINES: usize = 4097;
+
+#[test]
+fn hands_take_so_many_packets(rt: HostRuntime) -> Result<(), Fail> {
+    let mut lines = Vec::new(rt.alloc());
+    for _ in 0..LINES {
+        lines.extend_from_slice(b"x\n")?;
+    }
+    let row = Row {
+        net: b"flow 1\n'in' -> FILE Read(ReadLines)\nRead OUT -> IN Hoard(Hoard)\n",
+        status: 5,
+        printed: Some(
+            b"verdict failed\nfailed Hoard hands limit\ntotal turns 8198 made 4097 dropped 0 left 4097\n",
+        ),
+        ..ROW
+    };
+    run_on(&rt, rt.alloc(), row, ("in", lines.as_slice()))?;
+    Ok(())
+}
