@@ -1,11 +1,13 @@
 pub mod Agrees
 pub mod Decided
+pub mod Differ
 pub mod Examples
 pub mod Finishing
 pub mod Giving
 pub mod Joining
 pub mod Links
 pub mod Lookups
+pub mod Meaning
 pub mod Naming
 pub mod Once
 pub mod Outcomes

@@ -67,7 +67,7 @@ module _ (kinds : List KindSpec) (text : NetPart) where
       by (Ok u) first (Ok v) last is = comes_ok kinds text (finishes.plan_of draft) outcome (is ∙ ap (λ (r : Result (Unit {0}) PlanFault). let n : Result Network PlanFault = r >>= λ ok. Ok (finishes.plan_of draft) in n) last)
           (record { processes = named; statements = said; ports = pass u first; sum = sym sum ∙ last; is = plan })
 
-  taken : (named : Draft) → AllPass (ProcessPasses kinds) text.processes → Names kinds text.processes named → All IsShort text.statements → (drafted : Result Draft PlanFault) → AfterStatements named text.statements drafted
+  pub taken : (named : Draft) → AllPass (ProcessPasses kinds) text.processes → Names kinds text.processes named → All IsShort text.statements → (drafted : Result Draft PlanFault) → AfterStatements named text.statements drafted
       → (outcome : Result Network PlanFault) → outcome ≡ drafted >>= finishes.finished → ComesTo kinds text outcome
   taken named passed names short drafted told outcome is = by drafted (walk kinds text.processes (text_ports kinds text.processes) text.statements [] named drafted (short_at text.statements short) names told) is
     where

@@ -14,6 +14,8 @@ use Rattle.flow_net.specs.Finishes.{finished}
 use Rattle.flow_parse.specs.declared.value.Statement.{Statement}
 use Rattle.flow_parse.specs.declared.value.Statement.TheVariants.{Connect, Initial, InPort, OutPort}
 use Rattle.flow_parse.specs.declared.value.NetPart.{NetPart}
+use Rattle.flow_flat.specs.declared.fault.ExpandFault.{ExpandFault}
+use Rattle.flow_flat.specs.declared.fault.ExpandFault.TheVariants.{Plan}
 
 -- A text that is given to a port has at most 1,048,576 bytes.
 abbrev pub IsShort : Statement → Type 0
@@ -61,3 +63,9 @@ IsDraft kinds part outcome =
 -- A part is this plan over a table of kinds, or has this fault first: in its processes, in its statements, or in the whole that they make.
 abbrev pub IsFlat : List KindSpec → NetPart → Result Network PlanFault → Type 0
 IsFlat kinds part outcome = (drafted : Result Draft PlanFault) × IsDraft kinds part drafted × (outcome ≡ drafted >>= finished)
+
+-- What statements of a text with subnets make of the draft, one after the other, each as it is meant: the first that means nothing, or that the draft refuses, is the outcome.
+abbrev pub AfterMeant : Draft → List (Result Statement ExpandFault) → Result Draft ExpandFault → Type 0
+AfterMeant draft [] outcome = outcome ≡ Ok draft
+AfterMeant draft (Err fault ∷ more) outcome = outcome ≡ Err fault
+AfterMeant draft (Ok s ∷ more) outcome = (step : Result Draft PlanFault) × IsShort s × AfterStatement draft s step × MatchResult step (λ next. AfterMeant next more outcome) (λ fault. outcome ≡ Err (Plan fault))

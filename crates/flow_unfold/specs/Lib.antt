@@ -1,0 +1,6 @@
+pub mod Marks
+pub mod Outcomes
+pub mod Places
+pub mod Tells
+pub mod Walks
+pub mod Ways
