@@ -77,7 +77,7 @@ meant starts composes o n po pn words ending status (inl run) (inl p) finished =
         parts = ks;
         are_parts = whole.run.are_parts;
         wrote = wrote_in whole.last;
-        composes = composes (plan_of plan) ks (machine_journal ending.journal) whole.last well (are-first o.files plan ks whole.run.are_parts) whole.run.run.schedule ends;
+        composes = composes (plan_of plan) ks (machine_journal ending.journal) whole.last well (are-first o.files plan ks whole.run.are_parts) whole.run.run.schedule.leads ends;
         files = whole.files;
       },
     )

@@ -137,9 +137,8 @@ module _ {K : Type 0} (shape_of : K → Shape) (uses : K → ℕ → Bool) (read
       record {
         last = last;
         run = record {
-          schedule = whole;
+          schedule = record { leads = whole; prefixes = λ front mid prefix. keeps plan parts journal front last mid well prefix };
           robin = subst (λ j. RoundRobin next (start_of plan parts) j last) same robin;
-          prefixes = λ front mid prefix. keeps plan parts journal front last mid well prefix;
           quiet = states.1.3;
         };
         stands = states.3;
