@@ -8,9 +8,9 @@ use Rattle.flow_packet.specs.Held.{Held, next_id}
 use Rattle.flow_packet.specs.Hands.{IsAtRoot}
 use Rattle.flow_component.specs.Ports.{uses_first, uses_none}
 use Rattle.flow_component.specs.Laws.{CanStart}
-use Rattle.flow_net.specs.declared.plan.Process.{Process}
-use Rattle.flow_net.specs.Network.{Network}
-use Rattle.flow_net.specs.Valid.{HasSender}
+use Rattle.flow_plan.specs.declared.plan.Process.{Process}
+use Rattle.flow_plan.specs.Network.{Network}
+use Rattle.flow_plan.specs.Valid.{HasSender}
 use Rattle.flow_catalogue.specs.declared.table.StdKind.{StdKind}
 use Rattle.flow_catalogue.specs.declared.table.StdKind.TheVariants as kinds
 use Rattle.flow_catalogue.specs.Std.{std_shape, std_uses, StdReady}

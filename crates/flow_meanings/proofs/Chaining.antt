@@ -11,8 +11,12 @@ use Rattle.flow_parts.proofs.OneFilling.{one_filling}
 use Rattle.flow_catalogue.specs.declared.standard.Std.{Std}
 use Rattle.flow_catalogue.specs.declared.standard.Std.TheVariants as parts
 use Rattle.flow_catalogue.specs.Std.{std_shape, std_uses, StdReady, StdNext}
-use Rattle.flow_model.specs.States.{Sender, is_sender}
-use Rattle.flow_model.specs.Plans.{Plan, PlanProcess, PlanConnection, sends_at, receives_at, input_at, connected_or, text_at, process_at_start, StartsWell}
+use Rattle.flow_model.specs.States.{is_sender}
+use Rattle.flow_plan.specs.declared.plan.Sender.{Sender}
+use Rattle.flow_model.specs.Plans.{sends_at, receives_at, input_at, connected_or, text_at, process_at_start, StartsWell}
+use Rattle.flow_plan.specs.Network.{Network as Plan}
+use Rattle.flow_plan.specs.declared.plan.Process.{Process as PlanProcess}
+use Rattle.flow_plan.specs.declared.plan.Connection.{Connection as PlanConnection}
 use Rattle.flow_model.proofs.Senders.{both-true}
 use Rattle.flow_meanings.specs.Means.{Means}
 use Rattle.flow_meanings.specs.Composition.{Sending, arriving, leaving, Composes, wrote_in}

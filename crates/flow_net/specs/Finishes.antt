@@ -11,12 +11,12 @@ use Rattle.flow_net.specs.declared.draft.Link.{Link}
 use Rattle.flow_net.specs.declared.fault.Many.TheVariants as many
 use Rattle.flow_net.specs.declared.fault.PlanFault.{PlanFault}
 use Rattle.flow_net.specs.declared.fault.PlanFault.TheVariants.{PortMissing, ElementGap, TooMany}
-use Rattle.flow_net.specs.declared.plan.Sender.{Sender}
-use Rattle.flow_net.specs.declared.plan.Process.{Process}
-use Rattle.flow_net.specs.declared.plan.Connection.{Connection}
-use Rattle.flow_net.specs.declared.plan.PortRow.{PortRow}
-use Rattle.flow_net.specs.declared.plan.PortTable.{PortTable}
-use Rattle.flow_net.specs.Network.{Network, is_stream}
+use Rattle.flow_plan.specs.declared.plan.Sender.{Sender}
+use Rattle.flow_plan.specs.declared.plan.Process.{Process}
+use Rattle.flow_plan.specs.declared.plan.Connection.{Connection}
+use Rattle.flow_plan.specs.declared.plan.PortRow.{PortRow}
+use Rattle.flow_plan.specs.declared.plan.PortTable.{PortTable}
+use Rattle.flow_plan.specs.Network.{Network, is_stream}
 use Rattle.flow_net.specs.Drafts.{Draft, ◌>>=◌, refused_if, is_free, is_side, is_stream_at}
 use Rattle.flow_net.specs.Calls.{process_at}
 

@@ -2,8 +2,8 @@
 use Rattle.std.specs.Prelude.{ℕ, ◌&&◌, nat_le, not, if◌then◌else◌, Bool, true, List, [], ◌∷◌, map, length}
 use Rattle.std.specs.List.{list_all, list_any}
 use Rattle.std.specs.Str.{bytes_eq}
-use Rattle.flow_net.specs.declared.kind.KindSpec.{KindSpec}
-use Rattle.flow_net.specs.declared.kind.PortSpec.{PortSpec}
+use Rattle.flow_plan.specs.declared.kind.KindSpec.{KindSpec}
+use Rattle.flow_plan.specs.declared.kind.PortSpec.{PortSpec}
 
 -- No two of these names are the same.
 abbrev pub all_differ : List (List ℕ) → Bool

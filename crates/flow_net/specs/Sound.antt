@@ -7,9 +7,9 @@ use Rattle.flow_net.specs.declared.draft.Binding.TheVariants.{Receives, Sends, G
 use Rattle.flow_net.specs.declared.draft.Port.{Port}
 use Rattle.flow_net.specs.declared.draft.Begun.{Begun}
 use Rattle.flow_net.specs.declared.draft.Link.{Link}
-use Rattle.flow_net.specs.declared.kind.KindSpec.{KindSpec}
-use Rattle.flow_net.specs.declared.kind.PortSpec.{PortSpec}
-use Rattle.flow_net.specs.declared.kind.PortClass.TheVariants.{Stream}
+use Rattle.flow_plan.specs.declared.kind.KindSpec.{KindSpec}
+use Rattle.flow_plan.specs.declared.kind.PortSpec.{PortSpec}
+use Rattle.flow_plan.specs.declared.kind.PortClass.TheVariants.{Stream}
 use Rattle.flow_net.specs.Drafts.{Draft, binding_at, is_side, is_stream_at}
 use Rattle.flow_net.specs.Calls.{process_at, room_of}
 use Rattle.flow_net.specs.Options.{FitsPort}

@@ -6,7 +6,7 @@ ghost use Rattle.flow_net.specs.Calls.{fresh_port, fresh_ports, kind_for, begun_
 use crate::draft::{Begun, Binding, Port};
 use crate::fault::{Many, PlanFault, PlanStop};
 use crate::find;
-use crate::kind::{KindSpec, PortClass, PortSpec};
+use flow_plan::{KindSpec, PortClass, PortSpec};
 use flow_items::{Items, Text};
 use std::alloc::{AllocError, Global};
 

@@ -5,13 +5,13 @@ ghost use Rattle.flow_net.specs.Calls.{after_process, after_connect};
 ghost use Rattle.flow_net.specs.Initials.{AfterInitial};
 ghost use Rattle.flow_net.specs.Finishes.{finished};
 ghost use Rattle.flow_net.specs.Kinds.{is_table};
-ghost use Rattle.flow_net.specs.Valid.{IsValid};
+ghost use Rattle.flow_plan.specs.Valid.{IsValid};
 ghost use Rattle.flow_net.specs.Over.{IsOver};
 
 use crate::draft::{Begun, Link, Port};
 use crate::fault::{PlanFault, PlanStop};
-use crate::kind::{KindSpec, PortRef};
-use crate::plan::Plan;
+use flow_plan::{KindSpec, PortRef};
+use flow_plan::Plan;
 use crate::{begin, check, find, finish, give, join, lay, options};
 use flow_items::Text;
 use std::alloc::Global;
@@ -142,10 +142,10 @@ impl PlanBuilder {
         check::check_sum(links)?;
         let counts = finish::counts(alloc, ports)?;
         let counts = counts.as_slice();
-        Ok(Plan {
-            processes: lay::processes(alloc, ports, counts, processes)?,
-            connections: finish::connections(alloc, ports, counts, links)?,
-            tables: lay::tables(alloc, ports, processes)?,
-        })
+        Ok(Plan::new(
+            lay::processes(alloc, ports, counts, processes)?,
+            finish::connections(alloc, ports, counts, links)?,
+            lay::tables(alloc, ports, processes)?,
+        ))
     }
 }

@@ -1,5 +1,5 @@
 //! What a builder holds of a network that isn't whole yet.
-use crate::kind::PortSpec;
+use flow_plan::PortSpec;
 use flow_items::{Items, Text};
 
 /// An element of a port, by the port's place among all ports of the draft.

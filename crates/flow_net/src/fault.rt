@@ -1,5 +1,5 @@
 //! What can be wrong with a network.
-use crate::kind::PortRef;
+use flow_plan::PortRef;
 use flow_items::Text;
 use std::alloc::{AllocError, AllocFailed};
 

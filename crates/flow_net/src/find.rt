@@ -7,7 +7,7 @@ ghost use Rattle.flow_net.specs.Calls.{kind_named, process_of_name, end_at, end_
 
 use crate::draft::{Begun, Binding, End, Port};
 use crate::fault::{PlanFault, PlanStop};
-use crate::kind::{KindSpec, PortClass, PortRef};
+use flow_plan::{KindSpec, PortClass, PortRef};
 use flow_items::Text;
 use std::alloc::{AllocError, Global};
 

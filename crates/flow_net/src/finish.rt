@@ -10,8 +10,8 @@ use crate::check::size_of;
 use crate::draft::{Begun, End, Link, Port};
 use crate::find::{is_side, is_stream_at};
 use crate::give::process_at;
-use crate::kind::{PortClass, PortSpec};
-use crate::plan::{Connection, PortRow, PortTable, Process, Sender};
+use flow_plan::{PortClass, PortSpec};
+use flow_plan::{Connection, PortRow, PortTable, Process, Sender};
 use flow_items::{Items, Text};
 use std::alloc::{AllocError, Global};
 

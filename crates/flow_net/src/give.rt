@@ -5,7 +5,7 @@ ghost use Rattle.flow_net.specs.Calls.{input_for, process_at, next_text, with_te
 
 use crate::draft::{Begun, Binding, End, Port};
 use crate::fault::{PlanFault, PlanStop};
-use crate::kind::PortRef;
+use flow_plan::PortRef;
 use crate::{find, join};
 use flow_items::Text;
 use std::alloc::{AllocError, Global};

@@ -6,7 +6,7 @@ ghost use Rattle.flow_net.specs.Calls.{allowed_capacity, same_capacity, capacity
 use crate::draft::{Binding, End, Link, Port};
 use crate::fault::{Many, PlanFault, PlanStop};
 use crate::find;
-use crate::kind::PortRef;
+use flow_plan::PortRef;
 use flow_items::{Items, Text};
 use std::alloc::{AllocError, Global};
 

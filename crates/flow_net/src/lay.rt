@@ -7,8 +7,8 @@ ghost use Rattle.flow_net.specs.Finishes.{count_of, total_of, place_at, options_
 use crate::draft::{Begun, End, Port};
 use crate::find::{is_side, is_stream_at};
 use crate::finish::{elements_in, number, total};
-use crate::kind::PortSpec;
-use crate::plan::{PortRow, PortTable, Process};
+use flow_plan::PortSpec;
+use flow_plan::{PortRow, PortTable, Process};
 use flow_items::{Items, Text};
 use std::alloc::{AllocError, Global};
 

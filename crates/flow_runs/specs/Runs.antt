@@ -10,7 +10,8 @@ use Rattle.flow_model.specs.Robin.{RoundRobin}
 use Rattle.flow_model.specs.Verdicts.{Quiet}
 use Rattle.flow_model.specs.Places.{OnePlace}
 use Rattle.flow_model.specs.Order.{InOrder}
-use Rattle.flow_model.specs.Plans.{Plan, start_of, StartsWell}
+use Rattle.flow_model.specs.Plans.{start_of, StartsWell}
+use Rattle.flow_plan.specs.Network.{Network as Plan}
 use Rattle.flow_model.specs.Stands.{StandsForOpen}
 use Rattle.flow_model.specs.Fit.{Fit}
 use Rattle.flow_machine.specs.Values.{NetValue, shown_net}
