@@ -65,7 +65,7 @@ fn all_connected(plan: &Plan) -> bool
 
 /// A component of the shape that it needs for each process of a plan. A plan with an output that is left open is refused.
 pub fn askers(alloc: Global, plan: &Plan) -> Result<Vec<Asker>, TrialStop>
-    ensures { IfOk result (λ parts. StartsWell shape_asked uses_asked AlwaysReady (plan_of plan.now) parts.items) }
+    ensures { IfOk result (λ parts. StartsWell shape_asked uses_asked AlwaysReady plan.now parts.items) }
 {
     a_valid_plan_is_ready::<Asker>();
     if !all_connected(plan) {

@@ -21,7 +21,7 @@ passer = process_at_start first_network 1 (pass_of (codes "Pass")) (parts.Passth
 abbrev writer : Process Std
 writer = process_at_start first_network 2 (writer_of (codes "Write") (codes "out.txt")) (parts.WriteLines [])
 
-sends_first : (x : Process Std) → IsSome (output_at x 0) → (port : ℕ) → IsTrue (uses_first port) → IsSome (output_at x port)
+pub sends_first : (x : Process Std) → IsSome (output_at x 0) → (port : ℕ) → IsTrue (uses_first port) → IsSome (output_at x port)
 sends_first x is port uses =
     let h : (port == 0) ≡ true = uses in
     let first : 0 ≡ port = grind (arith, nat_tests) in

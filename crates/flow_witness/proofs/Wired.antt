@@ -12,11 +12,11 @@ some_is : {X : Type 0} → (a b : X) → Some a ≡ Some b → a ≡ b
 some_is a b h = cc
 
 -- what holds of each of one, two or three elements holds of every element
-at_one : {X : Type 0} → (P : ℕ → X → Type 0) (a : X) → P 0 a → (k : ℕ) (x : X) → slice_get (a ∷ []) k ≡ Some x → P k x
+pub at_one : {X : Type 0} → (P : ℕ → X → Type 0) (a : X) → P 0 a → (k : ℕ) (x : X) → slice_get (a ∷ []) k ≡ Some x → P k x
 at_one P a pa zero x h = subst (λ y. P 0 y) (some_is a x h) pa
 at_one P a pa (suc k) x h = absurd (let bad : None ≡ Some x = h in cc)
 
-at_two : {X : Type 0} → (P : ℕ → X → Type 0) (a b : X) → P 0 a → P 1 b → (k : ℕ) (x : X) → slice_get (a ∷ b ∷ []) k ≡ Some x → P k x
+pub at_two : {X : Type 0} → (P : ℕ → X → Type 0) (a b : X) → P 0 a → P 1 b → (k : ℕ) (x : X) → slice_get (a ∷ b ∷ []) k ≡ Some x → P k x
 at_two P a b pa pb zero x h = subst (λ y. P 0 y) (some_is a x h) pa
 at_two P a b pa pb (suc k) x h = at_one (λ i y. P (suc i) y) b pb k x h
 
@@ -30,27 +30,31 @@ c0 = link_of 0 1
 abbrev c1 : Connection
 c1 = link_of 1 2
 
-abbrev s0 : Sender
+abbrev pub s0 : Sender
 s0 = record { process = 0; output = 0 }
 
-abbrev s1 : Sender
+abbrev pub s1 : Sender
 s1 = record { process = 1; output = 0 }
 
-no_initial : {X : Type 0} → (k : ℕ) (x : ℕ × List ℕ) → slice_get [] k ≡ Some x → X
+-- nothing is in an empty list
+pub none_there : {X Y : Type 0} → (k : ℕ) (x : X) → slice_get [] k ≡ Some x → Y
+none_there k x h = absurd (let bad : None ≡ Some x = h in cc)
+
+pub no_initial : {X : Type 0} → (k : ℕ) (x : ℕ × List ℕ) → slice_get [] k ≡ Some x → X
 no_initial k x h = absurd (let bad : None ≡ Some x = h in cc)
 
-senders_differ : s0 ≡ s1 → ⊥
+pub senders_differ : s0 ≡ s1 → ⊥
 senders_differ h = let e : s0.process ≡ s1.process = ap (λ s. s.process) h in absurd (omega arith)
 
 pub only_first : (j : ℕ) (P : ℕ → Type 0) → j < 1 → P 0 → P j
 only_first zero P below first = first
 only_first (suc j) P below first = absurd (omega arith)
 
-the_one : (a s : Sender) (k : ℕ) → slice_get (a ∷ []) k ≡ Some s → a ≡ s
+pub the_one : (a s : Sender) (k : ℕ) → slice_get (a ∷ []) k ≡ Some s → a ≡ s
 the_one a s zero h = some_is a s h
 the_one a s (suc k) h = absurd (let bad : None ≡ Some s = h in cc)
 
-same_place : (a s : Sender) (k l : ℕ) → slice_get (a ∷ []) k ≡ Some s → slice_get (a ∷ []) l ≡ Some s → k ≡ l
+pub same_place : (a s : Sender) (k l : ℕ) → slice_get (a ∷ []) k ≡ Some s → slice_get (a ∷ []) l ≡ Some s → k ≡ l
 same_place a s zero zero h g = refl
 same_place a s zero (suc l) h g = absurd (let bad : None ≡ Some s = g in cc)
 same_place a s (suc k) l h g = absurd (let bad : None ≡ Some s = h in cc)
