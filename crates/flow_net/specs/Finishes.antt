@@ -1,4 +1,5 @@
 -- What is wrong with a draft that is to be a plan, and the plan that it is.
+use Rattle.flow_plan.specs.declared.limits.TheConstants.{CAPACITY_SUM_LIMIT}
 use Rattle.std.specs.Prelude.{ℕ, ◌+◌, ◌==◌, nat_le, if◌then◌else◌, Bool, true, false, List, [], ◌∷◌, map, take, Option, Some, None, Ok, Err, slice_get, position, unwrap_or}
 use Rattle.std.specs.declared.result.Result.{Result}
 use Rattle.std.specs.List.{sum_by}
@@ -50,7 +51,7 @@ capacity_of link = unwrap_or link.capacity 10
 
 -- The capacities of all connections come to 65,536 at most.
 abbrev pub sum_fault : List Link → Result (Unit {0}) PlanFault
-sum_fault links = refused_if (if nat_le (sum_by capacity_of links) 65536 then false else true) (TooMany many.CapacitySum)
+sum_fault links = refused_if (if nat_le (sum_by capacity_of links) CAPACITY_SUM_LIMIT then false else true) (TooMany many.CapacitySum)
 
 -- The number of elements of a port: of an array up to the last that is bound.
 abbrev pub elements_in : Port → ℕ

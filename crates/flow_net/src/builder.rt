@@ -10,10 +10,9 @@ ghost use Rattle.flow_net.specs.Over.{IsOver};
 
 use crate::draft::{Begun, Link, Port};
 use crate::fault::{PlanFault, PlanStop};
-use flow_plan::{KindSpec, PortRef};
-use flow_plan::Plan;
 use crate::{begin, check, find, finish, give, join, lay, options};
 use flow_items::Text;
+use flow_plan::{KindSpec, Plan, PortRef, TEXT_LIMIT};
 use std::alloc::Global;
 use std::marker::Model;
 
@@ -109,7 +108,7 @@ impl PlanBuilder {
 
     /// Gives an input its text: to a stream port an initial packet, to an option port its value.
     pub fn initial(&mut self, text: &[u8], to: &[u8], into: &PortRef) -> Result<(), PlanStop>
-        requires { length text.now ≤ 1048576 }
+        requires { length text.now ≤ TEXT_LIMIT }
         ensures { AfterInitial self.old text.now to.now into.now result self.new }
     {
         let alloc = self.alloc;
