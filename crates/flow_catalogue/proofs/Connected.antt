@@ -3,9 +3,9 @@ use Rattle.std.proofs.Common.{◌≡◌, ℕ, suc, List, [], ◌∷◌, Some, Bo
 use Rattle.std.specs.Prelude.{◌&&◌, ◌||◌, ◌==◌}
 use Rattle.std.specs.List.{list_any}
 use Rattle.std.proofs.lemmas.Bool.{false≢true}
-use Rattle.flow_net.specs.declared.plan.Sender.{Sender}
-use Rattle.flow_net.specs.Network.{Network}
-use Rattle.flow_net.specs.Valid.{HasSender}
+use Rattle.flow_plan.specs.declared.plan.Sender.{Sender}
+use Rattle.flow_plan.specs.Network.{Network}
+use Rattle.flow_plan.specs.Valid.{HasSender}
 use Rattle.flow_net.proofs.Ends.{and_true, eqb_true}
 use Rattle.flow_catalogue.specs.Processes.{has_sender, is_connected}
 

@@ -7,8 +7,8 @@ use Rattle.std.proofs.lemmas.Bool.Decides.{nat_tests}
 use Rattle.flow_packet.specs.Held.{Held, next_id}
 use Rattle.flow_packet.specs.Hands.{IsAtRoot}
 use Rattle.flow_component.specs.Ports.{uses_first, uses_none}
-use Rattle.flow_net.specs.Network.{Network}
-use Rattle.flow_net.specs.Valid.{HasSender}
+use Rattle.flow_plan.specs.Network.{Network}
+use Rattle.flow_plan.specs.Valid.{HasSender}
 use Rattle.flow_catalogue.specs.declared.table.StdKind.TheVariants as kinds
 use Rattle.flow_parts.specs.Count.{count_uses}
 use Rattle.flow_parts.specs.Meanings.{fresh_count}

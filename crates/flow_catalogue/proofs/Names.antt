@@ -9,8 +9,8 @@ use Rattle.std.proofs.lemmas.Slice.Eq.{bytes_eq-Decides}
 use Rattle.std.proofs.lemmas.Bool.{false≢true}
 use Rattle.flow_net.proofs.Ends.{and_true}
 use Rattle.flow_net.specs.Kinds.{all_differ}
-use Rattle.flow_net.specs.Network.{Network}
-use Rattle.flow_net.specs.declared.plan.Process.{Process}
+use Rattle.flow_plan.specs.Network.{Network}
+use Rattle.flow_plan.specs.declared.plan.Process.{Process}
 use Rattle.flow_catalogue.specs.declared.table.StdKind.{StdKind}
 use Rattle.flow_catalogue.specs.declared.table.StdKind.TheVariants as kinds
 use Rattle.flow_catalogue.specs.declared.standard.Std.{Std}

@@ -5,12 +5,12 @@ use Rattle.std.specs.List.{list_all, list_any, range_with_len}
 use Rattle.std.proofs.lemmas.Bool.{false≢true}
 use Rattle.std.proofs.lemmas.Bool.Decides.{nat_tests}
 use Rattle.std.proofs.lemmas.List.FromFn.{length-map-range_with_len}
-use Rattle.flow_net.specs.declared.kind.PortSpec.{PortSpec}
-use Rattle.flow_net.specs.declared.kind.PortRef.{PortRef}
-use Rattle.flow_net.specs.declared.plan.PortRow.{PortRow}
-use Rattle.flow_net.specs.Network.{is_stream, elements_of, ports_of}
+use Rattle.flow_plan.specs.declared.kind.PortSpec.{PortSpec}
+use Rattle.flow_plan.specs.declared.kind.PortRef.{PortRef}
+use Rattle.flow_plan.specs.declared.plan.PortRow.{PortRow}
+use Rattle.flow_plan.specs.Network.{is_stream, elements_of, ports_of}
 use Rattle.flow_net.specs.Over.{entries, carries}
-use Rattle.flow_net.specs.Valid.{IsRow, needs_of}
+use Rattle.flow_plan.specs.Valid.{IsRow, needs_of}
 use Rattle.flow_net.proofs.Ends.{and_true}
 use Rattle.flow_catalogue.specs.Rows.{Count, Exactly, Elements, Unsaid, IsCount, count_of, together, count_on, needs, has_plain_outputs}
 

@@ -1,9 +1,9 @@
 -- The tables of processes of the standard kinds, and the options that go with them.
 use Rattle.std.proofs.Common.{◌≡◌, ℕ, zero, suc, ◌<◌, List, [], ◌∷◌, length, Some, refl, ◌∙◌, ap, arith, slice_get}
-use Rattle.flow_net.specs.declared.plan.Process.{Process}
-use Rattle.flow_net.specs.declared.plan.PortTable.{PortTable}
-use Rattle.flow_net.specs.Network.{Network, LaidOut, ports_of}
-use Rattle.flow_net.specs.Valid.{IsValid}
+use Rattle.flow_plan.specs.declared.plan.Process.{Process}
+use Rattle.flow_plan.specs.declared.plan.PortTable.{PortTable}
+use Rattle.flow_plan.specs.Network.{Network, LaidOut, ports_of}
+use Rattle.flow_plan.specs.Valid.{IsValid}
 
 -- A process of a plan with its table.
 pub record HasTable (n : Network) (p : ℕ) (x : Process) : Type 0 where

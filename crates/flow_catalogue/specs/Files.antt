@@ -1,7 +1,7 @@
 -- The file that a process reads or writes.
 use Rattle.std.specs.Prelude.{◌≡◌, ◌≢◌, ℕ, List, [], ◌∷◌, Option, Some, None, codes}
-use Rattle.flow_net.specs.Options.{IsFileName}
-use Rattle.flow_net.specs.declared.plan.Process.{Process}
+use Rattle.flow_plan.specs.Texts.{IsFileName}
+use Rattle.flow_plan.specs.declared.plan.Process.{Process}
 use Rattle.flow_catalogue.specs.declared.process.FileUse.{FileUse}
 use Rattle.flow_catalogue.specs.declared.process.FileUse.TheVariants.{Read, Write}
 

@@ -1,8 +1,8 @@
 -- The table of the standard kinds: one row for each. (Morrison's components and JavaFBP's; the ports are this project's own.)
 use Rattle.std.specs.Prelude.{ℕ, List, [], ◌∷◌, map, codes}
-use Rattle.flow_net.specs.declared.kind.PortClass.TheVariants.{Number, Fields, File}
-use Rattle.flow_net.specs.declared.kind.PortSpec.{PortSpec}
-use Rattle.flow_net.specs.declared.kind.KindSpec.{KindSpec}
+use Rattle.flow_plan.specs.declared.kind.PortClass.TheVariants.{Number, Fields, File}
+use Rattle.flow_plan.specs.declared.kind.PortSpec.{PortSpec}
+use Rattle.flow_plan.specs.declared.kind.KindSpec.{KindSpec}
 use Rattle.flow_catalogue.specs.declared.table.StdKind.{StdKind}
 use Rattle.flow_catalogue.specs.declared.table.StdKind.TheVariants.{ReadLines, WriteLines, Passthru, Words, Fill, Brackets, Copy, Concat, Collate, Discard, Bundle, Unbundle, Hoard, Count, LoadBalance, Select}
 use Rattle.flow_catalogue.specs.Rows.{option_port, stream_port, array_port, optional_port}

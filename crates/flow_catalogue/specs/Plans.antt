@@ -1,8 +1,8 @@
 -- Plans over the standard kinds.
 use Rattle.std.specs.Prelude.{ℕ, ◌<◌, List, length}
-use Rattle.flow_net.specs.declared.plan.Process.{Process}
-use Rattle.flow_net.specs.Network.{Network}
-use Rattle.flow_net.specs.Valid.{IsValid}
+use Rattle.flow_plan.specs.declared.plan.Process.{Process}
+use Rattle.flow_plan.specs.Network.{Network}
+use Rattle.flow_plan.specs.Valid.{IsValid}
 use Rattle.flow_net.specs.Over.{IsOver}
 use Rattle.flow_catalogue.specs.declared.table.StdKind.{StdKind}
 use Rattle.flow_catalogue.specs.Kinds.{std_kinds}

@@ -2,12 +2,12 @@
 use Rattle.std.specs.Prelude.{◌≡◌, ℕ, ◌==◌, ◌&&◌, Bool, true, List, [], ◌∷◌, map, Some, slice_get, IsTrue}
 use Rattle.std.specs.List.{list_any, slice_split}
 use Rattle.std.specs.Str.Lines.{lines}
-use Rattle.flow_net.specs.declared.plan.Process.{Process}
-use Rattle.flow_net.specs.declared.plan.Connection.{Connection}
-use Rattle.flow_net.specs.declared.plan.Sender.{Sender}
-use Rattle.flow_net.specs.Network.{Network}
+use Rattle.flow_plan.specs.declared.plan.Process.{Process}
+use Rattle.flow_plan.specs.declared.plan.Connection.{Connection}
+use Rattle.flow_plan.specs.declared.plan.Sender.{Sender}
+use Rattle.flow_plan.specs.Network.{Network}
 use Rattle.flow_net.specs.Over.{carries}
-use Rattle.flow_net.specs.Valid.{HasSender}
+use Rattle.flow_plan.specs.Valid.{HasSender}
 use Rattle.flow_text.specs.Text.{number_of}
 use Rattle.flow_component.specs.Laws.{CanStart}
 use Rattle.flow_parts.specs.declared.words.Words.TheVariants as words_parts

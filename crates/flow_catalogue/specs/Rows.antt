@@ -1,13 +1,13 @@
 -- The rows of the table of kinds: their ports as they are spelled in Morrison's diagrams, and what a process of a row has.
 use Rattle.std.specs.Prelude.{◌≡◌, ℕ, zero, suc, ◌+◌, ◌≤◌, ◌&&◌, if◌then◌else◌, not, nat_le, Bool, true, false, List, [], ◌∷◌, map, length, Option, Some, None}
 use Rattle.std.specs.List.{list_all, list_any, range_with_len}
-use Rattle.flow_net.specs.declared.kind.PortClass.{PortClass}
-use Rattle.flow_net.specs.declared.kind.PortClass.TheVariants.{Stream}
-use Rattle.flow_net.specs.declared.kind.PortSpec.{PortSpec}
-use Rattle.flow_net.specs.declared.kind.KindSpec.{KindSpec}
-use Rattle.flow_net.specs.Network.{is_stream}
+use Rattle.flow_plan.specs.declared.kind.PortClass.{PortClass}
+use Rattle.flow_plan.specs.declared.kind.PortClass.TheVariants.{Stream}
+use Rattle.flow_plan.specs.declared.kind.PortSpec.{PortSpec}
+use Rattle.flow_plan.specs.declared.kind.KindSpec.{KindSpec}
+use Rattle.flow_plan.specs.Network.{is_stream}
 use Rattle.flow_net.specs.Over.{carries}
-use Rattle.flow_net.specs.Options.{IsOfClass}
+use Rattle.flow_plan.specs.Texts.{IsOfClass}
 
 -- A port that takes one text before the network runs.
 abbrev pub option_port : List ℕ → PortClass → PortSpec

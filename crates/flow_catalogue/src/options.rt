@@ -5,7 +5,7 @@
 ghost use Rattle.std.specs.Prelude.{◌≡◌, ◌≤◌, ◌<◌, ◌==◌, ◌∷◌, [], IfOk, IfSome, IfNone, length, position};
 ghost use Rattle.std.specs.List.{slice_split};
 ghost use Rattle.flow_text.specs.Text.{number_of};
-ghost use Rattle.flow_net.specs.Options.{IsNumberWithin, IsFields};
+ghost use Rattle.flow_plan.specs.Texts.{IsNumberWithin, IsFields};
 ghost use Rattle.flow_catalogue.specs.Processes.{option_text, fields_of, has_sender, is_connected};
 
 use flow_net::{Connection, Plan, Process};

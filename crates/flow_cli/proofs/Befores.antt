@@ -5,7 +5,7 @@ use Rattle.std.specs.Option.{option_map}
 use Rattle.std.specs.declared.alloc.Global.{Global}
 use Rattle.std.specs.declared.option.Option.{Option}
 use Rattle.flow_text.specs.Edge.{Outside, Name, Files}
-use Rattle.flow_net.specs.Network.{Network}
+use Rattle.flow_plan.specs.Network.{Network}
 use Rattle.flow_parse.specs.declared.value.NetText.{NetText}
 use Rattle.flow_words.specs.Words.{Asked, Run, Check}
 use Rattle.flow_cli.specs.Step.{OnlyReads}

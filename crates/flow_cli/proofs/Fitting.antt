@@ -1,7 +1,7 @@
 -- The parts of a plan over the standard kinds fit its processes.
 use Rattle.std.proofs.Common.{◌≡◌, List, subst}
-use Rattle.flow_net.specs.declared.plan.Process.{Process}
-use Rattle.flow_net.specs.Network.{Network}
+use Rattle.flow_plan.specs.declared.plan.Process.{Process}
+use Rattle.flow_plan.specs.Network.{Network}
 use Rattle.flow_ready.specs.Ready.{PartsFit}
 use Rattle.flow_catalogue.specs.declared.standard.Std.{Std}
 use Rattle.flow_catalogue.specs.Std.{std_shape, std_uses, StdReady}

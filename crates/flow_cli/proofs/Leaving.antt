@@ -3,13 +3,11 @@ use Rattle.std.proofs.Common.{◌≡◌, ℕ, zero, suc, ◌+◌, ◌≤◌, Lis
 use Rattle.std.specs.Prelude.{IfOk, slice_get, unwrap_or, option_and_then}
 use Rattle.std.specs.declared.result.Result.{Result}
 use Rattle.std.specs.declared.alloc.AllocError.{AllocError}
-use Rattle.std.proofs.lemmas.List.{length-map}
 use Rattle.flow_text.specs.Edge.{Name}
-use Rattle.flow_net.specs.declared.plan.Process.{Process as NetProcess}
-use Rattle.flow_net.specs.Network.{Network}
+use Rattle.flow_plan.specs.declared.plan.Process.{Process as NetProcess}
+use Rattle.flow_plan.specs.Network.{Network}
 use Rattle.flow_model.specs.States.{Process}
 use Rattle.flow_machine.specs.Values.{BodyValue, NetValue}
-use Rattle.flow_machine.specs.PlanOf.{plan_of, process_of}
 use Rattle.flow_catalogue.specs.declared.standard.Std.{Std}
 use Rattle.flow_catalogue.specs.Std.{std_shape, std_uses, StdReady, StdNext, written_of}
 use Rattle.flow_runs.specs.Runs.{ComesOfRun}
@@ -41,11 +39,11 @@ outputs-same one other same p (x ∷ xs) =
     ap (λ (l : List Filled). l ++ outputs_from one (p + 1) xs) first ∙ ap (λ (l : List Filled). outputs_at other p x ++ l) rest
 
 leaves-one : (plan : Network) (parts : List Std) (net : NetValue Std) (told : Told) → IsStandardPlan plan → ReportsTell std_shape std_uses StdReady
-    → ComesOfRun std_shape std_uses StdReady StdNext (plan_of plan) parts (machine_journal told.journal) net → IsToldOfNet plan net told → Leaves plan parts net told
+    → ComesOfRun std_shape std_uses StdReady StdNext plan parts (machine_journal told.journal) net → IsToldOfNet plan net told → Leaves plan parts net told
 leaves-one plan parts net told standard tell comes is =
     let last = comes.last in
     let procs = processes-shown last.past.dropped 0 net.bodies last.kept.processes (ap (λ v. v.bodies) comes.stands) in
-    let few : length last.kept.processes ≤ 128 = omega (arith, comes.count, length-map plan.processes process_of, standard.valid.few_processes) in
+    let few : length last.kept.processes ≤ 128 = omega (arith, comes.count, standard.valid.wired.few_processes) in
     record {
       last = last;
       run = comes.run;
@@ -60,7 +58,7 @@ leaves-one plan parts net told standard tell comes is =
 
 -- whatever the telling answers
 pub leaves : (plan : Network) (parts : List Std) (net : NetValue Std) (result : Result Ran AllocError) → IsStandardPlan plan → ReportsTell std_shape std_uses StdReady
-    → ((told : Told) → IsToldOfNet plan net told → ComesOfRun std_shape std_uses StdReady StdNext (plan_of plan) parts (machine_journal told.journal) net)
+    → ((told : Told) → IsToldOfNet plan net told → ComesOfRun std_shape std_uses StdReady StdNext plan parts (machine_journal told.journal) net)
     → IfOk result (λ ran. ran.net ≡ net) → IfOk result (λ ran. IsToldOfNet plan net ran.told)
     → IfOk result (λ ran. Leaves plan parts ran.net ran.told)
 leaves plan parts net (Ok ran) standard tell comes same told =

@@ -6,13 +6,12 @@ use Rattle.flow_text.specs.Text.{number_of}
 use Rattle.std.specs.Prelude.{String}
 use Rattle.std.specs.declared.alloc.Global.{Global}
 use Rattle.flow_text.specs.Edge.{Outside}
-use Rattle.flow_net.specs.Network.{Network}
+use Rattle.flow_plan.specs.Network.{Network}
 use Rattle.flow_catalogue.specs.declared.standard.Std.{Std}
 use Rattle.flow_catalogue.specs.declared.table.StdKind.{StdKind}
 use Rattle.flow_catalogue.specs.declared.table.StdKind.TheVariants as kinds
 use Rattle.flow_catalogue.specs.Processes.{IsMade, Given, fields_of, first_part}
 use Rattle.flow_catalogue.specs.Std.{std_shape, std_uses, StdReady}
-use Rattle.flow_machine.specs.PlanOf.{plan_of}
 use Rattle.flow_model.specs.States.{State}
 use Rattle.flow_model.specs.Verdicts.{IsFinished}
 use Rattle.flow_ready.specs.Ready.{StartsPlans}
@@ -84,7 +83,7 @@ meant starts composes o n po pn words ending status (inl run) (inl p) finished =
         parts = ks;
         are_parts = whole.run.are_parts;
         wrote = wrote_in whole.last;
-        composes = composes (plan_of plan) ks (machine_journal ending.journal) whole.last well (are-first o.files plan ks whole.run.are_parts) whole.run.run.schedule ends;
+        composes = composes plan ks (machine_journal ending.journal) whole.last well (are-first o.files plan ks whole.run.are_parts) whole.run.run.schedule.leads ends;
         files = whole.files;
       },
     )

@@ -5,7 +5,7 @@ use Rattle.std.specs.Prelude.{slice_get, codes, IfSome}
 use Rattle.std.specs.declared.option.Option.{Option}
 use Rattle.std.specs.Str.{bytes_eq}
 use Rattle.std.proofs.lemmas.Slice.Eq.{bytes_eq-Decides}
-use Rattle.flow_net.specs.declared.plan.Process.{Process}
+use Rattle.flow_plan.specs.declared.plan.Process.{Process}
 use Rattle.flow_catalogue.specs.Files.{UsesFile}
 use Rattle.flow_text.specs.Edge.{Name}
 use Rattle.flow_cli.specs.Many.{Filled}

@@ -6,7 +6,7 @@ use Rattle.std.specs.Option.{option_map}
 use Rattle.std.specs.Str.{bytes_eq}
 use Rattle.flow_text.specs.Edge.{Outside, Name, Files, Rose, after_write}
 use Rattle.flow_text.specs.WriteAll.{WroteAndFailed}
-use Rattle.flow_net.specs.declared.plan.Process.{Process}
+use Rattle.flow_plan.specs.declared.plan.Process.{Process}
 use Rattle.flow_report.specs.declared.report.Verdict.{Verdict}
 use Rattle.flow_report.specs.declared.report.Verdict.TheVariants as verdicts
 use Rattle.flow_cli.specs.Many.{Filled, replaced_all, after_some}

@@ -4,10 +4,9 @@ use Rattle.std.specs.Prelude.{◌≡◌, ◌⊎◌, ℕ, List, IfSome, String}
 use Rattle.std.specs.declared.alloc.Global.{Global}
 use Rattle.std.specs.Option.{option_map}
 use Rattle.flow_text.specs.Edge.{Outside, Name}
-use Rattle.flow_net.specs.Network.{Network}
+use Rattle.flow_plan.specs.Network.{Network}
 use Rattle.flow_words.specs.Words.{Run, Check}
 use Rattle.flow_catalogue.specs.declared.standard.Std.{Std}
-use Rattle.flow_machine.specs.PlanOf.{plan_of}
 use Rattle.flow_meanings.specs.Composition.{Composes}
 use Rattle.flow_cli.specs.Networks.{IsStandardPlan}
 use Rattle.flow_cli.specs.Parts.{AreParts}
@@ -24,7 +23,7 @@ pub record IsMeant (shelf shelf_after : Outside) (name : Name) : Type 0 where
   pub parts : List Std
   pub are_parts : AreParts shelf.files plan parts
   pub wrote : ℕ → List ℕ
-  pub composes : Composes (plan_of plan) parts wrote
+  pub composes : Composes plan parts wrote
   pub files : shelf_after.files ≡ option_map (replaced_all (outputs_from wrote 0 plan.processes)) shelf.files
 
 -- The network finished, with or without packets that are left.

@@ -1,8 +1,8 @@
 -- What a network file holds: a value and its plan, or why it is refused.
 use Rattle.std.specs.Prelude.{◌≡◌, ◌≢◌, ℕ, List, [], Ok, Err}
 use Rattle.std.specs.declared.result.Result.{Result}
-use Rattle.flow_net.specs.Network.{Network}
-use Rattle.flow_net.specs.Valid.{IsValid}
+use Rattle.flow_plan.specs.Network.{Network}
+use Rattle.flow_plan.specs.Valid.{IsValid}
 use Rattle.flow_net.specs.Over.{IsOver}
 use Rattle.flow_parse.specs.declared.value.NetText.{NetText}
 use Rattle.flow_parse.specs.Files.{Spells, Refused}

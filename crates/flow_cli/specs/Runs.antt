@@ -1,13 +1,12 @@
 -- A run: the network from its start until no process can go on, and what it leaves.
 use Rattle.std.specs.Prelude.{◌≡◌, ◌+◌, ◌++◌, ℕ, List, [], ◌∷◌, map, slice_get, unwrap_or, option_and_then}
-use Rattle.flow_net.specs.declared.plan.Process.{Process}
-use Rattle.flow_net.specs.Network.{Network}
+use Rattle.flow_plan.specs.declared.plan.Process.{Process}
+use Rattle.flow_plan.specs.Network.{Network}
 use Rattle.flow_catalogue.specs.declared.standard.Std.{Std}
 use Rattle.flow_catalogue.specs.Std.{std_shape, std_uses, StdReady, StdNext, written_of}
 use Rattle.flow_model.specs.States.{State}
 use Rattle.flow_model.specs.Schedules.{Journal as MachineJournal}
 use Rattle.flow_machine.specs.Values.{BodyValue, NetValue}
-use Rattle.flow_machine.specs.PlanOf.{plan_of}
 use Rattle.flow_machine.specs.Starts.{StartsNet}
 use Rattle.flow_machine.specs.Solo.{Goes, round_robin}
 use Rattle.flow_machine.specs.Logs.{turns_made}
@@ -27,7 +26,7 @@ machine_journal journal = record { turns = journal.turns; seen = journal.seen }
 
 -- This is the journal of the run of a plan with these components, and this the state to which it leads.
 abbrev pub RunsTo : Network → List Std → Journal → State Std → Type 0
-RunsTo plan parts journal last = IsRun StdNext (plan_of plan) parts (machine_journal journal) last
+RunsTo plan parts journal last = IsRun StdNext plan parts (machine_journal journal) last
 
 -- The file that a process writes, with its bytes, if it writes one; where `wrote` says what each process wrote.
 abbrev pub outputs_at : (ℕ → List ℕ) → ℕ → Process → List Filled
@@ -58,7 +57,7 @@ pub record IsToldOf (plan : Network) (last : State Std) (told : Told) : Type 0 w
 -- The network of this plan started with these parts, and its processes took turns, round and round, until none could go on.
 pub record RanOn (plan : Network) (parts : List Std) (net : NetValue Std) : Type 0 where
   pub start : NetValue Std
-  pub starts : StartsNet (plan_of plan) parts start
+  pub starts : StartsNet plan parts start
   pub goes : Goes std_shape std_uses StdReady (round_robin StdNext) start (turns_made start) net (turns_made net)
 
 -- What is told is the report of the network and the journal of its turns.

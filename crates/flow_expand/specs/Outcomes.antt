@@ -4,7 +4,7 @@ use Rattle.std.specs.declared.result.Result.{Result}
 use Rattle.flow_net.specs.declared.fault.PlanFault.{PlanFault}
 use Rattle.flow_net.specs.declared.fault.PlanStop.{PlanStop}
 use Rattle.flow_net.specs.declared.fault.PlanStop.TheVariants.{Fault, NoMemory}
-use Rattle.flow_net.specs.Network.{Network}
+use Rattle.flow_plan.specs.Network.{Network}
 use Rattle.flow_net.specs.Drafts.{Draft}
 use Rattle.flow_expand.specs.declared.stop.ExpandStop.{ExpandStop}
 use Rattle.flow_expand.specs.declared.stop.ExpandStop.TheVariants as stops

@@ -5,8 +5,8 @@ use Rattle.flow_net.specs.declared.fault.Many.{Many}
 use Rattle.flow_net.specs.declared.fault.Many.TheVariants.{Processes, Connections, CapacitySum, Instances}
 use Rattle.flow_net.specs.declared.fault.PlanFault.{PlanFault}
 use Rattle.flow_net.specs.declared.fault.PlanFault.TheVariants.{SameName, UnknownKind, UnknownProcess, PortUnknown, NeedsInitial, Capacity, PortTaken, BadOption, PortMissing, ElementGap, TooMany}
-use Rattle.flow_net.specs.declared.kind.PortRef.{PortRef}
-use Rattle.flow_net.specs.Network.{spelled}
+use Rattle.flow_plan.specs.declared.kind.PortRef.{PortRef}
+use Rattle.flow_plan.specs.Network.{spelled}
 use Rattle.flow_parse.specs.declared.fault.Reason.{Reason}
 use Rattle.flow_parse.specs.declared.fault.Reason.TheVariants.{Header, Byte, Quote, Form, Name, Number, Kind, Subnet, Limit}
 use Rattle.flow_parse.specs.declared.fault.NetFault.{NetFault}

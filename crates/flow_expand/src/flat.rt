@@ -2,7 +2,7 @@
 ghost use Rattle.std.specs.Prelude.{◌≡◌, ◌≢◌, ◌↔◌, [], IsTrue, IfOk, IfErr, Result};
 ghost use Rattle.std.specs.List.{All};
 ghost use Rattle.flow_net.specs.declared.fault.PlanFault.{PlanFault};
-ghost use Rattle.flow_net.specs.Network.{Network};
+ghost use Rattle.flow_plan.specs.Network.{Network};
 ghost use Rattle.flow_net.specs.Calls.{after_process};
 ghost use Rattle.flow_net.specs.Kinds.{is_table};
 ghost use Rattle.flow_net.specs.Over.{IsOver};

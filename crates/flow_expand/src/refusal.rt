@@ -1,7 +1,7 @@
 //! The words in which a refusal is told, appended one by one.
 ghost use Rattle.std.specs.Prelude.{◌≡◌, ◌++◌, OnOk, codes};
 ghost use Rattle.std.specs.Fmt.{decimal};
-ghost use Rattle.flow_net.specs.Network.{spelled_element};
+ghost use Rattle.flow_plan.specs.Network.{spelled_element};
 ghost use Rattle.flow_expand.specs.Refusals.{port_text, many_text, fault_text, reason_text, net_fault_text};
 
 use flow_items::Text;

@@ -9,7 +9,7 @@ use Rattle.flow_net.specs.declared.draft.End.{End}
 use Rattle.flow_net.specs.declared.draft.Port.{Port}
 use Rattle.flow_net.specs.declared.draft.Begun.{Begun}
 use Rattle.flow_net.specs.declared.draft.Link.{Link}
-use Rattle.flow_net.specs.declared.kind.KindSpec.{KindSpec}
+use Rattle.flow_plan.specs.declared.kind.KindSpec.{KindSpec}
 use Rattle.flow_net.specs.Drafts.{Draft, binding_at}
 use Rattle.flow_net.specs.Calls.{process_at}
 use Rattle.flow_net.specs.Sound.{IsSound, into_of, sender_at, text_at}

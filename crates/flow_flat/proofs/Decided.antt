@@ -11,12 +11,12 @@ use Rattle.flow_text.specs.Text.{IsPlain, number_of}
 use Rattle.flow_net.specs.declared.draft.End.{End}
 use Rattle.flow_net.specs.declared.fault.PlanFault.{PlanFault}
 use Rattle.flow_net.specs.declared.fault.PlanFault.TheVariants.{BadOption}
-use Rattle.flow_net.specs.declared.kind.KindSpec.{KindSpec}
-use Rattle.flow_net.specs.declared.kind.PortClass.{PortClass}
-use Rattle.flow_net.specs.declared.kind.PortClass.TheVariants.{Stream, Number, Fields, File}
-use Rattle.flow_net.specs.declared.kind.PortRef.{PortRef}
-use Rattle.flow_net.specs.Network.{Network}
-use Rattle.flow_net.specs.Options.{IsNumberWithin, IsOfClass}
+use Rattle.flow_plan.specs.declared.kind.KindSpec.{KindSpec}
+use Rattle.flow_plan.specs.declared.kind.PortClass.{PortClass}
+use Rattle.flow_plan.specs.declared.kind.PortClass.TheVariants.{Stream, Number, Fields, File}
+use Rattle.flow_plan.specs.declared.kind.PortRef.{PortRef}
+use Rattle.flow_plan.specs.Network.{Network}
+use Rattle.flow_plan.specs.Texts.{IsNumberWithin, IsOfClass}
 use Rattle.flow_net.proofs.Places.{same_or_not}
 use Rattle.flow_parse.specs.declared.value.Statement.TheVariants.{Connect, Initial, InPort, OutPort}
 use Rattle.flow_parse.specs.declared.value.NetPart.{NetPart}

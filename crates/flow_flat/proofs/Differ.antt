@@ -14,7 +14,7 @@ use Rattle.std.proofs.lemmas.Slice.Eq.{bytes_eq-Decides}
 use Rattle.flow_net.specs.declared.fault.PlanFault.{PlanFault}
 use Rattle.flow_net.specs.declared.fault.PlanFault.TheVariants.{SameName, UnknownKind, TooMany}
 use Rattle.flow_net.specs.declared.fault.Many.TheVariants as many
-use Rattle.flow_net.specs.declared.kind.KindSpec.{KindSpec}
+use Rattle.flow_plan.specs.declared.kind.KindSpec.{KindSpec}
 use Rattle.flow_net.specs.Drafts.{◌>>=◌, refused_if}
 use Rattle.flow_net.specs.Calls.{kind_named}
 use Rattle.flow_parse.specs.declared.value.NetPart.{NetPart}

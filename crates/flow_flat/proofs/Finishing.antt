@@ -14,8 +14,8 @@ use Rattle.flow_net.specs.declared.draft.Port.{Port}
 use Rattle.flow_net.specs.declared.fault.Many.TheVariants as many
 use Rattle.flow_net.specs.declared.fault.PlanFault.{PlanFault}
 use Rattle.flow_net.specs.declared.fault.PlanFault.TheVariants.{PortMissing, TooMany}
-use Rattle.flow_net.specs.declared.kind.KindSpec.{KindSpec}
-use Rattle.flow_net.specs.declared.plan.Connection.{Connection}
+use Rattle.flow_plan.specs.declared.kind.KindSpec.{KindSpec}
+use Rattle.flow_plan.specs.declared.plan.Connection.{Connection}
 use Rattle.flow_net.specs.Drafts.{Draft, ◌>>=◌, refused_if, is_free}
 use Rattle.flow_net.specs.Finishes.{size_of as bound_size, name_of, gap_fault, port_fault, first_fault, capacity_of, sum_fault}
 use Rattle.flow_net.proofs.Placed.{size_of-within}

@@ -12,8 +12,8 @@ use Rattle.flow_net.specs.declared.draft.Port.{Port}
 use Rattle.flow_net.specs.declared.draft.Begun.{Begun}
 use Rattle.flow_net.specs.declared.fault.PlanFault.{PlanFault}
 use Rattle.flow_net.specs.declared.fault.PlanFault.TheVariants.{PortTaken, BadOption}
-use Rattle.flow_net.specs.declared.kind.KindSpec.{KindSpec}
-use Rattle.flow_net.specs.declared.kind.PortRef.{PortRef}
+use Rattle.flow_plan.specs.declared.kind.KindSpec.{KindSpec}
+use Rattle.flow_plan.specs.declared.kind.PortRef.{PortRef}
 use Rattle.flow_net.specs.Drafts.{Draft, ◌>>=◌, refused_if, binding_at, updated}
 use Rattle.flow_net.specs.Calls.{process_of_name, end_of_port, input_for, is_taken, given as gives, with_text, process_at, next_text}
 use Rattle.flow_net.specs.Options.{FitsPort}

@@ -14,8 +14,8 @@ use Rattle.flow_net.specs.declared.draft.Link.{Link}
 use Rattle.flow_net.specs.declared.fault.Many.TheVariants as many
 use Rattle.flow_net.specs.declared.fault.PlanFault.{PlanFault}
 use Rattle.flow_net.specs.declared.fault.PlanFault.TheVariants.{NeedsInitial, PortTaken, TooMany}
-use Rattle.flow_net.specs.declared.kind.KindSpec.{KindSpec}
-use Rattle.flow_net.specs.declared.kind.PortRef.{PortRef}
+use Rattle.flow_plan.specs.declared.kind.KindSpec.{KindSpec}
+use Rattle.flow_plan.specs.declared.kind.PortRef.{PortRef}
 use Rattle.flow_net.specs.Drafts.{Draft, ◌>>=◌, refused_if, binding_at, bound, receives as receives_from, is_stream_at}
 use Rattle.flow_net.specs.Calls.{ends_of, is_taken, has_text as is_texted, link_into, capacity_before, allowed_capacity, same_capacity, is_full as is_full_link, has_all_senders, may_join, joined, joined_ports, joined_links, next_sender, process_at}
 use Rattle.flow_net.specs.Sound.{into_of, sender_at, text_at, is_input_at}

@@ -12,9 +12,9 @@ use Rattle.flow_net.specs.declared.draft.Port.{Port}
 use Rattle.flow_net.specs.declared.draft.Begun.{Begun}
 use Rattle.flow_net.specs.declared.fault.PlanFault.{PlanFault}
 use Rattle.flow_net.specs.declared.fault.PlanFault.TheVariants.{UnknownProcess, PortUnknown}
-use Rattle.flow_net.specs.declared.kind.PortRef.{PortRef}
+use Rattle.flow_plan.specs.declared.kind.PortRef.{PortRef}
 use Rattle.flow_net.specs.Drafts.{◌>>=◌, process_named, port_named, element_named, is_stream_at, is_stream_port}
-use Rattle.flow_net.specs.Network.{is_stream}
+use Rattle.flow_plan.specs.Network.{is_stream}
 use Rattle.flow_net.specs.Calls.{end_at, end_named, end_of_port, process_of_name, ends_of}
 use Rattle.flow_flat.specs.Names.{PortAt, process_called, is_on, port_called, element_at, end_called, join_ends, text_end}
 use Rattle.flow_flat.specs.Faults.{is_stream_end}

@@ -3,9 +3,9 @@ use Rattle.std.proofs.Common.{◌≡◌, ◌≢◌, ℕ, ◌<◌, ◌≤◌, Lis
 use Rattle.std.specs.declared.result.Result.{Result}
 use Rattle.flow_net.specs.declared.draft.End.{End}
 use Rattle.flow_net.specs.declared.fault.PlanFault.{PlanFault}
-use Rattle.flow_net.specs.declared.kind.KindSpec.{KindSpec}
-use Rattle.flow_net.specs.declared.kind.PortRef.{PortRef}
-use Rattle.flow_net.specs.Network.{Network}
+use Rattle.flow_plan.specs.declared.kind.KindSpec.{KindSpec}
+use Rattle.flow_plan.specs.declared.kind.PortRef.{PortRef}
+use Rattle.flow_plan.specs.Network.{Network}
 use Rattle.flow_net.proofs.Places.{same_or_not}
 use Rattle.flow_parse.specs.declared.value.Statement.TheVariants.{Connect, Initial, InPort, OutPort}
 use Rattle.flow_parse.specs.declared.value.NetPart.{NetPart}

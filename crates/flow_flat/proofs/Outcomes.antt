@@ -5,8 +5,8 @@ use Rattle.std.specs.declared.result.Result.{Result}
 use Rattle.std.specs.List.{All}
 use Rattle.std.proofs.lemmas.Option.{slice_get_within, get_or_from_slice_get}
 use Rattle.flow_net.specs.declared.fault.PlanFault.{PlanFault}
-use Rattle.flow_net.specs.declared.kind.KindSpec.{KindSpec}
-use Rattle.flow_net.specs.Network.{Network}
+use Rattle.flow_plan.specs.declared.kind.KindSpec.{KindSpec}
+use Rattle.flow_plan.specs.Network.{Network}
 use Rattle.flow_net.specs.Kinds.{is_table}
 use Rattle.flow_net.specs.Drafts.{Draft, ◌>>=◌}
 use Rattle.flow_net.specs.Finishes as finishes

@@ -9,13 +9,13 @@ use Rattle.std.proofs.lemmas.List.{take-map}
 use Rattle.flow_net.specs.declared.draft.End.{End}
 use Rattle.flow_net.specs.declared.draft.Begun.{Begun}
 use Rattle.flow_net.specs.declared.draft.Port.{Port}
-use Rattle.flow_net.specs.declared.kind.KindSpec.{KindSpec}
-use Rattle.flow_net.specs.declared.plan.Sender.{Sender}
-use Rattle.flow_net.specs.declared.plan.Process.{Process}
-use Rattle.flow_net.specs.declared.plan.Connection.{Connection}
-use Rattle.flow_net.specs.declared.plan.PortRow.{PortRow}
-use Rattle.flow_net.specs.declared.plan.PortTable.{PortTable}
-use Rattle.flow_net.specs.Network.{Network, is_stream}
+use Rattle.flow_plan.specs.declared.kind.KindSpec.{KindSpec}
+use Rattle.flow_plan.specs.declared.plan.Sender.{Sender}
+use Rattle.flow_plan.specs.declared.plan.Process.{Process}
+use Rattle.flow_plan.specs.declared.plan.Connection.{Connection}
+use Rattle.flow_plan.specs.declared.plan.PortRow.{PortRow}
+use Rattle.flow_plan.specs.declared.plan.PortTable.{PortTable}
+use Rattle.flow_plan.specs.Network.{Network, is_stream}
 use Rattle.flow_net.specs.Drafts.{Draft, is_side, is_stream_at, is_stream_port}
 use Rattle.flow_net.specs.Calls.{process_at as process_of_end}
 use Rattle.flow_net.specs.Finishes as finishes

@@ -10,7 +10,7 @@ use Rattle.flow_net.specs.declared.draft.End.{End}
 use Rattle.flow_net.specs.declared.draft.Binding.{Binding}
 use Rattle.flow_net.specs.declared.draft.Binding.TheVariants.{Free, Receives, Sends, Given}
 use Rattle.flow_net.specs.declared.draft.Port.{Port}
-use Rattle.flow_net.specs.declared.kind.KindSpec.{KindSpec}
+use Rattle.flow_plan.specs.declared.kind.KindSpec.{KindSpec}
 use Rattle.flow_net.specs.Drafts.{Draft, binding_at, is_free}
 use Rattle.flow_net.specs.Finishes.{size_of as bound_size, elements_in}
 use Rattle.flow_net.proofs.Ends.{eqb_true}

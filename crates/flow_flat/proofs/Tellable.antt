@@ -6,9 +6,9 @@ use Rattle.flow_net.specs.declared.draft.End.{End}
 use Rattle.flow_net.specs.declared.draft.Port.{Port}
 use Rattle.flow_net.specs.declared.fault.PlanFault.{PlanFault}
 use Rattle.flow_net.specs.declared.fault.PlanFault.TheVariants.{BadOption}
-use Rattle.flow_net.specs.declared.kind.KindSpec.{KindSpec}
-use Rattle.flow_net.specs.declared.kind.PortRef.{PortRef}
-use Rattle.flow_net.specs.Network.{Network}
+use Rattle.flow_plan.specs.declared.kind.KindSpec.{KindSpec}
+use Rattle.flow_plan.specs.declared.kind.PortRef.{PortRef}
+use Rattle.flow_plan.specs.Network.{Network}
 use Rattle.flow_net.specs.Kinds.{is_table}
 use Rattle.flow_net.specs.Drafts.{Draft, ◌>>=◌}
 use Rattle.flow_net.specs.Calls.{input_for, after_connect, given as gives}

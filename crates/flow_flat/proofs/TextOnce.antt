@@ -3,8 +3,8 @@ use Rattle.std.proofs.Common.{◌≡◌, List, Ok, Err, refl, ap, sym, ◌∙◌
 use Rattle.std.specs.declared.result.Result.{Result}
 use Rattle.std.specs.List.{filter_map}
 use Rattle.flow_net.specs.declared.fault.PlanFault.{PlanFault}
-use Rattle.flow_net.specs.declared.kind.KindSpec.{KindSpec}
-use Rattle.flow_net.specs.Network.{Network}
+use Rattle.flow_plan.specs.declared.kind.KindSpec.{KindSpec}
+use Rattle.flow_plan.specs.Network.{Network}
 use Rattle.flow_parse.specs.declared.value.NetText.{NetText}
 use Rattle.flow_flat.specs.declared.fault.ExpandFault.{ExpandFault}
 use Rattle.flow_flat.specs.declared.fault.ExpandFault.TheVariants as faults

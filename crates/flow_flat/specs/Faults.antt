@@ -7,13 +7,13 @@ use Rattle.flow_net.specs.declared.draft.End.{End}
 use Rattle.flow_net.specs.declared.fault.Many.TheVariants as many
 use Rattle.flow_net.specs.declared.fault.PlanFault.{PlanFault}
 use Rattle.flow_net.specs.declared.fault.PlanFault.TheVariants.{SameName, UnknownKind, NeedsInitial, PortTaken, BadOption, PortMissing, ElementGap, TooMany}
-use Rattle.flow_net.specs.declared.kind.KindSpec.{KindSpec}
-use Rattle.flow_net.specs.declared.kind.PortRef.{PortRef}
-use Rattle.flow_net.specs.declared.plan.Connection.{Connection}
-use Rattle.flow_net.specs.Network.{Network, is_stream}
+use Rattle.flow_plan.specs.declared.kind.KindSpec.{KindSpec}
+use Rattle.flow_plan.specs.declared.kind.PortRef.{PortRef}
+use Rattle.flow_plan.specs.declared.plan.Connection.{Connection}
+use Rattle.flow_plan.specs.Network.{Network, is_stream}
 use Rattle.flow_net.specs.Drafts.{◌>>=◌, refused_if}
 use Rattle.flow_net.specs.Calls.{kind_named, allowed_capacity, same_capacity}
-use Rattle.flow_net.specs.Options.{IsOfClass}
+use Rattle.flow_plan.specs.Texts.{IsOfClass}
 use Rattle.flow_parse.specs.declared.value.Statement.{Statement}
 use Rattle.flow_parse.specs.declared.value.Statement.TheVariants.{Connect, Initial, InPort, OutPort}
 use Rattle.flow_parse.specs.declared.value.NetPart.{NetPart}

@@ -2,8 +2,8 @@
 use Rattle.std.specs.Prelude.{◌≡◌, List, IsTrue}
 use Rattle.std.specs.declared.result.Result.{Result}
 use Rattle.flow_net.specs.declared.fault.PlanFault.{PlanFault}
-use Rattle.flow_net.specs.declared.kind.KindSpec.{KindSpec}
-use Rattle.flow_net.specs.Network.{Network}
+use Rattle.flow_plan.specs.declared.kind.KindSpec.{KindSpec}
+use Rattle.flow_plan.specs.Network.{Network}
 use Rattle.flow_net.specs.Kinds.{is_table}
 use Rattle.flow_parse.specs.declared.value.NetPart.{NetPart}
 use Rattle.flow_flat.specs.Faults.{ComesTo}

@@ -35,18 +35,18 @@ later-suc : (n : ℕ) (found : Option ℕ) → later n (option_map suc found) �
 later-suc n None = refl
 later-suc n (Some k) = ap (λ m. Some m) (let e : n + suc k ≡ n + 1 + k = omega arith in e)
 
-pub position-start : {A B : Type 0} (p : B → Bool) (f : A → B) (xs : List A) → later 0 (position p (map f (drop 0 xs))) ≡ position p (map f xs)
-position-start p f xs = later-zero (position p (map f xs))
+pub position-start : {A : Type 0} (p : A → Bool) (xs : List A) → later 0 (position p (drop 0 xs)) ≡ position p xs
+position-start p xs = later-zero (position p xs)
 
 -- where the one at place i doesn't pass, it is one after it
-pub position-next : {A B : Type 0} (p : B → Bool) (f : A → B) (xs : List A) (i : ℕ) (x : A) → i < length xs → x ≡ get_or xs i x → p (f x) ≡ false → later i (position p (map f (drop i xs))) ≡ later (i + 1) (position p (map f (drop (i + 1) xs)))
-position-next {A} {B} p f xs i x within is fails =
-    ap (λ (ys : List A). later i (position p (map f ys))) (drop-here xs i x within is) ∙ ap (later i) (position-cons p (f x) (map f (drop (i + 1) xs)) ∙ ap (λ (b : Bool). cond {A = Option ℕ} b (Some 0) (option_map suc (position p (map f (drop (i + 1) xs))))) fails)
-    ∙ later-suc i (position p (map f (drop (i + 1) xs)))
+pub position-next : {A : Type 0} (p : A → Bool) (xs : List A) (i : ℕ) (x : A) → i < length xs → x ≡ get_or xs i x → p x ≡ false → later i (position p (drop i xs)) ≡ later (i + 1) (position p (drop (i + 1) xs))
+position-next {A} p xs i x within is fails =
+    ap (λ (ys : List A). later i (position p ys)) (drop-here xs i x within is) ∙ ap (later i) (position-cons p x (drop (i + 1) xs) ∙ ap (λ (b : Bool). cond {A = Option ℕ} b (Some 0) (option_map suc (position p (drop (i + 1) xs)))) fails)
+    ∙ later-suc i (position p (drop (i + 1) xs))
 
-pub position-here : {A B : Type 0} (p : B → Bool) (f : A → B) (xs : List A) (i : ℕ) (x : A) → i < length xs → x ≡ get_or xs i x → p (f x) ≡ true → later i (position p (map f (drop i xs))) ≡ Some i
-position-here {A} {B} p f xs i x within is passes =
-    ap (λ (ys : List A). later i (position p (map f ys))) (drop-here xs i x within is) ∙ ap (later i) (position-cons p (f x) (map f (drop (i + 1) xs)) ∙ ap (λ (b : Bool). cond {A = Option ℕ} b (Some 0) (option_map suc (position p (map f (drop (i + 1) xs))))) passes)
+pub position-here : {A : Type 0} (p : A → Bool) (xs : List A) (i : ℕ) (x : A) → i < length xs → x ≡ get_or xs i x → p x ≡ true → later i (position p (drop i xs)) ≡ Some i
+position-here {A} p xs i x within is passes =
+    ap (λ (ys : List A). later i (position p ys)) (drop-here xs i x within is) ∙ ap (later i) (position-cons p x (drop (i + 1) xs) ∙ ap (λ (b : Bool). cond {A = Option ℕ} b (Some 0) (option_map suc (position p (drop (i + 1) xs)))) passes)
     ∙ ap (λ m. Some m) (let e : i + 0 ≡ i = omega arith in e)
 
 drop-over : {A : Type 0} (xs : List A) (i : ℕ) → length xs ≤ i → drop i xs ≡ []
@@ -55,8 +55,8 @@ drop-over [] (suc i) over = refl
 drop-over (x ∷ xs) zero over = absurd (omega (arith, over))
 drop-over (x ∷ xs) (suc i) over = drop-over xs i (omega (arith, over))
 
-pub position-over : {A B : Type 0} (p : B → Bool) (f : A → B) (xs : List A) (i : ℕ) → length xs ≤ i → later i (position p (map f (drop i xs))) ≡ None
-position-over {A} p f xs i over = ap (λ (ys : List A). later i (position p (map f ys))) (drop-over xs i over)
+pub position-over : {A : Type 0} (p : A → Bool) (xs : List A) (i : ℕ) → length xs ≤ i → later i (position p (drop i xs)) ≡ None
+position-over {A} p xs i over = ap (λ (ys : List A). later i (position p ys)) (drop-over xs i over)
 
 -- the initial text at an input
 pub text-here : (xs : List (ℕ × List ℕ)) (i n : ℕ) (x : ℕ × List ℕ) → i < length xs → x ≡ get_or xs i x → x.0 ≡ n → text_at (drop i xs) n ≡ x.1

@@ -7,12 +7,15 @@ use Rattle.std.proofs.lemmas.List.Sums.{sum_by-cons}
 use Rattle.std.proofs.lemmas.List.Quantifiers.{position-Some}
 use Rattle.std.proofs.lemmas.Option.{slice_get_within}
 use Rattle.flow_packet.specs.Held.{Held}
-use Rattle.flow_net.specs.declared.plan.Connection.{Connection as NetConnection}
-use Rattle.flow_net.specs.Network.{Network}
+use Rattle.flow_plan.specs.declared.plan.Connection.{Connection as NetConnection}
+use Rattle.flow_plan.specs.Network.{Network}
 use Rattle.flow_component.specs.declared.Answer.{Answer}
 use Rattle.flow_component.specs.declared.Shape.{Shape}
 use Rattle.flow_model.specs.States.{Input, From, Text, Process, output_at}
-use Rattle.flow_model.specs.Plans.{Plan, PlanProcess, PlanConnection, text_at, connected_or, receives_at, sends_at, input_at, process_at_start, processes_at_start, channel_at_start, start_of, StartsWell}
+use Rattle.flow_model.specs.Plans.{text_at, connected_or, receives_at, sends_at, input_at, process_at_start, processes_at_start, channel_at_start, start_of, StartsWell}
+use Rattle.flow_plan.specs.Network.{Network as Plan}
+use Rattle.flow_plan.specs.declared.plan.Process.{Process as PlanProcess}
+use Rattle.flow_plan.specs.declared.plan.Connection.{Connection as PlanConnection}
 use Rattle.flow_model.specs.Stands.{bodies_from, channels_from}
 use Rattle.flow_model.proofs.Start.{port-at, Valid-start}
 use Rattle.flow_model.proofs.Blocks.{AllFit-start}
@@ -20,7 +23,8 @@ use Rattle.flow_model.proofs.Fits.{Fit-start}
 use Rattle.flow_machine.proofs.Lists.{element-there}
 use Rattle.flow_machine.specs.Values.{BodyValue, NetValue, shown_body}
 use Rattle.flow_machine.specs.Bodies.{StandsWell}
-use Rattle.flow_machine.specs.PlanOf.{plan_of, sender_of, connection_of, leads_to, comes_from}
+use Rattle.flow_model.specs.Plans.{leads_to}
+use Rattle.flow_model.specs.Plans.{comes_from}
 use Rattle.flow_machine.specs.FitNets.{IsWiredBody, FitNet}
 use Rattle.flow_machine.specs.Starts.{StartsBody, StartsBodies, StartsNet, channel_begun}
 
@@ -84,7 +88,7 @@ stands-start {K} shape_of uses ready plan parts p q part well is at few =
       deep = λ port. omega (arith, zero-depth q.outputs port);
       short = λ i text here. (
           let one = unconnected (text_at q.initials (0 + i)) (receives_at plan p (0 + i)) text (port-at (input_at plan p q) 0 q.inputs i (Text text) here) in
-          subst (λ (t : List ℕ). length t ≤ 1048576) one (text-short q.initials (0 + i) 1048576 (λ k initial found. well.wired.short p k q initial is found)));
+          subst (λ (t : List ℕ). length t ≤ 1048576) one (text-short q.initials (0 + i) 1048576 (λ k initial found. well.wired.short p k initial.0 q initial.1 is found)));
       few = omega (arith, length-ports (sends_at plan p) 0 q.outputs, few);
     }
 
@@ -102,11 +106,9 @@ bodies-shown {K} plan n (q ∷ xs) (part ∷ parts) (b ∷ bodies) each count st
     (λ k q' part' b' is at here. (let e : n + suc k ≡ n + 1 + k = omega arith in subst (λ (j : ℕ). StartsBody (process_at_start plan j q' part') b') e (starts (suc k) q' part' b' is at here))) in
     λ i. record { process = process i; dropped = first.dropped i } ∷ rest i
 
-channels-shown : (n : ℕ) (cs : List NetConnection) → map channel_begun cs ≡ channels_from (λ c. []) n (map channel_at_start (map connection_of cs))
+channels-shown : (n : ℕ) (cs : List NetConnection) → map channel_begun cs ≡ channels_from (λ c. []) n (map channel_at_start cs)
 channels-shown n [] = refl
-channels-shown n (c ∷ cs) =
-    let senders : length c.senders ≡ length (map sender_of c.senders) = sym (length-map c.senders sender_of) in
-    λ i. record { packets = []; capacity = c.capacity; open_senders = senders i; puts = 0; takes = 0 } ∷ channels-shown (n + 1) cs i
+channels-shown n (c ∷ cs) = λ i. channel_begun c ∷ channels-shown (n + 1) cs i
 
 turns-none : {K : Type 0} (bodies : List (BodyValue K)) → ((p : ℕ) (b : BodyValue K) → slice_get bodies p ≡ Some b → b.process.turns ≡ 0) → sum_by (λ (b : BodyValue K). b.process.turns) bodies ≡ 0
 turns-none [] none = refl
@@ -132,10 +134,10 @@ unwrapped : (found : Option (Option ℕ)) (c : ℕ) → option_and_then (λ (con
 unwrapped (Some x) c is = ap (λ (y : Option ℕ). Some y) is
 unwrapped None c is = absurd (cc)
 
-wired-start : {K : Type 0} (network : Network) (p : ℕ) (q : PlanProcess) (part : K) (b : BodyValue K) → b.process ≡ process_at_start (plan_of network) p q part → IsWiredBody (length (map channel_begun network.connections)) b
+wired-start : {K : Type 0} (network : Network) (p : ℕ) (q : PlanProcess) (part : K) (b : BodyValue K) → b.process ≡ process_at_start network p q part → IsWiredBody (length (map channel_begun network.connections)) b
 wired-start {K} network p q part b process =
-    let plan = plan_of network in
-    let same : length (map connection_of network.connections) ≡ length (map channel_begun network.connections) = length-map network.connections connection_of ∙ sym (length-map network.connections channel_begun) in
+    let plan = network in
+    let same : length network.connections ≡ length (map channel_begun network.connections) = sym (length-map network.connections channel_begun) in
     record {
       inputs = λ i c is. (
           let there : slice_get (map (input_at plan p q) (range_with_len 0 q.inputs)) i ≡ Some (From c) = ap (λ (x : Process K). slice_get x.inputs i) (sym process) ∙ is in
@@ -181,9 +183,9 @@ module _ {K : Type 0} (shape_of : K → Shape) (uses : K → ℕ → Bool) (read
   abbrev pub begun_net : NetValue K
   begun_net = record { bodies = bodies; channels = map channel_begun network.connections }
 
-  pub starts-net : StartsWell shape_of uses ready (plan_of network) parts → StartsBodies (plan_of network) parts bodies → StartsNet (plan_of network) parts begun_net
+  pub starts-net : StartsWell shape_of uses ready network parts → StartsBodies network parts bodies → StartsNet network parts begun_net
   starts-net well start =
-      let plan = plan_of network in
+      let plan = network in
       let shown = bodies-shown plan 0 plan.processes parts bodies well.one_each start.count
       (λ k q part b is at here. (let e : k ≡ 0 + k = omega arith in subst (λ (j : ℕ). StartsBody (process_at_start plan j q part) b) e (start.each k q part b is at here))) in
       let channels = channels-shown 0 network.connections in
@@ -193,9 +195,9 @@ module _ {K : Type 0} (shape_of : K → Shape) (uses : K → ℕ → Bool) (read
         unmade = λ p b is. (let s = (begun plan parts bodies well.one_each start p b is).starts in (s.stamps, s.levels));
       }
 
-  pub fit-start : StartsWell shape_of uses ready (plan_of network) parts → StartsBodies (plan_of network) parts bodies → FitNet shape_of uses ready begun_net
+  pub fit-start : StartsWell shape_of uses ready network parts → StartsBodies network parts bodies → FitNet shape_of uses ready begun_net
   fit-start well start =
-      let plan = plan_of network in
+      let plan = network in
       let each = begun plan parts bodies well.one_each start in
       let none = turns-none bodies (λ p b is. ap (λ (x : Process K). x.turns) (each p b is).starts.process) in
       record {
@@ -205,7 +207,7 @@ module _ {K : Type 0} (shape_of : K → Shape) (uses : K → ℕ → Bool) (read
         log = [];
         logs = λ p b is. (let s = (each p b is).starts in (s.stamps, s.levels));
         total = sym none;
-        few = omega (arith, start.count, well.wired.few);
+        few = omega (arith, start.count, well.wired.few_processes);
         whole = λ p b is. (each p b is).starts.leaving;
         wired = λ p b is. (let s = each p b is in wired-start network p s.spec s.part b s.starts.process);
         puts = λ c channel is. omega (arith, no-puts network.connections c channel is);

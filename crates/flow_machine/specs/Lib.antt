@@ -13,6 +13,5 @@ pub mod Nets
 pub mod Logs
 pub mod FitNets
 pub mod NetSteps
-pub mod PlanOf
 pub mod Starts
 pub mod Solo

@@ -1,8 +1,10 @@
 -- How a net starts.
 use Rattle.std.specs.Prelude.{◌≡◌, ℕ, List, [], None, Some, slice_get, length, map}
 use Rattle.flow_model.specs.States.{Process}
-use Rattle.flow_model.specs.Plans.{Plan, PlanProcess, process_at_start, start_of}
-use Rattle.flow_net.specs.declared.plan.Connection.{Connection as NetConnection}
+use Rattle.flow_model.specs.Plans.{process_at_start, start_of}
+use Rattle.flow_plan.specs.Network.{Network as Plan}
+use Rattle.flow_plan.specs.declared.plan.Process.{Process as PlanProcess}
+use Rattle.flow_plan.specs.declared.plan.Connection.{Connection as NetConnection}
 use Rattle.flow_model.specs.Stands.{ChannelShown, StandsForOpen}
 use Rattle.flow_machine.specs.Values.{BodyValue, NetValue, shown_net}
 use Rattle.flow_machine.specs.Thoughts.{IsSet}

@@ -2,11 +2,10 @@
 ghost use Rattle.std.specs.Prelude.{◌≡◌, ◌<◌, ◌^◌, length, map, IfOk, Some, slice_get};
 ghost use Rattle.std.specs.Prelude.{position};
 ghost use Rattle.std.specs.List.{range_with_len};
-ghost use Rattle.flow_net.specs.declared.plan.Process.{Process as NetProcess};
+ghost use Rattle.flow_plan.specs.declared.plan.Process.{Process as NetProcess};
 ghost use Rattle.flow_model.specs.States.{is_sender};
-ghost use Rattle.flow_model.specs.Plans.{text_at, sends_at, input_at};
+ghost use Rattle.flow_model.specs.Plans.{text_at, leads_to, comes_from, sends_at, input_at};
 ghost use Rattle.flow_machine.specs.Inlets.{input_shown};
-ghost use Rattle.flow_machine.specs.PlanOf.{plan_of, process_of, connection_of, sender_of, leads_to, comes_from};
 
 use crate::inlet::Inlet;
 use flow_items::Text;
@@ -22,32 +21,31 @@ pub(crate) fn places(ports: u32) -> usize
 }
 
 fn leads_to(connection: &Connection, process: u32, input: u32) -> bool
-    ensures { result ≡ leads_to process input (connection_of connection.now) }
+    ensures { result ≡ leads_to process input connection.now }
 {
     connection.receiver == process && connection.input == input
 }
 
 fn is_output(sender: &Sender, process: u32, output: u32) -> bool
-    ensures { result ≡ is_sender (record { process = process; output = output }) (sender_of sender.now) }
+    ensures { result ≡ is_sender (record { process = process; output = output }) sender.now }
 {
     process == sender.process && output == sender.output
 }
 
 fn comes_from(connection: &Connection, process: u32, output: u32) -> bool
-    ensures { result ≡ comes_from process output (connection_of connection.now) }
+    ensures { result ≡ comes_from process output connection.now }
 {
-    for sender in connection.senders.as_slice() {
-        if is_output(sender, process, output) {
-            return true;
-        }
-    }
-    false
+    connection
+        .senders
+        .as_slice()
+        .iter()
+        .any(|sender| is_output(sender, process, output))
 }
 
 /// The connection that an input receives from, if it has one.
 fn receiving(connections: &[Connection], process: u32, input: u32) -> Option<u32>
     requires { length connections.now < 2 ^ 32 }
-    ensures { result ≡ position (leads_to process input) (map connection_of connections.now) }
+    ensures { result ≡ position (leads_to process input) connections.now }
 {
     let mut place = 0;
     for connection in connections {
@@ -62,7 +60,7 @@ fn receiving(connections: &[Connection], process: u32, input: u32) -> Option<u32
 /// The connection that an output sends to, if it has one.
 fn sending(connections: &[Connection], process: u32, output: u32) -> Option<u32>
     requires { length connections.now < 2 ^ 32 }
-    ensures { result ≡ position (comes_from process output) (map connection_of connections.now) }
+    ensures { result ≡ position (comes_from process output) connections.now }
 {
     let mut place = 0;
     for connection in connections {
@@ -90,7 +88,7 @@ fn initial_text(alloc: Global, initials: &[(u32, Text)], input: u32) -> Result<V
 fn inlet_at(alloc: Global, plan: &Plan, process: u32, input: u32) -> Result<Inlet, AllocError>
     requires in_range { process < length plan.now.processes }
     requires few { length plan.now.connections < 2 ^ 32 }
-    ensures { IfOk result (λ inlet. (x : NetProcess) → slice_get plan.now.processes process ≡ Some x → input_shown inlet ≡ input_at (plan_of plan.now) process (process_of x) input) }
+    ensures { IfOk result (λ inlet. (x : NetProcess) → slice_get plan.now.processes process ≡ Some x → input_shown inlet ≡ input_at plan.now process x input) }
 {
     match receiving(plan.connections(), process, input) {
         Some(connection) => Ok(Inlet::Connection(connection)),
@@ -106,7 +104,7 @@ fn inlet_at(alloc: Global, plan: &Plan, process: u32, input: u32) -> Result<Inle
 pub(crate) fn inlets_of(alloc: Global, plan: &Plan, process: u32) -> Result<Vec<Inlet>, AllocError>
     requires in_range { process < length plan.now.processes }
     requires few { length plan.now.connections < 2 ^ 32 }
-    ensures { IfOk result (λ inlets. (x : NetProcess) → slice_get plan.now.processes process ≡ Some x → map input_shown inlets.items ≡ map (input_at (plan_of plan.now) process (process_of x)) (range_with_len 0 x.inputs)) }
+    ensures { IfOk result (λ inlets. (x : NetProcess) → slice_get plan.now.processes process ≡ Some x → map input_shown inlets.items ≡ map (input_at plan.now process x) (range_with_len 0 x.inputs)) }
 {
     let mut inlets = Vec::new(alloc);
     let count = plan.processes()[process as usize].inputs;
@@ -124,7 +122,7 @@ pub(crate) fn outputs_of(
 ) -> Result<Vec<Option<u32>>, AllocError>
     requires in_range { process < length plan.now.processes }
     requires few { length plan.now.connections < 2 ^ 32 }
-    ensures { IfOk result (λ outputs. (x : NetProcess) → slice_get plan.now.processes process ≡ Some x → outputs.items ≡ map (sends_at (plan_of plan.now) process) (range_with_len 0 x.outputs)) }
+    ensures { IfOk result (λ outputs. (x : NetProcess) → slice_get plan.now.processes process ≡ Some x → outputs.items ≡ map (sends_at plan.now process) (range_with_len 0 x.outputs)) }
 {
     let mut outputs = Vec::new(alloc);
     let count = plan.processes()[process as usize].outputs;

@@ -18,10 +18,14 @@ use Rattle.flow_parts.proofs.OneFilling.{one_filling}
 use Rattle.flow_catalogue.specs.declared.standard.Std.{Std}
 use Rattle.flow_catalogue.specs.declared.standard.Std.TheVariants as parts
 use Rattle.flow_catalogue.specs.Std.{std_shape, std_uses, StdReady, StdNext}
-use Rattle.flow_model.specs.States.{Input, From, Sender, is_sender}
+use Rattle.flow_model.specs.States.{Input, From, is_sender}
+use Rattle.flow_plan.specs.declared.plan.Sender.{Sender}
 use Rattle.flow_model.specs.Events.{is_connected, is_empty}
 use Rattle.flow_model.proofs.Start.{port-at}
-use Rattle.flow_model.specs.Plans.{Plan, PlanProcess, PlanConnection, sends_at, receives_at, input_at, connected_or, text_at, process_at_start, StartsWell}
+use Rattle.flow_model.specs.Plans.{sends_at, receives_at, input_at, connected_or, text_at, process_at_start, StartsWell}
+use Rattle.flow_plan.specs.Network.{Network as Plan}
+use Rattle.flow_plan.specs.declared.plan.Process.{Process as PlanProcess}
+use Rattle.flow_plan.specs.declared.plan.Connection.{Connection as PlanConnection}
 use Rattle.flow_model.proofs.Senders.{both-true}
 use Rattle.flow_meanings.specs.Means.{Means}
 use Rattle.flow_meanings.specs.Composition.{Sending, brings, is_woken, inputs_of, arriving, leaving, Composes, wrote_in}

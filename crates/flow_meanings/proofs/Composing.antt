@@ -38,10 +38,13 @@ use Rattle.flow_catalogue.specs.declared.standard.Std.TheVariants as parts
 use Rattle.flow_catalogue.specs.Std.{std_shape, std_uses, StdReady, StdNext, written_of}
 use Rattle.flow_catalogue.specs.StdLaws.{std_obeys, std_stays_ready}
 use Rattle.flow_model.specs.declared.Stage.TheVariants as stages
-use Rattle.flow_model.specs.States.{Input, From, Text, Sender, is_sender, Process, Put, State, output_at, got_at, sent_at}
+use Rattle.flow_model.specs.States.{Input, From, Text, is_sender, Process, Put, State, output_at, got_at, sent_at}
+use Rattle.flow_plan.specs.declared.plan.Sender.{Sender}
 use Rattle.flow_model.specs.Events.{is_connected, is_empty}
 use Rattle.flow_model.specs.Order.{InOrder, entries, entries_by, output_of}
-use Rattle.flow_model.specs.Plans.{Plan, PlanProcess, input_at, sends_at, process_at_start, processes_at_start, start_of, StartsWell}
+use Rattle.flow_model.specs.Plans.{input_at, sends_at, process_at_start, processes_at_start, start_of, StartsWell}
+use Rattle.flow_plan.specs.Network.{Network as Plan}
+use Rattle.flow_plan.specs.declared.plan.Process.{Process as PlanProcess}
 use Rattle.flow_model.specs.Runs.{poise, Follows, EndedGotAll}
 use Rattle.flow_model.specs.Wires.{Wires, wires, SameWires, PutBySenders}
 use Rattle.flow_model.specs.Schedules.{Journal, Leads}

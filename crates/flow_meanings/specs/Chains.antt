@@ -15,7 +15,9 @@ use Rattle.flow_model.specs.States.{State}
 use Rattle.flow_model.specs.Schedules.{Journal, Leads}
 use Rattle.flow_model.specs.Verdicts.{IsFinished}
 use Rattle.flow_model.specs.Rising.{LeadsOn}
-use Rattle.flow_model.specs.Plans.{Plan, PlanProcess, sends_at, receives_at, start_of, StartsWell}
+use Rattle.flow_model.specs.Plans.{sends_at, receives_at, start_of, StartsWell}
+use Rattle.flow_plan.specs.Network.{Network as Plan}
+use Rattle.flow_plan.specs.declared.plan.Process.{Process as PlanProcess}
 use Rattle.flow_meanings.specs.Composition.{Composes, AreFirst, wrote_in}
 
 -- Process p of the plan runs this component.

@@ -6,10 +6,13 @@ use Rattle.flow_packet.specs.Tree.{Tree}
 use Rattle.flow_component.specs.Runs.{text_packet}
 use Rattle.flow_catalogue.specs.declared.standard.Std.{Std}
 use Rattle.flow_catalogue.specs.Std.{std_shape, std_uses, StdReady, StdNext, written_of}
-use Rattle.flow_model.specs.States.{Input, From, Text, Sender, is_sender, Process, State}
+use Rattle.flow_model.specs.States.{Input, From, Text, is_sender, Process, State}
+use Rattle.flow_plan.specs.declared.plan.Sender.{Sender}
 use Rattle.flow_model.specs.Events.{is_connected, is_empty}
 use Rattle.flow_model.specs.Schedules.{Journal, Leads}
-use Rattle.flow_model.specs.Plans.{Plan, PlanProcess, input_at, sends_at, start_of, StartsWell}
+use Rattle.flow_model.specs.Plans.{input_at, sends_at, start_of, StartsWell}
+use Rattle.flow_plan.specs.Network.{Network as Plan}
+use Rattle.flow_plan.specs.declared.plan.Process.{Process as PlanProcess}
 use Rattle.flow_model.specs.Verdicts.{IsFinished}
 use Rattle.flow_meanings.specs.Means.{IsFirst, Means}
 

@@ -21,7 +21,8 @@ use Rattle.flow_catalogue.specs.Std.{std_shape, std_uses, StdReady, StdNext, wri
 use Rattle.flow_model.specs.declared.Stage.TheVariants as stages
 use Rattle.flow_model.specs.States.{Entry, Process, State, got_at, sent_at}
 use Rattle.flow_model.specs.Schedules.{Journal, Leads}
-use Rattle.flow_model.specs.Plans.{Plan, start_of, StartsWell}
+use Rattle.flow_model.specs.Plans.{start_of, StartsWell}
+use Rattle.flow_plan.specs.Network.{Network as Plan}
 
 -- The component is in its first state.
 abbrev pub IsFirst : Std → Type 0

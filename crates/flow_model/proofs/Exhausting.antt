@@ -5,7 +5,8 @@ use Rattle.std.specs.List.{list_any, list_all}
 use Rattle.std.proofs.lemmas.Bool.Decides.{nat_tests}
 use Rattle.flow_packet.specs.Tree.{Tree}
 use Rattle.flow_model.specs.declared.Stage.{Stage}
-use Rattle.flow_model.specs.States.{Sender, Input, From, Text, Process, Channel, Kept, without_sender, change_at, changed}
+use Rattle.flow_model.specs.States.{Input, From, Text, Process, Channel, Kept, without_sender, change_at, changed}
+use Rattle.flow_plan.specs.declared.plan.Sender.{Sender}
 use Rattle.flow_model.specs.Events.{Event, Starts, Finishes, Gets, Takes_text, Hears_end, Sends, Learns, Sleeps, Closes, Look, looks, event_of, stage_event, idle_event, receive_event, received_from, received, is_fresh, is_connected, has_packet, has_ended, can_start, passes, holds_packet, is_empty, is_over}
 use Rattle.flow_model.specs.Turns.{process_after, channel_after, channels_after}
 use Rattle.flow_model.specs.Valid.{SendersOpen, HasToClose}

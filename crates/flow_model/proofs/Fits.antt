@@ -13,7 +13,8 @@ use Rattle.flow_model.specs.Events.{Event, Starts, Finishes, Gets, Takes_text, H
 use Rattle.flow_model.specs.Turns.{process_after, Turn}
 use Rattle.flow_model.specs.Works.{worked, Work}
 use Rattle.flow_model.specs.Schedules.{Settles, WorksLead, LeadsBy, Leads, Journal, Step, Turned, Worked, Reaches}
-use Rattle.flow_model.specs.Plans.{Plan, start_of, StartsWell}
+use Rattle.flow_model.specs.Plans.{start_of, StartsWell}
+use Rattle.flow_plan.specs.Network.{Network as Plan}
 use Rattle.flow_model.specs.Valid.{ReadyAt, IsGranted}
 use Rattle.flow_model.specs.Fit.{Fit, FewAtRoot}
 use Rattle.flow_model.proofs.Lists.{slice_get-set_same, slice_get-set_other, same_or_not}

@@ -18,11 +18,16 @@ use Rattle.flow_packet.specs.Hands.{packet_at}
 use Rattle.flow_packet.specs.Edits.{hands_limit}
 use Rattle.flow_model.specs.declared.Stage.{Stage}
 use Rattle.flow_model.specs.declared.Stage.TheVariants as stages
-use Rattle.flow_model.specs.States.{Sender, is_sender, without_sender, Process, Channel, State, Outlet, outlets, outlets_from, change_at, changed}
+use Rattle.flow_model.specs.States.{is_sender, without_sender, Process, Channel, State, Outlet, outlets, outlets_from, change_at, changed}
+use Rattle.flow_plan.specs.declared.plan.Sender.{Sender}
 use Rattle.flow_model.specs.Events.{Event, Starts, Finishes, Gets, Takes_text, Hears_end, Sends, Learns, Sleeps, Closes, Look, looks, stage_event, event_of}
 use Rattle.flow_model.specs.Turns.{process_after, channel_after, channels_after, limited, closing, closing_on, turn_limit, Turn}
 use Rattle.flow_model.specs.Works.{judged, sending, nests, worked, Work}
-use Rattle.flow_model.specs.Plans.{Plan, PlanProcess, PlanConnection, sends_at, process_at_start, processes_at_start, start_of, IsWired, StartsWell}
+use Rattle.flow_model.specs.Plans.{sends_at, process_at_start, processes_at_start, start_of, StartsWell}
+use Rattle.flow_plan.specs.Network.{Network as Plan}
+use Rattle.flow_plan.specs.declared.plan.Process.{Process as PlanProcess}
+use Rattle.flow_plan.specs.declared.plan.Connection.{Connection as PlanConnection}
+use Rattle.flow_plan.specs.Valid.{IsWired}
 use Rattle.flow_model.specs.Valid.{HasToClose, IsOpenSender, IsFailedStage, IsLeftOpen, AllDifferent, OpenSendersTell, EndedLeftClosed}
 use Rattle.flow_model.proofs.Lists.{slice_get-set_same, slice_get-set_other, same_or_not}
 use Rattle.flow_model.proofs.Inverse.{explains}

@@ -18,8 +18,11 @@ use Rattle.flow_component.specs.declared.Wish.TheVariants as wishes
 use Rattle.flow_component.specs.Laws.{Outcome, Wishes, Fails}
 use Rattle.flow_model.specs.declared.Stage.{Stage}
 use Rattle.flow_model.specs.declared.Stage.TheVariants as stages
-use Rattle.flow_model.specs.States.{Input, From, Process, Channel, Sender, is_sender, Kept, State, outlets, output_at}
-use Rattle.flow_model.specs.Plans.{Plan, PlanConnection, sends_at, receives_at, input_at, connected_or, text_at, process_at_start, processes_at_start, start_of, StartsWell}
+use Rattle.flow_model.specs.States.{Input, From, Process, Channel, is_sender, Kept, State, outlets, output_at}
+use Rattle.flow_plan.specs.declared.plan.Sender.{Sender}
+use Rattle.flow_model.specs.Plans.{sends_at, receives_at, input_at, connected_or, text_at, process_at_start, processes_at_start, start_of, StartsWell}
+use Rattle.flow_plan.specs.Network.{Network as Plan}
+use Rattle.flow_plan.specs.declared.plan.Connection.{Connection as PlanConnection}
 use Rattle.flow_model.specs.Wires.{Wires, wires, SameWires}
 use Rattle.flow_model.specs.Rising.{LeadsOn}
 use Rattle.flow_model.specs.Events.{Event, Starts, Finishes, Gets, Takes_text, Hears_end, Sends, Learns, Sleeps, Closes, Look, looks, event_of, stage_event}

@@ -23,7 +23,9 @@ use Rattle.flow_model.specs.Events.{Event, Starts, Finishes, Gets, Takes_text, H
 use Rattle.flow_model.specs.Turns.{process_after, channels_after, heard, past_after, limited, closing, closing_on, turn_limit, Turn}
 use Rattle.flow_model.specs.Works.{judged, sending, nests, worked, Work}
 use Rattle.flow_model.specs.Schedules.{Settles, LeadsBy, Leads, Journal, Step, Turned, Worked, Reaches}
-use Rattle.flow_model.specs.Plans.{Plan, PlanProcess, process_at_start, processes_at_start, start_of}
+use Rattle.flow_model.specs.Plans.{process_at_start, processes_at_start, start_of}
+use Rattle.flow_plan.specs.Network.{Network as Plan}
+use Rattle.flow_plan.specs.declared.plan.Process.{Process as PlanProcess}
 use Rattle.flow_model.specs.Order.{connection_of, input_of, packets_at, InOrder}
 use Rattle.flow_model.specs.Valid.{Valid, least_left, OneReceiver, SendersOpen, ReadyAt}
 use Rattle.flow_model.specs.Runs.{Follows, NoneConnected, EndsForGood, HasRun, EndedGotAll}

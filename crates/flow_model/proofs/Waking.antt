@@ -14,7 +14,8 @@ use Rattle.flow_model.specs.Turns.{Turn, process_after, heard, put_after, past_a
 use Rattle.flow_model.specs.Works.{Work, worked}
 use Rattle.flow_model.specs.Schedules.{Settles, Journal, Leads, LeadsBy}
 use Rattle.flow_model.specs.Order.{InOrder, entries, input_of, packets_at}
-use Rattle.flow_model.specs.Plans.{Plan, start_of, StartsWell}
+use Rattle.flow_model.specs.Plans.{start_of, StartsWell}
+use Rattle.flow_plan.specs.Network.{Network as Plan}
 use Rattle.flow_model.specs.Valid.{Valid}
 use Rattle.flow_model.specs.Runs.{NoneConnected}
 use Rattle.flow_model.specs.Woken.{GetsSome}

@@ -4,12 +4,14 @@ use Rattle.std.proofs.lemmas.Bool.Decides.{nat_tests}
 use Rattle.flow_packet.specs.Held.{Held}
 use Rattle.flow_component.specs.declared.Answer.{Answer}
 use Rattle.flow_component.specs.Laws.{Outcome}
-use Rattle.flow_model.specs.States.{Process, Put, State, entry_of, Sender}
+use Rattle.flow_model.specs.States.{Process, Put, State, entry_of}
+use Rattle.flow_plan.specs.declared.plan.Sender.{Sender}
 use Rattle.flow_model.specs.Events.{Event, Starts, Finishes, Gets, Takes_text, Hears_end, Sends, Learns, Sleeps, Closes}
 use Rattle.flow_model.specs.Turns.{process_after, put_after, Turn}
 use Rattle.flow_model.specs.Works.{worked, Work}
 use Rattle.flow_model.specs.Schedules.{Settles, LeadsBy, Leads, Journal}
-use Rattle.flow_model.specs.Plans.{Plan, start_of}
+use Rattle.flow_model.specs.Plans.{start_of}
+use Rattle.flow_plan.specs.Network.{Network as Plan}
 use Rattle.flow_model.specs.Order.{output_of}
 use Rattle.flow_model.specs.Wires.{Wires, wires, SameWires, PutBySenders}
 use Rattle.flow_model.proofs.Inverse.{explains}

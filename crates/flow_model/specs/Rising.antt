@@ -7,7 +7,8 @@ use Rattle.flow_component.specs.declared.Shape.{Shape}
 use Rattle.flow_component.specs.Laws.{Outcome}
 use Rattle.flow_model.specs.States.{State}
 use Rattle.flow_model.specs.Schedules.{Journal, Leads}
-use Rattle.flow_model.specs.Plans.{Plan, sends_at, receives_at, start_of, StartsWell}
+use Rattle.flow_model.specs.Plans.{sends_at, receives_at, start_of, StartsWell}
+use Rattle.flow_plan.specs.Network.{Network as Plan}
 use Rattle.flow_model.specs.Verdicts.{IsFinished}
 
 -- No connection leads back: each leads from a lower to a higher process by some order of them.

@@ -16,7 +16,8 @@ use Rattle.flow_model.specs.States.{From, Text, Process, State, got_at}
 use Rattle.flow_model.specs.Events.{is_connected}
 use Rattle.flow_model.specs.Turns.{turn_limit}
 use Rattle.flow_model.specs.Schedules.{Journal, Leads, Step, Reaches}
-use Rattle.flow_model.specs.Plans.{Plan, start_of, StartsWell}
+use Rattle.flow_model.specs.Plans.{start_of, StartsWell}
+use Rattle.flow_plan.specs.Network.{Network as Plan}
 use Rattle.flow_model.specs.Order.{entries}
 
 -- A process between answers, with its wish. Before its start, and while it sleeps or closes, it stands as one that has deactivated.

@@ -8,7 +8,8 @@ use Rattle.flow_component.specs.Laws.{Outcome}
 use Rattle.flow_model.specs.States.{Input, Process, Put, State}
 use Rattle.flow_model.specs.Order.{output_of}
 use Rattle.flow_model.specs.Schedules.{Journal, Leads}
-use Rattle.flow_model.specs.Plans.{Plan, start_of, StartsWell}
+use Rattle.flow_model.specs.Plans.{start_of, StartsWell}
+use Rattle.flow_plan.specs.Network.{Network as Plan}
 
 -- What is at the inputs of a process, and at its outputs.
 pub record Wires : Type 0 where

@@ -8,7 +8,8 @@ use Rattle.flow_component.specs.Laws.{Outcome}
 use Rattle.flow_component.specs.Runs.{starts}
 use Rattle.flow_model.specs.States.{From, Process, State}
 use Rattle.flow_model.specs.Schedules.{Journal, Leads}
-use Rattle.flow_model.specs.Plans.{Plan, start_of, StartsWell}
+use Rattle.flow_model.specs.Plans.{start_of, StartsWell}
+use Rattle.flow_plan.specs.Network.{Network as Plan}
 use Rattle.flow_model.specs.Runs.{NoneConnected}
 
 -- A packet was put on a connection at one of its inputs.

@@ -1,5 +1,5 @@
 //! What holds of every schedule: each law is the contract of a function that does nothing.
-ghost use Rattle.flow_model.specs.Laws.{KeepsPackets, KeepsOrder, KeepsPrefixes, KeepsOpen, KeepsFew, HasOneVerdict, KeepsOpenSenders, LeavesClosed, KeepsTotals, RoundRobinLeads, IsOneRoundRobin, HasRoundRobin, HasOneRoundRobin, LeadsToOneState, HasPrefixes, TurnsAreSchedule};
+ghost use Rattle.flow_model.specs.Laws.{KeepsPackets, KeepsOrder, KeepsPrefixes, KeepsOpen, KeepsFew, HasOneVerdict, KeepsOpenSenders, LeavesClosed, KeepsTotals, RoundRobinLeads, IsOneRoundRobin, HasRoundRobin, HasOneRoundRobin, LeadsToOneState, HasPrefixes, TurnsAreSchedule, OpenTurnsAreSchedule, StartsFit, TurnsKeepFit, WorksKeepFit};
 ghost use Rattle.flow_model.specs.Wires.{KeepsWires};
 ghost use Rattle.flow_model.specs.Rising.{FinishedLeadsOn};
 ghost use Rattle.flow_model.specs.Woken.{KeepsWoken};
@@ -64,9 +64,19 @@ pub fn schedules_have_prefixes<K: Component>()
     ensures { HasPrefixes K.next }
 {}
 
-/// Turns and works in any order are, with the pending works done, a schedule.
+/// Turns and works in any order are, with the pending works done, a schedule: from a state without pending works, and from every
+/// state with its pending works done.
 pub fn turns_and_works_are_schedules<K: Component>()
-    ensures { TurnsAreSchedule K.next }
+    ensures closed { TurnsAreSchedule K.next }
+    ensures from_open { OpenTurnsAreSchedule K.next }
+{}
+
+/// What a running net keeps of each state that it stands for holds at every start of a plan whose components fit, and every turn and
+/// every work keeps it.
+pub fn every_step_keeps_a_state_fit<K: Component>()
+    ensures start { StartsFit K.shape_of K.uses K.ready }
+    ensures turn { TurnsKeepFit K.shape_of K.uses K.ready }
+    ensures work { WorksKeepFit K.shape_of K.uses K.ready K.next }
 {}
 
 /// After every schedule from such a start, and after every list of turns and works, what each process was told is a run of its

@@ -15,7 +15,7 @@ use Rattle.flow_net.specs.declared.draft.Link.{Link}
 use Rattle.flow_net.specs.declared.draft.Binding.{Binding}
 use Rattle.flow_net.specs.declared.draft.Binding.TheVariants.{Free, Receives, Sends, Given}
 use Rattle.flow_net.specs.declared.fault.PlanFault.{PlanFault}
-use Rattle.flow_net.specs.declared.kind.PortRef.{PortRef}
+use Rattle.flow_plan.specs.declared.kind.PortRef.{PortRef}
 use Rattle.flow_net.specs.Drafts.{◌>>=◌, refused_if, binding_at, is_side, same, port_named, element_named, receives, is_stream_at}
 use Rattle.flow_net.specs.Calls.{process_at, room_of, end_at, end_named, end_of_port, process_of_name, ends_of, may_join, allowed_capacity, is_taken, has_text, link_into, is_full, same_capacity, capacity_before}
 use Rattle.flow_net.specs.Sound.{IsPort, is_input_at}

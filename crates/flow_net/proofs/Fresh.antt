@@ -1,7 +1,7 @@
 -- Laws of the ports of a new process.
 use Rattle.std.proofs.Common.{◌≡◌, ℕ, ◌+◌, ◌<◌, List, [], ◌∷◌, ◌++◌, Bool, ap, ◌∙◌, length, take, get_or, arith}
 use Rattle.std.proofs.lemmas.List.{take_more, length-take-le}
-use Rattle.flow_net.specs.declared.kind.PortSpec.{PortSpec}
+use Rattle.flow_plan.specs.declared.kind.PortSpec.{PortSpec}
 use Rattle.flow_net.specs.Calls.{fresh_port, fresh_ports}
 
 pub fresh_ports-push : (p : ℕ) (s : Bool) (n m : ℕ) (xs : List PortSpec) (x : PortSpec) → m ≡ n + length xs → fresh_ports p s n (xs ++ x ∷ []) ≡ fresh_ports p s n xs ++ fresh_port p s m x ∷ []

@@ -1,7 +1,7 @@
 -- Where the ports of a new process come from.
 use Rattle.std.proofs.Common.{◌≡◌, ℕ, ◌+◌, List, [], ◌∷◌, Some, Bool, refl, ap, zero, suc, slice_get, length}
 use Rattle.flow_net.specs.declared.draft.Port.{Port}
-use Rattle.flow_net.specs.declared.kind.PortSpec.{PortSpec}
+use Rattle.flow_plan.specs.declared.kind.PortSpec.{PortSpec}
 use Rattle.flow_net.specs.Calls.{fresh_port, fresh_ports}
 
 pub length-fresh_ports : (p : ℕ) (s : Bool) (place : ℕ) (specs : List PortSpec) → length (fresh_ports p s place specs) ≡ length specs

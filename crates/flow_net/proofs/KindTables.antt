@@ -3,8 +3,8 @@ use Rattle.std.proofs.Common.{◌≡◌, ℕ, List, [], ◌∷◌, Option, Some,
 use Rattle.std.specs.Prelude.{nat_le, if◌then◌else◌}
 use Rattle.std.specs.List.{list_all}
 use Rattle.std.proofs.lemmas.Bool.Decides.{nat_tests}
-use Rattle.flow_net.specs.declared.kind.KindSpec.{KindSpec}
-use Rattle.flow_net.specs.declared.kind.PortSpec.{PortSpec}
+use Rattle.flow_plan.specs.declared.kind.KindSpec.{KindSpec}
+use Rattle.flow_plan.specs.declared.kind.PortSpec.{PortSpec}
 use Rattle.flow_net.specs.Kinds.{is_kind, is_table, is_needed_array}
 use Rattle.flow_net.specs.Sound.{IsKind, IsSound}
 use Rattle.flow_net.proofs.Ends.{and_true}

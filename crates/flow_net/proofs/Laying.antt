@@ -5,10 +5,10 @@ use Rattle.std.specs.List.{sum_by}
 use Rattle.std.proofs.lemmas.List.Sums.{sum_by-cons}
 use Rattle.flow_net.specs.declared.draft.Port.{Port}
 use Rattle.flow_net.specs.declared.draft.Begun.{Begun}
-use Rattle.flow_net.specs.Network.{is_stream, elements_of, ports_of, LaidOut}
+use Rattle.flow_plan.specs.Network.{is_stream, elements_of, ports_of, LaidOut}
 use Rattle.flow_net.specs.Drafts.{is_side}
 use Rattle.flow_net.specs.Finishes.{size_of, count_of, counted, total_of, row_of, rows_of, table_of, process_of}
-use Rattle.flow_net.proofs.PortNames.{length_elements_of}
+use Rattle.flow_plan.proofs.PortNames.{length_elements_of}
 
 pub row-count : (port : Port) → length (elements_of (row_of port)) ≡ count_of port
 row-count port = length_elements_of (row_of port) ∙ by (is_stream port.spec.class) port.spec.array (size_of port.elements)

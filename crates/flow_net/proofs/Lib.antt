@@ -16,7 +16,6 @@ pub mod SoundGives
 pub mod Sizes
 pub mod Placed
 pub mod Numbers
-pub mod PortNames
 pub mod Laying
 pub mod KindTables
 pub mod Wholes

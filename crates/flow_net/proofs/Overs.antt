@@ -1,8 +1,8 @@
 -- The processes of the plan of a sound draft are of the draft's kinds.
 use Rattle.std.proofs.Common.{◌≡◌, ℕ, List, Some, true, false, map, ap, sym, ◌∙◌, slice_get}
-use Rattle.flow_net.specs.declared.plan.Process.{Process}
-use Rattle.flow_net.specs.declared.plan.Connection.{Connection}
-use Rattle.flow_net.specs.declared.plan.PortTable.{PortTable}
+use Rattle.flow_plan.specs.declared.plan.Process.{Process}
+use Rattle.flow_plan.specs.declared.plan.Connection.{Connection}
+use Rattle.flow_plan.specs.declared.plan.PortTable.{PortTable}
 use Rattle.flow_net.specs.Drafts.{Draft}
 use Rattle.flow_net.specs.Sound.{IsSound, entries_of}
 use Rattle.flow_net.specs.Finishes.{process_of, table_of}

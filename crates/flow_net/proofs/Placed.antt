@@ -8,7 +8,7 @@ use Rattle.flow_net.specs.declared.draft.Port.{Port}
 use Rattle.flow_net.specs.declared.draft.Link.{Link}
 use Rattle.flow_net.specs.declared.draft.Binding.{Binding}
 use Rattle.flow_net.specs.declared.draft.Binding.TheVariants.{Receives, Sends, Given}
-use Rattle.flow_net.specs.Network.{is_stream}
+use Rattle.flow_plan.specs.Network.{is_stream}
 use Rattle.flow_net.specs.Drafts.{Draft, binding_at, is_free}
 use Rattle.flow_net.specs.Calls.{room_of}
 use Rattle.flow_net.specs.Sound.{IsSound, IsPort, IsLink, IsPlaced, into_of, sender_at, text_at}

@@ -10,16 +10,17 @@ use Rattle.flow_net.specs.declared.draft.Port.{Port}
 use Rattle.flow_net.specs.declared.draft.Begun.{Begun}
 use Rattle.flow_net.specs.declared.draft.Binding.{Binding}
 use Rattle.flow_net.specs.declared.draft.Binding.TheVariants.{Free, Receives, Sends, Given}
-use Rattle.flow_net.specs.declared.plan.Process.{Process}
-use Rattle.flow_net.specs.declared.plan.PortRow.{PortRow}
-use Rattle.flow_net.specs.declared.plan.PortTable.{PortTable}
-use Rattle.flow_net.specs.Network.{Network, is_stream}
+use Rattle.flow_plan.specs.declared.plan.Process.{Process}
+use Rattle.flow_plan.specs.declared.plan.PortRow.{PortRow}
+use Rattle.flow_plan.specs.declared.plan.PortTable.{PortTable}
+use Rattle.flow_plan.specs.Network.{Network, is_stream}
 use Rattle.flow_net.specs.Drafts.{Draft, binding_at, is_free, is_side, is_stream_at, is_stream_port, same}
 use Rattle.flow_net.specs.Calls.{process_at, room_of}
-use Rattle.flow_net.specs.Options.{IsOfClass, FitsPort}
+use Rattle.flow_plan.specs.Texts.{IsOfClass}
+use Rattle.flow_net.specs.Options.{FitsPort}
 use Rattle.flow_net.specs.Sound.{IsSound, on_side, text_at, is_input_at}
 use Rattle.flow_net.specs.Finishes.{first_fault, name_of, place_at, process_of, plan_of, row_of, rows_of, table_of}
-use Rattle.flow_net.specs.Valid.{HasOptionPort, HasOption, FitsOption, HasOptions, IsRow, HasRows}
+use Rattle.flow_plan.specs.Valid.{HasOptionPort, HasOption, FitsOption, HasOptions, IsRow, HasRows}
 use Rattle.flow_net.proofs.Wiring.{same_end}
 use Rattle.flow_net.proofs.Steps.{map_some, then_some}
 use Rattle.flow_net.proofs.Ends.{and_true, same_true, eqb_true}

@@ -8,14 +8,14 @@ use Rattle.std.proofs.lemmas.List.Sums.{sum_by-cons}
 use Rattle.std.proofs.lemmas.Option.{slice_get-map}
 use Rattle.flow_net.specs.declared.draft.Port.{Port}
 use Rattle.flow_net.specs.declared.fault.PlanFault.TheVariants.{PortMissing}
-use Rattle.flow_net.specs.declared.kind.PortSpec.{PortSpec}
-use Rattle.flow_net.specs.declared.plan.PortRow.{PortRow}
+use Rattle.flow_plan.specs.declared.kind.PortSpec.{PortSpec}
+use Rattle.flow_plan.specs.declared.plan.PortRow.{PortRow}
 use Rattle.flow_net.specs.Drafts.{refused_if, is_free, is_side}
 use Rattle.flow_net.specs.Calls.{room_of}
 use Rattle.flow_net.specs.Finishes.{size_of, gap_fault, port_fault, elements_in, row_of, rows_of}
 use Rattle.flow_net.specs.Over.{entries}
 use Rattle.flow_net.specs.Sound.{IsPort, on_side, entries_of}
-use Rattle.flow_net.specs.Valid.{IsRow}
+use Rattle.flow_plan.specs.Valid.{IsRow}
 use Rattle.flow_net.proofs.Steps.{map_some}
 use Rattle.flow_net.proofs.Ends.{refused_ok}
 use Rattle.flow_net.proofs.Placed.{size_of-within}

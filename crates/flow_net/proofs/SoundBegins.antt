@@ -14,8 +14,8 @@ use Rattle.flow_net.specs.declared.draft.Link.{Link}
 use Rattle.flow_net.specs.declared.draft.Begun.{Begun}
 use Rattle.flow_net.specs.declared.draft.Binding.{Binding}
 use Rattle.flow_net.specs.declared.draft.Binding.TheVariants.{Free, Receives, Sends, Given}
-use Rattle.flow_net.specs.declared.kind.KindSpec.{KindSpec}
-use Rattle.flow_net.specs.declared.kind.PortSpec.{PortSpec}
+use Rattle.flow_plan.specs.declared.kind.KindSpec.{KindSpec}
+use Rattle.flow_plan.specs.declared.kind.PortSpec.{PortSpec}
 use Rattle.flow_net.specs.Drafts.{Draft, refused_if, binding_at, process_named, is_stream_port}
 use Rattle.flow_net.specs.Calls.{process_at, room_of, fresh_port, fresh_ports, begun_as, with_process, kind_named, kind_for}
 use Rattle.flow_net.specs.Options.{FitsPort}

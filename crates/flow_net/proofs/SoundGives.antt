@@ -5,7 +5,7 @@ use Rattle.flow_net.specs.declared.draft.End.{End}
 use Rattle.flow_net.specs.declared.draft.Port.{Port}
 use Rattle.flow_net.specs.declared.draft.Begun.{Begun}
 use Rattle.flow_net.specs.declared.draft.Binding.TheVariants.{Free, Given}
-use Rattle.flow_net.specs.declared.kind.PortRef.{PortRef}
+use Rattle.flow_plan.specs.declared.kind.PortRef.{PortRef}
 use Rattle.flow_net.specs.Drafts.{Draft, Answers, refused_if, binding_at, bound, updated}
 use Rattle.flow_net.specs.Calls.{process_at, process_of_name, end_of_port, is_taken, input_for, given, with_text, next_text}
 use Rattle.flow_net.specs.Options.{FitsPort}

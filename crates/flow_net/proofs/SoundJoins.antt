@@ -10,7 +10,7 @@ use Rattle.flow_net.specs.declared.draft.Link.{Link}
 use Rattle.flow_net.specs.declared.draft.Begun.{Begun}
 use Rattle.flow_net.specs.declared.draft.Binding.{Binding}
 use Rattle.flow_net.specs.declared.draft.Binding.TheVariants.{Free, Receives, Sends}
-use Rattle.flow_net.specs.declared.kind.PortRef.{PortRef}
+use Rattle.flow_plan.specs.declared.kind.PortRef.{PortRef}
 use Rattle.flow_net.specs.Drafts.{Draft, binding_at, bound, updated}
 use Rattle.flow_net.specs.Calls.{ends_of, may_join, link_into, joined, joined_ports, joined_links, with_sender, first_given, next_sender, is_full, has_all_senders}
 use Rattle.flow_net.specs.Sound.{IsSound, IsPort, IsLink, IsListed, IsSided, is_input_at}

@@ -15,24 +15,24 @@ use Rattle.flow_net.specs.declared.draft.Begun.{Begun}
 use Rattle.flow_net.specs.declared.draft.Link.{Link}
 use Rattle.flow_net.specs.declared.draft.Binding.{Binding}
 use Rattle.flow_net.specs.declared.draft.Binding.TheVariants.{Free, Receives, Sends, Given}
-use Rattle.flow_net.specs.declared.plan.Sender.{Sender}
-use Rattle.flow_net.specs.declared.plan.Process.{Process}
-use Rattle.flow_net.specs.declared.plan.Connection.{Connection}
-use Rattle.flow_net.specs.declared.kind.PortRef.{PortRef}
-use Rattle.flow_net.specs.declared.plan.PortTable.{PortTable}
-use Rattle.flow_net.specs.Network.{Network, is_stream, elements_of, HasInput, HasOutput}
+use Rattle.flow_plan.specs.declared.plan.Sender.{Sender}
+use Rattle.flow_plan.specs.declared.plan.Process.{Process}
+use Rattle.flow_plan.specs.declared.plan.Connection.{Connection}
+use Rattle.flow_plan.specs.declared.kind.PortRef.{PortRef}
+use Rattle.flow_plan.specs.declared.plan.PortTable.{PortTable}
+use Rattle.flow_plan.specs.Network.{Network, is_stream, elements_of, HasInput, HasOutput}
 use Rattle.flow_net.specs.declared.fault.PlanFault.{PlanFault}
 use Rattle.flow_net.specs.Drafts.{Draft, ◌>>=◌, binding_at, is_free, is_side, is_stream_at, is_stream_port, same}
 use Rattle.flow_net.specs.Calls.{process_at}
 use Rattle.flow_net.specs.Sound.{IsSound, into_of, sender_at, text_at, is_input_at}
 use Rattle.flow_net.specs.Finishes.{first_fault, sum_fault, draft_fault, name_of, elements_in, count_of, counted, number_of, total_of, sender_of, connection_of, process_of, plan_of, capacity_of, initials_of, row_of, rows_of, table_of}
-use Rattle.flow_net.specs.Valid.{IsValid, HasConnection, HasText, HasSender, NeedsOutput, needs_of}
+use Rattle.flow_plan.specs.Valid.{IsValid, HasConnection, HasText, HasSender, NeedsOutput, needs_of}
 use Rattle.flow_net.proofs.Wiring.{same_end}
 use Rattle.flow_net.proofs.Steps.{map_some, then_some}
 use Rattle.flow_net.proofs.Ends.{bind_ok, refused_ok, if_true, and_true, same_true, eqb_true}
 use Rattle.flow_net.proofs.SoundGives.{some_at}
 use Rattle.flow_net.proofs.Placed.{capacity_of-small}
-use Rattle.flow_net.proofs.PortNames.{slice_get-left, slice_get-right}
+use Rattle.flow_plan.proofs.PortNames.{slice_get-left, slice_get-right}
 use Rattle.flow_net.proofs.Laying.{LaidOut-plan, row-count}
 use Rattle.flow_net.proofs.Numbers.{number_at, number-within, number-same, Numbered, number-each}
 use Rattle.flow_net.proofs.Rows.{mapped}
@@ -464,22 +464,24 @@ module _ (draft : Draft) (sound : IsSound draft) (u : Unit {0}) (whole : draft_f
 
   pub IsValid-plan : IsValid (plan_of draft)
   IsValid-plan = record {
+    wired = record {
+      few_processes = omega (arith, length-map draft.processes (process_of draft.ports), sound.few_processes);
+      few_connections = omega (arith, length-map draft.links (connection_of draft.ports), sound.few_links);
+      receivers = receivers;
+      one_receiver = one_receiver;
+      senders = senders;
+      one_sender = one_sender;
+      each_input = each_input;
+      not_both = not_both;
+      short = short;
+      capacities = capacities;
+      few_senders = few_senders;
+    };
     names = names;
     laid_out = LaidOut-plan draft.ports draft.processes;
-    receivers = receivers;
-    one_receiver = one_receiver;
-    senders = senders;
-    one_sender = one_sender;
-    each_input = each_input;
-    not_both = not_both;
     one_text = one_text;
     needed_outputs = needed_outputs;
-    few_processes = omega (arith, length-map draft.processes (process_of draft.ports), sound.few_processes);
-    few_connections = omega (arith, length-map draft.links (connection_of draft.ports), sound.few_links);
-    capacities = capacities;
-    few_senders = few_senders;
     capacity_sum = capacity_sum;
-    short = short;
     options = HasOptions-plan draft sound ports_whole.0 ports_whole.1;
     rows = HasRows-plan draft sound ports_whole.0 ports_whole.1;
   }

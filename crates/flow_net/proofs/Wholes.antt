@@ -11,7 +11,7 @@ use Rattle.flow_net.specs.declared.draft.Port.{Port}
 use Rattle.flow_net.specs.declared.draft.Begun.{Begun}
 use Rattle.flow_net.specs.declared.draft.Binding.{Binding}
 use Rattle.flow_net.specs.declared.fault.PlanFault.TheVariants.{PortMissing}
-use Rattle.flow_net.specs.Network.{is_stream}
+use Rattle.flow_plan.specs.Network.{is_stream}
 use Rattle.flow_net.specs.Drafts.{refused_if, binding_at, is_free, is_side, same}
 use Rattle.flow_net.specs.Calls.{process_at, room_of}
 use Rattle.flow_net.specs.Sound.{IsPort, is_input_at}

@@ -1,4 +1,5 @@
 -- What each call of a builder makes of what it holds, and which fault it gives first.
+use Rattle.flow_plan.specs.declared.limits.TheConstants.{CAPACITY_LIMIT, CONNECTION_LIMIT, ELEMENT_LIMIT, PROCESS_LIMIT, SENDER_LIMIT}
 use Rattle.std.specs.Prelude.{ℕ, ◌+◌, ◌==◌, ◌&&◌, nat_le, if◌then◌else◌, Bool, true, false, List, [], ◌∷◌, ◌++◌, length, replicate, Option, Some, None, Ok, slice_get, is_some}
 use Rattle.std.specs.declared.result.Result.{Result}
 use Rattle.std.specs.Option.{option_and_then, option_map, option_map_or, ok_or}
@@ -13,10 +14,10 @@ use Rattle.flow_net.specs.declared.draft.Link.{Link}
 use Rattle.flow_net.specs.declared.fault.Many.TheVariants as many
 use Rattle.flow_net.specs.declared.fault.PlanFault.{PlanFault}
 use Rattle.flow_net.specs.declared.fault.PlanFault.TheVariants.{SameName, UnknownKind, UnknownProcess, PortUnknown, NeedsInitial, Capacity, PortTaken, TooMany}
-use Rattle.flow_net.specs.declared.kind.KindSpec.{KindSpec}
-use Rattle.flow_net.specs.declared.kind.PortSpec.{PortSpec}
-use Rattle.flow_net.specs.declared.kind.PortRef.{PortRef}
-use Rattle.flow_net.specs.declared.kind.PortClass.TheVariants.{Stream}
+use Rattle.flow_plan.specs.declared.kind.KindSpec.{KindSpec}
+use Rattle.flow_plan.specs.declared.kind.PortSpec.{PortSpec}
+use Rattle.flow_plan.specs.declared.kind.PortRef.{PortRef}
+use Rattle.flow_plan.specs.declared.kind.PortClass.TheVariants.{Stream}
 use Rattle.flow_net.specs.Drafts.{Draft, ◌>>=◌, refused_if, updated, binding_at, bound, is_free, is_given, receives, process_named, port_named, element_named, is_stream_at}
 
 -- The kind of this name.
@@ -25,7 +26,7 @@ kind_named kinds name = find (λ (kind : KindSpec). bytes_eq kind.name name) kin
 
 -- The number of elements that a port has room for.
 abbrev pub room_of : Bool → ℕ
-room_of array = if array then 512 else 1
+room_of array = if array then ELEMENT_LIMIT else 1
 
 -- A port of a new process: nothing is bound. An output carries packets, whatever its class says.
 abbrev pub fresh_port : ℕ → Bool → ℕ → PortSpec → Port
@@ -58,7 +59,7 @@ abbrev pub kind_for : List KindSpec → List Begun → List ℕ → List ℕ →
 kind_for kinds processes name kind = do
   new ← refused_if (is_some (process_named processes name)) (SameName name)
   spec ← ok_or (kind_named kinds kind) (UnknownKind name kind)
-  room ← refused_if (nat_le 128 (length processes)) (TooMany many.Processes)
+  room ← refused_if (nat_le PROCESS_LIMIT (length processes)) (TooMany many.Processes)
   Ok spec
 
 -- What naming a process makes of the draft.
@@ -95,7 +96,7 @@ ends_of processes ports from out to into = do
 -- A capacity is from 1 to 1,024.
 abbrev pub allowed_capacity : Option ℕ → Result (Unit {0}) PlanFault
 allowed_capacity None = Ok tt
-allowed_capacity (Some n) = refused_if (if nat_le 1 n && nat_le n 1024 then false else true) (Capacity n)
+allowed_capacity (Some n) = refused_if (if nat_le 1 n && nat_le n CAPACITY_LIMIT then false else true) (Capacity n)
 
 -- An element is bound.
 abbrev pub is_taken : Option Binding → Bool
@@ -124,11 +125,11 @@ same_capacity None n = Ok tt
 -- A connection has its 65,535 senders.
 abbrev pub has_all_senders : Option Link → Bool
 has_all_senders None = false
-has_all_senders (Some link) = nat_le 65535 (length link.senders)
+has_all_senders (Some link) = nat_le SENDER_LIMIT (length link.senders)
 
 -- There are 512 connections and this would be one more, or the connection has its 65,535 senders.
 abbrev pub is_full : List Link → Option ℕ → Bool
-is_full links None = nat_le 512 (length links)
+is_full links None = nat_le CONNECTION_LIMIT (length links)
 is_full links (Some c) = has_all_senders (slice_get links c)
 
 -- Whether two ends may be joined.

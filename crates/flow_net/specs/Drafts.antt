@@ -12,8 +12,8 @@ use Rattle.flow_net.specs.declared.draft.Link.{Link}
 use Rattle.flow_net.specs.declared.fault.PlanFault.{PlanFault}
 use Rattle.flow_net.specs.declared.fault.PlanStop.{PlanStop}
 use Rattle.flow_net.specs.declared.fault.PlanStop.TheVariants.{Fault, NoMemory}
-use Rattle.flow_net.specs.declared.kind.KindSpec.{KindSpec}
-use Rattle.flow_net.specs.Network.{is_stream}
+use Rattle.flow_plan.specs.declared.kind.KindSpec.{KindSpec}
+use Rattle.flow_plan.specs.Network.{is_stream}
 
 -- The kinds that there are, the processes and their ports in the order of the calls, and the connections in the order in which they were first named.
 pub record Draft : Type 0 where

@@ -1,4 +1,5 @@
 -- What is wrong with a draft that is to be a plan, and the plan that it is.
+use Rattle.flow_plan.specs.declared.limits.TheConstants.{CAPACITY_SUM_LIMIT}
 use Rattle.std.specs.Prelude.{ℕ, ◌+◌, ◌==◌, nat_le, if◌then◌else◌, Bool, true, false, List, [], ◌∷◌, map, take, Option, Some, None, Ok, Err, slice_get, position, unwrap_or}
 use Rattle.std.specs.declared.result.Result.{Result}
 use Rattle.std.specs.List.{sum_by}
@@ -11,12 +12,12 @@ use Rattle.flow_net.specs.declared.draft.Link.{Link}
 use Rattle.flow_net.specs.declared.fault.Many.TheVariants as many
 use Rattle.flow_net.specs.declared.fault.PlanFault.{PlanFault}
 use Rattle.flow_net.specs.declared.fault.PlanFault.TheVariants.{PortMissing, ElementGap, TooMany}
-use Rattle.flow_net.specs.declared.plan.Sender.{Sender}
-use Rattle.flow_net.specs.declared.plan.Process.{Process}
-use Rattle.flow_net.specs.declared.plan.Connection.{Connection}
-use Rattle.flow_net.specs.declared.plan.PortRow.{PortRow}
-use Rattle.flow_net.specs.declared.plan.PortTable.{PortTable}
-use Rattle.flow_net.specs.Network.{Network, is_stream}
+use Rattle.flow_plan.specs.declared.plan.Sender.{Sender}
+use Rattle.flow_plan.specs.declared.plan.Process.{Process}
+use Rattle.flow_plan.specs.declared.plan.Connection.{Connection}
+use Rattle.flow_plan.specs.declared.plan.PortRow.{PortRow}
+use Rattle.flow_plan.specs.declared.plan.PortTable.{PortTable}
+use Rattle.flow_plan.specs.Network.{Network, is_stream}
 use Rattle.flow_net.specs.Drafts.{Draft, ◌>>=◌, refused_if, is_free, is_side, is_stream_at}
 use Rattle.flow_net.specs.Calls.{process_at}
 
@@ -50,7 +51,7 @@ capacity_of link = unwrap_or link.capacity 10
 
 -- The capacities of all connections come to 65,536 at most.
 abbrev pub sum_fault : List Link → Result (Unit {0}) PlanFault
-sum_fault links = refused_if (if nat_le (sum_by capacity_of links) 65536 then false else true) (TooMany many.CapacitySum)
+sum_fault links = refused_if (if nat_le (sum_by capacity_of links) CAPACITY_SUM_LIMIT then false else true) (TooMany many.CapacitySum)
 
 -- The number of elements of a port: of an array up to the last that is bound.
 abbrev pub elements_in : Port → ℕ

@@ -1,9 +1,10 @@
 -- Tables of kinds.
+use Rattle.flow_plan.specs.declared.limits.TheConstants.{PORT_LIMIT}
 use Rattle.std.specs.Prelude.{ℕ, ◌&&◌, nat_le, not, if◌then◌else◌, Bool, true, List, [], ◌∷◌, map, length}
 use Rattle.std.specs.List.{list_all, list_any}
 use Rattle.std.specs.Str.{bytes_eq}
-use Rattle.flow_net.specs.declared.kind.KindSpec.{KindSpec}
-use Rattle.flow_net.specs.declared.kind.PortSpec.{PortSpec}
+use Rattle.flow_plan.specs.declared.kind.KindSpec.{KindSpec}
+use Rattle.flow_plan.specs.declared.kind.PortSpec.{PortSpec}
 
 -- No two of these names are the same.
 abbrev pub all_differ : List (List ℕ) → Bool
@@ -18,7 +19,7 @@ is_needed_array spec = if spec.array then spec.needed else true
 abbrev pub is_kind : KindSpec → Bool
 is_kind kind =
     (list_all (λ (spec : PortSpec). spec.needed) kind.inputs && list_all is_needed_array kind.outputs)
-    && ((nat_le (length kind.inputs) 4096 && nat_le (length kind.outputs) 4096)
+    && ((nat_le (length kind.inputs) PORT_LIMIT && nat_le (length kind.outputs) PORT_LIMIT)
     && (all_differ (map (λ (spec : PortSpec). spec.name) kind.inputs) && all_differ (map (λ (spec : PortSpec). spec.name) kind.outputs)))
 
 -- A table of kinds: each is one, and their names differ.

@@ -3,8 +3,6 @@ pub mod Drafts
 pub mod Finishes
 pub mod Initials
 pub mod Kinds
-pub mod Network
 pub mod Options
 pub mod Over
 pub mod Sound
-pub mod Valid

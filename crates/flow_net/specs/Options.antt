@@ -1,30 +1,7 @@
--- The texts that option ports take.
-use Rattle.std.specs.Prelude.{◌≢◌, ℕ, ◌≤◌, ◌==◌, List, length, Option, Some, None}
-use Rattle.std.specs.List.{All, slice_split}
-use Rattle.std.specs.Str.{IsUtf8}
-use Rattle.flow_text.specs.Text.{IsPlain, number_of}
+-- The texts that an element's port takes.
+use Rattle.std.specs.Prelude.{ℕ, List, Option, Some, None}
 use Rattle.flow_net.specs.declared.draft.Port.{Port}
-use Rattle.flow_net.specs.declared.kind.PortClass.{PortClass}
-use Rattle.flow_net.specs.declared.kind.PortClass.TheVariants.{Stream, Number, Fields, File}
-
--- Decimal digits without a superfluous leading zero, for a number within these bounds.
-abbrev pub IsNumberWithin : ℕ → ℕ → List ℕ → Type 0
-IsNumberWithin least most text = IsPlain text × (least ≤ number_of text) × (number_of text ≤ most)
-
--- One to eight numbers from 1 to 255, with one space between two.
-abbrev pub IsFields : List ℕ → Type 0
-IsFields text = (length (slice_split (λ b. b == 32) text) ≤ 8) × All (IsNumberWithin 1 255) (slice_split (λ b. b == 32) text)
-
--- One to 255 bytes of UTF-8 without byte 0.
-abbrev pub IsFileName : List ℕ → Type 0
-IsFileName text = (1 ≤ length text) × (length text ≤ 255) × IsUtf8 text × All (λ b. b ≢ 0) text
-
--- A text of a port's class. A stream port takes every text.
-abbrev pub IsOfClass : PortClass → List ℕ → Type 0
-IsOfClass Stream text = Unit {0}
-IsOfClass (Number least most) text = IsNumberWithin least most text
-IsOfClass Fields text = IsFields text
-IsOfClass File text = IsFileName text
+use Rattle.flow_plan.specs.Texts.{IsOfClass}
 
 -- A text of the class of an element's port.
 abbrev pub FitsPort : Option Port → List ℕ → Type 0

@@ -1,4 +1,5 @@
 -- What holds of every draft.
+use Rattle.flow_plan.specs.declared.limits.TheConstants.{CAPACITY_LIMIT, CONNECTION_LIMIT, ELEMENT_LIMIT, PORT_LIMIT, PROCESS_LIMIT, SENDER_LIMIT, TEXT_LIMIT}
 use Rattle.std.specs.Prelude.{◌≡◌, ℕ, ◌*◌, ◌<◌, ◌≤◌, if◌then◌else◌, Bool, true, false, List, [], ◌∷◌, map, length, take, Option, Some, slice_get}
 use Rattle.std.specs.List.{sum_by}
 use Rattle.std.specs.Option.{option_and_then, option_map}
@@ -7,9 +8,9 @@ use Rattle.flow_net.specs.declared.draft.Binding.TheVariants.{Receives, Sends, G
 use Rattle.flow_net.specs.declared.draft.Port.{Port}
 use Rattle.flow_net.specs.declared.draft.Begun.{Begun}
 use Rattle.flow_net.specs.declared.draft.Link.{Link}
-use Rattle.flow_net.specs.declared.kind.KindSpec.{KindSpec}
-use Rattle.flow_net.specs.declared.kind.PortSpec.{PortSpec}
-use Rattle.flow_net.specs.declared.kind.PortClass.TheVariants.{Stream}
+use Rattle.flow_plan.specs.declared.kind.KindSpec.{KindSpec}
+use Rattle.flow_plan.specs.declared.kind.PortSpec.{PortSpec}
+use Rattle.flow_plan.specs.declared.kind.PortClass.TheVariants.{Stream}
 use Rattle.flow_net.specs.Drafts.{Draft, binding_at, is_side, is_stream_at}
 use Rattle.flow_net.specs.Calls.{process_at, room_of}
 use Rattle.flow_net.specs.Options.{FitsPort}
@@ -19,8 +20,8 @@ use Rattle.flow_net.specs.Over.{carries}
 pub record IsKind (kind : KindSpec) : Type 0 where
   pub inputs_needed : (i : ℕ) (spec : PortSpec) → slice_get kind.inputs i ≡ Some spec → spec.needed ≡ true
   pub arrays_needed : (i : ℕ) (spec : PortSpec) → slice_get kind.outputs i ≡ Some spec → spec.array ≡ true → spec.needed ≡ true
-  pub few_inputs : length kind.inputs ≤ 4096
-  pub few_outputs : length kind.outputs ≤ 4096
+  pub few_inputs : length kind.inputs ≤ PORT_LIMIT
+  pub few_outputs : length kind.outputs ≤ PORT_LIMIT
 
 -- A port of one of this many processes: an input and an array are needed, and an output carries packets.
 pub record IsPort (processes : ℕ) (port : Port) : Type 0 where
@@ -37,7 +38,7 @@ into_of links c = option_map (λ (link : Link). link.into) (slice_get links c)
 -- An element that a port may have.
 pub record IsPlaced (ports : List Port) (end : End) : Type 0 where
   pub port : end.port < length ports
-  pub element : end.element < 512
+  pub element : end.element < ELEMENT_LIMIT
 
 -- The sender of a connection at a place.
 abbrev pub sender_at : List Link → ℕ → ℕ → Option End
@@ -64,12 +65,12 @@ is_input_at ports end = option_map (λ (port : Port). port.input) (slice_get por
 pub record IsSided (ports : List Port) (processes : List Begun) (links : List Link) : Type 0 where
   pub into : (c : ℕ) (end : End) → into_of links c ≡ Some end → (is_input_at ports end ≡ Some true) × (is_stream_at ports end ≡ true)
   pub sender : (c k : ℕ) (end : End) → sender_at links c k ≡ Some end → is_input_at ports end ≡ Some false
-  pub text : (p k : ℕ) (end : End) (text : List ℕ) → text_at processes p k ≡ Some (end, text) → (is_input_at ports end ≡ Some true) × FitsPort (slice_get ports end.port) text × (length text ≤ 1048576)
+  pub text : (p k : ℕ) (end : End) (text : List ℕ) → text_at processes p k ≡ Some (end, text) → (is_input_at ports end ≡ Some true) × FitsPort (slice_get ports end.port) text × (length text ≤ TEXT_LIMIT)
 
 -- What a connection may have: a capacity from 1 to 1,024, and up to 65,535 senders.
 pub record IsLink (link : Link) : Type 0 where
-  pub capacity : (n : ℕ) → link.capacity ≡ Some n → (1 ≤ n) × (n ≤ 1024)
-  pub senders : length link.senders ≤ 65535
+  pub capacity : (n : ℕ) → link.capacity ≡ Some n → (1 ≤ n) × (n ≤ CAPACITY_LIMIT)
+  pub senders : length link.senders ≤ SENDER_LIMIT
 
 -- 1 for a port on this side of this process, and 0 for another.
 abbrev pub on_side : ℕ → Bool → Port → ℕ
@@ -97,9 +98,9 @@ pub record IsShaped (kinds : List KindSpec) (processes : List Begun) (ports : Li
 -- What holds of every draft.
 pub record IsSound (draft : Draft) : Type 0 where
   pub kinds : (k : ℕ) (kind : KindSpec) → slice_get draft.kinds k ≡ Some kind → IsKind kind
-  pub few_processes : length draft.processes ≤ 128
+  pub few_processes : length draft.processes ≤ PROCESS_LIMIT
   pub few_ports : length draft.ports ≤ 8192 * length draft.processes
-  pub few_links : length draft.links ≤ 512
+  pub few_links : length draft.links ≤ CONNECTION_LIMIT
   pub numbers : (p : ℕ) (begun : Begun) → slice_get draft.processes p ≡ Some begun → begun.number ≡ p
   pub names : (p q : ℕ) (begun other : Begun) → slice_get draft.processes p ≡ Some begun → slice_get draft.processes q ≡ Some other → begun.name ≡ other.name → p ≡ q
   pub ports : (g : ℕ) (port : Port) → slice_get draft.ports g ≡ Some port → IsPort (length draft.processes) port

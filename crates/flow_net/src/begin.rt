@@ -6,15 +6,15 @@ ghost use Rattle.flow_net.specs.Calls.{fresh_port, fresh_ports, kind_for, begun_
 use crate::draft::{Begun, Binding, Port};
 use crate::fault::{Many, PlanFault, PlanStop};
 use crate::find;
-use crate::kind::{KindSpec, PortClass, PortSpec};
 use flow_items::{Items, Text};
+use flow_plan::{ELEMENT_LIMIT, KindSpec, PORT_LIMIT, PROCESS_LIMIT, PortClass, PortSpec};
 use std::alloc::{AllocError, Global};
 
 /// The number of elements that a port has from the start.
 fn room_of(array: bool) -> usize
     ensures { result ≡ room_of array }
 {
-    if array { 512 } else { 1 }
+    if array { ELEMENT_LIMIT } else { 1 }
 }
 
 fn free_elements(alloc: Global, room: usize) -> Result<Vec<Binding>, AllocError>
@@ -56,7 +56,7 @@ fn add_ports(
     input: bool,
     specs: &[PortSpec],
 ) -> Result<(), AllocError>
-    requires { length specs.now ≤ 4096 }
+    requires { length specs.now ≤ PORT_LIMIT }
     ensures { OnOk result (ports.new.items ≡ ports.old.items ++ fresh_ports process input 0 specs.now) }
 {
     for (place, spec) in specs.iter().enumerate() {
@@ -89,7 +89,7 @@ pub fn kind_for<'a>(
             return Err(PlanStop::Fault(PlanFault::UnknownKind(name, kind)));
         }
     };
-    if processes.len() >= 128 {
+    if processes.len() >= PROCESS_LIMIT {
         return Err(PlanStop::Fault(PlanFault::TooMany(Many::Processes)));
     }
     Ok(spec)
@@ -103,9 +103,9 @@ pub fn begin(
     name: &[u8],
     kind: &KindSpec,
 ) -> Result<(), AllocError>
-    requires few { length processes.old.items < 128 }
-    requires few_inputs { length kind.now.inputs ≤ 4096 }
-    requires few_outputs { length kind.now.outputs ≤ 4096 }
+    requires few { length processes.old.items < PROCESS_LIMIT }
+    requires few_inputs { length kind.now.inputs ≤ PORT_LIMIT }
+    requires few_outputs { length kind.now.outputs ≤ PORT_LIMIT }
     ensures processes { OnOk result (processes.new.items ≡ processes.old.items ++ begun_as (length processes.old.items) name.now kind.now.name ∷ []) }
     ensures ports { OnOk result (ports.new.items ≡ ports.old.items ++ (fresh_ports (length processes.old.items) true 0 kind.now.inputs ++ fresh_ports (length processes.old.items) false 0 kind.now.outputs)) }
     ensures same_processes { OnErr result (processes.new.items ≡ processes.old.items) }

@@ -5,15 +5,14 @@ ghost use Rattle.flow_net.specs.Calls.{after_process, after_connect};
 ghost use Rattle.flow_net.specs.Initials.{AfterInitial};
 ghost use Rattle.flow_net.specs.Finishes.{finished};
 ghost use Rattle.flow_net.specs.Kinds.{is_table};
-ghost use Rattle.flow_net.specs.Valid.{IsValid};
+ghost use Rattle.flow_plan.specs.Valid.{IsValid};
 ghost use Rattle.flow_net.specs.Over.{IsOver};
 
 use crate::draft::{Begun, Link, Port};
 use crate::fault::{PlanFault, PlanStop};
-use crate::kind::{KindSpec, PortRef};
-use crate::plan::Plan;
 use crate::{begin, check, find, finish, give, join, lay, options};
 use flow_items::Text;
+use flow_plan::{KindSpec, Plan, PortRef, TEXT_LIMIT};
 use std::alloc::Global;
 use std::marker::Model;
 
@@ -109,7 +108,7 @@ impl PlanBuilder {
 
     /// Gives an input its text: to a stream port an initial packet, to an option port its value.
     pub fn initial(&mut self, text: &[u8], to: &[u8], into: &PortRef) -> Result<(), PlanStop>
-        requires { length text.now ≤ 1048576 }
+        requires { length text.now ≤ TEXT_LIMIT }
         ensures { AfterInitial self.old text.now to.now into.now result self.new }
     {
         let alloc = self.alloc;
@@ -142,10 +141,10 @@ impl PlanBuilder {
         check::check_sum(links)?;
         let counts = finish::counts(alloc, ports)?;
         let counts = counts.as_slice();
-        Ok(Plan {
-            processes: lay::processes(alloc, ports, counts, processes)?,
-            connections: finish::connections(alloc, ports, counts, links)?,
-            tables: lay::tables(alloc, ports, processes)?,
-        })
+        Ok(Plan::new(
+            lay::processes(alloc, ports, counts, processes)?,
+            finish::connections(alloc, ports, counts, links)?,
+            lay::tables(alloc, ports, processes)?,
+        ))
     }
 }

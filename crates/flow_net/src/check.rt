@@ -7,6 +7,7 @@ ghost use Rattle.flow_net.specs.Finishes.{size_of, gap_fault, port_fault, first_
 use crate::draft::{Begun, Binding, Link, Port};
 use crate::fault::{Many, PlanFault, PlanStop};
 use flow_items::Text;
+use flow_plan::{CAPACITY_LIMIT, CAPACITY_SUM_LIMIT, CONNECTION_LIMIT, ELEMENT_LIMIT};
 use std::alloc::Global;
 
 fn is_free(binding: &Binding) -> bool
@@ -54,7 +55,7 @@ fn gap(alloc: Global, process: &[u8], port: &Port, e: u32) -> Result<PlanFault, 
 }
 
 fn check_port(alloc: Global, process: &[u8], port: &Port) -> Result<(), PlanStop>
-    requires { length port.now.elements ≤ 512 }
+    requires { length port.now.elements ≤ ELEMENT_LIMIT }
     ensures { Answers (port_fault process.now port.now) result }
 {
     let elements = port.elements.as_slice();
@@ -86,7 +87,7 @@ fn name_of(processes: &[Begun], process: u32) -> &[u8]
 
 /// That each port is bound as it has to be, or the first that isn't.
 pub fn check_ports(alloc: Global, processes: &[Begun], ports: &[Port]) -> Result<(), PlanStop>
-    requires { (g : ℕ) (port : Port) → slice_get ports.now g ≡ Some port → length port.elements ≤ 512 }
+    requires { (g : ℕ) (port : Port) → slice_get ports.now g ≡ Some port → length port.elements ≤ ELEMENT_LIMIT }
     ensures { Answers (first_fault processes.now ports.now) result }
 {
     for port in ports {
@@ -96,8 +97,8 @@ pub fn check_ports(alloc: Global, processes: &[Begun], ports: &[Port]) -> Result
 }
 
 fn capacity_sum(links: &[Link]) -> u32
-    requires few { length links.now ≤ 512 }
-    requires small { (c : ℕ) (link : Link) → slice_get links.now c ≡ Some link → capacity_of link ≤ 1024 }
+    requires few { length links.now ≤ CONNECTION_LIMIT }
+    requires small { (c : ℕ) (link : Link) → slice_get links.now c ≡ Some link → capacity_of link ≤ CAPACITY_LIMIT }
     ensures { result ≡ sum_by capacity_of links.now }
 {
     let mut sum = 0u32;
@@ -109,11 +110,11 @@ fn capacity_sum(links: &[Link]) -> u32
 
 /// That the capacities don't come to too much.
 pub fn check_sum(links: &[Link]) -> Result<(), PlanStop>
-    requires few { length links.now ≤ 512 }
-    requires small { (c : ℕ) (link : Link) → slice_get links.now c ≡ Some link → capacity_of link ≤ 1024 }
+    requires few { length links.now ≤ CONNECTION_LIMIT }
+    requires small { (c : ℕ) (link : Link) → slice_get links.now c ≡ Some link → capacity_of link ≤ CAPACITY_LIMIT }
     ensures { Answers (sum_fault links.now) result }
 {
-    if capacity_sum(links) > 65_536 {
+    if capacity_sum(links) > CAPACITY_SUM_LIMIT {
         return Err(PlanStop::Fault(PlanFault::TooMany(Many::CapacitySum)));
     }
     Ok(())

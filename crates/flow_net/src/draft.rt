@@ -1,6 +1,6 @@
 //! What a builder holds of a network that isn't whole yet.
-use crate::kind::PortSpec;
 use flow_items::{Items, Text};
+use flow_plan::PortSpec;
 
 /// An element of a port, by the port's place among all ports of the draft.
 #[derive(Clone, Copy)]

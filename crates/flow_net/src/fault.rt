@@ -1,6 +1,6 @@
 //! What can be wrong with a network.
-use crate::kind::PortRef;
 use flow_items::Text;
+use flow_plan::PortRef;
 use std::alloc::{AllocError, AllocFailed};
 
 /// What a network has too many of.

@@ -7,8 +7,8 @@ ghost use Rattle.flow_net.specs.Calls.{kind_named, process_of_name, end_at, end_
 
 use crate::draft::{Begun, Binding, End, Port};
 use crate::fault::{PlanFault, PlanStop};
-use crate::kind::{KindSpec, PortClass, PortRef};
 use flow_items::Text;
+use flow_plan::{ELEMENT_LIMIT, KindSpec, PROCESS_LIMIT, PortClass, PortRef};
 use std::alloc::{AllocError, Global};
 
 /// The kind of a name.
@@ -45,7 +45,13 @@ fn element_named(array: bool, element: Option<u32>) -> Option<u32>
 {
     match element {
         None => Some(0),
-        Some(e) => { if array && e <= 511 { Some(e) } else { None } }
+        Some(e) => {
+            if array && (e as usize) < ELEMENT_LIMIT {
+                Some(e)
+            } else {
+                None
+            }
+        }
     }
 }
 
@@ -97,7 +103,7 @@ pub fn is_stream_at(ports: &[Port], end: End) -> bool
 
 /// The process of a name, or that there is none.
 pub fn found_process(alloc: Global, processes: &[Begun], name: &[u8]) -> Result<u32, PlanStop>
-    requires { length processes.now ≤ 128 }
+    requires { length processes.now ≤ PROCESS_LIMIT }
     ensures { Answers (process_of_name processes.now name.now) result }
 {
     match process_named(processes, name) {
@@ -141,7 +147,7 @@ pub fn ends(
     to: &[u8],
     into: &PortRef,
 ) -> Result<(End, End), PlanStop>
-    requires few_processes { length processes.now ≤ 128 }
+    requires few_processes { length processes.now ≤ PROCESS_LIMIT }
     requires few_ports { length ports.now < 2 ^ 32 }
     ensures { Answers (ends_of processes.now ports.now from.now out.now to.now into.now) result }
 {

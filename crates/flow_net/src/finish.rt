@@ -10,16 +10,17 @@ use crate::check::size_of;
 use crate::draft::{Begun, End, Link, Port};
 use crate::find::{is_side, is_stream_at};
 use crate::give::process_at;
-use crate::kind::{PortClass, PortSpec};
-use crate::plan::{Connection, PortRow, PortTable, Process, Sender};
 use flow_items::{Items, Text};
+use flow_plan::{
+    Connection, ELEMENT_LIMIT, PortClass, PortRow, PortSpec, PortTable, Process, Sender,
+};
 use std::alloc::{AllocError, Global};
 
 /// The number of elements of a port.
 pub fn elements_in(port: &Port) -> u32
-    requires { length port.now.elements ≤ 512 }
+    requires { length port.now.elements ≤ ELEMENT_LIMIT }
     ensures elements { result ≡ elements_in port.now }
-    ensures few { result ≤ 512 }
+    ensures few { result ≤ ELEMENT_LIMIT }
 {
     if port.spec.array {
         size_of(port.elements.as_slice()) as u32
@@ -29,9 +30,9 @@ pub fn elements_in(port: &Port) -> u32
 }
 
 fn count_of(port: &Port) -> u32
-    requires { length port.now.elements ≤ 512 }
+    requires { length port.now.elements ≤ ELEMENT_LIMIT }
     ensures count { result ≡ count_of port.now }
-    ensures few { result ≤ 512 }
+    ensures few { result ≤ ELEMENT_LIMIT }
 {
     match port.spec.class {
         PortClass::Stream => elements_in(port),
@@ -41,7 +42,7 @@ fn count_of(port: &Port) -> u32
 
 /// The numbers of elements of all ports.
 pub fn counts(alloc: Global, ports: &[Port]) -> Result<Vec<u32>, AllocError>
-    requires { (g : ℕ) (port : Port) → slice_get ports.now g ≡ Some port → length port.elements ≤ 512 }
+    requires { (g : ℕ) (port : Port) → slice_get ports.now g ≡ Some port → length port.elements ≤ ELEMENT_LIMIT }
     ensures { IfOk result (λ v. v.items ≡ map count_of ports.now) }
 {
     let mut counts = Vec::new(alloc);
@@ -68,10 +69,10 @@ fn counted(port: &Port, count: u32, process: u32, input: bool) -> u32
 pub fn total(ports: &[Port], counts: &[u32], place: usize, process: u32, input: bool) -> u32
     requires few_ports { length ports.now ≤ 2 ^ 20 }
     requires counts { counts.now ≡ map count_of ports.now }
-    requires few { (g n : ℕ) → slice_get counts.now g ≡ Some n → n ≤ 512 }
+    requires few { (g n : ℕ) → slice_get counts.now g ≡ Some n → n ≤ ELEMENT_LIMIT }
     requires within { place ≤ length ports.now }
     ensures total { result ≡ sum_by (counted process input) (take place ports.now) }
-    ensures fits { result ≤ 512 * place }
+    ensures fits { result ≤ ELEMENT_LIMIT * place }
 {
     let mut sum = 0u32;
     for g in 0..place {
@@ -93,9 +94,9 @@ fn side_at(ports: &[Port], end: End) -> bool
 pub fn number(ports: &[Port], counts: &[u32], end: End) -> u32
     requires few_ports { length ports.now ≤ 2 ^ 20 }
     requires counts { counts.now ≡ map count_of ports.now }
-    requires few { (g n : ℕ) → slice_get counts.now g ≡ Some n → n ≤ 512 }
+    requires few { (g n : ℕ) → slice_get counts.now g ≡ Some n → n ≤ ELEMENT_LIMIT }
     requires there { end.port < length ports.now }
-    requires element { end.element ≤ 512 }
+    requires element { end.element ≤ ELEMENT_LIMIT }
     ensures { result ≡ number_of ports.now end }
 {
     let process = process_at(ports, end);
@@ -106,9 +107,9 @@ pub fn number(ports: &[Port], counts: &[u32], end: End) -> u32
 fn sender(ports: &[Port], counts: &[u32], end: End) -> Sender
     requires few_ports { length ports.now ≤ 2 ^ 20 }
     requires counts { counts.now ≡ map count_of ports.now }
-    requires few { (g n : ℕ) → slice_get counts.now g ≡ Some n → n ≤ 512 }
+    requires few { (g n : ℕ) → slice_get counts.now g ≡ Some n → n ≤ ELEMENT_LIMIT }
     requires there { end.port < length ports.now }
-    requires element { end.element ≤ 512 }
+    requires element { end.element ≤ ELEMENT_LIMIT }
     ensures { result ≡ sender_of ports.now end }
 {
     Sender {
@@ -125,7 +126,7 @@ fn senders(
 ) -> Result<Items<Sender>, AllocError>
     requires few_ports { length ports.now ≤ 2 ^ 20 }
     requires counts { counts.now ≡ map count_of ports.now }
-    requires few { (g n : ℕ) → slice_get counts.now g ≡ Some n → n ≤ 512 }
+    requires few { (g n : ℕ) → slice_get counts.now g ≡ Some n → n ≤ ELEMENT_LIMIT }
     requires there { (k : ℕ) (end : End) → slice_get ends.now k ≡ Some end → IsPlaced ports.now end }
     ensures { IfOk result (λ senders. senders ≡ map (sender_of ports.now) ends.now) }
 {
@@ -144,7 +145,7 @@ fn connection(
 ) -> Result<Connection, AllocError>
     requires few_ports { length ports.now ≤ 2 ^ 20 }
     requires counts { counts.now ≡ map count_of ports.now }
-    requires few { (g n : ℕ) → slice_get counts.now g ≡ Some n → n ≤ 512 }
+    requires few { (g n : ℕ) → slice_get counts.now g ≡ Some n → n ≤ ELEMENT_LIMIT }
     requires into { IsPlaced ports.now link.now.into }
     requires senders { (k : ℕ) (end : End) → slice_get link.now.senders k ≡ Some end → IsPlaced ports.now end }
     ensures { IfOk result (λ connection. connection ≡ connection_of ports.now link.now) }
@@ -167,7 +168,7 @@ pub fn connections(
 ) -> Result<Vec<Connection>, AllocError>
     requires few_ports { length ports.now ≤ 2 ^ 20 }
     requires counts { counts.now ≡ map count_of ports.now }
-    requires few { (g n : ℕ) → slice_get counts.now g ≡ Some n → n ≤ 512 }
+    requires few { (g n : ℕ) → slice_get counts.now g ≡ Some n → n ≤ ELEMENT_LIMIT }
     requires into { (c : ℕ) (end : End) → into_of links.now c ≡ Some end → IsPlaced ports.now end }
     requires senders { (c k : ℕ) (end : End) → sender_at links.now c k ≡ Some end → IsPlaced ports.now end }
     ensures { IfOk result (λ v. v.items ≡ map (connection_of ports.now) links.now) }

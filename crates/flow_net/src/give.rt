@@ -5,9 +5,9 @@ ghost use Rattle.flow_net.specs.Calls.{input_for, process_at, next_text, with_te
 
 use crate::draft::{Begun, Binding, End, Port};
 use crate::fault::{PlanFault, PlanStop};
-use crate::kind::PortRef;
 use crate::{find, join};
 use flow_items::Text;
+use flow_plan::{PROCESS_LIMIT, PortRef};
 use std::alloc::{AllocError, Global};
 
 /// The input that a text is for, or the first thing that is against it.
@@ -18,7 +18,7 @@ pub fn input_for(
     to: &[u8],
     into: &PortRef,
 ) -> Result<End, PlanStop>
-    requires few_processes { length processes.now ≤ 128 }
+    requires few_processes { length processes.now ≤ PROCESS_LIMIT }
     requires few_ports { length ports.now < 2 ^ 32 }
     ensures { Answers (input_for processes.now ports.now to.now into.now) result }
 {

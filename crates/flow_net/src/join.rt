@@ -6,8 +6,8 @@ ghost use Rattle.flow_net.specs.Calls.{allowed_capacity, same_capacity, capacity
 use crate::draft::{Binding, End, Link, Port};
 use crate::fault::{Many, PlanFault, PlanStop};
 use crate::find;
-use crate::kind::PortRef;
 use flow_items::{Items, Text};
+use flow_plan::{CAPACITY_LIMIT, CONNECTION_LIMIT, PortRef, SENDER_LIMIT};
 use std::alloc::{AllocError, Global};
 
 fn allowed_capacity(capacity: Option<u32>) -> Result<(), PlanStop>
@@ -16,7 +16,7 @@ fn allowed_capacity(capacity: Option<u32>) -> Result<(), PlanStop>
     match capacity {
         None => Ok(()),
         Some(n) => {
-            if n >= 1 && n <= 1024 {
+            if n >= 1 && n <= CAPACITY_LIMIT {
                 Ok(())
             } else {
                 Err(PlanStop::Fault(PlanFault::Capacity(n)))
@@ -56,10 +56,10 @@ fn is_full(links: &[Link], link: Option<u32>) -> bool
     ensures { result ≡ is_full links.now link }
 {
     match link {
-        None => links.len() >= 512,
+        None => links.len() >= CONNECTION_LIMIT,
         Some(c) => match links.get(c as usize) {
             None => false,
-            Some(link) => link.senders.len() >= 65_535,
+            Some(link) => link.senders.len() >= SENDER_LIMIT,
         },
     }
 }
@@ -149,7 +149,7 @@ fn open_link(
     into: End,
     capacity: Option<u32>,
 ) -> Result<(), AllocError>
-    requires few { length links.old.items ≤ 512 }
+    requires few { length links.old.items ≤ CONNECTION_LIMIT }
     requires output { IsSome (binding_at ports.old.items out) }
     requires input { IsSome (binding_at ports.old.items into) }
     ensures links { OnOk result (links.new.items ≡ joined_links links.old.items out into capacity None) }
@@ -229,7 +229,7 @@ pub fn join(
     into: End,
     capacity: Option<u32>,
 ) -> Result<(), AllocError>
-    requires few { length links.old.items ≤ 512 }
+    requires few { length links.old.items ≤ CONNECTION_LIMIT }
     requires output { IsSome (binding_at ports.old.items out) }
     requires input { IsSome (binding_at ports.old.items into) }
     requires there { (c : ℕ) → link_into ports.old.items into ≡ Some c → c < length links.old.items }

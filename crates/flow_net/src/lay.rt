@@ -7,13 +7,12 @@ ghost use Rattle.flow_net.specs.Finishes.{count_of, total_of, place_at, options_
 use crate::draft::{Begun, End, Port};
 use crate::find::{is_side, is_stream_at};
 use crate::finish::{elements_in, number, total};
-use crate::kind::PortSpec;
-use crate::plan::{PortRow, PortTable, Process};
 use flow_items::{Items, Text};
+use flow_plan::{ELEMENT_LIMIT, PortRow, PortSpec, PortTable, Process};
 use std::alloc::{AllocError, Global};
 
 fn row(alloc: Global, port: &Port) -> Result<PortRow, AllocError>
-    requires { length port.now.elements ≤ 512 }
+    requires { length port.now.elements ≤ ELEMENT_LIMIT }
     ensures { IfOk result (λ row. row ≡ row_of port.now) }
 {
     let name = port.spec.name.copy(alloc)?;
@@ -34,7 +33,7 @@ fn rows(
     process: u32,
     input: bool,
 ) -> Result<Items<PortRow>, AllocError>
-    requires { (g : ℕ) (port : Port) → slice_get ports.now g ≡ Some port → length port.elements ≤ 512 }
+    requires { (g : ℕ) (port : Port) → slice_get ports.now g ≡ Some port → length port.elements ≤ ELEMENT_LIMIT }
     ensures { IfOk result (λ rows. rows ≡ rows_of ports.now process input) }
 {
     let mut rows = Vec::new(alloc);
@@ -47,7 +46,7 @@ fn rows(
 }
 
 fn table(alloc: Global, ports: &[Port], begun: &Begun) -> Result<PortTable, AllocError>
-    requires { (g : ℕ) (port : Port) → slice_get ports.now g ≡ Some port → length port.elements ≤ 512 }
+    requires { (g : ℕ) (port : Port) → slice_get ports.now g ≡ Some port → length port.elements ≤ ELEMENT_LIMIT }
     ensures { IfOk result (λ table. table ≡ table_of ports.now begun.now) }
 {
     let inputs = rows(alloc, ports, begun.number, true)?;
@@ -61,7 +60,7 @@ pub fn tables(
     ports: &[Port],
     processes: &[Begun],
 ) -> Result<Vec<PortTable>, AllocError>
-    requires { (g : ℕ) (port : Port) → slice_get ports.now g ≡ Some port → length port.elements ≤ 512 }
+    requires { (g : ℕ) (port : Port) → slice_get ports.now g ≡ Some port → length port.elements ≤ ELEMENT_LIMIT }
     ensures { IfOk result (λ v. v.items ≡ map (table_of ports.now) processes.now) }
 {
     let mut tables = Vec::new(alloc);
@@ -105,7 +104,7 @@ fn initials(
 ) -> Result<Items<(u32, Text)>, AllocError>
     requires few_ports { length ports.now ≤ 2 ^ 20 }
     requires counts { counts.now ≡ map count_of ports.now }
-    requires few { (g n : ℕ) → slice_get counts.now g ≡ Some n → n ≤ 512 }
+    requires few { (g n : ℕ) → slice_get counts.now g ≡ Some n → n ≤ ELEMENT_LIMIT }
     requires there { (k : ℕ) (end : End) (text : List ℕ) → slice_get texts.now k ≡ Some (end, text) → IsPlaced ports.now end }
     ensures { IfOk result (λ initials. initials ≡ initials_of ports.now texts.now) }
 {
@@ -127,7 +126,7 @@ fn process(
 ) -> Result<Process, AllocError>
     requires few_ports { length ports.now ≤ 2 ^ 20 }
     requires counts { counts.now ≡ map count_of ports.now }
-    requires few { (g n : ℕ) → slice_get counts.now g ≡ Some n → n ≤ 512 }
+    requires few { (g n : ℕ) → slice_get counts.now g ≡ Some n → n ≤ ELEMENT_LIMIT }
     requires there { (k : ℕ) (end : End) (text : List ℕ) → slice_get begun.now.texts k ≡ Some (end, text) → IsPlaced ports.now end }
     ensures { IfOk result (λ process. process ≡ process_of ports.now begun.now) }
 {
@@ -151,7 +150,7 @@ pub fn processes(
 ) -> Result<Vec<Process>, AllocError>
     requires few_ports { length ports.now ≤ 2 ^ 20 }
     requires counts { counts.now ≡ map count_of ports.now }
-    requires few { (g n : ℕ) → slice_get counts.now g ≡ Some n → n ≤ 512 }
+    requires few { (g n : ℕ) → slice_get counts.now g ≡ Some n → n ≤ ELEMENT_LIMIT }
     requires there { (p k : ℕ) (end : End) (text : List ℕ) → text_at begun.now p k ≡ Some (end, text) → IsPlaced ports.now end }
     ensures { IfOk result (λ v. v.items ≡ map (process_of ports.now) begun.now) }
 {

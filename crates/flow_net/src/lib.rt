@@ -1,4 +1,4 @@
-//! Plans of networks: processes with their options and initial texts, and the connections between them.
+//! Builds plans of networks, call by call.
 #![tactic(auto)]
 
 mod begin;
@@ -10,13 +10,9 @@ mod find;
 mod finish;
 mod give;
 mod join;
-mod kind;
 mod lay;
-mod names;
 mod options;
-mod plan;
 
 pub use builder::PlanBuilder;
 pub use fault::{Many, PlanFault, PlanStop};
-pub use kind::{KindSpec, PortClass, PortRef, PortSpec};
-pub use plan::{Connection, Plan, Process, Sender};
+pub use flow_plan::{Connection, KindSpec, Plan, PortClass, PortRef, PortSpec, Process, Sender};

@@ -1,10 +1,11 @@
 //! The texts that option ports take.
 ghost use Rattle.std.specs.Prelude.{◌≡◌, ◌≢◌, ◌≤◌, ◌==◌, ◌+◌, ◌<◌, ◌↔◌, length, IsTrue, count_by, position, ◌∷◌, [], IfSome, IfNone, slice_get};
 ghost use Rattle.std.specs.List.{All, slice_split};
-ghost use Rattle.flow_net.specs.Options.{IsNumberWithin, IsFields, IsFileName, IsOfClass, FitsPort};
+ghost use Rattle.flow_plan.specs.Texts.{IsNumberWithin, IsFields, IsFileName, IsOfClass};
+ghost use Rattle.flow_net.specs.Options.{FitsPort};
 
 use crate::draft::{End, Port};
-use crate::kind::PortClass;
+use flow_plan::PortClass;
 use flow_text::decimal;
 
 fn is_number(text: &[u8], least: u64, most: u64) -> bool

@@ -9,7 +9,7 @@ use Rattle.std.specs.List.{AllByRecursion}
 use Rattle.std.proofs.Math.Dec.{eqb-suc-zero}
 use Rattle.std.proofs.lemmas.Bool.{le-leb, ne_eqb}
 use Rattle.std.proofs.lemmas.Fmt.{decimal_is_IsNumeral, decimal_by_steps, first_decimal, decimal_digit}
-use Rattle.flow_net.specs.declared.kind.PortRef.{PortRef}
+use Rattle.flow_plan.specs.declared.kind.PortRef.{PortRef}
 use Rattle.flow_parse.specs.declared.token.Token.{Token}
 use Rattle.flow_parse.specs.declared.token.Token.TheVariants.{Word, Arrow, Open, Close, Quoted}
 use Rattle.flow_parse.specs.declared.form.Mention.{Mention}

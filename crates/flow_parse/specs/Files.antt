@@ -14,7 +14,7 @@ use Rattle.flow_parse.specs.declared.stop.LineStop.TheVariants as stops
 use Rattle.flow_parse.specs.declared.fault.Reason.{Reason}
 use Rattle.flow_parse.specs.declared.fault.Reason.TheVariants as reasons
 use Rattle.flow_parse.specs.declared.fault.NetFault.{NetFault}
-use Rattle.flow_net.specs.declared.kind.PortRef.{PortRef}
+use Rattle.flow_plan.specs.declared.kind.PortRef.{PortRef}
 use Rattle.flow_parse.specs.declared.value.Statement.{Statement}
 use Rattle.flow_parse.specs.declared.value.Statement.TheVariants as statement
 use Rattle.flow_parse.specs.declared.value.NetPart.{NetPart}

@@ -1,3 +1,3 @@
 pub mod Lookups
-pub mod Wired
+pub mod Sends
 pub mod Starts

@@ -7,13 +7,7 @@ use Rattle.std.proofs.lemmas.Bool.Decides.{nat_tests}
 use Rattle.std.proofs.lemmas.Option.{slice_get-map}
 use Rattle.flow_machine.proofs.PlanLemmas.{position-cons}
 
--- an element of a mapped list comes from one of the list
-pub mapped : {A B : Type 0} (f : A → B) (xs : List A) (i : ℕ) (y : B) → slice_get (map f xs) i ≡ Some y → (x : A) × (slice_get xs i ≡ Some x) × (f x ≡ y)
-mapped f [] i y is = absurd cc
-mapped f (x ∷ xs) zero y is = let same : f x ≡ y = cc in (x, refl, same)
-mapped f (x ∷ xs) (suc i) y is = mapped f xs i y is
-
--- and the other way round
+-- an element of a list stands at the same place of its mapped list
 pub map-there : {A B : Type 0} (f : A → B) (xs : List A) (i : ℕ) (x : A) → slice_get xs i ≡ Some x → slice_get (map f xs) i ≡ Some (f x)
 map-there f xs i x is = slice_get-map f xs i ∙ ap (option_map f) is
 
@@ -21,23 +15,9 @@ map-there f xs i x is = slice_get-map f xs i ∙ ap (option_map f) is
 pub same-there : {A : Type 0} (xs : List A) (i : ℕ) (x y : A) → slice_get xs i ≡ Some x → slice_get xs i ≡ Some y → x ≡ y
 same-there xs i x y is other = cc
 
--- An element that passes, with its place.
-pub record Passes {A : Type 0} (p : A → Bool) (xs : List A) : Type 0 where
-  pub place : ℕ
-  pub item : A
-  pub there : slice_get xs place ≡ Some item
-  pub passes : p item ≡ true
-
-next : {A : Type 0} (p : A → Bool) (x : A) (xs : List A) → Passes p xs → Passes p (x ∷ xs)
-next p x xs found = record { place = suc found.place; item = found.item; there = found.there; passes = found.passes }
-
 one-later : (found : Option ℕ) → IsSome found → IsSome (option_map suc found)
 one-later None is = is
 one-later (Some n) is = refl
-
-one-before : (found : Option ℕ) → IsSome (option_map suc found) → IsSome found
-one-before None is = is
-one-before (Some n) is = refl
 
 -- where an element passes, a first place is found
 pub position-there : {A : Type 0} (p : A → Bool) (xs : List A) (k : ℕ) (x : A) → slice_get xs k ≡ Some x → p x ≡ true → IsSome (position p xs)
@@ -53,16 +33,6 @@ position-there {A} p (y ∷ xs) k x there passes =
         absurd (false≢true (sym test ∙ ap p same ∙ passes))
     by (suc k) false test at rest = one-later (position p xs) (rest k at)
 
--- and the other way round
-pub position-found : {A : Type 0} (p : A → Bool) (xs : List A) → IsSome (position p xs) → Passes p xs
-position-found p [] is = absurd (false≢true is)
-position-found {A} p (x ∷ xs) is =
-    by (p x) refl (subst (λ (found : Option ℕ). IsSome found) (position-cons p x xs) is) (λ some. position-found p xs some)
-  where
-    by : (b : Bool) → p x ≡ b → IsSome (cond {A = Option ℕ} b (Some 0) (option_map suc (position p xs))) → (IsSome (position p xs) → Passes p xs) → Passes p (x ∷ xs)
-    by true test some rest = record { place = 0; item = x; there = refl; passes = test }
-    by false test some rest = next p x xs (rest (one-before (position p xs) some))
-
 or-right : (b c : Bool) → c ≡ true → (b || c) ≡ true
 or-right true c is = refl
 or-right false c is = is
@@ -75,26 +45,9 @@ any-there p (y ∷ xs) zero x there passes =
     ap (λ b. b || list_any p xs) (ap p same ∙ passes)
 any-there p (y ∷ xs) (suc k) x there passes = or-right (p y) (list_any p xs) (any-there p xs k x there passes)
 
--- and the other way round
-pub any-found : {A : Type 0} (p : A → Bool) (xs : List A) → list_any p xs ≡ true → Passes p xs
-any-found p [] is = absurd (false≢true is)
-any-found p (x ∷ xs) is = by (p x) refl is (λ some. any-found p xs some)
-  where
-    by : (b : Bool) → p x ≡ b → (b || list_any p xs) ≡ true → (list_any p xs ≡ true → Passes p xs) → Passes p (x ∷ xs)
-    by true test some rest = record { place = 0; item = x; there = refl; passes = test }
-    by false test some rest = next p x xs (rest some)
-
--- two numbers that are the same pass the test, and none else
+-- two numbers that are the same pass the test
 pub numbers-same : (a b : ℕ) → a ≡ b → (a == b) ≡ true
 numbers-same a b same = grind (arith, nat_tests)
 
-pub same-numbers : (a b : ℕ) → (a == b) ≡ true → a ≡ b
-same-numbers a b is = grind (arith, nat_tests)
-
 pub both-same : (a b c d : ℕ) → a ≡ b → c ≡ d → ((a == b) && (c == d)) ≡ true
 both-same a b c d first second = and_from (a == b) (c == d) (numbers-same a b first) (numbers-same c d second)
-
-pub same-both : (a b c d : ℕ) → ((a == b) && (c == d)) ≡ true → (a ≡ b) × (c ≡ d)
-same-both a b c d is =
-    let parts = and_parts (a == b) (c == d) is in
-    (same-numbers a b parts.0, same-numbers c d parts.1)

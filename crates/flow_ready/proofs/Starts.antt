@@ -8,15 +8,16 @@ use Rattle.std.proofs.lemmas.List.{length-map}
 use Rattle.flow_packet.specs.Held.{Held}
 use Rattle.flow_component.specs.declared.Answer.{Answer}
 use Rattle.flow_component.specs.declared.Shape.{Shape}
-use Rattle.flow_net.specs.declared.plan.Process.{Process as NetProcess}
-use Rattle.flow_net.specs.Network.{Network, HasOutput}
-use Rattle.flow_net.specs.Valid.{IsValid, HasSender}
+use Rattle.flow_plan.specs.declared.plan.Process.{Process as NetProcess}
+use Rattle.flow_plan.specs.Network.{Network, HasOutput}
+use Rattle.flow_plan.specs.Valid.{IsValid, HasSender}
 use Rattle.flow_model.specs.States.{Process}
-use Rattle.flow_model.specs.Plans.{Plan, PlanProcess, input_at, sends_at, process_at_start, processes_at_start, FitsProcess, StartsWell}
-use Rattle.flow_machine.specs.PlanOf.{plan_of, process_of}
+use Rattle.flow_model.specs.Plans.{input_at, sends_at, process_at_start, processes_at_start, FitsProcess, StartsWell}
+use Rattle.flow_plan.specs.Network.{Network as Plan}
+use Rattle.flow_plan.specs.declared.plan.Process.{Process as PlanProcess}
 use Rattle.flow_ready.specs.Ready.{PartFits, PartsFit}
-use Rattle.flow_ready.proofs.Lookups.{mapped, same-there}
-use Rattle.flow_ready.proofs.Wired.{sends-there, valid-wired}
+use Rattle.flow_ready.proofs.Lookups.{same-there}
+use Rattle.flow_ready.proofs.Sends.{sends-there}
 
 -- A process of the start, with its place in the plan and its part.
 record IsStarted {K : Type 0} (plan : Plan) (p : ℕ) (xs : List PlanProcess) (parts : List K) (k : ℕ) (z : Process K) : Type 0 where
@@ -67,30 +68,28 @@ module _ {K : Type 0} (shape_of : K → Shape) (uses : K → ℕ → Bool) (read
   -- an output that is a sender of a connection is one of its process
   sender-within : IsValid network → (p o : ℕ) (process : NetProcess) → slice_get network.processes p ≡ Some process → HasSender network p o → o < process.outputs
   sender-within valid p o process there has =
-      let output : HasOutput network p o = valid.senders has.number has.place has.connection (record { process = p; output = o }) has.here has.sender in
+      let output : HasOutput network p o = valid.wired.senders has.number has.place has.connection (record { process = p; output = o }) has.here has.sender in
       subst (λ (x : NetProcess). o < x.outputs) (same-there network.processes p output.0 process output.1 there) output.2
 
   fits-start : IsValid network → (p : ℕ) (process : NetProcess) (part : K) → slice_get network.processes p ≡ Some process → PartFits shape_of uses ready network p process part
-      → FitsProcess shape_of uses ready part (process_at_start (plan_of network) p (process_of process) part)
+      → FitsProcess shape_of uses ready part (process_at_start network p process part)
   fits-start valid p process part there fits = record {
-    inputs = fits.inputs ∙ sym (length-ports (input_at (plan_of network) p (process_of process)) 0 process.inputs);
-    outputs = fits.outputs ∙ sym (length-ports (sends_at (plan_of network) p) 0 process.outputs);
+    inputs = fits.inputs ∙ sym (length-ports (input_at network p process) 0 process.inputs);
+    outputs = fits.outputs ∙ sym (length-ports (sends_at network p) 0 process.outputs);
     used = λ o used.
         let has = fits.used o used in
-        port-sends (plan_of network) p process.outputs o (sender-within valid p o process there has) (sends-there network p o has);
+        port-sends network p process.outputs o (sender-within valid p o process there has) (sends-there network p o has);
     can_start = fits.can_start;
   }
 
-  pub starts-well : (parts : List K) → IsValid network → PartsFit shape_of uses ready network parts → StartsWell shape_of uses ready (plan_of network) parts
+  pub starts-well : (parts : List K) → IsValid network → PartsFit shape_of uses ready network parts → StartsWell shape_of uses ready network parts
   starts-well parts valid fit = record {
-    wired = valid-wired network valid;
-    one_each = fit.one_each ∙ sym (length-map network.processes process_of);
+    wired = valid.wired;
+    one_each = fit.one_each;
     fit = λ p z here.
-        let s = started (plan_of network) 0 (map process_of network.processes) parts p z here in
-        let process = mapped process_of network.processes p s.spec s.spec_there in
+        let s = started network 0 network.processes parts p z here in
         let number : p ≡ 0 + p = omega arith in
-        let is : process_at_start (plan_of network) p (process_of process.0) s.part ≡ z =
-        ap (λ (x : PlanProcess). process_at_start (plan_of network) p x s.part) process.2 ∙ ap (λ (m : ℕ). process_at_start (plan_of network) m s.spec s.part) number ∙ s.is in
+        let is : process_at_start network p s.spec s.part ≡ z = ap (λ (m : ℕ). process_at_start network m s.spec s.part) number ∙ s.is in
         subst (λ (x : Process K). FitsProcess shape_of uses ready x.part x) is
-        (fits-start valid p process.0 s.part process.1 (fit.fit p process.0 s.part process.1 s.part_there));
+        (fits-start valid p s.spec s.part s.spec_there (fit.fit p s.spec s.part s.spec_there s.part_there));
   }

@@ -4,11 +4,11 @@ use Rattle.flow_packet.specs.Held.{Held}
 use Rattle.flow_component.specs.declared.Answer.{Answer}
 use Rattle.flow_component.specs.declared.Shape.{Shape}
 use Rattle.flow_component.specs.Laws.{CanStart}
-use Rattle.flow_net.specs.declared.plan.Process.{Process}
-use Rattle.flow_net.specs.Network.{Network}
-use Rattle.flow_net.specs.Valid.{IsValid, HasSender}
-use Rattle.flow_model.specs.Plans.{IsWired, StartsWell, sends_at}
-use Rattle.flow_machine.specs.PlanOf.{plan_of}
+use Rattle.flow_plan.specs.declared.plan.Process.{Process}
+use Rattle.flow_plan.specs.Network.{Network}
+use Rattle.flow_plan.specs.Valid.{IsValid, HasSender}
+use Rattle.flow_model.specs.Plans.{StartsWell, sends_at}
+use Rattle.flow_plan.specs.Valid.{IsWired}
 
 -- The part fits process p: it has the process's numbers of inputs and outputs, each output that it uses is a sender of a connection, and it can start with empty hands.
 pub record PartFits {K : Type 0} (shape_of : K → Shape) (uses : K → ℕ → Bool) (ready : K → Held → Answer → Type 0) (network : Network) (p : ℕ) (process : Process) (part : K) : Type 0 where
@@ -22,15 +22,11 @@ pub record PartsFit {K : Type 0} (shape_of : K → Shape) (uses : K → ℕ → 
   pub one_each : length parts ≡ length network.processes
   pub fit : (p : ℕ) (process : Process) (part : K) → slice_get network.processes p ≡ Some process → slice_get parts p ≡ Some part → PartFits shape_of uses ready network p process part
 
--- A valid plan is wired.
-abbrev pub WiresPlans : Type 0
-WiresPlans = (network : Network) → IsValid network → IsWired (plan_of network)
-
 -- A valid plan whose parts fit starts well.
 abbrev pub StartsPlans : {K : Type 0} → (K → Shape) → (K → ℕ → Bool) → (K → Held → Answer → Type 0) → Type 0
 StartsPlans {K} shape_of uses ready =
-    (network : Network) (parts : List K) → IsValid network → PartsFit shape_of uses ready network parts → StartsWell shape_of uses ready (plan_of network) parts
+    (network : Network) (parts : List K) → IsValid network → PartsFit shape_of uses ready network parts → StartsWell shape_of uses ready network parts
 
 -- In a valid plan an output that is a sender of a connection has a connection to send to.
 abbrev pub SendsOut : Type 0
-SendsOut = (network : Network) (p o : ℕ) → IsValid network → HasSender network p o → IsSome (sends_at (plan_of network) p o)
+SendsOut = (network : Network) (p o : ℕ) → IsValid network → HasSender network p o → IsSome (sends_at network p o)

@@ -21,7 +21,7 @@ use Rattle.flow_model.specs.Verdicts.{exact_level, exact_level_for, waits_for, b
 use Rattle.flow_model.proofs.Blocks.{IsOverOrOwes, no_turn-block}
 use Rattle.flow_model.proofs.Totals.{totals-add_up}
 use Rattle.flow_machine.specs.Values.{BodyValue}
-use Rattle.flow_net.specs.Network.{Network}
+use Rattle.flow_plan.specs.Network.{Network}
 use Rattle.flow_report.specs.declared.of.Totals.{Totals}
 use Rattle.flow_report.specs.Of.{has_ended, has_failed, totals_in, verdict_on, blocked_at, failed_at, told_from, stages_of}
 use Rattle.flow_report.specs.States.{IsVerdict, named_block, blocks_from, ReportsTell}

@@ -8,8 +8,8 @@ use Rattle.flow_component.specs.declared.Wish.TheVariants.{Receive, Send, Level,
 use Rattle.flow_model.specs.declared.Stage.{Stage}
 use Rattle.flow_model.specs.declared.Stage.TheVariants as stages
 use Rattle.flow_machine.specs.Values.{BodyValue}
-use Rattle.flow_net.specs.declared.kind.PortRef.{PortRef}
-use Rattle.flow_net.specs.Network.{Network, input_port, output_port, spelled}
+use Rattle.flow_plan.specs.declared.kind.PortRef.{PortRef}
+use Rattle.flow_plan.specs.Network.{Network, input_port, output_port, spelled}
 use Rattle.flow_report.specs.declared.of.Totals.{Totals}
 use Rattle.flow_report.specs.declared.report.Verdict.{Verdict}
 use Rattle.flow_report.specs.declared.report.Verdict.TheVariants.{Finished, FinishedLeft, Deadlock, Failed}

@@ -12,7 +12,7 @@ use Rattle.flow_model.specs.Verdicts.{Quiet, IsFinished, IsFailed, IsDeadlock, I
 use Rattle.flow_model.specs.Stands.{StandsForOpen}
 use Rattle.flow_model.specs.Fit.{Fit}
 use Rattle.flow_machine.specs.Values.{NetValue, shown_net}
-use Rattle.flow_net.specs.Network.{Network}
+use Rattle.flow_plan.specs.Network.{Network}
 use Rattle.flow_report.specs.declared.report.Verdict.{Verdict}
 use Rattle.flow_report.specs.declared.report.Verdict.TheVariants.{Finished, FinishedLeft, Deadlock, Failed, Running}
 use Rattle.flow_report.specs.declared.report.Wait.TheVariants.{Empty, Full, Dormant}

@@ -11,7 +11,9 @@ use Rattle.flow_model.specs.States.{Process, State}
 use Rattle.flow_model.specs.Turns.{process_after}
 use Rattle.flow_model.specs.Works.{worked}
 use Rattle.flow_model.specs.Schedules.{Journal, IsThoughtStage, IsClosed, Settles, WorksLead, SettlesAll, LeadsBy}
-use Rattle.flow_model.specs.Plans.{Plan, PlanProcess, start_of, processes_at_start, process_at_start}
+use Rattle.flow_model.specs.Plans.{start_of, processes_at_start, process_at_start}
+use Rattle.flow_plan.specs.Network.{Network as Plan}
+use Rattle.flow_plan.specs.declared.plan.Process.{Process as PlanProcess}
 use Rattle.flow_model.specs.Stands.{BodyShown, StandsForOpen, bodies_from, show_body}
 use Rattle.flow_component.specs.declared.Shape.{Shape}
 use Rattle.flow_model.specs.Schedules.{Leads}
@@ -137,9 +139,8 @@ module _ {K : Type 0} (shape_of : K → Shape) (uses : K → ℕ → Bool) (read
       record {
         last = last;
         run = record {
-          schedule = whole;
+          schedule = record { leads = whole; prefixes = λ front mid prefix. keeps plan parts journal front last mid well prefix };
           robin = subst (λ j. RoundRobin next (start_of plan parts) j last) same robin;
-          prefixes = λ front mid prefix. keeps plan parts journal front last mid well prefix;
           quiet = states.1.3;
         };
         stands = states.3;

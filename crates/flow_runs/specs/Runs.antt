@@ -10,7 +10,8 @@ use Rattle.flow_model.specs.Robin.{RoundRobin}
 use Rattle.flow_model.specs.Verdicts.{Quiet}
 use Rattle.flow_model.specs.Places.{OnePlace}
 use Rattle.flow_model.specs.Order.{InOrder}
-use Rattle.flow_model.specs.Plans.{Plan, start_of, StartsWell}
+use Rattle.flow_model.specs.Plans.{start_of, StartsWell}
+use Rattle.flow_plan.specs.Network.{Network as Plan}
 use Rattle.flow_model.specs.Stands.{StandsForOpen}
 use Rattle.flow_model.specs.Fit.{Fit}
 use Rattle.flow_machine.specs.Values.{NetValue, shown_net}
@@ -19,12 +20,17 @@ use Rattle.flow_machine.specs.Solo.{Goes, round_robin}
 use Rattle.flow_machine.specs.Logs.{turns_made}
 use Rattle.flow_journal.specs.Journals.{NamesTurns, NamesSeen}
 
--- The journal is that of a plan's run on one thread with these components, which came to this last state: it is a schedule from the start, and the round
--- robin; after each of its prefixes each packet is in one place and each connection is in order; after the whole of it no process can go on.
-pub record IsRun {K : Type 0} (next : K → Held → Answer → Outcome K → Type 0) (plan : Plan) (parts : List K) (journal : Journal) (last : State K) : Type 0 where
-  pub schedule : Leads next (start_of plan parts) journal last
-  pub robin : RoundRobin next (start_of plan parts) journal last
+-- The journal is a schedule from the start of the plan with these components, which leads to this last state; after each of its prefixes each packet is
+-- in one place and each connection is in order. (So it is of every run, whoever makes its turns.)
+pub record IsScheduled {K : Type 0} (next : K → Held → Answer → Outcome K → Type 0) (plan : Plan) (parts : List K) (journal : Journal) (last : State K) : Type 0 where
+  pub leads : Leads next (start_of plan parts) journal last
   pub prefixes : (front : Journal) (mid : State K) → Prefix next (start_of plan parts) journal last front mid → OnePlace mid × InOrder mid
+
+-- A run on one thread to its end: its journal is a schedule, it is the round robin, and after it no process can go on. (Turns of several workers are a
+-- schedule and no round robin, and what is made again from a part of a journal needn't end quiet.)
+pub record IsRun {K : Type 0} (next : K → Held → Answer → Outcome K → Type 0) (plan : Plan) (parts : List K) (journal : Journal) (last : State K) : Type 0 where
+  pub schedule : IsScheduled next plan parts journal last
+  pub robin : RoundRobin next (start_of plan parts) journal last
   pub quiet : Quiet last
 
 -- The net has come out of such a run: it stands for the last state, in which each component still fits its process.

@@ -1,8 +1,8 @@
 -- The component that asks for a level, in the shape of a process.
 use Rattle.std.specs.Prelude.{ℕ}
-use Rattle.flow_net.specs.declared.plan.Process.{Process}
-use Rattle.flow_net.specs.Network.{Network, HasOutput}
-use Rattle.flow_net.specs.Valid.{HasSender}
+use Rattle.flow_plan.specs.declared.plan.Process.{Process}
+use Rattle.flow_plan.specs.Network.{Network, HasOutput}
+use Rattle.flow_plan.specs.Valid.{HasSender}
 use Rattle.flow_trials.specs.declared.asker.Asker.{Asker}
 
 abbrev pub asker_of : Process → Asker

@@ -1,11 +1,10 @@
 -- The networks that texts spell, and how they start with standard parts.
 use Rattle.std.specs.Prelude.{◌≡◌, ℕ, List, [], length, Ok, Some, slice_get}
-use Rattle.flow_net.specs.declared.plan.Process.{Process}
-use Rattle.flow_net.specs.Network.{Network}
+use Rattle.flow_plan.specs.declared.plan.Process.{Process}
+use Rattle.flow_plan.specs.Network.{Network}
 use Rattle.flow_parse.specs.declared.value.NetText.{NetText}
 use Rattle.flow_parse.specs.Files.{Spells}
 use Rattle.flow_flat.specs.Faults.{ComesTo}
-use Rattle.flow_machine.specs.PlanOf.{plan_of}
 use Rattle.flow_machine.specs.Values.{NetValue}
 use Rattle.flow_machine.specs.Starts.{StartsNet}
 use Rattle.flow_catalogue.specs.Kinds.{std_kinds}
@@ -41,4 +40,4 @@ pub record HasStarted (text bytes : List ℕ) (net : NetValue Std) : Type 0 wher
   pub parts : List Std
   pub is_plan : IsPlanOf text plan
   pub are_parts : ArePartsOn bytes plan parts
-  pub starts : StartsNet (plan_of plan) parts net
+  pub starts : StartsNet plan parts net

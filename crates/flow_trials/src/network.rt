@@ -1,6 +1,6 @@
 //! The plan of a network's text over the standard kinds.
 ghost use Rattle.std.specs.Prelude.{◌≡◌, IfOk};
-ghost use Rattle.flow_net.specs.Network.{Network};
+ghost use Rattle.flow_plan.specs.Network.{Network};
 ghost use Rattle.flow_net.specs.Over.{IsOver};
 ghost use Rattle.flow_catalogue.specs.Kinds.{std_kinds};
 ghost use Rattle.flow_trials.specs.Networks.{IsPlanOf};

@@ -1,10 +1,9 @@
 //! Networks at their start: of standard components, and of components that ask for a level.
 ghost use Rattle.std.specs.Prelude.{◌≡◌, ◌<◌, ℕ, IfOk, IsTrue, map};
-ghost use Rattle.flow_net.specs.Valid.{HasSender};
-ghost use Rattle.flow_net.specs.Network.{Network};
+ghost use Rattle.flow_plan.specs.Valid.{HasSender};
+ghost use Rattle.flow_plan.specs.Network.{Network};
 ghost use Rattle.flow_net.specs.Over.{IsOver};
 ghost use Rattle.flow_model.specs.Plans.{StartsWell};
-ghost use Rattle.flow_machine.specs.PlanOf.{plan_of};
 ghost use Rattle.flow_catalogue.specs.Kinds.{std_kinds};
 ghost use Rattle.flow_catalogue.specs.Processes.{IsStandard};
 ghost use Rattle.flow_catalogue.specs.Std.{std_shape, std_uses, StdReady};
@@ -66,7 +65,7 @@ fn all_connected(plan: &Plan) -> bool
 
 /// A component of the shape that it needs for each process of a plan. A plan with an output that is left open is refused.
 pub fn askers(alloc: Global, plan: &Plan) -> Result<Vec<Asker>, TrialStop>
-    ensures { IfOk result (λ parts. StartsWell shape_asked uses_asked AlwaysReady (plan_of plan.now) parts.items) }
+    ensures { IfOk result (λ parts. StartsWell shape_asked uses_asked AlwaysReady plan.now parts.items) }
 {
     a_valid_plan_is_ready::<Asker>();
     if !all_connected(plan) {
@@ -91,7 +90,7 @@ fn standard_part(alloc: Global, plan: &Plan, process: u32, bytes: &[u8]) -> Resu
 pub fn standard_parts(alloc: Global, plan: &Plan, bytes: &[u8]) -> Result<Vec<Std>, AllocError>
     requires { IsOver std_kinds plan.now }
     ensures parts { IfOk result (λ parts. ArePartsOn bytes.now plan.now parts.items) }
-    ensures well { IfOk result (λ parts. StartsWell std_shape std_uses StdReady (plan_of plan.now) parts.items) }
+    ensures well { IfOk result (λ parts. StartsWell std_shape std_uses StdReady plan.now parts.items) }
 {
     a_plan_over_the_table_is_standard();
     a_valid_plan_is_ready::<Std>();

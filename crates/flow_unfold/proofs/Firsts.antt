@@ -5,7 +5,7 @@ use Rattle.std.proofs.Math.Seq.{take-append_seam}
 use Rattle.std.proofs.lemmas.List.{take-append-le}
 use Rattle.std.proofs.lemmas.Option.{slice_get_within}
 use Rattle.flow_net.proofs.Wiring.{slice_get-push_cases}
-use Rattle.flow_net.proofs.PortNames.{slice_get-right}
+use Rattle.flow_plan.proofs.PortNames.{slice_get-right}
 use Rattle.flow_flat.specs.Firsts.{AllPass, FirstFails}
 
 pub all_none : {X F : Type 0} (Test : List X → X → Result (Unit {0}) F → Type 0) → AllPass Test []

@@ -22,7 +22,7 @@ use Rattle.flow_unfold.specs.declared.stop.ExpandStop.{ExpandStop}
 use Rattle.flow_unfold.specs.declared.stop.ExpandStop.TheVariants.{Fault, NoMemory}
 use Rattle.flow_unfold.specs.Outcomes.{IfFault}
 use Rattle.flow_flat.specs.declared.fault.ExpandFault.TheVariants.{OuterPort}
-use Rattle.flow_net.specs.declared.kind.PortRef.{PortRef}
+use Rattle.flow_plan.specs.declared.kind.PortRef.{PortRef}
 use Rattle.flow_flat.specs.Texts.{given_again, is_given_by, outer_name}
 use Rattle.flow_unfold.specs.Ways.{part_at, name_at}
 use Rattle.flow_unfold.specs.Places.{subnet_place, process_place}

@@ -8,9 +8,9 @@ use Rattle.std.proofs.lemmas.List.Elements.{All-nil, All-cons}
 use Rattle.flow_net.specs.declared.fault.PlanFault.{PlanFault}
 use Rattle.flow_net.specs.declared.fault.PlanStop.{PlanStop}
 use Rattle.flow_net.specs.declared.fault.PlanStop.TheVariants as plans
-use Rattle.flow_net.specs.declared.kind.KindSpec.{KindSpec}
+use Rattle.flow_plan.specs.declared.kind.KindSpec.{KindSpec}
 use Rattle.flow_net.specs.Kinds.{is_table}
-use Rattle.flow_net.specs.Network.{Network}
+use Rattle.flow_plan.specs.Network.{Network}
 use Rattle.flow_net.specs.Drafts.{Draft, Answers}
 use Rattle.flow_net.specs.Finishes as finishes
 use Rattle.flow_net.proofs.KindTables.{IsSound-empty}

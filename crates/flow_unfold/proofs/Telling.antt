@@ -9,7 +9,7 @@ use Rattle.flow_net.specs.declared.fault.PlanStop.TheVariants as plans
 use Rattle.flow_net.specs.Drafts.{Draft, Becomes}
 use Rattle.flow_net.specs.Calls.{after_connect}
 use Rattle.flow_net.specs.Initials.{AfterInitial}
-use Rattle.flow_net.specs.declared.kind.PortRef.{PortRef}
+use Rattle.flow_plan.specs.declared.kind.PortRef.{PortRef}
 use Rattle.flow_parse.specs.declared.value.Statement.{Statement}
 use Rattle.flow_parse.specs.declared.value.Statement.TheVariants.{Connect, Initial}
 use Rattle.flow_flat.specs.declared.fault.ExpandFault.{ExpandFault}

@@ -16,7 +16,7 @@ use Rattle.flow_flat.specs.Subnets.{subnet_called, statement_meant}
 use Rattle.flow_flat.specs.Told.{HasShortTexts, empty, after_processes, AfterMeant}
 use Rattle.flow_flat.specs.Firsts.{AllPass, FirstFails}
 use Rattle.flow_flat.specs.Texts.{RecursionPasses, deep_instances}
-use Rattle.flow_net.specs.declared.kind.KindSpec.{KindSpec}
+use Rattle.flow_plan.specs.declared.kind.KindSpec.{KindSpec}
 
 -- The statements of the subnet that a process is, as they are meant.
 abbrev pub own_meant : NetText → List ℕ × List ℕ → List (Result Statement ExpandFault)

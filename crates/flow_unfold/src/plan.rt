@@ -2,7 +2,7 @@
 ghost use Rattle.std.specs.Prelude.{◌≡◌, List, [], Ok, Err, IsTrue, IfOk, IfErr, Result};
 ghost use Rattle.std.specs.List.{cons_option, filter_map, flat_map};
 ghost use Rattle.flow_net.specs.Kinds.{is_table};
-ghost use Rattle.flow_net.specs.Network.{Network};
+ghost use Rattle.flow_plan.specs.Network.{Network};
 ghost use Rattle.flow_net.specs.Over.{IsOver};
 ghost use Rattle.flow_parse.specs.Values.{IsNetText};
 ghost use Rattle.flow_flat.specs.declared.fault.ExpandFault.{ExpandFault};

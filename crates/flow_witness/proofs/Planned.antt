@@ -5,7 +5,7 @@ use Rattle.std.proofs.lemmas.Str.{IsUtf8-from_ascii}
 use Rattle.flow_net.specs.declared.draft.End.{End}
 use Rattle.flow_net.specs.Drafts.{Draft}
 use Rattle.flow_net.specs.Calls.{with_process, joined, given}
-use Rattle.flow_net.specs.Options.{IsFileName}
+use Rattle.flow_plan.specs.Texts.{IsFileName}
 use Rattle.flow_flat.specs.Faults.{ComesTo}
 use Rattle.flow_flat.specs.Told.{HasShortTexts, IsDraft, empty}
 use Rattle.flow_flat.proofs.Outcomes.{told_is_said}

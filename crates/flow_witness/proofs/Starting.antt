@@ -1,7 +1,7 @@
 -- The first run starts well.
 use Rattle.std.proofs.Common.{◌≡◌, ℕ, [], ◌∷◌, refl, true, false, arith, subst}
 use Rattle.std.proofs.lemmas.Bool.Decides.{nat_tests}
-use Rattle.std.specs.Prelude.{IsSome, IsTrue, ◌==◌}
+use Rattle.std.specs.Prelude.{codes, IsSome, IsTrue, ◌==◌}
 use Rattle.flow_component.specs.Ports.{uses_first}
 use Rattle.flow_model.specs.States.{Process, output_at}
 use Rattle.flow_model.specs.Plans.{StartsWell, FitsProcess, process_at_start}
@@ -9,18 +9,19 @@ use Rattle.flow_catalogue.specs.declared.standard.Std.{Std}
 use Rattle.flow_catalogue.specs.declared.standard.Std.TheVariants as parts
 use Rattle.flow_catalogue.specs.Std.{std_shape, std_uses, StdReady}
 use Rattle.flow_witness.proofs.Wired.{chain-wired, at_three}
-use Rattle.flow_witness.specs.FirstRun.{first_plan, first_parts, passing}
+use Rattle.flow_witness.specs.Chain.{reader_of, pass_of, writer_of}
+use Rattle.flow_witness.specs.FirstRun.{first_network, first_parts, passing}
 
 abbrev reader : Process Std
-reader = process_at_start first_plan 0 (record { inputs = 0; outputs = 1; initials = [] }) (parts.ReadLines ((120 ∷ []) ∷ []))
+reader = process_at_start first_network 0 (reader_of (codes "Read") (codes "in.txt")) (parts.ReadLines ((120 ∷ []) ∷ []))
 
 abbrev passer : Process Std
-passer = process_at_start first_plan 1 (record { inputs = 1; outputs = 1; initials = [] }) (parts.Passthru passing)
+passer = process_at_start first_network 1 (pass_of (codes "Pass")) (parts.Passthru passing)
 
 abbrev writer : Process Std
-writer = process_at_start first_plan 2 (record { inputs = 1; outputs = 0; initials = [] }) (parts.WriteLines [])
+writer = process_at_start first_network 2 (writer_of (codes "Write") (codes "out.txt")) (parts.WriteLines [])
 
-sends_first : (x : Process Std) → IsSome (output_at x 0) → (port : ℕ) → IsTrue (uses_first port) → IsSome (output_at x port)
+pub sends_first : (x : Process Std) → IsSome (output_at x 0) → (port : ℕ) → IsTrue (uses_first port) → IsSome (output_at x port)
 sends_first x is port uses =
     let h : (port == 0) ≡ true = uses in
     let first : 0 ≡ port = grind (arith, nat_tests) in
@@ -35,9 +36,9 @@ passer_fits = record { inputs = refl; outputs = refl; used = sends_first passer 
 writer_fits : FitsProcess std_shape std_uses StdReady writer.part writer
 writer_fits = record { inputs = refl; outputs = refl; used = λ port uses. absurd (let bad : false ≡ true = uses in cc); can_start = λ held empty. tt }
 
-pub starts : StartsWell std_shape std_uses StdReady first_plan first_parts
+pub starts : StartsWell std_shape std_uses StdReady first_network first_parts
 starts = record {
-  wired = chain-wired;
+  wired = chain-wired (codes "Read") (codes "in.txt") (codes "Pass") (codes "Write") (codes "out.txt");
   one_each = refl;
   fit = λ p x there. at_three (λ k y. FitsProcess std_shape std_uses StdReady y.part y) reader passer writer reader_fits passer_fits writer_fits p x there;
 }

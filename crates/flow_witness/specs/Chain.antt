@@ -2,12 +2,12 @@
 -- of three processes of standard kinds with names that differ, of two connections for which no capacity was given, and of a file's
 -- name for the reader and one for the writer.
 use Rattle.std.specs.Prelude.{ℕ, List, [], ◌∷◌, codes, true, false}
-use Rattle.flow_net.specs.declared.kind.PortClass.{PortClass}
-use Rattle.flow_net.specs.declared.kind.PortClass.TheVariants.{Stream, File}
-use Rattle.flow_net.specs.declared.plan.Process.{Process}
-use Rattle.flow_net.specs.declared.plan.Connection.{Connection}
-use Rattle.flow_net.specs.declared.plan.PortRow.{PortRow}
-use Rattle.flow_net.specs.Network.{Network}
+use Rattle.flow_plan.specs.declared.kind.PortClass.{PortClass}
+use Rattle.flow_plan.specs.declared.kind.PortClass.TheVariants.{Stream, File}
+use Rattle.flow_plan.specs.declared.plan.Process.{Process}
+use Rattle.flow_plan.specs.declared.plan.Connection.{Connection}
+use Rattle.flow_plan.specs.declared.plan.PortRow.{PortRow}
+use Rattle.flow_plan.specs.Network.{Network}
 
 -- A port that has to be bound, and isn't an array: it has one element.
 abbrev pub plain_row : List ℕ → PortClass → PortRow

@@ -1,7 +1,7 @@
 -- The first run: a chain that copies one line. Its network is written out here as the builder could have made it; nothing is built.
 use Rattle.std.specs.Prelude.{◌≡◌, List, [], ◌∷◌, ◌++◌, replicate, codes, Some, None, Ok, ℕ, slice_get}
-use Rattle.flow_net.specs.Network.{Network}
-use Rattle.flow_net.specs.declared.kind.PortRef.{PortRef}
+use Rattle.flow_plan.specs.Network.{Network}
+use Rattle.flow_plan.specs.declared.kind.PortRef.{PortRef}
 use Rattle.flow_parse.specs.declared.value.NetPart.{NetPart}
 use Rattle.flow_parse.specs.declared.value.Statement.TheVariants.{Connect, Initial}
 use Rattle.flow_flat.specs.Faults.{ComesTo}
@@ -11,13 +11,12 @@ use Rattle.flow_streams.specs.declared.passthru.Passthru.{Passthru}
 use Rattle.flow_catalogue.specs.declared.standard.Std.{Std}
 use Rattle.flow_catalogue.specs.declared.standard.Std.TheVariants as parts
 use Rattle.flow_catalogue.specs.Std.{std_shape, std_uses, StdReady, StdNext}
-use Rattle.flow_machine.specs.PlanOf.{plan_of}
 use Rattle.flow_model.specs.States.{Process, State}
 use Rattle.flow_model.specs.Schedules.{Journal}
 use Rattle.flow_model.specs.Places.{places}
 use Rattle.flow_model.specs.Verdicts.{IsFinished}
 use Rattle.flow_model.specs.Robin.{RoundRobin}
-use Rattle.flow_model.specs.Plans.{Plan, start_of, StartsWell}
+use Rattle.flow_model.specs.Plans.{start_of, StartsWell}
 
 -- The plan: the names and the files of the first example.
 abbrev pub first_network : Network
@@ -39,9 +38,6 @@ first_part = record {
       ∷ [];
 }
 
-abbrev pub first_plan : Plan
-first_plan = plan_of first_network
-
 -- A component that passes on.
 abbrev pub passing : Passthru
 passing = record {}
@@ -52,7 +48,7 @@ first_parts = parts.ReadLines ((120 ∷ []) ∷ []) ∷ parts.Passthru passing �
 
 -- The start.
 abbrev pub first_start : State Std
-first_start = start_of first_plan first_parts
+first_start = start_of first_network first_parts
 
 -- Five turns of the reader, seven of the process that passes on, five of the writer.
 abbrev pub first_journal : Journal
@@ -62,7 +58,7 @@ first_journal = record { turns = (replicate 5 0 ++ replicate 7 1) ++ replicate 5
 -- the line and a line feed.
 pub record IsFirstRun : Type 0 where
   pub planned : ComesTo std_kinds first_part (Ok first_network)
-  pub starts : StartsWell std_shape std_uses StdReady first_plan first_parts
+  pub starts : StartsWell std_shape std_uses StdReady first_network first_parts
   pub last : State Std
   pub round : RoundRobin StdNext first_start first_journal last
   pub finished : IsFinished last

@@ -2,3 +2,4 @@ pub mod Chain
 pub mod FirstRun
 pub mod Twice
 pub mod Mute
+pub mod Ends

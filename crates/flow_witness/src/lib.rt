@@ -3,6 +3,7 @@
 //! The first run is that of a chain. Its network is written out in `specs/Chain.antt`, and is what a builder makes of a text.
 #![tactic(auto)]
 
+ghost use Rattle.flow_witness.specs.Ends.{IsStuck, IsFailure, IsMerge};
 ghost use Rattle.flow_witness.specs.FirstRun.{IsFirstRun};
 ghost use Rattle.flow_witness.specs.Mute.{MuteIsRefused};
 ghost use Rattle.flow_witness.specs.Twice.{TwiceIsRefused};
@@ -22,4 +23,12 @@ pub fn a_part_that_sends_twice_is_no_component()
 /// A part that comes to no outcome breaks the laws of components, whatever it claims to be ready for.
 pub fn a_part_without_outcomes_is_no_component()
     ensures { MuteIsRefused }
+{}
+
+/// A ring of two processes that pass on is a deadlock from its start; a component that fails ends its network as failed; and of two readers
+/// that send to one writer either may come first: two schedules finish with different bytes.
+pub fn the_other_ends()
+    ensures deadlock { IsStuck }
+    ensures failure { IsFailure }
+    ensures merge { IsMerge }
 {}

@@ -1,9 +1,8 @@
 //! A process at its start.
 ghost use Rattle.std.specs.Prelude.{◌≡◌, ◌<◌, ◌^◌, length, IfOk, Some, slice_get};
-ghost use Rattle.flow_net.specs.declared.plan.Process.{Process as NetProcess};
+ghost use Rattle.flow_plan.specs.declared.plan.Process.{Process as NetProcess};
 ghost use Rattle.flow_model.specs.Plans.{process_at_start};
 ghost use Rattle.flow_machine.specs.Bodies.{StandsWell};
-ghost use Rattle.flow_machine.specs.PlanOf.{plan_of, process_of};
 ghost use Rattle.flow_machine.specs.Starts.{StartsBody};
 
 use super::Body;
@@ -25,8 +24,8 @@ impl<K: Component> Body<K> {
     ) -> Result<Body<K>, AllocError>
         requires in_range { process < length plan.now.processes }
         requires few { length plan.now.connections < 2 ^ 32 }
-        requires well { (x : NetProcess) → slice_get plan.now.processes process ≡ Some x → x.outputs < 2 ^ 32 → StandsWell K.shape_of K.uses K.ready (process_at_start (plan_of plan.now) process (process_of x) part) }
-        ensures { IfOk result (λ body. (x : NetProcess) → slice_get plan.now.processes process ≡ Some x → StartsBody (process_at_start (plan_of plan.now) process (process_of x) part) body) }
+        requires well { (x : NetProcess) → slice_get plan.now.processes process ≡ Some x → x.outputs < 2 ^ 32 → StandsWell K.shape_of K.uses K.ready (process_at_start plan.now process x part) }
+        ensures { IfOk result (λ body. (x : NetProcess) → slice_get plan.now.processes process ≡ Some x → StartsBody (process_at_start plan.now process x part) body) }
     {
         let entry = &plan.processes()[process as usize];
         let inlets = inlets_of(alloc, plan, process)?;

@@ -1,8 +1,7 @@
 //! A network at its start.
 ghost use Rattle.std.specs.Prelude.{◌≡◌, ◌<◌, ◌≤◌, ◌^◌, length, IfOk, ℕ, Some, slice_get};
-ghost use Rattle.flow_net.specs.declared.plan.Connection.{Connection as NetConnection};
+ghost use Rattle.flow_plan.specs.declared.plan.Connection.{Connection as NetConnection};
 ghost use Rattle.flow_model.specs.Plans.{StartsWell};
-ghost use Rattle.flow_machine.specs.PlanOf.{plan_of};
 ghost use Rattle.flow_machine.specs.Starts.{StartsNet, StartsBodies, StartsChannels};
 
 use super::Net;
@@ -57,9 +56,9 @@ fn bodies_of<K: Component>(
     plan: &Plan,
     parts: Vec<K>,
 ) -> Result<Vec<Body<K>>, AllocError>
-    requires well { StartsWell K.shape_of K.uses K.ready (plan_of plan.now) parts.items }
+    requires well { StartsWell K.shape_of K.uses K.ready plan.now parts.items }
     requires few { length plan.now.connections ≤ 512 }
-    ensures { IfOk result (λ bodies. StartsBodies (plan_of plan.now) parts.items bodies.items) }
+    ensures { IfOk result (λ bodies. StartsBodies plan.now parts.items bodies.items) }
 {
     let mut parts = parts;
     let mut bodies = Vec::with_capacity(alloc, plan.processes().len())?;
@@ -82,9 +81,9 @@ impl<K: Component> Net<K> {
     /// A network of a plan with these components, one for each process. All processes are idle and set, nothing was made or put, and each connection has
     /// the places of its capacity.
     pub fn start(alloc: Global, plan: &Plan, parts: Vec<K>) -> Result<Net<K>, AllocError>
-        requires well { StartsWell K.shape_of K.uses K.ready (plan_of plan.now) parts.items }
+        requires well { StartsWell K.shape_of K.uses K.ready plan.now parts.items }
         requires few { length plan.now.connections ≤ 512 }
-        ensures { IfOk result (λ net. StartsNet (plan_of plan.now) parts.items net) }
+        ensures { IfOk result (λ net. StartsNet plan.now parts.items net) }
     {
         let channels = channels_of(alloc, plan.connections())?;
         match bodies_of(alloc, plan, parts) {

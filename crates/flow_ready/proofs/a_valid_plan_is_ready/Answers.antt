@@ -1,9 +1,6 @@
-use Rattle.flow_ready.proofs.Wired.{sends-there, valid-wired}
+use Rattle.flow_ready.proofs.Sends.{sends-there}
 use Rattle.flow_ready.proofs.Starts.{starts-well}
 use Rattle.flow_ready.proofs.a_valid_plan_is_ready.Goals as goal
-
-pub returns-clause-wired : goal.returns-clause-wired
-returns-clause-wired g c = λ network valid. valid-wired network valid
 
 pub returns-clause-starts : goal.returns-clause-starts
 returns-clause-starts g c = λ network parts valid fit. starts-well g.K.Component.shape_of g.K.Component.uses g.K.Component.ready network parts valid fit

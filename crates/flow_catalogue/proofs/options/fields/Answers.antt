@@ -3,7 +3,7 @@ use Rattle.std.specs.List.{All, slice_split}
 use Rattle.std.proofs.lemmas.List.{length-map, length_push}
 use Rattle.std.proofs.lemmas.List.Elements.{All-head, All-tail}
 use Rattle.flow_text.specs.Text.{number_of}
-use Rattle.flow_net.specs.Options.{IsNumberWithin}
+use Rattle.flow_plan.specs.Texts.{IsNumberWithin}
 use Rattle.flow_net.proofs.Spaces.{ends}
 use Rattle.flow_catalogue.specs.Processes.{fields_of}
 use Rattle.flow_catalogue.proofs.options.fields.Goals as goal

@@ -1,6 +1,6 @@
 use Rattle.std.proofs.Common.{◌≡◌, ◌==◌, ◌++◌, length}
 use Rattle.std.specs.List.{All, slice_split}
-use Rattle.flow_net.specs.Options.{IsNumberWithin}
+use Rattle.flow_plan.specs.Texts.{IsNumberWithin}
 use Rattle.flow_catalogue.specs.Processes.{fields_of}
 use Rattle.flow_catalogue.proofs.options.fields.Given as goal
 

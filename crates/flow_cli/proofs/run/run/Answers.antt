@@ -1,6 +1,6 @@
 use Rattle.std.proofs.Common.{Err, Ok, inl, ap, subst, sym, ◌∙◌}
 use Rattle.std.specs.Option.{option_map}
-use Rattle.flow_net.specs.Network.{Network}
+use Rattle.flow_plan.specs.Network.{Network}
 use Rattle.flow_cli.proofs.Runs.{halts, whole}
 use Rattle.flow_cli.specs.Many.{replaced_all}
 use Rattle.flow_cli.specs.After.{WritesOutputs}

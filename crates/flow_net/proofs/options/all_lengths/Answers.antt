@@ -1,7 +1,7 @@
 use Rattle.std.proofs.Common.{◌∙◌, sym}
 use Rattle.std.specs.List.{All, slice_split}
 use Rattle.std.proofs.lemmas.Bool.{false≢true}
-use Rattle.flow_net.specs.Options.{IsNumberWithin}
+use Rattle.flow_plan.specs.Texts.{IsNumberWithin}
 use Rattle.flow_net.proofs.Spaces.{ends, All-one, All-passed, All-failed}
 use Rattle.flow_net.proofs.options.all_lengths.Goals as goal
 

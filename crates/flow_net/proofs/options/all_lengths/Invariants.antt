@@ -1,6 +1,6 @@
 use Rattle.std.proofs.Common.{◌↔◌, ◌==◌, length}
 use Rattle.std.specs.List.{All, slice_split}
-use Rattle.flow_net.specs.Options.{IsNumberWithin}
+use Rattle.flow_plan.specs.Texts.{IsNumberWithin}
 use Rattle.flow_net.proofs.options.all_lengths.Given as goal
 
 abbrev pub invariant-parts : goal.invariant-parts

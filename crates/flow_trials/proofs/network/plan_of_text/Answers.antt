@@ -1,7 +1,7 @@
 use Rattle.std.proofs.Common.{◌≡◌, ◌∙◌, List, [], Ok, Err, sym, ap, subst}
 use Rattle.flow_net.specs.declared.fault.PlanFault.{PlanFault}
-use Rattle.flow_net.specs.Network.{Network}
-use Rattle.flow_net.specs.declared.kind.KindSpec.{KindSpec}
+use Rattle.flow_plan.specs.Network.{Network}
+use Rattle.flow_plan.specs.declared.kind.KindSpec.{KindSpec}
 use Rattle.flow_parse.specs.declared.value.NetText.{NetText}
 use Rattle.flow_expand.specs.declared.stop.ExpandStop.{ExpandStop}
 use Rattle.flow_expand.specs.declared.stop.ExpandStop.TheVariants as stops

@@ -1,6 +1,6 @@
 use Rattle.std.proofs.Common.{◌≡◌, ℕ, ◌<◌, Some, slice_get}
-use Rattle.flow_net.specs.declared.plan.Process.{Process}
-use Rattle.flow_net.specs.Valid.{HasSender}
+use Rattle.flow_plan.specs.declared.plan.Process.{Process}
+use Rattle.flow_plan.specs.Valid.{HasSender}
 use Rattle.flow_trials.proofs.starting.all_connected.Given as goal
 
 abbrev pub invariant-loop-process : goal.invariant-loop-process

@@ -1,5 +1,5 @@
 use Rattle.std.proofs.Common.{below_more, sym, ◌∙◌}
-use Rattle.flow_net.specs.Valid.{HasSender}
+use Rattle.flow_plan.specs.Valid.{HasSender}
 use Rattle.flow_catalogue.proofs.Connected.{connected-sends}
 use Rattle.flow_trials.proofs.starting.outputs_connected.Goals as goal
 

@@ -1,5 +1,5 @@
 use Rattle.std.proofs.Common.{ℕ, ◌<◌}
-use Rattle.flow_net.specs.Valid.{HasSender}
+use Rattle.flow_plan.specs.Valid.{HasSender}
 use Rattle.flow_trials.proofs.starting.outputs_connected.Given as goal
 
 abbrev pub invariant-loop-output : goal.invariant-loop-output

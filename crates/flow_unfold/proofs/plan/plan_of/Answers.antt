@@ -1,5 +1,5 @@
 use Rattle.std.proofs.Common.{List, subst, ◌∙◌}
-use Rattle.flow_net.specs.declared.kind.KindSpec.{KindSpec}
+use Rattle.flow_plan.specs.declared.kind.KindSpec.{KindSpec}
 use Rattle.flow_flat.specs.Firsts.{AllPass}
 use Rattle.flow_flat.specs.Texts.{InstancePasses, all_instances}
 use Rattle.std.proofs.lemmas.Result.{err_from_is_err_and}

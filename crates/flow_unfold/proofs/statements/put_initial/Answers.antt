@@ -1,7 +1,7 @@
 use Rattle.std.proofs.Common.{List, ℕ, Ok, Err, ap, sym, subst, ◌∙◌}
 use Rattle.std.proofs.lemmas.Result.{err_from_is_err_and}
 use Rattle.std.specs.declared.result.Result.{Result}
-use Rattle.flow_net.specs.declared.kind.PortRef.{PortRef}
+use Rattle.flow_plan.specs.declared.kind.PortRef.{PortRef}
 use Rattle.flow_net.specs.Initials.{AfterInitial}
 use Rattle.flow_parse.specs.declared.value.Statement.TheVariants.{Initial}
 use Rattle.flow_flat.specs.declared.fault.ExpandFault.{ExpandFault}

@@ -1,9 +1,8 @@
 use Rattle.std.proofs.Common.{◌≡◌, ◌∙◌, ◌<◌, sym, ap, subst, refl, arith, Some, slice_get, List, length, replicate, false}
 use Rattle.std.specs.Prelude.{◌^◌}
 use Rattle.std.proofs.lemmas.Option.{slice_get-get_or}
-use Rattle.flow_net.specs.declared.plan.Process.{Process as NetProcess}
+use Rattle.flow_plan.specs.declared.plan.Process.{Process as NetProcess}
 use Rattle.flow_model.specs.Plans.{process_at_start}
-use Rattle.flow_machine.specs.PlanOf.{plan_of, process_of}
 use Rattle.flow_machine.specs.Starts.{StartsBody}
 use Rattle.flow_machine.proofs.body.Body.begin.Goals as goal
 
@@ -32,7 +31,7 @@ returns-in-Wishing g c = λ x' there'.
     let depths = c.in_ok-depths.ensures.items_if_clones_equal (λ y e. e) ∙ ap (λ n. replicate n 0) c.places-2.ensures.is in
     let prepared = c.in-Wishing.ensures.prepares in
     let keeps = c.in-Wishing.ensures.keeps in
-    let starts : StartsBody (process_at_start (plan_of c.args.plan.now) c.args.process (process_of x) c.args.part) c.prepare.new.self = record {
+    let starts : StartsBody (process_at_start c.args.plan.now c.args.process x c.args.part) c.prepare.new.self = record {
       process = rw prepared.0.process (rw (inputs, outputs, fresh, depths, c.new.ensures, c.new-2.ensures.len) refl);
       dropped = rw prepared.0.dropped (rw c.new.ensures refl);
       leaving = keeps.leaving;
@@ -42,4 +41,4 @@ returns-in-Wishing g c = λ x' there'.
     } in
     let h : Some x ≡ Some x' = sym there ∙ there' in
     let same : x ≡ x' = cc in
-    subst (λ (q : NetProcess). StartsBody (process_at_start (plan_of c.args.plan.now) c.args.process (process_of q) c.args.part) c.prepare.new.self) same starts
+    subst (λ (q : NetProcess). StartsBody (process_at_start c.args.plan.now c.args.process q c.args.part) c.prepare.new.self) same starts

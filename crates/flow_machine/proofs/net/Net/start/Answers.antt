@@ -1,16 +1,13 @@
 use Rattle.std.proofs.Common.{◌≡◌, ◌∙◌, ap, sym, arith, List, map, Some, slice_get}
-use Rattle.std.proofs.lemmas.List.{length-map}
-use Rattle.flow_net.specs.declared.plan.Connection.{Connection as NetConnection}
+use Rattle.flow_plan.specs.declared.plan.Connection.{Connection as NetConnection}
 use Rattle.flow_machine.specs.Starts.{channel_begun}
-use Rattle.flow_machine.specs.PlanOf.{sender_of, connection_of}
-use Rattle.flow_machine.proofs.Standings.{get-map}
 use Rattle.flow_machine.proofs.StartLemmas.{starts-net, fit-start}
 use Rattle.flow_machine.proofs.net.Net.start.Goals as goal
 
 pub channels_of-requires : goal.channels_of-requires
 channels_of-requires g c = λ n x is.
     let there : slice_get c.args.plan.now.connections n ≡ Some x = ap (λ (cs : List NetConnection). slice_get cs n) (sym c.connections.ensures) ∙ is in
-    omega (arith, c.requires.well.wired.few_senders n (connection_of x) (get-map connection_of c.args.plan.now.connections n x there), length-map x.senders sender_of)
+    c.requires.well.wired.few_senders n x there
 
 pub invariant_of-result : goal.invariant_of-result
 invariant_of-result g c =

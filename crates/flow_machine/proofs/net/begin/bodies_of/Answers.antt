@@ -1,15 +1,12 @@
 use Rattle.std.proofs.Common.{◌≡◌, ◌∙◌, ◌<◌, ℕ, [], ◌∷◌, List, length, ap, sym, arith, refl, Some, slice_get, length-append, length-drop, inl, inr}
-use Rattle.std.proofs.lemmas.List.{length-map}
-use Rattle.flow_net.specs.declared.plan.Process.{Process as NetProcess}
+use Rattle.flow_plan.specs.declared.plan.Process.{Process as NetProcess}
 use Rattle.flow_machine.specs.Values.{BodyValue}
-use Rattle.flow_machine.specs.PlanOf.{plan_of, process_of}
-use Rattle.flow_machine.proofs.Standings.{get-map}
 use Rattle.flow_machine.proofs.Lists.{element-there, last-or, nothing-there, some-same}
 use Rattle.flow_machine.proofs.StartLemmas.{stands-start, rest-drops, first-of, starts-same}
 use Rattle.flow_machine.proofs.net.begin.bodies_of.Goals as goal
 
 pub overflow_cast-process-end : goal.overflow_cast-process-end
-overflow_cast-process-end g c = omega (arith, ap (λ (ps : List NetProcess). length ps) c.processes-2.ensures.processes, c.requires.well.wired.few, length-map c.args.plan.now.processes process_of)
+overflow_cast-process-end g c = omega (arith, ap (λ (ps : List NetProcess). length ps) c.processes-2.ensures.processes, c.requires.well.wired.few_processes)
 
 pub remove-part-requires : goal.remove-part-requires
 remove-part-requires g c =
@@ -18,7 +15,6 @@ remove-part-requires g c =
       c.loop-process-test.true,
       ap (λ (ps : List NetProcess). length ps) c.processes-2.ensures.processes,
       c.requires.well.one_each,
-      length-map c.args.plan.now.processes process_of,
       ap (λ (ps : List g.row.K.Denot). length ps) c.loop-process.invariant.rest,
       length-drop c.loop-process.process c.args.parts.items,
     )
@@ -31,12 +27,12 @@ begin-requires-clause-few g c = omega (arith, c.requires.few)
 
 pub begin-requires-clause-well : goal.begin-requires-clause-well
 begin-requires-clause-well g c = λ x there small.
-    let plan = plan_of c.args.plan.now in
+    let plan = c.args.plan.now in
     let p : ℕ = c.loop-process.process in
-    let within : p < length c.args.parts.items = omega (arith, c.loop-process-test.true, ap (λ (ps : List NetProcess). length ps) c.processes-2.ensures.processes, c.requires.well.one_each, length-map c.args.plan.now.processes process_of) in
+    let within : p < length c.args.parts.items = omega (arith, c.loop-process-test.true, ap (λ (ps : List NetProcess). length ps) c.processes-2.ensures.processes, c.requires.well.one_each) in
     let part = element-there c.args.parts.items p within in
     let same : c.remove-part.result ≡ part.0 = first-of c.args.parts.items c.loop-process.parts.items p c.remove-part.result part.0 c.loop-process.invariant.rest part.1 c.remove-part.ensures.value in
-    stands-start g.K.Component.shape_of g.K.Component.uses g.K.Component.ready plan c.args.parts.items p (process_of x) c.remove-part.result c.requires.well (get-map process_of c.args.plan.now.processes p x there)
+    stands-start g.K.Component.shape_of g.K.Component.uses g.K.Component.ready plan c.args.parts.items p x c.remove-part.result c.requires.well there
     (part.1 ∙ ap (λ (z : g.row.K.Denot). Some z) (sym same)) small
 
 pub loop-process-init : goal.loop-process-init
@@ -57,16 +53,16 @@ loop-process-preserved g c = record {
             let place : c.loop-process.process ≡ p = sym c.loop-process.invariant.count ∙ sym new.0 in
             let within : c.loop-process.process < length c.args.plan.now.processes = omega (arith, c.loop-process-test.true, ap (λ (ps : List NetProcess). length ps) c.processes-2.ensures.processes) in
             let x = element-there c.args.plan.now.processes c.loop-process.process within in
-            let spec_there : Some (process_of x.0) ≡ Some q = sym (get-map process_of c.args.plan.now.processes c.loop-process.process x.0 x.1) ∙ ap (λ (n : ℕ). slice_get (plan_of c.args.plan.now).processes n) place ∙ is in
-            let spec : process_of x.0 ≡ q = some-same (process_of x.0) q spec_there in
+            let spec_there : Some x.0 ≡ Some q = sym x.1 ∙ ap (λ (n : ℕ). slice_get c.args.plan.now.processes n) place ∙ is in
+            let spec : x.0 ≡ q = some-same x.0 q spec_there in
             let part_there : slice_get c.args.parts.items c.loop-process.process ≡ Some part = ap (λ (n : ℕ). slice_get c.args.parts.items n) place ∙ at in
             let same : c.remove-part.result ≡ part = first-of c.args.parts.items c.loop-process.parts.items c.loop-process.process c.remove-part.result part c.loop-process.invariant.rest part_there c.remove-part.ensures.value in
-            starts-same (plan_of c.args.plan.now) c.loop-process.process p (process_of x.0) q c.remove-part.result part c.in-Ok.body b place spec same new.1 (c.in-Ok.ensures x.0 x.1))
+            starts-same c.args.plan.now c.loop-process.process p x.0 q c.remove-part.result part c.in-Ok.body b place spec same new.1 (c.in-Ok.ensures x.0 x.1))
       ]);
 }
 
 pub returns : goal.returns
 returns g c = record {
-  count = omega (arith, c.loop-process.invariant.count, c.loop-process-test.false, c.loop-process.auto.process-end, ap (λ (ps : List NetProcess). length ps) c.processes-2.ensures.processes, length-map c.args.plan.now.processes process_of);
+  count = omega (arith, c.loop-process.invariant.count, c.loop-process-test.false, c.loop-process.auto.process-end, ap (λ (ps : List NetProcess). length ps) c.processes-2.ensures.processes);
   each = c.loop-process.invariant.each;
 }

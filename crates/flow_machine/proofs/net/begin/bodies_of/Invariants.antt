@@ -1,7 +1,7 @@
 use Rattle.std.proofs.Common.{◌≡◌, ℕ, drop, length, Some, slice_get}
-use Rattle.flow_model.specs.Plans.{PlanProcess, process_at_start}
+use Rattle.flow_model.specs.Plans.{process_at_start}
+use Rattle.flow_plan.specs.declared.plan.Process.{Process as PlanProcess}
 use Rattle.flow_machine.specs.Values.{BodyValue}
-use Rattle.flow_machine.specs.PlanOf.{plan_of}
 use Rattle.flow_machine.specs.Starts.{StartsBody}
 use Rattle.flow_machine.proofs.net.begin.bodies_of.Given as goal
 
@@ -9,5 +9,5 @@ abbrev pub invariant-loop-process : goal.invariant-loop-process
 invariant-loop-process g l = record {
   rest : l.parts.items ≡ drop l.process l.fn.parts.items;
   count : length l.bodies.items ≡ l.process;
-  each : (p : ℕ) (q : PlanProcess) (part : g.row.K.Denot) (b : BodyValue g.row.K.Denot) → slice_get (plan_of l.plan).processes p ≡ Some q → slice_get l.fn.parts.items p ≡ Some part → slice_get l.bodies.items p ≡ Some b → StartsBody (process_at_start (plan_of l.plan) p q part) b;
+  each : (p : ℕ) (q : PlanProcess) (part : g.row.K.Denot) (b : BodyValue g.row.K.Denot) → slice_get l.plan.processes p ≡ Some q → slice_get l.fn.parts.items p ≡ Some part → slice_get l.bodies.items p ≡ Some b → StartsBody (process_at_start l.plan p q part) b;
 }

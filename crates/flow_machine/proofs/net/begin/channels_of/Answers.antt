@@ -1,7 +1,7 @@
 use Rattle.std.proofs.Common.{◌≡◌, ◌∙◌, ◌++◌, [], ◌∷◌, ℕ, map, ap, sym, arith, Some}
 use Rattle.std.proofs.lemmas.List.{map_more, take_all}
 use Rattle.std.proofs.lemmas.Option.{slice_get-get_or}
-use Rattle.flow_net.specs.declared.plan.Connection.{Connection as NetConnection}
+use Rattle.flow_plan.specs.declared.plan.Connection.{Connection as NetConnection}
 use Rattle.flow_model.specs.Stands.{ChannelShown}
 use Rattle.flow_machine.specs.Starts.{channel_begun}
 use Rattle.flow_machine.proofs.net.begin.channels_of.Goals as goal

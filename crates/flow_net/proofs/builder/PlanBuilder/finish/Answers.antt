@@ -6,6 +6,7 @@ use Rattle.flow_net.specs.Drafts.{Draft}
 use Rattle.flow_net.specs.Over.{IsOver}
 use Rattle.flow_net.specs.Sound.{IsPlaced, into_of, sender_at, text_at}
 use Rattle.flow_net.specs.Finishes.{count_of, process_of, table_of, connection_of, first_fault, sum_fault}
+use Rattle.flow_plan.specs.Network.{Network}
 use Rattle.flow_net.proofs.Validity.{IsValid-made}
 use Rattle.flow_net.proofs.Overs.{IsOver-made}
 use Rattle.flow_net.proofs.Placed.{counts-few, capacity_of-small, into-placed, sender-placed, text-placed}
@@ -46,22 +47,8 @@ connections-requires-clause-few c =
     let made = c.in_ok-counts.ensures in
     counts-few (length c.self.inside.processes.items) c.self.inside.ports.items c.as_slice-counts.result.now c.self.invariant.ports (c.as_slice-counts.ensures.value ∙ made ∙ ap (map count_of) c.as_slice-ports.ensures.value)
 
-pub invariant_of-result : goal.invariant_of-result
-invariant_of-result c =
-    let first : first_fault c.self.inside.processes.items c.self.inside.ports.items ≡ Ok c.in_ok-check_ports.field-0 =
-    rw (sym c.as_slice-processes.ensures.value, sym c.as_slice-ports.ensures.value) c.in_ok-check_ports.ensures in
-    let sum : sum_fault c.self.inside.links.items ≡ Ok c.in_ok-check_sum.field-0 = rw (sym c.as_slice-links.ensures.value) c.in_ok-check_sum.ensures in
-    let processes : c.in_ok-processes.field-0.items ≡ map (process_of c.self.inside.ports.items) c.self.inside.processes.items =
-    rw (sym c.as_slice-processes.ensures.value, sym c.as_slice-ports.ensures.value) c.in_ok-processes.ensures in
-    let connections : c.in_ok-connections.field-0.items ≡ map (connection_of c.self.inside.ports.items) c.self.inside.links.items =
-    rw (sym c.as_slice-links.ensures.value, sym c.as_slice-ports.ensures.value) c.in_ok-connections.ensures in
-    let tables : c.in_ok-tables.field-0.items ≡ map (table_of c.self.inside.ports.items) c.self.inside.processes.items =
-    rw (sym c.as_slice-processes.ensures.value, sym c.as_slice-ports.ensures.value) c.in_ok-tables.ensures in
-    IsValid-made (record { kinds = c.self.inside.kinds.items; processes = c.self.inside.processes.items; ports = c.self.inside.ports.items; links = c.self.inside.links.items })
-    c.in_ok-check_ports.field-0 c.in_ok-check_sum.field-0 c.in_ok-processes.field-0.items c.in_ok-connections.field-0.items c.in_ok-tables.field-0.items c.self.invariant first sum processes connections tables
-
-pub returns-clause-valid : goal.returns-clause-valid
-returns-clause-valid c =
+pub new-requires : goal.new-requires
+new-requires c =
     let first : first_fault c.self.inside.processes.items c.self.inside.ports.items ≡ Ok c.in_ok-check_ports.field-0 =
     rw (sym c.as_slice-processes.ensures.value, sym c.as_slice-ports.ensures.value) c.in_ok-check_ports.ensures in
     let sum : sum_fault c.self.inside.links.items ≡ Ok c.in_ok-check_sum.field-0 = rw (sym c.as_slice-links.ensures.value) c.in_ok-check_sum.ensures in
@@ -80,6 +67,7 @@ returns-clause-over c =
     rw (sym c.as_slice-processes.ensures.value, sym c.as_slice-ports.ensures.value) c.in_ok-processes.ensures in
     let tables : c.in_ok-tables.field-0.items ≡ map (table_of c.self.inside.ports.items) c.self.inside.processes.items =
     rw (sym c.as_slice-processes.ensures.value, sym c.as_slice-ports.ensures.value) c.in_ok-tables.ensures in
-    subst (λ (d : Draft). IsOver d.kinds (record { processes = c.in_ok-processes.field-0.items; connections = c.in_ok-connections.field-0.items; tables = c.in_ok-tables.field-0.items })) c.self.view_is
+    subst (λ (n : Network). IsOver c.args.self.kinds n) (sym c.new.ensures.is)
+    (subst (λ (d : Draft). IsOver d.kinds (record { processes = c.in_ok-processes.field-0.items; connections = c.in_ok-connections.field-0.items; tables = c.in_ok-tables.field-0.items })) c.self.view_is
     (IsOver-made (record { kinds = c.self.inside.kinds.items; processes = c.self.inside.processes.items; ports = c.self.inside.ports.items; links = c.self.inside.links.items })
-    c.in_ok-processes.field-0.items c.in_ok-connections.field-0.items c.in_ok-tables.field-0.items c.self.invariant processes tables)
+    c.in_ok-processes.field-0.items c.in_ok-connections.field-0.items c.in_ok-tables.field-0.items c.self.invariant processes tables))

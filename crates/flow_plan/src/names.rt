@@ -1,7 +1,7 @@
 //! Port names, by the numbers of inputs and outputs.
 ghost use Rattle.std.specs.Prelude.{◌≡◌, ◌<◌, ◌++◌, length, Some, IfOk, slice_get};
 ghost use Rattle.std.specs.Option.{option_map};
-ghost use Rattle.flow_net.specs.Network.{elements_of, ports_of, spelled, spelled_element};
+ghost use Rattle.flow_plan.specs.Network.{elements_of, ports_of, spelled, spelled_element};
 
 use crate::kind::PortClass;
 use crate::plan::PortRow;

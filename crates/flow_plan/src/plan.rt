@@ -56,19 +56,19 @@ pub struct PortTable {
 /// differ, whose inputs each have one connection or one text, and that is within all its limits.
 #[derive(Drop)]
 pub struct Plan {
-    pub(crate) processes: Vec<Process>,
-    pub(crate) connections: Vec<Connection>,
-    pub(crate) tables: Vec<PortTable>,
+    processes: Vec<Process>,
+    connections: Vec<Connection>,
+    tables: Vec<PortTable>,
 }
 
 impl Model for Plan {
-    ghost use Rattle.flow_net.specs.Network.{Network};
+    ghost use Rattle.flow_plan.specs.Network.{Network};
 
     ghost Value = { Network };
 
     ghost view = { λ p. record { processes = p.processes.items; connections = p.connections.items; tables = p.tables.items } };
 
-    ghost use Rattle.flow_net.specs.Valid.{IsValid};
+    ghost use Rattle.flow_plan.specs.Valid.{IsValid};
 
     ghost invariant = { λ p. IsValid (record { processes = p.processes.items; connections = p.connections.items; tables = p.tables.items }) };
 }
@@ -76,8 +76,25 @@ impl Model for Plan {
 impl Plan {
     ghost use Rattle.std.specs.Prelude.{◌≡◌, Some, IfOk};
     ghost use Rattle.std.specs.Option.{option_map};
-    ghost use Rattle.flow_net.specs.Network.{HasInput, HasOutput, input_port, output_port, spelled};
-    ghost use Rattle.flow_net.specs.Valid.{IsValid};
+    ghost use Rattle.flow_plan.specs.Network.{HasInput, HasOutput, input_port, output_port, spelled};
+    ghost use Rattle.flow_plan.specs.Valid.{IsValid};
+
+    /// The plan of these processes, connections and tables, which are a valid one. Takes no memory.
+    pub fn new(
+        processes: Vec<Process>,
+        connections: Vec<Connection>,
+        tables: Vec<PortTable>,
+    ) -> Self
+        requires { IsValid (record { processes = processes.items; connections = connections.items; tables = tables.items }) }
+        ensures is { result ≡ record { processes = processes.items; connections = connections.items; tables = tables.items } }
+        ensures valid { IsValid result }
+    {
+        Plan {
+            processes,
+            connections,
+            tables,
+        }
+    }
 
     /// The processes, in the order of their numbers.
     pub fn processes(&self) -> &[Process]

@@ -3,13 +3,13 @@ use Rattle.std.specs.Prelude.{◌≡◌, ℕ, ◌<◌, if◌then◌else◌, Bool
 use Rattle.std.specs.List.{flat_map, range_with_len}
 use Rattle.std.specs.Option.{option_and_then}
 use Rattle.std.specs.Fmt.{decimal}
-use Rattle.flow_net.specs.declared.kind.PortClass.{PortClass}
-use Rattle.flow_net.specs.declared.kind.PortClass.TheVariants.{Stream, Number, Fields, File}
-use Rattle.flow_net.specs.declared.kind.PortRef.{PortRef}
-use Rattle.flow_net.specs.declared.plan.Process.{Process}
-use Rattle.flow_net.specs.declared.plan.Connection.{Connection}
-use Rattle.flow_net.specs.declared.plan.PortRow.{PortRow}
-use Rattle.flow_net.specs.declared.plan.PortTable.{PortTable}
+use Rattle.flow_plan.specs.declared.kind.PortClass.{PortClass}
+use Rattle.flow_plan.specs.declared.kind.PortClass.TheVariants.{Stream, Number, Fields, File}
+use Rattle.flow_plan.specs.declared.kind.PortRef.{PortRef}
+use Rattle.flow_plan.specs.declared.plan.Process.{Process}
+use Rattle.flow_plan.specs.declared.plan.Connection.{Connection}
+use Rattle.flow_plan.specs.declared.plan.PortRow.{PortRow}
+use Rattle.flow_plan.specs.declared.plan.PortTable.{PortTable}
 
 -- A network before it runs: its processes and connections in order, and the ports of each process.
 pub record Network : Type 0 where

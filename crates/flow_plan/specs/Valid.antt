@@ -1,14 +1,15 @@
 -- What makes a network a valid plan.
+use Rattle.flow_plan.specs.declared.limits.TheConstants.{CAPACITY_LIMIT, CAPACITY_SUM_LIMIT, CONNECTION_LIMIT, ELEMENT_LIMIT, PROCESS_LIMIT, SENDER_LIMIT, TEXT_LIMIT}
 use Rattle.std.specs.Prelude.{◌≡◌, ◌⊎◌, ℕ, ◌≤◌, Bool, true, false, List, map, length, Some, slice_get}
 use Rattle.std.specs.List.{flat_map, sum_by}
-use Rattle.flow_net.specs.declared.kind.PortRef.{PortRef}
-use Rattle.flow_net.specs.declared.plan.Sender.{Sender}
-use Rattle.flow_net.specs.declared.plan.Process.{Process}
-use Rattle.flow_net.specs.declared.plan.Connection.{Connection}
-use Rattle.flow_net.specs.declared.plan.PortRow.{PortRow}
-use Rattle.flow_net.specs.declared.plan.PortTable.{PortTable}
-use Rattle.flow_net.specs.Network.{Network, LaidOut, HasInput, HasOutput, elements_of, is_stream}
-use Rattle.flow_net.specs.Options.{IsOfClass}
+use Rattle.flow_plan.specs.declared.kind.PortRef.{PortRef}
+use Rattle.flow_plan.specs.declared.plan.Sender.{Sender}
+use Rattle.flow_plan.specs.declared.plan.Process.{Process}
+use Rattle.flow_plan.specs.declared.plan.Connection.{Connection}
+use Rattle.flow_plan.specs.declared.plan.PortRow.{PortRow}
+use Rattle.flow_plan.specs.declared.plan.PortTable.{PortTable}
+use Rattle.flow_plan.specs.Network.{Network, LaidOut, HasInput, HasOutput, elements_of, is_stream}
+use Rattle.flow_plan.specs.Texts.{IsOfClass}
 
 -- Input i of process p receives from a connection.
 pub record HasConnection (n : Network) (p i : ℕ) : Type 0 where
@@ -64,7 +65,7 @@ pub record HasOption (n : Network) (p i : ℕ) : Type 0 where
 pub record FitsOption (n : Network) (p i : ℕ) (text : List ℕ) : Type 0 where
   pub port : HasOptionPort n p i
   pub class : IsOfClass port.row.spec.class text
-  pub short : length text ≤ 1048576
+  pub short : length text ≤ TEXT_LIMIT
 
 -- Each option fits an option port, and each option port has an option, and no second one unless it is an array.
 pub record HasOptions (n : Network) : Type 0 where
@@ -74,7 +75,7 @@ pub record HasOptions (n : Network) : Type 0 where
 
 -- An array has from 1 to 512 elements, and every other port has 1.
 pub record IsRow (row : PortRow) : Type 0 where
-  pub array : row.spec.array ≡ true → (1 ≤ row.elements) × (row.elements ≤ 512)
+  pub array : row.spec.array ≡ true → (1 ≤ row.elements) × (row.elements ≤ ELEMENT_LIMIT)
   pub single : row.spec.array ≡ false → row.elements ≡ 1
 
 -- Each row of each table has its elements.
@@ -82,25 +83,30 @@ pub record HasRows (n : Network) : Type 0 where
   pub inputs : (p i : ℕ) (table : PortTable) (row : PortRow) → slice_get n.tables p ≡ Some table → slice_get table.inputs i ≡ Some row → IsRow row
   pub outputs : (p o : ℕ) (table : PortTable) (row : PortRow) → slice_get n.tables p ≡ Some table → slice_get table.outputs o ≡ Some row → IsRow row
 
--- A valid plan: names differ; each input has one connection or one text, and not both; each output sends to one connection at most, and to one where it is
--- needed; every connection and every sender names an input or an output that is there; each option port has its option, and each port its elements; and all is
--- within its limits.
-pub record IsValid (n : Network) : Type 0 where
-  pub names : (p q : ℕ) (x y : Process) → slice_get n.processes p ≡ Some x → slice_get n.processes q ≡ Some y → x.name ≡ y.name → p ≡ q
-  pub laid_out : LaidOut n.processes n.tables
+-- A wired plan: every connection and every sender names an input or an output that is there, no input receives from two connections, no output sends
+-- twice, each input has a connection or an initial text and not both, and the numbers are within their limits. (It is what the machine asks of a plan:
+-- names, kinds and options are of no matter to it.)
+pub record IsWired (n : Network) : Type 0 where
+  pub few_processes : length n.processes ≤ PROCESS_LIMIT
+  pub few_connections : length n.connections ≤ CONNECTION_LIMIT
   pub receivers : (c : ℕ) (x : Connection) → slice_get n.connections c ≡ Some x → HasInput n x.receiver x.input
   pub one_receiver : (c d : ℕ) (x y : Connection) → slice_get n.connections c ≡ Some x → slice_get n.connections d ≡ Some y → x.receiver ≡ y.receiver → x.input ≡ y.input → c ≡ d
   pub senders : (c k : ℕ) (x : Connection) (s : Sender) → slice_get n.connections c ≡ Some x → slice_get x.senders k ≡ Some s → HasOutput n s.process s.output
   pub one_sender : (c d k l : ℕ) (x y : Connection) (s : Sender) → slice_get n.connections c ≡ Some x → slice_get n.connections d ≡ Some y → slice_get x.senders k ≡ Some s → slice_get y.senders l ≡ Some s → (c ≡ d) × (k ≡ l)
   pub each_input : (p i : ℕ) → HasInput n p i → HasConnection n p i ⊎ HasText n p i
   pub not_both : (p i : ℕ) → HasConnection n p i → HasText n p i → ⊥
+  pub short : (p k i : ℕ) (x : Process) (text : List ℕ) → slice_get n.processes p ≡ Some x → slice_get x.initials k ≡ Some (i, text) → length text ≤ TEXT_LIMIT
+  pub capacities : (c : ℕ) (x : Connection) → slice_get n.connections c ≡ Some x → (1 ≤ x.capacity) × (x.capacity ≤ CAPACITY_LIMIT)
+  pub few_senders : (c : ℕ) (x : Connection) → slice_get n.connections c ≡ Some x → length x.senders ≤ SENDER_LIMIT
+
+-- A valid plan: it is wired; names differ; no input has two texts; each output that is needed sends to a connection; each option port has its option, and
+-- each port its elements; and the capacities together are within their limit.
+pub record IsValid (n : Network) : Type 0 where
+  pub wired : IsWired n
+  pub names : (p q : ℕ) (x y : Process) → slice_get n.processes p ≡ Some x → slice_get n.processes q ≡ Some y → x.name ≡ y.name → p ≡ q
+  pub laid_out : LaidOut n.processes n.tables
   pub one_text : (p k l i : ℕ) (x : Process) (text other : List ℕ) → slice_get n.processes p ≡ Some x → slice_get x.initials k ≡ Some (i, text) → slice_get x.initials l ≡ Some (i, other) → k ≡ l
   pub needed_outputs : (p o : ℕ) → NeedsOutput n p o → HasSender n p o
-  pub few_processes : length n.processes ≤ 128
-  pub few_connections : length n.connections ≤ 512
-  pub capacities : (c : ℕ) (x : Connection) → slice_get n.connections c ≡ Some x → (1 ≤ x.capacity) × (x.capacity ≤ 1024)
-  pub few_senders : (c : ℕ) (x : Connection) → slice_get n.connections c ≡ Some x → length x.senders ≤ 65535
-  pub capacity_sum : sum_by (λ (x : Connection). x.capacity) n.connections ≤ 65536
-  pub short : (p k i : ℕ) (x : Process) (text : List ℕ) → slice_get n.processes p ≡ Some x → slice_get x.initials k ≡ Some (i, text) → length text ≤ 1048576
+  pub capacity_sum : sum_by (λ (x : Connection). x.capacity) n.connections ≤ CAPACITY_SUM_LIMIT
   pub options : HasOptions n
   pub rows : HasRows n

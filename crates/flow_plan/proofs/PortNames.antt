@@ -1,16 +1,18 @@
 -- Laws of the ports of a process by their numbers.
-use Rattle.std.proofs.Common.{◌≡◌, ℕ, ◌+◌, ◌<◌, List, [], ◌∷◌, ◌++◌, Some, None, Bool, true, false, map, refl, ap, sym, ◌∙◌, zero, suc, slice_get, get_or, length, drop, arith, length-append}
+use Rattle.std.proofs.Common.{add-one, drop-cons, ◌≡◌, ℕ, ◌+◌, ◌<◌, List, [], ◌∷◌, ◌++◌, Some, None, Bool, true, false, map, refl, ap, sym, ◌∙◌, zero, suc, slice_get, get_or, length, drop, arith, length-append}
 use Rattle.std.specs.Prelude.{if◌then◌else◌}
 use Rattle.std.specs.Option.{option_map}
 use Rattle.std.specs.List.{range_with_len}
 use Rattle.std.proofs.lemmas.List.FromFn.{length-map-range_with_len, length-range_with_len, get_or-range_with_len}
 use Rattle.std.proofs.lemmas.Option.{slice_get-map, slice_get-get_or}
-use Rattle.flow_net.specs.declared.kind.PortRef.{PortRef}
-use Rattle.flow_net.specs.declared.plan.PortRow.{PortRow}
-use Rattle.flow_net.specs.declared.plan.PortTable.{PortTable}
-use Rattle.flow_net.specs.declared.plan.Process.{Process}
-use Rattle.flow_net.specs.Network.{is_stream, elements_of, ports_of, spelled, spelled_element, LaidOut}
-use Rattle.flow_net.proofs.Sizes.{drop-more}
+use Rattle.flow_plan.specs.declared.kind.PortRef.{PortRef}
+use Rattle.flow_plan.specs.declared.plan.PortRow.{PortRow}
+use Rattle.flow_plan.specs.declared.plan.PortTable.{PortTable}
+use Rattle.flow_plan.specs.declared.plan.Process.{Process}
+use Rattle.flow_plan.specs.Network.{is_stream, elements_of, ports_of, spelled, spelled_element, LaidOut}
+
+drop-more : {X : Type 0} (xs : List X) (i : ℕ) (d : X) → i < length xs → drop i xs ≡ get_or xs i d ∷ drop (i + 1) xs
+drop-more xs i d within = rw (add-one, drop-cons xs i d)
 
 pub length_elements_of : (row : PortRow) → length (elements_of row) ≡ (if is_stream row.spec.class then (if row.spec.array then row.elements else 1) else 0)
 length_elements_of row = by (is_stream row.spec.class) row.spec.array

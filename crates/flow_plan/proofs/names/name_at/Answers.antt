@@ -1,8 +1,8 @@
 use Rattle.std.proofs.Common.{◌≡◌, ◌<◌, ◌+◌, ◌-◌, ◌∙◌, sym, ap, slice_get, get_or, length, arith}
-use Rattle.flow_net.specs.declared.plan.PortRow.{PortRow}
-use Rattle.flow_net.specs.Network.{elements_of, ports_of}
-use Rattle.flow_net.proofs.PortNames.{ports_of-here, ports_of-past, length-ports_of-drop}
-use Rattle.flow_net.proofs.names.name_at.Goals as goal
+use Rattle.flow_plan.specs.declared.plan.PortRow.{PortRow}
+use Rattle.flow_plan.specs.Network.{elements_of, ports_of}
+use Rattle.flow_plan.proofs.PortNames.{ports_of-here, ports_of-past, length-ports_of-drop}
+use Rattle.flow_plan.proofs.names.name_at.Goals as goal
 
 pub returns-then-left-count : goal.returns-then-left-count
 returns-then-left-count c =

@@ -1,0 +1,25 @@
+//! The limits of a plan. They are this project's own, and stand nowhere else: code, contracts and definitions cite them.
+
+/// The most processes of a plan.
+pub const PROCESS_LIMIT: usize = 128;
+
+/// The most connections of a plan.
+pub const CONNECTION_LIMIT: usize = 512;
+
+/// The most elements of an array port.
+pub const ELEMENT_LIMIT: usize = 512;
+
+/// The most ports of a kind on one side.
+pub const PORT_LIMIT: usize = 4096;
+
+/// The greatest capacity of a connection, in packets.
+pub const CAPACITY_LIMIT: u32 = 1024;
+
+/// The most packets that all connections of a plan together may take.
+pub const CAPACITY_SUM_LIMIT: u32 = 65_536;
+
+/// The most senders of a connection.
+pub const SENDER_LIMIT: usize = 65_535;
+
+/// The longest initial text, option or text of a packet, in bytes.
+pub const TEXT_LIMIT: usize = 1_048_576;
