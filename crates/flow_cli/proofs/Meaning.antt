@@ -1,5 +1,6 @@
 -- The files of a run that finished are what its network means.
-use Rattle.std.proofs.Common.{inl, inr, ℕ, ◌≤◌, ◌==◌, List, length, sym, ◌∙◌, subst, refl, arith, length-map}
+use Rattle.std.proofs.Common.{inl, inr, ℕ, ◌≤◌, ◌==◌, List, length, sym, ◌∙◌, subst, refl, arith}
+use Rattle.std.proofs.lemmas.List.{length-map}
 use Rattle.std.specs.List.{slice_split}
 use Rattle.std.proofs.lemmas.List.Splits.{length-slice_split}
 use Rattle.flow_text.specs.Text.{number_of}
