@@ -85,6 +85,24 @@ pub fn run_row(rt: &impl Abort, alloc: Global, row: Row) -> Result<Items<u16>, F
     run_on(rt, alloc, row, NONE)
 }
 
+/// The same over an output whose first write fails, so that nothing is printed.
+pub fn run_refused(rt: &impl Abort, alloc: Global, row: Row) -> Result<(), Fail> {
+    assert!(rt; row.piece >= 1);
+    let mut shelf = shelf_of(alloc, row, NONE)?;
+    let fails = vec![in alloc; 1]?;
+    let mut out = MemSink::new(alloc, row.piece, ROOM, fails)?;
+    let words = words(alloc, row.check)?;
+    let outcome = plain_top(alloc, &words, &mut shelf, &mut out);
+    assert_eq!(rt; outcome.status, row.status);
+    assert!(rt; out.bytes().is_empty());
+    for (name, bytes) in row.outputs {
+        if !name.is_empty() {
+            assert!(rt; shelf.file(name) == Some(bytes));
+        }
+    }
+    Ok(())
+}
+
 /// The same on one file more.
 pub fn run_on(
     rt: &impl Abort,

@@ -247,7 +247,8 @@ fn a_load_is_balanced(rt: HostRuntime) -> Result<(), Fail> {
     Ok(())
 }
 
-const TELEGRAM: Row = Row {
+/// Lines broken into words, and words filled into lines of twelve bytes.
+pub const TELEGRAM: Row = Row {
     net: b"flow 1\n# the telegram problem\n'in.txt' -> FILE Read(ReadLines)\nRead OUT -> IN Words(Words)\nWords OUT->(20) IN Fill(Fill)\n'12' -> SIZE Fill\nFill OUT -> IN Write(WriteLines)\n'out.txt' -> FILE Write\n",
     inputs: [
         ("in.txt", b"To be or not to be\nthat is the question\n"),
