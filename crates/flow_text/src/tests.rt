@@ -106,12 +106,18 @@ fn real_files_are_read_back(rt: HostRuntime) -> Result<(), Fail> {
     let mut shelf = FileShelf::new(alloc, &rt);
     shelf.create(&name).map_err(|_| "not created")?;
     write_all(&mut shelf, b"kept")?;
+    shelf.finish().map_err(|_| "not finished")?;
+    // What isn't finished leaves the name as it is.
+    shelf.create(&name).map_err(|_| "not created again")?;
+    write_all(&mut shelf, b"lost")?;
     shelf.open(&name).map_err(|_| "not opened")?;
     let bytes = read_all(alloc, &mut shelf, 100)?;
     assert_eq!(rt; bytes.as_slice(), b"kept".as_slice());
     assert_eq!(rt; shelf.open("no such file"), Err(ShelfStop::Fault));
     shelf.open(folder).map_err(|_| "the folder isn't opened")?;
     assert!(rt; read_all(alloc, &mut shelf, 100) == Err(ReadStop::Fault));
+    // The unfinished file is given up with the next one, and a folder is no file that can be written.
+    assert_eq!(rt; shelf.create(folder), Err(ShelfStop::Fault));
     Ok(())
 }
 
