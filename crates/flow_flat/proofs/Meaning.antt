@@ -74,7 +74,7 @@ module _ (kinds : List KindSpec) (text : NetText) where
     by (Ok d) one rest more =
         let stepped = step kinds (flat_of text).processes (text_ports kinds (flat_of text).processes) (filter_map said before) draft follows s d is.1 one in
         fails_later before xs (Ok s) fault stepped.0
-            (more d (subst (λ (l : List Statement). Follows kinds (flat_of text).processes (text_ports kinds (flat_of text).processes) l d) (sym (filter_map-append said before (Ok s ∷ []))) stepped.1) rest)
+        (more d (subst (λ (l : List Statement). Follows kinds (flat_of text).processes (text_ports kinds (flat_of text).processes) l d) (sym (filter_map-append said before (Ok s ∷ []))) stepped.1) rest)
     by (Err f) one rest more =
         let same : faults.Plan f ≡ fault = cc in
         fails_here before xs (Ok s) fault (subst (λ (g : ExpandFault). MeaningPasses kinds text before (Ok s) (Err g)) same (stops kinds (flat_of text).processes (text_ports kinds (flat_of text).processes) (filter_map said before) draft follows s f one))
