@@ -1,5 +1,5 @@
 -- What a text with subnets comes to, where a builder is told its processes and then its statements as they are meant.
-use Rattle.std.proofs.Common.{◌≡◌, ℕ, List, [], ◌∷◌, ◌++◌, map, take, zero, suc, Some, Ok, Err, refl, ap, sym, subst, ◌∙◌, slice_get}
+use Rattle.std.proofs.Common.{◌≡◌, ℕ, List, [], ◌∷◌, ◌++◌, map, take, zero, suc, Some, Ok, Err, refl, ap, sym, subst, slice_get}
 use Rattle.std.proofs.Common.{append_assoc}
 use Rattle.std.specs.Prelude.{MatchResult}
 use Rattle.std.specs.List.{All, filter_map}
@@ -15,7 +15,7 @@ use Rattle.flow_parse.specs.declared.value.Statement.{Statement}
 use Rattle.flow_parse.specs.declared.value.NetText.{NetText}
 use Rattle.flow_flat.specs.declared.fault.ExpandFault.{ExpandFault}
 use Rattle.flow_flat.specs.declared.fault.ExpandFault.TheVariants as faults
-use Rattle.flow_flat.specs.Firsts.{AllPass, FirstFails}
+use Rattle.flow_flat.specs.Firsts.{AllPass}
 use Rattle.flow_flat.specs.Names.{text_ports}
 use Rattle.flow_flat.specs.Faults.{ProcessPasses}
 use Rattle.flow_flat.specs.Texts.{MeaningPasses, all_statements, flat_of, said, CanBeWrittenOut, HasTextFault, TextComesTo}
@@ -74,7 +74,7 @@ module _ (kinds : List KindSpec) (text : NetText) where
     by (Ok d) one rest more =
         let stepped = step kinds (flat_of text).processes (text_ports kinds (flat_of text).processes) (filter_map said before) draft follows s d is.1 one in
         fails_later before xs (Ok s) fault stepped.0
-            (more d (subst (λ (l : List Statement). Follows kinds (flat_of text).processes (text_ports kinds (flat_of text).processes) l d) (sym (filter_map-append said before (Ok s ∷ []))) stepped.1) rest)
+        (more d (subst (λ (l : List Statement). Follows kinds (flat_of text).processes (text_ports kinds (flat_of text).processes) l d) (sym (filter_map-append said before (Ok s ∷ []))) stepped.1) rest)
     by (Err f) one rest more =
         let same : faults.Plan f ≡ fault = cc in
         fails_here before xs (Ok s) fault (subst (λ (g : ExpandFault). MeaningPasses kinds text before (Ok s) (Err g)) same (stops kinds (flat_of text).processes (text_ports kinds (flat_of text).processes) (filter_map said before) draft follows s f one))
