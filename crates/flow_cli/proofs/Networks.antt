@@ -5,8 +5,8 @@ use Rattle.flow_plan.specs.Network.{Network}
 use Rattle.flow_parse.specs.declared.value.NetText.{NetText}
 use Rattle.flow_parse.specs.Files.{Spells}
 use Rattle.flow_parse.proofs.OneOutcome.{one_outcome}
-use Rattle.flow_flat.specs.Faults.{ComesTo}
-use Rattle.flow_flat.proofs.Once.{comes_once}
+use Rattle.flow_flat.specs.Texts.{TextComesTo}
+use Rattle.flow_flat.proofs.TextOnce.{text_once}
 use Rattle.flow_catalogue.specs.Kinds.{std_kinds}
 use Rattle.flow_cli.specs.Networks.{Holds, RefusedFor}
 use Rattle.flow_cli.specs.declared.net_file.Refusal.{Refusal}
@@ -18,11 +18,8 @@ one-text net a b is other = let same = one_outcome 1 None (lines net) (Ok a) (Ok
 -- bytes that hold a network aren't refused
 pub holds-or-refused : (net : List ℕ) (text : NetText) (plan : Network) (refusal : Refusal) → Holds net text plan → RefusedFor net refusal → ⊥
 holds-or-refused net text plan (refusals.Line fault) holds refused = let same = one_outcome 1 None (lines net) (Ok text) (Err fault) holds.spelled refused in cc
-holds-or-refused net text plan refusals.Subnets holds refused =
+holds-or-refused net text plan (refusals.Network fault) holds refused =
     let same = one-text net refused.0 text refused.1 holds.spelled in
-    refused.2 (ap (λ (t : NetText). t.subnets) same ∙ holds.plain)
-holds-or-refused net text plan (refusals.Plan fault) holds refused =
-    let same = one-text net refused.0 text refused.1 holds.spelled in
-    let flat = subst (λ (t : NetText). ComesTo std_kinds t.main (Err fault)) same refused.3 in
-    let both = comes_once std_kinds text.main (Ok plan) (Err fault) holds.flat flat in
+    let comes = subst (λ (t : NetText). TextComesTo std_kinds t (Err fault)) same refused.2 in
+    let both = text_once std_kinds text (Ok plan) (Err fault) holds.comes comes in
     cc

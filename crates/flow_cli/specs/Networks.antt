@@ -1,12 +1,12 @@
 -- What a network file holds: a value and its plan, or why it is refused.
-use Rattle.std.specs.Prelude.{◌≡◌, ◌≢◌, ℕ, List, [], Ok, Err}
+use Rattle.std.specs.Prelude.{ℕ, List, Ok, Err}
 use Rattle.std.specs.declared.result.Result.{Result}
 use Rattle.flow_plan.specs.Network.{Network}
 use Rattle.flow_plan.specs.Valid.{IsValid}
 use Rattle.flow_net.specs.Over.{IsOver}
 use Rattle.flow_parse.specs.declared.value.NetText.{NetText}
 use Rattle.flow_parse.specs.Files.{Spells, Refused}
-use Rattle.flow_flat.specs.Faults.{ComesTo}
+use Rattle.flow_flat.specs.Texts.{TextComesTo}
 use Rattle.flow_catalogue.specs.Kinds.{std_kinds}
 use Rattle.flow_cli.specs.declared.net_file.Refusal.{Refusal}
 use Rattle.flow_cli.specs.declared.net_file.Refusal.TheVariants as refusals
@@ -14,17 +14,15 @@ use Rattle.flow_cli.specs.declared.net_file.NetFile.{NetFile}
 use Rattle.flow_cli.specs.declared.net_file.NetworkStop.{NetworkStop}
 use Rattle.flow_cli.specs.declared.net_file.NetworkStop.TheVariants.{Refused as IsRefused, NoMemory}
 
--- The bytes spell this value, which has no subnets, and this is its plan over the standard kinds.
+-- The bytes spell this value, and this is its plan over the standard kinds.
 pub record Holds (net : List ℕ) (text : NetText) (plan : Network) : Type 0 where
   pub spelled : Spells net text
-  pub plain : text.subnets ≡ []
-  pub flat : ComesTo std_kinds text.main (Ok plan)
+  pub comes : TextComesTo std_kinds text (Ok plan)
 
--- The bytes are refused: a line has a fault; or they spell a value that has subnets, which aren't built yet; or one whose plan has a fault.
+-- The bytes are refused: a line has a fault; or they spell a value whose network has one.
 abbrev pub RefusedFor : List ℕ → Refusal → Type 0
 RefusedFor net (refusals.Line fault) = Refused net fault
-RefusedFor net refusals.Subnets = (text : NetText) × Spells net text × (text.subnets ≢ [])
-RefusedFor net (refusals.Plan fault) = (text : NetText) × Spells net text × (text.subnets ≡ []) × ComesTo std_kinds text.main (Err fault)
+RefusedFor net (refusals.Network fault) = (text : NetText) × Spells net text × TextComesTo std_kinds text (Err fault)
 
 -- The plan is a valid one over the standard kinds.
 pub record IsStandardPlan (plan : Network) : Type 0 where

@@ -23,8 +23,7 @@ status_of (TooLong name) = 9
 -- What is said of a refused network.
 abbrev pub refusal_text : Refusal → List ℕ
 refusal_text (refusals.Line fault) = net_fault_text fault
-refusal_text refusals.Subnets = codes "subnets not built"
-refusal_text (refusals.Plan fault) = fault_text fault
+refusal_text (refusals.Network fault) = fault_text fault
 
 -- The line that is printed for a stop.
 abbrev pub text_of : Stop → List ℕ

@@ -4,7 +4,8 @@ ghost use Rattle.flow_cli.specs.Networks.{ReadsAs};
 
 use flow_catalogue::kinds;
 use flow_expand::{ExpandStop, expand};
-use flow_net::{Plan, PlanFault};
+use flow_flat::ExpandFault;
+use flow_net::Plan;
 use flow_parse::{NetFault, NetText, ParseStop, parse};
 use std::alloc::{AllocError, Global};
 
@@ -13,10 +14,8 @@ use std::alloc::{AllocError, Global};
 pub enum Refusal {
     /// A line of the file has a fault.
     Line(NetFault),
-    /// The file has subnets, which aren't built yet.
-    Subnets,
     /// The network that the file spells has a fault.
-    Plan(PlanFault),
+    Network(ExpandFault),
 }
 
 /// A network file that was read: its value, and the plan of that.
@@ -55,8 +54,7 @@ pub fn network(alloc: Global, net: &[u8]) -> Result<NetFile, NetworkStop>
     let kinds = kinds(alloc)?;
     match expand(alloc, &text, kinds) {
         Ok(plan) => Ok(NetFile { text, plan }),
-        Err(ExpandStop::Subnets) => Err(NetworkStop::Refused(Refusal::Subnets)),
-        Err(ExpandStop::Plan(fault)) => Err(NetworkStop::Refused(Refusal::Plan(fault))),
+        Err(ExpandStop::Fault(fault)) => Err(NetworkStop::Refused(Refusal::Network(fault))),
         Err(ExpandStop::NoMemory) => Err(NetworkStop::NoMemory),
     }
 }

@@ -80,8 +80,7 @@ fn put_refusal(text: &mut Vec<u8>, refusal: &Refusal) -> Result<(), AllocError>
 {
     match refusal {
         Refusal::Line(fault) => put_net_fault(text, fault),
-        Refusal::Subnets => text.extend_from_slice(b"subnets not built"),
-        Refusal::Plan(fault) => put_fault(text, fault),
+        Refusal::Network(fault) => put_fault(text, fault),
     }
 }
 

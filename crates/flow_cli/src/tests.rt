@@ -230,8 +230,8 @@ fn lines_are_refused(rt: HostRuntime) -> Result<(), Fail> {
             b"network refused: line 3: kind\n",
         ),
         (
-            b"flow 1\nsubnet S\nend\n",
-            b"network refused: subnets not built\n",
+            b"flow 1\nM(S)\nsubnet S\nP(S)\nend\n",
+            b"network refused: recursive subnet S\n",
         ),
     ];
     for (net, printed) in rows {

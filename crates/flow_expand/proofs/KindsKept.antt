@@ -8,7 +8,9 @@ use Rattle.flow_net.specs.Calls.{kind_for, with_process, after_process, ends_of,
 use Rattle.flow_net.proofs.Ends.{bind_ok}
 use Rattle.flow_parse.specs.declared.value.Statement.{Statement}
 use Rattle.flow_parse.specs.declared.value.Statement.TheVariants.{Connect, Initial, InPort, OutPort}
-use Rattle.flow_flat.specs.Told.{after_processes, AfterText, AfterStatement, AfterStatements}
+use Rattle.flow_flat.specs.Told.{after_processes, AfterText, AfterStatement, AfterMeant}
+use Rattle.flow_flat.specs.declared.fault.ExpandFault.{ExpandFault}
+use Rattle.flow_flat.specs.declared.fault.ExpandFault.TheVariants as faults
 
 process_keeps : (draft next : Draft) (name kind : List ℕ) → after_process draft name kind ≡ Ok next → next.kinds ≡ draft.kinds
 process_keeps draft next name kind is =
@@ -40,11 +42,12 @@ statement_keeps (Initial text to into) draft next step = text_keeps draft next t
 statement_keeps (InPort outer to into) draft next step = let same : next ≡ draft = cc in ap (λ (d : Draft). d.kinds) same
 statement_keeps (OutPort from out outer) draft next step = let same : next ≡ draft = cc in ap (λ (d : Draft). d.kinds) same
 
--- Taking statements keeps it.
-pub statements_keep : (ss : List Statement) (draft next : Draft) → AfterStatements draft ss (Ok next) → next.kinds ≡ draft.kinds
-statements_keep [] draft next end = let same : next ≡ draft = cc in ap (λ (d : Draft). d.kinds) same
-statements_keep (s ∷ ss) draft next steps = by steps.0 (λ d rest. statements_keep ss d next rest) steps.1 steps.2 where
-  by : (step : Result Draft PlanFault) → ((d : Draft) → AfterStatements d ss (Ok next) → next.kinds ≡ d.kinds) → AfterStatement draft s step
-      → MatchResult step (λ d. AfterStatements d ss (Ok next)) (λ fault. Ok next ≡ Err fault) → next.kinds ≡ draft.kinds
+-- Taking statements as they are meant keeps it.
+pub meant_keep : (xs : List (Result Statement ExpandFault)) (draft next : Draft) → AfterMeant draft xs (Ok next) → next.kinds ≡ draft.kinds
+meant_keep [] draft next end = let same : next ≡ draft = cc in ap (λ (d : Draft). d.kinds) same
+meant_keep (Err fault ∷ xs) draft next end = absurd (cc)
+meant_keep (Ok s ∷ xs) draft next steps = by steps.0 (λ d rest. meant_keep xs d next rest) steps.2 steps.3 where
+  by : (step : Result Draft PlanFault) → ((d : Draft) → AfterMeant d xs (Ok next) → next.kinds ≡ d.kinds) → AfterStatement draft s step
+      → MatchResult step (λ d. AfterMeant d xs (Ok next)) (λ fault. ◌≡◌ {A = Result Draft ExpandFault} (Ok next) (Err (faults.Plan fault))) → next.kinds ≡ draft.kinds
   by (Ok d) more step rest = more d rest ∙ statement_keeps s draft d step
   by (Err fault) more step rest = absurd (cc)

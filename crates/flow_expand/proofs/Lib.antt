@@ -1,4 +1,12 @@
-pub mod Telling
-pub mod OnePlan
+pub mod Firsts
 pub mod KindsKept
-pub mod ShortTexts
+pub mod Naming
+pub mod Places
+pub mod Puts
+pub mod Clean
+pub mod Saying
+pub mod Steps
+pub mod Telling
+pub mod Walked
+pub mod Walks
+pub mod Wayside

@@ -7,6 +7,8 @@ use Rattle.flow_net.specs.declared.fault.PlanFault.{PlanFault}
 use Rattle.flow_net.specs.declared.fault.PlanFault.TheVariants.{SameName, UnknownKind, UnknownProcess, PortUnknown, NeedsInitial, Capacity, PortTaken, BadOption, PortMissing, ElementGap, TooMany}
 use Rattle.flow_plan.specs.declared.kind.PortRef.{PortRef}
 use Rattle.flow_plan.specs.Network.{spelled}
+use Rattle.flow_flat.specs.declared.fault.ExpandFault.{ExpandFault}
+use Rattle.flow_flat.specs.declared.fault.ExpandFault.TheVariants.{Recursive, Depth, OuterPort, Plan}
 use Rattle.flow_parse.specs.declared.fault.Reason.{Reason}
 use Rattle.flow_parse.specs.declared.fault.Reason.TheVariants.{Header, Byte, Quote, Form, Name, Number, Kind, Subnet, Limit}
 use Rattle.flow_parse.specs.declared.fault.NetFault.{NetFault}
@@ -22,19 +24,26 @@ many_text Connections = codes "too many connections"
 many_text CapacitySum = codes "capacity sum"
 many_text Instances = codes "too many subnets"
 
+-- What is wrong with a flat network, and where.
+abbrev pub plan_fault_text : PlanFault → List ℕ
+plan_fault_text (SameName process) = codes "same name " ++ process
+plan_fault_text (UnknownKind process kind) = codes "unknown kind " ++ kind ++ codes " of " ++ process
+plan_fault_text (UnknownProcess process) = codes "unknown process " ++ process
+plan_fault_text (PortUnknown process port) = codes "unknown port " ++ port_text process port
+plan_fault_text (NeedsInitial process port) = codes "needs initial " ++ port_text process port
+plan_fault_text (Capacity capacity) = codes "capacity " ++ decimal capacity
+plan_fault_text (PortTaken process port) = codes "port taken " ++ port_text process port
+plan_fault_text (BadOption process port) = codes "bad option " ++ port_text process port
+plan_fault_text (PortMissing process port) = codes "port missing " ++ port_text process (record { name = port; element = None })
+plan_fault_text (ElementGap process port element) = codes "element gap " ++ port_text process (record { name = port; element = Some element })
+plan_fault_text (TooMany many) = many_text many
+
 -- What is wrong with a network, and where.
-abbrev pub fault_text : PlanFault → List ℕ
-fault_text (SameName process) = codes "same name " ++ process
-fault_text (UnknownKind process kind) = codes "unknown kind " ++ kind ++ codes " of " ++ process
-fault_text (UnknownProcess process) = codes "unknown process " ++ process
-fault_text (PortUnknown process port) = codes "unknown port " ++ port_text process port
-fault_text (NeedsInitial process port) = codes "needs initial " ++ port_text process port
-fault_text (Capacity capacity) = codes "capacity " ++ decimal capacity
-fault_text (PortTaken process port) = codes "port taken " ++ port_text process port
-fault_text (BadOption process port) = codes "bad option " ++ port_text process port
-fault_text (PortMissing process port) = codes "port missing " ++ port_text process (record { name = port; element = None })
-fault_text (ElementGap process port element) = codes "element gap " ++ port_text process (record { name = port; element = Some element })
-fault_text (TooMany many) = many_text many
+abbrev pub fault_text : ExpandFault → List ℕ
+fault_text (Recursive subnet) = codes "recursive subnet " ++ subnet
+fault_text (Depth process) = codes "subnet depth " ++ process
+fault_text (OuterPort process port) = codes "outer port " ++ port_text process port
+fault_text (Plan fault) = plan_fault_text fault
 
 -- The word for what is wrong with a line.
 abbrev pub reason_text : Reason → List ℕ

@@ -1,11 +1,17 @@
-//! From the text of a network to its plan, and the words in which a refusal is told.
+//! From the text of a network, subnets included, to its plan, and the words in which a refusal is told.
 #![tactic(auto)]
 
-mod flat;
+mod instances;
+mod meaning;
+mod named;
+mod plan;
+mod recursion;
 mod refusal;
+mod statements;
 mod stop;
+mod way;
 
-pub use flat::expand;
+pub use plan::expand;
 pub use refusal::{put_fault, put_net_fault};
 pub use stop::ExpandStop;
 

@@ -2,8 +2,9 @@
 ghost use Rattle.std.specs.Prelude.{◌≡◌, ◌++◌, OnOk, codes};
 ghost use Rattle.std.specs.Fmt.{decimal};
 ghost use Rattle.flow_plan.specs.Network.{spelled_element};
-ghost use Rattle.flow_expand.specs.Refusals.{port_text, many_text, fault_text, reason_text, net_fault_text};
+ghost use Rattle.flow_expand.specs.Refusals.{port_text, many_text, plan_fault_text, fault_text, reason_text, net_fault_text};
 
+use flow_flat::ExpandFault;
 use flow_items::Text;
 use flow_net::{Many, PlanFault, PortRef};
 use flow_parse::{NetFault, Reason};
@@ -91,9 +92,8 @@ fn put_many(out: &mut Vec<u8>, many: Many) -> Result<(), AllocError>
     }
 }
 
-/// Appends what is wrong with a network, without the end of a line. The words are this project's own.
-pub fn put_fault(out: &mut Vec<u8>, fault: &PlanFault) -> Result<(), AllocError>
-    ensures { OnOk result (out.new.items ≡ out.old.items ++ fault_text fault.now) }
+fn put_plan_fault(out: &mut Vec<u8>, fault: &PlanFault) -> Result<(), AllocError>
+    ensures { OnOk result (out.new.items ≡ out.old.items ++ plan_fault_text fault.now) }
 {
     match fault {
         PlanFault::SameName(process) => put_two(out, b"same name ", process),
@@ -119,6 +119,18 @@ pub fn put_fault(out: &mut Vec<u8>, fault: &PlanFault) -> Result<(), AllocError>
             Some(*element),
         ),
         PlanFault::TooMany(many) => put_many(out, *many),
+    }
+}
+
+/// Appends what is wrong with a network, without the end of a line. The words are this project's own.
+pub fn put_fault(out: &mut Vec<u8>, fault: &ExpandFault) -> Result<(), AllocError>
+    ensures { OnOk result (out.new.items ≡ out.old.items ++ fault_text fault.now) }
+{
+    match fault {
+        ExpandFault::Recursive(subnet) => put_two(out, b"recursive subnet ", subnet),
+        ExpandFault::Depth(process) => put_two(out, b"subnet depth ", process),
+        ExpandFault::OuterPort(process, port) => put_port(out, b"outer port ", process, port),
+        ExpandFault::Plan(fault) => put_plan_fault(out, fault),
     }
 }
 

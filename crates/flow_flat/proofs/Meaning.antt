@@ -1,5 +1,5 @@
 -- What a text with subnets comes to, where a builder is told its processes and then its statements as they are meant.
-use Rattle.std.proofs.Common.{◌≡◌, ℕ, List, [], ◌∷◌, ◌++◌, map, take, zero, suc, Some, Ok, Err, refl, ap, sym, subst, ◌∙◌, slice_get}
+use Rattle.std.proofs.Common.{◌≡◌, ℕ, List, [], ◌∷◌, ◌++◌, map, take, zero, suc, Some, Ok, Err, refl, ap, sym, subst, slice_get}
 use Rattle.std.proofs.Common.{append_assoc}
 use Rattle.std.specs.Prelude.{MatchResult}
 use Rattle.std.specs.List.{All, filter_map}
@@ -15,7 +15,7 @@ use Rattle.flow_parse.specs.declared.value.Statement.{Statement}
 use Rattle.flow_parse.specs.declared.value.NetText.{NetText}
 use Rattle.flow_flat.specs.declared.fault.ExpandFault.{ExpandFault}
 use Rattle.flow_flat.specs.declared.fault.ExpandFault.TheVariants as faults
-use Rattle.flow_flat.specs.Firsts.{AllPass, FirstFails}
+use Rattle.flow_flat.specs.Firsts.{AllPass}
 use Rattle.flow_flat.specs.Names.{text_ports}
 use Rattle.flow_flat.specs.Faults.{ProcessPasses}
 use Rattle.flow_flat.specs.Texts.{MeaningPasses, all_statements, flat_of, said, CanBeWrittenOut, HasTextFault, TextComesTo}

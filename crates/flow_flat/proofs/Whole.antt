@@ -1,5 +1,5 @@
 -- Where a text can be written out, what its flat text comes to it comes to.
-use Rattle.std.proofs.Common.{◌≡◌, ℕ, List, [], ◌∷◌, map, take, zero, suc, Option, Some, None, Ok, Err, refl, ap, sym, subst, ◌∙◌, slice_get}
+use Rattle.std.proofs.Common.{◌≡◌, ℕ, List, [], ◌∷◌, map, take, Ok, Err, refl, ap, sym, subst, ◌∙◌, slice_get}
 use Rattle.std.specs.List.{filter_map}
 use Rattle.std.specs.Option.{option_map}
 use Rattle.std.specs.declared.result.Result.{Result}
@@ -14,7 +14,7 @@ use Rattle.flow_parse.specs.declared.value.NetText.{NetText}
 use Rattle.flow_flat.specs.declared.fault.ExpandFault.{ExpandFault}
 use Rattle.flow_flat.specs.declared.fault.ExpandFault.TheVariants as faults
 use Rattle.flow_flat.specs.Firsts.{AllPass, FirstFails}
-use Rattle.flow_flat.specs.Faults.{ProcessPasses, StatementPasses, HasFault, HasPlan, ComesTo}
+use Rattle.flow_flat.specs.Faults.{ProcessPasses, StatementPasses, ComesTo}
 use Rattle.flow_flat.specs.Faults.HasFault.{of_process, of_statement, of_port, of_sum}
 use Rattle.flow_flat.specs.Texts.{MeaningPasses, all_statements, flat_of, said, CanBeWrittenOut, IsSaid, HasTextFault, TextComesTo}
 use Rattle.flow_flat.proofs.Once.{not_both}

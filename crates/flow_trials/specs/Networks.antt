@@ -1,22 +1,21 @@
 -- The networks that texts spell, and how they start with standard parts.
-use Rattle.std.specs.Prelude.{◌≡◌, ℕ, List, [], length, Ok, Some, slice_get}
+use Rattle.std.specs.Prelude.{◌≡◌, ℕ, List, length, Ok, Some, slice_get}
 use Rattle.flow_plan.specs.declared.plan.Process.{Process}
 use Rattle.flow_plan.specs.Network.{Network}
 use Rattle.flow_parse.specs.declared.value.NetText.{NetText}
 use Rattle.flow_parse.specs.Files.{Spells}
-use Rattle.flow_flat.specs.Faults.{ComesTo}
+use Rattle.flow_flat.specs.Texts.{TextComesTo}
 use Rattle.flow_machine.specs.Values.{NetValue}
 use Rattle.flow_machine.specs.Starts.{StartsNet}
 use Rattle.flow_catalogue.specs.Kinds.{std_kinds}
 use Rattle.flow_catalogue.specs.Processes.{IsMade, Fits}
 use Rattle.flow_catalogue.specs.declared.standard.Std.{Std}
 
--- The bytes spell a value without subnets, and this is its plan over the standard kinds.
+-- The bytes spell a value, and this is its plan over the standard kinds.
 pub record IsPlanOf (text : List ℕ) (plan : Network) : Type 0 where
   pub value : NetText
   pub spelled : Spells text value
-  pub plain : value.subnets ≡ []
-  pub flat : ComesTo std_kinds value.main (Ok plan)
+  pub comes : TextComesTo std_kinds value (Ok plan)
 
 -- The part is the process's own in its first state, on these bytes where it reads a file.
 pub record IsPartOn (bytes : List ℕ) (plan : Network) (p : ℕ) (process : Process) (part : Std) : Type 0 where

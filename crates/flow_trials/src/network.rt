@@ -44,8 +44,7 @@ pub fn plan_of_text(alloc: Global, text: &[u8]) -> Result<Plan, TrialStop>
     let kinds = kinds(alloc)?;
     match expand(alloc, &value, kinds) {
         Ok(plan) => Ok(plan),
-        Err(ExpandStop::Subnets) => Err(TrialStop::Refused),
-        Err(ExpandStop::Plan(_)) => Err(TrialStop::Refused),
+        Err(ExpandStop::Fault(_)) => Err(TrialStop::Refused),
         Err(ExpandStop::NoMemory) => Err(TrialStop::NoMemory),
     }
 }

@@ -1,0 +1,180 @@
+//! Looking up what the parts of a text name.
+ghost use Rattle.std.specs.Prelude.{◌≡◌, List, Some, None, MatchOption, IfOk, [], is_some, position};
+ghost use Rattle.std.specs.Str.{bytes_eq};
+ghost use Rattle.std.specs.List.{list_any};
+ghost use Rattle.std.specs.Option.{option_map};
+ghost use Rattle.flow_net.specs.Calls.{kind_named};
+ghost use Rattle.flow_flat.specs.Subnets.{subnet_called, stands_for, outer_port};
+ghost use Rattle.flow_flat.specs.Texts.{is_given_by, outer_name, given_again};
+ghost use Rattle.flow_expand.specs.Places.{subnet_place, process_place};
+
+use flow_items::Text;
+use flow_net::{KindSpec, PortRef};
+use flow_parse::{NetPart, NetText, Statement};
+use std::alloc::{AllocError, Global};
+
+/// The place of the subnet of a name among the subnets of a text.
+pub fn subnet_named(text: &NetText, name: &[u8]) -> Option<usize>
+    ensures { result ≡ subnet_place text.now name.now }
+{
+    text.subnets
+        .as_slice()
+        .iter()
+        .position(|s| s.0.as_slice() == name)
+}
+
+/// The subnet of a name.
+pub fn subnet_called<'a>(text: &'a NetText, name: &[u8]) -> Option<&'a NetPart>
+    ensures { subnet_called text.now name.now ≡ option_map (λ p. p.now) result }
+{
+    let Some(place) = subnet_named(text, name) else {
+        return None;
+    };
+    Some(&text.subnets.as_slice()[place].1)
+}
+
+/// The place of the process of a name in its part.
+pub fn process_named(part: &NetPart, name: &[u8]) -> Option<usize>
+    ensures { result ≡ process_place part.now name.now }
+{
+    part.processes
+        .as_slice()
+        .iter()
+        .position(|p| p.0.as_slice() == name)
+}
+
+/// Whether the table has a kind of this name.
+pub fn is_kind(kinds: &[KindSpec], name: &[u8]) -> bool
+    ensures { result ≡ list_any (λ k. bytes_eq k.name name.now) kinds.now }
+{
+    kinds.iter().any(|kind| kind.name.as_slice() == name)
+}
+
+fn stood_for<'a>(
+    input: bool,
+    name: &[u8],
+    statement: &'a Statement,
+) -> Option<(&'a Text, &'a PortRef)>
+    ensures { MatchOption result (stands_for input name.now statement.now ≡ None) (λ p. stands_for input name.now statement.now ≡ Some (p.0.now, p.1.now)) }
+{
+    match statement {
+        Statement::InPort { outer, to, into } => {
+            if input && outer.as_slice() == name {
+                Some((to, into))
+            } else {
+                None
+            }
+        }
+        Statement::OutPort { from, out, outer } => {
+            if !input && outer.as_slice() == name {
+                Some((from, out))
+            } else {
+                None
+            }
+        }
+        Statement::Connect {
+            from: _,
+            out: _,
+            capacity: _,
+            to: _,
+            into: _,
+        } => None,
+        Statement::Initial {
+            text: _,
+            to: _,
+            into: _,
+        } => None,
+    }
+}
+
+/// The process and the port of it for which an outer port of a subnet stands, by the first line that
+/// gives it. An outer port has no elements.
+pub fn port_inside<'a>(
+    part: &'a NetPart,
+    input: bool,
+    port: &PortRef,
+) -> Option<(&'a Text, &'a PortRef)>
+    ensures { MatchOption result (outer_port part.now input port.now ≡ None) (λ p. outer_port part.now input port.now ≡ Some (p.0.now, p.1.now)) }
+{
+    if port.element.is_some() {
+        return None;
+    }
+    let name = port.name.as_slice();
+    let statements = part.statements.as_slice();
+    'statements: for statement in statements {
+        if let Some(found) = stood_for(input, name, statement) {
+            return Some(found);
+        }
+    }
+    None
+}
+
+fn gives_again(statement: &Statement, other: &Statement) -> bool
+    ensures { result ≡ is_given_by statement.now other.now }
+{
+    match (statement, other) {
+        (
+            Statement::InPort {
+                outer,
+                to: _,
+                into: _,
+            },
+            Statement::InPort {
+                outer: other,
+                to: _,
+                into: _,
+            },
+        ) => outer.as_slice() == other.as_slice(),
+        (
+            Statement::OutPort {
+                from: _,
+                out: _,
+                outer,
+            },
+            Statement::OutPort {
+                from: _,
+                out: _,
+                outer: other,
+            },
+        ) => outer.as_slice() == other.as_slice(),
+        _ => false,
+    }
+}
+
+fn is_given(before: &[Statement], statement: &Statement) -> bool
+    ensures { result ≡ list_any (λ s. is_given_by statement.now s) before.now }
+{
+    before.iter().any(|other| gives_again(statement, other))
+}
+
+/// The first line of a subnet that gives an outer port a second time, on its side.
+pub fn second_given(part: &NetPart) -> Option<&Statement>
+    ensures { given_again [] part.now.statements ≡ option_map (λ s. outer_name s.now) result }
+{
+    let statements = part.statements.as_slice();
+    'statements: for (place, statement) in statements.iter().enumerate() {
+        if is_given(&statements[..place], statement) {
+            return Some(statement);
+        }
+    }
+    None
+}
+
+/// The outer name that a line gives, or none.
+pub fn given_name(alloc: Global, statement: &Statement) -> Result<Text, AllocError>
+    ensures { IfOk result (λ name. name ≡ outer_name statement.now) }
+{
+    match statement {
+        Statement::InPort {
+            outer,
+            to: _,
+            into: _,
+        } => outer.copy(alloc),
+        Statement::OutPort {
+            from: _,
+            out: _,
+            outer,
+        } => outer.copy(alloc),
+        _ => Ok(Text::new(alloc)),
+    }
+}

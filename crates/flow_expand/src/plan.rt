@@ -1,0 +1,149 @@
+//! The plan of a text.
+ghost use Rattle.std.specs.Prelude.{◌≡◌, List, [], Ok, Err, IsTrue, IfOk, IfErr, Result};
+ghost use Rattle.std.specs.List.{cons_option, filter_map, flat_map};
+ghost use Rattle.flow_net.specs.Kinds.{is_table};
+ghost use Rattle.flow_plan.specs.Network.{Network};
+ghost use Rattle.flow_net.specs.Over.{IsOver};
+ghost use Rattle.flow_parse.specs.Values.{IsNetText};
+ghost use Rattle.flow_flat.specs.declared.fault.ExpandFault.{ExpandFault};
+ghost use Rattle.flow_flat.specs.Firsts.{AllPass, FirstFails};
+ghost use Rattle.flow_flat.specs.Texts.{RecursionPasses, deep_instances, TextComesTo};
+ghost use Rattle.flow_flat.specs.Told.{HasShortTexts, after_processes, AfterMeant};
+ghost use Rattle.flow_expand.specs.Outcomes.{Gives, Leaves, IfFault};
+ghost use Rattle.flow_expand.specs.Tells.{own_meant, own_process, HasShortSubnets, Names, Ends, Told};
+
+use crate::instances::instances;
+use crate::meaning::joined;
+use crate::named::subnet_called;
+use crate::recursion::met_inside_itself;
+use crate::statements::put_statements;
+use crate::stop::ExpandStop;
+use flow_flat::ExpandFault;
+use flow_items::Text;
+use flow_net::{KindSpec, Plan, PlanBuilder};
+use flow_parse::NetText;
+use std::alloc::{AllocError, Global};
+
+// Names a process to a builder, where it is no subnet.
+fn put_process(
+    text: &NetText,
+    process: &(Text, Text),
+    builder: &mut PlanBuilder,
+) -> Result<(), ExpandStop>
+    ensures { Names (after_processes builder.old (cons_option (own_process text.now process.now) [])) result builder.new }
+{
+    match subnet_called(text, process.1.as_slice()) {
+        Some(_) => Ok(()),
+        None => {
+            builder.process(process.0.as_slice(), process.1.as_slice())?;
+            Ok(())
+        }
+    }
+}
+
+fn put_processes(
+    text: &NetText,
+    list: &[(Text, Text)],
+    builder: &mut PlanBuilder,
+) -> Result<(), ExpandStop>
+    ensures { Names (after_processes builder.old (filter_map (own_process text.now) list.now)) result builder.new }
+{
+    'processes: for process in list {
+        put_process(text, process, builder)?;
+    }
+    Ok(())
+}
+
+// Tells a builder the statements of the subnet that a process is.
+fn put_own(
+    alloc: Global,
+    text: &NetText,
+    process: &(Text, Text),
+    builder: &mut PlanBuilder,
+) -> Result<(), ExpandStop>
+    requires { HasShortSubnets text.now }
+    ensures { Leaves result builder.new (λ outcome. AfterMeant builder.old (own_meant text.now process.now) outcome) }
+{
+    let Some(part) = subnet_called(text, process.1.as_slice()) else {
+        return Ok(());
+    };
+    let begins = joined(alloc, process.0.as_slice(), b".")?;
+    put_statements(alloc, text, begins.as_slice(), part, builder)
+}
+
+fn put_subnets(
+    alloc: Global,
+    text: &NetText,
+    list: &[(Text, Text)],
+    builder: &mut PlanBuilder,
+) -> Result<(), ExpandStop>
+    requires { HasShortSubnets text.now }
+    ensures { Leaves result builder.new (λ outcome. AfterMeant builder.old (flat_map (own_meant text.now) list.now) outcome) }
+{
+    'subnets: for process in list {
+        put_own(alloc, text, process, builder)?;
+    }
+    Ok(())
+}
+
+// No subnet stands in itself.
+fn check_ends(alloc: Global, text: &NetText) -> Result<(), ExpandStop>
+    ensures { Ends text.now result }
+{
+    match met_inside_itself(alloc, text)? {
+        None => Ok(()),
+        Some(name) => Err(ExpandStop::Fault(ExpandFault::Recursive(name))),
+    }
+}
+
+// The builder that was told the processes of a text and then its statements.
+fn told(
+    alloc: Global,
+    text: &NetText,
+    kinds: Vec<KindSpec>,
+    list: &[(Text, Text)],
+) -> Result<PlanBuilder, ExpandStop>
+    requires table { IsTrue (is_table kinds.items) }
+    requires main { HasShortTexts text.now.main }
+    requires subnets { HasShortSubnets text.now }
+    ensures told { Told text.now kinds.items list.now result }
+    ensures kinds { IfOk result (λ builder. builder.kinds ≡ kinds.items) }
+{
+    let mut builder = PlanBuilder::new(alloc, kinds);
+    put_processes(text, list, &mut builder)?;
+    put_statements(alloc, text, b"", &text.main, &mut builder)?;
+    put_subnets(alloc, text, list, &mut builder)?;
+    Ok(builder)
+}
+
+// The same as `expand`, said in one clause.
+fn plan_of(alloc: Global, text: &NetText, kinds: Vec<KindSpec>) -> Result<Plan, ExpandStop>
+    requires table { IsTrue (is_table kinds.items) }
+    requires valid { IsNetText text.now }
+    ensures said { Gives result (λ outcome. TextComesTo kinds.items text.now outcome) }
+    ensures over { IfOk result (IsOver kinds.items) }
+{
+    check_ends(alloc, text)?;
+    let list = instances(alloc, text, kinds.as_slice())?;
+    let builder = told(alloc, text, kinds, list.as_slice())?;
+    let plan = builder.finish()?;
+    Ok(plan)
+}
+
+/// The plan of a text, or the first thing that is against it: a subnet inside itself; then what is wrong
+/// with the processes that the text stands for, in their order; then with its statements, main's first
+/// and then those of each subnet process; and then with the whole. The order is this project's own.
+pub fn expand(alloc: Global, text: &NetText, kinds: Vec<KindSpec>) -> Result<Plan, ExpandStop>
+    requires table { IsTrue (is_table kinds.items) }
+    requires valid { IsNetText text.now }
+    // A plan is that of the text.
+    ensures plan { IfOk result (λ plan. TextComesTo kinds.items text.now (Ok plan)) }
+    // Each of its processes is of a kind of the table.
+    ensures over { IfOk result (IsOver kinds.items) }
+    // A fault is the first of the text.
+    ensures fault { IfErr result (λ stop. IfFault stop (λ fault. TextComesTo kinds.items text.now (Err fault))) }
+    // What the text comes to is the answer, unless memory runs out.
+    ensures exact { (outcome : Result Network ExpandFault) → TextComesTo kinds.items text.now outcome → Gives result (λ found. found ≡ outcome) }
+{
+    plan_of(alloc, text, kinds)
+}

@@ -1,0 +1,28 @@
+//! A way into the parts of a text.
+ghost use Rattle.std.specs.Prelude.{◌≡◌};
+ghost use Rattle.flow_expand.specs.Ways.{part_at};
+
+use flow_items::Text;
+use flow_parse::{NetPart, NetText};
+
+/// A part whose processes are written out: main, or the subnet at this place; what the names of its
+/// processes begin with; and the place of the process that comes next.
+#[derive(Drop)]
+pub struct Frame {
+    pub subnet: Option<usize>,
+    pub prefix: Text,
+    pub next: usize,
+}
+
+/// The part at a place: main where there is none.
+pub fn part_of(text: &NetText, subnet: Option<usize>) -> &NetPart
+    ensures { result.now ≡ part_at text.now subnet }
+{
+    let Some(subnet) = subnet else {
+        return &text.main;
+    };
+    match text.subnets.as_slice().get(subnet) {
+        Some(found) => &found.1,
+        None => &text.main,
+    }
+}
