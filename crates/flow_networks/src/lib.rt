@@ -10,4 +10,6 @@ mod refused;
 #[cfg(test)]
 mod run;
 #[cfg(test)]
+mod subnets;
+#[cfg(test)]
 mod worked;
