@@ -102,7 +102,7 @@ fn add_stamp(stamps: &mut Vec<u32>, stamp: u32)
     ensures items { stamps.new.items ≡ stamps.old.items ++ stamp ∷ [] }
     ensures len { vec_len stamps.new ≡ vec_len stamps.old + 1 }
 {
-    stamps.push(stamp).unwrap();
+    stamps.push_reserved(stamp);
 }
 
 /// Adds a level number with its stamp where there is room for it.
@@ -110,7 +110,7 @@ fn add_level(levels: &mut Vec<(u32, u16)>, stamp: u32, level: u16)
     requires { vec_len levels.old < vec_capacity levels.old }
     ensures { levels.new.items ≡ levels.old.items ++ (stamp, level) ∷ [] }
 {
-    levels.push((stamp, level)).unwrap();
+    levels.push_reserved((stamp, level));
 }
 
 impl<K: Component> Body<K> {
@@ -133,7 +133,7 @@ impl<K: Component> Body<K> {
         }
     }
 
-    fn start(&mut self, stamp: u32)
+    pub(crate) fn start(&mut self, stamp: u32)
         requires room { HasRoom self.old }
         requires effect { IsEffectFor self.old.process self.old.leaving Effect.Start }
         ensures { TakesTurn self.old Effect.Start stamp self.new }
@@ -143,7 +143,7 @@ impl<K: Component> Body<K> {
         self.stage = limited_stage(self.stamps.len(), Stage::Told(Answer::Start));
     }
 
-    fn begin_closing(&mut self, stamp: u32)
+    pub(crate) fn begin_closing(&mut self, stamp: u32)
         requires room { HasRoom self.old }
         requires effect { IsEffectFor self.old.process self.old.leaving Effect.ToClosing }
         ensures { TakesTurn self.old Effect.ToClosing stamp self.new }
@@ -153,7 +153,7 @@ impl<K: Component> Body<K> {
         self.stage = limited_stage(self.stamps.len(), stage);
     }
 
-    fn get(&mut self, packet: Packet, stamp: u32)
+    pub(crate) fn get(&mut self, packet: Packet, stamp: u32)
         requires room { HasRoom self.old }
         requires effect { IsEffectFor self.old.process self.old.leaving (Effect.Got packet) }
         ensures { TakesTurn self.old (Effect.Got packet) stamp self.new }
@@ -164,7 +164,7 @@ impl<K: Component> Body<K> {
         self.stage = limited_stage(self.stamps.len(), Stage::Told(Answer::Got(id)));
     }
 
-    fn hear_end(&mut self, stamp: u32)
+    pub(crate) fn hear_end(&mut self, stamp: u32)
         requires room { HasRoom self.old }
         requires effect { IsEffectFor self.old.process self.old.leaving Effect.End }
         ensures { TakesTurn self.old Effect.End stamp self.new }
@@ -173,7 +173,7 @@ impl<K: Component> Body<K> {
         self.stage = limited_stage(self.stamps.len(), Stage::Told(Answer::End));
     }
 
-    fn receive_text(&mut self, stamp: u32)
+    pub(crate) fn receive_text(&mut self, stamp: u32)
         requires room { HasRoom self.old }
         requires effect { IsEffectFor self.old.process self.old.leaving Effect.Initial }
         ensures { TakesTurn self.old Effect.Initial stamp self.new }
@@ -193,7 +193,7 @@ impl<K: Component> Body<K> {
         }
     }
 
-    fn finish_send(&mut self, stamp: u32)
+    pub(crate) fn finish_send(&mut self, stamp: u32)
         requires room { HasRoom self.old }
         requires effect { IsEffectFor self.old.process self.old.leaving Effect.Sent }
         ensures { TakesTurn self.old Effect.Sent stamp self.new }
@@ -205,7 +205,7 @@ impl<K: Component> Body<K> {
         self.stage = limited_stage(self.stamps.len(), Stage::Told(Answer::Sent));
     }
 
-    fn learn(&mut self, level: u32, stamp: u32)
+    pub(crate) fn learn(&mut self, level: u32, stamp: u32)
         requires room { HasRoom self.old }
         requires effect { IsEffectFor self.old.process self.old.leaving (Effect.Level level) }
         ensures { TakesTurn self.old (Effect.Level level) stamp self.new }
@@ -215,7 +215,7 @@ impl<K: Component> Body<K> {
         self.stage = limited_stage(self.stamps.len(), Stage::Told(Answer::Level(level)));
     }
 
-    fn deactivate(&mut self, stamp: u32)
+    pub(crate) fn deactivate(&mut self, stamp: u32)
         requires room { HasRoom self.old }
         requires effect { IsEffectFor self.old.process self.old.leaving Effect.Deactivate }
         ensures { TakesTurn self.old Effect.Deactivate stamp self.new }
@@ -225,7 +225,7 @@ impl<K: Component> Body<K> {
         self.stage = limited_stage(self.stamps.len(), Stage::Idle);
     }
 
-    fn close(&mut self, stamp: u32)
+    pub(crate) fn close(&mut self, stamp: u32)
         requires room { HasRoom self.old }
         requires effect { IsEffectFor self.old.process self.old.leaving Effect.Closed }
         ensures { TakesTurn self.old Effect.Closed stamp self.new }

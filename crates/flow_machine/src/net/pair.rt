@@ -10,7 +10,7 @@ ghost use Rattle.flow_machine.specs.Effects.{IsClosing};
 ghost use Rattle.flow_machine.specs.Thoughts.{HasRoom};
 ghost use Rattle.flow_machine.specs.Nets.{PairTurns, AloneTurns, GetsSound, SendsAt, packet_wished};
 
-use crate::answers::{Effect, Turn};
+use crate::answers::Turn;
 use crate::body::Body;
 use crate::channel::Channel;
 use flow_component::{Component, Port};
@@ -32,11 +32,11 @@ pub(crate) fn receive<K: Component>(
 {
     if channel.holds_packet() {
         let packet = channel.take();
-        body.effect(Effect::Got(packet), stamp);
+        body.get(packet, stamp);
         return Turn::Made(stamp);
     }
     if channel.open_senders() == 0 {
-        body.effect(Effect::End, stamp);
+        body.hear_end(stamp);
         return Turn::Made(stamp);
     }
     Turn::Blocked(Block::Empty { connection, port })
@@ -59,7 +59,7 @@ pub(crate) fn send<K: Component>(
     if channel.has_room() {
         let packet = body.outgoing();
         channel.put(packet);
-        body.effect(Effect::Sent, stamp);
+        body.finish_send(stamp);
         return Turn::Made(stamp);
     }
     Turn::Blocked(Block::Full { connection, port })
@@ -82,7 +82,7 @@ pub(crate) fn learn<K: Component>(
     ensures { (block : Block) → PairTurns (told_level port.0 level (Some (look_shown channel.now))) block stamp body.old channel.now result body.new channel.now }
 {
     let _ = channel;
-    body.effect(Effect::Level(level), stamp);
+    body.learn(level, stamp);
     Turn::Made(stamp)
 }
 
@@ -100,7 +100,7 @@ pub(crate) fn close<K: Component>(
     ensures { (output : ℕ) (block : Block) → PairTurns (Some (Closes output connection)) block stamp body.old channel.old result body.new channel.new }
 {
     channel.close_one();
-    body.effect(Effect::Closed, stamp);
+    body.close(stamp);
     let _ = connection;
     Turn::Made(stamp)
 }
@@ -113,11 +113,11 @@ pub(crate) fn wake<K: Component>(body: &mut Body<K>, channels: &[Channel], stamp
     ensures { AloneTurns (idle_event (map look_shown channels.now) body.old.process) Dormant stamp body.old result body.new }
 {
     if body.can_start(channels) {
-        body.effect(Effect::Start, stamp);
+        body.start(stamp);
         return Turn::Made(stamp);
     }
     if body.has_ended(channels) {
-        body.effect(Effect::ToClosing, stamp);
+        body.begin_closing(stamp);
         return Turn::Made(stamp);
     }
     Turn::Blocked(Block::Dormant)

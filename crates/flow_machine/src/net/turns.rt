@@ -6,7 +6,7 @@ ghost use Rattle.flow_machine.specs.Logs.{turns_made};
 ghost use Rattle.flow_machine.specs.FitNets.{FitNet};
 
 use super::pair;
-use crate::answers::{Case, Effect, Over, Turn};
+use crate::answers::{Case, Over, Turn};
 use crate::body::Body;
 use crate::channel::Channel;
 use flow_component::{Component, Port};
@@ -96,7 +96,7 @@ fn take_text<K: Component>(
     ensures { TurnsNet (record { bodies = bodies.old; channels = channels.now }) process (level_of (record { bodies = bodies.old; channels = channels.now }) process) stamp result (record { bodies = bodies.new; channels = channels.now }) }
 {
     let _ = channels;
-    bodies[process as usize].effect(Effect::Initial, stamp);
+    bodies[process as usize].receive_text(stamp);
     let _ = port;
     Turn::Made(stamp)
 }
@@ -159,7 +159,7 @@ fn deactivate<K: Component>(
     ensures { TurnsNet (record { bodies = bodies.old; channels = channels.now }) process (level_of (record { bodies = bodies.old; channels = channels.now }) process) stamp result (record { bodies = bodies.new; channels = channels.now }) }
 {
     let _ = channels;
-    bodies[process as usize].effect(Effect::Deactivate, stamp);
+    bodies[process as usize].deactivate(stamp);
     Turn::Made(stamp)
 }
 

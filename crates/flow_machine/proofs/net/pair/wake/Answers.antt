@@ -6,7 +6,7 @@ use Rattle.flow_machine.proofs.Pairs.{started, finished}
 use Rattle.flow_machine.proofs.net.pair.wake.Goals as goal
 
 pub returns-then-can_start : goal.returns-then-can_start
-returns-then-can_start g c = started c.args.body.now c.effect.new.self (map look_shown c.args.channels.now) c.args.stamp Dormant (sym c.can_start.ensures ∙ c.if-can_start.true) c.effect.ensures
+returns-then-can_start g c = started c.args.body.now c.start.new.self (map look_shown c.args.channels.now) c.args.stamp Dormant (sym c.can_start.ensures ∙ c.if-can_start.true) c.start.ensures
 
 pub returns-then-has_ended : goal.returns-then-has_ended
-returns-then-has_ended g c = finished c.args.body.now c.effect-then-has_ended.new.self (map look_shown c.args.channels.now) c.args.stamp Dormant (sym c.can_start.ensures ∙ c.if-can_start.false) (sym c.has_ended.ensures ∙ c.if-has_ended.true) c.effect-then-has_ended.ensures
+returns-then-has_ended g c = finished c.args.body.now c.begin_closing.new.self (map look_shown c.args.channels.now) c.args.stamp Dormant (sym c.can_start.ensures ∙ c.if-can_start.false) (sym c.has_ended.ensures ∙ c.if-has_ended.true) c.begin_closing.ensures

@@ -12,8 +12,8 @@ use Rattle.flow_machine.specs.declared.answers.Effect.TheVariants as effects
 use Rattle.flow_machine.proofs.Pairs.{body-turn}
 use Rattle.flow_machine.proofs.net.turns.deactivate.Goals as goal
 
-pub effect-requires-clause-room : goal.effect-requires-clause-room
-effect-requires-clause-room g c =
+pub deactivate-requires-clause-room : goal.deactivate-requires-clause-room
+deactivate-requires-clause-room g c =
     let net : NetValue g.row.K.Denot = record { bodies = c.args.bodies.now; channels = c.args.channels.now } in
     let b : BodyValue g.row.K.Denot = get_or c.args.bodies.now c.args.process c.index-bodies-process.result in
     let at_p : slice_get c.args.bodies.now c.args.process ≡ Some b = slice_get-get_or _ _ _ c.requires.in_range in
@@ -21,8 +21,8 @@ effect-requires-clause-room g c =
     let set : IsSet b = if_some (slice_get c.args.bodies.now c.args.process) (λ (x : BodyValue g.row.K.Denot). IsSet x) b at_p c.requires.set in
     subst (IsSetAt b) is set
 
-pub effect-requires-clause-effect : goal.effect-requires-clause-effect
-effect-requires-clause-effect g c =
+pub deactivate-requires-clause-effect : goal.deactivate-requires-clause-effect
+deactivate-requires-clause-effect g c =
     let net : NetValue g.row.K.Denot = record { bodies = c.args.bodies.now; channels = c.args.channels.now } in
     let b : BodyValue g.row.K.Denot = get_or c.args.bodies.now c.args.process c.index-bodies-process.result in
     let at_p : slice_get c.args.bodies.now c.args.process ≡ Some b = slice_get-get_or _ _ _ c.requires.in_range in
@@ -38,4 +38,4 @@ returns g c =
     let is : CaseIs b.process (cases.Deactivate) = case-is b.process (cases.Deactivate) (if_some (slice_get c.args.bodies.now c.args.process) (λ (x : BodyValue g.row.K.Denot). case_of x.process ≡ Some (cases.Deactivate)) b at_p c.requires.case) in
     let set : IsSet b = if_some (slice_get c.args.bodies.now c.args.process) (λ (x : BodyValue g.row.K.Denot). IsSet x) b at_p c.requires.set in
     let n = level_of net c.args.process in
-    (refl, (Sleeps, record { before = b; after = c.effect.new.self; there = at_p; happens = ap (stage_event (looks_of c.args.channels.now) b.process n) is; turn = body-turn b c.effect.new.self effects.Deactivate c.args.stamp Sleeps c.effect.ensures refl refl; bodies = refl; channels = refl }))
+    (refl, (Sleeps, record { before = b; after = c.deactivate.new.self; there = at_p; happens = ap (stage_event (looks_of c.args.channels.now) b.process n) is; turn = body-turn b c.deactivate.new.self effects.Deactivate c.args.stamp Sleeps c.deactivate.ensures refl refl; bodies = refl; channels = refl }))

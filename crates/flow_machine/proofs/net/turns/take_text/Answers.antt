@@ -9,8 +9,8 @@ use Rattle.flow_machine.specs.Nets.{level_of}
 use Rattle.flow_machine.proofs.NetTurns.{text-turn}
 use Rattle.flow_machine.proofs.net.turns.take_text.Goals as goal
 
-pub effect-requires-clause-room : goal.effect-requires-clause-room
-effect-requires-clause-room g c =
+pub receive_text-requires-clause-room : goal.receive_text-requires-clause-room
+receive_text-requires-clause-room g c =
     let net : NetValue g.row.K.Denot = record { bodies = c.args.bodies.now; channels = c.args.channels.now } in
     let b : BodyValue g.row.K.Denot = get_or c.args.bodies.now c.args.process c.index-bodies-process.result in
     let at_p : slice_get c.args.bodies.now c.args.process ≡ Some b = slice_get-get_or _ _ _ c.requires.in_range in
@@ -18,8 +18,8 @@ effect-requires-clause-room g c =
     let set : IsSet b = if_some (slice_get c.args.bodies.now c.args.process) (λ (x : BodyValue g.row.K.Denot). IsSet x) b at_p c.requires.set in
     subst (IsSetAt b) is.1 set
 
-pub effect-requires-clause-effect : goal.effect-requires-clause-effect
-effect-requires-clause-effect g c =
+pub receive_text-requires-clause-effect : goal.receive_text-requires-clause-effect
+receive_text-requires-clause-effect g c =
     let net : NetValue g.row.K.Denot = record { bodies = c.args.bodies.now; channels = c.args.channels.now } in
     let b : BodyValue g.row.K.Denot = get_or c.args.bodies.now c.args.process c.index-bodies-process.result in
     let at_p : slice_get c.args.bodies.now c.args.process ≡ Some b = slice_get-get_or _ _ _ c.requires.in_range in
@@ -35,4 +35,4 @@ returns g c =
     let is : CaseIs b.process (cases.Initial c.args.port) = case-is b.process (cases.Initial c.args.port) (if_some (slice_get c.args.bodies.now c.args.process) (λ (x : BodyValue g.row.K.Denot). case_of x.process ≡ Some (cases.Initial c.args.port)) b at_p c.requires.case) in
     let set : IsSet b = if_some (slice_get c.args.bodies.now c.args.process) (λ (x : BodyValue g.row.K.Denot). IsSet x) b at_p c.requires.set in
     let n = level_of net c.args.process in
-    (refl, text-turn b c.effect.new.self c.args.channels.now c.args.bodies.now c.args.process n c.args.stamp c.args.port is.0 at_p is.1 is.2 c.effect.ensures)
+    (refl, text-turn b c.receive_text.new.self c.args.channels.now c.args.bodies.now c.args.process n c.args.stamp c.args.port is.0 at_p is.1 is.2 c.receive_text.ensures)
