@@ -10,6 +10,7 @@ pub mod BlockLemmas
 pub mod PlanLemmas
 pub mod LogLemmas
 pub mod FitLemmas
+mod AtCases
 pub mod SoloLemmas
 pub mod Reaching
 mod StartLemmas

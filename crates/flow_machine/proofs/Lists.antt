@@ -1,5 +1,6 @@
 -- Elements of lists.
-use Rattle.std.proofs.Common.{◌≡◌, ℕ, ◌<◌, List, [], ◌∷◌, ◌++◌, length, Some, suc, zero, refl, arith, slice_get, ◌⊎◌, inl, inr}
+use Rattle.std.proofs.Common.{◌≡◌, ℕ, ◌<◌, List, [], ◌∷◌, ◌++◌, length, Some, suc, zero, refl, arith, slice_get, get_or, sym, ap, ◌∙◌, ◌⊎◌, inl, inr}
+use Rattle.std.proofs.lemmas.Option.{slice_get-get_or}
 
 pub element-there : {A : Type 0} (xs : List A) (i : ℕ) → i < length xs → (x : A) × (slice_get xs i ≡ Some x)
 element-there [] i within = absurd (omega (arith, within))
@@ -21,3 +22,7 @@ last-or (x ∷ xs) y (suc i) z is = elim (last-or xs y i z is) [
   | inl h ↦ inl h
   | inr h ↦ inr (let e : suc i ≡ length (x ∷ xs) = omega (arith, h.0) in (e, h.1))
 ]
+
+-- an element that was read
+pub read-there : {A : Type 0} (xs : List A) (i : ℕ) (x : A) → i < length xs → x ≡ get_or xs i x → slice_get xs i ≡ Some x
+read-there xs i x within is = slice_get-get_or xs i x within ∙ ap (λ y. Some y) (sym is)

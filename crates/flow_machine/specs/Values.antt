@@ -23,6 +23,10 @@ pub record NetValue (K : Type 0) : Type 0 where
   pub bodies : List (BodyValue K)
   pub channels : List ChannelShown
 
+-- The net of these bodies and connections.
+abbrev pub net_of : {K : Type 0} → List (BodyValue K) → List ChannelShown → NetValue K
+net_of bodies channels = record { bodies = bodies; channels = channels }
+
 -- What is shown of a body and of a net to the states that they stand for.
 abbrev pub shown_body : {K : Type 0} → BodyValue K → BodyShown K
 shown_body body = record { process = body.process; dropped = body.dropped }

@@ -31,7 +31,7 @@ pub struct Net<K: Component> {
 }
 
 impl<K: Component> Model for Net<K> {
-    ghost use Rattle.flow_machine.specs.Values.{NetValue};
+    ghost use Rattle.flow_machine.specs.Values.{NetValue, net_of};
     ghost use Rattle.flow_machine.specs.Codes.{net_code};
     ghost use Rattle.flow_machine.specs.FitNets.{FitNet};
 
@@ -39,9 +39,9 @@ impl<K: Component> Model for Net<K> {
 
     ghost coded = { net_code K.code };
 
-    ghost view = { λ n. record { bodies = n.bodies.items; channels = n.channels.items } };
+    ghost view = { λ n. net_of n.bodies.items n.channels.items };
 
-    ghost invariant = { λ n. FitNet K.shape_of K.uses K.ready (record { bodies = n.bodies.items; channels = n.channels.items }) };
+    ghost invariant = { λ n. FitNet K.shape_of K.uses K.ready (net_of n.bodies.items n.channels.items) };
 }
 
 /// The turns of these processes together.

@@ -4,6 +4,7 @@ ghost use Rattle.flow_model.specs.declared.Block.TheVariants.{Empty, Full, Dorma
 ghost use Rattle.flow_model.specs.Events.{received, idle_event};
 ghost use Rattle.flow_model.specs.Schedules.{IsThoughtStage};
 ghost use Rattle.flow_model.specs.Stands.{look_shown};
+ghost use Rattle.flow_machine.specs.Values.{net_of};
 ghost use Rattle.flow_machine.specs.FitNets.{FitNet};
 ghost use Rattle.flow_machine.specs.Nets.{block_at, IsAt, is_full};
 
@@ -57,9 +58,9 @@ pub(crate) fn block_of<K: Component>(
     process: u32,
 ) -> Option<Block>
     requires in_range { process < length bodies.now }
-    requires thought { IsAt (record { bodies = bodies.now; channels = channels.now }) process IsThoughtStage }
-    requires fit { FitNet K.shape_of K.uses K.ready (record { bodies = bodies.now; channels = channels.now }) }
-    ensures { result ≡ block_at (record { bodies = bodies.now; channels = channels.now }) process }
+    requires thought { IsAt (net_of bodies.now channels.now) process IsThoughtStage }
+    requires fit { FitNet K.shape_of K.uses K.ready (net_of bodies.now channels.now) }
+    ensures { result ≡ block_at (net_of bodies.now channels.now) process }
 {
     let body = &bodies[process as usize];
     match body.case() {

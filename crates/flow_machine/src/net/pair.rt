@@ -65,46 +65,6 @@ pub(crate) fn send<K: Component>(
     Turn::Blocked(Block::Full { connection, port })
 }
 
-/// A process that asks for a level is told a number from the packets that there are to the capacity.
-pub(crate) fn learn<K: Component>(
-    body: &mut Body<K>,
-    channel: &Channel,
-    port: Port,
-    level: u32,
-    stamp: u32,
-) -> Turn
-    requires whole { body.old.leaving ≡ None }
-    requires stage { body.old.process.stage ≡ Wishing (Level port) }
-    requires room { HasRoom body.old }
-    requires least { length channel.now.packets ≤ level }
-    requires most { level ≤ channel.now.capacity }
-    requires small { channel.now.capacity < 65536 }
-    ensures { (block : Block) → PairTurns (told_level port.0 level (Some (look_shown channel.now))) block stamp body.old channel.now result body.new channel.now }
-{
-    let _ = channel;
-    body.learn(level, stamp);
-    Turn::Made(stamp)
-}
-
-/// One more of its connected outputs is closed.
-pub(crate) fn close<K: Component>(
-    body: &mut Body<K>,
-    channel: &mut Channel,
-    connection: u32,
-    stamp: u32,
-) -> Turn
-    requires whole { body.old.leaving ≡ None }
-    requires stage { IsClosing body.old.process.stage }
-    requires room { HasRoom body.old }
-    requires open { 0 < channel.old.open_senders }
-    ensures { (output : ℕ) (block : Block) → PairTurns (Some (Closes output connection)) block stamp body.old channel.old result body.new channel.new }
-{
-    channel.close_one();
-    body.close(stamp);
-    let _ = connection;
-    Turn::Made(stamp)
-}
-
 /// An idle process starts, or goes to its end, or is dormant.
 pub(crate) fn wake<K: Component>(body: &mut Body<K>, channels: &[Channel], stamp: u32) -> Turn
     requires whole { body.old.leaving ≡ None }

@@ -1,5 +1,6 @@
 //! Networks in pieces.
 ghost use Rattle.std.specs.Prelude.{◌≡◌};
+ghost use Rattle.flow_machine.specs.Values.{net_of};
 ghost use Rattle.flow_machine.specs.FitNets.{FitNet};
 
 use super::Net;
@@ -28,8 +29,8 @@ impl<K: Component> Net<K> {
 impl<K: Component> Parts<K> {
     /// The network of these pieces, which together stand for a state of the machine, and remember all turns that were made.
     pub fn join(self) -> Net<K>
-        requires { FitNet K.shape_of K.uses K.ready (record { bodies = self.bodies.items; channels = self.channels.items }) }
-        ensures { result ≡ record { bodies = self.bodies.items; channels = self.channels.items } }
+        requires { FitNet K.shape_of K.uses K.ready (net_of self.bodies.items self.channels.items) }
+        ensures { result ≡ net_of self.bodies.items self.channels.items }
     {
         let Parts { bodies, channels } = self;
         Net { bodies, channels }
