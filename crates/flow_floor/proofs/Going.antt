@@ -1,28 +1,23 @@
 -- The net of the rule goes on by works and turns.
-use Rattle.std.proofs.Common.{◌≡◌, ℕ, ◌+◌, List, [], ◌∷◌, ◌++◌, length, Some, refl, ap, sym, subst, ◌∙◌, slice_get, slice_set, length-set, append-nil, ◌⊎◌, inl, inr, Bool}
+use Rattle.std.proofs.Common.{◌≡◌, ℕ, ◌+◌, List, [], ◌∷◌, ◌++◌, length, Some, refl, sym, subst, ◌∙◌, slice_get, slice_set, length-set, append-nil, ◌⊎◌, inl, inr, Bool}
 use Rattle.flow_packet.specs.Held.{Held}
 use Rattle.flow_component.specs.declared.Answer.{Answer}
 use Rattle.flow_component.specs.declared.Shape.{Shape}
 use Rattle.flow_component.specs.Laws.{Outcome, Obeys, StaysReady, IsSteady}
-use Rattle.flow_model.specs.declared.Stage.{Stage}
-use Rattle.flow_model.specs.declared.Stage.TheVariants as stages
-use Rattle.flow_model.specs.States.{State, Process}
+use Rattle.flow_model.specs.States.{State}
 use Rattle.flow_model.specs.Events.{Event, event_from, seen_by}
-use Rattle.flow_model.specs.Schedules.{IsThoughtStage, Step, Turned, Worked, then_turns}
+use Rattle.flow_model.specs.Schedules.{Step, Turned, Worked, then_turns}
 use Rattle.flow_model.specs.Schedules.{journal_of as steps_journal}
 use Rattle.flow_model.specs.Stands.{StandsForOpen}
 use Rattle.flow_model.specs.Fit.{Fit}
 use Rattle.flow_machine.specs.Values.{BodyValue, NetValue, shown_net}
-use Rattle.flow_machine.specs.declared.answers.Thought.{Thought}
-use Rattle.flow_machine.specs.declared.answers.Thought.TheVariants as thoughts
 use Rattle.flow_machine.specs.Nets.{looks_of, NetTurn}
-use Rattle.flow_machine.specs.NetSteps.{ThinksNet}
-use Rattle.flow_machine.specs.Thoughts.{Thinks, SameBody, WorkedBody, SettlesBody, HasNotFailed}
+use Rattle.flow_machine.specs.Thoughts.{SameBody, WorkedBody}
 use Rattle.flow_machine.specs.Logs.{Logged, journal_of, turns_made, Remembers}
 use Rattle.flow_machine.specs.FitNets.{FitNet}
 use Rattle.flow_machine.specs.Solo.{GoesBy, reached}
-use Rattle.flow_machine.proofs.FitLemmas.{goes-by, goes-same, goes-work, fit-think}
-use Rattle.flow_machine.proofs.SoloLemmas.{journal_of-append, remember-then, think-count}
+use Rattle.flow_machine.proofs.FitLemmas.{goes-by, goes-same, goes-work, fit-rest}
+use Rattle.flow_machine.proofs.SoloLemmas.{journal_of-append, remember-then, count-rest}
 use Rattle.flow_machine.proofs.Reaching.{reaches-append, steps-append, remember-one, remember-kept}
 use Rattle.flow_floor.specs.Law.{Rests}
 use Rattle.flow_floor.specs.Turning.{turned_body, with_body, turned_net, logged}
@@ -30,32 +25,6 @@ use Rattle.flow_floor.specs.Turning.{turned_body, with_body, turned_net, logged}
 -- a body that hasn't changed rests
 pub rests-same : {K : Type 0} (next : K → Held → Answer → Outcome K → Type 0) (b d : BodyValue K) → b ≡ d → Rests next b d
 rests-same next b d is = subst (Rests next b) is (inl (record { process = refl; dropped = refl }), record { stamps = refl; levels = refl; leaving = refl })
-
-module _ {K : Type 0} (next : K → Held → Answer → Outcome K → Type 0) where
-  -- a body that rests came to be so by some thought
-  thought-of : (old new : BodyValue K) → Rests next old new → (t : Thought) × Thinks next old t new
-  thought-of old new r = by new.process.stage refl
-    where
-      settled : (cause : _) → new.process.stage ≡ stages.Failed cause → SameBody old new ⊎ WorkedBody next old new → SettlesBody next old new
-      settled cause at (inl same) = inl (subst IsThoughtStage (sym at ∙ ap (λ (x : Process K). x.stage) same.process) tt, same)
-      settled cause at (inr work) = inr work
-
-      other : (stage : Stage) → new.process.stage ≡ stage → HasNotFailed stage → (t : Thought) × Thinks next old t new
-      other stage at has = (thoughts.NoMemory, (r.0, subst HasNotFailed (sym at) has))
-
-      by : (stage : Stage) → new.process.stage ≡ stage → (t : Thought) × Thinks next old t new
-      by (stages.Failed cause) at = (thoughts.Failed cause, (settled cause at r.0, at))
-      by stages.Idle at = other stages.Idle at tt
-      by (stages.Told answer) at = other (stages.Told answer) at tt
-      by (stages.Wishing wish) at = other (stages.Wishing wish) at tt
-      by (stages.Closing i) at = other (stages.Closing i) at tt
-      by stages.Ended at = other stages.Ended at tt
-
-  abbrev Thought-of : NetValue K → ℕ → BodyValue K → Type 0
-  Thought-of now p b = (t : Thought) × ThinksNet next now p t (with_body now p b)
-
-  rests-net : (now : NetValue K) (p : ℕ) (b d : BodyValue K) → slice_get now.bodies p ≡ Some b → Rests next b d → Thought-of now p d
-  rests-net now p b d there r = let t = thought-of b d r in (t.0, record { before = b; after = d; there = there; thinks = t.1; keeps = r.1; bodies = refl; channels = refl })
 
 -- a turn of the net
 pub turned : {K : Type 0} (now : NetValue K) (p n : ℕ) (b : BodyValue K) (e : Event) (stamp : ℕ) → slice_get now.bodies p ≡ Some b → event_from (looks_of now.channels) b.process n ≡ Some e → NetTurn now p n e stamp (turned_net now p b e stamp)
@@ -78,10 +47,10 @@ module _ {K : Type 0} (shape_of : K → Shape) (uses : K → ℕ → Bool) (read
 
   -- a held body that did its work
   pub rest-fit : (now : NetValue K) (p : ℕ) (b d : BodyValue K) → slice_get now.bodies p ≡ Some b → Rests next b d → FitNet shape_of uses ready now → FitNet shape_of uses ready (with_body now p d)
-  rest-fit now p b d there r fit = let t = rests-net next now p b d there r in fit-think shape_of uses ready next obeys stays steady now p t.0 (with_body now p d) t.1 fit
+  rest-fit now p b d there r fit = fit-rest shape_of uses ready next obeys stays steady now p b d (with_body now p d) there r.0 r.1 refl refl fit
 
   pub rest-count : (now : NetValue K) (p : ℕ) (b d : BodyValue K) → slice_get now.bodies p ≡ Some b → Rests next b d → turns_made (with_body now p d) ≡ turns_made now
-  rest-count now p b d there r = let t = rests-net next now p b d there r in think-count next now p t.0 (with_body now p d) t.1
+  rest-count now p b d there r = count-rest next now p b d (with_body now p d) there r.0 refl
 
   pub rest-goes : (start now : NetValue K) (log : List Logged) (p : ℕ) (b d : BodyValue K) → slice_get now.bodies p ≡ Some b → Rests next b d → turns_made now ≡ turns_made start + length log → Going start log now → Going start log (with_body now p d)
   rest-goes start now log p b d there r total goes = record {

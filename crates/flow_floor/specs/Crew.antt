@@ -1,5 +1,5 @@
 -- All workers of a floor.
-use Rattle.std.specs.Prelude.{◌≡◌, ℕ, List, All, sum_by}
+use Rattle.std.specs.Prelude.{◌≡◌, List, All, sum_by}
 use Rattle.atomic_table.specs.Seated.{TableId}
 use Rattle.flow_floor.specs.declared.floor.Worker.{Worker}
 use Rattle.flow_floor.specs.Workers.{IsIdle}

@@ -31,7 +31,7 @@ use Rattle.flow_model.proofs.Drops.{shown-work, body_worked}
 use Rattle.flow_machine.specs.Values.{BodyValue, NetValue, shown_body, shown_net}
 use Rattle.flow_machine.specs.Outlets.{output_in}
 use Rattle.flow_machine.specs.Nets.{looks_of, NetTurn, TurnsNet, SeesNet, GetsSound, levels_told}
-use Rattle.flow_machine.specs.Thoughts.{Thinks, WorkedBody, SameBody, SettlesBody}
+use Rattle.flow_machine.specs.Thoughts.{Thinks, WorkedBody, SameBody, SettlesBody, KeepsTurns}
 use Rattle.flow_machine.specs.declared.answers.Thought.{Thought}
 use Rattle.flow_machine.specs.declared.answers.Thought.TheVariants as thoughts
 use Rattle.flow_machine.specs.declared.answers.Turn.{Turn as Turning}
@@ -39,7 +39,7 @@ use Rattle.flow_machine.specs.declared.answers.Turn.TheVariants as turns
 use Rattle.flow_machine.specs.declared.answers.Over.TheVariants as overs
 use Rattle.flow_machine.specs.Logs.{Logged, Logs, stamps_of, levels_of, turns_made}
 use Rattle.flow_machine.specs.FitNets.{IsWiredBody, FitNet}
-use Rattle.flow_machine.specs.NetSteps.{GoesByTurn, TurnGoes, ThinksNet}
+use Rattle.flow_machine.specs.NetSteps.{GoesByTurn, ThinksNet}
 use Rattle.flow_machine.proofs.Standings.{get-map, process-in, channel-in, happens-in}
 use Rattle.flow_machine.proofs.LogLemmas.{stamps_of-append, levels_of-append, stamps-own, stamps-other, levels-own, levels-other}
 use Rattle.flow_machine.proofs.NetTurns.{receives, set-same}
@@ -180,16 +180,6 @@ module _ {K : Type 0} (shape_of : K → Shape) (uses : K → ℕ → Bool) (read
   fit-answer old p n stamp (turns.Over overs.Failed) new same next fit = subst (FitNet shape_of uses ready) (sym same.1) fit
   fit-answer old p n stamp (turns.Over overs.Starved) new never next fit = absurd never
 
-  -- a turn that was made is the machine's
-  pub turn-goes : (old : NetValue K) (p n stamp : ℕ) (answer : Turning) (new : NetValue K) → TurnsNet old p n stamp answer new → TurnGoes shape_of uses ready old p answer new
-  turn-goes old p n stamp (turns.Made s) new made = (made.1.0, goes-by old p n made.1.0 stamp new made.1.1)
-  turn-goes old p n stamp (turns.Blocked block) new waits = tt
-  turn-goes old p n stamp (turns.Over cause) new over = tt
-
-  pub seen-goes : (old : NetValue K) (p n stamp : ℕ) (answer : Option Turning) (new : NetValue K) → SeesNet old p n stamp answer new → IfSome answer (λ turn. TurnGoes shape_of uses ready old p turn new)
-  seen-goes old p n stamp (Some answer) new sees = turn-goes old p n stamp answer new sees.1
-  seen-goes old p n stamp None new refused = tt
-
   pub fit-seen : (old : NetValue K) (p n stamp : ℕ) (answer : Option Turning) (new : NetValue K) → SeesNet old p n stamp answer new → stamp ≡ turns_made old → FitNet shape_of uses ready old → FitNet shape_of uses ready new
   fit-seen old p n stamp (Some answer) new sees next fit = fit-answer old p n stamp answer new sees.1 next fit
   fit-seen old p n stamp None new same next fit = subst (FitNet shape_of uses ready) (sym same.1) fit
@@ -329,26 +319,29 @@ module _ {K : Type 0} (shape_of : K → Shape) (uses : K → ℕ → Bool) (read
   same-turns before after (inl same) = (ap (λ (x : Process K). x.turns) same.process, ap (λ (x : Process K). x.inputs) same.process, ap (λ (x : Process K). x.outputs) same.process)
   same-turns before after (inr work) = (ap (λ (x : Process K). x.turns) work.process ∙ turns-worked before.process work.outcome, ap (λ (x : Process K). x.inputs) work.process ∙ inputs-worked before.process work.outcome, ap (λ (x : Process K). x.outputs) work.process ∙ outputs-worked before.process work.outcome)
 
-  -- a thought keeps what holds of each net
-  pub fit-think : (old : NetValue K) (p : ℕ) (t : Thought) (new : NetValue K) → ThinksNet next old p t new → FitNet shape_of uses ready old → FitNet shape_of uses ready new
-  fit-think old p t new think fit =
-      let b = think.before in
-      let step = thinks-step next b t think.after think.thinks in
-      let after = goes-think old p b think.after new think.there step think.bodies think.channels fit.state fit.fit fit.stands in
-      let same = same-turns b think.after step in
+  -- what a body does ahead of its turn keeps what holds of each net
+  pub fit-rest : (old : NetValue K) (p : ℕ) (b b' : BodyValue K) (new : NetValue K) → slice_get old.bodies p ≡ Some b → SameBody b b' ⊎ WorkedBody next b b' → KeepsTurns b b' → new.bodies ≡ slice_set old.bodies p b' → new.channels ≡ old.channels
+      → FitNet shape_of uses ready old → FitNet shape_of uses ready new
+  fit-rest old p b b' new there step keeps bodies channels fit =
+      let after = goes-think old p b b' new there step bodies channels fit.state fit.fit fit.stands in
+      let same = same-turns b b' step in
       record {
         state = after.0;
         fit = after.1;
         stands = after.2;
         log = fit.log;
-        logs = subst (λ (bs : List (BodyValue K)). Logs fit.log (record { bodies = bs; channels = new.channels })) (sym think.bodies)
-            (by-place old.bodies p b think.after (λ q x. (x.stamps ≡ stamps_of q 0 fit.log) × (x.levels ≡ levels_of q 0 fit.log)) think.there
-            (think.keeps.stamps ∙ (fit.logs p b think.there).0, think.keeps.levels ∙ (fit.logs p b think.there).1) (λ q x other is. fit.logs q x is));
-        total = omega (arith, fit.total, same.0, ap (λ (bs : List (BodyValue K)). sum_by (λ (x : BodyValue K). x.process.turns) bs) think.bodies, turns-set old.bodies p b think.after think.there);
-        few = omega (arith, fit.few, ap length think.bodies, length-set old.bodies p think.after);
-        whole = subst (λ (bs : List (BodyValue K)). (q : ℕ) (x : BodyValue K) → slice_get bs q ≡ Some x → x.leaving ≡ None) (sym think.bodies) (by-place old.bodies p b think.after (λ q x. x.leaving ≡ None) think.there (think.keeps.leaving ∙ fit.whole p b think.there) (λ q x other is. fit.whole q x is));
-        wired = subst (λ (m : ℕ). (q : ℕ) (x : BodyValue K) → slice_get new.bodies q ≡ Some x → IsWiredBody m x) (ap length (sym think.channels))
-            (subst (λ (bs : List (BodyValue K)). (q : ℕ) (x : BodyValue K) → slice_get bs q ≡ Some x → IsWiredBody (length old.channels) x) (sym think.bodies)
-            (by-place old.bodies p b think.after (λ q x. IsWiredBody (length old.channels) x) think.there (wired-same (length old.channels) b think.after same.1 same.2 (fit.wired p b think.there)) (λ q x other is. fit.wired q x is)));
-        puts = λ c channel is. fit.puts c channel (ap (λ (cs : List ChannelShown). slice_get cs c) (sym think.channels) ∙ is);
+        logs = subst (λ (bs : List (BodyValue K)). Logs fit.log (record { bodies = bs; channels = new.channels })) (sym bodies)
+            (by-place old.bodies p b b' (λ q x. (x.stamps ≡ stamps_of q 0 fit.log) × (x.levels ≡ levels_of q 0 fit.log)) there
+            (keeps.stamps ∙ (fit.logs p b there).0, keeps.levels ∙ (fit.logs p b there).1) (λ q x other is. fit.logs q x is));
+        total = omega (arith, fit.total, same.0, ap (λ (bs : List (BodyValue K)). sum_by (λ (x : BodyValue K). x.process.turns) bs) bodies, turns-set old.bodies p b b' there);
+        few = omega (arith, fit.few, ap length bodies, length-set old.bodies p b');
+        whole = subst (λ (bs : List (BodyValue K)). (q : ℕ) (x : BodyValue K) → slice_get bs q ≡ Some x → x.leaving ≡ None) (sym bodies) (by-place old.bodies p b b' (λ q x. x.leaving ≡ None) there (keeps.leaving ∙ fit.whole p b there) (λ q x other is. fit.whole q x is));
+        wired = subst (λ (m : ℕ). (q : ℕ) (x : BodyValue K) → slice_get new.bodies q ≡ Some x → IsWiredBody m x) (ap length (sym channels))
+            (subst (λ (bs : List (BodyValue K)). (q : ℕ) (x : BodyValue K) → slice_get bs q ≡ Some x → IsWiredBody (length old.channels) x) (sym bodies)
+            (by-place old.bodies p b b' (λ q x. IsWiredBody (length old.channels) x) there (wired-same (length old.channels) b b' same.1 same.2 (fit.wired p b there)) (λ q x other is. fit.wired q x is)));
+        puts = λ c channel is. fit.puts c channel (ap (λ (cs : List ChannelShown). slice_get cs c) (sym channels) ∙ is);
       }
+
+  -- a thought keeps what holds of each net
+  pub fit-think : (old : NetValue K) (p : ℕ) (t : Thought) (new : NetValue K) → ThinksNet next old p t new → FitNet shape_of uses ready old → FitNet shape_of uses ready new
+  fit-think old p t new think fit = fit-rest old p think.before think.after new think.there (thinks-step next think.before t think.after think.thinks) think.keeps think.bodies think.channels fit

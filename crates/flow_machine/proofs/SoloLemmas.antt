@@ -1,5 +1,5 @@
 -- Bursts, passes and rounds, one turn after another.
-use Rattle.std.proofs.Common.{◌≡◌, ◌≢◌, ℕ, ◌+◌, ◌<◌, ◌≤◌, Bool, true, false, List, [], ◌∷◌, ◌++◌, length, map, Option, Some, None, suc, zero, refl, ap, sym, subst, ◌∙◌, arith, slice_get, length-append, append_assoc, append-nil, add-one, ◌⊎◌, inl, inr}
+use Rattle.std.proofs.Common.{◌≡◌, ◌≢◌, ℕ, ◌+◌, ◌<◌, ◌≤◌, Bool, true, false, List, [], ◌∷◌, ◌++◌, length, map, Option, Some, None, suc, zero, refl, ap, sym, subst, ◌∙◌, arith, slice_get, length-append, append_assoc, append-nil, add-one, ◌⊎◌, inl, inr, slice_set}
 use Rattle.std.specs.Prelude.{option_and_then, IfSome, sum_by}
 use Rattle.std.specs.List.{flat_map}
 use Rattle.flow_packet.specs.Held.{Held}
@@ -34,7 +34,7 @@ use Rattle.flow_machine.specs.NetSteps.{ThinksNet, IsSetIn}
 use Rattle.flow_machine.specs.Thoughts.{SettlesBody, WorkedBody, SameBody, IsSet, IsSetAt}
 use Rattle.flow_machine.specs.Logs.{Logged, journal_of, Remembers, stamps_of, levels_of, turns_made}
 use Rattle.flow_machine.specs.Starts.{AllSet}
-use Rattle.flow_machine.specs.Solo.{Goes, HasNoTurnIn, MakesTurn, SettlesNet, SetBelow, turns_of, burst_of, pass_below, some_passes, some_works, all_settled, round_robin}
+use Rattle.flow_machine.specs.Solo.{Goes, HasNoTurnIn, MakesTurn, SettlesNet, StarvesNet, IsFirstUnset, SetBelow, turns_of, burst_of, pass_below, some_passes, some_works, all_settled, round_robin}
 use Rattle.flow_machine.proofs.Standings.{process-in, happens-in}
 use Rattle.flow_machine.proofs.NetTurns.{if_some, level-there, set-thought}
 use Rattle.flow_machine.proofs.LogLemmas.{stamps_of-append, levels_of-append, stamps-own, stamps-other, levels-own, levels-other}
@@ -464,11 +464,30 @@ turns-worked : {K : Type 0} (x : Process K) (outcome : Outcome K) → (worked x 
 turns-worked x (Wishes part held wish) = refl
 turns-worked x (Fails part held cause) = refl
 
-pub think-count : {K : Type 0} (next : K → Held → Answer → Outcome K → Type 0) (old : NetValue K) (p : ℕ) (t : Thought) (new : NetValue K) → ThinksNet next old p t new → turns_made new ≡ turns_made old
-think-count {K} next old p t new think =
-    let ts : think.after.process.turns ≡ think.before.process.turns = by (thinks-step next think.before t think.after think.thinks) in
-    omega (arith, ts, ap (λ (bs : List (BodyValue K)). sum_by (λ (x : BodyValue K). x.process.turns) bs) think.bodies, turns-set old.bodies p think.before think.after think.there)
+pub count-rest : {K : Type 0} (next : K → Held → Answer → Outcome K → Type 0) (old : NetValue K) (p : ℕ) (b b' : BodyValue K) (new : NetValue K) → slice_get old.bodies p ≡ Some b → SameBody b b' ⊎ WorkedBody next b b' → new.bodies ≡ slice_set old.bodies p b' → turns_made new ≡ turns_made old
+count-rest {K} next old p b b' new there step bodies = omega (arith, by step, ap (λ (bs : List (BodyValue K)). sum_by (λ (x : BodyValue K). x.process.turns) bs) bodies, turns-set old.bodies p b b' there)
   where
-    by : SameBody think.before think.after ⊎ WorkedBody next think.before think.after → think.after.process.turns ≡ think.before.process.turns
+    by : SameBody b b' ⊎ WorkedBody next b b' → b'.process.turns ≡ b.process.turns
     by (inl same) = ap (λ (x : Process K). x.turns) same.process
-    by (inr work) = ap (λ (x : Process K). x.turns) work.process ∙ turns-worked think.before.process work.outcome
+    by (inr work) = ap (λ (x : Process K). x.turns) work.process ∙ turns-worked b.process work.outcome
+
+pub think-count : {K : Type 0} (next : K → Held → Answer → Outcome K → Type 0) (old : NetValue K) (p : ℕ) (t : Thought) (new : NetValue K) → ThinksNet next old p t new → turns_made new ≡ turns_made old
+think-count next old p t new think = count-rest next old p think.before think.after new think.there (thinks-step next think.before t think.after think.thinks) think.bodies
+
+-- after a thought that found none the process is starved
+pub starves-memory : {K : Type 0} (next : K → Held → Answer → Outcome K → Type 0) (old : NetValue K) (p : ℕ) (new : NetValue K) → ThinksNet next old p thoughts.NoMemory new → StarvesNet old p new
+starves-memory next old p new think = record { before = think.before; after = think.after; there = think.there; unset = think.thinks.2; bodies = think.bodies }
+
+-- a process that is starved is the first one that isn't set, where those below it are
+pub first-unset : {K : Type 0} (old new : NetValue K) (p : ℕ) → SetBelow p old.bodies → StarvesNet old p new → IsFirstUnset new.bodies p
+first-unset {K} old new p set starves = subst (λ (bs : List (BodyValue K)). IsFirstUnset bs p) (sym starves.bodies) (record {
+  body = starves.after;
+  there = slice_get-set_same old.bodies p starves.before starves.after starves.there;
+  unset = starves.unset;
+  below = λ q b below is. set q b below (sym (slice_get-set_other old.bodies p q starves.after (λ (same : q ≡ p). omega (arith, below, same))) ∙ is);
+})
+
+-- a turn of p leaves the processes below it as they were
+pub set-turned : {K : Type 0} (old new : NetValue K) (p k m : ℕ) (e : Event) → AllSet old.bodies → NetTurn old p k e m new → SetBelow p new.bodies
+set-turned {K} old new p k m e set turn q b below is =
+    set q b (sym (slice_get-set_other old.bodies p q turn.after (λ (same : q ≡ p). omega (arith, below, same))) ∙ ap (λ (bs : List (BodyValue K)). slice_get bs q) (sym turn.bodies) ∙ is)

@@ -12,8 +12,6 @@ use Rattle.flow_model.specs.Fit.{Fit}
 use Rattle.flow_machine.specs.Values.{BodyValue, NetValue, shown_net}
 use Rattle.flow_machine.specs.Thoughts.{Thinks, KeepsTurns, IsSet}
 use Rattle.flow_machine.specs.declared.answers.Thought.{Thought}
-use Rattle.flow_machine.specs.declared.answers.Turn.{Turn as Turned}
-use Rattle.flow_machine.specs.declared.answers.Turn.TheVariants as answers
 
 -- Each fit state that the net stood for goes on by this turn of process p to one that it stands for now.
 abbrev pub GoesByTurn : {K : Type 0} → (K → Shape) → (K → ℕ → Bool) → (K → Held → Answer → Type 0) → NetValue K → ℕ → Event → NetValue K → Type 0
@@ -32,9 +30,3 @@ pub record ThinksNet {K : Type 0} (next : K → Held → Answer → Outcome K �
   pub keeps : KeepsTurns before after
   pub bodies : new.bodies ≡ slice_set old.bodies p after
   pub channels : new.channels ≡ old.channels
-
--- A turn of process p that was made is the machine's: each fit state that the net stood for goes on by it.
-abbrev pub TurnGoes : {K : Type 0} → (K → Shape) → (K → ℕ → Bool) → (K → Held → Answer → Type 0) → NetValue K → ℕ → Turned → NetValue K → Type 0
-TurnGoes shape_of uses ready old p (answers.Made s) new = (event : Event) × GoesByTurn shape_of uses ready old p event new
-TurnGoes shape_of uses ready old p (answers.Blocked block) new = Unit {0}
-TurnGoes shape_of uses ready old p (answers.Over over) new = Unit {0}

@@ -14,7 +14,7 @@ use Rattle.flow_model.specs.Stands.{StandsForOpen}
 use Rattle.flow_model.specs.Fit.{Fit}
 use Rattle.flow_machine.specs.Values.{BodyValue, NetValue, shown_net}
 use Rattle.flow_machine.specs.Nets.{looks_of, NetTurn, level_of}
-use Rattle.flow_machine.specs.Thoughts.{SettlesBody, KeepsTurns, IsSet}
+use Rattle.flow_machine.specs.Thoughts.{SettlesBody, KeepsTurns, IsSet, IsUnset}
 use Rattle.flow_machine.specs.Logs.{Logged, journal_of, Remembers, turns_made}
 
 -- Each fit state that a net stood for goes on in this way to one that it stands for afterwards.
@@ -51,9 +51,24 @@ pub record SettlesNet {K : Type 0} (next : K → Held → Answer → Outcome K �
   pub bodies : new.bodies ≡ slice_set old.bodies p after
   pub channels : new.channels ≡ old.channels
 
+-- A thought of process p found no memory: the process isn't set, and no other has changed.
+pub record StarvesNet {K : Type 0} (old : NetValue K) (p : ℕ) (new : NetValue K) : Type 0 where
+  pub before : BodyValue K
+  pub after : BodyValue K
+  pub there : slice_get old.bodies p ≡ Some before
+  pub unset : IsUnset after
+  pub bodies : new.bodies ≡ slice_set old.bodies p after
+
 -- The processes below p are set.
 abbrev pub SetBelow : {K : Type 0} → ℕ → List (BodyValue K) → Type 0
 SetBelow {K} n bodies = (p : ℕ) (b : BodyValue K) → p < n → slice_get bodies p ≡ Some b → IsSet b
+
+-- Process p is the first one that isn't set.
+pub record IsFirstUnset {K : Type 0} (bodies : List (BodyValue K)) (p : ℕ) : Type 0 where
+  pub body : BodyValue K
+  pub there : slice_get bodies p ≡ Some body
+  pub unset : IsUnset body
+  pub below : SetBelow p bodies
 
 -- Turns of p alone; a burst of p; a pass over the processes below p; passes that have turns.
 abbrev pub turns_of : {K : Type 0} → (K → Held → Answer → Outcome K → Type 0) → ℕ → Journal → State K → State K → Type 0
@@ -88,8 +103,8 @@ pub record ReachesNet {K : Type 0} (shape_of : K → Shape) (uses : K → ℕ �
   pub len : length new.bodies ≡ length old.bodies
   pub goes : Goes shape_of uses ready (reached next) old (turns_made old) new (turns_made new)
 
--- A run stopped for want of memory: no process was starved and nothing was done, or this one was.
+-- A run stopped for want of memory: no process was starved and nothing was done, or this one was, the first one that isn't set.
 abbrev pub StopsAt : {K : Type 0} → NetValue K → NetValue K → List ℕ → Type 0
 StopsAt old new [] = new ≡ old
-StopsAt old new (p ∷ []) = p < length old.bodies
+StopsAt old new (p ∷ []) = IsFirstUnset new.bodies p
 StopsAt old new (p ∷ q ∷ starved) = ⊥

@@ -54,6 +54,10 @@ IsSetAt body (stages.Failed cause) = Unit {0}
 abbrev pub IsSet : {K : Type 0} → BodyValue K → Type 0
 IsSet body = IsSetAt body body.process.stage
 
+-- The body owes its work, or lacks some of the room of its next turn.
+abbrev pub IsUnset : {K : Type 0} → BodyValue K → Type 0
+IsUnset body = IsSet body → ⊥
+
 -- The pending work was done, with some outcome that the component may come to.
 pub record WorkedBody {K : Type 0} (next : K → Held → Answer → Outcome K → Type 0) (old new : BodyValue K) : Type 0 where
   pub answer : Answer
@@ -82,17 +86,17 @@ HasNotFailed stages.Ended = Unit {0}
 HasNotFailed (stages.Failed cause) = ⊥
 
 -- What a thought comes to. After a wish and after a failure the pending work is done, and the body is set; without memory either nothing changed that
--- is shown, or the work is done and only the room is missing.
+-- is shown, or the work is done and only the room is missing, and the body isn't set: so the process hasn't ended.
 abbrev pub Thinks : {K : Type 0} → (K → Held → Answer → Outcome K → Type 0) → BodyValue K → Thought → BodyValue K → Type 0
 Thinks next old thoughts.Wishing new = SettlesBody next old new × IsSet new × HasNotFailed new.process.stage
 Thinks next old (thoughts.Failed cause) new = SettlesBody next old new × (new.process.stage ≡ stages.Failed cause)
-Thinks next old thoughts.NoMemory new = (SameBody old new ⊎ WorkedBody next old new) × HasNotFailed new.process.stage
+Thinks next old thoughts.NoMemory new = (SameBody old new ⊎ WorkedBody next old new) × HasNotFailed new.process.stage × IsUnset new
 
 -- The same of a body whose work is done: it takes the room of its next turn.
 abbrev pub Prepares : {K : Type 0} → BodyValue K → Thought → BodyValue K → Type 0
 Prepares old thoughts.Wishing new = SameBody old new × IsSet new × HasNotFailed new.process.stage
 Prepares old (thoughts.Failed cause) new = SameBody old new × (new.process.stage ≡ stages.Failed cause)
-Prepares old thoughts.NoMemory new = SameBody old new × HasNotFailed new.process.stage
+Prepares old thoughts.NoMemory new = SameBody old new × HasNotFailed new.process.stage × IsUnset new
 
 -- Stamps, level numbers and a packet under way stay.
 pub record KeepsTurns {K : Type 0} (old new : BodyValue K) : Type 0 where

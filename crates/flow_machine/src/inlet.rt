@@ -1,5 +1,5 @@
 //! What stands at the inputs of a process.
-ghost use Rattle.std.specs.Prelude.{◌≡◌, length, map, false, slice_get, unwrap_or, IfOk};
+ghost use Rattle.std.specs.Prelude.{◌≡◌, length, map, false, slice_get, unwrap_or, IfOk, OnErr, ◌≢◌, None};
 ghost use Rattle.std.specs.Option.{option_map};
 ghost use Rattle.flow_model.specs.Events.{is_connected, has_packet, has_ended, passes, holds_packet, is_over};
 ghost use Rattle.flow_model.specs.Stands.{look_shown};
@@ -90,7 +90,8 @@ pub(crate) fn next_text(
     fresh: &[bool],
     port: Port,
 ) -> Result<Option<Vec<u8>>, AllocError>
-    ensures { IfOk result (λ copy. option_map (λ text. text.items) copy ≡ text_taken (unwrap_or (slice_get fresh.now port.0) false) (slice_get (map input_shown inlets.now) port.0)) }
+    ensures copy { IfOk result (λ copy. option_map (λ text. text.items) copy ≡ text_taken (unwrap_or (slice_get fresh.now port.0) false) (slice_get (map input_shown inlets.now) port.0)) }
+    ensures refused { OnErr result (text_taken (unwrap_or (slice_get fresh.now port.0) false) (slice_get (map input_shown inlets.now) port.0) ≢ None) }
 {
     if !fresh.get(port.0 as usize).copied().unwrap_or(false) {
         return Ok(None);

@@ -1,8 +1,9 @@
 //! A network that runs.
-ghost use Rattle.std.specs.Prelude.{◌≡◌, ◌<◌, ◌^◌, ◌≤◌, length, None, Some, slice_get, IfSome, sum_by};
+ghost use Rattle.std.specs.Prelude.{◌≡◌, ◌<◌, ◌^◌, ◌≤◌, length, None, Some, slice_get, sum_by};
+ghost use Rattle.flow_model.specs.Events.{Event};
 ghost use Rattle.flow_model.specs.Schedules.{IsThoughtStage};
-ghost use Rattle.flow_machine.specs.Nets.{level_of, block_at, is_asking, asks_level, IsAt, TurnsNet, SeesNet};
-ghost use Rattle.flow_machine.specs.NetSteps.{IsSetIn, ThinksNet, TurnGoes};
+ghost use Rattle.flow_machine.specs.Nets.{level_of, block_at, is_asking, asks_level, IsAt, NetTurn, TurnsNet, SeesNet};
+ghost use Rattle.flow_machine.specs.NetSteps.{IsSetIn, ThinksNet, GoesByTurn};
 ghost use Rattle.flow_machine.specs.Logs.{turns_made, HasLog};
 
 use self::begin::{discard_bodies, discard_channels};
@@ -101,7 +102,7 @@ impl<K: Component> Net<K> {
         requires set { IsSetIn self.old process }
         requires next { stamp ≡ turns_made self.old }
         ensures turns { TurnsNet self.old process (level_of self.old process) stamp result self.new }
-        ensures goes { TurnGoes K.shape_of K.uses K.ready self.old process result self.new }
+        ensures goes { (event : Event) → NetTurn self.old process (level_of self.old process) event stamp self.new → GoesByTurn K.shape_of K.uses K.ready self.old process event self.new }
         ensures few { turns_made self.new ≤ 1073741824 }
     {
         turns::turn_of(&mut self.bodies, &mut self.channels, process, stamp)
@@ -129,7 +130,7 @@ impl<K: Component> Net<K> {
         requires next { stamp ≡ turns_made self.old }
         requires asks { IsAt self.old process asks_level }
         ensures sees { SeesNet self.old process seen stamp result self.new }
-        ensures goes { IfSome result (λ turn. TurnGoes K.shape_of K.uses K.ready self.old process turn self.new) }
+        ensures goes { (event : Event) → NetTurn self.old process seen event stamp self.new → GoesByTurn K.shape_of K.uses K.ready self.old process event self.new }
     {
         levels::seen_of(&mut self.bodies, &self.channels, process, stamp, seen)
     }

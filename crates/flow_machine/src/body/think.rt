@@ -1,5 +1,5 @@
 //! The work of a process's component, ahead of its turn.
-ghost use Rattle.std.specs.Prelude.{◌≡◌, ◌↔◌, None, OnOk};
+ghost use Rattle.std.specs.Prelude.{◌≡◌, ◌↔◌, None, OnOk, OnErr};
 ghost use Rattle.std.specs.Bool.{OnTrue, OnFalse};
 ghost use Rattle.flow_packet.specs.Held.{held_of};
 ghost use Rattle.flow_model.specs.Works.{judged};
@@ -45,7 +45,7 @@ fn judged_stage(depths: &[u32], hands: &Hands, wish: Wish) -> Stage
 }
 
 impl<K: Component> Body<K> {
-    /// Does the pending work, if any, and takes the room of the next turn. Without memory the same thought may be had again. The gate is passed
+    /// Does the pending work, if any, and takes the room of the next turn. Without memory the same thought may be had again; an ended process finds what it needs. The gate is passed
     /// before each resume of the component.
     pub fn think<G: Gate>(&mut self, gate: &G) -> Thought
         requires { self.old.leaving ≡ None }
@@ -108,6 +108,7 @@ impl<K: Component> Body<K> {
         ensures same { SameBody self.old self.new }
         ensures keeps { KeepsTurns self.old self.new }
         ensures room { OnOk result (HasRoom self.new) }
+        ensures lacks { OnErr result (HasRoom self.new → ⊥) }
     {
         self.copy = None;
         self.hands.reserve(1)?;

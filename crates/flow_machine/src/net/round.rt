@@ -4,7 +4,7 @@ ghost use Rattle.std.specs.Bool.{OnTrue, OnFalse};
 ghost use Rattle.flow_machine.specs.NetSteps.{IsSetIn};
 ghost use Rattle.flow_machine.specs.Starts.{AllSet};
 ghost use Rattle.flow_machine.specs.Logs.{turns_made};
-ghost use Rattle.flow_machine.specs.Solo.{Goes, MakesTurn, SettlesNet, ReachesNet, StopsAt, all_settled, burst_of, pass_below, round_robin};
+ghost use Rattle.flow_machine.specs.Solo.{Goes, MakesTurn, SettlesNet, StarvesNet, IsFirstUnset, ReachesNet, StopsAt, all_settled, burst_of, pass_below, round_robin};
 
 use super::Net;
 use crate::answers::{Thought, Turn};
@@ -54,6 +54,7 @@ impl<K: Component> Net<K> {
     fn settle(&mut self, process: u32) -> bool
         requires { process < length self.old.bodies }
         ensures settles { OnTrue result (SettlesNet K.next self.old process self.new) }
+        ensures starves { OnFalse result (StarvesNet self.old process self.new) }
         ensures reaches { ReachesNet K.shape_of K.uses K.ready K.next self.old self.new }
         ensures len { length self.new.bodies ≡ length self.old.bodies }
         ensures turns { turns_made self.new ≡ turns_made self.old }
@@ -70,7 +71,7 @@ impl<K: Component> Net<K> {
         ensures set { OnOk result (AllSet self.new.bodies) }
         ensures goes { OnOk result (Goes K.shape_of K.uses K.ready (all_settled K.next) self.old (turns_made self.old) self.new (turns_made self.old)) }
         ensures reaches { ReachesNet K.shape_of K.uses K.ready K.next self.old self.new }
-        ensures starved { IfErr result (λ p. p < length self.old.bodies) }
+        ensures starved { IfErr result (IsFirstUnset self.new.bodies) }
         ensures len { length self.new.bodies ≡ length self.old.bodies }
         ensures turns { turns_made self.new ≡ turns_made self.old }
     {
@@ -94,7 +95,7 @@ impl<K: Component> Net<K> {
         ensures len { length self.new.bodies ≡ length self.old.bodies }
         ensures goes { OnOk result (Goes K.shape_of K.uses K.ready (burst_of K.next process) self.old stamp.old self.new stamp.new) }
         ensures reaches { ReachesNet K.shape_of K.uses K.ready K.next self.old self.new }
-        ensures starved { IfErr result (λ p. p < length self.old.bodies) }
+        ensures starved { IfErr result (IsFirstUnset self.new.bodies) }
     {
         while self.make_turn(process, *stamp) {
             *stamp += 1;
@@ -117,7 +118,7 @@ impl<K: Component> Net<K> {
         ensures goes { OnOk result (Goes K.shape_of K.uses K.ready (pass_below K.next (length self.old.bodies)) self.old stamp.old self.new stamp.new) }
         ensures moved { IfOk result (λ moved. OnTrue moved (stamp.old < stamp.new) × OnFalse moved (stamp.new ≡ stamp.old)) }
         ensures reaches { ReachesNet K.shape_of K.uses K.ready K.next self.old self.new }
-        ensures starved { IfErr result (λ p. p < length self.old.bodies) }
+        ensures starved { IfErr result (IsFirstUnset self.new.bodies) }
     {
         let before = *stamp;
         for process in 0..self.processes() {
@@ -130,7 +131,7 @@ impl<K: Component> Net<K> {
     fn go_round(&mut self) -> Result<(), u32>
         ensures goes { OnOk result (Goes K.shape_of K.uses K.ready (round_robin K.next) self.old (turns_made self.old) self.new (turns_made self.new)) }
         ensures reaches { ReachesNet K.shape_of K.uses K.ready K.next self.old self.new }
-        ensures starved { IfErr result (λ p. p < length self.old.bodies) }
+        ensures starved { IfErr result (IsFirstUnset self.new.bodies) }
     {
         self.settle_all()?;
         let mut stamp = self.turns_made();
@@ -141,7 +142,7 @@ impl<K: Component> Net<K> {
 
 /// Runs a network on one thread: all pending works are done, and then passes are made over the processes 0, 1, 2 and so on, in each of which a process
 /// takes turns until it has none; after a pass without a turn the network is quiet. Without memory what stands is handed back, with the one process
-/// that found none, or with none where the room for its number wasn't found, before the first turn.
+/// whose thought found none: the first one that isn't set. Where the room for its number wasn't found, before the first turn, none is named.
 pub fn solo<K: Component>(alloc: Global, net: Net<K>) -> Result<Closed<K>, Closed<K>>
     ensures quiet { IfOk result (λ closed. Goes K.shape_of K.uses K.ready (round_robin K.next) net (turns_made net) closed.net (turns_made closed.net)) }
     ensures none { IfOk result (λ closed. closed.starved.items ≡ []) }

@@ -1,4 +1,4 @@
-use Rattle.std.proofs.Common.{rules, arith, true, false, ◌≡◌, ◌<◌, ◌∙◌, ◌++◌, sym, ap, subst, map, length, slice_get}
+use Rattle.std.proofs.Common.{rules, arith, true, false, ◌≡◌, ◌∙◌, ◌++◌, sym, ap, subst, map, length, slice_get}
 use Rattle.atomic_table.specs.Table.{opening}
 use Rattle.flow_machine.specs.Values.{NetValue}
 use Rattle.flow_floor.specs.declared.board.Slot.TheVariants as slot

@@ -1,4 +1,4 @@
-use Rattle.std.proofs.Common.{◌≡◌, ◌<◌, ◌∙◌, arith, ap, sym, inl, inr, length, slice_get}
+use Rattle.std.proofs.Common.{◌≡◌, ◌∙◌, arith, ap, sym, inl, inr, length, slice_get}
 use Rattle.flow_model.specs.Stands.{ChannelShown}
 use Rattle.flow_model.proofs.Lists.{same_or_not}
 use Rattle.flow_floor.proofs.Seats.{some_Some, get-within}

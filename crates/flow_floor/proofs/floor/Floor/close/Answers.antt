@@ -1,4 +1,4 @@
-use Rattle.std.proofs.Common.{sym, subst, [], ◌∷◌, ◌++◌}
+use Rattle.std.proofs.Common.{subst}
 use Rattle.flow_floor.specs.Crew.{IsCrew}
 use Rattle.flow_floor.proofs.floor.Floor.close.Goals as goal
 

@@ -1,6 +1,5 @@
-use Rattle.std.proofs.Common.{arith, ◌≡◌, ◌-◌, ◌∙◌, [], ◌∷◌, All, sym, ap, subst, sum_by, length, length-append}
-use Rattle.flow_floor.specs.declared.floor.Worker.{Worker}
-use Rattle.flow_floor.specs.Workers.{IsIdle, view}
+use Rattle.std.proofs.Common.{arith, ◌∙◌, [], ◌∷◌, All, sym, ap, subst, sum_by, length, length-append}
+use Rattle.flow_floor.specs.Workers.{IsIdle}
 use Rattle.flow_floor.proofs.Crews.{parts-push, idle-push}
 use Rattle.flow_floor.proofs.floor.Floor.hire.Goals as goal
 

@@ -1,4 +1,4 @@
-use Rattle.std.proofs.Common.{◌≡◌, ◌+◌, ◌≤◌, length, All, sum_by, vec_capacity}
+use Rattle.std.proofs.Common.{◌≡◌, ◌+◌, length, All, sum_by, vec_capacity}
 use Rattle.flow_floor.specs.Workers.{view, IsIdle}
 use Rattle.flow_floor.proofs.floor.Floor.hire.Given as goal
 

@@ -1,5 +1,4 @@
-use Rattle.std.proofs.Common.{◌≡◌, ◌+◌, ◌≤◌, ◌∙◌, ◌∷◌, refl, sym, ap, subst, arith, inl, length}
-use Rattle.flow_floor.specs.declared.board.Look.{Look}
+use Rattle.std.proofs.Common.{◌≡◌, ◌+◌, ◌≤◌, ◌∙◌, ◌∷◌, refl, sym, ap, subst, arith, inl}
 use Rattle.flow_floor.specs.Idle.{InSeen}
 use Rattle.flow_floor.specs.Workers.{view}
 use Rattle.flow_floor.specs.Plays.{look_at}

@@ -1,4 +1,3 @@
-use Rattle.std.proofs.Common.{ap, ◌∙◌}
 use Rattle.flow_machine.specs.declared.answers.Case.TheVariants as cases
 use Rattle.flow_machine.proofs.NetTurns.{case-is}
 use Rattle.flow_floor.specs.Workers.{view, SeenBlocks}

@@ -3,7 +3,7 @@ use Rattle.flow_machine.specs.Values.{NetValue}
 use Rattle.flow_machine.specs.Nets.{level_of}
 use Rattle.flow_machine.specs.Logs.{turns_made}
 use Rattle.flow_machine.specs.Starts.{AllSet}
-use Rattle.flow_machine.proofs.SoloLemmas.{burst-none, burst-more, burst-ends, set-after}
+use Rattle.flow_machine.proofs.SoloLemmas.{burst-none, burst-more, burst-ends, set-after, set-turned, first-unset}
 use Rattle.flow_machine.proofs.Reaching.{reach-none, reach-then}
 use Rattle.flow_machine.proofs.net.Net.burst.Goals as goal
 
@@ -49,4 +49,6 @@ pub returns-then-not-settle-clause-reaches : goal.returns-then-not-settle-clause
 returns-then-not-settle-clause-reaches g c = reach-then g.K.Component.shape_of g.K.Component.uses g.K.Component.ready g.K.Component.next g.met.K.Component.obeys g.met.K.Component.stays_ready g.met.K.Component.steady c.args.self.now c.make_turn.new.self c.settle.new.self (reach-then g.K.Component.shape_of g.K.Component.uses g.K.Component.ready g.K.Component.next g.met.K.Component.obeys g.met.K.Component.stays_ready g.met.K.Component.steady c.args.self.now c.loop-stamp.self c.make_turn.new.self c.loop-stamp.invariant.reaches c.make_turn.ensures.reaches) c.settle.ensures.reaches
 
 pub returns-then-not-settle-clause-starved : goal.returns-then-not-settle-clause-starved
-returns-then-not-settle-clause-starved g c = c.requires.in_range
+returns-then-not-settle-clause-starved g c =
+    let made = rw c.loop-stamp-test.true at c.make_turn.ensures.turn in
+    first-unset c.make_turn.new.self c.settle.new.self c.args.process (set-turned c.loop-stamp.self c.make_turn.new.self c.args.process (level_of c.loop-stamp.self c.args.process) c.loop-stamp.stamp made.0 c.loop-stamp.invariant.set made.1) (rw c.if-not-settle.true at c.settle.ensures.starves)

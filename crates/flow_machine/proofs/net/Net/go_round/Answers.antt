@@ -1,6 +1,6 @@
 use Rattle.std.proofs.Common.{◌≡◌, ◌<◌, length, ℕ, arith, refl, sym, ◌∙◌, subst}
 use Rattle.flow_machine.specs.Logs.{turns_made}
-use Rattle.flow_machine.specs.Solo.{Goes, some_passes, round_robin}
+use Rattle.flow_machine.specs.Solo.{Goes, IsFirstUnset, some_passes, round_robin}
 use Rattle.flow_machine.proofs.SoloLemmas.{passes-none, round-more, round-ends}
 use Rattle.flow_machine.proofs.Reaching.{reach-none, reach-then, passed-on}
 use Rattle.flow_machine.proofs.net.Net.go_round.Goals as goal
@@ -48,9 +48,8 @@ pub returns-in_err-pass-clause-reaches : goal.returns-in_err-pass-clause-reaches
 returns-in_err-pass-clause-reaches g c = reach-then g.K.Component.shape_of g.K.Component.uses g.K.Component.ready g.K.Component.next g.met.K.Component.obeys g.met.K.Component.stays_ready g.met.K.Component.steady c.args.self.now c.settle_all.new.self c.pass.new.self c.settle_all.ensures.reaches (reach-then g.K.Component.shape_of g.K.Component.uses g.K.Component.ready g.K.Component.next g.met.K.Component.obeys g.met.K.Component.stays_ready g.met.K.Component.steady c.settle_all.new.self c.loop.self c.pass.new.self c.loop.invariant.reaches c.pass.ensures.reaches)
 
 pub returns-in_err-settle_all-clause-starved : goal.returns-in_err-settle_all-clause-starved
-returns-in_err-settle_all-clause-starved g c = passed-on c.from_residual.result c.in_err-settle_all.field-0.0 (λ (p : ℕ). p < length c.args.self.now.bodies) c.from_residual.ensures.1 c.in_err-settle_all.ensures.starved
+returns-in_err-settle_all-clause-starved g c = passed-on c.from_residual.result c.in_err-settle_all.field-0.0 (IsFirstUnset c.settle_all.new.self.bodies) c.from_residual.ensures.1 c.in_err-settle_all.ensures.starved
 
 pub returns-in_err-pass-clause-starved : goal.returns-in_err-pass-clause-starved
 returns-in_err-pass-clause-starved g c =
-    passed-on c.from_residual-in_err-pass.result c.in_err-pass.field-0.0 (λ (p : ℕ). p < length c.args.self.now.bodies) c.from_residual-in_err-pass.ensures.1
-    (subst (λ (n : ℕ). c.in_err-pass.field-0.0 < n) (c.loop.invariant.len ∙ c.settle_all.ensures.len) c.in_err-pass.ensures.starved)
+    passed-on c.from_residual-in_err-pass.result c.in_err-pass.field-0.0 (IsFirstUnset c.pass.new.self.bodies) c.from_residual-in_err-pass.ensures.1 c.in_err-pass.ensures.starved

@@ -1,5 +1,5 @@
 use Rattle.std.proofs.Common.{◌≡◌, ◌<◌, ℕ, length, arith, refl, sym, ◌∙◌, subst}
-use Rattle.flow_machine.specs.Solo.{Goes, pass_below}
+use Rattle.flow_machine.specs.Solo.{Goes, IsFirstUnset, pass_below}
 use Rattle.flow_machine.proofs.SoloLemmas.{pass-none, pass-more}
 use Rattle.flow_machine.proofs.Reaching.{reach-none, reach-then, passed-on}
 use Rattle.flow_machine.proofs.net.Net.pass.Goals as goal
@@ -34,4 +34,4 @@ returns-in_err-burst-clause-reaches g c = reach-then g.K.Component.shape_of g.K.
 
 pub returns-in_err-burst-clause-starved : goal.returns-in_err-burst-clause-starved
 returns-in_err-burst-clause-starved g c =
-    passed-on c.from_residual.result c.in_err-burst.field-0.0 (λ (p : ℕ). p < length c.args.self.now.bodies) c.from_residual.ensures.1 (subst (λ (n : ℕ). c.in_err-burst.field-0.0 < n) c.loop-process.invariant.len c.in_err-burst.ensures.starved)
+    passed-on c.from_residual.result c.in_err-burst.field-0.0 (IsFirstUnset c.burst.new.self.bodies) c.from_residual.ensures.1 c.in_err-burst.ensures.starved

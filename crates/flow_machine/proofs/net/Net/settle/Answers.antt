@@ -1,4 +1,4 @@
-use Rattle.flow_machine.proofs.SoloLemmas.{settles-wishing, settles-failed, think-count}
+use Rattle.flow_machine.proofs.SoloLemmas.{settles-wishing, settles-failed, starves-memory, think-count}
 use Rattle.flow_machine.proofs.Reaching.{reach-think}
 use Rattle.flow_machine.proofs.net.Net.settle.Goals as goal
 
@@ -25,3 +25,6 @@ returns-in-Failed-clause-reaches g c = reach-think g.K.Component.shape_of g.K.Co
 
 pub returns-in-NoMemory-clause-reaches : goal.returns-in-NoMemory-clause-reaches
 returns-in-NoMemory-clause-reaches g c = reach-think g.K.Component.shape_of g.K.Component.uses g.K.Component.ready g.K.Component.next g.met.K.Component.obeys g.met.K.Component.stays_ready g.met.K.Component.steady c.args.self.now c.args.process c.think.result c.think.new.self c.think.ensures
+
+pub returns-in-NoMemory-clause-starves : goal.returns-in-NoMemory-clause-starves
+returns-in-NoMemory-clause-starves g c = starves-memory g.K.Component.next c.args.self.now c.args.process c.think.new.self c.in-NoMemory.ensures

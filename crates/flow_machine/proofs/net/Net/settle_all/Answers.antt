@@ -1,6 +1,6 @@
 use Rattle.std.proofs.Common.{◌≤◌, length, arith, refl, sym, ◌∙◌}
 use Rattle.flow_machine.specs.Logs.{turns_made}
-use Rattle.flow_machine.proofs.SoloLemmas.{works-none, works-more, works-all, set-more, set-all}
+use Rattle.flow_machine.proofs.SoloLemmas.{works-none, works-more, works-all, set-more, set-all, first-unset}
 use Rattle.flow_machine.proofs.Reaching.{reach-none, reach-then}
 use Rattle.flow_machine.proofs.net.Net.settle_all.Goals as goal
 
@@ -30,4 +30,4 @@ pub returns-then-not-settle-clause-reaches : goal.returns-then-not-settle-clause
 returns-then-not-settle-clause-reaches g c = reach-then g.K.Component.shape_of g.K.Component.uses g.K.Component.ready g.K.Component.next g.met.K.Component.obeys g.met.K.Component.stays_ready g.met.K.Component.steady c.args.self.now c.loop-process.self c.settle.new.self c.loop-process.invariant.reaches c.settle.ensures.reaches
 
 pub returns-then-not-settle-clause-starved : goal.returns-then-not-settle-clause-starved
-returns-then-not-settle-clause-starved g c = omega (arith, c.loop-process-test.true, c.processes-process-end.ensures.count)
+returns-then-not-settle-clause-starved g c = first-unset c.loop-process.self c.settle.new.self c.loop-process.process c.loop-process.invariant.set (rw c.if-not-settle.true at c.settle.ensures.starves)

@@ -3,7 +3,7 @@ use Rattle.std.proofs.lemmas.List.{with_items_is}
 use Rattle.flow_machine.specs.Values.{NetValue}
 use Rattle.flow_machine.specs.Nets.{TurnsNet, level_of}
 use Rattle.flow_machine.specs.Logs.{turns_made}
-use Rattle.flow_machine.proofs.FitLemmas.{fit-answer, turn-goes, turns-most}
+use Rattle.flow_machine.proofs.FitLemmas.{fit-answer, goes-by, turns-most}
 use Rattle.flow_machine.proofs.net.Net.turn.Goals as goal
 
 pub invariant_of-self : goal.invariant_of-self
@@ -24,4 +24,4 @@ returns g c =
     let new : NetValue g.row.K.Denot = record { bodies = c.turn_of.new.bodies; channels = c.turn_of.new.channels } in
     let turns : TurnsNet old c.args.process (level_of old c.args.process) c.args.stamp c.turn_of.result new = rw (c.deref_mut.ensures.value, c.deref_mut-2.ensures.value) at c.turn_of.ensures in
     let next : c.args.stamp ≡ turns_made old = c.requires.next ∙ ap turns_made (sym c.self.view_is) in
-    record { turns = rw (← c.self.view_is, bodies, channels) turns; goes = rw (← c.self.view_is, bodies, channels) (turn-goes g.K.Component.shape_of g.K.Component.uses g.K.Component.ready old c.args.process (level_of old c.args.process) c.args.stamp c.turn_of.result new turns); few = rw bodies (turns-most g.K.Component.shape_of g.K.Component.uses g.K.Component.ready new (fit-answer g.K.Component.shape_of g.K.Component.uses g.K.Component.ready old c.args.process (level_of old c.args.process) c.args.stamp c.turn_of.result new turns next c.self.invariant)) }
+    record { turns = rw (← c.self.view_is, bodies, channels) turns; goes = rw (← c.self.view_is, bodies, channels) (λ event turn. goes-by g.K.Component.shape_of g.K.Component.uses g.K.Component.ready old c.args.process (level_of old c.args.process) event c.args.stamp new turn); few = rw bodies (turns-most g.K.Component.shape_of g.K.Component.uses g.K.Component.ready new (fit-answer g.K.Component.shape_of g.K.Component.uses g.K.Component.ready old c.args.process (level_of old c.args.process) c.args.stamp c.turn_of.result new turns next c.self.invariant)) }

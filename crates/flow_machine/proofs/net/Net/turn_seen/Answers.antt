@@ -3,7 +3,7 @@ use Rattle.std.proofs.lemmas.List.{with_items_is}
 use Rattle.flow_machine.specs.Values.{NetValue}
 use Rattle.flow_machine.specs.Nets.{SeesNet}
 use Rattle.flow_machine.specs.Logs.{turns_made}
-use Rattle.flow_machine.proofs.FitLemmas.{fit-seen, seen-goes}
+use Rattle.flow_machine.proofs.FitLemmas.{fit-seen, goes-by}
 use Rattle.flow_machine.proofs.net.Net.turn_seen.Goals as goal
 
 pub invariant_of-self : goal.invariant_of-self
@@ -21,4 +21,4 @@ returns g c =
     let old : NetValue g.row.K.Denot = record { bodies = c.self.inside.bodies.items; channels = c.self.inside.channels.items } in
     let new : NetValue g.row.K.Denot = record { bodies = c.seen_of.new.bodies; channels = c.self.inside.channels.items } in
     let sees : SeesNet old c.args.process c.args.seen c.args.stamp c.seen_of.result new = rw (c.deref_mut.ensures.value, c.deref.ensures.value) at c.seen_of.ensures in
-    record { sees = rw (← c.self.view_is, bodies) sees; goes = rw (← c.self.view_is, bodies) (seen-goes g.K.Component.shape_of g.K.Component.uses g.K.Component.ready old c.args.process c.args.seen c.args.stamp c.seen_of.result new sees) }
+    record { sees = rw (← c.self.view_is, bodies) sees; goes = rw (← c.self.view_is, bodies) (λ event turn. goes-by g.K.Component.shape_of g.K.Component.uses g.K.Component.ready old c.args.process c.args.seen event c.args.stamp new turn) }
