@@ -3,7 +3,6 @@ use Rattle.std.proofs.Common.{◌≡◌, ℕ, zero, suc, Bool, true, false, cond
 use Rattle.std.specs.Prelude.{not}
 use Rattle.std.specs.List.{list_all}
 use Rattle.std.specs.Option.{option_map}
-use Rattle.std.proofs.lemmas.Bool.{false≢true}
 use Rattle.std.proofs.lemmas.Option.{slice_get-map}
 use Rattle.flow_plan.specs.declared.kind.KindSpec.{KindSpec}
 use Rattle.flow_plan.specs.declared.kind.PortSpec.{PortSpec}
@@ -33,20 +32,19 @@ kind-at : (place : ℕ) (kind : KindSpec) → slice_get std_kinds place ≡ Some
 kind-at place kind is = from-map all_kinds place kind is refl
 
 -- a process whose only option port is the first has that option alone
-one-option : (n : Network) (p : ℕ) (x : Process) (table : PortTable) (row : PortRow) (port_spec : PortSpec) → is_stream port_spec.class ≡ false → port_spec.array ≡ false → IsValid n → slice_get n.processes p ≡ Some x → slice_get n.tables p ≡ Some table
+one-option : (n : Network) (p : ℕ) (x : Process) (table : PortTable) (row : PortRow) (port_spec : PortSpec) → is_stream port_spec.class ≡ false → IsValid n → slice_get n.processes p ≡ Some x → slice_get n.tables p ≡ Some table
     → slice_get table.inputs 0 ≡ Some row → row.spec ≡ port_spec
     → ((i : ℕ) (other : PortRow) → slice_get table.inputs (suc i) ≡ Some other → is_stream other.spec.class ≡ true)
     → (text : List ℕ) × (x.options ≡ (0, text) ∷ []) × IsOfClass port_spec.class text
-one-option n p x table row port_spec is_option is_single valid there at first spec others =
+one-option n p x table row port_spec is_option valid there at first spec others =
     let stream : is_stream row.spec.class ≡ false = ap (λ (s : PortSpec). is_stream s.class) spec ∙ is_option in
     let port : HasOptionPort n p 0 = record { table = table; row = row; here = at; at = first; option = stream } in
     let has = valid.options.each_option p 0 port in
     let same : has.process ≡ x = (let h = has.here in cc) in
     let given : slice_get x.options has.place ≡ Some (0, has.text) = subst (λ (y : Process). slice_get y.options has.place ≡ Some (0, has.text)) same has.given in
-    let single : row.spec.array ≡ false = ap (λ (s : PortSpec). s.array) spec ∙ is_single in
     let only = only-option x.options has.place has.text given
     (λ j i t is. zero-place j i t is)
-    (λ j l t u is other. valid.options.one_option p j l 0 x t u port single there is other) in
+    (λ j l t u is other. valid.options.one_option p j l 0 x t u there is other) in
     let file_at : slice_get x.options 0 ≡ Some (0, only.0) = ap (λ (os : List (ℕ × List ℕ)). slice_get os 0) only.1 in
     let fits = valid.options.fits p 0 0 x only.0 there file_at in
     (only.0, only.1, class-of fits)
@@ -92,10 +90,6 @@ first-row : (rows : List PortRow) (spec : PortSpec) (specs : List PortSpec) → 
 first-row [] spec specs is = absurd cc
 first-row (row ∷ rows) spec specs is = (row, refl, (let h : row.spec ≡ spec = cc in h))
 
-not-true : (b : Bool) → not b ≡ true → b ≡ false
-not-true true is = absurd (false≢true is)
-not-true false is = refl
-
 -- the option of a process is that of its row
 has-option : (n : Network) (p : ℕ) (x : Process) (table : PortTable) (specs : List PortSpec) → IsValid n → slice_get n.processes p ≡ Some x → slice_get n.tables p ≡ Some table → entries table.inputs ≡ specs
     → has_plain_inputs specs ≡ true → HasOption (option_of specs) x.options
@@ -109,8 +103,7 @@ has-option n p x table (spec ∷ specs) valid there at is plain = by (is_stream 
     by true stream = has-none n p x table valid there at (λ i other row-at. all-at (spec ∷ specs) i other.spec (rw stream both.1) (entry-at table.inputs (spec ∷ specs) i other is row-at))
     by false option =
         let row = first-row table.inputs spec specs is in
-        let single : spec.array ≡ false = not-true spec.array (subst (λ (b : Bool). cond b true (not spec.array) ≡ true) option both.0) in
-        one-option n p x table row.0 spec option single valid there at row.1 row.2 (λ i other row-at. all-at specs i other.spec both.1 (entry-at table.inputs (spec ∷ specs) (suc i) other is row-at))
+        one-option n p x table row.0 spec option valid there at row.1 row.2 (λ i other row-at. all-at specs i other.spec both.1 (entry-at table.inputs (spec ∷ specs) (suc i) other is row-at))
 
 of-kind : (n : Network) (p : ℕ) (x : Process) (std : StdKind) → IsValid n → slice_get n.processes p ≡ Some x → (t : HasTable n p x)
     → entries t.table.inputs ≡ (spec_of std).inputs → entries t.table.outputs ≡ map carries (spec_of std).outputs → x.kind ≡ name_of std → is_plain (spec_of std) ≡ true → IsOfStdKind n p x std

@@ -1,11 +1,13 @@
 -- What a table of kinds says of each, and the draft that holds nothing.
-use Rattle.std.proofs.Common.{◌≡◌, ℕ, List, [], ◌∷◌, Option, Some, None, Bool, true, ap, sym, ◌∙◌, zero, suc, slice_get, length, arith}
-use Rattle.std.specs.Prelude.{nat_le, if◌then◌else◌}
+use Rattle.std.proofs.Common.{◌≡◌, ℕ, List, [], ◌∷◌, Option, Some, None, Bool, true, false, ap, sym, subst, refl, ◌∙◌, zero, suc, slice_get, length, arith}
+use Rattle.std.specs.Prelude.{nat_le, not, if◌then◌else◌}
 use Rattle.std.specs.List.{list_all}
 use Rattle.std.proofs.lemmas.Bool.Decides.{nat_tests}
+use Rattle.std.proofs.lemmas.Bool.{false≢true}
 use Rattle.flow_plan.specs.declared.kind.KindSpec.{KindSpec}
 use Rattle.flow_plan.specs.declared.kind.PortSpec.{PortSpec}
-use Rattle.flow_net.specs.Kinds.{is_kind, is_table, is_needed_array}
+use Rattle.flow_net.specs.Kinds.{is_kind, is_table, is_input, is_needed_array}
+use Rattle.flow_plan.specs.Network.{is_stream}
 use Rattle.flow_net.specs.Sound.{IsKind, IsSound}
 use Rattle.flow_net.proofs.Ends.{and_true}
 
@@ -17,14 +19,22 @@ all_pass p (y ∷ xs) all (suc i) x is = all_pass p xs (and_true (p y) (list_all
 array_needed : (spec : PortSpec) → is_needed_array spec ≡ true → spec.array ≡ true → spec.needed ≡ true
 array_needed spec is array = ap (λ b. if b then spec.needed else true) (sym array) ∙ is
 
+single-option : (spec : PortSpec) → (if is_stream spec.class then true else not spec.array) ≡ true → is_stream spec.class ≡ false → spec.array ≡ false
+single-option spec is option = by spec.array (subst (λ (b : Bool). (if b then true else not spec.array) ≡ true) option is)
+  where
+    by : (b : Bool) → not b ≡ true → b ≡ false
+    by true e = absurd (false≢true e)
+    by false e = refl
+
 IsKind-passed : (kind : KindSpec) → is_kind kind ≡ true → IsKind kind
 IsKind-passed kind is =
     let parts = and_true _ _ is in
-    let needed = and_true (list_all (λ (spec : PortSpec). spec.needed) kind.inputs) (list_all is_needed_array kind.outputs) parts.0 in
+    let needed = and_true (list_all is_input kind.inputs) (list_all is_needed_array kind.outputs) parts.0 in
     let rest = and_true _ _ parts.1 in
     let few = and_true (nat_le (length kind.inputs) 4096) (nat_le (length kind.outputs) 4096) rest.0 in
     record {
-      inputs_needed = all_pass (λ (spec : PortSpec). spec.needed) kind.inputs needed.0;
+      inputs_needed = λ i spec here. (and_true _ _ (all_pass is_input kind.inputs needed.0 i spec here)).0;
+      single_options = λ i spec here option. single-option spec (and_true _ _ (all_pass is_input kind.inputs needed.0 i spec here)).1 option;
       arrays_needed = λ i spec here array. array_needed spec (all_pass is_needed_array kind.outputs needed.1 i spec here) array;
       few_inputs = grind (arith, nat_tests, few.0);
       few_outputs = grind (arith, nat_tests, few.1);

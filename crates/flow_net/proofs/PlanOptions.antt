@@ -146,20 +146,15 @@ module _ (draft : Draft) (sound : IsSound draft) (u : Unit {0}) (whole : first_f
         short = at.short;
       }
 
-  one_option : (p k l i : ℕ) (x : Process) (text other : List ℕ) (port : HasOptionPort (plan_of draft) p i) → port.row.spec.array ≡ false → slice_get (map (process_of draft.ports) draft.processes) p ≡ Some x → slice_get x.options k ≡ Some (i, text) → slice_get x.options l ≡ Some (i, other) → k ≡ l
-  one_option p k l i x text other port single here given too =
+  one_option : (p k l i : ℕ) (x : Process) (text other : List ℕ) → slice_get (map (process_of draft.ports) draft.processes) p ≡ Some x → slice_get x.options k ≡ Some (i, text) → slice_get x.options l ≡ Some (i, other) → k ≡ l
+  one_option p k l i x text other here given too =
       let found = process_in_plan p x here in
       option_once draft.ports found.0.texts i (once found.0 found.1) k l text other (ap (λ (z : Process). slice_get z.options k) found.2 ∙ given) (ap (λ (z : Process). slice_get z.options l) found.2 ∙ too)
     where
-      listed : slice_get (rows_of draft.ports p true) i ≡ Some port.row
-      listed = table_row p i port.table port.row port.here port.at
-
       first_element : (m : ℕ) (end : End) (words : List ℕ) → AtOption draft p i m end words → end.element ≡ 0
       first_element m end words at =
-          let rows : Some (row_of at.port) ≡ Some port.row = sym at.row ∙ listed in
-          let row : row_of at.port ≡ port.row = cc in
-          let array : at.port.spec.array ≡ false = ap (λ (r : PortRow). r.spec.array) row ∙ single in
-          let room : length at.port.elements ≡ 1 = (sound.ports end.port at.port at.here).room ∙ ap room_of array in
+          let is = sound.ports end.port at.port at.here in
+          let room : length at.port.elements ≡ 1 = is.room ∙ ap room_of (is.single at.option) in
           omega (arith, room, at.within)
 
       once : (b : Begun) → slice_get draft.processes p ≡ Some b → (m o : ℕ) (a c : End × List ℕ) → slice_get b.texts m ≡ Some a → slice_get b.texts o ≡ Some c → is_stream_at draft.ports a.0 ≡ false → is_stream_at draft.ports c.0 ≡ false → place_at draft.ports a.0 ≡ i → place_at draft.ports c.0 ≡ i → m ≡ o

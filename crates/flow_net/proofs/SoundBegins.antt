@@ -16,6 +16,7 @@ use Rattle.flow_net.specs.declared.draft.Binding.{Binding}
 use Rattle.flow_net.specs.declared.draft.Binding.TheVariants.{Free, Receives, Sends, Given}
 use Rattle.flow_plan.specs.declared.kind.KindSpec.{KindSpec}
 use Rattle.flow_plan.specs.declared.kind.PortSpec.{PortSpec}
+use Rattle.flow_plan.specs.Network.{is_stream}
 use Rattle.flow_net.specs.Drafts.{Draft, refused_if, binding_at, process_named, is_stream_port}
 use Rattle.flow_net.specs.Calls.{process_at, room_of, fresh_port, fresh_ports, begun_as, with_process, kind_named, kind_for}
 use Rattle.flow_net.specs.Options.{FitsPort}
@@ -66,12 +67,13 @@ replicated zero x y i is = absurd (cc)
 replicated (suc n) x y zero is = cc
 replicated (suc n) x y (suc i) is = replicated n x y i is
 
-fresh_input : (n place : ℕ) (spec : PortSpec) → spec.needed ≡ true → IsPort (n + 1) (fresh_port n true place spec)
-fresh_input n place spec needed = record {
+fresh_input : (n place : ℕ) (spec : PortSpec) → spec.needed ≡ true → (is_stream spec.class ≡ false → spec.array ≡ false) → IsPort (n + 1) (fresh_port n true place spec)
+fresh_input n place spec needed single = record {
   process = omega arith;
   room = length-replicate (room_of spec.array) Free;
   input = λ side. needed;
   array = λ array. needed;
+  single = single;
   output = λ side. absurd (false≢true (sym side));
 }
 
@@ -81,6 +83,7 @@ fresh_output n place spec needed = record {
   room = length-replicate (room_of spec.array) Free;
   input = λ side. absurd (false≢true side);
   array = needed;
+  single = λ option. absurd (false≢true (sym option));
   output = λ side. refl;
 }
 
@@ -90,7 +93,7 @@ IsPort-fresh n kind is_kind g port is = by (slice_get-append_cases (fresh_ports 
     by : (slice_get (fresh_ports n true 0 kind.inputs) g ≡ Some port) ⊎ ((k : ℕ) × (slice_get (fresh_ports n false 0 kind.outputs) k ≡ Some port)) → IsPort (n + 1) port
     by (inl input) =
         let fresh = fresh_ports-each n true 0 kind.inputs g port input in
-        subst (IsPort (n + 1)) fresh.whole (fresh_input n fresh.place fresh.spec (is_kind.inputs_needed fresh.entry fresh.spec fresh.here))
+        subst (IsPort (n + 1)) fresh.whole (fresh_input n fresh.place fresh.spec (is_kind.inputs_needed fresh.entry fresh.spec fresh.here) (is_kind.single_options fresh.entry fresh.spec fresh.here))
     by (inr output) =
         let fresh = fresh_ports-each n false 0 kind.outputs output.0 port output.1 in
         subst (IsPort (n + 1)) fresh.whole (fresh_output n fresh.place fresh.spec (is_kind.arrays_needed fresh.entry fresh.spec fresh.here))
@@ -192,6 +195,7 @@ more_processes n port is = record {
   room = is.room;
   input = is.input;
   array = is.array;
+  single = is.single;
   output = is.output;
 }
 

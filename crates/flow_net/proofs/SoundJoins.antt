@@ -43,6 +43,7 @@ IsPort-bound n ports end b all g p is = by (same_or_not g end.port)
           room = length-set was.0.elements end.element b ∙ port.room;
           input = port.input;
           array = port.array;
+          single = port.single;
           output = port.output;
         })
     by (inr ne) = all g p (sym (slice_get-updated_other (λ (port : Port). record port { elements = slice_set port.elements end.element b }) ports end.port g ne) ∙ is)

@@ -5,6 +5,7 @@ use Rattle.std.specs.List.{list_all, list_any}
 use Rattle.std.specs.Str.{bytes_eq}
 use Rattle.flow_plan.specs.declared.kind.KindSpec.{KindSpec}
 use Rattle.flow_plan.specs.declared.kind.PortSpec.{PortSpec}
+use Rattle.flow_plan.specs.Network.{is_stream}
 
 -- No two of these names are the same.
 abbrev pub all_differ : List (List ℕ) → Bool
@@ -15,10 +16,14 @@ all_differ (name ∷ names) = not (list_any (bytes_eq name) names) && all_differ
 abbrev pub is_needed_array : PortSpec → Bool
 is_needed_array spec = if spec.array then spec.needed else true
 
--- A kind: its inputs and its arrays are needed, its ports have different names on each side, and there are at most 4,096 on each.
+-- An input is needed, and is no array where it is an option port.
+abbrev pub is_input : PortSpec → Bool
+is_input spec = spec.needed && (if is_stream spec.class then true else not spec.array)
+
+-- A kind: its inputs and its arrays are needed, its option ports are no arrays, its ports have different names on each side, and there are at most 4,096 on each.
 abbrev pub is_kind : KindSpec → Bool
 is_kind kind =
-    (list_all (λ (spec : PortSpec). spec.needed) kind.inputs && list_all is_needed_array kind.outputs)
+    (list_all is_input kind.inputs && list_all is_needed_array kind.outputs)
     && ((nat_le (length kind.inputs) PORT_LIMIT && nat_le (length kind.outputs) PORT_LIMIT)
     && (all_differ (map (λ (spec : PortSpec). spec.name) kind.inputs) && all_differ (map (λ (spec : PortSpec). spec.name) kind.outputs)))
 

@@ -11,24 +11,27 @@ use Rattle.flow_net.specs.declared.draft.Link.{Link}
 use Rattle.flow_plan.specs.declared.kind.KindSpec.{KindSpec}
 use Rattle.flow_plan.specs.declared.kind.PortSpec.{PortSpec}
 use Rattle.flow_plan.specs.declared.kind.PortClass.TheVariants.{Stream}
+use Rattle.flow_plan.specs.Network.{is_stream}
 use Rattle.flow_net.specs.Drafts.{Draft, binding_at, is_side, is_stream_at}
 use Rattle.flow_net.specs.Calls.{process_at, room_of}
 use Rattle.flow_net.specs.Options.{FitsPort}
 use Rattle.flow_net.specs.Over.{carries}
 
--- What a builder rests on of a kind: an input port is needed, and so is an array, and there are few of them.
+-- What a builder rests on of a kind: an input port is needed, and so is an array, an option port is no array, and there are few of them.
 pub record IsKind (kind : KindSpec) : Type 0 where
   pub inputs_needed : (i : ℕ) (spec : PortSpec) → slice_get kind.inputs i ≡ Some spec → spec.needed ≡ true
+  pub single_options : (i : ℕ) (spec : PortSpec) → slice_get kind.inputs i ≡ Some spec → is_stream spec.class ≡ false → spec.array ≡ false
   pub arrays_needed : (i : ℕ) (spec : PortSpec) → slice_get kind.outputs i ≡ Some spec → spec.array ≡ true → spec.needed ≡ true
   pub few_inputs : length kind.inputs ≤ PORT_LIMIT
   pub few_outputs : length kind.outputs ≤ PORT_LIMIT
 
--- A port of one of this many processes: an input and an array are needed, and an output carries packets.
+-- A port of one of this many processes: an input and an array are needed, an option port is no array, and an output carries packets.
 pub record IsPort (processes : ℕ) (port : Port) : Type 0 where
   pub process : port.process < processes
   pub room : length port.elements ≡ room_of port.spec.array
   pub input : port.input ≡ true → port.spec.needed ≡ true
   pub array : port.spec.array ≡ true → port.spec.needed ≡ true
+  pub single : is_stream port.spec.class ≡ false → port.spec.array ≡ false
   pub output : port.input ≡ false → port.spec.class ≡ Stream
 
 -- The element into which a connection leads.

@@ -67,11 +67,11 @@ pub record FitsOption (n : Network) (p i : ℕ) (text : List ℕ) : Type 0 where
   pub class : IsOfClass port.row.spec.class text
   pub short : length text ≤ TEXT_LIMIT
 
--- Each option fits an option port, and each option port has an option, and no second one unless it is an array.
+-- Each option fits an option port, and each option port has just one option.
 pub record HasOptions (n : Network) : Type 0 where
   pub fits : (p k i : ℕ) (x : Process) (text : List ℕ) → slice_get n.processes p ≡ Some x → slice_get x.options k ≡ Some (i, text) → FitsOption n p i text
   pub each_option : (p i : ℕ) → HasOptionPort n p i → HasOption n p i
-  pub one_option : (p k l i : ℕ) (x : Process) (text other : List ℕ) (port : HasOptionPort n p i) → port.row.spec.array ≡ false → slice_get n.processes p ≡ Some x → slice_get x.options k ≡ Some (i, text) → slice_get x.options l ≡ Some (i, other) → k ≡ l
+  pub one_option : (p k l i : ℕ) (x : Process) (text other : List ℕ) → slice_get n.processes p ≡ Some x → slice_get x.options k ≡ Some (i, text) → slice_get x.options l ≡ Some (i, other) → k ≡ l
 
 -- An array has from 1 to 512 elements, and every other port has 1.
 pub record IsRow (row : PortRow) : Type 0 where
