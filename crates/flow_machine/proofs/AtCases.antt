@@ -1,5 +1,5 @@
 -- What is known of a process that is at a case, and what its turn comes to there.
-use Rattle.std.proofs.Common.{◌≡◌, ℕ, ◌<◌, ◌≤◌, Bool, List, length, Some, None, refl, ap, sym, subst, ◌∙◌, slice_get, slice_set, get_or}
+use Rattle.std.proofs.Common.{◌≡◌, ℕ, ◌<◌, ◌≤◌, Bool, List, length, Some, None, refl, ap, subst, ◌∙◌, slice_get, slice_set, get_or}
 use Rattle.std.proofs.lemmas.Option.{slice_get-get_or}
 use Rattle.flow_packet.specs.Held.{Held}
 use Rattle.flow_component.specs.declared.Answer.{Answer as Told}
@@ -8,7 +8,7 @@ use Rattle.flow_component.specs.declared.Port.{Port}
 use Rattle.flow_model.specs.declared.Stage.{Stage}
 use Rattle.flow_model.specs.declared.Block.TheVariants as blocks
 use Rattle.flow_model.specs.States.{Outlet}
-use Rattle.flow_model.specs.Events.{Event, Learns, Sleeps, Closes, stage_event, idle_event, received, sent, told_level}
+use Rattle.flow_model.specs.Events.{Sleeps, Closes, stage_event, idle_event, received, sent, told_level}
 use Rattle.flow_model.specs.Verdicts.{exact_level, waits_for}
 use Rattle.flow_model.specs.Stands.{ChannelShown, look_shown, shown_after}
 use Rattle.flow_model.specs.Schedules.{IsThoughtStage}

@@ -1,6 +1,6 @@
 -- Turns and thoughts keep what holds of each net.
 use Rattle.std.proofs.Common.{◌≡◌, ◌≢◌, ℕ, ◌+◌, ◌*◌, ◌<◌, ◌≤◌, Bool, List, [], ◌∷◌, ◌++◌, length, map, Option, Some, None, suc, zero, refl, ap, sym, subst, ◌∙◌, arith, slice_get, slice_set, length-set, length-append, append-nil, ◌⊎◌, inl, inr}
-use Rattle.std.specs.Prelude.{IfSome, sum_by}
+use Rattle.std.specs.Prelude.{sum_by}
 use Rattle.std.proofs.lemmas.List.{map-set}
 use Rattle.std.proofs.lemmas.List.Sums.{sum_by-cons}
 use Rattle.flow_packet.specs.Tree.{Tree}

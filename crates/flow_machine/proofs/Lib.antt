@@ -11,6 +11,7 @@ pub mod PlanLemmas
 pub mod LogLemmas
 pub mod FitLemmas
 mod AtCases
+mod WireLemmas
 pub mod SoloLemmas
 pub mod Reaching
 mod StartLemmas

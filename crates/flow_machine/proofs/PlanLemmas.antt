@@ -1,5 +1,5 @@
 -- Looking connections up in a plan.
-use Rattle.std.proofs.Common.{◌≡◌, ℕ, ◌+◌, ◌<◌, ◌≤◌, Bool, true, false, cond, List, [], ◌∷◌, length, map, drop, drop-cons, get_or, Option, Some, None, suc, zero, nat_lt, nat_eq, refl, ap, sym, ◌∙◌, arith, add-one, option_map}
+use Rattle.std.proofs.Common.{◌≡◌, ℕ, ◌+◌, ◌<◌, ◌≤◌, Bool, true, false, cond, List, [], ◌∷◌, length, drop, drop-cons, get_or, Option, Some, None, suc, zero, nat_lt, nat_eq, refl, ap, sym, ◌∙◌, arith, add-one, option_map}
 use Rattle.std.specs.Prelude.{position, not, ◌≢◌, Result, Ok, Err, IfOk}
 use Rattle.flow_model.specs.Plans.{text_at}
 use Rattle.std.specs.List.{prefix_len}
@@ -20,7 +20,7 @@ position-cons p x xs = by (p x)
     by true = first (length xs)
     by false = later (prefix_len (λ y. not (p y)) xs) (length xs) (nat_lt (prefix_len (λ y. not (p y)) xs) (length xs)) refl
 
-drop-here : {A : Type 0} (xs : List A) (i : ℕ) (x : A) → i < length xs → x ≡ get_or xs i x → drop i xs ≡ x ∷ drop (i + 1) xs
+pub drop-here : {A : Type 0} (xs : List A) (i : ℕ) (x : A) → i < length xs → x ≡ get_or xs i x → drop i xs ≡ x ∷ drop (i + 1) xs
 drop-here {A} xs i x within is = drop-cons xs i x within ∙ ap (λ (y : A). y ∷ drop (suc i) xs) (sym is) ∙ ap (λ n. x ∷ drop n xs) (sym (add-one i))
 
 -- so many places on
@@ -49,7 +49,7 @@ position-here {A} p xs i x within is passes =
     ap (λ (ys : List A). later i (position p ys)) (drop-here xs i x within is) ∙ ap (later i) (position-cons p x (drop (i + 1) xs) ∙ ap (λ (b : Bool). cond {A = Option ℕ} b (Some 0) (option_map suc (position p (drop (i + 1) xs)))) passes)
     ∙ ap (λ m. Some m) (let e : i + 0 ≡ i = omega arith in e)
 
-drop-over : {A : Type 0} (xs : List A) (i : ℕ) → length xs ≤ i → drop i xs ≡ []
+pub drop-over : {A : Type 0} (xs : List A) (i : ℕ) → length xs ≤ i → drop i xs ≡ []
 drop-over [] zero over = refl
 drop-over [] (suc i) over = refl
 drop-over (x ∷ xs) zero over = absurd (omega (arith, over))

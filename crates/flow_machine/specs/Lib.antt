@@ -15,3 +15,4 @@ pub mod FitNets
 pub mod NetSteps
 pub mod Starts
 pub mod Solo
+pub mod Wires

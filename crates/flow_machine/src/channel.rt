@@ -117,10 +117,7 @@ impl Channel {
         requires counted { self.old.puts < 2 ^ 64 - 1 }
         ensures { self.new ≡ record self.old { packets = self.old.packets ++ packet ∷ []; puts = self.old.puts + 1 } }
     {
-        if let Err(refused) = self.packets.push_back(packet) {
-            refused.value.discard();
-            unreachable!()
-        }
+        self.packets.push_back_reserved(packet);
         self.puts += 1;
     }
 

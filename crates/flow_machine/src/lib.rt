@@ -8,6 +8,7 @@ mod inlet;
 mod net;
 mod outlets;
 mod start;
+mod wires;
 
 pub use answers::{Case, Effect, Over, Status, Thought, Turn};
 pub use body::Body;

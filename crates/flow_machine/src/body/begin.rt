@@ -1,13 +1,14 @@
 //! A process at its start.
-ghost use Rattle.std.specs.Prelude.{◌≡◌, ◌<◌, ◌^◌, length, IfOk, Some, slice_get};
+ghost use Rattle.std.specs.Prelude.{◌≡◌, ◌<◌, ◌^◌, length, map, IfOk, IfSome, Some, slice_get};
 ghost use Rattle.flow_plan.specs.declared.plan.Process.{Process as NetProcess};
-ghost use Rattle.flow_model.specs.Plans.{process_at_start};
+ghost use Rattle.std.specs.List.{range_with_len};
+ghost use Rattle.flow_model.specs.Plans.{process_at_start, receives_at, sends_at};
 ghost use Rattle.flow_machine.specs.Bodies.{StandsWell};
 ghost use Rattle.flow_machine.specs.Starts.{StartsBody};
 
 use super::Body;
 use crate::answers::Thought;
-use crate::start::{inlets_of, outputs_of, places};
+use crate::start::{inlets_of, places};
 use flow_component::Component;
 use flow_model::Stage;
 use flow_net::Plan;
@@ -15,23 +16,26 @@ use flow_packet::Hands;
 use std::alloc::{AllocError, Global};
 
 impl<K: Component> Body<K> {
-    /// A process of a plan that hasn't started, with the room of its first turn.
+    /// A process of a plan that hasn't started, with the room of its first turn. The rows are the connections at its inputs and at its outputs.
     pub(crate) fn begin(
         alloc: Global,
         plan: &Plan,
         process: u32,
+        receiving: &[Option<u32>],
+        sending: &[Option<u32>],
         part: K,
     ) -> Result<Body<K>, AllocError>
         requires in_range { process < length plan.now.processes }
-        requires few { length plan.now.connections < 2 ^ 32 }
+        requires receiving { IfSome (slice_get plan.now.processes process) (λ x. receiving.now ≡ map (receives_at plan.now process) (range_with_len 0 x.inputs)) }
+        requires sending { IfSome (slice_get plan.now.processes process) (λ x. sending.now ≡ map (sends_at plan.now process) (range_with_len 0 x.outputs)) }
         requires well { (x : NetProcess) → slice_get plan.now.processes process ≡ Some x → x.outputs < 2 ^ 32 → StandsWell K.shape_of K.uses K.ready (process_at_start plan.now process x part) }
         ensures { IfOk result (λ body. (x : NetProcess) → slice_get plan.now.processes process ≡ Some x → StartsBody (process_at_start plan.now process x part) body) }
     {
         let entry = &plan.processes()[process as usize];
-        let inlets = inlets_of(alloc, plan, process)?;
-        let outputs = outputs_of(alloc, plan, process)?;
         let fresh = vec![in alloc; false; places(entry.inputs)]?;
         let depths = vec![in alloc; 0; places(entry.outputs)]?;
+        let inlets = inlets_of(alloc, entry, receiving)?;
+        let outputs = Vec::from_slice(alloc, sending)?;
         let mut body = Body {
             number: process,
             stage: Stage::Idle,

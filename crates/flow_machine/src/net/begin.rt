@@ -7,6 +7,7 @@ ghost use Rattle.flow_machine.specs.Starts.{StartsNet, StartsBodies, StartsChann
 use super::Net;
 use crate::body::Body;
 use crate::channel::Channel;
+use crate::wires::{receiving, sending};
 use flow_component::Component;
 use flow_net::{Connection, Plan};
 use std::alloc::{AllocError, Global};
@@ -60,11 +61,15 @@ fn bodies_of<K: Component>(
     requires few { length plan.now.connections ≤ 512 }
     ensures { IfOk result (λ bodies. StartsBodies plan.now parts.items bodies.items) }
 {
+    let receiving = receiving(alloc, plan)?;
+    let sending = sending(alloc, plan)?;
     let mut parts = parts;
     let mut bodies = Vec::with_capacity(alloc, plan.processes().len())?;
     for process in 0..plan.processes().len() as u32 {
         let part = parts.remove(0);
-        let Ok(body) = Body::begin(alloc, plan, process, part) else {
+        let inputs = receiving[process as usize].as_slice();
+        let outputs = sending[process as usize].as_slice();
+        let Ok(body) = Body::begin(alloc, plan, process, inputs, outputs, part) else {
             discard_bodies(bodies);
             return Err(AllocError);
         };

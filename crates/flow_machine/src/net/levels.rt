@@ -35,7 +35,8 @@ pub(crate) fn seen_of<K: Component>(
     let Case::Level {
         connection,
         port: _,
-    } = body.case() else {
+    } = body.case()
+    else {
         unreachable!()
     };
     if !allows(&channels[connection as usize], level) {

@@ -1,4 +1,4 @@
-use Rattle.std.proofs.Common.{◌≡◌, ◌<◌, length, ℕ, arith, refl, sym, ◌∙◌, subst}
+use Rattle.std.proofs.Common.{◌≡◌, ℕ, arith, refl, sym, ◌∙◌, subst}
 use Rattle.flow_machine.specs.Logs.{turns_made}
 use Rattle.flow_machine.specs.Solo.{Goes, IsFirstUnset, some_passes, round_robin}
 use Rattle.flow_machine.proofs.SoloLemmas.{passes-none, round-more, round-ends}

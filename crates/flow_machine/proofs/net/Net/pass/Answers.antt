@@ -1,4 +1,4 @@
-use Rattle.std.proofs.Common.{◌≡◌, ◌<◌, ℕ, length, arith, refl, sym, ◌∙◌, subst}
+use Rattle.std.proofs.Common.{◌≡◌, ℕ, length, arith, refl, sym, ◌∙◌, subst}
 use Rattle.flow_machine.specs.Solo.{Goes, IsFirstUnset, pass_below}
 use Rattle.flow_machine.proofs.SoloLemmas.{pass-none, pass-more}
 use Rattle.flow_machine.proofs.Reaching.{reach-none, reach-then, passed-on}

@@ -1,4 +1,4 @@
-use Rattle.std.proofs.Common.{◌≡◌, ◌∙◌, ap, sym, arith, List, map, Some, slice_get}
+use Rattle.std.proofs.Common.{◌≡◌, ◌∙◌, ap, sym, List, map, Some, slice_get}
 use Rattle.flow_plan.specs.declared.plan.Connection.{Connection as NetConnection}
 use Rattle.flow_machine.specs.Starts.{channel_begun}
 use Rattle.flow_machine.proofs.StartLemmas.{starts-net, fit-start}

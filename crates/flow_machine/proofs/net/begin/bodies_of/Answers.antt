@@ -1,6 +1,9 @@
 use Rattle.std.proofs.Common.{◌≡◌, ◌∙◌, ◌<◌, ℕ, [], ◌∷◌, List, length, ap, sym, arith, refl, Some, slice_get, length-append, length-drop, inl, inr}
 use Rattle.flow_plan.specs.declared.plan.Process.{Process as NetProcess}
 use Rattle.flow_machine.specs.Values.{BodyValue}
+use Rattle.std.proofs.Common.{true, false}
+use Rattle.flow_model.specs.Plans.{receives_at, sends_at}
+use Rattle.flow_machine.proofs.WireLemmas.{row-within, row-read}
 use Rattle.flow_machine.proofs.Lists.{element-there, last-or, nothing-there, some-same}
 use Rattle.flow_machine.proofs.StartLemmas.{stands-start, rest-drops, first-of, starts-same}
 use Rattle.flow_machine.proofs.net.begin.bodies_of.Goals as goal
@@ -19,11 +22,30 @@ remove-part-requires g c =
       length-drop c.loop-process.process c.args.parts.items,
     )
 
+pub index-requires : goal.index-requires
+index-requires g c =
+    let within : c.loop-process.process < length c.args.plan.now.processes = omega (arith, c.loop-process-test.true, ap (λ (ps : List NetProcess). length ps) c.processes-2.ensures.processes) in
+    let rows = row-within true c.args.plan.now.processes (receives_at c.args.plan.now) c.in_ok-receiving.receiving.items c.loop-process.process c.in_ok-receiving.ensures within in
+    omega (arith, rows, c.in_ok-receiving.receiving.ok.0)
+
+pub index-requires-in-loop-process : goal.index-requires-in-loop-process
+index-requires-in-loop-process g c =
+    let within : c.loop-process.process < length c.args.plan.now.processes = omega (arith, c.loop-process-test.true, ap (λ (ps : List NetProcess). length ps) c.processes-2.ensures.processes) in
+    let rows = row-within false c.args.plan.now.processes (sends_at c.args.plan.now) c.in_ok-sending.sending.items c.loop-process.process c.in_ok-sending.ensures within in
+    omega (arith, rows, c.in_ok-sending.sending.ok.0)
+
+pub begin-requires-clause-receiving : goal.begin-requires-clause-receiving
+begin-requires-clause-receiving g c =
+    let within : c.loop-process.process < length c.args.plan.now.processes = omega (arith, c.loop-process-test.true, ap (λ (ps : List NetProcess). length ps) c.processes-2.ensures.processes) in
+    row-read true c.args.plan.now.processes (receives_at c.args.plan.now) c.in_ok-receiving.receiving.items c.loop-process.process c.index.result.now c.as_slice-inputs.result.now c.in_ok-receiving.ensures within c.index.ensures c.as_slice-inputs.ensures
+
+pub begin-requires-clause-sending : goal.begin-requires-clause-sending
+begin-requires-clause-sending g c =
+    let within : c.loop-process.process < length c.args.plan.now.processes = omega (arith, c.loop-process-test.true, ap (λ (ps : List NetProcess). length ps) c.processes-2.ensures.processes) in
+    row-read false c.args.plan.now.processes (sends_at c.args.plan.now) c.in_ok-sending.sending.items c.loop-process.process c.index-in-loop-process.result.now c.as_slice-outputs.result.now c.in_ok-sending.ensures within c.index-in-loop-process.ensures c.as_slice-outputs.ensures
+
 pub begin-requires-clause-in_range : goal.begin-requires-clause-in_range
 begin-requires-clause-in_range g c = omega (arith, c.loop-process-test.true, ap (λ (ps : List NetProcess). length ps) c.processes-2.ensures.processes)
-
-pub begin-requires-clause-few : goal.begin-requires-clause-few
-begin-requires-clause-few g c = omega (arith, c.requires.few)
 
 pub begin-requires-clause-well : goal.begin-requires-clause-well
 begin-requires-clause-well g c = λ x there small.
