@@ -84,7 +84,16 @@ pub(crate) fn freshen(fresh: &mut [bool], inlets: &[Inlet])
     }
 }
 
-/// A copy of the initial text at a port, where it is fresh.
+/// The text at a port is fresh.
+pub(crate) fn is_fresh(fresh: &[bool], port: Port) -> bool
+    ensures { result ≡ unwrap_or (slice_get fresh.now port.0) false }
+{
+    fresh.get(port.0 as usize).copied().unwrap_or(false)
+}
+
+/// A copy of the initial text at a port, where it is fresh. Few turns receive a text, so it stands apart from what every turn does.
+#[cold]
+#[inline(never)]
 pub(crate) fn next_text(
     inlets: &[Inlet],
     fresh: &[bool],
@@ -93,7 +102,7 @@ pub(crate) fn next_text(
     ensures copy { IfOk result (λ copy. option_map (λ text. text.items) copy ≡ text_taken (unwrap_or (slice_get fresh.now port.0) false) (slice_get (map input_shown inlets.now) port.0)) }
     ensures refused { OnErr result (text_taken (unwrap_or (slice_get fresh.now port.0) false) (slice_get (map input_shown inlets.now) port.0) ≢ None) }
 {
-    if !fresh.get(port.0 as usize).copied().unwrap_or(false) {
+    if !is_fresh(fresh, port) {
         return Ok(None);
     }
     match inlets.get(port.0 as usize) {

@@ -9,7 +9,7 @@ ghost use Rattle.flow_machine.specs.Thoughts.{Thinks, KeepsTurns, HasRoom, Worke
 
 use super::Body;
 use crate::answers::Thought;
-use crate::inlet::next_text;
+use crate::inlet::{is_fresh, next_text};
 use flow_component::{Answer, Component, Fail, Gate, Stop, Wish};
 use flow_model::Stage;
 use flow_packet::{Hands, Kind};
@@ -110,12 +110,16 @@ impl<K: Component> Body<K> {
         ensures room { OnOk result (HasRoom self.new) }
         ensures lacks { OnErr result (HasRoom self.new → ⊥) }
     {
-        self.copy = None;
+        if self.copy.is_some() {
+            self.copy = None;
+        }
         self.hands.reserve(1)?;
         self.stamps.reserve(1)?;
         self.levels.reserve(1)?;
         if let Stage::Wishing(Wish::Receive(port)) = self.stage {
-            self.copy = next_text(&self.inlets, &self.fresh, port)?;
+            if is_fresh(&self.fresh, port) {
+                self.copy = next_text(&self.inlets, &self.fresh, port)?;
+            }
         }
         Ok(())
     }
