@@ -72,12 +72,22 @@ impl ReadLines {
         ReadLines { file, taken: 0 }
     }
 
+    // Gives the memory of a file without further lines back, before the run is over.
+    fn give_back(&mut self)
+        requires { self.old ≡ [] }
+        ensures { self.new ≡ self.old }
+    {
+        self.file = Vec::new(*self.file.allocator());
+        self.taken = 0;
+    }
+
     fn read(&mut self, hands: &mut Hands) -> Result<Wish, Stop>
         requires empty { hands.old.packets ≡ [] }
         requires room { hands.old.made < 4294967295 }
         ensures { Resumes (λ left held _ outcome. outcome ≡ reads held left) self.old hands.old Answer.Sent result self.new hands.new }
     {
         let Some((end, next)) = next_line(&self.file, self.taken) else {
+            self.give_back();
             return Ok(Wish::Deactivate);
         };
         match hands.make(Kind::Normal, &self.file[self.taken..end]) {
