@@ -28,7 +28,7 @@ use Rattle.flow_model.proofs.Fits.{Fit-turn, Fit-work}
 use Rattle.flow_model.proofs.Stands.{shown-turn}
 use Rattle.flow_model.proofs.Senders.{length-without_sender}
 use Rattle.flow_model.proofs.Drops.{shown-work, body_worked}
-use Rattle.flow_machine.specs.Values.{BodyValue, NetValue, shown_body, shown_net}
+use Rattle.flow_machine.specs.Values.{BodyValue, NetValue, shown_body, shown_net, net_of}
 use Rattle.flow_machine.specs.Outlets.{output_in}
 use Rattle.flow_machine.specs.Nets.{looks_of, NetTurn, TurnsNet, SeesNet, GetsSound, levels_told}
 use Rattle.flow_machine.specs.Thoughts.{Thinks, WorkedBody, SameBody, SettlesBody, KeepsTurns}
@@ -149,7 +149,7 @@ module _ {K : Type 0} (shape_of : K → Shape) (uses : K → ℕ → Bool) (read
         fit = after.2;
         stands = after.3;
         log = fit.log ++ one ∷ [];
-        logs = subst (λ (bs : List (BodyValue K)). Logs (fit.log ++ one ∷ []) (record { bodies = bs; channels = new.channels })) (sym turn.bodies)
+        logs = subst (λ (bs : List (BodyValue K)). Logs (fit.log ++ one ∷ []) (net_of bs new.channels)) (sym turn.bodies)
             (by-place old.bodies p b turn.after (λ q x. (x.stamps ≡ stamps_of q 0 (fit.log ++ one ∷ [])) × (x.levels ≡ levels_of q 0 (fit.log ++ one ∷ []))) turn.there (
               turn.turn.stamps ∙ ap (λ (xs : List ℕ). xs ++ stamp ∷ []) (fit.logs p b turn.there).0 ∙ ap (λ (m : ℕ). stamps_of p 0 fit.log ++ m ∷ []) at ∙ ap (λ (xs : List ℕ). stamps_of p 0 fit.log ++ xs) (sym (stamps-own p (0 + length fit.log) (seen_by e))) ∙ sym (stamps_of-append p 0 fit.log (one ∷ [])),
               turn.turn.levels ∙ ap (λ (xs : List (ℕ × ℕ)). xs ++ levels_told e stamp) (fit.logs p b turn.there).1 ∙ ap (λ (m : ℕ). levels_of p 0 fit.log ++ levels_told e m) at ∙ ap (λ (xs : List (ℕ × ℕ)). levels_of p 0 fit.log ++ xs) (sym (levels-own p (0 + length fit.log) e)) ∙ sym (levels_of-append p 0 fit.log (one ∷ [])),
@@ -330,7 +330,7 @@ module _ {K : Type 0} (shape_of : K → Shape) (uses : K → ℕ → Bool) (read
         fit = after.1;
         stands = after.2;
         log = fit.log;
-        logs = subst (λ (bs : List (BodyValue K)). Logs fit.log (record { bodies = bs; channels = new.channels })) (sym bodies)
+        logs = subst (λ (bs : List (BodyValue K)). Logs fit.log (net_of bs new.channels)) (sym bodies)
             (by-place old.bodies p b b' (λ q x. (x.stamps ≡ stamps_of q 0 fit.log) × (x.levels ≡ levels_of q 0 fit.log)) there
             (keeps.stamps ∙ (fit.logs p b there).0, keeps.levels ∙ (fit.logs p b there).1) (λ q x other is. fit.logs q x is));
         total = omega (arith, fit.total, same.0, ap (λ (bs : List (BodyValue K)). sum_by (λ (x : BodyValue K). x.process.turns) bs) bodies, turns-set old.bodies p b b' there);

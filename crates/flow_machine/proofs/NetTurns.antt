@@ -19,7 +19,7 @@ use Rattle.flow_model.specs.Order.{connection_of}
 use Rattle.flow_model.specs.Verdicts.{block_of, exact_level, exact_level_for, waits_for}
 use Rattle.flow_model.specs.Stands.{ChannelShown, look_shown, shown_after, all_shown_after}
 use Rattle.flow_model.proofs.Lists.{change_at-some}
-use Rattle.flow_machine.specs.Values.{BodyValue, NetValue}
+use Rattle.flow_machine.specs.Values.{BodyValue, NetValue, net_of}
 use Rattle.flow_machine.specs.declared.answers.Case.{Case}
 use Rattle.flow_machine.specs.declared.answers.Case.TheVariants as cases
 use Rattle.flow_machine.specs.declared.answers.Over.{Over}
@@ -106,7 +106,7 @@ all-on c channels channel Sleeps on is = sym (set-same channels c channel is)
 pub pair-net : {K : Type 0} (bodies : List (BodyValue K)) (channels : List ChannelShown) (p c n stamp : ℕ) (b b' : BodyValue K) (channel channel' : ChannelShown) (found : Option Event) (block : Block) (answer : Answer)
     → slice_get bodies p ≡ Some b → slice_get channels c ≡ Some channel → event_from (looks_of channels) b.process n ≡ found → ((event : Event) → found ≡ Some event → IsOn c event)
     → (found ≡ None → block_of (looks_of channels) b.process ≡ Some block) → PairTurns found block stamp b channel answer b' channel'
-    → TurnsNet (record { bodies = bodies; channels = channels }) p n stamp answer (record { bodies = slice_set bodies p b'; channels = slice_set channels c channel' })
+    → TurnsNet (net_of bodies channels) p n stamp answer (net_of (slice_set bodies p b') (slice_set channels c channel'))
 pair-net {K} bodies channels p c n stamp b b' channel channel' found block (turns.Made s) at_p at_c happens on blocked made = let t = made.1 in (
   made.0,
   (
@@ -125,14 +125,14 @@ pair-net {K} bodies channels p c n stamp b b' channel channel' found block (turn
 pair-net {K} bodies channels p c n stamp b b' channel channel' found block (turns.Blocked w) at_p at_c happens on blocked not_made =
     let bodies_are : slice_set bodies p b' ≡ bodies = ap (slice_set bodies p) not_made.2 ∙ set-same bodies p b at_p in
     let channels_are : slice_set channels c channel' ≡ channels = ap (slice_set channels c) not_made.3 ∙ set-same channels c channel at_c in
-    (ap (option_and_then (λ (x : BodyValue K). block_of (looks_of channels) x.process)) at_p ∙ blocked not_made.1 ∙ ap (λ v. Some v) (sym not_made.0), λ i. record { bodies = bodies_are i; channels = channels_are i })
+    (ap (option_and_then (λ (x : BodyValue K). block_of (looks_of channels) x.process)) at_p ∙ blocked not_made.1 ∙ ap (λ v. Some v) (sym not_made.0), λ i. net_of (bodies_are i) (channels_are i))
 pair-net {K} bodies channels p c n stamp b b' channel channel' found block (turns.Over over) at_p at_c happens on blocked never = absurd never
 
 -- the same of a turn at no connection
 pub alone-net : {K : Type 0} (bodies : List (BodyValue K)) (channels : List ChannelShown) (p n stamp : ℕ) (b b' : BodyValue K) (found : Option Event) (block : Block) (answer : Answer)
     → slice_get bodies p ≡ Some b → event_from (looks_of channels) b.process n ≡ found → ((event : Event) → found ≡ Some event → all_shown_after event channels ≡ channels)
     → (found ≡ None → block_of (looks_of channels) b.process ≡ Some block) → AloneTurns found block stamp b answer b'
-    → TurnsNet (record { bodies = bodies; channels = channels }) p n stamp answer (record { bodies = slice_set bodies p b'; channels = channels })
+    → TurnsNet (net_of bodies channels) p n stamp answer (net_of (slice_set bodies p b') channels)
 alone-net {K} bodies channels p n stamp b b' found block (turns.Made s) at_p happens on blocked made = let t = made.1 in (
   made.0,
   (
@@ -150,7 +150,7 @@ alone-net {K} bodies channels p n stamp b b' found block (turns.Made s) at_p hap
 )
 alone-net {K} bodies channels p n stamp b b' found block (turns.Blocked w) at_p happens on blocked not_made =
     let bodies_are : slice_set bodies p b' ≡ bodies = ap (slice_set bodies p) not_made.2 ∙ set-same bodies p b at_p in
-    (ap (option_and_then (λ (x : BodyValue K). block_of (looks_of channels) x.process)) at_p ∙ blocked not_made.1 ∙ ap (λ v. Some v) (sym not_made.0), λ i. record { bodies = bodies_are i; channels = channels })
+    (ap (option_and_then (λ (x : BodyValue K). block_of (looks_of channels) x.process)) at_p ∙ blocked not_made.1 ∙ ap (λ v. Some v) (sym not_made.0), λ i. net_of (bodies_are i) channels)
 alone-net {K} bodies channels p n stamp b b' found block (turns.Over over) at_p happens on blocked never = absurd never
 
 -- where a process has no turn its block is what it waits for
@@ -228,7 +228,7 @@ idle-alone looks x channels e is = idle-if channels (can_start looks x) (list_al
 
 -- a receive on a port with an initial text
 pub text-turn : {K : Type 0} (b b' : BodyValue K) (channels : List ChannelShown) (bodies : List (BodyValue K)) (p n stamp : ℕ) (port : Port) (text : List ℕ) → slice_get bodies p ≡ Some b → b.process.stage ≡ stages.Wishing (wishes.Receive port) → slice_get b.process.inputs port.0 ≡ Some (Text text)
-    → TakesTurn b effects.Initial stamp b' → (event : Event) × NetTurn (record { bodies = bodies; channels = channels }) p n event stamp (record { bodies = slice_set bodies p b'; channels = channels })
+    → TakesTurn b effects.Initial stamp b' → (event : Event) × NetTurn (net_of bodies channels) p n event stamp (net_of (slice_set bodies p b') channels)
 text-turn {K} b b' channels bodies p n stamp port text there stage input takes = by (is_fresh b.process port.0) refl
   where
     happens : event_from (looks_of channels) b.process n ≡ cond (is_fresh b.process port.0) (Some (Takes_text port.0 text)) (Some (Hears_end port.0))
@@ -239,7 +239,7 @@ text-turn {K} b b' channels bodies p n stamp port text there stage input takes =
         takes.process ∙ ap (λ (q : ℕ). process_after b.process (text_event q (is_fresh b.process q) (slice_get b.process.inputs q))) (ap port_at stage)
         ∙ ap (λ (t : Bool). process_after b.process (text_event port.0 t (slice_get b.process.inputs port.0))) is ∙ ap (λ (i : Option Input). process_after b.process (text_event port.0 fresh i)) input
 
-    by : (fresh : Bool) → is_fresh b.process port.0 ≡ fresh → (event : Event) × NetTurn (record { bodies = bodies; channels = channels }) p n event stamp (record { bodies = slice_set bodies p b'; channels = channels })
+    by : (fresh : Bool) → is_fresh b.process port.0 ≡ fresh → (event : Event) × NetTurn (net_of bodies channels) p n event stamp (net_of (slice_set bodies p b') channels)
     by true is = (
       Takes_text port.0 text,
       record {

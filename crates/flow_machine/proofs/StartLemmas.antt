@@ -21,7 +21,7 @@ use Rattle.flow_model.proofs.Start.{port-at, Valid-start}
 use Rattle.flow_model.proofs.Blocks.{AllFit-start}
 use Rattle.flow_model.proofs.Fits.{Fit-start}
 use Rattle.flow_machine.proofs.Lists.{element-there}
-use Rattle.flow_machine.specs.Values.{BodyValue, NetValue, shown_body}
+use Rattle.flow_machine.specs.Values.{BodyValue, NetValue, shown_body, net_of}
 use Rattle.flow_machine.specs.Bodies.{StandsWell}
 use Rattle.flow_model.specs.Plans.{leads_to}
 use Rattle.flow_model.specs.Plans.{comes_from}
@@ -181,7 +181,7 @@ starts-same {K} plan p p' q q' part part' b b' places specs parts bodies start =
 
 module _ {K : Type 0} (shape_of : K → Shape) (uses : K → ℕ → Bool) (ready : K → Held → Answer → Type 0) (network : Network) (parts : List K) (bodies : List (BodyValue K)) where
   abbrev pub begun_net : NetValue K
-  begun_net = record { bodies = bodies; channels = map channel_begun network.connections }
+  begun_net = net_of bodies (map channel_begun network.connections)
 
   pub starts-net : StartsWell shape_of uses ready network parts → StartsBodies network parts bodies → StartsNet network parts begun_net
   starts-net well start =

@@ -1,5 +1,5 @@
 //! A connection of a network that runs.
-ghost use Rattle.std.specs.Prelude.{◌≡◌, ℕ, ◌+◌, ◌-◌, ◌^◌, ◌<◌, ◌≤◌, ◌↔◌, [], ◌∷◌, ◌++◌, length, drop, IsTrue, IfOk};
+ghost use Rattle.std.specs.Prelude.{◌≡◌, ◌+◌, ◌-◌, ◌^◌, ◌<◌, ◌↔◌, [], ◌∷◌, ◌++◌, length, drop, IsTrue, IfOk};
 ghost use Rattle.flow_model.specs.Events.{holds_packet, is_over};
 ghost use Rattle.flow_model.specs.Stands.{look_shown};
 

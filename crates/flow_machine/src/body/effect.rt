@@ -1,14 +1,11 @@
 //! The turns of a process, as far as it alone changes.
-ghost use Rattle.std.specs.Prelude.{◌≡◌, ℕ, ◌+◌, ◌-◌, ◌^◌, ◌<◌, ◌≤◌, [], ◌∷◌, ◌++◌, length, None, Some, IsTrue, not, map, slice_set, false, vec_len, vec_capacity};
-ghost use Rattle.flow_packet.specs.Held.{Sound, with_packet};
-ghost use Rattle.flow_model.specs.States.{outlets_from};
-ghost use Rattle.flow_model.specs.Events.{Starts, Finishes, Gets, Takes_text, Hears_end, Learns, Sleeps, Closes, is_connected};
-ghost use Rattle.flow_model.specs.Turns.{process_after, limited, turn_limit, depth_after};
+ghost use Rattle.std.specs.Prelude.{◌≡◌, ◌+◌, ◌-◌, ◌^◌, ◌<◌, [], ◌∷◌, ◌++◌, None, Some, IsTrue, slice_set, false, vec_len, vec_capacity};
+ghost use Rattle.flow_model.specs.Turns.{limited, depth_after};
 ghost use Rattle.flow_model.specs.Works.{nests};
 ghost use Rattle.flow_model.specs.declared.Stage.TheVariants.{Wishing, Idle};
 ghost use Rattle.flow_component.specs.declared.Wish.TheVariants.{Receive, Send, Deactivate, Level};
 ghost use Rattle.flow_machine.specs.Outlets.{closing_in};
-ghost use Rattle.flow_machine.specs.Effects.{effected, levels_by, IsEffectFor, WishesReceive, WishesSend, WishesLevel, WishesText, IsClosing, TakesTurn, port_at, depths_sent, CanDeepen};
+ghost use Rattle.flow_machine.specs.Effects.{IsEffectFor, TakesTurn, port_at, depths_sent, CanDeepen};
 ghost use Rattle.flow_machine.specs.Thoughts.{HasRoom};
 
 use super::Body;

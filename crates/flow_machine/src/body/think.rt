@@ -1,5 +1,5 @@
 //! The work of a process's component, ahead of its turn.
-ghost use Rattle.std.specs.Prelude.{◌≡◌, ◌↔◌, None, OnOk, OnErr};
+ghost use Rattle.std.specs.Prelude.{◌≡◌, None, OnOk, OnErr};
 ghost use Rattle.std.specs.Bool.{OnTrue, OnFalse};
 ghost use Rattle.flow_packet.specs.Held.{held_of};
 ghost use Rattle.flow_model.specs.Works.{judged};

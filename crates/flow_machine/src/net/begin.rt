@@ -1,5 +1,5 @@
 //! A network at its start.
-ghost use Rattle.std.specs.Prelude.{◌≡◌, ◌<◌, ◌≤◌, ◌^◌, length, IfOk, ℕ, Some, slice_get};
+ghost use Rattle.std.specs.Prelude.{◌≡◌, ◌<◌, ◌≤◌, length, IfOk, ℕ, Some, slice_get};
 ghost use Rattle.flow_plan.specs.declared.plan.Connection.{Connection as NetConnection};
 ghost use Rattle.flow_model.specs.Plans.{StartsWell};
 ghost use Rattle.flow_machine.specs.Starts.{StartsNet, StartsBodies, StartsChannels};

@@ -1,12 +1,11 @@
 //! Turns of a body at one connection.
-ghost use Rattle.std.specs.Prelude.{◌≡◌, ◌<◌, ◌≤◌, ◌^◌, ◌-◌, ℕ, length, map, Some, None};
-ghost use Rattle.flow_component.specs.declared.Wish.TheVariants.{Receive, Send, Level};
-ghost use Rattle.flow_model.specs.Events.{received, sent, told_level, idle_event, Closes};
+ghost use Rattle.std.specs.Prelude.{◌≡◌, ◌<◌, ◌^◌, ◌-◌, map, Some, None};
+ghost use Rattle.flow_component.specs.declared.Wish.TheVariants.{Receive};
+ghost use Rattle.flow_model.specs.Events.{received, sent, idle_event};
 ghost use Rattle.flow_model.specs.Stands.{look_shown};
-ghost use Rattle.flow_model.specs.declared.Stage.TheVariants.{Wishing, Idle, Closing};
+ghost use Rattle.flow_model.specs.declared.Stage.TheVariants.{Wishing, Idle};
 ghost use Rattle.flow_model.specs.declared.Block.{Block};
 ghost use Rattle.flow_model.specs.declared.Block.TheVariants.{Empty, Full, Dormant};
-ghost use Rattle.flow_machine.specs.Effects.{IsClosing};
 ghost use Rattle.flow_machine.specs.Thoughts.{HasRoom};
 ghost use Rattle.flow_machine.specs.Nets.{PairTurns, AloneTurns, GetsSound, SendsAt, packet_wished};
 

@@ -1,5 +1,5 @@
 //! A turn of a network, over its bodies and channels.
-ghost use Rattle.std.specs.Prelude.{◌≡◌, ◌<◌, length};
+ghost use Rattle.std.specs.Prelude.{◌<◌, length};
 ghost use Rattle.flow_machine.specs.Values.{net_of};
 ghost use Rattle.flow_machine.specs.Nets.{level_of, TurnsNet};
 ghost use Rattle.flow_machine.specs.NetSteps.{IsSetIn};

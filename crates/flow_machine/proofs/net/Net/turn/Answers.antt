@@ -1,6 +1,6 @@
 use Rattle.std.proofs.Common.{rules, ◌≡◌, sym, ◌∙◌, ap}
 use Rattle.std.proofs.lemmas.List.{with_items_is}
-use Rattle.flow_machine.specs.Values.{NetValue}
+use Rattle.flow_machine.specs.Values.{NetValue, net_of}
 use Rattle.flow_machine.specs.Nets.{TurnsNet, level_of}
 use Rattle.flow_machine.specs.Logs.{turns_made}
 use Rattle.flow_machine.proofs.FitLemmas.{fit-answer, goes-by, turns-most}
@@ -10,8 +10,8 @@ pub invariant_of-self : goal.invariant_of-self
 invariant_of-self g c =
     let bodies = with_items_is c.self.inside.bodies c.turn_of.new.bodies (search rules) in
     let channels = with_items_is c.self.inside.channels c.turn_of.new.channels (search rules) in
-    let old : NetValue g.row.K.Denot = record { bodies = c.self.inside.bodies.items; channels = c.self.inside.channels.items } in
-    let new : NetValue g.row.K.Denot = record { bodies = c.turn_of.new.bodies; channels = c.turn_of.new.channels } in
+    let old : NetValue g.row.K.Denot = net_of c.self.inside.bodies.items c.self.inside.channels.items in
+    let new : NetValue g.row.K.Denot = net_of c.turn_of.new.bodies c.turn_of.new.channels in
     let turns : TurnsNet old c.args.process (level_of old c.args.process) c.args.stamp c.turn_of.result new = rw (c.deref_mut.ensures.value, c.deref_mut-2.ensures.value) at c.turn_of.ensures in
     let next : c.args.stamp ≡ turns_made old = c.requires.next ∙ ap turns_made (sym c.self.view_is) in
     rw (bodies, channels) (fit-answer g.K.Component.shape_of g.K.Component.uses g.K.Component.ready old c.args.process (level_of old c.args.process) c.args.stamp c.turn_of.result new turns next c.self.invariant)
@@ -20,8 +20,8 @@ pub returns : goal.returns
 returns g c =
     let bodies = with_items_is c.self.inside.bodies c.turn_of.new.bodies (search rules) in
     let channels = with_items_is c.self.inside.channels c.turn_of.new.channels (search rules) in
-    let old : NetValue g.row.K.Denot = record { bodies = c.self.inside.bodies.items; channels = c.self.inside.channels.items } in
-    let new : NetValue g.row.K.Denot = record { bodies = c.turn_of.new.bodies; channels = c.turn_of.new.channels } in
+    let old : NetValue g.row.K.Denot = net_of c.self.inside.bodies.items c.self.inside.channels.items in
+    let new : NetValue g.row.K.Denot = net_of c.turn_of.new.bodies c.turn_of.new.channels in
     let turns : TurnsNet old c.args.process (level_of old c.args.process) c.args.stamp c.turn_of.result new = rw (c.deref_mut.ensures.value, c.deref_mut-2.ensures.value) at c.turn_of.ensures in
     let next : c.args.stamp ≡ turns_made old = c.requires.next ∙ ap turns_made (sym c.self.view_is) in
     record { turns = rw (← c.self.view_is, bodies, channels) turns; goes = rw (← c.self.view_is, bodies, channels) (λ event turn. goes-by g.K.Component.shape_of g.K.Component.uses g.K.Component.ready old c.args.process (level_of old c.args.process) event c.args.stamp new turn); few = rw bodies (turns-most g.K.Component.shape_of g.K.Component.uses g.K.Component.ready new (fit-answer g.K.Component.shape_of g.K.Component.uses g.K.Component.ready old c.args.process (level_of old c.args.process) c.args.stamp c.turn_of.result new turns next c.self.invariant)) }

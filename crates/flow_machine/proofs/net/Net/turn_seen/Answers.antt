@@ -1,6 +1,6 @@
 use Rattle.std.proofs.Common.{rules, ◌≡◌, sym, ◌∙◌, ap}
 use Rattle.std.proofs.lemmas.List.{with_items_is}
-use Rattle.flow_machine.specs.Values.{NetValue}
+use Rattle.flow_machine.specs.Values.{NetValue, net_of}
 use Rattle.flow_machine.specs.Nets.{SeesNet}
 use Rattle.flow_machine.specs.Logs.{turns_made}
 use Rattle.flow_machine.proofs.FitLemmas.{fit-seen, goes-by}
@@ -9,8 +9,8 @@ use Rattle.flow_machine.proofs.net.Net.turn_seen.Goals as goal
 pub invariant_of-self : goal.invariant_of-self
 invariant_of-self g c =
     let bodies = with_items_is c.self.inside.bodies c.seen_of.new.bodies (search rules) in
-    let old : NetValue g.row.K.Denot = record { bodies = c.self.inside.bodies.items; channels = c.self.inside.channels.items } in
-    let new : NetValue g.row.K.Denot = record { bodies = c.seen_of.new.bodies; channels = c.self.inside.channels.items } in
+    let old : NetValue g.row.K.Denot = net_of c.self.inside.bodies.items c.self.inside.channels.items in
+    let new : NetValue g.row.K.Denot = net_of c.seen_of.new.bodies c.self.inside.channels.items in
     let sees : SeesNet old c.args.process c.args.seen c.args.stamp c.seen_of.result new = rw (c.deref_mut.ensures.value, c.deref.ensures.value) at c.seen_of.ensures in
     let next : c.args.stamp ≡ turns_made old = c.requires.next ∙ ap turns_made (sym c.self.view_is) in
     rw bodies (fit-seen g.K.Component.shape_of g.K.Component.uses g.K.Component.ready old c.args.process c.args.seen c.args.stamp c.seen_of.result new sees next c.self.invariant)
@@ -18,7 +18,7 @@ invariant_of-self g c =
 pub returns : goal.returns
 returns g c =
     let bodies = with_items_is c.self.inside.bodies c.seen_of.new.bodies (search rules) in
-    let old : NetValue g.row.K.Denot = record { bodies = c.self.inside.bodies.items; channels = c.self.inside.channels.items } in
-    let new : NetValue g.row.K.Denot = record { bodies = c.seen_of.new.bodies; channels = c.self.inside.channels.items } in
+    let old : NetValue g.row.K.Denot = net_of c.self.inside.bodies.items c.self.inside.channels.items in
+    let new : NetValue g.row.K.Denot = net_of c.seen_of.new.bodies c.self.inside.channels.items in
     let sees : SeesNet old c.args.process c.args.seen c.args.stamp c.seen_of.result new = rw (c.deref_mut.ensures.value, c.deref.ensures.value) at c.seen_of.ensures in
     record { sees = rw (← c.self.view_is, bodies) sees; goes = rw (← c.self.view_is, bodies) (λ event turn. goes-by g.K.Component.shape_of g.K.Component.uses g.K.Component.ready old c.args.process c.args.seen event c.args.stamp new turn) }
