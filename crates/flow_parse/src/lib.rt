@@ -4,6 +4,7 @@
 mod fault;
 mod file;
 mod form;
+mod law;
 mod line;
 mod name;
 mod names;
@@ -21,6 +22,7 @@ mod value;
 
 pub use fault::{NetFault, ParseStop, Reason};
 pub use file::parse;
+pub use law::a_file_has_one_outcome;
 pub use printed::print;
 pub use value::{NetPart, NetText, Statement};
 

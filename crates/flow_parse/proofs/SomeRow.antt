@@ -1,0 +1,155 @@
+-- A line is a row of tokens, or has a bad byte or an open quote.
+use Rattle.std.proofs.Common.{◌≡◌, ℕ, zero, suc, ◌+◌, ◌<◌, ◌≤◌, Bool, true, false, eqb, List, [], ◌∷◌, ◌++◌, length, take, drop, refl, sym, ap, subst, ◌∙◌, arith, length-append}
+use Rattle.std.specs.Prelude.{◌==◌}
+use Rattle.std.specs.List.{prefix_len}
+use Rattle.std.proofs.lemmas.Bool.{eqb-true, eqb-false}
+use Rattle.std.proofs.lemmas.List.{append-nil, take-append-drop}
+use Rattle.flow_parse.specs.declared.token.Token.{Token}
+use Rattle.flow_parse.specs.declared.token.Token.TheVariants.{Word, Arrow, Open, Close, OpenBracket, CloseBracket, Quoted}
+use Rattle.flow_parse.specs.Spelling.{is_blank, is_word_byte, Blank, doubled, spelling, DoesntBegin, Ends, Begins, IsRow, IsBadByte, HasBadByte, HasOpenQuote}
+use Rattle.flow_parse.proofs.Cutting.{passes_all, stops_after}
+
+-- Blanks, and what stands behind them.
+pub record Stripped (bytes : List ℕ) : Type 0 where
+  pub blanks : List ℕ
+  pub rest : List ℕ
+  pub parts : bytes ≡ blanks ++ rest
+  pub are_blank : Blank blanks
+  pub stops : DoesntBegin is_blank rest
+
+-- Any bytes are blanks, and behind them what begins with none.
+pub strip : (bytes : List ℕ) → Stripped bytes
+strip [] = record { blanks = []; rest = []; parts = refl; are_blank = tt; stops = tt }
+strip (b ∷ bs) = by (is_blank b) refl (strip bs) where
+  by : (v : Bool) → is_blank b ≡ v → Stripped bs → Stripped (b ∷ bs)
+  by true e s = record { blanks = b ∷ s.blanks; rest = s.rest; parts = ap (λ (l : List ℕ). b ∷ l) s.parts; are_blank = (e, s.are_blank); stops = s.stops }
+  by false e s = record { blanks = []; rest = b ∷ bs; parts = refl; are_blank = tt; stops = e }
+
+-- What stands behind an opening quote: a text that is closed, or one that isn't.
+data Quote (bytes : List ℕ) : Type 0 where
+  closed : (text rest : List ℕ) → bytes ≡ doubled text ++ 39 ∷ rest → DoesntBegin (λ c. c == 39) rest → Quote bytes
+  unclosed : (text : List ℕ) → bytes ≡ doubled text → Quote bytes
+
+-- A byte that is no quote stands for itself, and two quotes for one.
+other_first : (b : ℕ) (text : List ℕ) → eqb b 39 ≡ false → doubled (b ∷ text) ≡ b ∷ doubled text
+other_first b text e = rw e refl
+
+put_other : (b : ℕ) (bs : List ℕ) → eqb b 39 ≡ false → Quote bs → Quote (b ∷ bs)
+put_other b bs e (closed text rest parts ends) = closed (b ∷ text) rest (ap (λ (l : List ℕ). b ∷ l) parts ∙ ap (λ (l : List ℕ). l ++ 39 ∷ rest) (sym (other_first b text e))) ends
+put_other b bs e (unclosed text parts) = unclosed (b ∷ text) (ap (λ (l : List ℕ). b ∷ l) parts ∙ sym (other_first b text e))
+
+put_quotes : (b c : ℕ) (cs : List ℕ) → b ≡ 39 → c ≡ 39 → Quote cs → Quote (b ∷ c ∷ cs)
+put_quotes b c cs eb ec (closed text rest parts ends) = closed (39 ∷ text) rest (ap (λ (n : ℕ). n ∷ c ∷ cs) eb ∙ ap (λ (n : ℕ). 39 ∷ n ∷ cs) ec ∙ ap (λ (l : List ℕ). 39 ∷ 39 ∷ l) parts) ends
+put_quotes b c cs eb ec (unclosed text parts) = unclosed (39 ∷ text) (ap (λ (n : ℕ). n ∷ c ∷ cs) eb ∙ ap (λ (n : ℕ). 39 ∷ n ∷ cs) ec ∙ ap (λ (l : List ℕ). 39 ∷ 39 ∷ l) parts)
+
+quote : (n : ℕ) (bytes : List ℕ) → length bytes ≤ n → Quote bytes
+quote n [] fits = unclosed [] refl
+quote zero (b ∷ bs) fits = absurd (omega arith)
+quote (suc n) (b ∷ []) fits = by (eqb b 39) refl where
+  by : (v : Bool) → eqb b 39 ≡ v → Quote (b ∷ [])
+  by true e = closed [] [] (ap (λ (x : ℕ). x ∷ []) (eqb-true b 39 e)) tt
+  by false e = unclosed (b ∷ []) (sym (other_first b [] e))
+quote (suc n) (b ∷ c ∷ cs) fits = by (eqb b 39) refl (eqb c 39) refl (quote n (c ∷ cs) (omega arith)) (quote n cs (omega arith)) where
+  by : (v : Bool) → eqb b 39 ≡ v → (w : Bool) → eqb c 39 ≡ w → Quote (c ∷ cs) → Quote cs → Quote (b ∷ c ∷ cs)
+  by true e true f one two = put_quotes b c cs (eqb-true b 39 e) (eqb-true c 39 f) two
+  by true e false f one two = closed [] (c ∷ cs) (ap (λ (x : ℕ). x ∷ c ∷ cs) (eqb-true b 39 e)) f
+  by false e w f one two = put_other b (c ∷ cs) e one
+
+-- What bytes begin with that are not empty and begin with no blank.
+data Cut (bytes : List ℕ) : Type 0 where
+  token : (t : Token) (rest : List ℕ) → bytes ≡ spelling t ++ rest → Ends t rest → length rest < length bytes → Cut bytes
+  bad : IsBadByte bytes → Cut bytes
+  quote_open : (text : List ℕ) → bytes ≡ 39 ∷ doubled text → Cut bytes
+
+-- A token of one byte.
+cut_one : (t : Token) (b n : ℕ) (bs : List ℕ) → b ≡ n → spelling t ≡ n ∷ [] → Ends t bs → Cut (b ∷ bs)
+cut_one t b n bs e spelled ends = token t bs (ap (λ (x : ℕ). x ∷ bs) e ∙ ap (λ (l : List ℕ). l ++ bs) (sym spelled)) ends (omega arith)
+
+cut_quote : (b : ℕ) (bs : List ℕ) → b ≡ 39 → Quote bs → Cut (b ∷ bs)
+cut_quote b bs e (closed text rest parts ends) =
+    let whole : b ∷ bs ≡ spelling (Quoted text) ++ rest = ap (λ (x : ℕ). x ∷ bs) e ∙ ap (λ (l : List ℕ). 39 ∷ l) (parts ∙ sym (append_one (doubled text) rest)) in
+    token (Quoted text) rest whole ends (let size = ap length parts ∙ length-append (doubled text) (39 ∷ rest) in omega (arith, size))
+  where
+    append_one : (xs ys : List ℕ) → (xs ++ 39 ∷ []) ++ ys ≡ xs ++ 39 ∷ ys
+    append_one [] ys = refl
+    append_one (x ∷ xs) ys = ap (λ (l : List ℕ). x ∷ l) (append_one xs ys)
+cut_quote b bs e (unclosed text parts) = quote_open text (ap (λ (x : ℕ). x ∷ bs) e ∙ ap (λ (l : List ℕ). 39 ∷ l) parts)
+
+-- A word is the longest run of its bytes.
+cut_word : (b : ℕ) (bs : List ℕ) → is_word_byte b ≡ true → Cut (b ∷ bs)
+cut_word b bs is =
+    let k = prefix_len is_word_byte bs in
+    token (Word (b ∷ take k bs)) (drop k bs) (ap (λ (l : List ℕ). b ∷ l) (sym (take-append-drop k bs)))
+    ((λ e. cc), (is, passes_all is_word_byte bs), stops_after is_word_byte bs)
+    (let size = ap length (take-append-drop k bs) in let sum = length-append (take k bs) (drop k bs) in omega (arith, size, sum))
+
+-- No blank, no quote and no bracket.
+record Plain (b : ℕ) : Type 0 where
+  blank : is_blank b ≡ false
+  quote : eqb b 39 ≡ false
+  opens : eqb b 40 ≡ false
+  closes : eqb b 41 ≡ false
+  open_bracket : eqb b 91 ≡ false
+  close_bracket : eqb b 93 ≡ false
+
+-- A byte that begins no token.
+cut_bad : (b : ℕ) (bs : List ℕ) → Plain b → is_word_byte b ≡ false → (b ≡ 45 → DoesntBegin (λ c. c == 62) bs) → Cut (b ∷ bs)
+cut_bad b bs p word dash = bad (p.blank, word, eqb-false b 39 p.quote, eqb-false b 40 p.opens, eqb-false b 41 p.closes, eqb-false b 91 p.open_bracket, eqb-false b 93 p.close_bracket, dash)
+
+-- A - before > is an arrow, and any other begins no token.
+cut_dash : (b : ℕ) (bs : List ℕ) → Plain b → b ≡ 45 → Cut (b ∷ bs)
+cut_dash b [] p e = cut_bad b [] p (ap is_word_byte e) (λ q. tt)
+cut_dash b (c ∷ cs) p e = by (eqb c 62) refl where
+  by : (v : Bool) → eqb c 62 ≡ v → Cut (b ∷ c ∷ cs)
+  by true f = token Arrow cs (ap (λ (x : ℕ). x ∷ c ∷ cs) e ∙ ap (λ (x : ℕ). 45 ∷ x ∷ cs) (eqb-true c 62 f)) tt (omega arith)
+  by false f = cut_bad b (c ∷ cs) p (ap is_word_byte e) (λ q. f)
+
+-- A - , a word, or a byte that begins no token.
+cut_plain : (b : ℕ) (bs : List ℕ) → Plain b → Cut (b ∷ bs)
+cut_plain b bs p = by (eqb b 45) refl (is_word_byte b) refl where
+  by : (d : Bool) → eqb b 45 ≡ d → (w : Bool) → is_word_byte b ≡ w → Cut (b ∷ bs)
+  by true d w word = cut_dash b bs p (eqb-true b 45 d)
+  by false d true word = cut_word b bs word
+  by false d false word = cut_bad b bs p word (λ q. absurd (eqb-false b 45 d q))
+
+cut : (b : ℕ) (bs : List ℕ) → is_blank b ≡ false → Cut (b ∷ bs)
+cut b bs blank = by (eqb b 40) refl (eqb b 41) refl (eqb b 91) refl (eqb b 93) refl (eqb b 39) refl where
+  by : (o : Bool) → eqb b 40 ≡ o → (c : Bool) → eqb b 41 ≡ c → (l : Bool) → eqb b 91 ≡ l → (r : Bool) → eqb b 93 ≡ r → (q : Bool) → eqb b 39 ≡ q → Cut (b ∷ bs)
+  by true o c d l e r f q g = cut_one Open b 40 bs (eqb-true b 40 o) refl tt
+  by false o true d l e r f q g = cut_one Close b 41 bs (eqb-true b 41 d) refl tt
+  by false o false d true e r f q g = cut_one OpenBracket b 91 bs (eqb-true b 91 e) refl tt
+  by false o false d false e true f q g = cut_one CloseBracket b 93 bs (eqb-true b 93 f) refl tt
+  by false o false d false e false f true g = cut_quote b bs (eqb-true b 39 g) (quote (length bs) bs (omega arith))
+  by false o false d false e false f false g = cut_plain b bs (record { blank = blank; quote = g; opens = o; closes = d; open_bracket = e; close_bracket = f })
+
+-- What the tokens of a line are.
+pub data Row (line : List ℕ) : Type 0 where
+  row : (tokens : List Token) → IsRow line tokens → Row line
+  bad_byte : HasBadByte line → Row line
+  open_quote : HasOpenQuote line → Row line
+
+-- One more token before the others.
+with_token : (line : List ℕ) (t : Token) (rest : List ℕ) → Begins line t rest → Row rest → Row line
+with_token line t rest begins (row ts is) = row (t ∷ ts) (is.0, (rest, begins, is.1), is.2)
+with_token line t rest begins (bad_byte h) = bad_byte (record { tokens = t ∷ h.tokens; rest = h.rest; blanks = h.blanks; bad = h.bad; row = (rest, begins, h.row); parts = h.parts; are_blank = h.are_blank; is_bad = h.is_bad })
+with_token line t rest begins (open_quote h) = open_quote (record { tokens = t ∷ h.tokens; rest = h.rest; blanks = h.blanks; text = h.text; row = (rest, begins, h.row); parts = h.parts; are_blank = h.are_blank })
+
+of_cut : (line : List ℕ) (s : Stripped line) → Cut s.rest → ((rest : List ℕ) → length rest < length s.rest → Row rest) → Row line
+of_cut line s (token t rest parts ends less) more = with_token line t rest (record { blanks = s.blanks; are_blank = s.are_blank; parts = s.parts ∙ ap (λ (l : List ℕ). s.blanks ++ l) parts; ends = ends }) (more rest less)
+of_cut line s (bad is) more = bad_byte (record { tokens = []; rest = line; blanks = s.blanks; bad = s.rest; row = refl; parts = s.parts; are_blank = s.are_blank; is_bad = is })
+of_cut line s (quote_open text parts) more = open_quote (record { tokens = []; rest = line; blanks = s.blanks; text = text; row = refl; parts = s.parts ∙ ap (λ (l : List ℕ). s.blanks ++ l) parts; are_blank = s.are_blank })
+
+of_rest : (line : List ℕ) (s : Stripped line) (r : List ℕ) → s.rest ≡ r → ((rest : List ℕ) → length rest < length s.rest → Row rest) → Row line
+of_rest line s [] e more = row [] (line, refl, subst Blank (sym (s.parts ∙ ap (λ (l : List ℕ). s.blanks ++ l) e ∙ append-nil s.blanks)) s.are_blank)
+of_rest line s (b ∷ bs) e more = of_cut line s (subst Cut (sym e) (cut b bs (subst (DoesntBegin is_blank) e s.stops))) more
+
+no_longer : (line : List ℕ) (s : Stripped line) → length s.rest ≤ length line
+no_longer line s = let size = ap length s.parts ∙ length-append s.blanks s.rest in omega (arith, size)
+
+read : (n : ℕ) (line : List ℕ) → length line < n → Row line
+read zero line fits = absurd (omega (arith, fits))
+read (suc n) line fits = let s = strip line in let whole = no_longer line s in of_rest line s s.rest refl (λ rest less. read n rest (omega (arith, fits, less, whole)))
+
+-- Any line is a row of tokens, or has a bad byte or an open quote.
+pub some_row : (line : List ℕ) → Row line
+some_row line = read (length line + 1) line (omega arith)
