@@ -42,7 +42,7 @@ fn a_subnet_stands_for_its_processes(rt: HostRuntime) -> Result<(), Fail> {
 }
 
 // A network file and the line that refuses it.
-const REFUSED: [(&[u8], &[u8]); 5] = [
+const REFUSED: [(&[u8], &[u8]); 10] = [
     // The inner names have the outer ones before them.
     (
         b"flow 1\n'in.txt' -> FILE Read(ReadLines)\nRead OUT -> IN A(Wrap)\nA OUT -> IN Write(WriteLines)\n'out.txt' -> FILE Write\nsubnet Wrap\ninport IN -> IN T(Tele)\noutport T OUT -> OUT\nend\nsubnet Tele\ninport IN -> IN W(Words)\nW OUT -> IN F(Fill)\noutport F OUT -> OUT\nend\n",
@@ -64,6 +64,30 @@ const REFUSED: [(&[u8], &[u8]); 5] = [
         b"flow 1\nM(S)\nsubnet S\nP(S)\nend\n",
         b"network refused: recursive subnet S\n",
     ),
+    // An outer port has no elements, also where the port inside is an array.
+    (
+        b"flow 1\n'in.txt' -> FILE Read(ReadLines)\nRead OUT -> IN[0] T(Join)\nT OUT -> IN D(Discard)\nsubnet Join\ninport IN -> IN[0] C(Concat)\noutport C OUT -> OUT\nend\n",
+        b"network refused: outer port T.IN[0]\n",
+    ),
+    // Inputs and outputs have names of their own.
+    (
+        b"flow 1\n'in.txt' -> FILE Read(ReadLines)\nRead OUT -> OUT T(Pass)\nT OUT -> IN D(Discard)\nsubnet Pass\ninport IN -> IN P(Passthru)\noutport P OUT -> OUT\nend\n",
+        b"network refused: outer port T.OUT\n",
+    ),
+    (
+        b"flow 1\nM(A)\nsubnet A\nT(B)\nend\nsubnet B\nP(Passthrough)\nend\n",
+        b"network refused: unknown kind Passthrough of M.T.P\n",
+    ),
+    // Eight of eight of eight, with the eight and the eight times eight that they stand in.
+    (
+        b"flow 1\nM(A)\nsubnet A\nP1(B)\nP2(B)\nP3(B)\nP4(B)\nP5(B)\nP6(B)\nP7(B)\nP8(B)\nend\nsubnet B\nP1(C)\nP2(C)\nP3(C)\nP4(C)\nP5(C)\nP6(C)\nP7(C)\nP8(C)\nend\nsubnet C\nP1(D)\nP2(D)\nP3(D)\nP4(D)\nP5(D)\nP6(D)\nP7(D)\nP8(D)\nend\nsubnet D\nend\n",
+        b"network refused: too many subnets\n",
+    ),
+    // Twelve of twelve.
+    (
+        b"flow 1\nP1(A)\nP2(A)\nP3(A)\nP4(A)\nP5(A)\nP6(A)\nP7(A)\nP8(A)\nP9(A)\nP10(A)\nP11(A)\nP12(A)\nsubnet A\nP1(Hoard)\nP2(Hoard)\nP3(Hoard)\nP4(Hoard)\nP5(Hoard)\nP6(Hoard)\nP7(Hoard)\nP8(Hoard)\nP9(Hoard)\nP10(Hoard)\nP11(Hoard)\nP12(Hoard)\nend\n",
+        b"network refused: too many processes\n",
+    ),
 ];
 
 #[test]
@@ -77,5 +101,20 @@ fn what_is_against_a_network_in_pieces(rt: HostRuntime) -> Result<(), Fail> {
         };
         run_row(&rt, rt.alloc(), row)?;
     }
+    Ok(())
+}
+
+#[test]
+fn a_check_prints_a_network_in_pieces(rt: HostRuntime) -> Result<(), Fail> {
+    let row = Row {
+        net: b"flow 1\n# a copy, in two steps\n'in.txt' -> FILE A(ReadLines)\nA OUT->( 3 )IN B ( Twice )\nsubnet Twice\n  inport IN -> IN W(Passthru)\n  outport W OUT -> OUT\nend\nB OUT -> IN C(WriteLines)\n'out.txt' -> FILE C\n",
+        check: true,
+        printed: Some(
+            b"flow 1\nsubnet Twice\nW(Passthru)\ninport IN -> IN W\noutport W OUT -> OUT\nend\nA(ReadLines)\nB(Twice)\nC(WriteLines)\n'in.txt' -> FILE A\nA OUT -> (3) IN B\nB OUT -> IN C\n'out.txt' -> FILE C\n",
+        ),
+        absent: "out.txt",
+        ..ROW
+    };
+    run_row(&rt, rt.alloc(), row)?;
     Ok(())
 }
