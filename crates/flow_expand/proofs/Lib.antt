@@ -4,6 +4,7 @@ pub mod Naming
 pub mod Places
 pub mod Puts
 pub mod Clean
+pub mod Indexing
 pub mod Saying
 pub mod Steps
 pub mod Telling

@@ -18,6 +18,10 @@ use Rattle.flow_flat.specs.Firsts.{AllPass, FirstFails}
 use Rattle.flow_flat.specs.Texts.{RecursionPasses, deep_instances}
 use Rattle.flow_plan.specs.declared.kind.KindSpec.{KindSpec}
 
+-- The statements of main, as they are meant.
+abbrev pub main_meant : NetText → List (Result Statement ExpandFault)
+main_meant text = filter_map (statement_meant text [] text.main) text.main.statements
+
 -- The statements of the subnet that a process is, as they are meant.
 abbrev pub own_meant : NetText → List ℕ × List ℕ → List (Result Statement ExpandFault)
 own_meant text x = option_map_or (λ (part : NetPart). filter_map (statement_meant text (x.0 ++ codes ".") part) part.statements) (subnet_called text x.1) []
@@ -47,7 +51,7 @@ Ends text (Err NoMemory) = Unit {0}
 
 -- The statements of a text, main's own and then those of the subnets that the processes are.
 abbrev pub meant_all : NetText → List (List ℕ × List ℕ) → List (Result Statement ExpandFault)
-meant_all text list = filter_map (statement_meant text [] text.main) text.main.statements ++ flat_map (own_meant text) list
+meant_all text list = main_meant text ++ flat_map (own_meant text) list
 
 -- What a draft over these kinds becomes by these processes and then by the statements, or the fault, unless memory ran out.
 abbrev pub Told : NetText → List KindSpec → List (List ℕ × List ℕ) → Result Draft ExpandStop → Type 0

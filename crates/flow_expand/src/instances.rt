@@ -1,5 +1,5 @@
 //! The processes that a text stands for.
-ghost use Rattle.std.specs.Prelude.{◌≡◌, List, Ok, Err, map, ◌+◌, ◌<◌, Some, None, OnOk, IfErr, IfOk};
+ghost use Rattle.std.specs.Prelude.{◌≡◌, ◌++◌, List, Ok, Err, map, ◌+◌, ◌<◌, Some, None, OnOk, IfErr, IfOk};
 ghost use Rattle.flow_expand.specs.Outcomes.{Gives, IfFault};
 ghost use Rattle.flow_flat.specs.Subnets.{within};
 ghost use Rattle.flow_flat.specs.Firsts.{AllPass, FirstFails};
@@ -8,6 +8,7 @@ ghost use Rattle.flow_expand.specs.Ways.{part_at};
 ghost use Rattle.flow_expand.specs.Places.{subnet_place};
 ghost use Rattle.flow_expand.specs.Walks.{subnet_tested, plain_tested, PutsPlain, PutsSubnet, PutsNext, outline};
 
+use crate::indexed::Indexed;
 use crate::meaning::{inside, joined};
 use crate::named::{given_name, is_kind, second_given, subnet_named};
 use crate::stop::ExpandStop;
@@ -15,8 +16,8 @@ use crate::way::{Frame, part_of};
 use flow_flat::ExpandFault;
 use flow_items::Text;
 use flow_net::{KindSpec, Many, PlanFault, PortRef};
-use flow_parse::{NetPart, NetText};
-use std::alloc::Global;
+use flow_parse::NetPart;
+use std::alloc::{AllocError, Global};
 
 // A process that is a subnet: there are fewer than 512 before it, and its subnet gives no outer name
 // twice.
@@ -106,10 +107,18 @@ fn put_subnet(
     Ok(())
 }
 
+// The flat name of a process of a part.
+fn flat_name(alloc: Global, frame: &Frame, name: &Text) -> Result<Text, AllocError>
+    ensures { IfOk result (λ flat. flat ≡ frame.now.prefix ++ name.now) }
+{
+    let bytes = joined(alloc, frame.prefix.as_slice(), name.as_slice())?;
+    Ok(Text::of(bytes))
+}
+
 // Puts a process of a part on the way, and goes on with the process behind it, or with those inside it.
 fn put_process(
     alloc: Global,
-    text: &NetText,
+    text: &Indexed<'_>,
     kinds: &[KindSpec],
     counts: &mut Counts,
     list: &mut Vec<(Text, Text)>,
@@ -120,8 +129,9 @@ fn put_process(
     requires { frame.next < usize.MAX }
     ensures { PutsNext text.now kinds.now frame process.now counts.old counts.new list.old.items list.new.items way.old.items way.new.items result }
 {
-    let name = Text::of(joined(alloc, frame.prefix.as_slice(), process.0.as_slice())?);
-    if way.len() >= 9 {
+    let name = flat_name(alloc, &frame, &process.0)?;
+    let too_deep = way.len() >= 9;
+    if too_deep {
         return Err(ExpandStop::Fault(ExpandFault::Depth(name)));
     }
     let next = Frame {
@@ -147,7 +157,7 @@ fn put_process(
 /// be written out: main's in their order, each that is a subnet followed at once by those inside it.
 pub fn instances(
     alloc: Global,
-    text: &NetText,
+    text: &Indexed<'_>,
     kinds: &[KindSpec],
 ) -> Result<Vec<(Text, Text)>, ExpandStop>
     ensures ok { IfOk result (λ list. AllPass (InstancePasses text.now kinds.now) (all_instances text.now) × (list.items ≡ map outline (all_instances text.now))) }

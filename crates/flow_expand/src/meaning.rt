@@ -4,12 +4,13 @@ ghost use Rattle.flow_flat.specs.Subnets.{meant, subnet_at, within};
 ghost use Rattle.flow_expand.specs.Outcomes.{IfFault};
 ghost use Rattle.std.specs.Option.{option_map};
 
+use crate::indexed::Indexed;
 use crate::named::{port_inside, process_named, subnet_called};
 use crate::stop::ExpandStop;
 use flow_flat::ExpandFault;
 use flow_items::Text;
 use flow_net::PortRef;
-use flow_parse::{NetPart, NetText};
+use flow_parse::NetPart;
 use std::alloc::{AllocError, Global};
 
 /// A name behind what the names inside a subnet process begin with.
@@ -31,7 +32,7 @@ pub fn inside(alloc: Global, prefix: &[u8], name: &[u8]) -> Result<Vec<u8>, Allo
 }
 
 // The subnet that a process of a part is, if it is one.
-fn subnet_of<'a>(text: &'a NetText, part: &NetPart, name: &[u8]) -> Option<&'a NetPart>
+fn subnet_of<'a>(text: &Indexed<'a>, part: &NetPart, name: &[u8]) -> Option<&'a NetPart>
     ensures { subnet_at text.now part.now name.now ≡ option_map (λ p. p.now) result }
 {
     let Some(place) = process_named(part, name) else {
@@ -61,7 +62,7 @@ fn no_port(
 /// level of subnets.
 pub fn meant<'a>(
     alloc: Global,
-    text: &'a NetText,
+    text: &Indexed<'a>,
     levels: u32,
     prefix: &[u8],
     part: &'a NetPart,

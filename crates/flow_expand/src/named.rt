@@ -8,29 +8,27 @@ ghost use Rattle.flow_flat.specs.Subnets.{subnet_called, stands_for, outer_port}
 ghost use Rattle.flow_flat.specs.Texts.{is_given_by, outer_name, given_again};
 ghost use Rattle.flow_expand.specs.Places.{subnet_place, process_place};
 
+use crate::indexed::Indexed;
 use flow_items::Text;
 use flow_net::{KindSpec, PortRef};
-use flow_parse::{NetPart, NetText, Statement};
+use flow_parse::{NetPart, Statement};
 use std::alloc::{AllocError, Global};
 
 /// The place of the subnet of a name among the subnets of a text.
-pub fn subnet_named(text: &NetText, name: &[u8]) -> Option<usize>
+pub fn subnet_named(text: &Indexed<'_>, name: &[u8]) -> Option<usize>
     ensures { result ≡ subnet_place text.now name.now }
 {
-    text.subnets
-        .as_slice()
-        .iter()
-        .position(|s| s.0.as_slice() == name)
+    text.place(name)
 }
 
 /// The subnet of a name.
-pub fn subnet_called<'a>(text: &'a NetText, name: &[u8]) -> Option<&'a NetPart>
+pub fn subnet_called<'a>(text: &Indexed<'a>, name: &[u8]) -> Option<&'a NetPart>
     ensures { subnet_called text.now name.now ≡ option_map (λ p. p.now) result }
 {
     let Some(place) = subnet_named(text, name) else {
         return None;
     };
-    Some(&text.subnets.as_slice()[place].1)
+    Some(&text.value().subnets.as_slice()[place].1)
 }
 
 /// The place of the process of a name in its part.

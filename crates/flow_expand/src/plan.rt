@@ -10,8 +10,9 @@ ghost use Rattle.flow_flat.specs.Firsts.{AllPass, FirstFails};
 ghost use Rattle.flow_flat.specs.Texts.{RecursionPasses, deep_instances, TextComesTo};
 ghost use Rattle.flow_flat.specs.Told.{HasShortTexts, after_processes, AfterMeant};
 ghost use Rattle.flow_expand.specs.Outcomes.{Gives, Leaves, IfFault};
-ghost use Rattle.flow_expand.specs.Tells.{own_meant, own_process, HasShortSubnets, Names, Ends, Told};
+ghost use Rattle.flow_expand.specs.Tells.{main_meant, own_meant, own_process, HasShortSubnets, Names, Ends, Told};
 
+use crate::indexed::Indexed;
 use crate::instances::instances;
 use crate::meaning::joined;
 use crate::named::subnet_called;
@@ -26,7 +27,7 @@ use std::alloc::{AllocError, Global};
 
 // Names a process to a builder, where it is no subnet.
 fn put_process(
-    text: &NetText,
+    text: &Indexed<'_>,
     process: &(Text, Text),
     builder: &mut PlanBuilder,
 ) -> Result<(), ExpandStop>
@@ -42,7 +43,7 @@ fn put_process(
 }
 
 fn put_processes(
-    text: &NetText,
+    text: &Indexed<'_>,
     list: &[(Text, Text)],
     builder: &mut PlanBuilder,
 ) -> Result<(), ExpandStop>
@@ -54,10 +55,18 @@ fn put_processes(
     Ok(())
 }
 
+// Tells a builder the statements of main.
+fn put_main(alloc: Global, text: &Indexed<'_>, builder: &mut PlanBuilder) -> Result<(), ExpandStop>
+    requires { HasShortTexts text.now.main }
+    ensures { Leaves result builder.new (λ outcome. AfterMeant builder.old (main_meant text.now) outcome) }
+{
+    put_statements(alloc, text, b"", &text.value().main, builder)
+}
+
 // Tells a builder the statements of the subnet that a process is.
 fn put_own(
     alloc: Global,
-    text: &NetText,
+    text: &Indexed<'_>,
     process: &(Text, Text),
     builder: &mut PlanBuilder,
 ) -> Result<(), ExpandStop>
@@ -73,7 +82,7 @@ fn put_own(
 
 fn put_subnets(
     alloc: Global,
-    text: &NetText,
+    text: &Indexed<'_>,
     list: &[(Text, Text)],
     builder: &mut PlanBuilder,
 ) -> Result<(), ExpandStop>
@@ -87,7 +96,7 @@ fn put_subnets(
 }
 
 // No subnet stands in itself.
-fn check_ends(alloc: Global, text: &NetText) -> Result<(), ExpandStop>
+fn check_ends(alloc: Global, text: &Indexed<'_>) -> Result<(), ExpandStop>
     ensures { Ends text.now result }
 {
     match met_inside_itself(alloc, text)? {
@@ -99,7 +108,7 @@ fn check_ends(alloc: Global, text: &NetText) -> Result<(), ExpandStop>
 // The builder that was told the processes of a text and then its statements.
 fn told(
     alloc: Global,
-    text: &NetText,
+    text: &Indexed<'_>,
     kinds: Vec<KindSpec>,
     list: &[(Text, Text)],
 ) -> Result<PlanBuilder, ExpandStop>
@@ -111,13 +120,13 @@ fn told(
 {
     let mut builder = PlanBuilder::new(alloc, kinds);
     put_processes(text, list, &mut builder)?;
-    put_statements(alloc, text, b"", &text.main, &mut builder)?;
+    put_main(alloc, text, &mut builder)?;
     put_subnets(alloc, text, list, &mut builder)?;
     Ok(builder)
 }
 
 // The same as `expand`, said in one clause.
-fn plan_of(alloc: Global, text: &NetText, kinds: Vec<KindSpec>) -> Result<Plan, ExpandStop>
+fn plan_of(alloc: Global, text: &Indexed<'_>, kinds: Vec<KindSpec>) -> Result<Plan, ExpandStop>
     requires table { IsTrue (is_table kinds.items) }
     requires valid { IsNetText text.now }
     ensures said { Gives result (λ outcome. TextComesTo kinds.items text.now outcome) }
@@ -145,5 +154,6 @@ pub fn expand(alloc: Global, text: &NetText, kinds: Vec<KindSpec>) -> Result<Pla
     // What the text comes to is the answer, unless memory runs out.
     ensures exact { (outcome : Result Network ExpandFault) → TextComesTo kinds.items text.now outcome → Gives result (λ found. found ≡ outcome) }
 {
-    plan_of(alloc, text, kinds)
+    let indexed = Indexed::of(alloc, text)?;
+    plan_of(alloc, &indexed, kinds)
 }

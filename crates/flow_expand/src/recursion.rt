@@ -6,10 +6,10 @@ ghost use Rattle.flow_flat.specs.Texts.{RecursionPasses, deep_instances};
 ghost use Rattle.flow_expand.specs.Marks.{Looks};
 ghost use Rattle.flow_expand.specs.Ways.{name_at};
 
+use crate::indexed::Indexed;
 use crate::named::subnet_named;
 use crate::way::part_of;
 use flow_items::Text;
-use flow_parse::NetText;
 use std::alloc::{AllocError, Global};
 
 /// How far the walk has come with a subnet: it wasn't met, or the walk is inside it, or it is done.
@@ -40,7 +40,7 @@ pub enum Look {
     Again(usize),
 }
 
-fn seen_next(text: &NetText, marks: &[Mark], spot: Spot) -> Look
+fn seen_next(text: &Indexed<'_>, marks: &[Mark], spot: Spot) -> Look
     requires { length marks.now ≡ length text.now.subnets }
     ensures sees { Looks text.now marks.now spot result }
     ensures few { result ≡ Look.Passed → spot.next < usize.MAX }
@@ -59,10 +59,10 @@ fn seen_next(text: &NetText, marks: &[Mark], spot: Spot) -> Look
     }
 }
 
-fn name_of(alloc: Global, text: &NetText, subnet: usize) -> Result<Text, AllocError>
+fn name_of(alloc: Global, text: &Indexed<'_>, subnet: usize) -> Result<Text, AllocError>
     ensures { IfOk result (λ name. name ≡ name_at text.now (Some subnet)) }
 {
-    match text.subnets.as_slice().get(subnet) {
+    match text.value().subnets.as_slice().get(subnet) {
         Some(found) => found.0.copy(alloc),
         None => Ok(Text::new(alloc)),
     }
@@ -70,10 +70,10 @@ fn name_of(alloc: Global, text: &NetText, subnet: usize) -> Result<Text, AllocEr
 
 /// The name of the first subnet that is met inside itself, walking from main into each subnet where it is
 /// first used. Each process of a part is looked at twice at most, and the way is kept on the heap.
-pub fn met_inside_itself(alloc: Global, text: &NetText) -> Result<Option<Text>, AllocError>
+pub fn met_inside_itself(alloc: Global, text: &Indexed<'_>) -> Result<Option<Text>, AllocError>
     ensures { IfOk result (λ met. MatchOption met (AllPass RecursionPasses (deep_instances text.now)) (λ name. FirstFails RecursionPasses (deep_instances text.now) (Recursive name))) }
 {
-    let mut marks = vec![in alloc; Mark::New; text.subnets.len()]?;
+    let mut marks = vec![in alloc; Mark::New; text.value().subnets.len()]?;
     let mut way = Vec::new(alloc);
     way.push(Spot {
         subnet: None,

@@ -6,25 +6,26 @@ ghost use Rattle.flow_flat.specs.Told.{IsShort, HasShortTexts, AfterMeant};
 ghost use Rattle.flow_expand.specs.Outcomes.{Leaves};
 ghost use Rattle.flow_expand.specs.Tells.{own_meant, HasShortSubnets};
 
+use crate::indexed::Indexed;
 use crate::meaning::meant;
 use crate::named::subnet_called;
 use crate::stop::ExpandStop;
 use flow_items::Text;
 use flow_net::{PlanBuilder, PortRef};
-use flow_parse::{NetPart, NetText, Statement};
+use flow_parse::{NetPart, Statement};
 use std::alloc::Global;
 
-fn put_connect(
+fn put_connect<'a>(
     alloc: Global,
-    text: &NetText,
+    text: &Indexed<'a>,
     prefix: &[u8],
-    part: &NetPart,
+    part: &'a NetPart,
     builder: &mut PlanBuilder,
     from: &Text,
-    out: &PortRef,
+    out: &'a PortRef,
     capacity: Option<u32>,
     to: &Text,
-    into: &PortRef,
+    into: &'a PortRef,
 ) -> Result<(), ExpandStop>
     ensures { Leaves result builder.new (λ outcome. AfterMeant builder.old (cons_option (statement_meant text.now prefix.now part.now (Statement.Connect from.now out.now capacity to.now into.now)) []) outcome) }
 {
@@ -40,15 +41,15 @@ fn put_connect(
     Ok(())
 }
 
-fn put_initial(
+fn put_initial<'a>(
     alloc: Global,
-    text: &NetText,
+    text: &Indexed<'a>,
     prefix: &[u8],
-    part: &NetPart,
+    part: &'a NetPart,
     builder: &mut PlanBuilder,
     bytes: &Text,
     to: &Text,
-    into: &PortRef,
+    into: &'a PortRef,
 ) -> Result<(), ExpandStop>
     requires { IsShort (Statement.Initial bytes.now to.now into.now) }
     ensures { Leaves result builder.new (λ outcome. AfterMeant builder.old (cons_option (statement_meant text.now prefix.now part.now (Statement.Initial bytes.now to.now into.now)) []) outcome) }
@@ -58,13 +59,13 @@ fn put_initial(
     Ok(())
 }
 
-fn put_statement(
+fn put_statement<'a>(
     alloc: Global,
-    text: &NetText,
+    text: &Indexed<'a>,
     prefix: &[u8],
-    part: &NetPart,
+    part: &'a NetPart,
     builder: &mut PlanBuilder,
-    statement: &Statement,
+    statement: &'a Statement,
 ) -> Result<(), ExpandStop>
     requires { IsShort statement.now }
     ensures { Leaves result builder.new (λ outcome. AfterMeant builder.old (cons_option (statement_meant text.now prefix.now part.now statement.now) []) outcome) }
@@ -98,11 +99,11 @@ fn put_statement(
 }
 
 /// Tells a builder the statements of a part whose processes' names begin with this.
-pub fn put_statements(
+pub fn put_statements<'a>(
     alloc: Global,
-    text: &NetText,
+    text: &Indexed<'a>,
     prefix: &[u8],
-    part: &NetPart,
+    part: &'a NetPart,
     builder: &mut PlanBuilder,
 ) -> Result<(), ExpandStop>
     requires { HasShortTexts part.now }

@@ -1,7 +1,7 @@
 -- A place more in a map of names, and what a table's places are then.
 use Rattle.std.proofs.Common.{◌≡◌, ℕ, ◌+◌, ◌<◌, ◌≤◌, ◌≢◌, eqb, eq-eqb, length-append, Bool, true, false, cond, ltb, List, [], ◌∷◌, ◌++◌, length, map, Option, Some, None, refl, sym, ap, subst, ◌∙◌, arith}
 use Rattle.std.specs.Prelude.{not, is_some, ◌||◌}
-use Rattle.std.proofs.lemmas.Bool.{lt-ltb, le-ltb, ltb-false, eqb-true}
+use Rattle.std.proofs.lemmas.Bool.{lt-ltb, le-ltb, ltb-true, ltb-false, eqb-true, ne_eqb}
 use Rattle.std.proofs.lemmas.List.{length-map}
 use Rattle.std.proofs.lemmas.List.Folds.{position_or_len_push, list_any-append}
 use Rattle.std.proofs.lemmas.List.Sums.{prefix_len-le-length}
@@ -52,7 +52,8 @@ no_place k n above = rw (le-ltb k n above) refl
 longer : {X : Type 0} (xs : List X) (x : X) → length (xs ++ x ∷ []) ≡ length xs + 1
 longer xs x = length-append xs (x ∷ [])
 
-pushed_first : {X : Type 0} (p : X → Bool) (xs : List X) (x : X) → p x ≡ true → None ≡ position p xs → position p (xs ++ x ∷ []) ≡ Some (length xs)
+-- The first that passes is the one that is pushed, where none before it does.
+pub pushed_first : {X : Type 0} (p : X → Bool) (xs : List X) (x : X) → p x ≡ true → None ≡ position p xs → position p (xs ++ x ∷ []) ≡ Some (length xs)
 pushed_first p xs x passes none =
     let k = position_or_len p xs in
     let at : length xs ≤ k = at_end k (length xs) (sym none) in
@@ -68,7 +69,8 @@ pushed_first p xs x passes none =
 differs : (k n : ℕ) → eqb k n ≡ false → k ≡ n → ⊥
 differs k n e s = let t : eqb k n ≡ true = eq-eqb k n s in cc
 
-pushed_other : {X : Type 0} (p : X → Bool) (xs : List X) (x : X) → p x ≡ false → position p (xs ++ x ∷ []) ≡ position p xs
+-- One that doesn't pass changes no place.
+pub pushed_other : {X : Type 0} (p : X → Bool) (xs : List X) (x : X) → p x ≡ false → position p (xs ++ x ∷ []) ≡ position p xs
 pushed_other p xs x fails =
     let k = position_or_len p xs in
     let le : k ≤ length xs = prefix_len-le-length (λ y. not (p y)) xs in
@@ -80,6 +82,18 @@ pushed_other p xs x fails =
         | false ↦ λ e. let d : k ≢ n = λ s. differs k n e s in place_of k (n + 1) (omega arith) ∙ sym (place_of k n (omega arith))
       ] refl
 
+-- What was found stays where it was.
+pub found_stays : {X : Type 0} (p : X → Bool) (xs : List X) (x : X) (i : ℕ) → position p xs ≡ Some i → position p (xs ++ x ∷ []) ≡ Some i
+found_stays p xs x i is = by (position_or_len p xs) (length xs) (ltb (position_or_len p xs) (length xs)) refl refl refl is where
+  by : (k n : ℕ) (b : Bool) → k ≡ position_or_len p xs → n ≡ length xs → ltb k n ≡ b → cond b (Some k) None ≡ Some i → position p (xs ++ x ∷ []) ≡ Some i
+  by k n true ek en t e =
+      let below : k < n = ltb-true k n t in
+      let same : k ≡ i = cc in
+      let apart : position_or_len p xs ≢ length xs = λ q. absurd (omega (arith, ek, en, q)) in
+      let new : position_or_len p (xs ++ x ∷ []) ≡ k = position_or_len_push p xs x ∙ ap (λ (b : Bool). cond b (length xs + cond (p x) 0 1) (position_or_len p xs)) (ne_eqb (position_or_len p xs) (length xs) apart) ∙ sym ek in
+      ap (λ (j : ℕ). cond (ltb j (length (xs ++ x ∷ []))) (Some j) None) new ∙ place_of k (length (xs ++ x ∷ [])) (let l = longer xs x in omega (arith, l, en, below)) ∙ ap Some same
+  by k n false ek en t e = absurd cc
+
 prefix_mapped : {X Y : Type 0} (f : X → Y) (q : Y → Bool) (xs : List X) → position_or_len (λ x. q (f x)) xs ≡ position_or_len q (map f xs)
 prefix_mapped f q [] = refl
 prefix_mapped f q (x ∷ xs) = ap (λ (n : ℕ). cond (not (q (f x))) (1 + n) 0) (prefix_mapped f q xs)
@@ -88,17 +102,27 @@ mapped : {X Y : Type 0} (f : X → Y) (q : Y → Bool) (xs : List X) → positio
 mapped f q xs =
     ap (λ (i : ℕ). cond (ltb i (length xs)) (Some i) None) (prefix_mapped f q xs) ∙ ap (λ (n : ℕ). cond (ltb (position_or_len q (map f xs)) n) (Some (position_or_len q (map f xs))) None) (sym (length-map xs f))
 
--- The places of a table's names, where the table has one more process.
-pub one_place_more : (rows : List Known) (row : Known) (old new : List ℕ → Option ℕ) (place : ℕ) → ((name : List ℕ) → old name ≡ position (λ (r : Known). bytes_eq r.name name) rows)
-    → ((name : List ℕ) → new name ≡ cond (bytes_eq row.name name) (Some place) (old name)) → place ≡ length rows → position (λ (r : Known). bytes_eq r.name row.name) rows ≡ None
-    → (name : List ℕ) → new name ≡ position (λ (r : Known). bytes_eq r.name name) (rows ++ row ∷ [])
-one_place_more rows row old new place before put at fresh name = put name ∙ (elim (bytes_eq row.name name) as (λ v. bytes_eq row.name name ≡ v → cond v (Some place) (old name) ≡ position (λ (r : Known). bytes_eq r.name name) (rows ++ row ∷ [])) [
+-- The places of names in a list, where one more has a name that none before it has.
+pub one_place_more : {R : Type 0} (key : R → List ℕ) (rows : List R) (row : R) (old new : List ℕ → Option ℕ) (place : ℕ) → ((name : List ℕ) → old name ≡ position (λ (r : R). bytes_eq (key r) name) rows)
+    → ((name : List ℕ) → new name ≡ cond (bytes_eq (key row) name) (Some place) (old name)) → place ≡ length rows → position (λ (r : R). bytes_eq (key r) (key row)) rows ≡ None
+    → (name : List ℕ) → new name ≡ position (λ (r : R). bytes_eq (key r) name) (rows ++ row ∷ [])
+one_place_more {R} key rows row old new place before put at fresh name = put name ∙ (elim (bytes_eq (key row) name) as (λ v. bytes_eq (key row) name ≡ v → cond v (Some place) (old name) ≡ position (λ (r : R). bytes_eq (key r) name) (rows ++ row ∷ [])) [
   | true ↦ λ e.
-      let s : row.name ≡ name = (bytes_eq-Decides row.name name).0 e in
-      let none : None ≡ position (λ (r : Known). bytes_eq r.name name) rows = subst (λ (n : List ℕ). None ≡ position (λ (r : Known). bytes_eq r.name n) rows) s (sym fresh) in
-      ap Some at ∙ sym (pushed_first (λ (r : Known). bytes_eq r.name name) rows row e none)
-  | false ↦ λ e. before name ∙ sym (pushed_other (λ (r : Known). bytes_eq r.name name) rows row e)
+      let s : key row ≡ name = (bytes_eq-Decides (key row) name).0 e in
+      let none : None ≡ position (λ (r : R). bytes_eq (key r) name) rows = subst (λ (n : List ℕ). None ≡ position (λ (r : R). bytes_eq (key r) n) rows) s (sym fresh) in
+      ap Some at ∙ sym (pushed_first (λ (r : R). bytes_eq (key r) name) rows row e none)
+  | false ↦ λ e. before name ∙ sym (pushed_other (λ (r : R). bytes_eq (key r) name) rows row e)
 ] refl)
+
+-- The first places of names in a list, where one more has the name of one before it.
+pub one_name_again : {R : Type 0} (key : R → List ℕ) (rows : List R) (row : R) (places : List ℕ → Option ℕ) (place : ℕ) → ((name : List ℕ) → places name ≡ position (λ (r : R). bytes_eq (key r) name) rows)
+    → places (key row) ≡ Some place → (name : List ℕ) → places name ≡ position (λ (r : R). bytes_eq (key r) name) (rows ++ row ∷ [])
+one_name_again {R} key rows row places place before there name = by (bytes_eq (key row) name) refl where
+  by : (b : Bool) → bytes_eq (key row) name ≡ b → places name ≡ position (λ (r : R). bytes_eq (key r) name) (rows ++ row ∷ [])
+  by true e =
+      let at : places name ≡ Some place = subst (λ (n : List ℕ). places n ≡ Some place) ((bytes_eq-Decides (key row) name).0 e) there in
+      at ∙ sym (found_stays (λ (r : R). bytes_eq (key r) name) rows row place (sym (before name) ∙ at))
+  by false e = before name ∙ sym (pushed_other (λ (r : R). bytes_eq (key r) name) rows row e)
 
 -- The places of a table's names, where no name has changed.
 pub places_stay : (old new : List Known) (names : List ℕ → Option ℕ) → ((name : List ℕ) → names name ≡ position (λ (r : Known). bytes_eq r.name name) old) → map (λ r. r.name) new ≡ map (λ r. r.name) old

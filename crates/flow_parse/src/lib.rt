@@ -23,6 +23,7 @@ mod value;
 pub use fault::{NetFault, ParseStop, Reason};
 pub use file::parse;
 pub use law::a_file_has_one_outcome;
+pub use names::Names;
 pub use printed::print;
 pub use value::{NetPart, NetText, Statement};
 

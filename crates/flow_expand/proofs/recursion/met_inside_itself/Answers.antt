@@ -3,6 +3,7 @@ use Rattle.std.specs.Prelude.{slice_set}
 use Rattle.std.proofs.lemmas.Grind.{common_steps}
 use Rattle.std.proofs.lemmas.List.{length-replicate}
 use Rattle.std.proofs.lemmas.Option.{slice_get_within}
+use Rattle.flow_parse.specs.declared.value.NetText.{NetText}
 use Rattle.flow_expand.specs.declared.recursion.Mark.{Mark}
 use Rattle.flow_expand.specs.declared.recursion.Mark.TheVariants.{New, Open, Done}
 use Rattle.flow_expand.specs.declared.recursion.Spot.{Spot}
@@ -16,10 +17,11 @@ use Rattle.flow_expand.proofs.recursion.met_inside_itself.Goals as goal
 
 pub way-init : goal.way-init
 way-init c =
+    let many : c.len.result ≡ length c.args.text.now.subnets = c.len.ensures ∙ ap (λ (t : NetText). length t.subnets) c.value.ensures in
     let fresh : c.in_ok-marks.marks.items ≡ replicate c.len.result New = c.in_ok-marks.ensures.items_if_clones_equal (λ y same. same) in
-    let size : length c.in_ok-marks.marks.items ≡ length c.args.text.now.subnets = ap length fresh ∙ length-replicate c.len.result New ∙ c.len.ensures in
+    let size : length c.in_ok-marks.marks.items ≡ length c.args.text.now.subnets = ap length fresh ∙ length-replicate c.len.result New ∙ many in
     subst (λ (l : List Spot). Walk c.args.text.now c.in_ok-marks.marks.items (reverse l)) (sym (c.in_ok-push.ensures.items ∙ ap (λ (l : List Spot). l ++ record { subnet = None; next = 0 } ∷ []) c.new-way.ensures.items))
-    (begins c.args.text.now c.in_ok-marks.marks.items (fresh ∙ ap (λ (n : ℕ). replicate n New) c.len.ensures) size)
+    (begins c.args.text.now c.in_ok-marks.marks.items (fresh ∙ ap (λ (n : ℕ). replicate n New) many) size)
 
 pub way-smaller-in-Some-subnet : goal.way-smaller-in-Some-subnet
 way-smaller-in-Some-subnet c = subst (λ (l : List Spot). pending (slice_set c.way.marks.items c.in-Some-subnet.subnet Done) c.args.text.now.subnets + left c.args.text.now (reverse c.pop.new.self.items) < pending c.way.marks.items c.args.text.now.subnets + left c.args.text.now l) (sym (ap reverse c.in-Some.ensures.items ∙ reverse_push c.pop.new.self.items c.in-Some.spot)) (less_done c.args.text.now c.way.marks.items c.in-Some.spot (reverse c.pop.new.self.items) c.in-Some-subnet.subnet (top_open c.args.text.now c.way.marks.items c.in-Some.spot (reverse c.pop.new.self.items) (subst (λ (l : List Spot). Walk c.args.text.now c.way.marks.items l) (ap reverse c.in-Some.ensures.items ∙ reverse_push c.pop.new.self.items c.in-Some.spot) c.way.invariant) c.in-Some-subnet.subnet c.in-Some-subnet.is))
