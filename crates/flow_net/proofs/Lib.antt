@@ -10,6 +10,7 @@ pub mod Sides
 pub mod Shapes
 pub mod SoundJoins
 pub mod Freshes
+pub mod Given
 pub mod ShapesBegin
 pub mod SoundBegins
 pub mod SoundGives

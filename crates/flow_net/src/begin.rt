@@ -95,18 +95,18 @@ pub fn kind_for<'a>(
     Ok(spec)
 }
 
-/// A new process, with all its ports behind those that there are.
+/// A new process, with all its ports behind those that there are. Its name moves in.
 pub fn begin(
     alloc: Global,
     processes: &mut Vec<Begun>,
     ports: &mut Vec<Port>,
-    name: &[u8],
+    name: Text,
     kind: &KindSpec,
 ) -> Result<(), AllocError>
     requires few { length processes.old.items < PROCESS_LIMIT }
     requires few_inputs { length kind.now.inputs ≤ PORT_LIMIT }
     requires few_outputs { length kind.now.outputs ≤ PORT_LIMIT }
-    ensures processes { OnOk result (processes.new.items ≡ processes.old.items ++ begun_as (length processes.old.items) name.now kind.now.name ∷ []) }
+    ensures processes { OnOk result (processes.new.items ≡ processes.old.items ++ begun_as (length processes.old.items) name kind.now.name ∷ []) }
     ensures ports { OnOk result (ports.new.items ≡ ports.old.items ++ (fresh_ports (length processes.old.items) true 0 kind.now.inputs ++ fresh_ports (length processes.old.items) false 0 kind.now.outputs)) }
     ensures same_processes { OnErr result (processes.new.items ≡ processes.old.items) }
     ensures same_ports { OnErr result (ports.new.items ≡ ports.old.items) }
@@ -117,7 +117,7 @@ pub fn begin(
     add_ports(alloc, &mut added, number, false, kind.outputs.as_slice())?;
     let begun = Begun {
         number,
-        name: Text::from_slice(alloc, name)?,
+        name,
         kind: kind.name.copy(alloc)?,
         texts: Items::new(alloc),
     };

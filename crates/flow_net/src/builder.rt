@@ -57,12 +57,20 @@ impl PlanBuilder {
     pub fn process(&mut self, name: &[u8], kind: &[u8]) -> Result<(), PlanStop>
         ensures { Becomes (after_process self.old name.now kind.now) result self.old self.new }
     {
+        let name = Text::from_slice(self.alloc, name)?;
+        self.process_of(name, kind)
+    }
+
+    /// The same for a name that the plan is to own, which stays where it is.
+    pub fn process_of(&mut self, name: Text, kind: &[u8]) -> Result<(), PlanStop>
+        ensures { Becomes (after_process self.old name kind.now) result self.old self.new }
+    {
         let alloc = self.alloc;
         let spec = begin::kind_for(
             alloc,
             self.kinds.as_slice(),
             self.processes.as_slice(),
-            name,
+            name.as_slice(),
             kind,
         )?;
         begin::begin(alloc, &mut self.processes, &mut self.ports, name, spec)?;
@@ -133,18 +141,22 @@ impl PlanBuilder {
         ensures valid { IfOk result IsValid }
         ensures over { IfOk result (IsOver self.kinds) }
     {
-        let alloc = self.alloc;
-        let processes = self.processes.as_slice();
-        let ports = self.ports.as_slice();
-        let links = self.links.as_slice();
-        check::check_ports(alloc, processes, ports)?;
+        let PlanBuilder {
+            alloc,
+            kinds: _,
+            processes: begun,
+            ports,
+            links,
+        } = self;
+        let ports = ports.as_slice();
+        let links = links.as_slice();
+        check::check_ports(alloc, begun.as_slice(), ports)?;
         check::check_sum(links)?;
         let counts = finish::counts(alloc, ports)?;
         let counts = counts.as_slice();
-        Ok(Plan::new(
-            lay::processes(alloc, ports, counts, processes)?,
-            finish::connections(alloc, ports, counts, links)?,
-            lay::tables(alloc, ports, processes)?,
-        ))
+        let connections = finish::connections(alloc, ports, counts, links)?;
+        let tables = lay::tables(alloc, ports, begun.as_slice())?;
+        let processes = lay::processes(alloc, ports, counts, begun)?;
+        Ok(Plan::new(processes, connections, tables))
     }
 }

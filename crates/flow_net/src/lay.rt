@@ -79,83 +79,76 @@ fn place_at(ports: &[Port], end: End) -> u32
     }
 }
 
-fn options(
-    alloc: Global,
-    ports: &[Port],
-    texts: &[(End, Text)],
-) -> Result<Items<(u32, Text)>, AllocError>
-    ensures { IfOk result (λ options. options ≡ options_of ports.now texts.now) }
-{
-    let mut options = Vec::new(alloc);
-    for text in texts {
-        if !is_stream_at(ports, text.0) {
-            let value = text.1.copy(alloc)?;
-            options.push((place_at(ports, text.0), value))?;
-        }
-    }
-    Ok(Items::of(options))
-}
-
-fn initials(
+// The texts of a process: those at option ports, and those at stream ports.
+fn given(
     alloc: Global,
     ports: &[Port],
     counts: &[u32],
-    texts: &[(End, Text)],
-) -> Result<Items<(u32, Text)>, AllocError>
+    texts: Vec<(End, Text)>,
+) -> Result<(Vec<(u32, Text)>, Vec<(u32, Text)>), AllocError>
     requires few_ports { length ports.now ≤ 2 ^ 20 }
     requires counts { counts.now ≡ map count_of ports.now }
     requires few { (g n : ℕ) → slice_get counts.now g ≡ Some n → n ≤ ELEMENT_LIMIT }
-    requires there { (k : ℕ) (end : End) (text : List ℕ) → slice_get texts.now k ≡ Some (end, text) → IsPlaced ports.now end }
-    ensures { IfOk result (λ initials. initials ≡ initials_of ports.now texts.now) }
+    requires there { (k : ℕ) (end : End) (text : List ℕ) → slice_get texts.items k ≡ Some (end, text) → IsPlaced ports.now end }
+    ensures options { IfOk result (λ given. given.0.items ≡ options_of ports.now texts.items) }
+    ensures initials { IfOk result (λ given. given.1.items ≡ initials_of ports.now texts.items) }
 {
+    let mut options = Vec::new(alloc);
     let mut initials = Vec::new(alloc);
-    for text in texts {
-        if is_stream_at(ports, text.0) {
-            let value = text.1.copy(alloc)?;
-            initials.push((number(ports, counts, text.0), value))?;
+    'texts: for (end, text) in texts {
+        if is_stream_at(ports, end) {
+            initials.push((number(ports, counts, end), text))?;
+        } else {
+            options.push((place_at(ports, end), text))?;
         }
     }
-    Ok(Items::of(initials))
+    Ok((options, initials))
 }
 
 fn process(
     alloc: Global,
     ports: &[Port],
     counts: &[u32],
-    begun: &Begun,
+    begun: Begun,
 ) -> Result<Process, AllocError>
     requires few_ports { length ports.now ≤ 2 ^ 20 }
     requires counts { counts.now ≡ map count_of ports.now }
     requires few { (g n : ℕ) → slice_get counts.now g ≡ Some n → n ≤ ELEMENT_LIMIT }
-    requires there { (k : ℕ) (end : End) (text : List ℕ) → slice_get begun.now.texts k ≡ Some (end, text) → IsPlaced ports.now end }
-    ensures { IfOk result (λ process. process ≡ process_of ports.now begun.now) }
+    requires there { (k : ℕ) (end : End) (text : List ℕ) → slice_get begun.texts k ≡ Some (end, text) → IsPlaced ports.now end }
+    ensures { IfOk result (λ process. process ≡ process_of ports.now begun) }
 {
-    let texts = begun.texts.as_slice();
+    let Begun {
+        number,
+        name,
+        kind,
+        texts,
+    } = begun;
+    let (options, initials) = given(alloc, ports, counts, texts.into_vec())?;
     Ok(Process {
-        name: begun.name.copy(alloc)?,
-        kind: begun.kind.copy(alloc)?,
-        options: options(alloc, ports, texts)?,
-        initials: initials(alloc, ports, counts, texts)?,
-        inputs: total(ports, counts, ports.len(), begun.number, true),
-        outputs: total(ports, counts, ports.len(), begun.number, false),
+        name,
+        kind,
+        options: Items::of(options),
+        initials: Items::of(initials),
+        inputs: total(ports, counts, ports.len(), number, true),
+        outputs: total(ports, counts, ports.len(), number, false),
     })
 }
 
-/// The processes of a plan.
+/// The processes of a plan. Names and texts stay where they are.
 pub fn processes(
     alloc: Global,
     ports: &[Port],
     counts: &[u32],
-    begun: &[Begun],
+    begun: Vec<Begun>,
 ) -> Result<Vec<Process>, AllocError>
     requires few_ports { length ports.now ≤ 2 ^ 20 }
     requires counts { counts.now ≡ map count_of ports.now }
     requires few { (g n : ℕ) → slice_get counts.now g ≡ Some n → n ≤ ELEMENT_LIMIT }
-    requires there { (p k : ℕ) (end : End) (text : List ℕ) → text_at begun.now p k ≡ Some (end, text) → IsPlaced ports.now end }
-    ensures { IfOk result (λ v. v.items ≡ map (process_of ports.now) begun.now) }
+    requires there { (p k : ℕ) (end : End) (text : List ℕ) → text_at begun.items p k ≡ Some (end, text) → IsPlaced ports.now end }
+    ensures { IfOk result (λ v. v.items ≡ map (process_of ports.now) begun.items) }
 {
     let mut processes = Vec::new(alloc);
-    for each in begun {
+    'begun: for each in begun {
         processes.push(process(alloc, ports, counts, each)?)?;
     }
     Ok(processes)

@@ -20,8 +20,7 @@ pub processes-requires-clause-there : goal.processes-requires-clause-there
 processes-requires-clause-there c =
     λ p k end text at.
     subst (λ (ports : List Port). IsPlaced ports end) (sym c.as_slice-ports.ensures.value)
-    (text-placed (record { kinds = c.self.inside.kinds.items; processes = c.self.inside.processes.items; ports = c.self.inside.ports.items; links = c.self.inside.links.items }) c.self.invariant p k end text
-    (ap (λ (xs : List Begun). text_at xs p k) (sym c.as_slice-processes.ensures.value) ∙ at))
+    (text-placed (record { kinds = c.self.inside.kinds.items; processes = c.self.inside.processes.items; ports = c.self.inside.ports.items; links = c.self.inside.links.items }) c.self.invariant p k end text at)
 
 pub connections-requires-clause-into : goal.connections-requires-clause-into
 connections-requires-clause-into c =
@@ -50,24 +49,24 @@ connections-requires-clause-few c =
 pub new-requires : goal.new-requires
 new-requires c =
     let first : first_fault c.self.inside.processes.items c.self.inside.ports.items ≡ Ok c.in_ok-check_ports.field-0 =
-    rw (sym c.as_slice-processes.ensures.value, sym c.as_slice-ports.ensures.value) c.in_ok-check_ports.ensures in
+    rw (sym c.as_slice.ensures.value, sym c.as_slice-ports.ensures.value) c.in_ok-check_ports.ensures in
     let sum : sum_fault c.self.inside.links.items ≡ Ok c.in_ok-check_sum.field-0 = rw (sym c.as_slice-links.ensures.value) c.in_ok-check_sum.ensures in
-    let processes : c.in_ok-processes.field-0.items ≡ map (process_of c.self.inside.ports.items) c.self.inside.processes.items =
-    rw (sym c.as_slice-processes.ensures.value, sym c.as_slice-ports.ensures.value) c.in_ok-processes.ensures in
-    let connections : c.in_ok-connections.field-0.items ≡ map (connection_of c.self.inside.ports.items) c.self.inside.links.items =
+    let processes : c.in_ok-processes.processes.items ≡ map (process_of c.self.inside.ports.items) c.self.inside.processes.items =
+    rw (sym c.as_slice-ports.ensures.value) c.in_ok-processes.ensures in
+    let connections : c.in_ok-connections.connections.items ≡ map (connection_of c.self.inside.ports.items) c.self.inside.links.items =
     rw (sym c.as_slice-links.ensures.value, sym c.as_slice-ports.ensures.value) c.in_ok-connections.ensures in
-    let tables : c.in_ok-tables.field-0.items ≡ map (table_of c.self.inside.ports.items) c.self.inside.processes.items =
-    rw (sym c.as_slice-processes.ensures.value, sym c.as_slice-ports.ensures.value) c.in_ok-tables.ensures in
+    let tables : c.in_ok-tables.tables.items ≡ map (table_of c.self.inside.ports.items) c.self.inside.processes.items =
+    rw (sym c.as_slice-2.ensures.value, sym c.as_slice-ports.ensures.value) c.in_ok-tables.ensures in
     IsValid-made (record { kinds = c.self.inside.kinds.items; processes = c.self.inside.processes.items; ports = c.self.inside.ports.items; links = c.self.inside.links.items })
-    c.in_ok-check_ports.field-0 c.in_ok-check_sum.field-0 c.in_ok-processes.field-0.items c.in_ok-connections.field-0.items c.in_ok-tables.field-0.items c.self.invariant first sum processes connections tables
+    c.in_ok-check_ports.field-0 c.in_ok-check_sum.field-0 c.in_ok-processes.processes.items c.in_ok-connections.connections.items c.in_ok-tables.tables.items c.self.invariant first sum processes connections tables
 
 pub returns-clause-over : goal.returns-clause-over
 returns-clause-over c =
-    let processes : c.in_ok-processes.field-0.items ≡ map (process_of c.self.inside.ports.items) c.self.inside.processes.items =
-    rw (sym c.as_slice-processes.ensures.value, sym c.as_slice-ports.ensures.value) c.in_ok-processes.ensures in
-    let tables : c.in_ok-tables.field-0.items ≡ map (table_of c.self.inside.ports.items) c.self.inside.processes.items =
-    rw (sym c.as_slice-processes.ensures.value, sym c.as_slice-ports.ensures.value) c.in_ok-tables.ensures in
+    let processes : c.in_ok-processes.processes.items ≡ map (process_of c.self.inside.ports.items) c.self.inside.processes.items =
+    rw (sym c.as_slice-ports.ensures.value) c.in_ok-processes.ensures in
+    let tables : c.in_ok-tables.tables.items ≡ map (table_of c.self.inside.ports.items) c.self.inside.processes.items =
+    rw (sym c.as_slice-2.ensures.value, sym c.as_slice-ports.ensures.value) c.in_ok-tables.ensures in
     subst (λ (n : Network). IsOver c.args.self.kinds n) (sym c.new.ensures.is)
-    (subst (λ (d : Draft). IsOver d.kinds (record { processes = c.in_ok-processes.field-0.items; connections = c.in_ok-connections.field-0.items; tables = c.in_ok-tables.field-0.items })) c.self.view_is
+    (subst (λ (d : Draft). IsOver d.kinds (record { processes = c.in_ok-processes.processes.items; connections = c.in_ok-connections.connections.items; tables = c.in_ok-tables.tables.items })) c.self.view_is
     (IsOver-made (record { kinds = c.self.inside.kinds.items; processes = c.self.inside.processes.items; ports = c.self.inside.ports.items; links = c.self.inside.links.items })
-    c.in_ok-processes.field-0.items c.in_ok-connections.field-0.items c.in_ok-tables.field-0.items c.self.invariant processes tables))
+    c.in_ok-processes.processes.items c.in_ok-connections.connections.items c.in_ok-tables.tables.items c.self.invariant processes tables))
