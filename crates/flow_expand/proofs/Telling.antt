@@ -110,3 +110,7 @@ module _ {X : Type 0} (f : X → List (Result Statement ExpandFault)) (xs : List
   pub stops_many : (x : X) (new : Draft) (stop : ExpandStop) → i < length xs → x ≡ get_or xs i x → Leaves (Err stop) new (λ outcome. AfterMeant old (f x) outcome) → Leaves (Err stop) new (λ outcome. AfterMeant start (flat_map f xs) outcome)
   stops_many x new stop below is told = leaves_stops (f x) (flat_map f (drop (i + 1) xs)) (flat_map f xs) start old new stop
       (subst (λ (l : List X). GoesOn start (flat_map f xs) old (flat_map f l)) (cut xs i x below is) on) told
+
+  -- The statements of all are told.
+  pub told_many : length xs ≤ i → AfterMeant start (flat_map f xs) (Ok old)
+  told_many over = on (Ok old) (subst (λ (l : List X). AfterMeant old (flat_map f l) (Ok old)) (sym (drop_all i xs over)) refl)

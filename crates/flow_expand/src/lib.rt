@@ -6,6 +6,7 @@ mod instances;
 mod meaning;
 mod named;
 mod plan;
+mod processes;
 mod recursion;
 mod refusal;
 mod statements;

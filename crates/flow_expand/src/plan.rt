@@ -14,8 +14,8 @@ ghost use Rattle.flow_expand.specs.Tells.{main_meant, own_meant, own_process, Ha
 
 use crate::indexed::Indexed;
 use crate::instances::instances;
-use crate::meaning::joined;
 use crate::named::subnet_called;
+use crate::processes::{Apart, put_processes, subnets_apart};
 use crate::recursion::met_inside_itself;
 use crate::statements::put_statements;
 use crate::stop::ExpandStop;
@@ -24,36 +24,6 @@ use flow_items::Text;
 use flow_net::{KindSpec, Plan, PlanBuilder};
 use flow_parse::NetText;
 use std::alloc::{AllocError, Global};
-
-// Names a process to a builder, where it is no subnet.
-fn put_process(
-    text: &Indexed<'_>,
-    process: &(Text, Text),
-    builder: &mut PlanBuilder,
-) -> Result<(), ExpandStop>
-    ensures { Names (after_processes builder.old (cons_option (own_process text.now process.now) [])) result builder.new }
-{
-    match subnet_called(text, process.1.as_slice()) {
-        Some(_) => Ok(()),
-        None => {
-            builder.process(process.0.as_slice(), process.1.as_slice())?;
-            Ok(())
-        }
-    }
-}
-
-fn put_processes(
-    text: &Indexed<'_>,
-    list: &[(Text, Text)],
-    builder: &mut PlanBuilder,
-) -> Result<(), ExpandStop>
-    ensures { Names (after_processes builder.old (filter_map (own_process text.now) list.now)) result builder.new }
-{
-    'processes: for process in list {
-        put_process(text, process, builder)?;
-    }
-    Ok(())
-}
 
 // Tells a builder the statements of main.
 fn put_main(alloc: Global, text: &Indexed<'_>, builder: &mut PlanBuilder) -> Result<(), ExpandStop>
@@ -67,27 +37,29 @@ fn put_main(alloc: Global, text: &Indexed<'_>, builder: &mut PlanBuilder) -> Res
 fn put_own(
     alloc: Global,
     text: &Indexed<'_>,
-    process: &(Text, Text),
+    process: (Text, Text),
     builder: &mut PlanBuilder,
 ) -> Result<(), ExpandStop>
     requires { HasShortSubnets text.now }
-    ensures { Leaves result builder.new (λ outcome. AfterMeant builder.old (own_meant text.now process.now) outcome) }
+    ensures { Leaves result builder.new (λ outcome. AfterMeant builder.old (own_meant text.now process) outcome) }
 {
-    let Some(part) = subnet_called(text, process.1.as_slice()) else {
+    let (name, kind) = process;
+    let Some(part) = subnet_called(text, kind.as_slice()) else {
         return Ok(());
     };
-    let begins = joined(alloc, process.0.as_slice(), b".")?;
+    let mut begins = name;
+    begins.push(b'.')?;
     put_statements(alloc, text, begins.as_slice(), part, builder)
 }
 
 fn put_subnets(
     alloc: Global,
     text: &Indexed<'_>,
-    list: &[(Text, Text)],
+    list: Vec<(Text, Text)>,
     builder: &mut PlanBuilder,
 ) -> Result<(), ExpandStop>
     requires { HasShortSubnets text.now }
-    ensures { Leaves result builder.new (λ outcome. AfterMeant builder.old (flat_map (own_meant text.now) list.now) outcome) }
+    ensures { Leaves result builder.new (λ outcome. AfterMeant builder.old (flat_map (own_meant text.now) list.items) outcome) }
 {
     'subnets: for process in list {
         put_own(alloc, text, process, builder)?;
@@ -110,18 +82,19 @@ fn told(
     alloc: Global,
     text: &Indexed<'_>,
     kinds: Vec<KindSpec>,
-    list: &[(Text, Text)],
+    list: Vec<(Text, Text)>,
 ) -> Result<PlanBuilder, ExpandStop>
     requires table { IsTrue (is_table kinds.items) }
     requires main { HasShortTexts text.now.main }
     requires subnets { HasShortSubnets text.now }
-    ensures told { Told text.now kinds.items list.now result }
+    ensures told { Told text.now kinds.items list.items result }
     ensures kinds { IfOk result (λ builder. builder.kinds ≡ kinds.items) }
 {
     let mut builder = PlanBuilder::new(alloc, kinds);
-    put_processes(text, list, &mut builder)?;
+    let Apart { plain, subnets } = subnets_apart(alloc, text, list)?;
+    put_processes(plain, &mut builder)?;
     put_main(alloc, text, &mut builder)?;
-    put_subnets(alloc, text, list, &mut builder)?;
+    put_subnets(alloc, text, subnets, &mut builder)?;
     Ok(builder)
 }
 
@@ -134,7 +107,7 @@ fn plan_of(alloc: Global, text: &Indexed<'_>, kinds: Vec<KindSpec>) -> Result<Pl
 {
     check_ends(alloc, text)?;
     let list = instances(alloc, text, kinds.as_slice())?;
-    let builder = told(alloc, text, kinds, list.as_slice())?;
+    let builder = told(alloc, text, kinds, list)?;
     let plan = builder.finish()?;
     Ok(plan)
 }

@@ -1,14 +1,9 @@
 -- The texts of a process, told apart by their ports.
-use Rattle.std.proofs.Common.{◌≡◌, ℕ, Bool, true, false, cond, List, [], ◌∷◌, ◌++◌, map, refl, ap}
+use Rattle.std.proofs.Common.{◌≡◌, ℕ, Bool, true, false, cond, List, [], ◌∷◌, ◌++◌, ap}
 use Rattle.flow_net.specs.declared.draft.End.{End}
 use Rattle.flow_net.specs.declared.draft.Port.{Port}
 use Rattle.flow_net.specs.Drafts.{is_stream_at}
 use Rattle.flow_net.specs.Finishes.{place_at, number_of, options_of, initials_of}
-
--- A list as it is.
-pub map_same : {X : Type 0} (xs : List X) → xs ≡ map (λ y. y) xs
-map_same [] = refl
-map_same (x ∷ xs) = ap (λ (l : List _). x ∷ l) (map_same xs)
 
 module _ (ports : List Port) (end : End) (text : List ℕ) where
   -- One more text at a stream port.

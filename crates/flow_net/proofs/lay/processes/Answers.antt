@@ -1,11 +1,11 @@
-use Rattle.std.proofs.Common.{◌≡◌, Some, length, map, refl, ap, ◌∙◌, slice_get}
+use Rattle.std.proofs.Common.{◌≡◌, Some, length, map, refl, ap, sym, ◌∙◌, slice_get}
 use Rattle.std.specs.Option.{option_and_then}
 use Rattle.std.proofs.lemmas.Iterator.Adapters.{YieldsList-from_vec}
 use Rattle.std.proofs.lemmas.Iterator.Consumers.{YieldsList-turn, YieldsList-end}
 use Rattle.std.proofs.lemmas.Option.{slice_get_read}
 use Rattle.flow_net.specs.declared.draft.Begun.{Begun}
 use Rattle.flow_net.specs.Finishes.{process_of}
-use Rattle.flow_net.proofs.Given.{map_same}
+use Rattle.std.proofs.lemmas.List.{map-id}
 use Rattle.flow_net.proofs.lay.processes.Goals as goal
 
 pub process-requires-clause-there : goal.process-requires-clause-there
@@ -19,4 +19,4 @@ pub returns : goal.returns
 returns c =
     let g = c.into_iter-each-iterator.ensures.into_iter_gives in
     let t = YieldsList-end (YieldsList-from_vec {s = c.into_iter-each-iterator.result} c.args.begun.items g.0 (g.1 ∙ c.args.begun.ok.0)) c.begun.yielded c.begun.each-iterator c.begun.yielded_by c.next.result c.next.new.self c.in-None.is c.next.ensures.steps in
-    c.begun.invariant ∙ ap (map (process_of c.args.ports.now)) (map_same c.begun.yielded ∙ t.0)
+    c.begun.invariant ∙ ap (map (process_of c.args.ports.now)) (sym (map-id c.begun.yielded) ∙ t.0)

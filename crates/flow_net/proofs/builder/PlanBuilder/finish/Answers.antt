@@ -1,10 +1,9 @@
 use Rattle.std.proofs.Common.{◌≡◌, Ok, ◌∙◌, ap, sym, subst, List, length, slice_get, map}
 use Rattle.flow_net.specs.declared.draft.Port.{Port}
 use Rattle.flow_net.specs.declared.draft.Link.{Link}
-use Rattle.flow_net.specs.declared.draft.Begun.{Begun}
 use Rattle.flow_net.specs.Drafts.{Draft}
 use Rattle.flow_net.specs.Over.{IsOver}
-use Rattle.flow_net.specs.Sound.{IsPlaced, into_of, sender_at, text_at}
+use Rattle.flow_net.specs.Sound.{IsPlaced, into_of, sender_at}
 use Rattle.flow_net.specs.Finishes.{count_of, process_of, table_of, connection_of, first_fault, sum_fault}
 use Rattle.flow_plan.specs.Network.{Network}
 use Rattle.flow_net.proofs.Validity.{IsValid-made}
