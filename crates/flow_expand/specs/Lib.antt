@@ -1,3 +1,4 @@
+pub mod Given
 pub mod Marks
 pub mod Outcomes
 pub mod Places

@@ -8,9 +8,10 @@ ghost use Rattle.flow_expand.specs.Ways.{part_at};
 ghost use Rattle.flow_expand.specs.Places.{subnet_place};
 ghost use Rattle.flow_expand.specs.Walks.{subnet_tested, plain_tested, PutsPlain, PutsSubnet, PutsNext, outline};
 
+use crate::given::{given_name, second_given};
 use crate::indexed::Indexed;
 use crate::meaning::{inside, joined};
-use crate::named::{given_name, is_kind, second_given, subnet_named};
+use crate::named::{is_kind, subnet_named};
 use crate::stop::ExpandStop;
 use crate::way::{Frame, part_of};
 use flow_flat::ExpandFault;
@@ -34,7 +35,7 @@ fn check_subnet(
         let fault = PlanFault::TooMany(Many::Instances);
         return Err(ExpandStop::Fault(ExpandFault::Plan(fault)));
     }
-    let Some(statement) = second_given(part) else {
+    let Some(statement) = second_given(alloc, part)? else {
         return Ok(());
     };
     let port = PortRef {

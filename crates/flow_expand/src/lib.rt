@@ -1,6 +1,7 @@
 //! From the text of a network, subnets included, to its plan, and the words in which a refusal is told.
 #![tactic(auto)]
 
+mod given;
 mod indexed;
 mod instances;
 mod meaning;

@@ -5,7 +5,6 @@ ghost use Rattle.std.specs.List.{list_any};
 ghost use Rattle.std.specs.Option.{option_map};
 ghost use Rattle.flow_net.specs.Calls.{kind_named};
 ghost use Rattle.flow_flat.specs.Subnets.{subnet_called, stands_for, outer_port};
-ghost use Rattle.flow_flat.specs.Texts.{is_given_by, outer_name, given_again};
 ghost use Rattle.flow_expand.specs.Places.{subnet_place, process_place};
 
 use crate::indexed::Indexed;
@@ -105,74 +104,4 @@ pub fn port_inside<'a>(
         }
     }
     None
-}
-
-fn gives_again(statement: &Statement, other: &Statement) -> bool
-    ensures { result ≡ is_given_by statement.now other.now }
-{
-    match (statement, other) {
-        (
-            Statement::InPort {
-                outer,
-                to: _,
-                into: _,
-            },
-            Statement::InPort {
-                outer: other,
-                to: _,
-                into: _,
-            },
-        ) => outer.as_slice() == other.as_slice(),
-        (
-            Statement::OutPort {
-                from: _,
-                out: _,
-                outer,
-            },
-            Statement::OutPort {
-                from: _,
-                out: _,
-                outer: other,
-            },
-        ) => outer.as_slice() == other.as_slice(),
-        _ => false,
-    }
-}
-
-fn is_given(before: &[Statement], statement: &Statement) -> bool
-    ensures { result ≡ list_any (λ s. is_given_by statement.now s) before.now }
-{
-    before.iter().any(|other| gives_again(statement, other))
-}
-
-/// The first line of a subnet that gives an outer port a second time, on its side.
-pub fn second_given(part: &NetPart) -> Option<&Statement>
-    ensures { given_again [] part.now.statements ≡ option_map (λ s. outer_name s.now) result }
-{
-    let statements = part.statements.as_slice();
-    'statements: for (place, statement) in statements.iter().enumerate() {
-        if is_given(&statements[..place], statement) {
-            return Some(statement);
-        }
-    }
-    None
-}
-
-/// The outer name that a line gives, or none.
-pub fn given_name(alloc: Global, statement: &Statement) -> Result<Text, AllocError>
-    ensures { IfOk result (λ name. name ≡ outer_name statement.now) }
-{
-    match statement {
-        Statement::InPort {
-            outer,
-            to: _,
-            into: _,
-        } => outer.copy(alloc),
-        Statement::OutPort {
-            from: _,
-            out: _,
-            outer,
-        } => outer.copy(alloc),
-        _ => Ok(Text::new(alloc)),
-    }
 }
