@@ -2,6 +2,7 @@ pub mod Agrees
 pub mod Decided
 pub mod Differ
 pub mod Examples
+pub mod Files
 pub mod Finishing
 pub mod Giving
 pub mod Joining

@@ -9,10 +9,12 @@ use Rattle.flow_parse.specs.declared.value.NetPart.{NetPart}
 use Rattle.flow_flat.specs.Faults.{ComesTo}
 use Rattle.flow_parse.specs.declared.value.NetText.{NetText}
 use Rattle.flow_flat.specs.declared.fault.ExpandFault.{ExpandFault}
-use Rattle.std.specs.Prelude.{[], ◌++◌, codes}
+use Rattle.std.specs.Prelude.{ℕ, [], ◌++◌, Ok, Err, codes}
 use Rattle.std.specs.List.{AllByRecursion, filter_map, flat_map}
 use Rattle.std.specs.Option.{option_map_or}
 use Rattle.flow_parse.specs.declared.value.Statement.{Statement}
+use Rattle.flow_parse.specs.declared.fault.NetFault.{NetFault}
+use Rattle.flow_parse.specs.Files.{Spells, Refused}
 use Rattle.flow_parse.specs.Values.{IsInner}
 use Rattle.flow_flat.specs.Subnets.{Instance, subnet_called, statement_meant}
 use Rattle.flow_flat.specs.Texts.{TextComesTo, all_instances, all_statements, flat_of}
@@ -53,3 +55,16 @@ StandInOrder = (text : NetText) → all_statements text ≡ filter_map (statemen
 -- A text without subnets is its own flat text.
 abbrev pub IsOwnFlat : Type 0
 IsOwnFlat = (text : NetText) → text.subnets ≡ [] → AllByRecursion IsInner text.main.statements → flat_of text ≡ text.main
+
+-- What the bytes of a file come to over these kinds: the fault of a line, or else, for the value that they spell, the plan or the fault of its network.
+abbrev pub FileComesToNetwork : List KindSpec → List ℕ → Result (Result Network ExpandFault) NetFault → Type 0
+FileComesToNetwork kinds bytes (Ok outcome) = (text : NetText) × Spells bytes text × TextComesTo kinds text outcome
+FileComesToNetwork kinds bytes (Err fault) = Refused bytes fault
+
+-- Any bytes come to one of them.
+abbrev pub FileNetworkIsSome : Type 0
+FileNetworkIsSome = (kinds : List KindSpec) (bytes : List ℕ) → (outcome : Result (Result Network ExpandFault) NetFault) × FileComesToNetwork kinds bytes outcome
+
+-- Any bytes come to one of them at most.
+abbrev pub FileNetworkIsOne : Type 0
+FileNetworkIsOne = (kinds : List KindSpec) (bytes : List ℕ) (one other : Result (Result Network ExpandFault) NetFault) → FileComesToNetwork kinds bytes one → FileComesToNetwork kinds bytes other → one ≡ other

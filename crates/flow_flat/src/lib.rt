@@ -6,6 +6,6 @@ mod laws;
 
 pub use fault::ExpandFault;
 pub use laws::{
-    a_builder_gives_the_plan_of_its_text, a_flat_text_has_one_outcome, a_flat_text_is_in_order,
-    a_text_has_one_outcome,
+    a_builder_gives_the_plan_of_its_text, a_file_has_one_network, a_flat_text_has_one_outcome,
+    a_flat_text_is_in_order, a_text_has_one_outcome,
 };
