@@ -6,3 +6,6 @@ pub mod Lifting
 pub mod Loopers
 pub mod Streams
 pub mod Several
+pub mod Ends
+pub mod Wished
+pub mod Texts

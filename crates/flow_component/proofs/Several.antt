@@ -1,11 +1,11 @@
 -- Hands that hold several packets, and how a work changes them.
-use Rattle.std.proofs.Common.{◌≡◌, ℕ, ◌+◌, ◌*◌, ◌/◌, ◌%◌, ◌<◌, ◌≤◌, true, false, List, [], ◌∷◌, ◌++◌, length, refl, sym, ap, subst, ◌∙◌, arith, nat_eq, Bool, if◌then◌else◌, Some, IsSome, length-append}
+use Rattle.std.proofs.Common.{◌≡◌, ℕ, ◌+◌, ◌*◌, ◌/◌, ◌%◌, ◌<◌, true, false, List, [], ◌∷◌, ◌++◌, length, refl, ap, subst, arith, nat_eq, Bool, if◌then◌else◌, Some, IsSome}
 use Rattle.std.proofs.lemmas.Bool.Decides.{nat_tests}
 use Rattle.flow_packet.specs.declared.packet.Kind.{Kind}
 use Rattle.flow_packet.specs.Tree.{Tree, node, id_of, all_ids, packet_of}
 use Rattle.flow_packet.specs.Ids.{times}
 use Rattle.flow_packet.specs.Hands.{without, packet_at, IsAtRoot, has_id}
-use Rattle.flow_packet.specs.Held.{Held, Sound, next_id, with_made, without_packet}
+use Rattle.flow_packet.specs.Held.{Held, Sound, next_id, with_made}
 use Rattle.flow_component.proofs.Roots.{same_id}
 
 pub times-append : (id : ℕ) (xs ys : List ℕ) → times id (xs ++ ys) ≡ times id xs + times id ys

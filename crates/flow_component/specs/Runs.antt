@@ -1,6 +1,6 @@
 -- Runs of a component: what it was told, one answer after another, and what it came to after each. A component's stream meaning is
 -- told of its runs alone. (This project's own.)
-use Rattle.std.specs.Prelude.{◌≡◌, ◌⊎◌, ℕ, ◌+◌, ◌<◌, ◌==◌, if◌then◌else◌, List, [], ◌∷◌, ◌++◌, Some}
+use Rattle.std.specs.Prelude.{◌≡◌, ◌⊎◌, ℕ, ◌+◌, ◌<◌, ◌==◌, ◌&&◌, not, if◌then◌else◌, Bool, true, false, List, [], ◌∷◌, ◌++◌, Some}
 use Rattle.std.specs.List.{flat_map}
 use Rattle.flow_packet.specs.declared.packet.Kind.TheVariants as kinds
 use Rattle.flow_packet.specs.Tree.{Tree, id_of, content, packet_of}
@@ -92,14 +92,24 @@ BringsFirst port (Ended input ∷ later) = (input ≡ port → ⊥) × BringsFir
 BringsFirst port (Sent output packet ∷ later) = BringsFirst port later
 BringsFirst port (Learned output level ∷ later) = BringsFirst port later
 
--- After each start, one of the first n inputs brings a packet before its end.
-abbrev pub StartsBring : ℕ → List Happening → Type 0
-StartsBring n [] = Unit {0}
-StartsBring n (Started ∷ later) = ((port : ℕ) × (port < n) × BringsFirst port later) × StartsBring n later
-StartsBring n (Received input packet ∷ later) = StartsBring n later
-StartsBring n (Ended input ∷ later) = StartsBring n later
-StartsBring n (Sent output packet ∷ later) = StartsBring n later
-StartsBring n (Learned output level ∷ later) = StartsBring n later
+-- After each start, one of these inputs brings a packet before its end.
+abbrev pub StartsBring : (ℕ → Type 0) → List Happening → Type 0
+StartsBring among [] = Unit {0}
+StartsBring among (Started ∷ later) = ((port : ℕ) × among port × BringsFirst port later) × StartsBring among later
+StartsBring among (Received input packet ∷ later) = StartsBring among later
+StartsBring among (Ended input ∷ later) = StartsBring among later
+StartsBring among (Sent output packet ∷ later) = StartsBring among later
+StartsBring among (Learned output level ∷ later) = StartsBring among later
+
+-- At this input each start gives this text anew: it is got once before the next start, nothing else is got there, and the end isn't heard before it. The text is
+-- still to be got where it is fresh.
+abbrev pub GivesText : ℕ → List ℕ → Bool → List Happening → Type 0
+GivesText port text fresh [] = Unit {0}
+GivesText port text fresh (Started ∷ later) = GivesText port text true later
+GivesText port text fresh (Received input packet ∷ later) = (input ≡ port → (fresh ≡ true) × (content packet ≡ text_packet text)) × GivesText port text (fresh && not (input == port)) later
+GivesText port text fresh (Ended input ∷ later) = (input ≡ port → fresh ≡ false) × GivesText port text fresh later
+GivesText port text fresh (Sent output packet ∷ later) = GivesText port text fresh later
+GivesText port text fresh (Learned output level ∷ later) = GivesText port text fresh later
 
 -- It is the end of this input.
 abbrev pub IsEnd : ℕ → Happening → Type 0

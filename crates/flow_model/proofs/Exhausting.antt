@@ -8,7 +8,7 @@ use Rattle.flow_model.specs.declared.Stage.{Stage}
 use Rattle.flow_model.specs.States.{Input, From, Text, Process, Channel, Kept, without_sender, change_at, changed}
 use Rattle.flow_plan.specs.declared.plan.Sender.{Sender}
 use Rattle.flow_model.specs.Events.{Event, Starts, Finishes, Gets, Takes_text, Hears_end, Sends, Learns, Sleeps, Closes, Look, looks, event_of, stage_event, idle_event, receive_event, received_from, received, is_fresh, is_connected, has_packet, has_ended, can_start, passes, holds_packet, is_empty, is_over}
-use Rattle.flow_model.specs.Turns.{process_after, channel_after, channels_after}
+use Rattle.flow_model.specs.Turns.{channel_after, channels_after}
 use Rattle.flow_model.specs.Valid.{SendersOpen, HasToClose}
 use Rattle.flow_model.specs.Runs.{NoneConnected}
 use Rattle.flow_model.proofs.Lists.{slice_get-set_same, slice_get-set_other, same_or_not, change_at-some}
@@ -219,24 +219,15 @@ fresh-gone (f ∷ fresh) (suc at) = fresh-gone fresh at
 pub fresh-apart : (fresh : List Bool) (at port : ℕ) → port ≢ at → unwrap_or (slice_get (slice_set fresh at false) port) false ≡ unwrap_or (slice_get fresh port) false
 fresh-apart fresh at port other = ap (λ o. unwrap_or o false) (slice_get-set_other fresh at port false other)
 
-first-text : (inputs : List Input) → 0 < length inputs → list_any is_connected inputs ≡ false → (text : List ℕ) × (slice_get inputs 0 ≡ Some (Text text))
-first-text [] some none = absurd (omega arith)
-first-text (From c ∷ inputs) some none = absurd (cc)
-first-text (Text text ∷ inputs) some none = (text, refl)
-
--- After a start something waits at one of the inputs, if there are any.
-pub start-waits : {K : Type 0} (channels : List Channel) (x : Process K) (n : ℕ) → event_of channels x n ≡ Some Starts → 0 < length x.inputs → (port : ℕ) × (port < length x.inputs) × Waits channels (process_after x Starts) port
-start-waits channels x n is some = by (list_any (has_packet (looks channels)) x.inputs) refl
+-- Where an input is connected, a process starts as a packet waits at one.
+pub start-brings : {K : Type 0} (channels : List Channel) (x : Process K) (n : ℕ) → event_of channels x n ≡ Some Starts → list_any is_connected x.inputs ≡ true → FirstInput channels x.inputs
+start-brings channels x n is some = by (list_any (has_packet (looks channels)) x.inputs) refl
   where
-    alone : (b : Bool) → list_any is_connected x.inputs ≡ b → (not b && not x.has_run) ≡ true → (port : ℕ) × (port < length x.inputs) × Waits channels (process_after x Starts) port
-    alone true none is = absurd (cc)
-    alone false none is = let t = first-text x.inputs some none in (0, some, text_waits t.0 t.1 (fresh-start x.inputs 0 t.0 t.1))
-
-    by : (b : Bool) → list_any (has_packet (looks channels)) x.inputs ≡ b → (port : ℕ) × (port < length x.inputs) × Waits channels (process_after x Starts) port
-    by true holds = let f = first-input channels x.inputs holds in (f.port, f.within, packet_waits f.connection f.input f.some)
+    by : (b : Bool) → list_any (has_packet (looks channels)) x.inputs ≡ b → FirstInput channels x.inputs
+    by true holds = first-input channels x.inputs holds
     by false holds =
         let can : (list_any (has_packet (looks channels)) x.inputs || (not (list_any is_connected x.inputs) && not x.has_run)) ≡ true = starts-can channels x n is in
-        alone (list_any is_connected x.inputs) refl (rw holds at can)
+        absurd (let h : false ≡ true = rw (holds, some) at can in cc)
 
 -- A process that has run starts where a packet waits at a connected input.
 pub start-finds : {K : Type 0} (channels : List Channel) (x : Process K) (n : ℕ) → event_of channels x n ≡ Some Starts → x.has_run ≡ true → FirstInput channels x.inputs

@@ -1,7 +1,7 @@
 -- What was told of ends and starts, as one more happening comes.
-use Rattle.std.proofs.Common.{◌≡◌, ℕ, arith, ◌≢◌, ◌≤◌, ◌+◌, ◌<◌, List, [], ◌∷◌, ◌++◌, refl, sym, ◌∙◌, subst, append-nil, append_assoc, ◌⊎◌, inl, inr}
+use Rattle.std.proofs.Common.{◌≡◌, ℕ, arith, ◌≢◌, ◌≤◌, ◌+◌, ◌<◌, ◌==◌, ◌&&◌, not, Bool, true, List, [], ◌∷◌, ◌++◌, refl, sym, ◌∙◌, subst, append-nil, append_assoc, ◌⊎◌, inl, inr}
 use Rattle.flow_component.specs.Happenings.{Happening, Started, Received, Ended, Sent, Learned}
-use Rattle.flow_component.specs.Runs.{content_got, got, EndIsLast, BringsFirst, StartsBring, IsEnd, HeardEnd, IsStart, Wakes, starts}
+use Rattle.flow_component.specs.Runs.{content_got, got, EndIsLast, BringsFirst, StartsBring, GivesText, IsEnd, HeardEnd, IsStart, Wakes, starts}
 use Rattle.flow_component.proofs.Streams.{got-more}
 
 -- It is a packet at this input.
@@ -72,48 +72,48 @@ brings-more port (Learned p n ∷ es) e b (inl (inl g)) = absurd g
 brings-more port (Learned p n ∷ es) e b (inl (inr g)) = brings-more port es e b (inl g)
 brings-more port (Learned p n ∷ es) e b (inr g) = brings-more port es e b (inr g)
 
--- After each start one of the first n inputs brings a packet before its end: it was got already, or it waits.
-pub record Brings (waits : ℕ → Type 0) (n : ℕ) (later : List Happening) : Type 0 where
+-- After each start one of these inputs brings a packet before its end: it was got already, or it waits.
+pub record Brings (waits among : ℕ → Type 0) (later : List Happening) : Type 0 where
   pub port : ℕ
-  pub within : port < n
+  pub within : among port
   pub first : BringsFirst port later
   pub got_or_waits : HasGot port later ⊎ waits port
 
-abbrev pub StartsKeep : (ℕ → Type 0) → ℕ → List Happening → Type 0
-StartsKeep waits n [] = Unit {0}
-StartsKeep waits n (Started ∷ later) = Brings waits n later × StartsKeep waits n later
-StartsKeep waits n (Received input packet ∷ later) = StartsKeep waits n later
-StartsKeep waits n (Ended input ∷ later) = StartsKeep waits n later
-StartsKeep waits n (Sent output packet ∷ later) = StartsKeep waits n later
-StartsKeep waits n (Learned output level ∷ later) = StartsKeep waits n later
+abbrev pub StartsKeep : (ℕ → Type 0) → (ℕ → Type 0) → List Happening → Type 0
+StartsKeep waits among [] = Unit {0}
+StartsKeep waits among (Started ∷ later) = Brings waits among later × StartsKeep waits among later
+StartsKeep waits among (Received input packet ∷ later) = StartsKeep waits among later
+StartsKeep waits among (Ended input ∷ later) = StartsKeep waits among later
+StartsKeep waits among (Sent output packet ∷ later) = StartsKeep waits among later
+StartsKeep waits among (Learned output level ∷ later) = StartsKeep waits among later
 
-pub starts-kept : (waits : ℕ → Type 0) (n : ℕ) (es : List Happening) → StartsKeep waits n es → StartsBring n es
-starts-kept waits n [] k = tt
-starts-kept waits n (Started ∷ es) k = ((k.0.port, k.0.within, k.0.first), starts-kept waits n es k.1)
-starts-kept waits n (Received p t ∷ es) k = starts-kept waits n es k
-starts-kept waits n (Ended p ∷ es) k = starts-kept waits n es k
-starts-kept waits n (Sent p t ∷ es) k = starts-kept waits n es k
-starts-kept waits n (Learned p m ∷ es) k = starts-kept waits n es k
+pub starts-kept : (waits among : ℕ → Type 0) (es : List Happening) → StartsKeep waits among es → StartsBring among es
+starts-kept waits among [] k = tt
+starts-kept waits among (Started ∷ es) k = ((k.0.port, k.0.within, k.0.first), starts-kept waits among es k.1)
+starts-kept waits among (Received p t ∷ es) k = starts-kept waits among es k
+starts-kept waits among (Ended p ∷ es) k = starts-kept waits among es k
+starts-kept waits among (Sent p t ∷ es) k = starts-kept waits among es k
+starts-kept waits among (Learned p m ∷ es) k = starts-kept waits among es k
 
 -- nothing is heard, and what waits still waits
-pub starts-same : (old new : ℕ → Type 0) (n : ℕ) → ((port : ℕ) → old port → new port) → (es : List Happening) → StartsKeep old n es → StartsKeep new n es
-starts-same old new n up [] k = tt
-starts-same old new n up (Started ∷ es) k = (
+pub starts-same : (old new among : ℕ → Type 0) → ((port : ℕ) → old port → new port) → (es : List Happening) → StartsKeep old among es → StartsKeep new among es
+starts-same old new among up [] k = tt
+starts-same old new among up (Started ∷ es) k = (
   record { port = k.0.port; within = k.0.within; first = k.0.first; got_or_waits = elim k.0.got_or_waits [ inl g ↦ inl g | inr w ↦ inr (up k.0.port w) ] },
-  starts-same old new n up es k.1,
+  starts-same old new among up es k.1,
 )
-starts-same old new n up (Received p t ∷ es) k = starts-same old new n up es k
-starts-same old new n up (Ended p ∷ es) k = starts-same old new n up es k
-starts-same old new n up (Sent p t ∷ es) k = starts-same old new n up es k
-starts-same old new n up (Learned p m ∷ es) k = starts-same old new n up es k
+starts-same old new among up (Received p t ∷ es) k = starts-same old new among up es k
+starts-same old new among up (Ended p ∷ es) k = starts-same old new among up es k
+starts-same old new among up (Sent p t ∷ es) k = starts-same old new among up es k
+starts-same old new among up (Learned p m ∷ es) k = starts-same old new among up es k
 
 -- one more is heard: not the end of an input at which something waits; what waited was got or still waits; after a start something waits
-module _ (old new : ℕ → Type 0) (n : ℕ) (e : Happening) (no_end : (port : ℕ) → old port → IsEnd port e → ⊥) (up : (port : ℕ) → old port → IsGot port e ⊎ new port)
-    (begins : IsStart e → (port : ℕ) × (port < n) × new port) where
-  one-more : (later : List Happening) → Brings old n later → Brings new n (later ++ e ∷ [])
+module _ (old new among : ℕ → Type 0) (e : Happening) (no_end : (port : ℕ) → old port → IsEnd port e → ⊥) (up : (port : ℕ) → old port → IsGot port e ⊎ new port)
+    (begins : IsStart e → (port : ℕ) × among port × new port) where
+  one-more : (later : List Happening) → Brings old among later → Brings new among (later ++ e ∷ [])
   one-more later b = by b.got_or_waits
     where
-      by : HasGot b.port later ⊎ old b.port → Brings new n (later ++ e ∷ [])
+      by : HasGot b.port later ⊎ old b.port → Brings new among (later ++ e ∷ [])
       by (inl g) = record { port = b.port; within = b.within; first = brings-more b.port later e b.first (inl g); got_or_waits = inl (got-later b.port later e g) }
       by (inr w) = record {
         port = b.port;
@@ -122,14 +122,14 @@ module _ (old new : ℕ → Type 0) (n : ℕ) (e : Happening) (no_end : (port : 
         got_or_waits = elim (up b.port w) [ inl g ↦ inl (got-now b.port later e g) | inr v ↦ inr v ];
       }
 
-  last-one : (f : Happening) → (IsStart f → (port : ℕ) × (port < n) × new port) → StartsKeep new n (f ∷ [])
+  last-one : (f : Happening) → (IsStart f → (port : ℕ) × among port × new port) → StartsKeep new among (f ∷ [])
   last-one Started b = (record { port = (b tt).0; within = (b tt).1; first = tt; got_or_waits = inr ((b tt).2) }, tt)
   last-one (Received p t) b = tt
   last-one (Ended p) b = tt
   last-one (Sent p t) b = tt
   last-one (Learned p m) b = tt
 
-  pub starts-more : (es : List Happening) → StartsKeep old n es → StartsKeep new n (es ++ e ∷ [])
+  pub starts-more : (es : List Happening) → StartsKeep old among es → StartsKeep new among (es ++ e ∷ [])
   starts-more [] k = last-one e begins
   starts-more (Started ∷ es) k = (one-more es k.0, starts-more es k.1)
   starts-more (Received p t ∷ es) k = starts-more es k
@@ -142,6 +142,32 @@ pub wakes-more : (n : ℕ) (before es : List Happening) (e : Happening) → Wake
 wakes-more n before [] e w starts = ((λ s. rw append-nil at (starts s)), tt)
 wakes-more n before (f ∷ es) e w starts =
     (w.0, wakes-more n (before ++ f ∷ []) es e w.1 (λ s. subst (λ (hs : List Happening). (hs ≡ []) ⊎ ((port : ℕ) × (port < n) × (HeardEnd port hs → ⊥))) (sym (append_assoc before (f ∷ []) es)) (starts s)))
+
+-- Whether a text at this input is fresh, once these were told.
+abbrev pub fresh_after : ℕ → Bool → List Happening → Bool
+fresh_after port fresh [] = fresh
+fresh_after port fresh (Started ∷ later) = fresh_after port true later
+fresh_after port fresh (Received input packet ∷ later) = fresh_after port (fresh && not (input == port)) later
+fresh_after port fresh (Ended input ∷ later) = fresh_after port fresh later
+fresh_after port fresh (Sent output packet ∷ later) = fresh_after port fresh later
+fresh_after port fresh (Learned output level ∷ later) = fresh_after port fresh later
+
+pub fresh-more : (port : ℕ) (fresh : Bool) (es : List Happening) (e : Happening) → fresh_after port fresh (es ++ e ∷ []) ≡ fresh_after port (fresh_after port fresh es) (e ∷ [])
+fresh-more port fresh [] e = refl
+fresh-more port fresh (Started ∷ es) e = fresh-more port true es e
+fresh-more port fresh (Received i t ∷ es) e = fresh-more port (fresh && not (i == port)) es e
+fresh-more port fresh (Ended i ∷ es) e = fresh-more port fresh es e
+fresh-more port fresh (Sent o t ∷ es) e = fresh-more port fresh es e
+fresh-more port fresh (Learned o n ∷ es) e = fresh-more port fresh es e
+
+-- one more is told at an input with a text
+pub gives-more : (port : ℕ) (text : List ℕ) (fresh : Bool) (es : List Happening) (e : Happening) → GivesText port text fresh es → GivesText port text (fresh_after port fresh es) (e ∷ []) → GivesText port text fresh (es ++ e ∷ [])
+gives-more port text fresh [] e g h = h
+gives-more port text fresh (Started ∷ es) e g h = gives-more port text true es e g h
+gives-more port text fresh (Received i t ∷ es) e g h = (g.0, gives-more port text (fresh && not (i == port)) es e g.1 h)
+gives-more port text fresh (Ended i ∷ es) e g h = (g.0, gives-more port text fresh es e g.1 h)
+gives-more port text fresh (Sent o t ∷ es) e g h = gives-more port text fresh es e g h
+gives-more port text fresh (Learned o n ∷ es) e g h = gives-more port text fresh es e g h
 
 -- a start counts one more
 pub starts-count : (es : List Happening) (e : Happening) → starts (es ++ e ∷ []) ≡ starts es + starts (e ∷ [])

@@ -31,7 +31,7 @@ use Rattle.flow_model.specs.Works.{Work, worked, judged, sending, nests}
 use Rattle.flow_model.specs.Schedules.{Settles, Journal, Leads, LeadsBy}
 use Rattle.flow_model.specs.Valid.{HasToClose, SendersOpen, IsFailedStage}
 use Rattle.flow_model.specs.Verdicts.{IsFinished}
-use Rattle.flow_model.proofs.Lists.{slice_get-set_same, slice_get-set_other, same_or_not}
+use Rattle.flow_model.proofs.Lists.{map-found, slice_get-set_same, slice_get-set_other, same_or_not}
 use Rattle.flow_model.proofs.Inverse.{explains}
 use Rattle.flow_model.proofs.Blocks.{outlet-of}
 use Rattle.flow_model.proofs.Order.{inputs-after, outputs-after, outputs-worked}
@@ -340,11 +340,6 @@ module _ {K : Type 0} (next : K → Held → Answer → Outcome K → Type 0) wh
       ranked-leads leads.1 turns leads.2 s' leads.5 (ranked-settles whole.0 p leads.1 whole.2 (ranked-turn s p leads.0 whole.0 whole.1 r))
 
 -- The plan's ports in the last state
-
-map-found : {A B : Type 0} (f : A → B) (xs : List A) (k : ℕ) (y : B) → slice_get (map f xs) k ≡ Some y → (x : A) × (slice_get xs k ≡ Some x) × (f x ≡ y)
-map-found f [] k y is = absurd (cc)
-map-found f (x ∷ xs) zero y is = (x, refl, (let h : f x ≡ y = cc in h))
-map-found f (x ∷ xs) (suc k) y is = map-found f xs k y is
 
 get-there : {A : Type 0} (xs : List A) (c : ℕ) (d : A) → c < length xs → slice_get xs c ≡ Some (get_or xs c d)
 get-there [] c d l = absurd (omega arith)

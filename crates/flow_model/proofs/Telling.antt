@@ -1,5 +1,7 @@
 -- What each process was told is a run of its component, ends stand and starts bring something: so it is at the start, and turns and works keep it so.
-use Rattle.std.proofs.Common.{◌≡◌, ◌≢◌, ℕ, length-append, ◌≤◌, ◌+◌, ◌<◌, Bool, true, false, List, [], ◌∷◌, ◌++◌, length, map, Option, Some, None, refl, sym, ap, ◌∙◌, subst, cond, nat_eq, nat_lt, arith, ◌⊎◌, inl, inr, slice_get, slice_set, slice_index, append-nil, ◌==◌, zero, suc}
+use Rattle.std.proofs.Common.{◌≡◌, ◌≢◌, ℕ, length-append, ◌≤◌, ◌+◌, ◌<◌, Bool, true, false, List, [], ◌∷◌, ◌++◌, length, map, Option, Some, None, refl, sym, ap, ◌∙◌, subst, cond, nat_eq, nat_lt, arith, ◌⊎◌, inl, inr, slice_get, slice_set, slice_index, append-nil, ◌==◌, zero, suc, ◌&&◌, unwrap_or}
+use Rattle.std.specs.Prelude.{replicate}
+use Rattle.std.specs.List.{list_any}
 use Rattle.std.proofs.lemmas.Bool.Decides.{nat_tests}
 use Rattle.flow_packet.specs.declared.packet.Kind.TheVariants as kinds
 use Rattle.flow_packet.specs.Tree.{Tree, id_of, kind_of, packet_of}
@@ -14,12 +16,11 @@ use Rattle.flow_component.specs.declared.Fail.TheVariants as fails
 use Rattle.flow_component.specs.declared.Shape.{Shape}
 use Rattle.flow_component.specs.Laws.{Outcome, Wishes, Fails, Obeys, StaysReady}
 use Rattle.flow_component.specs.Happenings.{Happening, Started, Received, Ended, Sent, Learned}
-use Rattle.flow_component.specs.Runs.{fresh, content_got, EndIsLast, HeardEnd, Wakes, got, text_packet, starts}
-use Rattle.flow_component.proofs.Streams.{got-more}
+use Rattle.flow_component.specs.Runs.{fresh, content_got, EndIsLast, HeardEnd, Wakes, GivesText, text_packet, starts}
 use Rattle.flow_model.specs.declared.Stage.{Stage}
 use Rattle.flow_model.specs.declared.Stage.TheVariants as stages
 use Rattle.flow_model.specs.States.{Input, From, Text, Process, Channel, Kept, State, outlets, got_at, entry_of}
-use Rattle.flow_model.specs.Events.{Event, Starts, Finishes, Gets, Takes_text, Hears_end, Sends, Learns, Sleeps, Closes, event_of, is_fresh}
+use Rattle.flow_model.specs.Events.{Event, Starts, Finishes, Gets, Takes_text, Hears_end, Sends, Learns, Sleeps, Closes, event_of, is_fresh, is_connected}
 use Rattle.flow_model.specs.Turns.{process_after, channels_after, heard, past_after, limited, closing, closing_on, turn_limit, Turn}
 use Rattle.flow_model.specs.Works.{judged, sending, nests, worked, Work}
 use Rattle.flow_model.specs.Schedules.{Settles, LeadsBy, Leads, Journal, Step, Turned, Worked, Reaches}
@@ -28,7 +29,7 @@ use Rattle.flow_plan.specs.Network.{Network as Plan}
 use Rattle.flow_plan.specs.declared.plan.Process.{Process as PlanProcess}
 use Rattle.flow_model.specs.Order.{connection_of, input_of, packets_at, InOrder}
 use Rattle.flow_model.specs.Valid.{Valid, least_left, OneReceiver, SendersOpen, ReadyAt}
-use Rattle.flow_model.specs.Runs.{Follows, NoneConnected, EndsForGood, HasRun, EndedGotAll}
+use Rattle.flow_model.specs.Runs.{Follows, NoneConnected, IsConnectedAt, EndsForGood, HasRun, EndedGotAll}
 use Rattle.flow_model.proofs.Lists.{slice_get-set_same, slice_get-set_other, same_or_not}
 use Rattle.flow_model.proofs.Inverse.{explains}
 use Rattle.flow_model.proofs.Order.{inputs-after}
@@ -36,8 +37,8 @@ use Rattle.flow_model.proofs.Ready.{sound-hands}
 use Rattle.flow_model.proofs.Schedules.{Valid-turn, Valid-settles, Valid-work, turns-after}
 use Rattle.flow_model.proofs.Start.{Valid-start}
 use Rattle.flow_model.proofs.Followings.{follows-event, follows-worked}
-use Rattle.flow_model.proofs.Exhausting.{IsDry, Exhausted, dry, taken, Waits, packet_waits, text_waits, not-both, hears-exhausted, starts-first, finishes-later, start-waits, start-finds, fresh-start, fresh-set, fresh-other, fresh-gone, fresh-apart, dry-after, some-after, finishes-all, all-dry}
-use Rattle.flow_model.proofs.Hearing.{heard-more, last-more, StartsKeep, starts-kept, starts-same, starts-more, wakes-more, starts-count, never-told}
+use Rattle.flow_model.proofs.Exhausting.{IsDry, Exhausted, dry, taken, Waits, packet_waits, text_waits, not-both, hears-exhausted, starts-first, finishes-later, start-brings, start-finds, fresh-start, fresh-set, fresh-other, fresh-gone, fresh-apart, dry-after, some-after, finishes-all, all-dry}
+use Rattle.flow_model.proofs.Hearing.{heard-more, last-more, StartsKeep, starts-kept, starts-same, starts-more, wakes-more, fresh_after, fresh-more, gives-more, starts-count, never-told}
 
 -- Whether anything was told to a process that stands there.
 abbrev Begun : {K : Type 0} → Process K → List Happening → Stage → Type 0
@@ -233,15 +234,25 @@ waits-after channels p x y e port inputs untaken fresh (text_waits text input f)
 not_got : (port i : ℕ) (t : Tree) → port ≢ i → content_got port (Received i t) ≡ []
 not_got port i t other = let z : nat_eq port i ≡ false = grind (arith, nat_tests) in rw z refl
 
--- What was got at an input with an initial text: nothing while it is fresh, then the text.
+-- What was told of an input with an initial text: each start gave it anew, and it is fresh where it is still to be got.
 abbrev TextIs : List Happening → ℕ → List ℕ → Bool → Type 0
-TextIs told port text fresh = (fresh ≡ true → got port told ≡ []) × (fresh ≡ false → told ≢ [] → got port told ≡ text_packet text ∷ [])
+TextIs told port text fresh = GivesText port text false told × (fresh_after port false told ≡ fresh)
 
-text-quiet : (told : List Happening) (h : Happening) (port : ℕ) (text : List ℕ) (fresh : Bool) → content_got port h ≡ [] → told ≢ [] → TextIs told port text fresh → TextIs (told ++ h ∷ []) port text fresh
-text-quiet told h port text fresh none some is = (λ f. same ∙ is.0 f, λ f _. same ∙ is.1 f some)
+text-more : (told : List Happening) (h : Happening) (port : ℕ) (text : List ℕ) (old fresh : Bool) → GivesText port text old (h ∷ []) → fresh_after port old (h ∷ []) ≡ fresh → TextIs told port text old → TextIs (told ++ h ∷ []) port text fresh
+text-more told h port text old fresh gives after is = (
+  gives-more port text false told h is.0 (subst (λ (b : Bool). GivesText port text b (h ∷ [])) (sym is.1) gives),
+  fresh-more port false told h ∙ ap (λ (b : Bool). fresh_after port b (h ∷ [])) is.1 ∙ after,
+)
+
+-- a packet at another input
+text-apart : (told : List Happening) (i : ℕ) (t : Tree) (port : ℕ) (text : List ℕ) (fresh : Bool) → port ≢ i → TextIs told port text fresh → TextIs (told ++ Received i t ∷ []) port text fresh
+text-apart told i t port text fresh apart is =
+    let z : nat_eq i port ≡ false = grind (arith, nat_tests) in
+    text-more told (Received i t) port text fresh fresh ((λ same. absurd (apart (sym same))), tt) (rw z (kept fresh)) is
   where
-    same : got port (told ++ h ∷ []) ≡ got port told
-    same = got-more port told h ∙ ap (λ ts. got port told ++ ts) none ∙ append-nil (got port told)
+    kept : (b : Bool) → (b && true) ≡ b
+    kept true = refl
+    kept false = refl
 
 -- What a process was told, at any moment.
 pub record Tells {K : Type 0} (ready : K → Held → Answer → Type 0) (next : K → Held → Answer → Outcome K → Type 0) (parts : List K) (channels : List Channel) (p : ℕ) (told : List Happening) (x : Process K) : Type 0 where
@@ -252,9 +263,9 @@ pub record Tells {K : Type 0} (ready : K → Held → Answer → Type 0) (next :
   pub few : length told ≤ x.turns
   pub ends : (port : ℕ) → EndsForGood x told port → HeardEnd port told → Exhausted channels x port
   pub last : (port : ℕ) → EndsForGood x told port → EndIsLast port told
-  pub brings : 0 < length x.inputs → StartsKeep (Waits channels x) (length x.inputs) told
+  pub brings : list_any is_connected x.inputs ≡ true → StartsKeep (Waits channels x) (IsConnectedAt x.inputs) told
   pub wakes : Wakes (length x.inputs) [] told
-  pub texts : starts told ≤ 1 → (port : ℕ) (text : List ℕ) → slice_get x.inputs port ≡ Some (Text text) → TextIs told port text (is_fresh x port)
+  pub texts : (port : ℕ) (text : List ℕ) → slice_get x.inputs port ≡ Some (Text text) → TextIs told port text (is_fresh x port)
   pub over : IsOverStage x.stage → (port c : ℕ) → slice_get x.inputs port ≡ Some (From c) → IsDry channels c
 
 module _ {K : Type 0} (ready : K → Held → Answer → Type 0) (next : K → Held → Answer → Outcome K → Type 0) (parts : List K) (kept : Kept K) (p : ℕ) (x : Process K) (n : ℕ) (there : slice_get kept.processes p ≡ Some x) (senders : SendersOpen kept)
@@ -324,17 +335,17 @@ module _ {K : Type 0} (ready : K → Held → Answer → Type 0) (next : K → H
       → ((text : List ℕ) → slice_get x.inputs port ≡ Some (Text text) → is_fresh x port ≡ true → is_fresh (process_after x e) port ≡ true) → Waits kept.channels x port → Waits (channels_after kept.channels p e) (process_after x e) port
   keeps-waits e port untaken fresh w = waits-after kept.channels p x (process_after x e) e port (inputs-after x e) untaken fresh w
 
-  brings-after : (told : List Happening) (e : Event) → event_of kept.channels x n ≡ Some e → 0 < length x.inputs → StartsKeep (Waits kept.channels x) (length x.inputs) told
-      → StartsKeep (Waits (channels_after kept.channels p e) (process_after x e)) (length x.inputs) (told ++ heard x e)
+  brings-after : (told : List Happening) (e : Event) → event_of kept.channels x n ≡ Some e → list_any is_connected x.inputs ≡ true → StartsKeep (Waits kept.channels x) (IsConnectedAt x.inputs) told
+      → StartsKeep (Waits (channels_after kept.channels p e) (process_after x e)) (IsConnectedAt x.inputs) (told ++ heard x e)
   brings-after told Starts is some k =
-      starts-more (Waits kept.channels x) (Waits kept.channels (process_after x Starts)) (length x.inputs) Started (λ port w h. h)
-      (λ port w. inr (keeps-waits Starts port (λ c i packet input h. cc) (λ text input f. fresh-start x.inputs port text input) w)) (λ _. start-waits kept.channels x n is some) told k
+      starts-more (Waits kept.channels x) (Waits kept.channels (process_after x Starts)) (IsConnectedAt x.inputs) Started (λ port w h. h)
+      (λ port w. inr (keeps-waits Starts port (λ c i packet input h. cc) (λ text input f. fresh-start x.inputs port text input) w)) (λ _. (let f = start-brings kept.channels x n is some in (f.port, (f.connection, f.input), packet_waits f.connection f.input f.some))) told k
   brings-after told Finishes is some k =
-      rw append-nil (starts-same (Waits kept.channels x) (Waits kept.channels (process_after x Finishes)) (length x.inputs) (λ port w. keeps-waits Finishes port (λ c i packet input h. cc) (λ text input f. f) w) told k)
+      rw append-nil (starts-same (Waits kept.channels x) (Waits kept.channels (process_after x Finishes)) (IsConnectedAt x.inputs) (λ port w. keeps-waits Finishes port (λ c i packet input h. cc) (λ text input f. f) w) told k)
   brings-after told (Gets i c packet) is some k =
       let from = explains kept.channels x n (Gets i c packet) is in
       let e = Gets i c packet in
-      starts-more (Waits kept.channels x) (Waits (channels_after kept.channels p e) (process_after x e)) (length x.inputs) (Received i packet) (λ port w h. h)
+      starts-more (Waits kept.channels x) (Waits (channels_after kept.channels p e) (process_after x e)) (IsConnectedAt x.inputs) (Received i packet) (λ port w h. h)
       (λ port w. elim (same_or_not i port) [
         | inl same ↦ inl same
         | inr other ↦ inr (keeps-waits e port
@@ -344,7 +355,7 @@ module _ {K : Type 0} (ready : K → Held → Answer → Type 0) (next : K → H
       (λ h. absurd h) told k
   brings-after told (Takes_text i text) is some k =
       let e = Takes_text i text in
-      starts-more (Waits kept.channels x) (Waits kept.channels (process_after x e)) (length x.inputs) (Received i (packet_of (next_id x.held) kinds.Normal text [])) (λ port w h. h)
+      starts-more (Waits kept.channels x) (Waits kept.channels (process_after x e)) (IsConnectedAt x.inputs) (Received i (packet_of (next_id x.held) kinds.Normal text [])) (λ port w h. h)
       (λ port w. elim (same_or_not i port) [
         | inl same ↦ inl same
         | inr other ↦ inr (keeps-waits e port (λ c j packet input h. cc) (λ t input f. fresh-other x.fresh i port (λ h. other (sym h)) f) w)
@@ -352,22 +363,22 @@ module _ {K : Type 0} (ready : K → Held → Answer → Type 0) (next : K → H
       (λ h. absurd h) told k
   brings-after told (Hears_end i) is some k =
       let e = Hears_end i in
-      starts-more (Waits kept.channels x) (Waits kept.channels (process_after x e)) (length x.inputs) (Ended i)
+      starts-more (Waits kept.channels x) (Waits kept.channels (process_after x e)) (IsConnectedAt x.inputs) (Ended i)
       (λ port w h. not-both kept.channels x i (hears-exhausted kept.channels x n i is) (subst (Waits kept.channels x) (sym h) w))
       (λ port w. inr (keeps-waits e port (λ c j packet input h. cc) (λ text input f. f) w)) (λ h. absurd h) told k
   brings-after told (Sends i c packet) is some k =
       let e = Sends i c packet in
-      starts-more (Waits kept.channels x) (Waits (channels_after kept.channels p e) (process_after x e)) (length x.inputs) (Sent i packet) (λ port w h. h)
+      starts-more (Waits kept.channels x) (Waits (channels_after kept.channels p e) (process_after x e)) (IsConnectedAt x.inputs) (Sent i packet) (λ port w h. h)
       (λ port w. inr (keeps-waits e port (λ c j t input h. cc) (λ text input f. f) w)) (λ h. absurd h) told k
   brings-after told (Learns i level) is some k =
       let e = Learns i level in
-      starts-more (Waits kept.channels x) (Waits kept.channels (process_after x e)) (length x.inputs) (Learned i level) (λ port w h. h)
+      starts-more (Waits kept.channels x) (Waits kept.channels (process_after x e)) (IsConnectedAt x.inputs) (Learned i level) (λ port w h. h)
       (λ port w. inr (keeps-waits e port (λ c j t input h. cc) (λ text input f. f) w)) (λ h. absurd h) told k
   brings-after told Sleeps is some k =
-      rw append-nil (starts-same (Waits kept.channels x) (Waits kept.channels (process_after x Sleeps)) (length x.inputs) (λ port w. keeps-waits Sleeps port (λ c i packet input h. cc) (λ text input f. f) w) told k)
+      rw append-nil (starts-same (Waits kept.channels x) (Waits kept.channels (process_after x Sleeps)) (IsConnectedAt x.inputs) (λ port w. keeps-waits Sleeps port (λ c i packet input h. cc) (λ text input f. f) w) told k)
   brings-after told (Closes o c) is some k =
       let e = Closes o c in
-      rw append-nil (starts-same (Waits kept.channels x) (Waits (channels_after kept.channels p e) (process_after x e)) (length x.inputs) (λ port w. keeps-waits e port (λ c i packet input h. cc) (λ text input f. f) w) told k)
+      rw append-nil (starts-same (Waits kept.channels x) (Waits (channels_after kept.channels p e) (process_after x e)) (IsConnectedAt x.inputs) (λ port w. keeps-waits e port (λ c i packet input h. cc) (λ text input f. f) w) told k)
 
   -- a start but the first finds an input at which a packet waits
   start-open : (told : List Happening) → event_of kept.channels x n ≡ Some Starts → Tells ready next parts kept.channels p told x → (told ≡ []) ⊎ ((port : ℕ) × (port < length x.inputs) × (HeardEnd port told → ⊥))
@@ -392,9 +403,6 @@ module _ {K : Type 0} (ready : K → Held → Answer → Type 0) (next : K → H
 
   wished : (told : List Happening) (wish : Wish) → x.stage ≡ stages.Wishing wish → Tells ready next parts kept.channels p told x → told ≢ []
   wished told wish at was = subst (Begun x told) at was.begun
-
-  less : (told : List Happening) (e : Event) → starts (told ++ heard x e) ≤ 1 → starts told ≤ 1
-  less told e few = omega (arith, starts-heard told x e)
 
   started-after : (told : List Happening) (e : Event) → event_of kept.channels x n ≡ Some e → Tells ready next parts kept.channels p told x → told ++ heard x e ≢ [] → 1 ≤ starts (told ++ heard x e)
   started-after told Starts is was some = omega (arith, starts-count told Started)
@@ -431,45 +439,33 @@ module _ {K : Type 0} (ready : K → Held → Answer → Type 0) (next : K → H
   once-after told Sleeps is was none = rw append-nil (was.once none)
   once-after told (Closes o c) is was none = rw append-nil (was.once none)
 
-  texts-after : (told : List Happening) (e : Event) → event_of kept.channels x n ≡ Some e → Tells ready next parts kept.channels p told x → starts (told ++ heard x e) ≤ 1 → (port : ℕ) (text : List ℕ) → slice_get x.inputs port ≡ Some (Text text)
-      → TextIs (told ++ heard x e) port text (is_fresh (process_after x e) port)
-  texts-after told Starts is was few port text input =
-      let empty : told ≡ [] = first-start told was.started few in
-      let fresh : is_fresh (process_after x Starts) port ≡ true = fresh-start x.inputs port text input in (
-        λ f. ap (λ (hs : List Happening). got port (hs ++ Started ∷ [])) empty,
-        λ f some. absurd (let h : true ≡ false = sym fresh ∙ f in cc),
-      )
-  texts-after told Finishes is was few port text input = rw append-nil (was.texts (less told Finishes few) port text input)
-  texts-after told (Gets i c packet) is was few port text input =
+  texts-after : (told : List Happening) (e : Event) → event_of kept.channels x n ≡ Some e → Tells ready next parts kept.channels p told x → (port : ℕ) (text : List ℕ) → slice_get x.inputs port ≡ Some (Text text) → TextIs (told ++ heard x e) port text (is_fresh (process_after x e) port)
+  texts-after told Starts is was port text input = text-more told Started port text (is_fresh x port) (is_fresh (process_after x Starts) port) tt (sym (fresh-start x.inputs port text input)) (was.texts port text input)
+  texts-after told Finishes is was port text input = rw append-nil (was.texts port text input)
+  texts-after told (Gets i c packet) is was port text input =
       let from = explains kept.channels x n (Gets i c packet) is in
-      let apart : port ≢ i = λ same. (let h : Some (Text text) ≡ Some (From c) = sym input ∙ ap (slice_get x.inputs) same ∙ from.input in cc) in
-      text-quiet told (Received i packet) port text (is_fresh x port) (not_got port i packet apart) (wished told (wishes.Receive from.wished) from.stage was) (was.texts (less told (Gets i c packet) few) port text input)
-  texts-after told (Takes_text i other) is was few port text input =
+      text-apart told i packet port text (is_fresh x port) (λ same. (let h : Some (Text text) ≡ Some (From c) = sym input ∙ ap (slice_get x.inputs) same ∙ from.input in cc)) (was.texts port text input)
+  texts-after told (Takes_text i other) is was port text input =
       let from = explains kept.channels x n (Takes_text i other) is in
       let packet = packet_of (next_id x.held) kinds.Normal other [] in
       elim (same_or_not port i) [
         | inl same ↦ (let h : Some (Text text) ≡ Some (Text other) = sym input ∙ ap (slice_get x.inputs) same ∙ from.input in
-            let words : text ≡ other = cc in
-            let before : got port told ≡ [] = (was.texts (less told (Takes_text i other) few) port text input).0 (ap (is_fresh x) same ∙ from.fresh) in
-            let t : nat_eq port i ≡ true = grind (arith, nat_tests) in
-            let now : content_got port (Received i packet) ≡ text_packet text ∷ [] = rw (t, words) refl in
-            let all : got port (told ++ Received i packet ∷ []) ≡ text_packet text ∷ [] = got-more port told (Received i packet) ∙ (λ j. before j ++ now j) in
+            let words : other ≡ text = cc in
+            let now : is_fresh x port ≡ true = ap (is_fresh x) same ∙ from.fresh in
+            let t : nat_eq i port ≡ true = grind (arith, nat_tests) in
             let gone : is_fresh (process_after x (Takes_text i other)) port ≡ false = ap (is_fresh (process_after x (Takes_text i other))) same ∙ fresh-gone x.fresh i in
-            ((λ f. absurd (let k : true ≡ false = sym f ∙ gone in cc)), (λ f some. all)))
-        | inr apart ↦ subst (TextIs (told ++ Received i packet ∷ []) port text) (sym (fresh-apart x.fresh i port apart))
-            (text-quiet told (Received i packet) port text (is_fresh x port) (not_got port i packet apart) (wished told (wishes.Receive from.wished) from.stage was) (was.texts (less told (Takes_text i other) few) port text input))
+            text-more told (Received i packet) port text (is_fresh x port) (is_fresh (process_after x (Takes_text i other)) port) ((λ _. (now, ap text_packet words)), tt) (rw (t, now) (sym gone)) (was.texts port text input))
+        | inr apart ↦ subst (TextIs (told ++ Received i packet ∷ []) port text) (sym (fresh-apart x.fresh i port apart)) (text-apart told i packet port text (is_fresh x port) apart (was.texts port text input))
       ]
-  texts-after told (Hears_end i) is was few port text input =
-      let from = explains kept.channels x n (Hears_end i) is in
-      text-quiet told (Ended i) port text (is_fresh x port) refl (wished told (wishes.Receive from.wished) from.stage was) (was.texts (less told (Hears_end i) few) port text input)
-  texts-after told (Sends i c packet) is was few port text input =
-      let to = explains kept.channels x n (Sends i c packet) is in
-      text-quiet told (Sent i packet) port text (is_fresh x port) refl (wished told (wishes.Send to.wished to.id) to.stage was) (was.texts (less told (Sends i c packet) few) port text input)
-  texts-after told (Learns i level) is was few port text input =
-      let at = explains kept.channels x n (Learns i level) is in
-      text-quiet told (Learned i level) port text (is_fresh x port) refl (wished told (wishes.Level at.wished) at.stage was) (was.texts (less told (Learns i level) few) port text input)
-  texts-after told Sleeps is was few port text input = rw append-nil (was.texts (less told Sleeps few) port text input)
-  texts-after told (Closes o c) is was few port text input = rw append-nil (was.texts (less told (Closes o c) few) port text input)
+  texts-after told (Hears_end i) is was port text input = text-more told (Ended i) port text (is_fresh x port) (is_fresh x port) ((λ same. over same (hears-exhausted kept.channels x n i is)), tt) refl (was.texts port text input)
+    where
+      over : i ≡ port → Exhausted kept.channels x i → is_fresh x port ≡ false
+      over same (dry c from h) = absurd (let k : Some (From c) ≡ Some (Text text) = sym from ∙ ap (slice_get x.inputs) same ∙ input in cc)
+      over same (taken other from f) = ap (is_fresh x) (sym same) ∙ f
+  texts-after told (Sends i c packet) is was port text input = text-more told (Sent i packet) port text (is_fresh x port) (is_fresh x port) tt refl (was.texts port text input)
+  texts-after told (Learns i level) is was port text input = text-more told (Learned i level) port text (is_fresh x port) (is_fresh x port) tt refl (was.texts port text input)
+  texts-after told Sleeps is was port text input = rw append-nil (was.texts port text input)
+  texts-after told (Closes o c) is was port text input = rw append-nil (was.texts port text input)
 
   over-after : (told : List Happening) (e : Event) → event_of kept.channels x n ≡ Some e → Tells ready next parts kept.channels p told x → IsOverStage (process_after x e).stage → (port c : ℕ) → slice_get x.inputs port ≡ Some (From c)
       → IsDry (channels_after kept.channels p e) c
@@ -488,13 +484,12 @@ module _ {K : Type 0} (ready : K → Held → Answer → Type 0) (next : K → H
         ends = ends-after told e is was;
         last = λ port good. last-after told e is was port (good-less told e port (good-before (told ++ heard x e) e port good));
         started = started-after told e is was;
-        once = λ none. once-after told e is was (subst (λ (is : List Input). Rattle.std.specs.List.list_any Rattle.flow_model.specs.Events.is_connected is ≡ false) inputs none);
+        once = λ none. once-after told e is was (subst (λ (is : List Input). list_any is_connected is ≡ false) inputs none);
         few = omega (arith, length-append told (heard x e), heard-one x e, turns-after x e, was.few);
-        brings = λ some.
-            subst (λ (m : ℕ). StartsKeep (Waits (channels_after kept.channels p e) (process_after x e)) m (told ++ heard x e)) (ap length (sym inputs))
-            (brings-after told e is (subst (λ (m : ℕ). 0 < m) (ap length inputs) some) (was.brings (subst (λ (m : ℕ). 0 < m) (ap length inputs) some)));
+        brings = λ some. (let before = subst (λ (is : List Input). list_any is_connected is ≡ true) inputs some in
+            subst (λ (is : List Input). StartsKeep (Waits (channels_after kept.channels p e) (process_after x e)) (IsConnectedAt is) (told ++ heard x e)) (sym inputs) (brings-after told e is before (was.brings before)));
         wakes = subst (λ (m : ℕ). Wakes m [] (told ++ heard x e)) (ap length (sym inputs)) (wakes-after told e is was);
-        texts = λ few port text input. texts-after told e is was few port text (ap (λ (is : List Input). slice_get is port) (sym inputs) ∙ input);
+        texts = λ port text input. texts-after told e is was port text (ap (λ (is : List Input). slice_get is port) (sym inputs) ∙ input);
         over = λ over port c input. over-after told e is was over port c (ap (λ (is : List Input). slice_get is port) (sym inputs) ∙ input);
       }
 
@@ -506,7 +501,7 @@ module _ {K : Type 0} (ready : K → Held → Answer → Type 0) (next : K → H
     begun = was.begun;
     ends = λ port good ended. still port (was.ends port good ended);
     last = was.last;
-    brings = λ some. starts-same (Waits kept.channels z) (Waits (channels_after kept.channels p e) z) (length z.inputs) (λ port w. waits-after kept.channels p z z e port refl (untaken port) (λ text input f. f) w) told (was.brings some);
+    brings = λ some. starts-same (Waits kept.channels z) (Waits (channels_after kept.channels p e) z) (IsConnectedAt z.inputs) (λ port w. waits-after kept.channels p z z e port refl (untaken port) (λ text input f. f) w) told (was.brings some);
     wakes = was.wakes;
     texts = was.texts;
     started = was.started;
@@ -567,7 +562,7 @@ Tells-worked {K} ready next parts channels p told x answer (Wishes part held wis
       begun = begun-judged y told x.depths held wish (subst (Begun x told) at was.begun);
       ends = λ port good ended. still port (was.ends port good ended);
       last = was.last;
-      brings = λ some. starts-same (Waits channels x) (Waits channels y) (length x.inputs) waits told (was.brings some);
+      brings = λ some. starts-same (Waits channels x) (Waits channels y) (IsConnectedAt x.inputs) waits told (was.brings some);
       wakes = was.wakes;
       texts = was.texts;
       started = was.started;
@@ -590,7 +585,7 @@ Tells-worked {K} ready next parts channels p told x answer (Fails part held caus
       begun = tt;
       ends = λ port good ended. still port (was.ends port good ended);
       last = was.last;
-      brings = λ some. starts-same (Waits channels x) (Waits channels y) (length x.inputs) waits told (was.brings some);
+      brings = λ some. starts-same (Waits channels x) (Waits channels y) (IsConnectedAt x.inputs) waits told (was.brings some);
       wakes = was.wakes;
       texts = was.texts;
       started = was.started;
@@ -641,6 +636,12 @@ begins plan p (x ∷ xs) (first ∷ parts) (suc k) z part is at =
     let n : p + 1 + k ≡ p + suc k = omega arith in
     (r.0, r.1 ∙ ap (λ (m : ℕ). process_at_start plan m r.0 part) n)
 
+-- no text is fresh
+none-fresh : (n port : ℕ) → unwrap_or (slice_get (replicate n false) port) false ≡ false
+none-fresh zero port = refl
+none-fresh (suc n) zero = refl
+none-fresh (suc n) (suc port) = none-fresh n port
+
 pub AllTell-start : {K : Type 0} (ready : K → Held → Answer → Type 0) (next : K → Held → Answer → Outcome K → Type 0) (plan : Plan) (parts : List K) → AllTell ready next parts (start_of plan parts)
 AllTell-start {K} ready next plan parts p x is = record {
   follows = λ part at. (let r = begins plan 0 plan.processes parts p x part is at in
@@ -652,7 +653,7 @@ AllTell-start {K} ready next plan parts p x is = record {
   last = λ port good. tt;
   brings = λ some. tt;
   wakes = tt;
-  texts = λ few port text input. ((λ f. refl), (λ f some. absurd (some refl)));
+  texts = λ port text input. (tt, (let start = Rattle.flow_model.proofs.Start.start-process plan parts p x is in sym (ap (λ (z : Process K). is_fresh z port) start.is ∙ none-fresh start.spec.inputs port)));
   started = λ some. absurd (some refl);
   once = λ none. omega arith;
   few = omega arith;
@@ -696,21 +697,13 @@ pub Tells-run : {K : Type 0} (ready : K → Held → Answer → Type 0) (next : 
 Tells-run ready next parts channels p told x part at most t = record {
   follows = t.follows part at;
   end_is_last = t.last;
-  starts_bring = λ some. starts-kept (Waits channels x) (length x.inputs) told (t.brings some);
+  starts_bring = λ some. starts-kept (Waits channels x) (IsConnectedAt x.inputs) told (t.brings some);
   wakes = t.wakes;
   once = t.once;
   few = omega (arith, t.few);
-  texts = λ few port text input ended. by few port text input ended (t.ends port (inr few) ended);
+  texts = λ port text input. (t.texts port text input).0;
   has_run = λ none ended. subst (Begun x told) ended t.begun none;
 }
-  where
-    heard-some : (port : ℕ) (hs : List Happening) → HeardEnd port hs → hs ≢ []
-    heard-some port [] h is = h
-    heard-some port (e ∷ hs) h is = cc
-
-    by : starts told ≤ 1 → (port : ℕ) (text : List ℕ) → slice_get x.inputs port ≡ Some (Text text) → HeardEnd port told → Exhausted channels x port → got port told ≡ text_packet text ∷ []
-    by none port text input ended (dry c from h) = absurd (let k : Some (From c) ≡ Some (Text text) = sym from ∙ input in cc)
-    by none port text input ended (taken other from f) = (t.texts none port text input).1 f (heard-some port told ended)
 
 -- a process that has ended got all that was put
 pub got-all : {K : Type 0} (ready : K → Held → Answer → Type 0) (next : K → Held → Answer → Outcome K → Type 0) (parts : List K) (s : State K) → InOrder s → AllTell ready next parts s → EndedGotAll s

@@ -1,6 +1,6 @@
 -- What each process was told is a run of its component, and what the machine adds to that: an end that was heard stands, a start on
 -- an input brings something, and a process that nothing can wake has run before it ends. (This project's own.)
-use Rattle.std.specs.Prelude.{◌≡◌, ◌≢◌, ◌⊎◌, ℕ, ◌<◌, ◌≤◌, false, Bool, List, [], ◌∷◌, ◌++◌, length, Some, slice_get}
+use Rattle.std.specs.Prelude.{◌≡◌, ◌≢◌, ◌⊎◌, ℕ, ◌≤◌, true, false, Bool, List, [], ◌∷◌, ◌++◌, length, Some, slice_get}
 use Rattle.std.specs.List.{list_any}
 use Rattle.flow_packet.specs.Held.{Held}
 use Rattle.flow_component.specs.declared.Answer.{Answer}
@@ -9,10 +9,10 @@ use Rattle.flow_component.specs.declared.Wish.TheVariants as wishes
 use Rattle.flow_component.specs.declared.Shape.{Shape}
 use Rattle.flow_component.specs.Laws.{Outcome}
 use Rattle.flow_component.specs.Happenings.{Happening, answer_of}
-use Rattle.flow_component.specs.Runs.{Poise, fresh, Grants, Runs, EndIsLast, StartsBring, Wakes, HeardEnd, got, text_packet, starts}
+use Rattle.flow_component.specs.Runs.{Poise, fresh, Grants, Runs, EndIsLast, StartsBring, GivesText, Wakes, starts}
 use Rattle.flow_model.specs.declared.Stage.{Stage}
 use Rattle.flow_model.specs.declared.Stage.TheVariants as stages
-use Rattle.flow_model.specs.States.{From, Text, Process, State, got_at}
+use Rattle.flow_model.specs.States.{Input, From, Text, Process, State, got_at}
 use Rattle.flow_model.specs.Events.{is_connected}
 use Rattle.flow_model.specs.Turns.{turn_limit}
 use Rattle.flow_model.specs.Schedules.{Journal, Leads, Step, Reaches}
@@ -48,10 +48,14 @@ Follows ready next start told x (stages.Failed cause) = Unit {0}
 abbrev pub NoneConnected : {K : Type 0} → Process K → Type 0
 NoneConnected x = list_any is_connected x.inputs ≡ false
 
+-- These inputs are connected.
+abbrev pub IsConnectedAt : List Input → ℕ → Type 0
+IsConnectedAt inputs port = (c : ℕ) × (slice_get inputs port ≡ Some (From c))
+
 -- What ends at this input ends for good: it is connected, or the process was started once at most. (An initial text is fresh again
 -- after each start.)
 abbrev pub EndsForGood : {K : Type 0} → Process K → List Happening → ℕ → Type 0
-EndsForGood x told port = ((c : ℕ) × (slice_get x.inputs port ≡ Some (From c))) ⊎ (starts told ≤ 1)
+EndsForGood x told port = IsConnectedAt x.inputs port ⊎ (starts told ≤ 1)
 
 -- What process p, which began with this component, was told, and how it stands by it.
 pub record HasRun {K : Type 0} (ready : K → Held → Answer → Type 0) (next : K → Held → Answer → Outcome K → Type 0) (part : K) (p : ℕ) (told : List Happening) (x : Process K) : Type 0 where
@@ -59,12 +63,12 @@ pub record HasRun {K : Type 0} (ready : K → Held → Answer → Type 0) (next 
   pub follows : Follows ready next (fresh part p) told x x.stage
   -- after the end of an input nothing comes there
   pub end_is_last : (port : ℕ) → EndsForGood x told port → EndIsLast port told
-  -- where it has inputs, each start brings something at one of them before its end
-  pub starts_bring : 0 < length x.inputs → StartsBring (length x.inputs) told
+  -- where an input is connected, each start brings something at a connected input before its end
+  pub starts_bring : list_any is_connected x.inputs ≡ true → StartsBring (IsConnectedAt x.inputs) told
   -- each start but the first finds an input whose end wasn't heard
   pub wakes : Wakes (length x.inputs) [] told
-  -- where it was started once at most, it got the text of each input whose end it heard, and nothing else there
-  pub texts : starts told ≤ 1 → (port : ℕ) (text : List ℕ) → slice_get x.inputs port ≡ Some (Text text) → HeardEnd port told → got port told ≡ text_packet text ∷ []
+  -- an input with a text gives it anew after each start, once
+  pub texts : (port : ℕ) (text : List ℕ) → slice_get x.inputs port ≡ Some (Text text) → GivesText port text false told
   -- where no input is connected it was started once at most
   pub once : NoneConnected x → starts told ≤ 1
   -- it was told no more than it may make turns

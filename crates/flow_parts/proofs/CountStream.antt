@@ -7,7 +7,6 @@ use Rattle.flow_packet.specs.declared.packet.Kind.TheVariants.{Normal, Open, Clo
 use Rattle.flow_packet.specs.Tree.{Tree, content, id_of, kind_of}
 use Rattle.flow_packet.specs.Hands.{packet_at, kind_at}
 use Rattle.flow_packet.specs.Held.{Held, next_id, with_made}
-use Rattle.flow_component.specs.declared.Wish.{Wish}
 use Rattle.flow_component.specs.declared.Wish.TheVariants as wishes
 use Rattle.flow_component.specs.Laws.{Wishes}
 use Rattle.flow_component.specs.Ports.{receive_first, send_first}
@@ -15,6 +14,8 @@ use Rattle.flow_component.specs.Happenings.{Happening, Started, Received, Ended,
 use Rattle.flow_component.specs.Runs.{Poise, fresh, Steps, Runs, got, sent, content_got, content_sent, text_packet, HeardEnd, IsEnd, BringsFirst, Wakes}
 use Rattle.flow_component.proofs.Lone.{HoldsOnly-kind, HoldsOnly-end}
 use Rattle.flow_component.proofs.Streams.{Comes-packets, contents_in, made_at, one-alone, content-kind}
+use Rattle.flow_component.proofs.Ends.{heard-now, heard-later}
+use Rattle.flow_component.proofs.Wished.{port_of, id_in}
 use Rattle.flow_parts.specs.Count.{CountState, one_more, passes_on, goes_on, CountNext, CountReady}
 use Rattle.flow_parts.specs.Meanings.{fresh_count, normal_one, normals, IsCounted, CountMeaning}
 
@@ -36,15 +37,6 @@ brought (Sent port t ∷ es) b (inl h) n = h
 brought (Sent port t ∷ es) b (inr h) n = brought es b h n
 brought (Learned port level ∷ es) b (inl h) n = h
 brought (Learned port level ∷ es) b (inr h) n = brought es b h n
-
-heard-now : (es : List Happening) (e : Happening) → IsEnd 0 e → HeardEnd 0 (es ++ e ∷ [])
-heard-now [] e h = inl h
-heard-now (f ∷ es) e h = inr (heard-now es e h)
-
-heard-later : (es : List Happening) (e : Happening) → HeardEnd 0 es → HeardEnd 0 (es ++ e ∷ [])
-heard-later [] e h = absurd h
-heard-later (f ∷ es) e (inl h) = inl h
-heard-later (f ∷ es) e (inr h) = inr (heard-later es e h)
 
 -- where it stands between two answers
 data Phase : Type 0 where
@@ -74,18 +66,6 @@ Leads c n Receiving es = Makes c n [] es
 Leads c n (Passing t) es = Makes c n (content t ∷ []) es
 Leads c n (Leaving id) es = (got 0 es ≡ []) × (sent 0 es ≡ []) × (sent 1 es ≡ text_packet (decimal n) ∷ [])
 Leads c n Over es = es ≡ []
-
-abbrev port_of : Wish → ℕ
-port_of (wishes.Receive port) = port.0
-port_of (wishes.Send port id) = port.0
-port_of (wishes.Level port) = port.0
-port_of wishes.Deactivate = 0
-
-abbrev id_in : Wish → ℕ
-id_in (wishes.Receive port) = 0
-id_in (wishes.Send port id) = id
-id_in (wishes.Level port) = 0
-id_in wishes.Deactivate = 0
 
 counted-one : (kind : Kind) (n : ℕ) → n < 8388608 → one_more kind n ≡ n + normal_one kind
 counted-one Normal n l = omega arith
@@ -163,7 +143,7 @@ step c n es before p m q (Ended port) Receiving st s r w few rec =
     let hands : m.held ≡ with_made s.held Normal (decimal n) = cc in
     let wish : m.wish ≡ wishes.Send (record { 0 = 1 }) (next_id s.held) = cc in
     let made : contents_in (packet_at m.held.packets (next_id s.held)) ≡ text_packet (decimal n) ∷ [] = ap (λ (h : Held). contents_in (packet_at h.packets (next_id s.held))) hands ∙ made_at s.held (decimal n) s.is_ready.1 in
-    let l = rec n (before ++ Ended port ∷ []) m (Leaving (next_id s.held)) (wish, part, made, heard-now before (Ended port) port_is) r w.1 (omega arith) in
+    let l = rec n (before ++ Ended port ∷ []) m (Leaving (next_id s.held)) (wish, part, made, heard-now 0 before (Ended port) port_is) r w.1 (omega arith) in
     let zero : n ≡ n + 0 = omega arith in
     record {
       heard = inl port_is;
@@ -207,7 +187,7 @@ step c n es before p m q (Sent port t) (Leaving id) st s r w few rec =
     let found : content t ∷ [] ≡ text_packet (decimal n) ∷ [] = sym (ap contents_in (ap (packet_at p.held.packets) (sym id_is) ∙ s.grants.1)) ∙ st.2 in
     let comes : Wishes m.part m.held m.wish ≡ Wishes (at_number c n false) s.held wishes.Deactivate = s.comes_to ∙ ap (λ (state : CountState). goes_on state.leaving state s.held) st.1 in
     let wish : m.wish ≡ wishes.Deactivate = cc in
-    let over : es ≡ [] = rec n (before ++ Sent port t ∷ []) m Over (wish, heard-later before (Sent port t) st.3) r w.1 (omega arith) in
+    let over : es ≡ [] = rec n (before ++ Sent port t ∷ []) m Over (wish, heard-later 0 before (Sent port t) st.3) r w.1 (omega arith) in
     rw over (refl, rw z refl, rw y found)
 step c n es before p m q (Learned port level) (Leaving id) st s r w few rec = absurd s.is_ready
 step c n es before p m q Started Over st s r w few rec = absurd (elim (w.0 tt) [ inl none ↦ subst (HeardEnd 0) none st.1 | inr at ↦ (let z : at.0 ≡ 0 = (let l = at.1 in omega arith) in at.2 (subst (λ (i : ℕ). HeardEnd i before) (sym z) st.1)) ])
@@ -226,17 +206,14 @@ count_run : (c : Bool) (es : List Happening) (q : Poise CountState) → q.wish �
 count_run c [] q d n before p phase st r w few = ends c n before p q phase st r d
 count_run c (e ∷ es) q d n before p phase st r w few = step c n es before p r.0 q e phase st r.1 r.2 w few (count_run c es q d)
 
-zero_below : (port : ℕ) → port < 1 → port ≡ 0
-zero_below port l = omega arith
-
-begun : (c : Bool) (e : Happening) (es : List Happening) (p m q : Poise CountState) → p ≡ fresh (fresh_count c) p.held.maker → Step p e m → Runs CountReady CountNext m es q → q.wish ≡ wishes.Deactivate → Rattle.flow_component.specs.Runs.StartsBring 1 (e ∷ es) → Wakes 1 [] (e ∷ es)
+begun : (c : Bool) (e : Happening) (es : List Happening) (p m q : Poise CountState) → p ≡ fresh (fresh_count c) p.held.maker → Step p e m → Runs CountReady CountNext m es q → q.wish ≡ wishes.Deactivate → Rattle.flow_component.specs.Runs.StartsBring (λ port. port ≡ 0) (e ∷ es) → Wakes 1 [] (e ∷ es)
     → length (e ∷ es) ≤ 8388608 → IsCounted c (got 0 (e ∷ es)) (sent 0 (e ∷ es)) (sent 1 (e ∷ es))
 begun c Started es p m q is s r d brings w few =
     let comes : Wishes m.part m.held m.wish ≡ Wishes (fresh_count c) s.held receive_first = s.comes_to ∙ ap (λ (u : Poise CountState). Wishes u.part s.held receive_first) is in
     let part : m.part ≡ fresh_count c = cc in
     let wish : m.wish ≡ receive_first = cc in
     let made : Makes c 0 [] es = count_run c es q d 0 (Started ∷ []) m Receiving (wish, part) r w.1 (omega arith) in
-    let first : BringsFirst 0 es = subst (λ (i : ℕ). BringsFirst i es) (zero_below brings.0.0 brings.0.1) brings.0.2 in
+    let first : BringsFirst 0 es = subst (λ (i : ℕ). BringsFirst i es) brings.0.1 brings.0.2 in
     record {
       passed = made.passed;
       silent = made.silent;

@@ -81,7 +81,7 @@ pub record IsCounted (connected : Bool) (x y count : List Tree) : Type 0 where
   pub counted : x ≢ [] → count ≡ text_packet (decimal (normals x)) ∷ []
 
 abbrev pub CountMeaning : Type 0
-CountMeaning = (connected : Bool) (told : List Happening) → EndedRun CountReady CountNext (fresh_count connected) told → StartsBring 1 told → Wakes 1 [] told → length told ≤ 8388608
+CountMeaning = (connected : Bool) (told : List Happening) → EndedRun CountReady CountNext (fresh_count connected) told → StartsBring (λ port. port ≡ 0) told → Wakes 1 [] told → length told ≤ 8388608
     → IsCounted connected (got 0 told) (sent 0 told) (sent 1 told)
 
 -- A packet, or the bracket that its text names, with the rest of the text.

@@ -7,7 +7,6 @@ use Rattle.flow_packet.specs.declared.packet.Kind.TheVariants.{Normal, Open, Clo
 use Rattle.flow_packet.specs.Tree.{Tree, node, Chain, Chains, no_chains, chain, Trees, no_trees, tree, from_chains, to_chains, from_trees, to_trees, content, content_of_chains, content_of_trees, attach_to, id_of, kind_of, text_of, packet_of}
 use Rattle.flow_packet.specs.Hands.{packet_at, text_at, kind_at, without, attached, height_at}
 use Rattle.flow_packet.specs.Held.{Held, next_id, without_packet, with_made}
-use Rattle.flow_component.specs.declared.Wish.{Wish}
 use Rattle.flow_component.specs.declared.Wish.TheVariants as wishes
 use Rattle.flow_component.specs.declared.Fail.TheVariants.{TreeDepth}
 use Rattle.flow_component.specs.Laws.{Wishes, Fails}
@@ -17,6 +16,7 @@ use Rattle.flow_component.specs.Happenings.{Happening, Started, Received, Ended,
 use Rattle.flow_component.specs.Runs.{Poise, fresh, Steps, Runs, got, sent}
 use Rattle.flow_component.proofs.Lone.{HoldsOnly-kind, HoldsOnly-text, HoldsOnly-end}
 use Rattle.flow_component.proofs.Streams.{Comes-packets, content-kind, content-text, one-alone}
+use Rattle.flow_component.proofs.Wished.{port_of, id_in}
 use Rattle.flow_streams.specs.Bundle.{items, deeper, begins, gathers, ends_bundle, bundles, BundleNext, BundleReady, HoldsTwo}
 use Rattle.flow_streams.specs.BundleLaws.{renewed, two-gone, two-gathered}
 use Rattle.flow_streams.specs.declared.bundle.Bundle.{Bundle}
@@ -85,18 +85,6 @@ Leads (Passing t) es = sent 0 es ≡ content t ∷ bundled Outside (got 0 es)
 
 abbrev Rec : List Happening → Poise Bundle → Type 0
 Rec es q = (p : Poise Bundle) (phase : Phase) → Stands p phase → Runs BundleReady BundleNext p es q → Leads phase es
-
-abbrev port_of : Wish → ℕ
-port_of (wishes.Receive port) = port.0
-port_of (wishes.Send port id) = port.0
-port_of (wishes.Level port) = port.0
-port_of wishes.Deactivate = 0
-
-abbrev id_in : Wish → ℕ
-id_in (wishes.Receive port) = 0
-id_in (wishes.Send port id) = id
-id_in (wishes.Level port) = 0
-id_in wishes.Deactivate = 0
 
 rests-port : (p : Poise Bundle) (port : ℕ) → Rests p → p.wish ≡ wishes.Receive (record { 0 = port }) → port ≡ 0
 rests-port p port (inl a) b = ap port_of (sym b ∙ a)

@@ -12,15 +12,16 @@ use Rattle.flow_packet.specs.declared.packet.Kind.TheVariants.{Normal, Open, Clo
 use Rattle.flow_packet.specs.Tree.{Tree, content, id_of, text_of, packet_of}
 use Rattle.flow_packet.specs.Hands.{packet_at, without, kind_at}
 use Rattle.flow_packet.specs.Held.{Held, Sound, next_id, with_made, without_packet}
-use Rattle.flow_component.specs.declared.Wish.{Wish}
 use Rattle.flow_component.specs.declared.Wish.TheVariants as wishes
 use Rattle.flow_component.specs.Laws.{Outcome, Wishes}
 use Rattle.flow_component.specs.Ports.{send_first}
 use Rattle.flow_component.specs.Happenings.{Happening, Started, Received, Ended, Sent, Learned}
-use Rattle.flow_component.specs.Runs.{Poise, fresh, Steps, Runs, got, sent, HeardEnd, IsEnd, Wakes, starts}
+use Rattle.flow_component.specs.Runs.{Poise, fresh, Steps, Runs, got, sent, HeardEnd, Wakes, starts}
 use Rattle.flow_component.proofs.Roots.{same_id}
 use Rattle.flow_component.proofs.Several.{Sound-new, made-left, packet_at-last}
 use Rattle.flow_component.proofs.Streams.{Comes-packets, content-text}
+use Rattle.flow_component.proofs.Ends.{heard-now, heard-later}
+use Rattle.flow_component.proofs.Wished.{port_of, id_in}
 use Rattle.flow_streams.specs.declared.collate.CollatePlace.{CollatePlace}
 use Rattle.flow_streams.specs.declared.collate.CollatePlace.TheVariants.{Filling, Refilling, Turning, Leaving}
 use Rattle.flow_streams.specs.CollateState.{CollateState}
@@ -32,15 +33,6 @@ use Rattle.flow_streams.specs.Meanings.{fresh_collate, CollateMeaning}
 use Rattle.flow_streams.proofs.Levels.{full, no-level, opens-cut, bracketed-same, cut-cut}
 use Rattle.flow_streams.proofs.Merging.{first-least, merge-first, merge-none, listed-same}
 use Rattle.flow_streams.proofs.Seats.{NotIn, Distinct, seated, NotIn-push, NotIn-pushed, Distinct-push, NotIn-remove, Distinct-remove, NotIn-at, NotIn-taken, NotIn-left, seated-none, seated-push, seated-pushed, seated-at, seated-remove, Place, found_in, without-there, found-there}
-
-heard-now : (i : ℕ) (es : List Happening) (e : Happening) → IsEnd i e → HeardEnd i (es ++ e ∷ [])
-heard-now i [] e h = inl h
-heard-now i (f ∷ es) e h = inr (heard-now i es e h)
-
-heard-later : (i : ℕ) (es : List Happening) (e : Happening) → HeardEnd i es → HeardEnd i (es ++ e ∷ [])
-heard-later i [] e h = absurd h
-heard-later i (f ∷ es) e (inl h) = inl h
-heard-later i (f ∷ es) e (inr h) = inr (heard-later i es e h)
 
 got-skip : (i k : ℕ) (t : Tree) (es : List Happening) → i ≢ k → got i (Received k t ∷ es) ≡ got i es
 got-skip i k t es other = let z : nat_eq i k ≡ false = grind (arith, nat_tests) in rw z refl
@@ -442,18 +434,6 @@ comes-normal : (m : Poise CollateState) (state : CollateState) (held : Held) (ki
 comes-normal m state held Normal is = is
 comes-normal m state held Open is = absurd (cc)
 comes-normal m state held Close is = absurd (cc)
-
-abbrev port_of : Wish → ℕ
-port_of (wishes.Receive port) = port.0
-port_of (wishes.Send port id) = port.0
-port_of (wishes.Level port) = port.0
-port_of wishes.Deactivate = 0
-
-abbrev id_in : Wish → ℕ
-id_in (wishes.Receive port) = 0
-id_in (wishes.Send port id) = id
-id_in (wishes.Level port) = 0
-id_in wishes.Deactivate = 0
 
 begun : (before : List Happening) (e : Happening) → before ++ e ∷ [] ≢ []
 begun [] e = λ h. cc

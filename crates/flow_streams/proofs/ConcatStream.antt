@@ -4,25 +4,17 @@ use Rattle.std.proofs.lemmas.Bool.Decides.{nat_tests}
 use Rattle.flow_packet.specs.Tree.{Tree, content, id_of}
 use Rattle.flow_packet.specs.Hands.{packet_at}
 use Rattle.flow_packet.specs.Held.{Held}
-use Rattle.flow_component.specs.declared.Wish.{Wish}
 use Rattle.flow_component.specs.declared.Wish.TheVariants as wishes
 use Rattle.flow_component.specs.Laws.{Wishes}
 use Rattle.flow_component.specs.Ports.{send_first}
 use Rattle.flow_component.specs.Happenings.{Happening, Started, Received, Ended, Sent, Learned}
-use Rattle.flow_component.specs.Runs.{Poise, fresh, Steps, Runs, got, sent, HeardEnd, IsEnd, Wakes, starts}
+use Rattle.flow_component.specs.Runs.{Poise, fresh, Steps, Runs, got, sent, HeardEnd, Wakes, starts}
 use Rattle.flow_component.proofs.Lone.{HoldsOnly-end}
 use Rattle.flow_component.proofs.Streams.{Comes-packets, one-alone}
+use Rattle.flow_component.proofs.Ends.{heard-now, heard-later}
+use Rattle.flow_component.proofs.Wished.{port_of, id_in}
 use Rattle.flow_streams.specs.Concat.{ConcatState, receive_at, ends, ConcatNext, ConcatReady}
 use Rattle.flow_streams.specs.Meanings.{fresh_concat, got_from, ConcatMeaning}
-
-heard-now : (i : ℕ) (es : List Happening) (e : Happening) → IsEnd i e → HeardEnd i (es ++ e ∷ [])
-heard-now i [] e h = inl h
-heard-now i (f ∷ es) e h = inr (heard-now i es e h)
-
-heard-later : (i : ℕ) (es : List Happening) (e : Happening) → HeardEnd i es → HeardEnd i (es ++ e ∷ [])
-heard-later i [] e h = absurd h
-heard-later i (f ∷ es) e (inl h) = inl h
-heard-later i (f ∷ es) e (inr h) = inr (heard-later i es e h)
 
 -- a happening that brings nothing at these inputs
 got-skip : (i k : ℕ) (t : Tree) (es : List Happening) → i ≢ k → got i (Received k t ∷ es) ≡ got i es
@@ -72,18 +64,6 @@ abbrev Leads : ℕ → ℕ → Phase → List Happening → Type 0
 Leads k r Receiving es = Makes k r [] es
 Leads k r (Passing t) es = Makes k r (content t ∷ []) es
 Leads k r Over es = es ≡ []
-
-abbrev port_of : Wish → ℕ
-port_of (wishes.Receive port) = port.0
-port_of (wishes.Send port id) = port.0
-port_of (wishes.Level port) = port.0
-port_of wishes.Deactivate = 0
-
-abbrev id_in : Wish → ℕ
-id_in (wishes.Receive port) = 0
-id_in (wishes.Send port id) = id
-id_in (wishes.Level port) = 0
-id_in wishes.Deactivate = 0
 
 abbrev Step : Poise ConcatState → Happening → Poise ConcatState → Type 0
 Step p e m = Steps ConcatReady ConcatNext p e m

@@ -11,3 +11,4 @@ pub mod Silence
 pub mod UnbundleStream
 pub mod LoadStream
 pub mod BundleStream
+pub mod SelectStream

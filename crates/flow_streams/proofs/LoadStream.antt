@@ -14,6 +14,7 @@ use Rattle.flow_component.specs.Happenings.{Happening, Started, Received, Ended,
 use Rattle.flow_component.specs.Runs.{Poise, fresh, Steps, Runs, content_sent, got, sent}
 use Rattle.flow_component.proofs.Lone.{HoldsOnly-kind, HoldsOnly-end}
 use Rattle.flow_component.proofs.Streams.{Comes-packets, contents_in, content-kind, port_below_one, flat_map-append}
+use Rattle.flow_component.proofs.Wished.{port_of, id_in}
 use Rattle.flow_streams.specs.declared.load_balance.LoadPlace.{LoadPlace}
 use Rattle.flow_streams.specs.declared.load_balance.LoadPlace.TheVariants.{Waiting, Asking}
 use Rattle.flow_streams.specs.LoadBalance.{LoadState, send_at, level_at, depth_after, no_level, comes_at, comes, asks_on, weighs, learns, load_next, LoadNext, LoadReady}
@@ -78,18 +79,6 @@ Step p e m = Steps LoadReady LoadNext p e m
 -- what is known of the rest of a run
 abbrev Rec : ℕ → List Happening → Poise LoadState → Type 0
 Rec n es q = (p : Poise LoadState) (phase : Phase) → Stands n p phase → Runs LoadReady LoadNext p es q → Leads n p phase es
-
-abbrev port_of : Wish → ℕ
-port_of (wishes.Receive port) = port.0
-port_of (wishes.Send port id) = port.0
-port_of (wishes.Level port) = port.0
-port_of wishes.Deactivate = 0
-
-abbrev id_in : Wish → ℕ
-id_in (wishes.Receive port) = 0
-id_in (wishes.Send port id) = id
-id_in (wishes.Level port) = 0
-id_in wishes.Deactivate = 0
 
 -- it rests as before
 same-rest : (n : ℕ) (es : List Happening) (p m q : Poise LoadState) → p.part.count ≡ n → m.part ≡ p.part → (m.wish ≡ receive_first) ⊎ (m.wish ≡ wishes.Deactivate) → Runs LoadReady LoadNext m es q → Rec n es q → Leads n p Resting es

@@ -20,6 +20,7 @@ pub mod UnbundleLaws
 pub mod Unbundled
 pub mod Split
 pub mod Bundled
+pub mod Selected
 pub mod Meanings
 pub mod LoadBalance
 pub mod LoadBalanceLaws

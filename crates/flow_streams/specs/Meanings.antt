@@ -1,10 +1,10 @@
 -- What the components make of their streams, from their first state to their end. (The exact rules are this project's own.)
-use Rattle.std.specs.Prelude.{◌≡◌, ◌≢◌, ℕ, zero, suc, ◌+◌, ◌<◌, ◌≤◌, false, List, [], ◌++◌, length, map, nat_lt, if◌then◌else◌}
+use Rattle.std.specs.Prelude.{◌≡◌, ◌≢◌, ℕ, zero, suc, ◌+◌, ◌<◌, ◌≤◌, Bool, true, false, max, replicate, List, [], ◌++◌, length, map, nat_lt, if◌then◌else◌}
 use Rattle.std.specs.List.{flat_map}
 use Rattle.flow_packet.specs.Tree.{Tree, packet_of, kind_of, text_of}
 use Rattle.flow_component.specs.Happenings.{Happening}
 use Rattle.flow_component.specs.Outcomes.{IsAtHand}
-use Rattle.flow_component.specs.Runs.{EndedRun, got, sent, Wakes, HeardEnd, starts}
+use Rattle.flow_component.specs.Runs.{EndedRun, EndIsLast, got, sent, Wakes, HeardEnd, StartsBring, GivesText, text_packet, starts}
 use Rattle.flow_streams.specs.declared.copy.CopyPlace.TheVariants.{Waiting}
 use Rattle.flow_streams.specs.Copy.{CopyState, CopyNext, CopyReady}
 use Rattle.flow_streams.specs.Concat.{ConcatState, ConcatNext, ConcatReady}
@@ -24,6 +24,9 @@ use Rattle.flow_streams.specs.Passthru.{PassthruNext}
 use Rattle.flow_streams.specs.declared.unbundle.Unbundle.TheVariants as unbundles
 use Rattle.flow_streams.specs.Unbundle.{UnbundleNext, UnbundleReady}
 use Rattle.flow_streams.specs.Unbundled.{unbundled}
+use Rattle.flow_streams.specs.declared.select.SelectPlace.TheVariants as selects
+use Rattle.flow_streams.specs.Select.{SelectState, SelectNext, SelectReady}
+use Rattle.flow_streams.specs.Selected.{IsSelected}
 
 -- A Passthru sends what it gets.
 abbrev pub PassthruMeaning : Type 0 → Type 0
@@ -92,3 +95,26 @@ LoadBalanceMeaning = (n : ℕ) (told : List Happening) → EndedRun LoadReady Lo
 -- A Bundle sends what it gets, with each substream replaced by its bundle.
 abbrev pub BundleMeaning : Type 0
 BundleMeaning = (told : List Happening) → EndedRun BundleReady BundleNext bundles.Outside told → sent 0 told ≡ bundled Outside (got 0 told)
+
+-- A Select at its start.
+abbrev pub fresh_select : Bool → SelectState
+fresh_select rejects = record { rejects = rejects; place = selects.Waiting }
+
+-- A Select whose inputs end for good makes of what it gets its selection.
+abbrev pub SelectMeaning : Type 0
+SelectMeaning = (rejects : Bool) (told : List Happening) → EndedRun SelectReady SelectNext (fresh_select rejects) told → EndIsLast 0 told → EndIsLast 1 told
+    → IsSelected rejects (got 0 told) (got 1 told) (sent 0 told) (sent 1 told)
+
+-- Where each start gives a text anew at one of its inputs, it gets that once in each activation, and nothing behind an end.
+abbrev pub SelectTakesTexts : Type 0
+SelectTakesTexts = (rejects : Bool) (told : List Happening) → EndedRun SelectReady SelectNext (fresh_select rejects) told → (port : ℕ) (text : List ℕ) → port < 2 → GivesText port text false told
+    → (got port told ≡ replicate (starts told) (text_packet text)) × EndIsLast port told
+
+-- How many packets came at an input, where it is one of these.
+abbrev pub count_among : (ℕ → Bool) → ℕ → List Happening → ℕ
+count_among among port told = if among port then length (got port told) else 0
+
+-- Where each activation brings something at one of some inputs, which end for good, there are as many activations as packets at the one of these that has the most.
+abbrev pub SelectStarts : Type 0
+SelectStarts = (rejects : Bool) (told : List Happening) → EndedRun SelectReady SelectNext (fresh_select rejects) told → (among : ℕ → Bool) → StartsBring (λ port. (port < 2) × (among port ≡ true)) told
+    → ((port : ℕ) → among port ≡ true → EndIsLast port told) → starts told ≡ max (count_among among 0 told) (count_among among 1 told)

@@ -28,7 +28,8 @@ used rejects port = if port == 1 then rejects else port == 0
 abbrev Lawful : Bool → Held → Outcome SelectState → Type 0
 Lawful rejects held outcome = Obeys select_shape (used rejects) held outcome × StaysReady SelectReady outcome
 
-first-gone : (x y : Tree) → without (x ∷ y ∷ []) (id_of x) ≡ y ∷ []
+-- of two packets the first is taken away
+pub first-gone : (x y : Tree) → without (x ∷ y ∷ []) (id_of x) ≡ y ∷ []
 first-gone x y = let s = same_id (id_of x) in rw s refl
 
 -- once the key has gone, the packet is alone

@@ -26,7 +26,8 @@ pub use load_balance::{LoadBalance, LoadPlace};
 pub use meanings::{
     bundle_keeps_its_meaning, collate_keeps_its_meaning, concat_keeps_its_meaning,
     copy_keeps_its_meaning, discard_keeps_its_meaning, hoard_keeps_its_meaning,
-    load_balance_keeps_its_meaning, passthru_keeps_its_meaning, unbundle_keeps_its_meaning,
+    load_balance_keeps_its_meaning, passthru_keeps_its_meaning, select_keeps_its_meaning,
+    unbundle_keeps_its_meaning,
 };
 pub use outcomes::each_comes_to_one_outcome;
 pub use passthru::Passthru;

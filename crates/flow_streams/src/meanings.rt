@@ -1,5 +1,5 @@
 //! What the components make of their streams: each law is the contract of a function that does nothing.
-ghost use Rattle.flow_streams.specs.Meanings.{BundleMeaning, CollateMeaning, ConcatMeaning, CopyMeaning, DiscardMeaning, HoardMeaning, LoadBalanceMeaning, PassthruMeaning, UnbundleMeaning};
+ghost use Rattle.flow_streams.specs.Meanings.{BundleMeaning, CollateMeaning, ConcatMeaning, CopyMeaning, DiscardMeaning, HoardMeaning, LoadBalanceMeaning, PassthruMeaning, SelectMeaning, SelectStarts, SelectTakesTexts, UnbundleMeaning};
 ghost use Rattle.flow_streams.specs.declared.discard.Discard.{Discard};
 ghost use Rattle.flow_streams.specs.declared.hoard.Hoard.{Hoard};
 ghost use Rattle.flow_streams.specs.declared.passthru.Passthru.{Passthru};
@@ -49,4 +49,13 @@ pub fn load_balance_keeps_its_meaning()
 /// What a Bundle has sent is what it got, with each substream replaced by its bundle.
 pub fn bundle_keeps_its_meaning()
     ensures { BundleMeaning }
+{}
+
+/// What a Select has sent is the selection of what it got: each packet by the key of its number, and rejected where there is none any
+/// more. A text that each start gives anew it gets once an activation, and it was activated as often as the longest of the streams
+/// that wake it has packets.
+pub fn select_keeps_its_meaning()
+    ensures selection { SelectMeaning }
+    ensures texts { SelectTakesTexts }
+    ensures activations { SelectStarts }
 {}
