@@ -1,17 +1,10 @@
 -- The files of a run that finished are what its network means.
-use Rattle.std.proofs.Common.{inl, inr, ℕ, ◌≤◌, ◌==◌, List, length, sym, ◌∙◌, subst, refl, arith}
-use Rattle.std.proofs.lemmas.List.{length-map}
-use Rattle.std.specs.List.{slice_split}
-use Rattle.std.proofs.lemmas.List.Splits.{length-slice_split}
-use Rattle.flow_text.specs.Text.{number_of}
+use Rattle.std.proofs.Common.{inl, inr, ℕ, List, ◌∙◌, subst, arith}
 use Rattle.std.specs.Prelude.{String}
 use Rattle.std.specs.declared.alloc.Global.{Global}
 use Rattle.flow_text.specs.Edge.{Outside}
 use Rattle.flow_plan.specs.Network.{Network}
 use Rattle.flow_catalogue.specs.declared.standard.Std.{Std}
-use Rattle.flow_catalogue.specs.declared.table.StdKind.{StdKind}
-use Rattle.flow_catalogue.specs.declared.table.StdKind.TheVariants as kinds
-use Rattle.flow_catalogue.specs.Processes.{IsMade, Given, fields_of, first_part}
 use Rattle.flow_catalogue.specs.Std.{std_shape, std_uses, StdReady}
 use Rattle.flow_model.specs.States.{State}
 use Rattle.flow_model.specs.Verdicts.{IsFinished}
@@ -19,8 +12,8 @@ use Rattle.flow_ready.specs.Ready.{StartsPlans}
 use Rattle.flow_report.specs.declared.report.Verdict.{Verdict}
 use Rattle.flow_report.specs.declared.report.Verdict.TheVariants.{Finished, FinishedLeft, Deadlock, Failed, Running}
 use Rattle.flow_report.specs.States.{IsVerdict}
-use Rattle.flow_meanings.specs.Means.{IsFirst}
 use Rattle.flow_meanings.specs.Composition.{AreFirst, FinishedComposes, wrote_in}
+use Rattle.flow_meanings.proofs.Every.{made-first}
 use Rattle.flow_cli.specs.Parts.{AreParts}
 use Rattle.flow_cli.specs.After.{Prints, verdict_status}
 use Rattle.flow_cli.specs.Runs.{machine_journal}
@@ -37,33 +30,8 @@ finished-of s Deadlock is e = absurd (grind arith)
 finished-of s Failed is e = absurd (grind arith)
 finished-of s Running is e = absurd (grind arith)
 
--- a text of fields has one at least
-some-fields : (text : List ℕ) → 1 ≤ length (fields_of text)
-some-fields text = omega (arith, length-map (slice_split (λ b. b == 32) text) number_of, length-slice_split (λ b. b == 32) text)
-
-first-first : (kind : StdKind) (given : Given) (bytes : List ℕ) → IsFirst (first_part kind given bytes)
-first-first kinds.ReadLines given bytes = tt
-first-first kinds.WriteLines given bytes = refl
-first-first kinds.Passthru given bytes = tt
-first-first kinds.Words given bytes = refl
-first-first kinds.Fill given bytes = (_, refl)
-first-first kinds.Brackets given bytes = tt
-first-first kinds.Copy given bytes = refl
-first-first kinds.Concat given bytes = refl
-first-first kinds.Collate given bytes = (some-fields given.option, refl)
-first-first kinds.Discard given bytes = tt
-first-first kinds.Bundle given bytes = refl
-first-first kinds.Unbundle given bytes = refl
-first-first kinds.Hoard given bytes = tt
-first-first kinds.Count given bytes = refl
-first-first kinds.LoadBalance given bytes = refl
-first-first kinds.Select given bytes = refl
-
-made-first : (plan : Network) (p : ℕ) (part : Std) (process : _) (bytes : List ℕ) → IsMade plan p process bytes part → IsFirst part
-made-first plan p part process bytes made = subst IsFirst (sym made.is) (first-first made.kind _ bytes)
-
 are-first : (told : _) (plan : Network) (ks : List Std) → AreParts told plan ks → AreFirst ks
-are-first told plan ks are p part at = let is = are.each p part at in made-first plan p part is.process is.bytes is.made
+are-first told plan ks are p part at = let is = are.each p part at in made-first plan p is.process is.bytes part is.made
 
 -- with the laws of plans and of meanings, a run that finished left what its network means
 pub meant : StartsPlans std_shape std_uses StdReady → FinishedComposes → (o n po pn : Outside) (words : List (String Global)) (ending : Ending) (status : ℕ)

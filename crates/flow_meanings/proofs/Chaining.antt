@@ -1,6 +1,7 @@
 -- Networks without merges.
-use Rattle.std.proofs.Common.{◌≡◌, ℕ, zero, suc, ◌+◌, ◌<◌, List, [], ◌∷◌, map, filter, length, Some, None, Option, refl, sym, ap, ◌∙◌, subst, Bool, true, false, slice_get, get_or, arith, nat_eq, ◌||◌, not}
-use Rattle.std.specs.Fmt.{decimal}
+use Rattle.std.proofs.Common.{◌≡◌, ℕ, zero, suc, ◌+◌, ◌<◌, ◌≤◌, List, [], ◌∷◌, map, filter, length, Some, None, Option, refl, sym, ap, ◌∙◌, subst, Bool, true, false, slice_get, get_or, arith, nat_eq, ◌||◌}
+use Rattle.std.specs.Prelude.{replicate}
+use Rattle.std.proofs.lemmas.List.{length-map}
 use Rattle.std.specs.List.{flat_map, list_any}
 use Rattle.std.proofs.lemmas.List.Quantifiers.{position-Some}
 use Rattle.std.proofs.lemmas.Option.{slice_get_within}
@@ -8,31 +9,27 @@ use Rattle.std.proofs.lemmas.Bool.Decides.{nat_tests}
 use Rattle.flow_packet.specs.Tree.{Tree}
 use Rattle.flow_parts.specs.Filling.{Filling}
 use Rattle.flow_component.specs.Runs.{text_packet}
-use Rattle.flow_parts.specs.Meanings.{rendered_all, words_of, bracketed, IsCounted, normals}
-use Rattle.flow_streams.specs.Meanings.{share}
-use Rattle.flow_streams.specs.Collated.{collation}
-use Rattle.flow_streams.specs.Bundled as bundling
-use Rattle.flow_streams.specs.Bundled.{bundled}
-use Rattle.flow_streams.specs.Unbundled.{unbundled}
-use Rattle.flow_parts.proofs.OneFilling.{one_filling}
+use Rattle.flow_parts.specs.Meanings.{rendered_all, words_of}
 use Rattle.flow_catalogue.specs.declared.standard.Std.{Std}
 use Rattle.flow_catalogue.specs.declared.standard.Std.TheVariants as parts
 use Rattle.flow_catalogue.specs.Std.{std_shape, std_uses, StdReady, StdNext}
 use Rattle.flow_model.specs.States.{Input, From, is_sender}
 use Rattle.flow_plan.specs.declared.plan.Sender.{Sender}
-use Rattle.flow_model.specs.Events.{is_connected, is_empty}
 use Rattle.flow_model.proofs.Start.{port-at}
 use Rattle.flow_model.specs.Plans.{sends_at, receives_at, input_at, connected_or, text_at, process_at_start, StartsWell}
 use Rattle.flow_plan.specs.Network.{Network as Plan}
 use Rattle.flow_plan.specs.declared.plan.Process.{Process as PlanProcess}
 use Rattle.flow_plan.specs.declared.plan.Connection.{Connection as PlanConnection}
 use Rattle.flow_model.proofs.Senders.{both-true}
-use Rattle.flow_meanings.specs.Means.{Means}
-use Rattle.flow_meanings.specs.Composition.{Sending, brings, is_woken, inputs_of, arriving, leaving, Composes, wrote_in}
+use Rattle.flow_meanings.specs.Meaning.{greatest, activations}
+use Rattle.flow_meanings.specs.Means.{is_looper}
+use Rattle.flow_meanings.specs.Composition.{Sending, coming, activated, inputs_of, arriving, leaving, Composes, wrote_in}
 use Rattle.flow_model.specs.Rising.{LeadsOn}
 use Rattle.flow_model.proofs.Rising.{finished-leads_on}
-use Rattle.flow_meanings.specs.Chains.{RunsPart, LeadsTo, TelegramMeans, IsSettled, AreSettled, IsUnmerged, OneOutcome, SameFiles}
-use Rattle.flow_meanings.proofs.Composing.{start-there, length-ports, joined-same, listed-same, finished-composes}
+use Rattle.flow_meanings.specs.Chains.{RunsPart, LeadsTo, TelegramMeans}
+use Rattle.flow_meanings.specs.Outcomes.{AreSettled, IsUnmerged, OneOutcome, SameFiles, MergesAndBalancesNothing, PlanSameFiles}
+use Rattle.flow_meanings.proofs.Every.{facts-of, parts-first, made-settled}
+use Rattle.flow_meanings.proofs.Composing.{start-there, length-ports, finished-composes}
 
 filter-all : {A : Type 0} (test : A → Bool) (xs : List A) → ((k : ℕ) (x : A) → slice_get xs k ≡ Some x → test x ≡ true) → filter test xs ≡ xs
 filter-all test [] all = refl
@@ -54,10 +51,10 @@ own-stream plan ks wrote m p o c sends alone =
     (λ k s is. (let who = alone s.sender.process s.sender.output (m.senders c k s is) in same-sender p o s.sender who.0 who.1)))
 
 -- what leaves output 0 of p arrives at input 0 of q
-led : (plan : Plan) (ks : List Std) (wrote : ℕ → List ℕ) (m : Composes plan ks wrote) (p q : ℕ) (x : PlanProcess) → LeadsTo plan p q
-    → arriving m.on (is_woken m.on (inputs_of plan q x)) (input_at plan q x 0) ≡ leaving m.on (record { process = p; output = 0 }) (sends_at plan p 0)
-led plan ks wrote m p q x l =
-    ap (λ (found : Option ℕ). arriving m.on (is_woken m.on (inputs_of plan q x)) (connected_or (text_at x.initials 0) found)) l.receives ∙ sym (own-stream plan ks wrote m p 0 l.connection l.sends l.alone)
+led : (plan : Plan) (ks : List Std) (wrote : ℕ → List ℕ) (m : Composes plan ks wrote) (p q n : ℕ) (x : PlanProcess) → LeadsTo plan p q
+    → arriving m.on n (input_at plan q x 0) ≡ leaving m.on (record { process = p; output = 0 }) (sends_at plan p 0)
+led plan ks wrote m p q n x l =
+    ap (λ (found : Option ℕ). arriving m.on n (connected_or (text_at x.initials 0) found)) l.receives ∙ sym (own-stream plan ks wrote m p 0 l.connection l.sends l.alone)
 
 pub telegram-means : TelegramMeans
 telegram-means plan ks wrote a b c d lines size m is =
@@ -65,56 +62,15 @@ telegram-means plan ks wrote a b c d lines size m is =
     let split = m.each b is.splitter.process (parts.Words _) is.splitter.there is.splitter.here in
     let fills = m.each c is.filler.process (parts.Fill _) is.filler.there is.filler.here in
     let writes = m.each d is.writer.process (parts.WriteLines []) is.writer.there is.writer.here in
-    let x1 = led plan ks wrote m a b is.splitter.process is.to_splitter ∙ read in
+    let x1 = led plan ks wrote m a b _ is.splitter.process is.to_splitter ∙ read in
     let y1 = split ∙ ap (λ (ts : List Tree). flat_map words_of ts) x1 in
-    let x2 = led plan ks wrote m b c is.filler.process is.to_filler ∙ y1 in
+    let x2 = led plan ks wrote m b c _ is.filler.process is.to_filler ∙ y1 in
     let z = leaving m.on (record { process = c; output = 0 }) (sends_at plan c 0) in
-    (z, subst (λ (ts : List Tree). Filling size ts z) x2 fills, writes ∙ ap rendered_all (led plan ks wrote m c d is.writer.process is.to_writer))
+    (z, subst (λ (ts : List Tree). Filling size ts z) x2 fills, writes ∙ ap rendered_all (led plan ks wrote m c d _ is.writer.process is.to_writer))
 
--- the number that a Count sends follows from its stream
-counted-same : (connected : Bool) (x x' y y' n n' : List Tree) → IsCounted connected x y n → IsCounted connected x' y' n' → x ≡ x' → n ≡ n'
-counted-same connected [] x' y y' n n' m k e = m.nothing refl ∙ sym (k.nothing (sym e))
-counted-same connected (t ∷ ts) x' y y' n n' m k e =
-    m.counted (λ h. cc) ∙ ap (λ (us : List Tree). text_packet (decimal (normals us)) ∷ []) e ∙ sym (k.counted (λ h. (let z : t ∷ ts ≡ [] = e ∙ h in cc)))
-
--- and what it passes on
-passed-same : (connected : Bool) (x x' y y' n n' : List Tree) → IsCounted connected x y n → IsCounted connected x' y' n' → x ≡ x' → y ≡ y'
-passed-same true x x' y y' n n' m k e = m.passed refl ∙ e ∙ sym (k.passed refl)
-passed-same false x x' y y' n n' m k e = m.silent refl ∙ sym (k.silent refl)
-
--- a meaning gives one stream at each output
-one-stream : (part : Std) (w w' : List ℕ) (x x' y y' : ℕ → List Tree) → IsSettled part → ((i : ℕ) → x i ≡ x' i) → Means part w x y → Means part w' x' y' → (o : ℕ) → o < (std_shape part).outputs → y o ≡ y' o
-one-stream (parts.ReadLines left) w w' x x' y y' s ins m n zero l = m ∙ sym n
-one-stream (parts.ReadLines left) w w' x x' y y' s ins m n (suc o) l = absurd (omega arith)
-one-stream (parts.WriteLines bytes) w w' x x' y y' s ins m n o l = absurd (omega arith)
-one-stream (parts.Words part) w w' x x' y y' s ins m n zero l = m ∙ ap (λ (ts : List Tree). flat_map words_of ts) (ins 0) ∙ sym n
-one-stream (parts.Words part) w w' x x' y y' s ins m n (suc o) l = absurd (omega arith)
-one-stream (parts.Fill state) w w' x x' y y' s ins m n zero l = one_filling state.size (x' 0) (y 0) (y' 0) (subst (λ (ts : List Tree). Filling state.size ts (y 0)) (ins 0) m) n
-one-stream (parts.Fill state) w w' x x' y y' s ins m n (suc o) l = absurd (omega arith)
-one-stream (parts.Brackets part) w w' x x' y y' s ins m n zero l = m ∙ ap (λ (ts : List Tree). map bracketed ts) (ins 0) ∙ sym n
-one-stream (parts.Brackets part) w w' x x' y y' s ins m n (suc o) l = absurd (omega arith)
-one-stream (parts.Passthru part) w w' x x' y y' s ins m n zero l = m ∙ ins 0 ∙ sym n
-one-stream (parts.Passthru part) w w' x x' y y' s ins m n (suc o) l = absurd (omega arith)
-one-stream (parts.Copy state) w w' x x' y y' s ins m n o l = m o l ∙ ap (λ (ts : List Tree). map (share state.count o) ts) (ins 0) ∙ sym (n o l)
-one-stream (parts.Concat state) w w' x x' y y' s ins m n zero l = m ∙ joined-same 0 state.count x x' (λ i below. ins i) ∙ sym n
-one-stream (parts.Concat state) w w' x x' y y' s ins m n (suc o) l = absurd (omega arith)
-one-stream (parts.Collate state) w w' x x' y y' s ins m n zero l = m ∙ ap (collation state.fields) (listed-same 0 state.elements x x' (λ i below. ins i)) ∙ sym n
-one-stream (parts.Collate state) w w' x x' y y' s ins m n (suc o) l = absurd (omega arith)
-one-stream (parts.Discard part) w w' x x' y y' s ins m n o l = absurd (omega arith)
-one-stream (parts.Bundle part) w w' x x' y y' s ins m n zero l = m ∙ ap (bundled bundling.Outside) (ins 0) ∙ sym n
-one-stream (parts.Bundle part) w w' x x' y y' s ins m n (suc o) l = absurd (omega arith)
-one-stream (parts.Unbundle part) w w' x x' y y' s ins m n zero l = m ∙ ap (λ (ts : List Tree). flat_map unbundled ts) (ins 0) ∙ sym n
-one-stream (parts.Unbundle part) w w' x x' y y' s ins m n (suc o) l = absurd (omega arith)
-one-stream (parts.Hoard part) w w' x x' y y' s ins m n o l = absurd (omega arith)
-one-stream (parts.Count state) w w' x x' y y' s ins m n zero l = passed-same state.connected (x 0) (x' 0) (y 0) (y' 0) (y 1) (y' 1) m n (ins 0)
-one-stream (parts.Count state) w w' x x' y y' s ins m n (suc zero) l = counted-same state.connected (x 0) (x' 0) (y 0) (y' 0) (y 1) (y' 1) m n (ins 0)
-one-stream (parts.Count state) w w' x x' y y' s ins m n (suc (suc o)) l = absurd (omega arith)
-one-stream (parts.LoadBalance state) w w' x x' y y' s ins m n o l = absurd s
-one-stream (parts.Select state) w w' x x' y y' s ins m n o l = absurd s
-
-any-same : (f g : Input → Bool) (inputs : List Input) → ((i : ℕ) (input : Input) → slice_get inputs i ≡ Some input → f input ≡ g input) → list_any f inputs ≡ list_any g inputs
-any-same f g [] same = refl
-any-same f g (x ∷ inputs) same = λ j. same 0 x refl j || any-same f g inputs (λ i input at. same (suc i) input at) j
+map-same : {A B : Type 0} (f g : A → B) (xs : List A) → ((i : ℕ) (x : A) → slice_get xs i ≡ Some x → f x ≡ g x) → map f xs ≡ map g xs
+map-same f g [] same = refl
+map-same f g (x ∷ xs) same = λ j. same 0 x refl j ∷ map-same f g xs (λ i y at. same (suc i) y at) j
 
 get-there : {A : Type 0} (xs : List A) (c : ℕ) (d : A) → c < length xs → slice_get xs c ≡ Some (get_or xs c d)
 get-there [] c d l = absurd (omega arith)
@@ -155,8 +111,9 @@ module _ (plan : Plan) (ks : List Std) (wrote other : ℕ → List ℕ) (well : 
   abbrev Same : ℕ → Type 0
   Same c = map (λ (sending : Sending). sending.content) (m.on c) ≡ map (λ (sending : Sending). sending.content) (n.on c)
 
+  -- what arrives at a process of a lower rank, whatever it runs, is the same
   abbrev Before : ℕ → Type 0
-  Before fuel = (p : ℕ) (y : PlanProcess) (j : ℕ) → order.rank p < fuel → arriving m.on (is_woken m.on (inputs_of plan p y)) (input_at plan p y j) ≡ arriving n.on (is_woken n.on (inputs_of plan p y)) (input_at plan p y j)
+  Before fuel = (p : ℕ) (y : PlanProcess) (part : Std) (j : ℕ) → order.rank p < fuel → arriving m.on (activated part m.on (inputs_of plan p y)) (input_at plan p y j) ≡ arriving n.on (activated part n.on (inputs_of plan p y)) (input_at plan p y j)
 
   -- where someone sends there
   same-sent : (fuel q i c : ℕ) → order.rank q < suc fuel → receives_at plan q i ≡ Some c → Before fuel → (sender : Sender) → sends_at plan sender.process sender.output ≡ Some c → Same c
@@ -167,9 +124,9 @@ module _ (plan : Plan) (ks : List Std) (wrote other : ℕ → List ℕ) (well : 
       let runs = f.1 in
       let below : order.rank p < fuel = (let r = order.rises p o q i c sends is in omega arith) in
       let alone : (r s : ℕ) → sends_at plan r s ≡ Some c → (r ≡ p) × (s ≡ o) = λ r s at. unmerged c r s p o at sends in
-      let one = one-stream f.0 (wrote p) (other p) (λ j. arriving m.on (is_woken m.on (inputs_of plan p runs.process)) (input_at plan p runs.process j)) (λ j. arriving n.on (is_woken n.on (inputs_of plan p runs.process)) (input_at plan p runs.process j))
-      (λ k. leaving m.on (record { process = p; output = k }) (sends_at plan p k)) (λ k. leaving n.on (record { process = p; output = k }) (sends_at plan p k)) (settled p f.0 runs.here) (λ j. rest p runs.process j below) (m.each p runs.process f.0 runs.there runs.here)
-      (n.each p runs.process f.0 runs.there runs.here) o f.2 in
+      let one = (facts-of f.0).settles (settled p f.0 runs.here) (wrote p) (other p) (λ j. arriving m.on (activated f.0 m.on (inputs_of plan p runs.process)) (input_at plan p runs.process j))
+      (λ j. arriving n.on (activated f.0 n.on (inputs_of plan p runs.process)) (input_at plan p runs.process j)) (λ k. leaving m.on (record { process = p; output = k }) (sends_at plan p k))
+      (λ k. leaving n.on (record { process = p; output = k }) (sends_at plan p k)) (λ j. rest p runs.process f.0 j below) (m.each p runs.process f.0 runs.there runs.here) (n.each p runs.process f.0 runs.there runs.here) o f.2 in
       sym (own-stream plan ks wrote m p o c sends alone) ∙ one ∙ own-stream plan ks other n p o c sends alone
 
   same-on : (fuel q i c : ℕ) → order.rank q < suc fuel → receives_at plan q i ≡ Some c → Before fuel → (a b : List Sending) → m.on c ≡ a → n.on c ≡ b → Same c
@@ -177,44 +134,76 @@ module _ (plan : Plan) (ks : List Std) (wrote other : ℕ → List ℕ) (well : 
   same-on fuel q i c less is rest [] (s ∷ ss) a b = same-sent fuel q i c less is rest s.sender (n.senders c 0 s (ap (λ (l : List Sending). slice_get l 0) b))
   same-on fuel q i c less is rest (s ∷ ss) bs a b = same-sent fuel q i c less is rest s.sender (m.senders c 0 s (ap (λ (l : List Sending). slice_get l 0) a))
 
-  -- whether something arrives is seen from what arrives
-  same-brings : (c : ℕ) → Same c → brings m.on (From c) ≡ brings n.on (From c)
-  same-brings c same = sym (emptied (m.on c)) ∙ ap (λ (ts : List Tree). not (is_empty ts)) same ∙ emptied (n.on c)
-    where
-      emptied : (l : List Sending) → not (is_empty (map (λ (sending : Sending). sending.content) l)) ≡ not (is_empty l)
-      emptied [] = refl
-      emptied (x ∷ l) = refl
+  -- as much comes by a connection
+  same-coming : (c : ℕ) → Same c → coming m.on (From c) ≡ coming n.on (From c)
+  same-coming c same =
+      let e : length (m.on c) ≡ length (n.on c) = sym (length-map (m.on c) (λ (sending : Sending). sending.content)) ∙ ap length same ∙ length-map (n.on c) (λ (sending : Sending). sending.content) in
+      ap (λ (k : ℕ). Some k) e
 
-  same-woken : (fuel q : ℕ) (x : PlanProcess) → order.rank q < suc fuel → Before fuel → is_woken m.on (inputs_of plan q x) ≡ is_woken n.on (inputs_of plan q x)
-  same-woken fuel q x less rest =
-      ap (λ b. not (list_any is_connected (inputs_of plan q x)) || b) (any-same (brings m.on) (brings n.on) (inputs_of plan q x) (λ i input at. one i input (receives_at plan q i) refl (port-at (input_at plan q x) 0 x.inputs i input at)))
+  -- so a process is activated as often
+  same-times : (fuel q : ℕ) (x : PlanProcess) (part : Std) → order.rank q < suc fuel → Before fuel → activated part m.on (inputs_of plan q x) ≡ activated part n.on (inputs_of plan q x)
+  same-times fuel q x part less rest =
+      ap (λ (ns : List (Option ℕ)). activations (is_looper part) (greatest ns)) (map-same (coming m.on) (coming n.on) (inputs_of plan q x) (λ i input at. one i input (receives_at plan q i) refl (port-at (input_at plan q x) 0 x.inputs i input at)))
     where
-      at-input : (i : ℕ) (found : Option ℕ) → receives_at plan q i ≡ found → brings m.on (connected_or (text_at x.initials i) found) ≡ brings n.on (connected_or (text_at x.initials i) found)
+      at-input : (i : ℕ) (found : Option ℕ) → receives_at plan q i ≡ found → coming m.on (connected_or (text_at x.initials i) found) ≡ coming n.on (connected_or (text_at x.initials i) found)
       at-input i None is = refl
-      at-input i (Some c) is = same-brings c (same-on fuel q i c less is rest (m.on c) (n.on c) refl refl)
+      at-input i (Some c) is = same-coming c (same-on fuel q i c less is rest (m.on c) (n.on c) refl refl)
 
-      one : (i : ℕ) (input : Input) (found : Option ℕ) → receives_at plan q i ≡ found → input_at plan q x (0 + i) ≡ input → brings m.on input ≡ brings n.on input
+      one : (i : ℕ) (input : Input) (found : Option ℕ) → receives_at plan q i ≡ found → input_at plan q x (0 + i) ≡ input → coming m.on input ≡ coming n.on input
       one i input found is at =
           let e : 0 + i ≡ i = omega arith in
           let here : connected_or (text_at x.initials i) found ≡ input = ap (connected_or (text_at x.initials i)) (sym is) ∙ ap (input_at plan q x) (sym e) ∙ at in
-          ap (brings m.on) (sym here) ∙ at-input i found is ∙ ap (brings n.on) here
+          ap (coming m.on) (sym here) ∙ at-input i found is ∙ ap (coming n.on) here
 
-  same-input : (fuel q : ℕ) (x : PlanProcess) (i : ℕ) → order.rank q < fuel → arriving m.on (is_woken m.on (inputs_of plan q x)) (input_at plan q x i) ≡ arriving n.on (is_woken n.on (inputs_of plan q x)) (input_at plan q x i)
-  same-input zero q x i less = absurd (omega arith)
-  same-input (suc fuel) q x i less = by (receives_at plan q i) refl (λ p y j below. same-input fuel p y j below)
+  same-input : (fuel q : ℕ) (x : PlanProcess) (part : Std) (i : ℕ) → order.rank q < fuel → arriving m.on (activated part m.on (inputs_of plan q x)) (input_at plan q x i) ≡ arriving n.on (activated part n.on (inputs_of plan q x)) (input_at plan q x i)
+  same-input zero q x part i less = absurd (omega arith)
+  same-input (suc fuel) q x part i less = by (receives_at plan q i) refl (λ p y k j below. same-input fuel p y k j below)
     where
       by : (found : Option ℕ) → receives_at plan q i ≡ found → Before fuel
-          → arriving m.on (is_woken m.on (inputs_of plan q x)) (connected_or (text_at x.initials i) found) ≡ arriving n.on (is_woken n.on (inputs_of plan q x)) (connected_or (text_at x.initials i) found)
-      by None is rest = ap (λ (b : Bool). arriving m.on b (connected_or (text_at x.initials i) None)) (same-woken fuel q x less rest)
+          → arriving m.on (activated part m.on (inputs_of plan q x)) (connected_or (text_at x.initials i) found) ≡ arriving n.on (activated part n.on (inputs_of plan q x)) (connected_or (text_at x.initials i) found)
+      by None is rest = ap (λ (k : ℕ). replicate k (text_packet (text_at x.initials i))) (same-times fuel q x part less rest)
       by (Some c) is rest = same-on fuel q i c less is rest (m.on c) (n.on c) refl refl
 
 pub one-outcome : OneOutcome
 one-outcome plan ks wrote other well settled unmerged order m n p bytes runs =
     let a = m.each p runs.process (parts.WriteLines bytes) runs.there runs.here in
     let b = n.each p runs.process (parts.WriteLines bytes) runs.there runs.here in
-    a ∙ ap rendered_all (same-input plan ks wrote other well settled unmerged order m n (suc (order.rank p)) p runs.process 0 (omega arith)) ∙ sym b
+    a ∙ ap rendered_all (same-input plan ks wrote other well settled unmerged order m n (suc (order.rank p)) p runs.process (parts.WriteLines bytes) 0 (omega arith)) ∙ sym b
 
 pub same-files : SameFiles
 same-files plan ks journal other s t well first settled unmerged leads finished leads' finished' p bytes runs =
     let order = finished-leads_on std_shape std_uses StdReady StdNext plan ks journal s well leads finished in
     one-outcome plan ks (wrote_in s) (wrote_in t) well settled unmerged order (finished-composes plan ks journal s well first leads finished) (finished-composes plan ks other t well first leads' finished') p bytes runs
+
+-- A plan that merges and balances nothing
+
+only-one : {A : Type 0} (xs : List A) (i j : ℕ) (x y : A) → length xs ≤ 1 → slice_get xs i ≡ Some x → slice_get xs j ≡ Some y → x ≡ y
+only-one [] i j x y l a b = absurd (cc)
+only-one (z ∷ []) zero zero x y l a b = cc
+only-one (z ∷ []) zero (suc j) x y l a b = absurd (cc)
+only-one (z ∷ []) (suc i) j x y l a b = absurd (cc)
+only-one (z ∷ w ∷ xs) i j x y l a b = absurd (omega arith)
+
+-- an output that sends to a connection is among its senders
+among : (plan : Plan) (p o c : ℕ) → sends_at plan p o ≡ Some c → (x : PlanConnection) × (k : ℕ) × (sender : Sender) × (slice_get plan.connections c ≡ Some x) × (slice_get x.senders k ≡ Some sender) × (sender.process ≡ p) × (sender.output ≡ o)
+among plan p o c sends =
+    let sender : Sender = record { process = p; output = o } in
+    let pos = position-Some (λ (x : PlanConnection). list_any (is_sender sender) x.senders) plan.connections c no_connection sends in
+    let x = get_or plan.connections c no_connection in
+    let at = any-there (is_sender sender) x.senders pos.1 in
+    let who = both-true p at.1.process o at.1.output at.3 in
+    (x, at.0, at.1, get-there plan.connections c no_connection pos.0, at.2, sym who.0, sym who.1)
+
+pub unmerged-plan : (plan : Plan) → MergesAndBalancesNothing plan → IsUnmerged plan
+unmerged-plan plan none c p o q r one two =
+    let a = among plan p o c one in
+    let b = among plan q r c two in
+    let same : a.0 ≡ b.0 = (let h : Some a.0 ≡ Some b.0 = sym a.3 ∙ b.3 in cc) in
+    let there : slice_get a.0.senders b.1 ≡ Some b.2 = ap (λ (x : PlanConnection). slice_get x.senders b.1) same ∙ b.4 in
+    let sender : a.2 ≡ b.2 = only-one a.0.senders a.1 b.1 a.2 b.2 (none.one_sender c a.0 a.3) a.4 there in
+    (sym a.5 ∙ ap (λ (s : Sender). s.process) sender ∙ b.5, sym a.6 ∙ ap (λ (s : Sender). s.output) sender ∙ b.6)
+
+pub plan-same-files : PlanSameFiles
+plan-same-files plan ks journal other s t none well are leads finished leads' finished' p bytes runs =
+    same-files plan ks journal other s t well (parts-first plan ks are) (λ q part at. (let is = are q part at in made-settled plan q is.process is.file part (none.no_balance q is.process is.there) is.made)) (unmerged-plan plan none)
+    leads finished leads' finished' p bytes runs

@@ -57,6 +57,10 @@ use Rattle.flow_streams.specs.declared.unbundle.Unbundle.TheVariants as unbundle
 use Rattle.flow_streams.specs.Unbundle as unbundle
 use Rattle.flow_streams.specs.Unbundle.{UnbundleNext, UnbundleReady}
 use Rattle.flow_streams.specs.UnbundleLaws.{unbundle_obeys}
+use Rattle.flow_streams.specs.Discard.{DiscardNext}
+use Rattle.flow_streams.specs.DiscardLaws.{discard_obeys}
+use Rattle.flow_streams.specs.Hoard.{HoardNext}
+use Rattle.flow_streams.specs.HoardLaws.{hoard_obeys}
 use Rattle.flow_streams.specs.Passthru.{passes, PassthruNext}
 use Rattle.flow_streams.specs.PassthruLaws.{passthru_obeys}
 
@@ -122,6 +126,23 @@ passthru-hears {K} part told run some =
     end-heard (λ (_ : K). IsAtHand) PassthruNext (λ _. one_to_one) (λ _. uses_first) (λ _. refl) passthru_obeys Never
     (λ p q s l. elim l [ inl d ↦ (let c : Wishes q.part q.held q.wish ≡ Wishes p.part s.held receive_first = s.comes_to in cc) | inr n ↦ n ])
     (λ p port t q s l. elim l [ inl d ↦ (let c = s.comes_to in let w : q.wish ≡ passes (answer_of (Received port t)) = cc in cc) | inr n ↦ n ])
+    (λ p port t q s l. elim l [ inl d ↦ (let c : Wishes q.part q.held q.wish ≡ Wishes p.part s.held receive_first = s.comes_to in cc) | inr n ↦ n ])
+    (λ p port level q s l. s.is_ready) part told run (λ n. n) some
+
+-- a Discard and a Hoard
+pub discard-hears : {K : Type 0} (part : K) (told : List Happening) → EndedRun (λ (_ : K). IsAtHand) DiscardNext part told → told ≢ [] → HeardEnd 0 told
+discard-hears {K} part told run some =
+    end-heard (λ (_ : K). IsAtHand) DiscardNext (λ _. one_to_none) (λ _. uses_none) (λ _. refl) discard_obeys Never
+    (λ p q s l. elim l [ inl d ↦ (let c : Wishes q.part q.held q.wish ≡ Wishes p.part s.held receive_first = s.comes_to in cc) | inr n ↦ n ])
+    (λ p port t q s l. elim l [ inl d ↦ (let c : Wishes q.part q.held q.wish ≡ Wishes p.part (without_packet s.held (Rattle.flow_packet.specs.Tree.id_of t)) receive_first = s.comes_to in cc) | inr n ↦ n ])
+    (λ p port t q s l. elim l [ inl d ↦ (let c : Wishes q.part q.held q.wish ≡ Wishes p.part s.held receive_first = s.comes_to in cc) | inr n ↦ n ])
+    (λ p port level q s l. s.is_ready) part told run (λ n. n) some
+
+pub hoard-hears : {K : Type 0} (part : K) (told : List Happening) → EndedRun (λ (_ : K). IsAtHand) HoardNext part told → told ≢ [] → HeardEnd 0 told
+hoard-hears {K} part told run some =
+    end-heard (λ (_ : K). IsAtHand) HoardNext (λ _. one_to_none) (λ _. uses_none) (λ _. refl) hoard_obeys Never
+    (λ p q s l. elim l [ inl d ↦ (let c : Wishes q.part q.held q.wish ≡ Wishes p.part s.held receive_first = s.comes_to in cc) | inr n ↦ n ])
+    (λ p port t q s l. elim l [ inl d ↦ (let c : Wishes q.part q.held q.wish ≡ Wishes p.part s.held receive_first = s.comes_to in cc) | inr n ↦ n ])
     (λ p port t q s l. elim l [ inl d ↦ (let c : Wishes q.part q.held q.wish ≡ Wishes p.part s.held receive_first = s.comes_to in cc) | inr n ↦ n ])
     (λ p port level q s l. s.is_ready) part told run (λ n. n) some
 

@@ -1,6 +1,11 @@
 pub mod Lifting
-pub mod Single
 pub mod EndHeard
-pub mod Ending
+pub mod Over
+pub mod Facts
+pub mod LineKinds
+pub mod StreamKinds
+pub mod SelectKind
+pub mod Every
+pub mod Contents
 pub mod Composing
 pub mod Chaining

@@ -1,43 +1,43 @@
 -- What a network of standard components means: streams on its connections of which each process makes what its kind means. Nothing
 -- here speaks of turns or states. (This project's own.)
-use Rattle.std.specs.Prelude.{◌≡◌, ℕ, ◌||◌, not, Bool, false, List, [], ◌∷◌, map, filter, length, Option, Some, None, slice_get, unwrap_or, option_and_then, if◌then◌else◌}
-use Rattle.std.specs.List.{list_any, range_with_len}
+use Rattle.std.specs.Prelude.{◌≡◌, ℕ, List, [], map, filter, length, replicate, Option, Some, None, slice_get, unwrap_or, option_and_then}
+use Rattle.std.specs.List.{range_with_len}
 use Rattle.flow_packet.specs.Tree.{Tree}
 use Rattle.flow_component.specs.Runs.{text_packet}
 use Rattle.flow_catalogue.specs.declared.standard.Std.{Std}
 use Rattle.flow_catalogue.specs.Std.{std_shape, std_uses, StdReady, StdNext, written_of}
 use Rattle.flow_model.specs.States.{Input, From, Text, is_sender, Process, State}
 use Rattle.flow_plan.specs.declared.plan.Sender.{Sender}
-use Rattle.flow_model.specs.Events.{is_connected, is_empty}
 use Rattle.flow_model.specs.Schedules.{Journal, Leads}
 use Rattle.flow_model.specs.Plans.{input_at, sends_at, start_of, StartsWell}
 use Rattle.flow_plan.specs.Network.{Network as Plan}
 use Rattle.flow_plan.specs.declared.plan.Process.{Process as PlanProcess}
 use Rattle.flow_model.specs.Verdicts.{IsFinished}
-use Rattle.flow_meanings.specs.Means.{IsFirst, Means}
+use Rattle.flow_meanings.specs.Meaning.{greatest, activations}
+use Rattle.flow_meanings.specs.Means.{IsFirst, Means, is_looper}
 
 -- A packet on a connection: whose it is, and its content.
 pub record Sending : Type 0 where
   pub sender : Sender
   pub content : Tree
 
--- Something arrives at this input by its connection.
-abbrev pub brings : (ℕ → List Sending) → Input → Bool
-brings on (From c) = not (is_empty (on c))
-brings on (Text text) = false
+-- How many packets come at this input by its connection. By an initial text none do.
+abbrev pub coming : (ℕ → List Sending) → Input → Option ℕ
+coming on (From c) = Some (length (on c))
+coming on (Text text) = None
 
--- A process with these inputs is ever started: none of them is connected, or something arrives by a connection.
-abbrev pub is_woken : (ℕ → List Sending) → List Input → Bool
-is_woken on inputs = not (list_any is_connected inputs) || list_any (brings on) inputs
+-- How often a process with these inputs is activated, which runs this component.
+abbrev pub activated : Std → (ℕ → List Sending) → List Input → ℕ
+activated part on inputs = activations (is_looper part) (greatest (map (coming on) inputs))
 
 -- The inputs of process p of the plan.
 abbrev pub inputs_of : Plan → ℕ → PlanProcess → List Input
 inputs_of plan p x = map (input_at plan p x) (range_with_len 0 x.inputs)
 
--- The stream that arrives at an input: all that is on its connection, or its initial text. The text of a process that is never started doesn't arrive.
-abbrev pub arriving : (ℕ → List Sending) → Bool → Input → List Tree
-arriving on woken (From c) = map (λ sending. sending.content) (on c)
-arriving on woken (Text text) = if woken then text_packet text ∷ [] else []
+-- The stream that arrives at an input of a process that is activated so often: all that is on its connection, or its initial text, once in each activation.
+abbrev pub arriving : (ℕ → List Sending) → ℕ → Input → List Tree
+arriving on times (From c) = map (λ sending. sending.content) (on c)
+arriving on times (Text text) = replicate times (text_packet text)
 
 -- The stream that leaves an output: what is its own on its connection. Nothing leaves where there is none.
 abbrev pub leaving : (ℕ → List Sending) → Sender → Option ℕ → List Tree
@@ -57,7 +57,7 @@ pub record Composes (plan : Plan) (parts : List Std) (wrote : ℕ → List ℕ) 
   pub on : ℕ → List Sending
   pub senders : (c k : ℕ) (sending : Sending) → slice_get (on c) k ≡ Some sending → sends_at plan sending.sender.process sending.sender.output ≡ Some c
   pub each : (p : ℕ) (x : PlanProcess) (part : Std) → slice_get plan.processes p ≡ Some x → slice_get parts p ≡ Some part
-      → Means part (wrote p) (λ i. arriving on (is_woken on (inputs_of plan p x)) (input_at plan p x i)) (λ o. leaving on (record { process = p; output = o }) (sends_at plan p o))
+      → Means part (wrote p) (λ i. arriving on (activated part on (inputs_of plan p x)) (input_at plan p x i)) (λ o. leaving on (record { process = p; output = o }) (sends_at plan p o))
   pub others : (p : ℕ) (part : Std) → slice_get parts p ≡ Some part → written_of part ≡ None → wrote p ≡ []
 
 -- What a process has written.

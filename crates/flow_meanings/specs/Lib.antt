@@ -1,3 +1,6 @@
+pub mod Meaning
+pub mod Kinds
 pub mod Means
 pub mod Composition
 pub mod Chains
+pub mod Outcomes

@@ -23,7 +23,8 @@ pub fn fill_keeps_its_meaning()
     ensures one { OneFilling }
 {}
 
-/// What a component that counts by these rules makes of its stream. (The component itself isn't written yet.)
+/// What a Count that has come to its end has sent: to its first output, where that is connected, what it got, and to its second one the
+/// number of its Normal packets, if anything came.
 pub fn count_keeps_its_meaning()
     ensures { CountMeaning }
 {}

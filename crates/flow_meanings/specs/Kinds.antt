@@ -1,0 +1,119 @@
+-- The standard kinds, each with its meaning as one record. (Morrison's components and JavaFBP's; the exact rules are this project's own.)
+use Rattle.std.specs.Prelude.{◌≡◌, ℕ, zero, suc, ◌+◌, ◌<◌, ◌≤◌, true, false, List, [], ◌++◌, map, length}
+use Rattle.std.specs.List.{flat_map}
+use Rattle.flow_packet.specs.Tree.{Tree}
+use Rattle.flow_component.specs.Runs.{text_packet}
+use Rattle.flow_parts.specs.declared.words.Words.{Words}
+use Rattle.flow_parts.specs.declared.words.Words.TheVariants as words_parts
+use Rattle.flow_parts.specs.FillState.{FillState}
+use Rattle.flow_parts.specs.Filling.{Filling}
+use Rattle.flow_parts.specs.Count.{CountState}
+use Rattle.flow_parts.specs.Meanings.{rendered_all, words_of, bracketed, fresh_fill, fresh_count, IsCounted}
+use Rattle.flow_streams.specs.Copy.{CopyState}
+use Rattle.flow_streams.specs.Concat.{ConcatState}
+use Rattle.flow_streams.specs.CollateState.{CollateState}
+use Rattle.flow_streams.specs.declared.bundle.Bundle.{Bundle}
+use Rattle.flow_streams.specs.declared.bundle.Bundle.TheVariants as bundle_parts
+use Rattle.flow_streams.specs.declared.unbundle.Unbundle.{Unbundle}
+use Rattle.flow_streams.specs.declared.unbundle.Unbundle.TheVariants as unbundle_parts
+use Rattle.flow_streams.specs.LoadBalance.{LoadState}
+use Rattle.flow_streams.specs.Select.{SelectState}
+use Rattle.flow_streams.specs.Meanings.{fresh_copy, share, fresh_concat, fresh_collate, fresh_load, fresh_select}
+use Rattle.flow_streams.specs.Collated.{collation, listed}
+use Rattle.flow_streams.specs.Bundled as bundling
+use Rattle.flow_streams.specs.Bundled.{bundled}
+use Rattle.flow_streams.specs.Unbundled.{unbundled}
+use Rattle.flow_streams.specs.Split.{IsSplit}
+use Rattle.flow_streams.specs.Selected.{IsSelected}
+use Rattle.flow_catalogue.specs.declared.standard.Std.{Std}
+use Rattle.flow_catalogue.specs.declared.standard.Std.TheVariants as parts
+use Rattle.flow_meanings.specs.Meaning.{Meaning}
+
+-- A ReadLines sends its lines, each as a Normal packet.
+abbrev pub read_lines_meaning : List (List ℕ) → Meaning
+read_lines_meaning left = record { first = Unit {0}; loops = true; settled = true; makes = λ wrote x y. y 0 ≡ map text_packet left }
+
+-- A WriteLines writes its input, each packet as a line.
+abbrev pub write_lines_meaning : List ℕ → Meaning
+write_lines_meaning bytes = record { first = bytes ≡ []; loops = true; settled = true; makes = λ wrote x y. wrote ≡ rendered_all (x 0) }
+
+-- A Words sends its input with each Normal packet replaced by its words.
+abbrev pub words_meaning : Words → Meaning
+words_meaning part = record { first = part ≡ words_parts.Waiting; loops = true; settled = true; makes = λ wrote x y. y 0 ≡ flat_map words_of (x 0) }
+
+-- A Fill sends a filling of its input. (There is one.)
+abbrev pub fill_meaning : FillState → Meaning
+fill_meaning state = record { first = (size : ℕ) × (state ≡ fresh_fill size); loops = true; settled = true; makes = λ wrote x y. Filling state.size (x 0) (y 0) }
+
+-- A Brackets sends its input with each Normal packet that names a bracket replaced by that.
+abbrev pub brackets_meaning : Meaning
+brackets_meaning = record { first = Unit {0}; loops = true; settled = true; makes = λ wrote x y. y 0 ≡ map bracketed (x 0) }
+
+-- A Passthru sends its input.
+abbrev pub passthru_meaning : Meaning
+passthru_meaning = record { first = Unit {0}; loops = true; settled = true; makes = λ wrote x y. y 0 ≡ x 0 }
+
+-- A Copy sends its input to its last output, and to each other one the same without chains.
+abbrev pub copy_meaning : CopyState → Meaning
+copy_meaning state = record { first = state ≡ fresh_copy state.count; loops = true; settled = true; makes = λ wrote x y. (o : ℕ) → o < state.count → y o ≡ map (share state.count o) (x 0) }
+
+-- The streams of n inputs from number k on, one after another.
+abbrev pub joined : ℕ → ℕ → (ℕ → List Tree) → List Tree
+joined k zero x = []
+joined k (suc n) x = x k ++ joined (k + 1) n x
+
+-- A Concat sends its inputs one after another.
+abbrev pub concat_meaning : ConcatState → Meaning
+concat_meaning state = record { first = state ≡ fresh_concat state.count; loops = true; settled = true; makes = λ wrote x y. y 0 ≡ joined 0 state.count x }
+
+-- A Collate sends the collation of its inputs.
+abbrev pub collate_meaning : CollateState → Meaning
+collate_meaning state = record {
+  first = (1 ≤ length state.fields) × (state ≡ fresh_collate state.fields state.elements);
+  loops = true;
+  settled = true;
+  makes = λ wrote x y. y 0 ≡ collation state.fields (listed 0 state.elements x);
+}
+
+-- A Discard has no output, and neither has a Hoard.
+abbrev pub silent_meaning : Meaning
+silent_meaning = record { first = Unit {0}; loops = true; settled = true; makes = λ wrote x y. Unit {0} }
+
+-- A Bundle sends its input with each substream replaced by its bundle.
+abbrev pub bundle_meaning : Bundle → Meaning
+bundle_meaning part = record { first = part ≡ bundle_parts.Outside; loops = true; settled = true; makes = λ wrote x y. y 0 ≡ bundled bundling.Outside (x 0) }
+
+-- An Unbundle sends its input with each bundle replaced by a substream.
+abbrev pub unbundle_meaning : Unbundle → Meaning
+unbundle_meaning part = record { first = part ≡ unbundle_parts.Waiting; loops = true; settled = true; makes = λ wrote x y. y 0 ≡ flat_map unbundled (x 0) }
+
+-- A Count sends its input on, where its first output is connected, and to its second output the number of its Normal packets.
+abbrev pub count_meaning : CountState → Meaning
+count_meaning state = record { first = state ≡ fresh_count state.connected; loops = true; settled = true; makes = λ wrote x y. IsCounted state.connected (x 0) (y 0) (y 1) }
+
+-- A LoadBalance sends a split of its input, substreams whole. Which one isn't settled.
+abbrev pub load_balance_meaning : LoadState → Meaning
+load_balance_meaning state = record { first = state ≡ fresh_load state.count; loops = true; settled = false; makes = λ wrote x y. IsSplit state.count (x 0) y }
+
+-- A Select sends the packets of its second input, each as the key of its number at the first one says. It takes one of each in an activation.
+abbrev pub select_meaning : SelectState → Meaning
+select_meaning state = record { first = state ≡ fresh_select state.rejects; loops = false; settled = true; makes = λ wrote x y. IsSelected state.rejects (x 0) (x 1) (y 0) (y 1) }
+
+-- What a standard component means.
+abbrev pub meaning_of : Std → Meaning
+meaning_of (parts.ReadLines left) = read_lines_meaning left
+meaning_of (parts.WriteLines bytes) = write_lines_meaning bytes
+meaning_of (parts.Words part) = words_meaning part
+meaning_of (parts.Fill state) = fill_meaning state
+meaning_of (parts.Brackets part) = brackets_meaning
+meaning_of (parts.Passthru part) = passthru_meaning
+meaning_of (parts.Copy state) = copy_meaning state
+meaning_of (parts.Concat state) = concat_meaning state
+meaning_of (parts.Collate state) = collate_meaning state
+meaning_of (parts.Discard part) = silent_meaning
+meaning_of (parts.Bundle part) = bundle_meaning part
+meaning_of (parts.Unbundle part) = unbundle_meaning part
+meaning_of (parts.Hoard part) = silent_meaning
+meaning_of (parts.Count state) = count_meaning state
+meaning_of (parts.LoadBalance state) = load_balance_meaning state
+meaning_of (parts.Select state) = select_meaning state
