@@ -1,3 +1,4 @@
 pub mod Asker
 pub mod Askers
 pub mod Networks
+pub mod Telegram

@@ -12,7 +12,9 @@ mod levels;
 mod loads;
 mod network;
 mod starting;
+mod telegram;
 
 pub use asker::Asker;
 pub use network::{TrialStop, plan_of_text};
 pub use starting::{askers, standard_parts, started};
+pub use telegram::the_telegram_composes;

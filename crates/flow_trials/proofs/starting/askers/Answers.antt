@@ -1,4 +1,4 @@
-use Rattle.std.proofs.Common.{◌≡◌, ◌∙◌, sym, ap, subst, List, map}
+use Rattle.std.proofs.Common.{◌∙◌, sym, ap, subst, List, map}
 use Rattle.flow_model.specs.Plans.{StartsWell}
 use Rattle.flow_trials.specs.declared.asker.Asker.{Asker}
 use Rattle.flow_trials.specs.Asker.{shape_asked, uses_asked, AlwaysReady}

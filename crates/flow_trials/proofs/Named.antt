@@ -1,0 +1,111 @@
+-- The Telegram's network is the plan of its text: what the calls of a builder make of it, one after another.
+use Rattle.std.proofs.Common.{◌≡◌, ℕ, zero, suc, ◌<◌, Some, None, Ok, get_or, refl, arith}
+use Rattle.std.specs.Prelude.{codes}
+use Rattle.std.specs.List.{slice_index}
+use Rattle.std.proofs.lemmas.Str.{IsUtf8-from_ascii}
+use Rattle.flow_net.specs.declared.draft.End.{End}
+use Rattle.flow_net.specs.Drafts.{Draft}
+use Rattle.flow_net.specs.Calls.{with_process, joined, given}
+use Rattle.flow_plan.specs.Texts.{IsFileName, IsNumberWithin}
+use Rattle.flow_flat.specs.Faults.{ComesTo}
+use Rattle.flow_flat.specs.Told.{HasShortTexts, IsDraft, empty}
+use Rattle.flow_flat.proofs.Outcomes.{told_is_said}
+use Rattle.flow_catalogue.specs.declared.table.StdKind.TheVariants as kinds
+use Rattle.flow_catalogue.specs.Kinds.{spec_of, std_kinds}
+use Rattle.flow_trials.specs.Telegram.{telegram, telegram_part}
+
+-- The draft with its four processes.
+abbrev named : Draft
+named =
+    with_process
+    (with_process (with_process (with_process (empty std_kinds) (codes "Read") (spec_of kinds.ReadLines)) (codes "Words") (spec_of kinds.Words)) (codes "Fill") (spec_of kinds.Fill))
+    (codes "Write") (spec_of kinds.WriteLines)
+
+-- The only element of the port at a place.
+abbrev at : ℕ → End
+at place = record { port = place; element = 0 }
+
+-- The draft after each statement.
+abbrev with_input : Draft
+with_input = given named (at 0) (codes "in.txt")
+
+abbrev with_lines : Draft
+with_lines = joined with_input (at 1) (at 2) None
+
+abbrev with_words : Draft
+with_words = joined with_lines (at 3) (at 5) (Some 20)
+
+abbrev with_size : Draft
+with_size = given with_words (at 4) (codes "12")
+
+abbrev with_telegram : Draft
+with_telegram = joined with_size (at 6) (at 8) None
+
+abbrev with_output : Draft
+with_output = given with_telegram (at 7) (codes "out.txt")
+
+in_ascii : (i : ℕ) → slice_index (codes "in.txt") i < 128
+in_ascii zero = omega arith
+in_ascii (suc zero) = omega arith
+in_ascii (suc (suc zero)) = omega arith
+in_ascii (suc (suc (suc zero))) = omega arith
+in_ascii (suc (suc (suc (suc zero)))) = omega arith
+in_ascii (suc (suc (suc (suc (suc zero))))) = omega arith
+in_ascii (suc (suc (suc (suc (suc (suc i)))))) = omega arith
+
+in_bytes : (k d : ℕ) → k < 6 → get_or (codes "in.txt") k d ≡ 0 → ⊥
+in_bytes zero d below is = absurd (omega (arith, is))
+in_bytes (suc zero) d below is = absurd (omega (arith, is))
+in_bytes (suc (suc zero)) d below is = absurd (omega (arith, is))
+in_bytes (suc (suc (suc zero))) d below is = absurd (omega (arith, is))
+in_bytes (suc (suc (suc (suc zero)))) d below is = absurd (omega (arith, is))
+in_bytes (suc (suc (suc (suc (suc zero))))) d below is = absurd (omega (arith, is))
+in_bytes (suc (suc (suc (suc (suc (suc k)))))) d below is = absurd (omega (arith, below))
+
+in_name : IsFileName (codes "in.txt")
+in_name = (omega arith, omega arith, IsUtf8-from_ascii (codes "in.txt") in_ascii, in_bytes)
+
+out_ascii : (i : ℕ) → slice_index (codes "out.txt") i < 128
+out_ascii zero = omega arith
+out_ascii (suc zero) = omega arith
+out_ascii (suc (suc zero)) = omega arith
+out_ascii (suc (suc (suc zero))) = omega arith
+out_ascii (suc (suc (suc (suc zero)))) = omega arith
+out_ascii (suc (suc (suc (suc (suc zero))))) = omega arith
+out_ascii (suc (suc (suc (suc (suc (suc zero)))))) = omega arith
+out_ascii (suc (suc (suc (suc (suc (suc (suc i))))))) = omega arith
+
+out_bytes : (k d : ℕ) → k < 7 → get_or (codes "out.txt") k d ≡ 0 → ⊥
+out_bytes zero d below is = absurd (omega (arith, is))
+out_bytes (suc zero) d below is = absurd (omega (arith, is))
+out_bytes (suc (suc zero)) d below is = absurd (omega (arith, is))
+out_bytes (suc (suc (suc zero))) d below is = absurd (omega (arith, is))
+out_bytes (suc (suc (suc (suc zero)))) d below is = absurd (omega (arith, is))
+out_bytes (suc (suc (suc (suc (suc zero))))) d below is = absurd (omega (arith, is))
+out_bytes (suc (suc (suc (suc (suc (suc zero)))))) d below is = absurd (omega (arith, is))
+out_bytes (suc (suc (suc (suc (suc (suc (suc k))))))) d below is = absurd (omega (arith, below))
+
+out_name : IsFileName (codes "out.txt")
+out_name = (omega arith, omega arith, IsUtf8-from_ascii (codes "out.txt") out_ascii, out_bytes)
+
+twelve : IsNumberWithin 1 1048576 (codes "12")
+twelve = (((omega arith, (omega arith, (omega arith, tt))), λ h. absurd (omega (arith, h))), omega arith, omega arith)
+
+drafted : IsDraft std_kinds telegram_part (Ok with_output)
+drafted = (
+  Ok with_input,
+  (at 0, refl, in_name, refl),
+  (Ok with_lines, refl, (Ok with_words, refl, (Ok with_size, (at 4, refl, twelve, refl), (Ok with_telegram, refl, (Ok with_output, (at 7, refl, out_name, refl), refl))))),
+)
+
+short : HasShortTexts telegram_part
+short zero d below = omega arith
+short (suc zero) d below = tt
+short (suc (suc zero)) d below = tt
+short (suc (suc (suc zero))) d below = omega arith
+short (suc (suc (suc (suc zero)))) d below = tt
+short (suc (suc (suc (suc (suc zero))))) d below = omega arith
+short (suc (suc (suc (suc (suc (suc k)))))) d below = absurd (omega (arith, below))
+
+pub planned : ComesTo std_kinds telegram_part (Ok telegram)
+planned = told_is_said std_kinds telegram_part (Ok telegram) refl short (Ok with_output, drafted, refl)
