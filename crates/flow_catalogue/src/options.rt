@@ -8,7 +8,7 @@ ghost use Rattle.flow_text.specs.Text.{number_of};
 ghost use Rattle.flow_plan.specs.Texts.{IsNumberWithin, IsFields};
 ghost use Rattle.flow_catalogue.specs.Processes.{option_text, fields_of, has_sender, is_connected};
 
-use flow_net::{Connection, Plan, Process};
+use flow_net::{Connection, Plan, Process, first_field};
 use flow_text::decimal;
 use std::alloc::{AllocError, Global};
 
@@ -32,25 +32,6 @@ pub(crate) fn number(text: &[u8], least: u64, most: u64) -> u64
     match decimal(text, least, most) {
         Some(number) => number,
         None => unreachable!(),
-    }
-}
-
-// Where the first space is.
-fn space(text: &[u8]) -> Option<usize>
-    ensures { result ≡ position (λ b. b == 32) text.now }
-{
-    text.iter().position(|b| *b == b' ')
-}
-
-// The first field, and the text behind the space that ends it.
-fn first_field(text: &[u8]) -> Option<(&[u8], &[u8])>
-    ensures first { IfSome result (λ p. slice_split (λ b. b == 32) text.now ≡ p.0.now ∷ slice_split (λ b. b == 32) p.1.now) }
-    ensures shorter { IfSome result (λ p. length p.1.now < length text.now) }
-    ensures last { IfNone result (slice_split (λ b. b == 32) text.now ≡ text.now ∷ []) }
-{
-    match space(text) {
-        None => None,
-        Some(end) => Some((&text[..end], &text[end + 1..])),
     }
 }
 

@@ -80,9 +80,9 @@ pub fn every_step_keeps_a_state_fit<K: Component>()
 {}
 
 /// After every schedule from such a start, and after every list of turns and works, what each process was told is a run of its
-/// component from its first state. An end that it heard stands, each start brings something, and a process that nothing can wake has
-/// run before it ends; one that has ended got all that was put into the connections at its inputs. So what a component makes of its
-/// streams is told by its runs alone.
+/// component from its first state. An end that it heard stands, each start brings something at a connected input and gives each initial
+/// text anew, and a process that nothing can wake has run before it ends; one that has ended got all that was put into the connections
+/// at its inputs. So what a component makes of its streams is told by its runs alone.
 pub fn every_process_has_run<K: Component>()
     ensures schedules { KeepsRuns K.shape_of K.uses K.ready K.next }
     ensures while_open { KeepsRunsOpen K.shape_of K.uses K.ready K.next }

@@ -26,8 +26,8 @@ fn space(text: &[u8]) -> Option<usize>
     text.iter().position(|b| *b == b' ')
 }
 
-// The first part, and the text behind the space that ends it.
-fn first_part(text: &[u8]) -> Option<(&[u8], &[u8])>
+/// The first field of a text of fields, and the text behind the space that ends it; none where no space is left. Takes no memory.
+pub fn first_field(text: &[u8]) -> Option<(&[u8], &[u8])>
     ensures first { IfSome result (λ p. slice_split (λ b. b == 32) text.now ≡ p.0.now ∷ slice_split (λ b. b == 32) p.1.now) }
     ensures shorter { IfSome result (λ p. length p.1.now < length text.now) }
     ensures last { IfNone result (slice_split (λ b. b == 32) text.now ≡ text.now ∷ []) }
@@ -43,7 +43,7 @@ fn all_lengths(text: &[u8]) -> bool
     ensures { IsTrue result ↔ All (IsNumberWithin 1 255) (slice_split (λ b. b == 32) text.now) }
 {
     let mut rest = text;
-    'parts: while let Some((part, after)) = first_part(rest) {
+    'parts: while let Some((part, after)) = first_field(rest) {
         if !is_number(part, 1, 255) {
             return false;
         }

@@ -2,7 +2,7 @@ use Rattle.std.proofs.Common.{◌≡◌, ◌∙◌, ◌∷◌, ◌+◌, ◌-◌,
 use Rattle.std.specs.List.{slice_split}
 use Rattle.std.proofs.lemmas.List.{take_all, length-drop}
 use Rattle.flow_net.proofs.Spaces.{ends, split_some, split_none}
-use Rattle.flow_net.proofs.options.first_part.Goals as goal
+use Rattle.flow_net.proofs.options.first_field.Goals as goal
 
 pub returns-in-None-clause-last : goal.returns-in-None-clause-last
 returns-in-None-clause-last c = split_none c.args.text.now (sym c.in-None.ensures)
