@@ -1,14 +1,11 @@
 //! The program `flow NETFILE`: runs the network of a file over real files, and prints the report.
 #![tactic(auto)]
 
-use flow_cli::plain_top;
+use flow_cli::{Status, plain_top};
 use flow_text::{FileShelf, StdSink};
 use std::alloc::{AllocError, Global};
 use std::process::ExitCode;
 use std::{env, io};
-
-/// The status where there is no memory for the words.
-const NO_MEMORY: u8 = 8;
 
 // The words after the program's name. Words that are no text are no command line, as no words are.
 fn words_of(alloc: Global, args: io::Result<env::Args>) -> Result<Vec<String>, AllocError> {
@@ -28,9 +25,9 @@ fn words_of(alloc: Global, args: io::Result<env::Args>) -> Result<Vec<String>, A
 fn main(rt: HostRuntime) -> ExitCode {
     let alloc = rt.alloc();
     let Ok(words) = words_of(alloc, env::args(&rt)) else {
-        return ExitCode::from(NO_MEMORY);
+        return ExitCode::from(Status::NoMemory.code());
     };
     let mut shelf = FileShelf::new(alloc, &rt);
     let mut out = StdSink::new(&rt);
-    ExitCode::from(plain_top(alloc, &words, &mut shelf, &mut out).status)
+    ExitCode::from(plain_top(alloc, &words, &mut shelf, &mut out).status.code())
 }

@@ -12,7 +12,7 @@ pub parts-fit : (plan : Network) (parts : List Std) → HasParts plan parts → 
 parts-fit plan parts has = record {
   one_each = are.count;
   fit = λ p process part there at.
-      let is : IsPart has.0 plan p part = are.each p part at in
+      let is : IsPart plan p (are.each p part at).0 part = (are.each p part at).2 in
       let same : is.process ≡ process = (let h = is.there in cc) in
       let fits = subst (λ (x : Process). Fits plan p x part) same is.fits in
       record {
@@ -22,5 +22,5 @@ parts-fit plan parts has = record {
         can_start = fits.starts;
       };
 } where
-  are : AreParts has.0 plan parts
+  are : AreParts plan has.0 parts
   are = has.1

@@ -15,8 +15,8 @@ use Rattle.flow_report.specs.Of.{told_of}
 use Rattle.flow_report.specs.States.{ReportsTell}
 use Rattle.flow_report.proofs.Shown.{processes-shown}
 use Rattle.flow_cli.specs.Networks.{IsStandardPlan}
-use Rattle.flow_cli.specs.Many.{Filled}
-use Rattle.flow_cli.specs.After.{written_by}
+use Rattle.flow_cli.specs.Step.{Filled}
+use Rattle.flow_cli.specs.Parts.{written_by}
 use Rattle.flow_cli.specs.Runs.{IsToldOfNet, Leaves, machine_journal, outputs_at, outputs_from, bytes_at, bytes_in}
 use Rattle.flow_cli.specs.declared.engine.Told.{Told}
 use Rattle.flow_cli.specs.declared.engine.Ran.{Ran}

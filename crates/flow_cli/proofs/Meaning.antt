@@ -1,5 +1,5 @@
 -- The files of a run that finished are what its network means.
-use Rattle.std.proofs.Common.{inl, inr, ℕ, List, ◌∙◌, subst, arith}
+use Rattle.std.proofs.Common.{ap, inl, inr, ℕ, List, sym, ◌∙◌, subst, refl, arith}
 use Rattle.std.specs.Prelude.{String}
 use Rattle.std.specs.declared.alloc.Global.{Global}
 use Rattle.flow_text.specs.Edge.{Outside}
@@ -16,49 +16,73 @@ use Rattle.flow_meanings.specs.Composition.{AreFirst, FinishedComposes, wrote_in
 use Rattle.flow_meanings.proofs.Every.{made-first}
 use Rattle.flow_cli.specs.Parts.{AreParts}
 use Rattle.flow_cli.specs.After.{Prints, verdict_status}
-use Rattle.flow_cli.specs.Runs.{machine_journal}
-use Rattle.flow_cli.specs.Top.{IsOver}
-use Rattle.flow_cli.specs.Meant.{IsFinishedStatus, LeavesMeaning}
-use Rattle.flow_cli.specs.declared.run.Ending.{Ending}
+use Rattle.flow_cli.specs.Runs.{machine_journal, net_outputs}
+use Rattle.flow_cli.specs.Statuses.{IsFinished as IsFinishedStatus, IsOver}
+use Rattle.flow_cli.specs.Many.{WritesAll}
+use Rattle.flow_cli.specs.Meant.{LeavesMeaning}
+use Rattle.flow_cli.specs.declared.status.Status.{Status}
+use Rattle.flow_cli.specs.declared.status.Status.TheVariants as statuses
+use Rattle.flow_cli.proofs.Befores.{so_far}
+use Rattle.flow_cli.specs.declared.engine.Ran.{Ran}
+use Rattle.flow_cli.specs.Step.{Filled}
+use Rattle.flow_cli.specs.Top.{HasRun, Finishes}
 use Rattle.flow_cli.proofs.Fitting.{parts-fit}
-use Rattle.flow_cli.proofs.Tops.{Comes}
+use Rattle.flow_cli.proofs.Tops.{stop-not-over}
 
 finished-of : (s : State Std) (verdict : Verdict) → IsVerdict s verdict → IsFinishedStatus (verdict_status verdict) → IsFinished s
 finished-of s Finished is e = is.0
 finished-of s FinishedLeft is e = is.0
-finished-of s Deadlock is e = absurd (grind arith)
-finished-of s Failed is e = absurd (grind arith)
-finished-of s Running is e = absurd (grind arith)
+finished-of s Deadlock is e = absurd e
+finished-of s Failed is e = absurd e
+finished-of s Running is e = absurd e
 
-are-first : (told : _) (plan : Network) (ks : List Std) → AreParts told plan ks → AreFirst ks
-are-first told plan ks are p part at = let is = are.each p part at in made-first plan p is.process is.bytes part is.made
+are-first : (plan : Network) (given : List (List ℕ)) (ks : List Std) → AreParts plan given ks → AreFirst ks
+are-first plan given ks are p part at = let is = are.each p part at in made-first plan p is.2.process is.0 part is.2.made
+
+pub finished-over : (status : Status) → IsFinishedStatus status → IsOver status
+finished-over statuses.Finished is = is
+finished-over statuses.FinishedLeft is = is
+finished-over statuses.Words is = absurd is
+finished-over statuses.Refused is = absurd is
+finished-over statuses.Deadlock is = absurd is
+finished-over statuses.Failed is = absurd is
+finished-over statuses.ReadFault is = absurd is
+finished-over statuses.WriteFault is = absurd is
+finished-over statuses.NoMemory is = absurd is
+finished-over statuses.TooLong is = absurd is
+finished-over statuses.Running is = absurd is
 
 -- with the laws of plans and of meanings, a run that finished left what its network means
-pub meant : StartsPlans std_shape std_uses StdReady → FinishedComposes → (o n po pn : Outside) (words : List (String Global)) (ending : Ending) (status : ℕ)
-    → Comes o n words ending → Prints po pn ending.text.items ending.status status → IsFinishedStatus status → LeavesMeaning o n words
-meant starts composes o n po pn words ending status (inl run) (inl p) finished =
-    let whole = run.2 in
-    let ks = whole.run.parts in
-    let plan = whole.plan in
-    let well = starts plan ks whole.run.standard.valid (parts-fit plan ks (o.files, whole.run.are_parts)) in
-    let ends = finished-of whole.last whole.report.verdict whole.tells.verdict (subst IsFinishedStatus (p.0 ∙ whole.status) finished) in
-    inl (
-      run.0,
-      run.1,
-      record {
-        plan = plan;
-        network = whole.run.network;
-        standard = whole.run.standard;
-        parts = ks;
-        are_parts = whole.run.are_parts;
-        wrote = wrote_in whole.last;
-        composes = composes plan ks (machine_journal ending.journal) whole.last well (are-first o.files plan ks whole.run.are_parts) whole.run.run.schedule.leads ends;
-        files = whole.files;
-      },
-    )
-meant starts composes o n po pn words ending status (inl run) (inr p) finished = absurd (let h = p.0 in grind arith)
-meant starts composes o n po pn words ending status (inr check) p finished = inr (check.0, check.1)
+module _ (starts : StartsPlans std_shape std_uses StdReady) (composes : FinishedComposes) (words : List (String Global)) (o a n po pn : Outside) (ran : Ran) (status : Status) (limit : ℕ)
+    (has : HasRun o a words limit ran) where
+  left : WritesAll a n (net_outputs ran.plan ran.net) → Prints po pn ran.told.report.items (verdict_status ran.told.verdict) status → IsFinishedStatus status
+      → LeavesMeaning (so_far words o n ran.told.journal) limit
+  left w (inl p) finished =
+      let plan = ran.plan in
+      let of = has.ready in
+      let well = starts plan has.parts of.file.standard.valid (parts-fit plan has.parts (of.given, of.are_parts)) in
+      let ends = finished-of has.leaves.last has.leaves.told_is.report.verdict has.leaves.told_is.tells.verdict (subst IsFinishedStatus (p.0 ∙ ap verdict_status has.leaves.told_is.verdict) finished) in
+      inl (
+        has.name,
+        has.asks,
+        record {
+          net = of.net;
+          text = of.text;
+          plan = plan;
+          file = of.file;
+          given = of.given;
+          inputs = of.inputs;
+          middle = a;
+          reads = of.reads;
+          parts = has.parts;
+          are_parts = of.are_parts;
+          wrote = wrote_in has.leaves.last;
+          composes = composes plan has.parts (machine_journal ran.told.journal) has.leaves.last well (are-first plan of.given has.parts of.are_parts) has.leaves.run.schedule.leads ends;
+          writes = subst (λ (l : List Filled). WritesAll a n l) has.leaves.outputs w;
+        },
+      )
+  left w (inr p) finished = absurd (subst IsFinishedStatus p.0 finished)
 
-pub stop-unfinished : (status : ℕ) → IsFinishedStatus status → IsOver status
-stop-unfinished status (inl e) = inl e
-stop-unfinished status (inr e) = inr (inl e)
+  pub meant : Finishes a n po pn ran status → IsFinishedStatus status → LeavesMeaning (so_far words o n ran.told.journal) limit
+  meant (inl (w, p)) finished = left w p finished
+  meant (inr (stop, w, p)) finished = absurd (stop-not-over po pn stop status p (finished-over status finished))

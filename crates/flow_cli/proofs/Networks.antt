@@ -9,8 +9,8 @@ use Rattle.flow_flat.specs.Texts.{TextComesTo}
 use Rattle.flow_flat.proofs.TextOnce.{text_once}
 use Rattle.flow_catalogue.specs.Kinds.{std_kinds}
 use Rattle.flow_cli.specs.Networks.{Holds, RefusedFor}
-use Rattle.flow_cli.specs.declared.net_file.Refusal.{Refusal}
-use Rattle.flow_cli.specs.declared.net_file.Refusal.TheVariants as refusals
+use Rattle.flow_cli.specs.declared.stop.Refusal.{Refusal}
+use Rattle.flow_cli.specs.declared.stop.Refusal.TheVariants as refusals
 
 one-text : (net : List ℕ) (a b : NetText) → Spells net a → Spells net b → a ≡ b
 one-text net a b is other = let same = one_outcome 1 None (lines net) (Ok a) (Ok b) is other in cc

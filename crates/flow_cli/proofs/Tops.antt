@@ -1,353 +1,220 @@
--- What was printed for a stop, and its cause.
-use Rattle.std.proofs.Common.{◌≡◌, ◌⊎◌, ◌≤◌, ℕ, List, Some, None, inl, inr, arith, refl, sym, ◌∙◌, ap, subst}
-use Rattle.std.specs.Prelude.{String, string_bytes, map, IfSome}
+-- What a call came to, and what was printed of it.
+use Rattle.std.proofs.Common.{◌≡◌, ◌⊎◌, ℕ, ◌+◌, ◌<◌, ◌≤◌, List, Some, None, Ok, Err, inl, inr, arith, refl, sym, ◌∙◌, ap, subst}
+use Rattle.std.specs.Prelude.{◌≢◌, String, string_bytes, map, IfSome}
 use Rattle.std.specs.Option.{option_map}
 use Rattle.std.specs.declared.alloc.Global.{Global}
 use Rattle.std.specs.declared.option.Option.{Option}
 use Rattle.flow_text.specs.Edge.{Outside, Name, Files, Rose, after_write}
-use Rattle.flow_cli.specs.Step.{HoldsMore}
+use Rattle.flow_plan.specs.Network.{Network}
 use Rattle.flow_words.specs.Words.{Run, Check, command_of}
-use Rattle.flow_cli.specs.Networks.{Holds}
-use Rattle.flow_cli.proofs.Networks.{holds-or-refused}
 use Rattle.flow_words.specs.Lines.{file_of}
-use Rattle.flow_cli.specs.Prepare.{Asks, IsCommand, IsRefused, IsReadFor}
-use Rattle.flow_cli.specs.After.{Prints, verdict_status}
-use Rattle.flow_cli.specs.Stops.{status_of, text_of}
-use Rattle.flow_cli.specs.Top.{IsRunOf, IsWhole, IsCut, IsUntouched, Halts, Stands, PrintsStop, IsOver, StopsBefore, IsChecked, ComesToEnd, IsValid, NoFaults}
-use Rattle.flow_journal.specs.declared.merge.Journal.{Journal}
+use Rattle.flow_parse.specs.Canonical.{canonical}
+use Rattle.flow_report.specs.Text.{report_text}
 use Rattle.flow_report.specs.declared.report.Verdict.{Verdict}
-use Rattle.flow_report.specs.declared.report.Verdict.TheVariants.{Finished, FinishedLeft, Deadlock, Failed, Running}
+use Rattle.flow_report.specs.declared.report.Verdict.TheVariants as verdicts
 use Rattle.flow_report.specs.States.{IsVerdict}
 use Rattle.flow_model.specs.States.{State}
 use Rattle.flow_model.specs.Verdicts.{Quiet}
 use Rattle.flow_catalogue.specs.declared.standard.Std.{Std}
-use Rattle.flow_cli.specs.declared.top.Outcome.{Outcome}
-use Rattle.flow_cli.specs.declared.run.Ending.{Ending}
-use Rattle.flow_cli.specs.declared.net_file.Refusal.{Refusal}
+use Rattle.flow_journal.specs.declared.merge.Journal.{Journal}
+use Rattle.flow_cli.specs.Step.{HoldsMore}
+use Rattle.flow_cli.specs.Parts.{IsNext}
+use Rattle.flow_cli.specs.Networks.{Holds}
+use Rattle.flow_cli.specs.After.{Prints, verdict_status}
+use Rattle.flow_cli.specs.Statuses.{IsOver}
+use Rattle.flow_cli.specs.Stops.{status_of, text_of}
+use Rattle.flow_cli.specs.Causes.{Work, Asks, IsCommand, IsEmptyJournal, IsNextFile, HasCause}
+use Rattle.flow_cli.specs.Top.{Call, call_of, HasRun, HasChecked, IsChecked, Finishes, PrintsStop, TellsStop, IsCaused, ComesToEnd, IsNetwork, IsReadFor, IsValid, NoFaults, IsComplete}
+use Rattle.flow_cli.specs.declared.engine.Ran.{Ran}
+use Rattle.flow_cli.specs.Many.{WritesAll}
+use Rattle.flow_cli.specs.Runs.{net_outputs}
+use Rattle.flow_cli.proofs.Runs.{stops-writing, whole-run, printed-report}
+use Rattle.flow_cli.specs.declared.status.Status.{Status}
+use Rattle.flow_cli.specs.declared.status.Status.TheVariants as statuses
 use Rattle.flow_cli.specs.declared.stop.Stop.{Stop}
 use Rattle.flow_cli.specs.declared.stop.Stop.TheVariants.{Words, Refused, ReadFault, WriteFault, TooLong, NoMemory}
+use Rattle.flow_cli.proofs.Steps.{may-read, may-fail-to-read}
+use Rattle.flow_cli.proofs.Befores.{so_far, untouched}
+use Rattle.flow_cli.proofs.Networks.{holds-or-refused}
 
-own : (po pn : Outside) (text : List ℕ) (given status : ℕ) → Prints po pn text given status → (status ≡ 7 → ⊥) → (status ≡ given) × (pn ≡ after_write po text)
-own po pn text given status (inl p) not_7 = p
-own po pn text given status (inr p) not_7 = absurd (not_7 p.0)
+-- want of memory for the text of a stop
+as-memory : (w : Work) (limit : ℕ) (stop : Stop) → HasCause w limit stop → HasCause w limit NoMemory
+as-memory w limit Words c = inl (record { journal = c.journal; files = ap (λ (o : Outside). o.files) c.shelf; created = ap (λ (o : Outside). o.created) c.shelf })
+as-memory w limit (Refused refusal) c = inl (untouched w (may-read w.before w.after _ c.shelf) c.journal)
+as-memory w limit (ReadFault read) c = inl (untouched w (may-fail-to-read w.before w.after _ _ c.shelf) c.journal)
+as-memory w limit (TooLong read) c = inl (untouched w (may-read w.before w.after _ c.shelf) c.journal)
+as-memory w limit (WriteFault written) c = inr (inr (string_bytes written, c))
+as-memory w limit NoMemory c = c
 
--- a status other than 7 and 8 is the stop's own, and its text was printed
-stop_own : (po pn : Outside) (stop : Stop) (status : ℕ) → PrintsStop po pn stop status → (status ≡ 7 → ⊥) → (status ≡ 8 → ⊥)
-    → (status ≡ status_of stop) × (pn ≡ after_write po (text_of stop))
-stop_own po pn stop status (inl p) not_7 not_8 = own po pn (text_of stop) (status_of stop) status p not_7
-stop_own po pn stop status (inr p) not_7 not_8 = absurd (let q = own po pn (text_of NoMemory) 8 status p not_7 in not_8 q.0)
+-- a stop, and what was printed of it
+module _ (words : List (String Global)) (o n po pn : Outside) (journal : Journal) (status : Status) (limit : ℕ) (stop : Stop)
+    (cause : HasCause (so_far words o n journal) limit stop) (prints : PrintsStop po pn stop status) where
+  told : PrintsStop po pn stop status → TellsStop (call_of words o n po pn journal status) limit
+  told (inl p) = record { stop = stop; cause = cause; prints = p }
+  told (inr p) = record { stop = NoMemory; cause = as-memory (so_far words o n journal) limit stop cause; prints = p }
 
-over_isnt_7 : (status : ℕ) → IsOver status → status ≡ 7 → ⊥
-over_isnt_7 status over e = grind arith
+  pub stopped : IsCaused (call_of words o n po pn journal status) limit
+  stopped = inr (inr (told prints))
 
--- a stop's status is none of a call that came to its end
-stop_isnt_over : (stop : Stop) → IsOver (status_of stop) → ⊥
-stop_isnt_over Words over = grind arith
-stop_isnt_over (Refused refusal) over = grind arith
-stop_isnt_over (ReadFault read) over = grind arith
-stop_isnt_over (WriteFault written) over = grind arith
-stop_isnt_over (TooLong read) over = grind arith
-stop_isnt_over NoMemory over = grind arith
+not-over : (stop : Stop) → IsOver (status_of stop) → ⊥
+not-over Words over = over
+not-over (Refused refusal) over = over
+not-over (ReadFault read) over = over
+not-over (WriteFault written) over = over
+not-over (TooLong read) over = over
+not-over NoMemory over = over
 
-over_isnt : (status k : ℕ) → IsOver status → status ≡ k → IsOver k
-over_isnt status k over is = subst IsOver is over
+not-running : (stop : Stop) → status_of stop ≡ statuses.Running → ⊥
+not-running Words is = cc
+not-running (Refused refusal) is = cc
+not-running (ReadFault read) is = cc
+not-running (WriteFault written) is = cc
+not-running (TooLong read) is = cc
+not-running NoMemory is = cc
 
-pub stop-over : (po pn : Outside) (stop : Stop) (status : ℕ) → PrintsStop po pn stop status → IsOver status → ⊥
-stop-over po pn stop status (inl (inl p)) over = stop_isnt_over stop (over_isnt status (status_of stop) over p.0)
-stop-over po pn stop status (inl (inr p)) over = over_isnt_7 status over p.0
-stop-over po pn stop status (inr (inl p)) over = stop_isnt_over NoMemory (over_isnt status 8 over p.0)
-stop-over po pn stop status (inr (inr p)) over = over_isnt_7 status over p.0
+-- what was printed with a status, or with that of a write fault
+by-status : (po pn : Outside) (text : List ℕ) (own status : Status) (P : Status → Type 0) → Prints po pn text own status → (P own → ⊥) → (P statuses.WriteFault → ⊥) → P status → ⊥
+by-status po pn text own status P (inl p) not_own never is = not_own (subst P p.0 is)
+by-status po pn text own status P (inr p) not_own never is = never (subst P p.0 is)
 
-abbrev pub WordsCause : Outside → Outside → Outside → Outside → List (String Global) → Type 0
-WordsCause o n po pn words = (command_of (map string_bytes words) ≡ None) × (n ≡ o) × (pn ≡ after_write po (text_of Words))
+pub stop-not-over : (po pn : Outside) (stop : Stop) (status : Status) → PrintsStop po pn stop status → IsOver status → ⊥
+stop-not-over po pn stop status (inl p) over = by-status po pn (text_of stop) (status_of stop) status IsOver p (not-over stop) (λ x. x) over
+stop-not-over po pn stop status (inr p) over = by-status po pn (text_of NoMemory) statuses.NoMemory status IsOver p (λ x. x) (λ x. x) over
 
-words_at : (o n po pn : Outside) (words : List (String Global)) (stop : Stop) (journal : Journal) (limit : ℕ) → Halts o n words stop journal limit → 2 ≡ status_of stop
-    → pn ≡ after_write po (text_of stop) → WordsCause o n po pn words
-words_at o n po pn words Words journal limit w e p = (w.0, w.1, p)
-words_at o n po pn words (Refused refusal) journal limit w e p = absurd (omega arith)
-words_at o n po pn words (ReadFault read) journal limit w e p = absurd (omega arith)
-words_at o n po pn words (WriteFault written) journal limit w e p = absurd (omega arith)
-words_at o n po pn words (TooLong read) journal limit w e p = absurd (omega arith)
-words_at o n po pn words NoMemory journal limit w e p = absurd (omega arith)
-
-pub words-refused : (o n po pn : Outside) (words : List (String Global)) (stop : Stop) (journal : Journal) (status limit : ℕ) → Halts o n words stop journal limit
-    → PrintsStop po pn stop status → status ≡ 2 → WordsCause o n po pn words
-words-refused o n po pn words stop journal status limit w p e =
-    let q = stop_own po pn stop status p (λ f. omega arith) (λ f. omega arith) in
-    words_at o n po pn words stop journal limit w (sym e ∙ q.0) q.1
-
-abbrev pub ReadCause : Outside → Outside → Outside → Outside → List (String Global) → Type 0
-ReadCause o n po pn words = (name : Name) × IsCommand words name × (n.files ≡ o.files) × Rose o.read_faults n.read_faults
-    × ((read : String Global) × (n.last_read_fault ≡ Some (string_bytes read)) × (pn ≡ after_write po (text_of (ReadFault read)))
-    × IfSome o.files (λ files. IsReadFor words files name (string_bytes read)))
-
-read_at : (o n po pn : Outside) (words : List (String Global)) (stop : Stop) (journal : Journal) (limit : ℕ) → Halts o n words stop journal limit → 6 ≡ status_of stop
-    → pn ≡ after_write po (text_of stop) → ReadCause o n po pn words
-read_at o n po pn words (ReadFault read) journal limit w e p = (w.0, w.1, w.2.1, w.3, (read, w.4, p, w.5))
-read_at o n po pn words Words journal limit w e p = absurd (omega arith)
-read_at o n po pn words (Refused refusal) journal limit w e p = absurd (omega arith)
-read_at o n po pn words (WriteFault written) journal limit w e p = absurd (omega arith)
-read_at o n po pn words (TooLong read) journal limit w e p = absurd (omega arith)
-read_at o n po pn words NoMemory journal limit w e p = absurd (omega arith)
-
-pub read-fault : (o n po pn : Outside) (words : List (String Global)) (stop : Stop) (journal : Journal) (status limit : ℕ) → Halts o n words stop journal limit
-    → PrintsStop po pn stop status → status ≡ 6 → ReadCause o n po pn words
-read-fault o n po pn words stop journal status limit w p e =
-    let q = stop_own po pn stop status p (λ f. omega arith) (λ f. omega arith) in
-    read_at o n po pn words stop journal limit w (sym e ∙ q.0) q.1
-
-abbrev pub RefusalCause : Outside → Outside → Outside → Outside → List (String Global) → Type 0
-RefusalCause o n po pn words = (name : Name) × IsCommand words name × (n.files ≡ o.files)
-    × ((refusal : Refusal) × (pn ≡ after_write po (text_of (Refused refusal))) × IfSome o.files (λ files. IsRefused files name refusal))
-
-refused_at : (o n po pn : Outside) (words : List (String Global)) (stop : Stop) (journal : Journal) (limit : ℕ) → Halts o n words stop journal limit → 3 ≡ status_of stop
-    → pn ≡ after_write po (text_of stop) → RefusalCause o n po pn words
-refused_at o n po pn words (Refused refusal) journal limit w e p = (w.0, w.1, w.2.1, (refusal, p, w.3))
-refused_at o n po pn words Words journal limit w e p = absurd (omega arith)
-refused_at o n po pn words (ReadFault read) journal limit w e p = absurd (omega arith)
-refused_at o n po pn words (WriteFault written) journal limit w e p = absurd (omega arith)
-refused_at o n po pn words (TooLong read) journal limit w e p = absurd (omega arith)
-refused_at o n po pn words NoMemory journal limit w e p = absurd (omega arith)
-
-pub refused : (o n po pn : Outside) (words : List (String Global)) (stop : Stop) (journal : Journal) (status limit : ℕ) → Halts o n words stop journal limit
-    → PrintsStop po pn stop status → status ≡ 3 → RefusalCause o n po pn words
-refused o n po pn words stop journal status limit w p e =
-    let q = stop_own po pn stop status p (λ f. omega arith) (λ f. omega arith) in
-    refused_at o n po pn words stop journal limit w (sym e ∙ q.0) q.1
-
-abbrev pub LongCause : Outside → Outside → Outside → Outside → List (String Global) → ℕ → Type 0
-LongCause o n po pn words limit = (name : Name) × IsCommand words name × (n.files ≡ o.files)
-    × ((read : String Global) × HoldsMore o.files (string_bytes read) limit × (pn ≡ after_write po (text_of (TooLong read)))
-    × IfSome o.files (λ files. IsReadFor words files name (string_bytes read)))
-
-long_at : (o n po pn : Outside) (words : List (String Global)) (stop : Stop) (journal : Journal) (limit : ℕ) → Halts o n words stop journal limit → 9 ≡ status_of stop
-    → pn ≡ after_write po (text_of stop) → LongCause o n po pn words limit
-long_at o n po pn words (TooLong read) journal limit w e p = (w.0, w.1, w.2.1, (read, w.3, p, w.4))
-long_at o n po pn words Words journal limit w e p = absurd (omega arith)
-long_at o n po pn words (Refused refusal) journal limit w e p = absurd (omega arith)
-long_at o n po pn words (ReadFault read) journal limit w e p = absurd (omega arith)
-long_at o n po pn words (WriteFault written) journal limit w e p = absurd (omega arith)
-long_at o n po pn words NoMemory journal limit w e p = absurd (omega arith)
-
-pub too-long : (o n po pn : Outside) (words : List (String Global)) (stop : Stop) (journal : Journal) (status limit : ℕ) → Halts o n words stop journal limit
-    → PrintsStop po pn stop status → status ≡ 9 → LongCause o n po pn words limit
-too-long o n po pn words stop journal status limit w p e =
-    let q = stop_own po pn stop status p (λ f. omega arith) (λ f. omega arith) in
-    long_at o n po pn words stop journal limit w (sym e ∙ q.0) q.1
-
-abbrev pub WriteCause : Outside → Outside → Outside → Outside → List (String Global) → Journal → Type 0
-WriteCause o n po pn words journal = Rose po.write_faults pn.write_faults ⊎ ((name : Name) × Asks words (Run name) × Rose o.write_faults n.write_faults
-    × ((written : String Global) × (n.last_write_fault ≡ Some (string_bytes written)) × (pn ≡ after_write po (text_of (WriteFault written)))
-    × IsCut o n name journal (string_bytes written)))
-
-write_at : (o n po pn : Outside) (words : List (String Global)) (stop : Stop) (journal : Journal) (limit : ℕ) → Halts o n words stop journal limit → 7 ≡ status_of stop
-    → pn ≡ after_write po (text_of stop) → WriteCause o n po pn words journal
-write_at o n po pn words (WriteFault written) journal limit w e p = inr (w.0, w.1, w.2, (written, w.3, p, w.4))
-write_at o n po pn words Words journal limit w e p = absurd (omega arith)
-write_at o n po pn words (Refused refusal) journal limit w e p = absurd (omega arith)
-write_at o n po pn words (ReadFault read) journal limit w e p = absurd (omega arith)
-write_at o n po pn words (TooLong read) journal limit w e p = absurd (omega arith)
-write_at o n po pn words NoMemory journal limit w e p = absurd (omega arith)
-
-pub write-fault : (o n po pn : Outside) (words : List (String Global)) (stop : Stop) (journal : Journal) (status limit : ℕ) → Halts o n words stop journal limit
-    → PrintsStop po pn stop status → status ≡ 7 → WriteCause o n po pn words journal
-write-fault o n po pn words stop journal status limit w (inl (inl p)) e = write_at o n po pn words stop journal limit w (sym e ∙ p.0) p.1
-write-fault o n po pn words stop journal status limit w (inl (inr p)) e = inl p.1.1.rose
-write-fault o n po pn words stop journal status limit w (inr (inl p)) e = absurd (omega (arith, p.0))
-write-fault o n po pn words stop journal status limit w (inr (inr p)) e = inl p.1.1.rose
-
--- want of memory, where no write to out failed
-memory_only : (po pn : Outside) (text : List ℕ) (status : ℕ) → Prints po pn text 8 status → (Rose po.write_faults pn.write_faults → ⊥) → status ≡ 8
-memory_only po pn text status (inl p) quiet = p.0
-memory_only po pn text status (inr p) quiet = absurd (quiet p.1.1.rose)
-
-same_name : (words : List (String Global)) (a b : Name) → IsCommand words a → IsCommand words b → a ≡ b
-same_name words a b p q = cc
-
-no_command : (words : List (String Global)) (name : Name) → command_of (map string_bytes words) ≡ None → IsCommand words name → ⊥
-no_command words name none is = let h : option_map file_of (command_of (map string_bytes words)) ≡ None = ap (λ c. option_map file_of c) none in cc
-
-valid_at : (o n : Outside) (files : Files) (words : List (String Global)) (stop : Stop) (journal : Journal) (limit : ℕ) → o.files ≡ Some files
-    → Halts o n words stop journal limit → IsValid files words limit → (Rose o.read_faults n.read_faults → ⊥) → (Rose o.write_faults n.write_faults → ⊥) → status_of stop ≡ 8
-valid_at o n files words NoMemory journal limit told w valid reads writes = omega arith
-valid_at o n files words (ReadFault read) journal limit told w valid reads writes = absurd (reads w.3)
-valid_at o n files words (WriteFault written) journal limit told w valid reads writes = absurd (writes w.2)
-valid_at o n files words Words journal limit told w valid reads writes = absurd (no_command words valid.name w.0 valid.command)
-valid_at o n files words (Refused refusal) journal limit told w valid reads writes =
-    let name = same_name words w.0 valid.name w.1 valid.command in
-    let is : IsRefused files w.0 refusal = subst (λ (t : Option Files). IfSome t (λ all. IsRefused all w.0 refusal)) told w.3 in
-    let held = subst (λ (other : Name). files other ≡ Some is.net) name is.held in
-    let file = valid.network.1 in
-    let net : file.net ≡ is.net = let k = file.held in cc in
-    absurd (holds-or-refused is.net valid.network.0 valid.plan refusal (subst (λ (l : List ℕ). Holds l valid.network.0 valid.plan) net file.holds) is.refused)
-valid_at o n files words (TooLong read) journal limit told w valid reads writes =
-    let name = same_name words w.0 valid.name w.1 valid.command in
-    let more : HoldsMore (Some files) (string_bytes read) limit = subst (λ (t : Option Files). HoldsMore t (string_bytes read) limit) told w.3 in
-    let is_read : IsReadFor words files w.0 (string_bytes read) = subst (λ (t : Option Files). IfSome t (λ all. IsReadFor words all w.0 (string_bytes read))) told w.4 in
-    let short = valid.short (string_bytes read) more.0 (subst (λ (other : Name). IsReadFor words files other (string_bytes read)) name is_read) more.1 in
-    absurd (omega (arith, more.2))
-
-over_or_memory : (po pn : Outside) (stop : Stop) (status : ℕ) → PrintsStop po pn stop status → status_of stop ≡ 8 → (Rose po.write_faults pn.write_faults → ⊥) → status ≡ 8
-over_or_memory po pn stop status (inl p) e quiet = memory_only po pn (text_of stop) status (subst (λ (k : ℕ). Prints po pn (text_of stop) k status) e p) quiet
-over_or_memory po pn stop status (inr p) e quiet = memory_only po pn (text_of NoMemory) status p quiet
-
-complete_at : (o n po pn : Outside) (words : List (String Global)) (stop : Stop) (journal : Journal) (status limit : ℕ) (told : Option Files) → o.files ≡ told → Halts o n words stop journal limit
-    → PrintsStop po pn stop status → NoFaults o n po pn → IfSome told (λ files. IsValid files words limit → IsOver status ⊎ (status ≡ 8))
-complete_at o n po pn words stop journal status limit None is w p quiet = tt
-complete_at o n po pn words stop journal status limit (Some files) is w p quiet =
-    λ valid. inr (over_or_memory po pn stop status p (valid_at o n files words stop journal limit is w valid quiet.reads quiet.writes) quiet.prints)
-
--- where no count rose and all is valid, a stop is want of memory
-pub complete : (o n po pn : Outside) (words : List (String Global)) (stop : Stop) (journal : Journal) (status limit : ℕ) → Halts o n words stop journal limit → PrintsStop po pn stop status
-    → NoFaults o n po pn → IfSome o.files (λ files. IsValid files words limit → IsOver status ⊎ (status ≡ 8))
-complete o n po pn words stop journal status limit w p quiet = complete_at o n po pn words stop journal status limit o.files refl w p quiet
+pub stop-not-running : (po pn : Outside) (stop : Stop) (status : Status) → PrintsStop po pn stop status → status ≢ statuses.Running
+stop-not-running po pn stop status (inl p) is = by-status po pn (text_of stop) (status_of stop) status (λ s. s ≡ statuses.Running) p (not-running stop) (λ x. cc) is
+stop-not-running po pn stop status (inr p) is = by-status po pn (text_of NoMemory) statuses.NoMemory status (λ s. s ≡ statuses.Running) p (λ x. cc) (λ x. cc) is
 
 -- the verdict of a quiet state is that its run came to its end
-over_on : (s : State Std) (verdict : Verdict) → Quiet s → IsVerdict s verdict → IsOver (verdict_status verdict)
-over_on s Finished quiet is = inl refl
-over_on s FinishedLeft quiet is = inr (inl refl)
-over_on s Deadlock quiet is = inr (inr (inl refl))
-over_on s Failed quiet is = inr (inr (inr refl))
-over_on s Running quiet is = absurd (is quiet)
+over-on : (s : State Std) (verdict : Verdict) → Quiet s → IsVerdict s verdict → IsOver (verdict_status verdict)
+over-on s verdicts.Finished quiet is = tt
+over-on s verdicts.FinishedLeft quiet is = tt
+over-on s verdicts.Deadlock quiet is = tt
+over-on s verdicts.Failed quiet is = tt
+over-on s verdicts.Running quiet is = absurd (is quiet)
 
--- What a call that comes to its end has done before it prints.
-abbrev pub Comes : Outside → Outside → List (String Global) → Ending → Type 0
-Comes o n words ending = ((name : Name) × Asks words (Run name) × IsWhole o n name ending) ⊎ ((name : Name) × Asks words (Check name) × IsChecked o n name ending)
+-- what was printed with the status of a run or a check
+own-or-fault : (po pn : Outside) (text : List ℕ) (own status : Status) → IsOver own → Prints po pn text own status → status ≢ statuses.Running
+own-or-fault po pn text own status over p is =
+    by-status po pn text own status (λ s. s ≡ statuses.Running) p (λ running. subst IsOver running over) (λ x. cc) is
 
-ending-over : (o n : Outside) (words : List (String Global)) (ending : Ending) → Comes o n words ending → IsOver ending.status
-ending-over o n words ending (inl run) =
-    let whole = run.2 in
-    subst (λ (k : ℕ). IsOver k) (sym whole.status) (over_on whole.last whole.report.verdict whole.run.run.quiet whole.tells.verdict)
-ending-over o n words ending (inr check) = inl check.2.status
+own-complete : (told : Option Files) (P : Files → Type 0) (po pn : Outside) (text : List ℕ) (own status : Status) → IsOver own → Prints po pn text own status
+    → (Rose po.write_faults pn.write_faults → ⊥) → IfSome told (λ files. P files → IsOver status ⊎ (status ≡ statuses.NoMemory))
+own-complete None P po pn text own status over p quiet = tt
+own-complete (Some files) P po pn text own status over (inl p) quiet = λ valid. inl (subst IsOver (sym p.0) over)
+own-complete (Some files) P po pn text own status over (inr p) quiet = λ valid. absurd (quiet p.1.1.rose)
 
--- a call that came to its end printed what it had to tell
-pub ends : (o n po pn : Outside) (words : List (String Global)) (ending : Ending) (outcome : Outcome) → Comes o n words ending → outcome.journal ≡ ending.journal
-    → Prints po pn ending.text.items ending.status outcome.status → IsOver outcome.status → ComesToEnd o n po pn words outcome
-ends o n po pn words ending outcome (inl run) journal (inl p) over =
-    let whole = run.2 in
-    inl (
-      run.0,
-      run.1,
-      record {
-        plan = whole.plan;
-        last = whole.last;
-        run = subst (λ (j : Journal). IsRunOf o.files run.0 whole.plan j whole.last) (sym journal) whole.run;
-        files = whole.files;
-        report = whole.report;
-        tells = whole.tells;
-        printed = p.1 ∙ ap (λ (text : List ℕ). after_write po text) whole.text;
-        status = p.0 ∙ whole.status;
-      },
-    )
-ends o n po pn words ending outcome (inr check) journal (inl p) over =
-    let is = check.2 in
-    inr (
-      check.0,
-      check.1,
-      record {
-        text = is.text;
-        file = is.file;
-        printed = p.1 ∙ ap (λ (text : List ℕ). after_write po text) is.spelled;
-        status = p.0 ∙ is.status;
-        untouched = subst (λ (j : Journal). IsUntouched o n j) (sym journal) is.untouched;
-      },
-    )
-ends o n po pn words ending outcome comes journal (inr p) over = absurd (over_isnt_7 outcome.status over p.0)
+-- where no count rose and all is valid, a stop is want of memory
+same-name : (words : List (String Global)) (a b : Name) → IsCommand words a → IsCommand words b → a ≡ b
+same-name words a b p q = cc
 
--- with no count raised it came to its end
-pub ends-complete : (o n po pn : Outside) (words : List (String Global)) (ending : Ending) (status limit : ℕ) (before : Option Files) → Comes o n words ending
-    → Prints po pn ending.text.items ending.status status → NoFaults o n po pn
-    → IfSome before (λ files. IsValid files words limit → IsOver status ⊎ (status ≡ 8))
-ends-complete o n po pn words ending status limit None comes p quiet = tt
-ends-complete o n po pn words ending status limit (Some files) comes (inl p) quiet =
-    λ valid. inl (subst (λ (k : ℕ). IsOver k) (sym p.0) (ending-over o n words ending comes))
-ends-complete o n po pn words ending status limit (Some files) comes (inr p) quiet = absurd (quiet.prints p.1.1.rose)
+no-command : (words : List (String Global)) (name : Name) → command_of (map string_bytes words) ≡ None → IsCommand words name → ⊥
+no-command words name none is = let h : option_map file_of (command_of (map string_bytes words)) ≡ None = ap (λ c. option_map file_of c) none in cc
 
-over_small : (status : ℕ) → IsOver status → status ≤ 9
-over_small status over = grind arith
+-- the next file is one that is read for these words
+read-for : (words : List (String Global)) (files : Files) (limit : ℕ) (name : Name) (earlier : List _) (read : Name) → IsNextFile words (Some files) limit name earlier read → IsReadFor words files name read
+read-for words files limit name earlier read (inl is) = inl is.0
+read-for words files limit name earlier read (inr r) = inr (
+  r.0,
+  (
+    r.1.2,
+    record { net = r.1.0; held = r.1.3.read.held; text = r.1.1; holds = r.1.3.holds },
+    record { number = r.1.4.1.place; process = r.1.4.1.process; there = r.1.4.1.there; reads = r.1.4.1.reads },
+  ),
+)
 
-over_isnt_8 : (status : ℕ) → IsOver status → status ≡ 8 → ⊥
-over_isnt_8 status over e = grind arith
+valid-at : (w : Work) (files : Files) (limit : ℕ) (stop : Stop) → w.before.files ≡ Some files → HasCause w limit stop → IsValid files w.words limit
+    → (Rose w.before.read_faults w.after.read_faults → ⊥) → (Rose w.before.write_faults w.after.write_faults → ⊥) → stop ≡ NoMemory
+valid-at w files limit NoMemory told c valid reads writes = refl
+valid-at w files limit (ReadFault read) told c valid reads writes = absurd (reads c.shelf.rose)
+valid-at w files limit (WriteFault written) told c valid reads writes = absurd (writes (subst (λ (k : ℕ). Rose k w.after.write_faults) (ap (λ (o : Outside). o.write_faults) c.run.reads) c.fails.fails.rose))
+valid-at w files limit Words told c valid reads writes = absurd (no-command w.words valid.name c.none valid.command)
+valid-at w files limit (Refused refusal) told c valid reads writes =
+    let name = same-name w.words c.name valid.name c.command valid.command in
+    let held : files c.name ≡ Some c.net = subst (λ (t : Option Files). IfSome t (λ all. all c.name ≡ Some c.net)) told c.read.held in
+    let here : files valid.name ≡ Some c.net = subst (λ (other : Name). files other ≡ Some c.net) name held in
+    let net : valid.network.net ≡ c.net = let k = valid.network.held in cc in
+    absurd (holds-or-refused c.net valid.network.text valid.plan refusal (subst (λ (l : List ℕ). Holds l valid.network.text valid.plan) net valid.network.holds) c.refused)
+valid-at w files limit (TooLong read) told c valid reads writes =
+    let name = same-name w.words c.name valid.name c.command valid.command in
+    let more : HoldsMore (Some files) (string_bytes read) limit = subst (λ (t : Option Files). HoldsMore t (string_bytes read) limit) told c.more in
+    let next : IsNextFile w.words (Some files) limit c.name c.earlier (string_bytes read) = subst (λ (t : Option Files). IsNextFile w.words t limit c.name c.earlier (string_bytes read)) told c.next in
+    let is_read = read-for w.words files limit c.name c.earlier (string_bytes read) next in
+    let short = valid.short (string_bytes read) more.0 (subst (λ (other : Name). IsReadFor w.words files other (string_bytes read)) name is_read) more.1 in
+    absurd (omega (arith, more.2))
 
-before_isnt_7 : (status : ℕ) → StopsBefore status → status ≡ 7 → ⊥
-before_isnt_7 status before e = grind arith
+own-or-memory : (po pn : Outside) (stop : Stop) (status : Status) → PrintsStop po pn stop status → stop ≡ NoMemory → (Rose po.write_faults pn.write_faults → ⊥) → status ≡ statuses.NoMemory
+own-or-memory po pn stop status (inl (inl p)) is quiet = p.0 ∙ ap status_of is
+own-or-memory po pn stop status (inl (inr p)) is quiet = absurd (quiet p.1.1.rose)
+own-or-memory po pn stop status (inr (inl p)) is quiet = p.0
+own-or-memory po pn stop status (inr (inr p)) is quiet = absurd (quiet p.1.1.rose)
 
-before_isnt_8 : (status : ℕ) → StopsBefore status → status ≡ 8 → ⊥
-before_isnt_8 status before e = grind arith
+pub stop-complete : (words : List (String Global)) (o n po pn : Outside) (journal : Journal) (status : Status) (limit : ℕ) (stop : Stop)
+    → HasCause (so_far words o n journal) limit stop → PrintsStop po pn stop status → IsComplete (call_of words o n po pn journal status) limit
+stop-complete words o n po pn journal status limit stop cause prints quiet = go o.files refl where
+  go : (told : Option Files) → o.files ≡ told → IfSome told (λ files. IsValid files words limit → IsOver status ⊎ (status ≡ statuses.NoMemory))
+  go None is = tt
+  go (Some files) is = λ valid. inr (own-or-memory po pn stop status prints (valid-at (so_far words o n journal) files limit stop is cause valid quiet.reads quiet.writes) quiet.prints)
 
-before_isnt_over : (status : ℕ) → StopsBefore status → IsOver status → ⊥
-before_isnt_over status before over = grind arith
+-- a run, and what was written and printed of it
+module _ (words : List (String Global)) (o a n po pn : Outside) (ran : Ran) (status : Status) (limit : ℕ) (has : HasRun o a words limit ran) (did : Finishes a n po pn ran status) where
+  over-run : IsOver (verdict_status ran.told.verdict)
+  over-run = subst (λ (v : Verdict). IsOver (verdict_status v)) (sym has.leaves.told_is.verdict)
+      (over-on has.leaves.last has.leaves.told_is.report.verdict has.leaves.run.quiet has.leaves.told_is.tells.verdict)
 
--- Its status is one of the table: not that of want of memory, and none of a stop before the run.
-pub record IsEnd (status : ℕ) : Type 0 where
-  pub small : status ≤ 9
-  pub memory : status ≡ 8 → ⊥
-  pub before : StopsBefore status → ⊥
+  pub ran-caused : IsCaused (call_of words o n po pn ran.told.journal status) limit
+  ran-caused = go did where
+    go : Finishes a n po pn ran status → IsCaused (call_of words o n po pn ran.told.journal status) limit
+    go (inl (w, p)) = inl (record {
+      name = has.name;
+      asks = has.asks;
+      report = has.leaves.told_is.report;
+      whole = whole-run o a n words limit ran has w;
+      prints = printed-report o a n words limit ran has po pn status p;
+    })
+    go (inr (stop, w, p)) = stopped words o n po pn ran.told.journal status limit stop (stops-writing o a n words limit ran has stop w) p
 
-pub ends-status : (o n po pn : Outside) (words : List (String Global)) (ending : Ending) (status : ℕ) → Comes o n words ending
-    → Prints po pn ending.text.items ending.status status → IsEnd status
-ends-status o n po pn words ending status comes (inl p) =
-    let over = subst (λ (k : ℕ). IsOver k) (sym p.0) (ending-over o n words ending comes) in
-    record { small = over_small status over; memory = over_isnt_8 status over; before = λ before. before_isnt_over status before over }
-ends-status o n po pn words ending status comes (inr p) =
-    record { small = omega (arith, p.0); memory = λ e. omega (arith, p.0, e); before = λ before. before_isnt_7 status before p.0 }
+  pub ran-well : IsOver status → ComesToEnd (call_of words o n po pn ran.told.journal status) limit
+  ran-well over = go did where
+    well : WritesAll a n (net_outputs ran.plan ran.net) → Prints po pn (report_text has.leaves.told_is.report) (verdict_status has.leaves.told_is.report.verdict) status → ComesToEnd (call_of words o n po pn ran.told.journal status) limit
+    well w (inl p) = inl (has.name, has.asks, record { report = has.leaves.told_is.report; whole = whole-run o a n words limit ran has w; printed = p.1; status = p.0 })
+    well w (inr p) = absurd (subst IsOver p.0 over)
+    go : Finishes a n po pn ran status → ComesToEnd (call_of words o n po pn ran.told.journal status) limit
+    go (inl (w, p)) = well w (printed-report o a n words limit ran has po pn status p)
+    go (inr (stop, w, p)) = absurd (stop-not-over po pn stop status p over)
 
-stop_small : (stop : Stop) → status_of stop ≤ 9
-stop_small Words = omega arith
-stop_small (Refused refusal) = omega arith
-stop_small (ReadFault read) = omega arith
-stop_small (WriteFault written) = omega arith
-stop_small (TooLong read) = omega arith
-stop_small NoMemory = omega arith
+  pub ran-not-running : status ≢ statuses.Running
+  ran-not-running = go did where
+    go : Finishes a n po pn ran status → status ≢ statuses.Running
+    go (inl (w, p)) = own-or-fault po pn ran.told.report.items (verdict_status ran.told.verdict) status over-run p
+    go (inr (stop, w, p)) = stop-not-running po pn stop status p
 
-pub stop-small : (po pn : Outside) (stop : Stop) (status : ℕ) → PrintsStop po pn stop status → status ≤ 9
-stop-small po pn stop status (inl (inl p)) = subst (λ (k : ℕ). k ≤ 9) (sym p.0) (stop_small stop)
-stop-small po pn stop status (inl (inr p)) = omega (arith, p.0)
-stop-small po pn stop status (inr (inl p)) = omega (arith, p.0)
-stop-small po pn stop status (inr (inr p)) = omega (arith, p.0)
+  pub ran-complete : IsComplete (call_of words o n po pn ran.told.journal status) limit
+  ran-complete quiet = go did where
+    go : Finishes a n po pn ran status → IfSome o.files (λ files. IsValid files words limit → IsOver status ⊎ (status ≡ statuses.NoMemory))
+    go (inl (w, p)) = own-complete o.files (λ files. IsValid files words limit) po pn ran.told.report.items (verdict_status ran.told.verdict) status over-run p quiet.prints
+    go (inr (stop, w, p)) = stop-complete words o n po pn ran.told.journal status limit stop (stops-writing o a n words limit ran has stop w) p quiet
 
-memory_own : (po pn : Outside) (stop : Stop) → status_of stop ≡ 8 → pn ≡ after_write po (text_of stop) → pn ≡ after_write po (text_of NoMemory)
-memory_own po pn NoMemory e p = p
-memory_own po pn Words e p = absurd (omega (arith, e))
-memory_own po pn (Refused refusal) e p = absurd (omega (arith, e))
-memory_own po pn (ReadFault read) e p = absurd (omega (arith, e))
-memory_own po pn (WriteFault written) e p = absurd (omega (arith, e))
-memory_own po pn (TooLong read) e p = absurd (omega (arith, e))
+-- a check, and what was printed of it
+module _ (words : List (String Global)) (o n po pn : Outside) (journal : Journal) (text : List ℕ) (status : Status) (limit : ℕ) (has : HasChecked o n words limit text)
+    (empty : IsEmptyJournal journal) (p : Prints po pn text statuses.Finished status) where
+  checked : IsChecked (so_far words o n journal) limit has.name has.text
+  checked = record { net = has.net; plan = has.plan; file = has.file; shelf = has.shelf; journal = empty }
 
--- with status 8 the text of want of memory was printed
-pub memory : (po pn : Outside) (stop : Stop) (status : ℕ) → PrintsStop po pn stop status → status ≡ 8 → pn ≡ after_write po (text_of NoMemory)
-memory po pn stop status (inl (inl p)) e = memory_own po pn stop (sym p.0 ∙ e) p.1
-memory po pn stop status (inl (inr p)) e = absurd (omega (arith, p.0, e))
-memory po pn stop status (inr (inl p)) e = p.1
-memory po pn stop status (inr (inr p)) e = absurd (omega (arith, p.0, e))
+  spelled : Prints po pn (canonical has.text) statuses.Finished status
+  spelled = subst (λ (t : List ℕ). Prints po pn t statuses.Finished status) has.spelled_is p
 
-unmade_at : (o n : Outside) (words : List (String Global)) (stop : Stop) (journal : Journal) (limit : ℕ) → Halts o n words stop journal limit
-    → StopsBefore (status_of stop) → IsUntouched o n journal
-unmade_at o n words Words journal limit w before = (w.2, ap (λ (x : Outside). x.files) w.1)
-unmade_at o n words (Refused refusal) journal limit w before = w.2
-unmade_at o n words (ReadFault read) journal limit w before = w.2
-unmade_at o n words (TooLong read) journal limit w before = w.2
-unmade_at o n words (WriteFault written) journal limit w before = absurd (before_isnt_7 7 before refl)
-unmade_at o n words NoMemory journal limit w before = absurd (before_isnt_8 8 before refl)
+  pub check-caused : IsCaused (call_of words o n po pn journal status) limit
+  check-caused = inr (inl (record { name = has.name; asks = has.asks; text = has.text; checked = checked; prints = spelled }))
 
--- a stop before the run made no turn and touched no file
-pub unmade : (o n po pn : Outside) (words : List (String Global)) (stop : Stop) (journal : Journal) (status limit : ℕ) → Halts o n words stop journal limit
-    → PrintsStop po pn stop status → StopsBefore status → IsUntouched o n journal
-unmade o n po pn words stop journal status limit w p before =
-    let q = stop_own po pn stop status p (before_isnt_7 status before) (before_isnt_8 status before) in
-    unmade_at o n words stop journal limit w (subst (λ (k : ℕ). StopsBefore k) q.0 before)
+  pub check-well : IsOver status → ComesToEnd (call_of words o n po pn journal status) limit
+  check-well over = go spelled where
+    go : Prints po pn (canonical has.text) statuses.Finished status → ComesToEnd (call_of words o n po pn journal status) limit
+    go (inl p) = inr (has.name, has.asks, record { text = has.text; checked = checked; printed = p.1; status = p.0 })
+    go (inr p) = absurd (subst IsOver p.0 over)
 
--- what stands after a stop, and after a run
-pub stop-stands : (o n : Outside) (words : List (String Global)) (stop : Stop) (journal : Journal) (limit : ℕ) → Halts o n words stop journal limit → Stands o n words journal
-stop-stands o n words Words journal limit w = inl (w.2, ap (λ (x : Outside). x.files) w.1)
-stop-stands o n words (Refused refusal) journal limit w = inl w.2
-stop-stands o n words (ReadFault read) journal limit w = inl w.2
-stop-stands o n words (TooLong read) journal limit w = inl w.2
-stop-stands o n words (WriteFault written) journal limit w = inr (inr (inl (w.0, string_bytes written, w.1, w.4)))
-stop-stands o n words NoMemory journal limit (inl w) = inl w
-stop-stands o n words NoMemory journal limit (inr (inl w)) = inr (inl w)
-stop-stands o n words NoMemory journal limit (inr (inr w)) = inr (inr (inl w))
+  pub check-not-running : status ≢ statuses.Running
+  check-not-running = own-or-fault po pn text statuses.Finished status tt p
 
-pub ends-stand : (o n : Outside) (words : List (String Global)) (ending : Ending) → Comes o n words ending → Stands o n words ending.journal
-ends-stand o n words ending (inl run) = inr (inr (inr (run.0, run.2.plan, run.2.last, run.1, run.2.run, run.2.files)))
-ends-stand o n words ending (inr check) = inl check.2.untouched
+  pub check-complete : IsComplete (call_of words o n po pn journal status) limit
+  check-complete quiet = own-complete o.files (λ files. IsValid files words limit) po pn text statuses.Finished status tt p quiet.prints

@@ -1,10 +1,12 @@
 pub mod After
+pub mod Causes
 pub mod Many
+pub mod Meant
 pub mod Networks
 pub mod Parts
 pub mod Prepare
 pub mod Runs
+pub mod Statuses
 pub mod Step
 pub mod Stops
 pub mod Top
-pub mod Meant

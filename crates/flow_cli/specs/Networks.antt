@@ -1,5 +1,5 @@
 -- What a network file holds: a value and its plan, or why it is refused.
-use Rattle.std.specs.Prelude.{ℕ, List, Ok, Err}
+use Rattle.std.specs.Prelude.{ℕ, List, Ok, Err, ⊤}
 use Rattle.std.specs.declared.result.Result.{Result}
 use Rattle.flow_plan.specs.Network.{Network}
 use Rattle.flow_plan.specs.Valid.{IsValid}
@@ -8,11 +8,11 @@ use Rattle.flow_parse.specs.declared.value.NetText.{NetText}
 use Rattle.flow_parse.specs.Files.{Spells, Refused}
 use Rattle.flow_flat.specs.Texts.{TextComesTo}
 use Rattle.flow_catalogue.specs.Kinds.{std_kinds}
-use Rattle.flow_cli.specs.declared.net_file.Refusal.{Refusal}
-use Rattle.flow_cli.specs.declared.net_file.Refusal.TheVariants as refusals
+use Rattle.flow_cli.specs.declared.stop.Refusal.{Refusal}
+use Rattle.flow_cli.specs.declared.stop.Refusal.TheVariants as refusals
 use Rattle.flow_cli.specs.declared.net_file.NetFile.{NetFile}
-use Rattle.flow_cli.specs.declared.net_file.NetworkStop.{NetworkStop}
-use Rattle.flow_cli.specs.declared.net_file.NetworkStop.TheVariants.{Refused as IsRefused, NoMemory}
+use Rattle.flow_cli.specs.declared.stop.Stop.{Stop}
+use Rattle.flow_cli.specs.declared.stop.Stop.TheVariants.{Refused as IsRefused, NoMemory}
 
 -- The bytes spell this value, and this is its plan over the standard kinds.
 pub record Holds (net : List ℕ) (text : NetText) (plan : Network) : Type 0 where
@@ -30,7 +30,8 @@ pub record IsStandardPlan (plan : Network) : Type 0 where
   pub over : IsOver std_kinds plan
 
 -- What reading a network file's bytes answers.
-abbrev pub ReadsAs : List ℕ → Result NetFile NetworkStop → Type 0
+abbrev pub ReadsAs : List ℕ → Result NetFile Stop → Type 0
 ReadsAs net (Ok file) = Holds net file.text file.plan × IsStandardPlan file.plan
 ReadsAs net (Err (IsRefused refusal)) = RefusedFor net refusal
-ReadsAs net (Err NoMemory) = Unit {0}
+ReadsAs net (Err NoMemory) = ⊤
+ReadsAs net (Err other) = ⊥

@@ -16,8 +16,8 @@ use Rattle.flow_runs.specs.Runs.{IsRun}
 use Rattle.flow_report.specs.Text.{Told as Report, report_text}
 use Rattle.flow_report.specs.Of.{told_of}
 use Rattle.flow_report.specs.States.{TellsOf}
-use Rattle.flow_cli.specs.Many.{Filled}
-use Rattle.flow_cli.specs.After.{written_by}
+use Rattle.flow_cli.specs.Step.{Filled}
+use Rattle.flow_cli.specs.Parts.{written_by}
 use Rattle.flow_cli.specs.declared.engine.Told.{Told}
 
 -- A journal, as the machine knows it.
@@ -51,8 +51,6 @@ pub record IsToldOf (plan : Network) (last : State Std) (told : Told) : Type 0 w
   pub tells : TellsOf plan last report
   pub verdict : told.verdict ≡ report.verdict
   pub text : told.report.items ≡ report_text report
-
--- The same of the net that ran: its bodies, as the code has them.
 
 -- The network of this plan started with these parts, and its processes took turns, round and round, until none could go on.
 pub record RanOn (plan : Network) (parts : List Std) (net : NetValue Std) : Type 0 where

@@ -3,22 +3,24 @@ use Rattle.std.specs.Prelude.{◌≡◌, ℕ, List, [], ◌∷◌, ◌++◌, str
 use Rattle.flow_text.specs.Edge.{Name}
 use Rattle.flow_text.specs.declared.edge.ShelfStop.{ShelfStop}
 use Rattle.flow_text.specs.declared.edge.ShelfStop.TheVariants as shelf
-use Rattle.flow_cli.specs.declared.step.FileStop.{FileStop}
-use Rattle.flow_cli.specs.declared.step.FileStop.TheVariants as file
+use Rattle.flow_text.specs.declared.all.ReadStop.{ReadStop}
+use Rattle.flow_text.specs.declared.all.ReadStop.TheVariants as file
+use Rattle.flow_cli.specs.declared.status.Status.{Status}
+use Rattle.flow_cli.specs.declared.status.Status.TheVariants as statuses
 use Rattle.flow_cli.specs.declared.stop.Stop.{Stop}
 use Rattle.flow_cli.specs.declared.stop.Stop.TheVariants.{Words, Refused, ReadFault, WriteFault, TooLong, NoMemory}
 use Rattle.flow_expand.specs.Refusals.{fault_text, net_fault_text}
-use Rattle.flow_cli.specs.declared.net_file.Refusal.{Refusal}
-use Rattle.flow_cli.specs.declared.net_file.Refusal.TheVariants as refusals
+use Rattle.flow_cli.specs.declared.stop.Refusal.{Refusal}
+use Rattle.flow_cli.specs.declared.stop.Refusal.TheVariants as refusals
 
 -- The status with which a stop ends the program.
-abbrev pub status_of : Stop → ℕ
-status_of Words = 2
-status_of (Refused refusal) = 3
-status_of (ReadFault name) = 6
-status_of (WriteFault name) = 7
-status_of NoMemory = 8
-status_of (TooLong name) = 9
+abbrev pub status_of : Stop → Status
+status_of Words = statuses.Words
+status_of (Refused refusal) = statuses.Refused
+status_of (ReadFault name) = statuses.ReadFault
+status_of (WriteFault name) = statuses.WriteFault
+status_of NoMemory = statuses.NoMemory
+status_of (TooLong name) = statuses.TooLong
 
 -- What is said of a refused network.
 abbrev pub refusal_text : Refusal → List ℕ
@@ -35,9 +37,9 @@ text_of NoMemory = codes "no memory" ++ 10 ∷ []
 text_of (TooLong name) = codes "too long: " ++ string_bytes name ++ 10 ∷ []
 
 -- The stop of a read of this name. Want of memory is free, since the stop keeps the name.
-abbrev pub IsReadStop : FileStop → Name → Stop → Type 0
+abbrev pub IsReadStop : ReadStop → Name → Stop → Type 0
 IsReadStop file.Fault name (ReadFault read) = string_bytes read ≡ name
-IsReadStop file.TooLong name (TooLong read) = string_bytes read ≡ name
+IsReadStop (file.TooLong told) name (TooLong read) = string_bytes read ≡ name
 IsReadStop stop name NoMemory = ⊤
 IsReadStop stop name other = ⊥
 

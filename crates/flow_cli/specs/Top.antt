@@ -1,158 +1,162 @@
--- What the top call does, and the cause of each status.
-use Rattle.std.specs.Prelude.{◌≡◌, ◌⊎◌, ℕ, ◌≤◌, List, [], map, length, Some, None, Ok, Err, IfSome, String, string_bytes}
+-- What the top call does.
+use Rattle.std.specs.Prelude.{◌≡◌, ◌⊎◌, ℕ, ◌≤◌, List, [], ◌∷◌, length, map, Some, Ok, Err, IfSome, String}
 use Rattle.std.specs.declared.alloc.Global.{Global}
 use Rattle.std.specs.declared.option.Option.{Option}
 use Rattle.std.specs.declared.result.Result.{Result}
 use Rattle.std.specs.Option.{option_map}
 use Rattle.flow_text.specs.Edge.{Outside, Name, Files, Rose, after_write}
 use Rattle.flow_plan.specs.Network.{Network}
-use Rattle.flow_words.specs.Words.{Run, Check, command_of}
+use Rattle.flow_words.specs.Words.{Run, Check}
 use Rattle.flow_parse.specs.declared.value.NetText.{NetText}
 use Rattle.flow_parse.specs.Canonical.{canonical}
-use Rattle.flow_cli.specs.Parts.{AreParts}
-use Rattle.flow_cli.specs.Networks.{IsStandardPlan}
-use Rattle.flow_cli.specs.Prepare.{Asks, IsCommand, IsFile, IsNetwork, IsRefused, IsReadFor}
-use Rattle.flow_cli.specs.Step.{HoldsMore}
-use Rattle.flow_cli.specs.Many.{replaced_all}
-use Rattle.flow_cli.specs.After.{IsCutShort, Prints, verdict_status}
-use Rattle.flow_cli.specs.Runs.{RunsTo, outputs_of}
+use Rattle.flow_cli.specs.Step.{OnlyReads, whole}
+use Rattle.flow_cli.specs.Parts.{IsInput}
+use Rattle.flow_cli.specs.Networks.{Holds}
+use Rattle.flow_cli.specs.Many.{WritesAll, WritesFiles}
+use Rattle.flow_cli.specs.After.{Prints, verdict_status}
+use Rattle.flow_cli.specs.Runs.{Leaves, net_outputs, outputs_of}
+use Rattle.flow_cli.specs.Prepare.{IsReady}
+use Rattle.flow_cli.specs.Statuses.{IsOver}
+use Rattle.flow_cli.specs.Stops.{status_of, text_of}
+use Rattle.flow_cli.specs.Causes.{Work, Asks, IsCommand, IsEmptyJournal, IsFile, IsRunOf, HasCause}
 use Rattle.flow_report.specs.Text.{Told as Report, report_text}
 use Rattle.flow_report.specs.States.{TellsOf}
 use Rattle.flow_model.specs.States.{State}
-use Rattle.flow_cli.specs.declared.top.Outcome.{Outcome}
 use Rattle.flow_catalogue.specs.declared.standard.Std.{Std}
-use Rattle.flow_cli.specs.Stops.{status_of, text_of}
 use Rattle.flow_journal.specs.declared.merge.Journal.{Journal}
-use Rattle.flow_cli.specs.declared.engine.Told.{Told}
-use Rattle.flow_cli.specs.declared.run.Ending.{Ending}
-use Rattle.flow_cli.specs.declared.run.Halt.{Halt}
+use Rattle.flow_cli.specs.declared.engine.Ran.{Ran}
+use Rattle.flow_cli.specs.declared.run.Done.{Done}
+use Rattle.flow_cli.specs.declared.run.Done.TheVariants as dones
+use Rattle.flow_cli.specs.declared.status.Status.{Status}
+use Rattle.flow_cli.specs.declared.status.Status.TheVariants.{Finished}
 use Rattle.flow_cli.specs.declared.stop.Stop.{Stop}
-use Rattle.flow_cli.specs.declared.stop.Stop.TheVariants.{Words, Refused, ReadFault, WriteFault, TooLong, NoMemory}
+use Rattle.flow_cli.specs.declared.stop.Stop.TheVariants.{NoMemory}
 
--- The network file of this name holds a network that was run on what its input files held: this is its plan, a valid one over the standard kinds, the journal
--- of the run, and the state to which that leads.
-pub record IsRunOf (before : Option Files) (name : Name) (plan : Network) (journal : Journal) (last : State Std) : Type 0 where
-  pub network : IfSome before (λ files. IsNetwork files name plan)
-  pub standard : IsStandardPlan plan
-  pub parts : List Std
-  pub are_parts : AreParts before plan parts
-  pub run : RunsTo plan parts journal last
-
--- Such a run was made: the files of its writers were replaced in order, all other names hold what they held, and its report and verdict are to be told.
-pub record IsWhole (old new : Outside) (name : Name) (ending : Ending) : Type 0 where
+-- A run was made, all files of its writers were written whole, in the order of the processes, and nothing else; and this report tells of its last state.
+pub record IsWhole (w : Work) (limit : ℕ) (name : Name) (report : Report) : Type 0 where
   pub plan : Network
   pub last : State Std
-  pub run : IsRunOf old.files name plan ending.journal last
-  pub report : Report
+  pub middle : Outside
+  pub run : IsRunOf w limit name plan last middle
+  pub writes : WritesAll middle w.after (outputs_of plan last)
   pub tells : TellsOf plan last report
-  pub text : ending.text.items ≡ report_text report
-  pub status : ending.status ≡ verdict_status report.verdict
-  pub files : new.files ≡ option_map (replaced_all (outputs_of plan last)) old.files
 
--- Such a run was made, and none of its files was touched.
-pub record IsUnwritten (old new : Outside) (name : Name) (journal : Journal) : Type 0 where
+-- The network file was read whole, and nothing else was done; it holds this value, which has a plan.
+pub record IsChecked (w : Work) (limit : ℕ) (name : Name) (text : NetText) : Type 0 where
+  pub net : List ℕ
   pub plan : Network
-  pub last : State Std
-  pub run : IsRunOf old.files name plan journal last
-  pub files : new.files ≡ old.files
+  pub file : IsFile w.before.files limit name net text plan
+  pub shelf : OnlyReads w.before w.after (whole (name, net) ∷ [])
+  pub journal : IsEmptyJournal w.journal
 
--- Such a run was made, and writing its files stopped at this one.
-pub record IsCut (old new : Outside) (name : Name) (journal : Journal) (written : Name) : Type 0 where
-  pub plan : Network
-  pub last : State Std
-  pub run : IsRunOf old.files name plan journal last
-  pub cut : IfSome old.files (λ files. IsCutShort files new.files (outputs_of plan last) written)
+-- A network has run, on what was read, and nothing is written yet.
+pub record HasRun (old new : Outside) (words : List (String Global)) (limit : ℕ) (ran : Ran) : Type 0 where
+  pub name : Name
+  pub asks : Asks words (Run name)
+  pub parts : List Std
+  pub ready : IsReady old new limit name ran.plan parts
+  pub leaves : Leaves ran.plan parts ran.net ran.told
 
--- No turn was made.
-abbrev pub IsEmptyJournal : Journal → Type 0
-IsEmptyJournal journal = (journal.turns ≡ []) × (journal.seen ≡ [])
-
--- No turn was made, and no file was touched.
-abbrev pub IsUntouched : Outside → Outside → Journal → Type 0
-IsUntouched old new journal = IsEmptyJournal journal × (new.files ≡ old.files)
-
--- The network file of this name holds a value with a plan, and the canonical spelling of that value is to be told; nothing was touched.
-pub record IsChecked (old new : Outside) (name : Name) (ending : Ending) : Type 0 where
+-- A network file was read, and this is the canonical spelling of its value.
+pub record HasChecked (old new : Outside) (words : List (String Global)) (limit : ℕ) (spelled : List ℕ) : Type 0 where
+  pub name : Name
+  pub asks : Asks words (Check name)
   pub text : NetText
-  pub file : IfSome old.files (λ files. (plan : Network) × IsFile files name text plan)
-  pub spelled : ending.text.items ≡ canonical text
-  pub status : ending.status ≡ 0
-  pub untouched : IsUntouched old new ending.journal
+  pub net : List ℕ
+  pub plan : Network
+  pub file : IsFile old.files limit name net text plan
+  pub shelf : OnlyReads old new (whole (name, net) ∷ [])
+  pub spelled_is : spelled ≡ canonical text
 
--- Each stop has its cause in the words, or in what the shelf held and did.
-abbrev pub Halts : Outside → Outside → List (String Global) → Stop → Journal → ℕ → Type 0
-Halts old new words Words journal limit = (command_of (map string_bytes words) ≡ None) × (new ≡ old) × IsEmptyJournal journal
-Halts old new words (Refused refusal) journal limit = (name : Name) × IsCommand words name × IsUntouched old new journal × IfSome old.files (λ files. IsRefused files name refusal)
-Halts old new words (ReadFault read) journal limit = (name : Name) × IsCommand words name × IsUntouched old new journal × Rose old.read_faults new.read_faults
-    × (new.last_read_fault ≡ Some (string_bytes read)) × IfSome old.files (λ files. IsReadFor words files name (string_bytes read))
-Halts old new words (TooLong read) journal limit = (name : Name) × IsCommand words name × IsUntouched old new journal
-    × HoldsMore old.files (string_bytes read) limit × IfSome old.files (λ files. IsReadFor words files name (string_bytes read))
-Halts old new words (WriteFault written) journal limit = (name : Name) × Asks words (Run name) × Rose old.write_faults new.write_faults
-    × (new.last_write_fault ≡ Some (string_bytes written)) × IsCut old new name journal (string_bytes written)
-Halts old new words NoMemory journal limit =
-    IsUntouched old new journal
-    ⊎ ((name : Name) × Asks words (Run name) × IsUnwritten old new name journal)
-    ⊎ ((name : Name) × (written : Name) × Asks words (Run name) × IsCut old new name journal written)
-
--- What a call does before something is printed.
-abbrev pub Works : Outside → Outside → List (String Global) → Result Ending Halt → ℕ → Type 0
-Works old new words (Ok ending) limit =
-    ((name : Name) × Asks words (Run name) × IsWhole old new name ending) ⊎ ((name : Name) × Asks words (Check name) × IsChecked old new name ending)
-Works old new words (Err halt) limit = Halts old new words halt.stop halt.journal limit
-
--- The end of a run tells its report, verdict and journal.
-pub record Ends (told : Told) (ending : Ending) : Type 0 where
-  pub status : ending.status ≡ verdict_status told.verdict
-  pub text : ending.text.items ≡ told.report.items
-  pub journal : ending.journal ≡ told.journal
-
--- The end of a check tells the canonical spelling, unless there is no memory for it.
-abbrev pub Checks : NetText → Result Ending Halt → Type 0
-Checks text (Ok ending) = (ending.text.items ≡ canonical text) × (ending.status ≡ 0) × IsEmptyJournal ending.journal
-Checks text (Err halt) = (halt.stop ≡ NoMemory) × IsEmptyJournal halt.journal
-
--- However a call ends: nothing was done, or a run was made, whose journal this is, and none of its files was touched, or they were written up to one, or all.
-abbrev pub Stands : Outside → Outside → List (String Global) → Journal → Type 0
-Stands old new words journal =
-    IsUntouched old new journal
-    ⊎ ((name : Name) × Asks words (Run name) × IsUnwritten old new name journal)
-    ⊎ ((name : Name) × (written : Name) × Asks words (Run name) × IsCut old new name journal written)
-    ⊎ ((name : Name) × (plan : Network) × (last : State Std) × Asks words (Run name) × IsRunOf old.files name plan journal last
-    × (new.files ≡ option_map (replaced_all (outputs_of plan last)) old.files))
+-- What a call does before something is written or printed.
+abbrev pub Performs : Outside → Outside → List (String Global) → Result Done Stop → ℕ → Type 0
+Performs old new words (Ok (dones.Ran ran)) limit = HasRun old new words limit ran
+Performs old new words (Ok (dones.Checked text)) limit = HasChecked old new words limit text.items
+Performs old new words (Err stop) limit = (journal : Journal) → IsEmptyJournal journal → HasCause (record { words = words; before = old; after = new; journal = journal }) limit stop
 
 -- The text of the stop was printed, or, where there was no memory for it, that of want of memory.
-abbrev pub PrintsStop : Outside → Outside → Stop → ℕ → Type 0
-PrintsStop old new stop status = Prints old new (text_of stop) (status_of stop) status ⊎ Prints old new (text_of NoMemory) 8 status
+abbrev pub PrintsStop : Outside → Outside → Stop → Status → Type 0
+PrintsStop old new stop status = Prints old new (text_of stop) (status_of stop) status ⊎ Prints old new (text_of NoMemory) (status_of NoMemory) status
 
--- A run came to its end: finished, finished with packets left, in a deadlock, or failed.
-abbrev pub IsOver : ℕ → Type 0
-IsOver status = (status ≡ 0) ⊎ (status ≡ 1) ⊎ (status ≡ 4) ⊎ (status ≡ 5)
+-- The files of a run were written and then its report was printed, or writing them stopped and the text of that was.
+abbrev pub Finishes : Outside → Outside → Outside → Outside → Ran → Status → Type 0
+Finishes shelf shelf_after out out_after ran status =
+    (WritesAll shelf shelf_after (net_outputs ran.plan ran.net) × Prints out out_after ran.told.report.items (verdict_status ran.told.verdict) status)
+    ⊎ ((stop : Stop) × WritesFiles {T = Unit {0}} shelf shelf_after (Err stop) (net_outputs ran.plan ran.net) × PrintsStop out out_after stop status)
 
--- A call stopped before its network ran: at the words, a refused network, a read fault, or a file that is too long.
-abbrev pub StopsBefore : ℕ → Type 0
-StopsBefore status = (status ≡ 2) ⊎ (status ≡ 3) ⊎ (status ≡ 6) ⊎ (status ≡ 9)
+-- What stands of a call: its work, its output before and after, and its status.
+pub record Call : Type 0 where
+  pub work : Work
+  pub out : Outside
+  pub out_after : Outside
+  pub status : Status
 
--- The headline. The network of the file of this name was run: the journal of the outcome is a schedule of the machine from the plan's start and the
--- round robin, after each of whose prefixes each packet is in one place and each connection is in order, and no process can go on after the whole of it. The
--- files of the state to which it leads were replaced in order and no other name was changed; exactly the report of that state was printed; and the status is
--- its verdict.
-pub record EndsWell (shelf shelf_after out out_after : Outside) (name : Name) (outcome : Outcome) : Type 0 where
-  pub plan : Network
-  pub last : State Std
-  pub run : IsRunOf shelf.files name plan outcome.journal last
-  pub files : shelf_after.files ≡ option_map (replaced_all (outputs_of plan last)) shelf.files
+abbrev pub call_of : List (String Global) → Outside → Outside → Outside → Outside → Journal → Status → Call
+call_of words shelf shelf_after out out_after journal status = record {
+  work = record { words = words; before = shelf; after = shelf_after; journal = journal };
+  out = out;
+  out_after = out_after;
+  status = status;
+}
+
+-- A run was made, and its report was printed; or a first part of that, and the output failed.
+pub record TellsRun (c : Call) (limit : ℕ) : Type 0 where
+  pub name : Name
+  pub asks : Asks c.work.words (Run name)
   pub report : Report
-  pub tells : TellsOf plan last report
-  pub printed : out_after ≡ after_write out (report_text report)
-  pub status : outcome.status ≡ verdict_status report.verdict
+  pub whole : IsWhole c.work limit name report
+  pub prints : Prints c.out c.out_after (report_text report) (verdict_status report.verdict) c.status
+
+-- A network file was checked, and its canonical spelling was printed; or a first part of that, and the output failed.
+pub record TellsCheck (c : Call) (limit : ℕ) : Type 0 where
+  pub name : Name
+  pub asks : Asks c.work.words (Check name)
+  pub text : NetText
+  pub checked : IsChecked c.work limit name text
+  pub prints : Prints c.out c.out_after (canonical text) Finished c.status
+
+-- The call stopped for this cause, and the text of that was printed; or a first part of that, and the output failed.
+pub record TellsStop (c : Call) (limit : ℕ) : Type 0 where
+  pub stop : Stop
+  pub cause : HasCause c.work limit stop
+  pub prints : Prints c.out c.out_after (text_of stop) (status_of stop) c.status
+
+-- Whatever its status is, a call has run a network, or checked a file, or stopped for a cause; and has told what came of it.
+abbrev pub IsCaused : Call → ℕ → Type 0
+IsCaused c limit = TellsRun c limit ⊎ TellsCheck c limit ⊎ TellsStop c limit
+
+-- The headline. The network of the file of this name was run: its plan is a valid one over the standard kinds; the journal of the outcome is a schedule of the
+-- machine from the plan's start and the round robin, after each of whose prefixes each packet is in one place and each connection is in order, and no process can
+-- go on after the whole of it. The network file and the readers' files were read whole, in order, and nothing else; then the files of the state to which the
+-- journal leads were written whole, in order, and nothing else. Exactly the report of that state was printed, and the status is its verdict.
+pub record EndsWell (c : Call) (limit : ℕ) (name : Name) : Type 0 where
+  pub report : Report
+  pub whole : IsWhole c.work limit name report
+  pub printed : c.out_after ≡ after_write c.out (report_text report)
+  pub status : c.status ≡ verdict_status report.verdict
 
 -- The network file of this name holds a value with a plan; its canonical spelling was printed, and nothing else was done.
-pub record ChecksWell (shelf shelf_after out out_after : Outside) (name : Name) (outcome : Outcome) : Type 0 where
+pub record ChecksWell (c : Call) (limit : ℕ) (name : Name) : Type 0 where
   pub text : NetText
-  pub file : IfSome shelf.files (λ files. (plan : Network) × IsFile files name text plan)
-  pub printed : out_after ≡ after_write out (canonical text)
-  pub status : outcome.status ≡ 0
-  pub untouched : IsUntouched shelf shelf_after outcome.journal
+  pub checked : IsChecked c.work limit name text
+  pub printed : c.out_after ≡ after_write c.out (canonical text)
+  pub status : c.status ≡ Finished
+
+-- A call that came to its end: a run did, or a check.
+abbrev pub ComesToEnd : Call → ℕ → Type 0
+ComesToEnd c limit =
+    ((name : Name) × Asks c.work.words (Run name) × EndsWell c limit name) ⊎ ((name : Name) × Asks c.work.words (Check name) × ChecksWell c limit name)
+
+-- A network file of this name, with these contents, holds the network of this plan.
+pub record IsNetwork (files : Files) (name : Name) (plan : Network) : Type 0 where
+  pub net : List ℕ
+  pub held : files name ≡ Some net
+  pub text : NetText
+  pub holds : Holds net text plan
+
+-- A name that a call with these words reads: a check reads the network file alone, a run the input files of its network too.
+abbrev pub IsReadFor : List (String Global) → Files → Name → Name → Type 0
+IsReadFor words files name read = (read ≡ name) ⊎ (Asks words (Run name) × ((plan : Network) × IsNetwork files name plan × IsInput plan read))
 
 -- The words are a command line, the network file holds a value with a plan, and no file that is read is longer than the limit.
 pub record IsValid (files : Files) (words : List (String Global)) (limit : ℕ) : Type 0 where
@@ -162,14 +166,12 @@ pub record IsValid (files : Files) (words : List (String Global)) (limit : ℕ) 
   pub network : IsNetwork files name plan
   pub short : (read bytes : List ℕ) → IsReadFor words files name read → files read ≡ Some bytes → length bytes ≤ limit
 
--- A call whose status says that it came to its end: a run did, or a check.
-abbrev pub ComesToEnd : Outside → Outside → Outside → Outside → List (String Global) → Outcome → Type 0
-ComesToEnd shelf shelf_after out out_after words outcome =
-    ((name : Name) × Asks words (Run name) × EndsWell shelf shelf_after out out_after name outcome)
-    ⊎ ((name : Name) × Asks words (Check name) × ChecksWell shelf shelf_after out out_after name outcome)
-
 -- No count of faults rose.
-pub record NoFaults (shelf shelf_after out out_after : Outside) : Type 0 where
-  pub reads : Rose shelf.read_faults shelf_after.read_faults → ⊥
-  pub writes : Rose shelf.write_faults shelf_after.write_faults → ⊥
-  pub prints : Rose out.write_faults out_after.write_faults → ⊥
+pub record NoFaults (c : Call) : Type 0 where
+  pub reads : Rose c.work.before.read_faults c.work.after.read_faults → ⊥
+  pub writes : Rose c.work.before.write_faults c.work.after.write_faults → ⊥
+  pub prints : Rose c.out.write_faults c.out_after.write_faults → ⊥
+
+-- Where no count of faults rose and all is valid, a call comes to its end, or memory was wanting.
+abbrev pub IsComplete : Call → ℕ → Type 0
+IsComplete c limit = NoFaults c → IfSome c.work.before.files (λ files. IsValid files c.work.words limit → IsOver c.status ⊎ (c.status ≡ status_of NoMemory))

@@ -2,7 +2,7 @@
 ghost use Rattle.std.specs.Prelude.{◌≡◌};
 ghost use Rattle.flow_cli.specs.Prepare.{Loads, ReadsInputs, Prepares};
 
-use crate::net_file::{NetFile, NetworkStop, network};
+use crate::net_file::{NetFile, network};
 use crate::parts::{FILE_LIMIT, read_parts};
 use crate::step::read_file;
 use crate::stop::{Stop, read_stop};
@@ -67,9 +67,5 @@ fn load<F: Shelf>(alloc: Global, shelf: &mut F, name: &str) -> Result<NetFile, S
         Ok(net) => net,
         Err(stop) => return Err(read_stop(alloc, stop, name)),
     };
-    match network(alloc, &net) {
-        Ok(file) => Ok(file),
-        Err(NetworkStop::Refused(refusal)) => Err(Stop::Refused(refusal)),
-        Err(NetworkStop::NoMemory) => Err(Stop::NoMemory),
-    }
+    network(alloc, &net)
 }

@@ -1,9 +1,8 @@
 //! The run of a network, and what it leaves.
 ghost use Rattle.std.specs.Prelude.{◌≡◌, ◌∷◌, [], IfOk, IfSome, IfNone, map, slice_get};
 ghost use Rattle.flow_cli.specs.Many.{output_of};
-ghost use Rattle.flow_cli.specs.Parts.{HasParts};
+ghost use Rattle.flow_cli.specs.Parts.{HasParts, written_by};
 ghost use Rattle.flow_cli.specs.Networks.{IsStandardPlan};
-ghost use Rattle.flow_cli.specs.After.{written_by};
 ghost use Rattle.flow_cli.specs.Runs.{IsToldOfNet, Leaves, bytes_at, net_outputs};
 ghost use Rattle.flow_catalogue.specs.Processes.{IsStandard};
 

@@ -8,6 +8,7 @@ mod many;
 mod net_file;
 mod parts;
 mod run;
+mod status;
 mod step;
 mod stop;
 mod top;
@@ -15,11 +16,12 @@ mod top;
 pub use after::{print, verdict_status, write_outputs};
 pub use before::{Job, Task, prepare};
 pub use engine::{Ran, Told, run_net};
-pub use many::{Output, OutputStop, write_files};
-pub use net_file::{NetFile, NetworkStop, Refusal, network};
+pub use many::{Output, write_files};
+pub use net_file::{NetFile, network};
 pub use parts::{FILE_LIMIT, read_parts};
-pub use step::{FileStop, read_file, write_file};
-pub use stop::{Stop, read_stop, status, text, write_stop};
+pub use status::Status;
+pub use step::{read_file, write_file};
+pub use stop::{Refusal, Stop, read_stop, write_stop};
 pub use top::{Outcome, plain_top};
 
 #[cfg(test)]

@@ -3,11 +3,21 @@ ghost use Rattle.std.specs.Prelude.{◌≡◌, ◌++◌, ◌∷◌, [], IfOk, On
 ghost use Rattle.flow_cli.specs.Stops.{status_of, refusal_text, text_of, IsReadStop, IsWriteStop};
 ghost use Rattle.flow_cli.specs.declared.stop.Stop.TheVariants.{NoMemory};
 
-use crate::net_file::Refusal;
-use crate::step::FileStop;
+use crate::status::Status;
 use flow_expand::{put_fault, put_net_fault};
-use flow_text::ShelfStop;
+use flow_flat::ExpandFault;
+use flow_parse::NetFault;
+use flow_text::{ReadStop, ShelfStop};
 use std::alloc::{AllocError, Global};
+
+/// Why a network file is refused. The order in which faults are looked for is this project's own.
+#[derive(Debug, Drop)]
+pub enum Refusal {
+    /// A line of the file has a fault.
+    Line(NetFault),
+    /// The network that the file spells has a fault.
+    Network(ExpandFault),
+}
 
 /// Why a call stops. The statuses and texts are this project's own.
 #[derive(Debug, Drop)]
@@ -33,35 +43,37 @@ impl From<AllocError> for Stop {
     }
 }
 
-/// The status with which a stop ends the program.
-pub fn status(stop: &Stop) -> u8
-    ensures { result ≡ status_of stop.now }
-{
-    match stop {
-        Stop::Words => 2,
-        Stop::Refused(_) => 3,
-        Stop::ReadFault(_) => 6,
-        Stop::WriteFault(_) => 7,
-        Stop::NoMemory => 8,
-        Stop::TooLong(_) => 9,
+impl Stop {
+    /// The status with which this stop ends the program.
+    pub fn status(&self) -> Status
+        ensures { result ≡ status_of self.now }
+    {
+        match self {
+            Stop::Words => Status::Words,
+            Stop::Refused(_) => Status::Refused,
+            Stop::ReadFault(_) => Status::ReadFault,
+            Stop::WriteFault(_) => Status::WriteFault,
+            Stop::NoMemory => Status::NoMemory,
+            Stop::TooLong(_) => Status::TooLong,
+        }
     }
-}
 
-/// The line that is printed for a stop.
-pub fn text(alloc: Global, stop: &Stop) -> Result<Vec<u8>, AllocError>
-    ensures { IfOk result (λ text. text.items ≡ text_of stop.now) }
-{
-    match stop {
-        Stop::Words => line(
-            alloc,
-            b"usage: flow [--workers N] [--journal FILE] [--check] [--replay FILE] [--make N] [NETFILE]",
-            b"",
-        ),
-        Stop::Refused(refusal) => refused_line(alloc, refusal),
-        Stop::ReadFault(name) => line(alloc, b"read fault: ", name.as_bytes()),
-        Stop::WriteFault(name) => line(alloc, b"write fault: ", name.as_bytes()),
-        Stop::NoMemory => line(alloc, b"no memory", b""),
-        Stop::TooLong(name) => line(alloc, b"too long: ", name.as_bytes()),
+    /// The line that is printed for this stop.
+    pub fn text(&self, alloc: Global) -> Result<Vec<u8>, AllocError>
+        ensures { IfOk result (λ text. text.items ≡ text_of self.now) }
+    {
+        match self {
+            Stop::Words => line(
+                alloc,
+                b"usage: flow [--workers N] [--journal FILE] [--check] [--replay FILE] [--make N] [NETFILE]",
+                b"",
+            ),
+            Stop::Refused(refusal) => refused_line(alloc, refusal),
+            Stop::ReadFault(name) => line(alloc, b"read fault: ", name.as_bytes()),
+            Stop::WriteFault(name) => line(alloc, b"write fault: ", name.as_bytes()),
+            Stop::NoMemory => line(alloc, b"no memory", b""),
+            Stop::TooLong(name) => line(alloc, b"too long: ", name.as_bytes()),
+        }
     }
 }
 
@@ -94,16 +106,16 @@ fn line(alloc: Global, head: &[u8], name: &[u8]) -> Result<Vec<u8>, AllocError>
 }
 
 /// The stop of a file that wasn't read.
-pub fn read_stop(alloc: Global, stop: FileStop, name: &str) -> Stop
+pub fn read_stop(alloc: Global, stop: ReadStop, name: &str) -> Stop
     ensures { IsReadStop stop name.now result }
 {
     let Ok(name) = String::from_str(alloc, name) else {
         return Stop::NoMemory;
     };
     match stop {
-        FileStop::Fault => Stop::ReadFault(name),
-        FileStop::TooLong => Stop::TooLong(name),
-        FileStop::NoMemory => Stop::NoMemory,
+        ReadStop::Fault => Stop::ReadFault(name),
+        ReadStop::TooLong(_) => Stop::TooLong(name),
+        ReadStop::NoMemory => Stop::NoMemory,
     }
 }
 

@@ -100,7 +100,7 @@ fn run_row(rt: &impl Abort, alloc: Global, row: Row) -> Result<(), Fail> {
     let words = words(alloc, row.check)?;
     let outcome = plain_top(alloc, &words, &mut shelf, &mut out);
     assert_eq!(rt; out.bytes(), row.printed);
-    assert_eq!(rt; outcome.status, row.status);
+    assert_eq!(rt; outcome.status.code(), row.status);
     assert_eq!(rt; outcome.journal.turns.len(), row.turns);
     assert!(rt; shelf.file("out") == row.output);
     Ok(())
@@ -298,7 +298,7 @@ fn no_file_is_begun_behind_one_that_fails(rt: HostRuntime) -> Result<(), Fail> {
     let mut out = MemSink::new(alloc, 64, ROOM, Vec::new(alloc))?;
     let words = words(alloc, false)?;
     let outcome = plain_top(alloc, &words, &mut shelf, &mut out);
-    assert_eq!(rt; outcome.status, 7);
+    assert_eq!(rt; outcome.status.code(), 7);
     assert_eq!(rt; out.bytes(), b"write fault: out\n".as_slice());
     assert!(rt; shelf.file("last").is_none());
     Ok(())
@@ -322,7 +322,7 @@ fn run_long(
     let words = words(alloc, false)?;
     let outcome = plain_top(alloc, &words, &mut shelf, &mut out);
     assert_eq!(rt; out.bytes(), printed);
-    assert_eq!(rt; outcome.status, status);
+    assert_eq!(rt; outcome.status.code(), status);
     assert!(rt; shelf.file("out") == output);
     Ok(())
 }
@@ -397,7 +397,7 @@ fn other_words_are_refused(rt: HostRuntime) -> Result<(), Fail> {
         let mut shelf = MemShelf::new(alloc, none, 1, ROOM, Vec::new(alloc), Vec::new(alloc));
         let mut out = MemSink::new(alloc, 9, ROOM, Vec::new(alloc))?;
         let outcome = plain_top(alloc, words, &mut shelf, &mut out);
-        assert_eq!(rt; outcome.status, 2);
+        assert_eq!(rt; outcome.status.code(), 2);
         assert_eq!(rt; out.bytes(), USAGE);
     }
     Ok(())

@@ -1,19 +1,20 @@
 //! The top call.
-ghost use Rattle.std.specs.Prelude.{◌≡◌, ◌⊎◌, ◌≤◌, None, Some, IfSome, map, string_bytes};
-ghost use Rattle.flow_text.specs.Edge.{Rose, Name, after_write};
-ghost use Rattle.flow_words.specs.Words.{Run, command_of};
-ghost use Rattle.flow_cli.specs.Step.{HoldsMore};
-ghost use Rattle.flow_cli.specs.Prepare.{Asks, IsCommand, IsRefused, IsReadFor};
-ghost use Rattle.flow_cli.specs.Meant.{IsFinishedStatus, LeavesMeaning};
-ghost use Rattle.flow_cli.specs.Stops.{text_of};
-ghost use Rattle.flow_cli.specs.Top.{IsCut, IsUntouched, Stands, PrintsStop, IsOver, StopsBefore, ComesToEnd, IsValid, NoFaults};
-ghost use Rattle.flow_cli.specs.declared.stop.Stop.TheVariants.{Words, Refused, ReadFault, WriteFault, TooLong, NoMemory};
+ghost use Rattle.std.specs.Prelude.{◌≡◌, ◌≢◌};
+ghost use Rattle.flow_cli.specs.Causes.{Work, IsEmptyJournal};
+ghost use Rattle.flow_cli.specs.Meant.{LeavesMeaning};
+ghost use Rattle.flow_cli.specs.Networks.{IsStandardPlan};
+ghost use Rattle.flow_cli.specs.Statuses.{IsFinished, IsOver};
+ghost use Rattle.flow_cli.specs.Top.{ComesToEnd, Finishes, IsCaused, IsComplete, PrintsStop, call_of};
+ghost use Rattle.flow_cli.specs.declared.status.Status.TheVariants.{Running};
 
-use crate::after::print;
+use crate::after::{print, verdict_status, write_outputs};
+use crate::engine::Ran;
 use crate::parts::FILE_LIMIT;
-use crate::run::run;
-use crate::stop::{Stop, status, text};
+use crate::run::{Done, perform};
+use crate::status::Status;
+use crate::stop::Stop;
 use flow_catalogue::{Std, a_plan_over_the_table_is_standard};
+use flow_items::Items;
 use flow_journal::Journal;
 use flow_meanings::a_finished_network_composes_its_meanings;
 use flow_ready::a_valid_plan_is_ready;
@@ -24,7 +25,7 @@ use std::alloc::Global;
 #[derive(Drop)]
 pub struct Outcome {
     /// The status with which the program ends.
-    pub status: u8,
+    pub status: Status,
     /// The journal of the run, and empty where none was made.
     pub journal: Journal,
 }
@@ -38,69 +39,73 @@ pub fn plain_top<F: Shelf, O: Sink>(
     out: &mut O,
 ) -> Outcome
     // A run came to its end, or a check did.
-    ensures over { IsOver result.status → ComesToEnd (F.outside shelf.old) (F.outside shelf.new) (O.outside out.old) (O.outside out.new) words.now result }
+    ensures over { IsOver result.status → ComesToEnd (call_of words.now (F.outside shelf.old) (F.outside shelf.new) (O.outside out.old) (O.outside out.new) result.journal result.status) FILE_LIMIT }
 
     // A run that finished left the files that its network means.
-    ensures meaning { IsFinishedStatus result.status → LeavesMeaning (F.outside shelf.old) (F.outside shelf.new) words.now }
+    ensures meaning { IsFinished result.status
+        → LeavesMeaning (record { words = words.now; before = F.outside shelf.old; after = F.outside shelf.new; journal = result.journal }) FILE_LIMIT }
 
-    // Each other status has its cause.
-    ensures words { result.status ≡ 2 → (command_of (map string_bytes words.now) ≡ None) × (F.outside shelf.new ≡ F.outside shelf.old)
-        × (O.outside out.new ≡ after_write (O.outside out.old) (text_of Words)) }
-    ensures refused { result.status ≡ 3 → (name : Name) × IsCommand words.now name
-        × ((F.outside shelf.new).files ≡ (F.outside shelf.old).files)
-        × ((refusal : _) × (O.outside out.new ≡ after_write (O.outside out.old) (text_of (Refused refusal)))
-        × IfSome (F.outside shelf.old).files (λ files. IsRefused files name refusal)) }
-    ensures read_fault { result.status ≡ 6 → (name : Name) × IsCommand words.now name
-        × ((F.outside shelf.new).files ≡ (F.outside shelf.old).files)
-        × Rose (F.outside shelf.old).read_faults (F.outside shelf.new).read_faults
-        × ((read : _) × ((F.outside shelf.new).last_read_fault ≡ Some (string_bytes read))
-        × (O.outside out.new ≡ after_write (O.outside out.old) (text_of (ReadFault read)))
-        × IfSome (F.outside shelf.old).files (λ files. IsReadFor words.now files name (string_bytes read))) }
-    ensures write_fault { result.status ≡ 7 →
-        Rose (O.outside out.old).write_faults (O.outside out.new).write_faults
-        ⊎ ((name : Name) × Asks words.now (Run name) × Rose (F.outside shelf.old).write_faults (F.outside shelf.new).write_faults
-        × ((written : _) × ((F.outside shelf.new).last_write_fault ≡ Some (string_bytes written))
-        × (O.outside out.new ≡ after_write (O.outside out.old) (text_of (WriteFault written)))
-        × IsCut (F.outside shelf.old) (F.outside shelf.new) name result.journal (string_bytes written))) }
-    ensures memory { result.status ≡ 8 → O.outside out.new ≡ after_write (O.outside out.old) (text_of NoMemory) }
-    ensures too_long { result.status ≡ 9 → (name : Name) × IsCommand words.now name
-        × ((F.outside shelf.new).files ≡ (F.outside shelf.old).files)
-        × ((read : _) × HoldsMore (F.outside shelf.old).files (string_bytes read) FILE_LIMIT
-        × (O.outside out.new ≡ after_write (O.outside out.old) (text_of (TooLong read)))
-        × IfSome (F.outside shelf.old).files (λ files. IsReadFor words.now files name (string_bytes read))) }
+    // Each status has the cause of what the call came to.
+    ensures cause { IsCaused (call_of words.now (F.outside shelf.old) (F.outside shelf.new) (O.outside out.old) (O.outside out.new) result.journal result.status) FILE_LIMIT }
 
-    // However it ends, the journal and the files are those of one run, or nothing was done; and nothing was where it stopped before its network ran.
-    ensures stands { Stands (F.outside shelf.old) (F.outside shelf.new) words.now result.journal }
-    ensures unmade { StopsBefore result.status → IsUntouched (F.outside shelf.old) (F.outside shelf.new) result.journal }
-
-    // There is no other status.
-    ensures status { result.status ≤ 9 }
+    // No call ends while its network can go on.
+    ensures status { result.status ≢ Running }
 
     // Where no count rose and all is valid, the run comes to its end, or memory is wanting.
-    ensures complete { NoFaults (F.outside shelf.old) (F.outside shelf.new) (O.outside out.old) (O.outside out.new)
-        → IfSome (F.outside shelf.old).files (λ files. IsValid files words.now FILE_LIMIT → IsOver result.status ⊎ (result.status ≡ 8)) }
+    ensures complete { IsComplete (call_of words.now (F.outside shelf.old) (F.outside shelf.new) (O.outside out.old) (O.outside out.new) result.journal result.status) FILE_LIMIT }
 {
     a_plan_over_the_table_is_standard();
     a_valid_plan_is_ready::<Std>();
     a_finished_network_composes_its_meanings();
-    match run(alloc, words, shelf) {
-        Ok(ending) => Outcome {
-            status: print(out, &ending.text, ending.status),
-            journal: ending.journal,
+    match perform(alloc, words, shelf) {
+        Ok(Done::Ran(ran)) => finish(alloc, shelf, out, ran),
+        Ok(Done::Checked(text)) => Outcome {
+            status: print(out, &text, Status::Finished),
+            journal: no_journal(alloc),
         },
-        Err(halt) => Outcome {
-            status: print_stop(alloc, out, &halt.stop),
-            journal: halt.journal,
+        Err(stop) => Outcome {
+            status: print_stop(alloc, out, &stop),
+            journal: no_journal(alloc),
         },
     }
 }
 
+/// Writes the files of a run, and then prints its report.
+fn finish<F: Shelf, O: Sink>(alloc: Global, shelf: &mut F, out: &mut O, ran: Ran) -> Outcome
+    requires { IsStandardPlan ran.plan }
+    ensures files { Finishes (F.outside shelf.old) (F.outside shelf.new) (O.outside out.old) (O.outside out.new) ran result.status }
+    ensures journal { result.journal ≡ ran.told.journal }
+{
+    let written = write_outputs(alloc, shelf, &ran);
+    let told = ran.into_told();
+    match written {
+        Ok(()) => Outcome {
+            status: print(out, &told.report, verdict_status(told.verdict)),
+            journal: told.journal,
+        },
+        Err(fault) => Outcome {
+            status: print_stop(alloc, out, &fault),
+            journal: told.journal,
+        },
+    }
+}
+
+/// The journal where no turn was made. Takes no memory.
+fn no_journal(alloc: Global) -> Journal
+    ensures { IsEmptyJournal result }
+{
+    Journal {
+        turns: Items::new(alloc),
+        seen: Items::new(alloc),
+    }
+}
+
 /// Prints the text of a stop, and gives the status that comes of it.
-fn print_stop<O: Sink>(alloc: Global, out: &mut O, stop: &Stop) -> u8
+fn print_stop<O: Sink>(alloc: Global, out: &mut O, stop: &Stop) -> Status
     ensures { PrintsStop (O.outside out.old) (O.outside out.new) stop.now result }
 {
-    match text(alloc, stop) {
-        Ok(text) => print(out, &text, status(stop)),
-        Err(_) => print(out, b"no memory\n", 8),
+    match stop.text(alloc) {
+        Ok(text) => print(out, &text, stop.status()),
+        Err(_) => print(out, b"no memory\n", Status::NoMemory),
     }
 }

@@ -93,7 +93,7 @@ pub fn run_refused(rt: &impl Abort, alloc: Global, row: Row) -> Result<(), Fail>
     let mut out = MemSink::new(alloc, row.piece, ROOM, fails)?;
     let words = words(alloc, row.check)?;
     let outcome = plain_top(alloc, &words, &mut shelf, &mut out);
-    assert_eq!(rt; outcome.status, row.status);
+    assert_eq!(rt; outcome.status.code(), row.status);
     assert!(rt; out.bytes().is_empty());
     for (name, bytes) in row.outputs {
         if !name.is_empty() {
@@ -118,7 +118,7 @@ pub fn run_on(
     if let Some(printed) = row.printed {
         assert_eq!(rt; out.bytes(), printed);
     }
-    assert_eq!(rt; outcome.status, row.status);
+    assert_eq!(rt; outcome.status.code(), row.status);
     for (name, bytes) in row.outputs {
         if !name.is_empty() {
             assert!(rt; shelf.file(name) == Some(bytes));

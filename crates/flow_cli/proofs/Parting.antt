@@ -1,0 +1,202 @@
+-- The parts of a plan, one after another, and the steps before a run.
+use Rattle.std.proofs.Common.{◌≡◌, ◌⊎◌, inl, inr, ℕ, zero, suc, ◌+◌, ◌<◌, List, [], ◌∷◌, ◌++◌, length, map, Some, None, Ok, Err, refl, sym, ◌∙◌, ap, subst, arith, length-append}
+use Rattle.std.proofs.lemmas.List.{map-append}
+use Rattle.std.specs.Prelude.{IfSome, Vec, slice_get, string_bytes, String}
+use Rattle.std.specs.declared.alloc.Global.{Global}
+use Rattle.std.specs.declared.option.Option.{Option}
+use Rattle.std.specs.declared.result.Result.{Result}
+use Rattle.std.specs.Option.{option_map}
+use Rattle.flow_text.specs.Edge.{Outside, Name, Files, Logged}
+use Rattle.flow_text.specs.declared.all.ReadStop.{ReadStop}
+use Rattle.flow_text.specs.declared.all.ReadStop.TheVariants as reads
+use Rattle.flow_plan.specs.declared.plan.Process.{Process}
+use Rattle.flow_plan.specs.Network.{Network}
+use Rattle.flow_words.specs.Words.{Asked, Run}
+use Rattle.flow_words.specs.Lines.{file_of}
+use Rattle.flow_parse.specs.declared.value.NetText.{NetText}
+use Rattle.flow_journal.specs.declared.merge.Journal.{Journal}
+use Rattle.flow_catalogue.specs.Files.{UsesFile}
+use Rattle.flow_catalogue.specs.declared.standard.Std.{Std}
+use Rattle.flow_catalogue.specs.Processes.{IsMade, Fits}
+use Rattle.flow_cli.specs.Step.{Filled, OnlyReads, FailsToRead, MayRead, IsRead, HoldsMore, ReadsFile, whole}
+use Rattle.flow_cli.specs.Stops.{IsReadStop}
+use Rattle.flow_cli.specs.Networks.{ReadsAs}
+use Rattle.flow_cli.specs.Parts.{read_by, input_of, inputs_of, AreRead, IsPart, AreParts, IsNext, StopsAtFile, ReadsPart, ReadsParts}
+use Rattle.flow_cli.specs.Causes.{Work, Asks, IsCommand, IsEmptyJournal, IsFile, IsUntouched, HasCause}
+use Rattle.flow_cli.specs.Prepare.{Loads, StopsCommand, IsReady, ReadsInputs}
+use Rattle.flow_cli.specs.declared.net_file.NetFile.{NetFile}
+use Rattle.flow_cli.specs.declared.before.Job.{Job}
+use Rattle.flow_cli.specs.declared.stop.Stop.{Stop}
+use Rattle.flow_cli.specs.declared.stop.Stop.TheVariants.{Words, Refused, ReadFault, WriteFault, TooLong, NoMemory}
+use Rattle.flow_cli.proofs.Steps.{no-reads, may-read, may-fail-to-read, MayRead-trans}
+use Rattle.flow_cli.proofs.Readings.{OnlyReads-trans, FailsToRead-after, OnlyReads-files, are-read-append, none-read, one-read, inputs-none, inputs-more, get-more, get-last}
+
+-- the stop of a read is that of its file
+pub read-stopped : (old new : Outside) (name : Name) (why : ReadStop) (stop : Stop) (limit : ℕ) → ReadsFile old new (Err why) name limit → IsReadStop why name stop
+    → StopsAtFile old new [] name stop limit
+read-stopped old new name reads.Fault (ReadFault read) limit r is = (is, r)
+read-stopped old new name (reads.TooLong told) (TooLong read) limit r is = (is, r.0, r.1)
+read-stopped old new name reads.NoMemory NoMemory limit r is = r
+read-stopped old new name reads.Fault NoMemory limit r is = may-fail-to-read old new r.0 name r.2
+read-stopped old new name (reads.TooLong told) NoMemory limit r is = may-read old new _ r.0
+read-stopped old new name reads.Fault Words limit r is = absurd is
+read-stopped old new name reads.Fault (Refused refusal) limit r is = absurd is
+read-stopped old new name reads.Fault (WriteFault written) limit r is = absurd is
+read-stopped old new name reads.Fault (TooLong read) limit r is = absurd is
+read-stopped old new name (reads.TooLong told) Words limit r is = absurd is
+read-stopped old new name (reads.TooLong told) (Refused refusal) limit r is = absurd is
+read-stopped old new name (reads.TooLong told) (ReadFault read) limit r is = absurd is
+read-stopped old new name (reads.TooLong told) (WriteFault written) limit r is = absurd is
+read-stopped old new name reads.NoMemory Words limit r is = absurd is
+read-stopped old new name reads.NoMemory (Refused refusal) limit r is = absurd is
+read-stopped old new name reads.NoMemory (ReadFault read) limit r is = absurd is
+read-stopped old new name reads.NoMemory (WriteFault written) limit r is = absurd is
+read-stopped old new name reads.NoMemory (TooLong read) limit r is = absurd is
+
+-- process p of a plan, on the bytes of its file
+module _ (plan : Network) (p : ℕ) (process : Process) (there : slice_get plan.processes p ≡ Some process) where
+  pub of-process : (P : Process → Type 0) → IfSome (slice_get plan.processes p) P → P process
+  of-process P is = subst (λ (found : Option Process). IfSome found P) there is
+
+  pub made-of : (bytes : List ℕ) (part : Std) → IfSome (slice_get plan.processes p) (λ q. IsMade plan p q bytes part) → IfSome (slice_get plan.processes p) (λ q. Fits plan p q part)
+      → IsPart plan p bytes part
+  made-of bytes part made fits = record {
+    process = process;
+    there = there;
+    made = of-process (λ q. IsMade plan p q bytes part) made;
+    fits = of-process (λ q. Fits plan p q part) fits;
+  }
+
+  pub read-one : (old new : Outside) (name : Name) (v : Vec ℕ Global) (part : Std) (limit : ℕ) → read_by process ≡ name ∷ [] → ReadsFile old new (Ok v) name limit
+      → IsPart plan p v.items part → ReadsPart old new plan p (Ok part) limit
+  read-one old new name v part limit reads r is =
+      let inputs : input_of process v.items ≡ (name, v.items) ∷ [] = ap (λ names. map (λ (n : Name). (n, v.items)) names) reads in (
+        process,
+        v.items,
+        there,
+        subst (λ (l : List Filled). OnlyReads old new (map whole l)) (sym inputs) r.0,
+        subst (λ (l : List Filled). AreRead old.files limit l) (sym inputs) (one-read old.files limit (name, v.items) r.1),
+        is,
+      )
+
+  pub read-no : (old : Outside) (bytes : List ℕ) (part : Std) (limit : ℕ) → read_by process ≡ [] → IsPart plan p bytes part → ReadsPart old old plan p (Ok part) limit
+  read-no old bytes part limit reads is =
+      let inputs : input_of process bytes ≡ [] = ap (λ names. map (λ (n : Name). (n, bytes)) names) reads in (
+        process,
+        bytes,
+        there,
+        subst (λ (l : List Filled). OnlyReads old old (map whole l)) (sym inputs) (no-reads old old refl),
+        subst (λ (l : List Filled). AreRead old.files limit l) (sym inputs) (none-read old.files limit),
+        is,
+      )
+
+  pub stop-one : (old new : Outside) (name : Name) (why : ReadStop) (stop : Stop) (limit : ℕ) → read_by process ≡ name ∷ [] → ReadsFile old new (Err why) name limit → IsReadStop why name stop
+      → ReadsPart old new plan p (Err stop) limit
+  stop-one old new name why stop limit reads r is = go stop (read-stopped old new name why stop limit r is) where
+    go : (stop : Stop) → StopsAtFile old new [] name stop limit → ReadsPart old new plan p (Err stop) limit
+    go NoMemory s = s
+    go (ReadFault read) s = (process, name, there, reads, s)
+    go (TooLong read) s = (process, name, there, reads, s)
+    go Words s = absurd s
+    go (Refused refusal) s = absurd s
+    go (WriteFault written) s = absurd s
+
+-- The files of the first processes were read, and these are their parts.
+pub record SoFar (old new : Outside) (plan : Network) (limit k : ℕ) (parts : List Std) : Type 0 where
+  pub given : List (List ℕ)
+  pub each_given : length given ≡ k
+  pub reads : OnlyReads old new (map whole (inputs_of plan.processes given))
+  pub were_read : AreRead old.files limit (inputs_of plan.processes given)
+  pub count : length parts ≡ k
+  pub each : (p : ℕ) (part : Std) → slice_get parts p ≡ Some part → (bytes : List ℕ) × (slice_get given p ≡ Some bytes) × IsPart plan p bytes part
+
+pub nothing-so-far : (old : Outside) (plan : Network) (limit : ℕ) → SoFar old old plan limit 0 []
+nothing-so-far old plan limit = record {
+  given = [];
+  each_given = refl;
+  reads = subst (λ (l : List Filled). OnlyReads old old (map whole l)) (sym (inputs-none plan.processes)) (no-reads old old refl);
+  were_read = subst (λ (l : List Filled). AreRead old.files limit l) (sym (inputs-none plan.processes)) (none-read old.files limit);
+  count = refl;
+  each = λ p part at. absurd cc;
+}
+
+pushed : {X : Type 0} (xs : List X) (y z : X) (p : ℕ) → slice_get (xs ++ y ∷ []) p ≡ Some z → (slice_get xs p ≡ Some z) ⊎ ((p ≡ length xs) × (z ≡ y))
+pushed [] y z zero at = inr (refl, let same : y ≡ z = cc in sym same)
+pushed [] y z (suc p) at = absurd cc
+pushed (x ∷ xs) y z zero at = inl at
+pushed (x ∷ xs) y z (suc p) at = go (pushed xs y z p at) where
+  go : (slice_get xs p ≡ Some z) ⊎ ((p ≡ length xs) × (z ≡ y)) → (slice_get xs p ≡ Some z) ⊎ ((suc p ≡ length (x ∷ xs)) × (z ≡ y))
+  go (inl h) = inl h
+  go (inr h) = inr (ap suc h.0, h.1)
+
+-- one process more
+pub more-so-far : (old mid new : Outside) (plan : Network) (limit k : ℕ) (parts : List Std) (part : Std) → SoFar old mid plan limit k parts → ReadsPart mid new plan k (Ok part) limit
+    → SoFar old new plan limit (k + 1) (parts ++ part ∷ [])
+more-so-far old mid new plan limit k parts part s r =
+    let process = r.0 in
+    let bytes = r.1 in
+    let at : slice_get plan.processes (length s.given) ≡ Some process = ap (λ n. slice_get plan.processes n) s.each_given ∙ r.2 in
+    let inputs : inputs_of plan.processes (s.given ++ bytes ∷ []) ≡ inputs_of plan.processes s.given ++ input_of process bytes = inputs-more plan.processes s.given process bytes at in
+    let told = OnlyReads-files old mid (map whole (inputs_of plan.processes s.given)) s.reads in
+    record {
+      given = s.given ++ bytes ∷ [];
+      each_given = omega (arith, length-append s.given (bytes ∷ []), s.each_given);
+      reads = subst (λ (l : List Logged). OnlyReads old new l) (sym (ap (λ l. map whole l) inputs ∙ map-append whole (inputs_of plan.processes s.given) (input_of process bytes)))
+          (OnlyReads-trans old mid new (map whole (inputs_of plan.processes s.given)) (map whole (input_of process bytes)) s.reads r.3);
+      were_read = subst (λ (l : List Filled). AreRead old.files limit l) (sym inputs)
+          (are-read-append old.files limit (inputs_of plan.processes s.given) (input_of process bytes) s.were_read (subst (λ (t : Option Files). AreRead t limit (input_of process bytes)) told r.4));
+      count = omega (arith, length-append parts (part ∷ []), s.count);
+      each = λ p one at. each p one (pushed parts part one p at);
+    } where
+  each : (p : ℕ) (one : Std) → (slice_get parts p ≡ Some one) ⊎ ((p ≡ length parts) × (one ≡ part)) → (b : List ℕ) × (slice_get (s.given ++ r.1 ∷ []) p ≡ Some b) × IsPart plan p b one
+  each p one (inl at) = let e = s.each p one at in (e.0, get-more s.given r.1 e.0 p e.1, e.2)
+  each p one (inr at) =
+      let here : p ≡ k = at.0 ∙ s.count in
+      let place : p ≡ length s.given = here ∙ sym s.each_given in (
+        r.1,
+        ap (λ n. slice_get (s.given ++ r.1 ∷ []) n) place ∙ get-last s.given r.1,
+        subst (λ (n : ℕ). IsPart plan n r.1 one) (sym here) (subst (λ (o : Std). IsPart plan k r.1 o) (sym at.1) r.5),
+      )
+
+pub all-so-far : (old new : Outside) (plan : Network) (limit k : ℕ) (parts : Vec Std Global) → SoFar old new plan limit k parts.items → k ≡ length plan.processes
+    → ReadsParts old new plan (Ok parts) limit
+all-so-far old new plan limit k parts s all = (s.given, s.reads, s.were_read, record { count = s.count ∙ all; each = s.each })
+
+-- a stop behind other files
+stopped-behind : (old mid new : Outside) (earlier : List Filled) (name : Name) (stop : Stop) (limit : ℕ) → OnlyReads old mid (map whole earlier) → StopsAtFile mid new [] name stop limit
+    → StopsAtFile old new earlier name stop limit
+stopped-behind old mid new earlier name (ReadFault read) limit r s = (s.0, (s.1.0, s.1.1, FailsToRead-after old mid new (map whole earlier) s.1.0 name r s.1.2))
+stopped-behind old mid new earlier name (TooLong read) limit r s = (
+  s.0,
+  OnlyReads-trans old mid new (map whole earlier) _ r s.1,
+  subst (λ (t : Option Files). HoldsMore t name limit) (OnlyReads-files old mid (map whole earlier) r) s.2,
+)
+stopped-behind old mid new earlier name NoMemory limit r s = MayRead-trans old mid new (may-read old mid (map whole earlier) r) s
+stopped-behind old mid new earlier name Words limit r s = absurd s
+stopped-behind old mid new earlier name (Refused refusal) limit r s = absurd s
+stopped-behind old mid new earlier name (WriteFault written) limit r s = absurd s
+
+-- the next file is that of process k
+next : (old mid : Outside) (plan : Network) (limit k : ℕ) (parts : List Std) (s : SoFar old mid plan limit k parts) (process : Process) (name : Name)
+    → slice_get plan.processes k ≡ Some process → read_by process ≡ name ∷ [] → IsNext old.files limit plan (inputs_of plan.processes s.given) name
+next old mid plan limit k parts s process name there reads = record {
+  place = k;
+  process = process;
+  there = there;
+  reads = reads;
+  given = s.given;
+  count = s.each_given;
+  earlier_are = refl;
+  were_read = s.were_read;
+}
+
+pub stop-so-far : (old mid new : Outside) (plan : Network) (limit k : ℕ) (parts : List Std) (stop : Stop) → SoFar old mid plan limit k parts → ReadsPart mid new plan k (Err stop) limit
+    → ReadsParts old new plan (Err stop) limit
+stop-so-far old mid new plan limit k parts NoMemory s r = MayRead-trans old mid new (may-read old mid (map whole (inputs_of plan.processes s.given)) s.reads) r
+stop-so-far old mid new plan limit k parts (ReadFault read) s r =
+    (inputs_of plan.processes s.given, r.1, next old mid plan limit k parts s r.0 r.1 r.2 r.3, stopped-behind old mid new (inputs_of plan.processes s.given) r.1 (ReadFault read) limit s.reads r.4)
+stop-so-far old mid new plan limit k parts (TooLong read) s r =
+    (inputs_of plan.processes s.given, r.1, next old mid plan limit k parts s r.0 r.1 r.2 r.3, stopped-behind old mid new (inputs_of plan.processes s.given) r.1 (TooLong read) limit s.reads r.4)
+stop-so-far old mid new plan limit k parts Words s r = absurd r.4
+stop-so-far old mid new plan limit k parts (Refused refusal) s r = absurd r.4
+stop-so-far old mid new plan limit k parts (WriteFault written) s r = absurd r.4

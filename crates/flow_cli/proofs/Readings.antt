@@ -1,0 +1,94 @@
+-- Files that are read one after another.
+use Rattle.std.proofs.Common.{◌≡◌, ◌≢◌, ◌⊎◌, inl, inr, ℕ, zero, suc, ◌+◌, ◌<◌, Bool, true, false, cond, List, [], ◌∷◌, ◌++◌, length, map, Some, None, Ok, Err, refl, sym, ◌∙◌, ap, subst, arith, append_assoc, length-append}
+use mathlib.Core.List.{append-nil}
+use Rattle.std.proofs.lemmas.List.{map-append}
+use Rattle.std.specs.Prelude.{IfSome, slice_get, codes, string_bytes}
+use Rattle.std.specs.declared.option.Option.{Option}
+use Rattle.std.specs.Str.{bytes_eq}
+use Rattle.std.proofs.lemmas.Slice.Eq.{bytes_eq-Decides}
+use Rattle.flow_text.specs.Edge.{Outside, Name, Files, Logged, Rose}
+use Rattle.flow_plan.specs.declared.plan.Process.{Process}
+use Rattle.flow_catalogue.specs.Files.{UsesFile}
+use Rattle.flow_catalogue.specs.declared.process.FileUse.{FileUse}
+use Rattle.flow_catalogue.specs.declared.process.FileUse.TheVariants.{Read, Write}
+use Rattle.flow_cli.specs.Step.{Filled, OnlyReads, FailsToRead, IsRead, whole}
+use Rattle.flow_cli.specs.Parts.{first_option, read_by, input_of, inputs_of, AreRead}
+
+-- what was opened before and after
+pub OnlyReads-trans : (a b c : Outside) (xs ys : List Logged) → OnlyReads a b xs → OnlyReads b c ys → OnlyReads a c (xs ++ ys)
+OnlyReads-trans a b c xs ys p q =
+    q
+    ∙ ap (λ (o : Outside). record o { open_name = c.open_name; left = c.left; opened = o.opened ++ ys }) p
+    ∙ ap (λ l. record a { open_name = c.open_name; left = c.left; opened = l }) (append_assoc a.opened xs ys)
+
+pub FailsToRead-after : (a b c : Outside) (xs ys : List Logged) (name : Name) → OnlyReads a b xs → FailsToRead b c ys name → FailsToRead a c (xs ++ ys) name
+FailsToRead-after a b c xs ys name p q = record {
+  state = q.state
+      ∙ ap (λ (o : Outside). record o { open_name = c.open_name; left = c.left; opened = o.opened ++ ys; read_faults = c.read_faults; last_read_fault = Some name }) p
+      ∙ ap (λ l. record a { open_name = c.open_name; left = c.left; opened = l; read_faults = c.read_faults; last_read_fault = Some name }) (append_assoc a.opened xs ys);
+  rose = subst (λ (n : ℕ). Rose n c.read_faults) (ap (λ (o : Outside). o.read_faults) p) q.rose;
+}
+
+pub OnlyReads-files : (a b : Outside) (xs : List Logged) → OnlyReads a b xs → b.files ≡ a.files
+OnlyReads-files a b xs p = ap (λ (o : Outside). o.files) p
+
+-- each of two lists was read
+pub are-read-append : (told : Option Files) (limit : ℕ) (xs ys : List Filled) → AreRead told limit xs → AreRead told limit ys → AreRead told limit (xs ++ ys)
+are-read-append told limit [] ys p q at file there = q at file there
+are-read-append told limit (x ∷ xs) ys p q zero file there = p zero file there
+are-read-append told limit (x ∷ xs) ys p q (suc at) file there = are-read-append told limit xs ys (λ k. p (suc k)) q at file there
+
+pub none-read : (told : Option Files) (limit : ℕ) → AreRead told limit []
+none-read told limit at file there = absurd cc
+
+pub one-read : (told : Option Files) (limit : ℕ) (file : Filled) → IsRead told limit file → AreRead told limit (file ∷ [])
+one-read told limit file is zero other there = let same : file ≡ other = cc in subst (λ (f : Filled). IsRead told limit f) same is
+one-read told limit file is (suc at) other there = absurd cc
+
+-- the inputs of no bytes, and of one process more
+pub inputs-none : (ps : List Process) → inputs_of ps [] ≡ []
+inputs-none [] = refl
+inputs-none (p ∷ ps) = refl
+
+pub inputs-more : (ps : List Process) (given : List (List ℕ)) (process : Process) (bytes : List ℕ) → slice_get ps (length given) ≡ Some process
+    → inputs_of ps (given ++ bytes ∷ []) ≡ inputs_of ps given ++ input_of process bytes
+inputs-more [] given process bytes there = absurd cc
+inputs-more (p ∷ ps) [] process bytes there =
+    let same : p ≡ process = cc in
+    ap (λ l. input_of p bytes ++ l) (inputs-none ps) ∙ append-nil (input_of p bytes) ∙ ap (λ q. input_of q bytes) same
+inputs-more (p ∷ ps) (g ∷ gs) process bytes there =
+    ap (λ l. input_of p g ++ l) (inputs-more ps gs process bytes there) ∙ sym (append_assoc (input_of p g) (inputs_of ps gs) (input_of process bytes))
+
+pub get-more : {X : Type 0} (xs : List X) (x y : X) (p : ℕ) → slice_get xs p ≡ Some y → slice_get (xs ++ x ∷ []) p ≡ Some y
+get-more [] x y p there = absurd cc
+get-more (z ∷ zs) x y zero there = there
+get-more (z ∷ zs) x y (suc p) there = get-more zs x y p there
+
+pub get-last : {X : Type 0} (xs : List X) (x : X) → slice_get (xs ++ x ∷ []) (length xs) ≡ Some x
+get-last [] x = refl
+get-last (z ∷ zs) x = get-last zs x
+
+-- what a process reads
+test_false : (b : Bool) (P : Type 0) → (b ≡ true → P) → (P → ⊥) → b ≡ false
+test_false true P to no_way = absurd (no_way (to refl))
+test_false false P to no_way = refl
+
+test_true : (b : Bool) (P : Type 0) → (P → b ≡ true) → P → b ≡ true
+test_true b P to is = to is
+
+pub reads-none : (p : Process) → p.kind ≢ codes "ReadLines" → read_by p ≡ []
+reads-none p differ =
+    ap (λ b. cond b (first_option p.options) [])
+    (test_false (bytes_eq p.kind (codes "ReadLines")) (p.kind ≡ codes "ReadLines") (bytes_eq-Decides p.kind (codes "ReadLines")).0 differ)
+
+pub reads-one : (p : Process) (name : Name) → p.kind ≡ codes "ReadLines" → p.options ≡ (0, name) ∷ [] → read_by p ≡ name ∷ []
+reads-one p name kind options =
+    ap (λ b. cond b (first_option p.options) []) ((bytes_eq-Decides p.kind (codes "ReadLines")).1 kind) ∙ ap first_option options
+
+-- a file that is written is none that is read
+pub writes-reads : codes "WriteLines" ≢ codes "ReadLines"
+writes-reads same = absurd cc
+
+pub uses-read : (p : Process) (file : FileUse) → UsesFile p (Some file) → (name : Name) × ((read_by p ≡ name ∷ []) ⊎ (read_by p ≡ []))
+uses-read p (Read file) uses = (file.now, inl (reads-one p file.now uses.0 uses.1))
+uses-read p (Write file) uses = (file.now, inr (reads-none p (λ kind. writes-reads (sym uses.0 ∙ kind))))

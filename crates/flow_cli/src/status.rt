@@ -1,0 +1,47 @@
+//! The statuses with which the program ends.
+ghost use Rattle.std.specs.Prelude.{◌≡◌};
+ghost use Rattle.flow_cli.specs.Statuses.{code_of};
+
+/// How a call ended. The table is this project's own.
+#[derive(Clone, Copy, Debug, PartialEq, Eq)]
+pub enum Status {
+    /// The network finished and nothing is left, or a check found nothing against its file.
+    Finished,
+    /// The network finished, and packets are left.
+    FinishedLeft,
+    /// The words are no command line.
+    Words,
+    /// The network file is refused.
+    Refused,
+    Deadlock,
+    /// A process failed, and no process can go on.
+    Failed,
+    ReadFault,
+    WriteFault,
+    NoMemory,
+    /// A file that is read is longer than its limit.
+    TooLong,
+    /// Some process can go on: the status of no run on one thread.
+    Running,
+}
+
+impl Status {
+    /// The number that the program gives to its caller.
+    pub fn code(self) -> u8
+        ensures { result ≡ code_of self }
+    {
+        match self {
+            Status::Finished => 0,
+            Status::FinishedLeft => 1,
+            Status::Words => 2,
+            Status::Refused => 3,
+            Status::Deadlock => 4,
+            Status::Failed => 5,
+            Status::ReadFault => 6,
+            Status::WriteFault => 7,
+            Status::NoMemory => 8,
+            Status::TooLong => 9,
+            Status::Running => 11,
+        }
+    }
+}
