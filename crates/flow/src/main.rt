@@ -1,6 +1,10 @@
 //! The program `flow NETFILE`: runs the network of a file over real files, and prints the report.
 #![tactic(auto)]
 
+mod explain;
+mod shown;
+
+use crate::explain::explain;
 use flow_cli::{Status, plain_top};
 use flow_text::{FileShelf, StdSink};
 use std::alloc::{AllocError, Global};
@@ -29,5 +33,11 @@ fn main(rt: HostRuntime) -> ExitCode {
     };
     let mut shelf = FileShelf::new(alloc, &rt);
     let mut out = StdSink::new(&rt);
-    ExitCode::from(plain_top(alloc, &words, &mut shelf, &mut out).status.code())
+    let status = plain_top(alloc, &words, &mut shelf, &mut out).status;
+    let reason = match out.reason() {
+        Some(reason) => Some(reason),
+        None => shelf.reason(),
+    };
+    explain(alloc, &rt, &words, status, reason);
+    ExitCode::from(status.code())
 }

@@ -1,13 +1,13 @@
 -- The causes of stops before a run.
-use Rattle.std.proofs.Common.{◌≡◌, ◌⊎◌, inl, inr, ℕ, ◌+◌, List, [], ◌∷◌, ◌++◌, map, Some, None, Ok, Err, refl, sym, ◌∙◌, ap, subst}
+use Rattle.std.proofs.Common.{◌≡◌, inl, inr, ℕ, ◌+◌, List, [], ◌∷◌, ◌++◌, map, Ok, Err, refl, sym, ap, subst}
 use Rattle.std.specs.Prelude.{Vec, String, string_bytes}
 use Rattle.std.specs.Option.{option_map}
 use Rattle.std.specs.declared.alloc.Global.{Global}
 use Rattle.std.specs.declared.option.Option.{Option}
 use Rattle.std.specs.declared.result.Result.{Result}
-use Rattle.flow_text.specs.Edge.{Outside, Name, Files, Logged}
+use Rattle.flow_text.specs.Edge.{Outside, Name, Files}
 use Rattle.flow_plan.specs.Network.{Network}
-use Rattle.flow_words.specs.Words.{Asked, Run, Check}
+use Rattle.flow_words.specs.Words.{Asked, Run}
 use Rattle.flow_words.specs.Lines.{file_of}
 use Rattle.flow_parse.specs.declared.value.NetText.{NetText}
 use Rattle.flow_journal.specs.declared.merge.Journal.{Journal}
@@ -16,9 +16,8 @@ use Rattle.flow_cli.specs.Step.{Filled, OnlyReads, FailsToRead, MayRead, Unended
 use Rattle.flow_cli.specs.Networks.{ReadsAs}
 use Rattle.flow_cli.specs.Parts.{inputs_of, AreRead, IsNext, StopsAtFile, ReadsParts}
 use Rattle.flow_cli.specs.Causes.{Work, Asks, IsCommand, IsEmptyJournal, IsFile, IsUntouched, IsNextFile, HasCause}
-use Rattle.flow_cli.specs.Prepare.{Loads, StopsCommand, IsReady, ReadsInputs}
+use Rattle.flow_cli.specs.Prepare.{Loads, StopsCommand, IsReady}
 use Rattle.flow_cli.specs.declared.net_file.NetFile.{NetFile}
-use Rattle.flow_cli.specs.declared.before.Job.{Job}
 use Rattle.flow_cli.specs.declared.stop.Stop.{Stop}
 use Rattle.flow_cli.specs.declared.stop.Stop.TheVariants.{Words, Refused, ReadFault, WriteFault, TooLong, NoMemory}
 use Rattle.flow_cli.proofs.Steps.{may-read, MayRead-trans}

@@ -1,5 +1,5 @@
 -- A network file's bytes hold one thing, or are refused.
-use Rattle.std.proofs.Common.{◌≡◌, ℕ, List, None, Ok, Err, ◌∙◌, ap, subst}
+use Rattle.std.proofs.Common.{◌≡◌, ℕ, List, None, Ok, Err, subst}
 use Rattle.std.specs.Str.Lines.{lines}
 use Rattle.flow_plan.specs.Network.{Network}
 use Rattle.flow_parse.specs.declared.value.NetText.{NetText}

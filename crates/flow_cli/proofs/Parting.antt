@@ -1,35 +1,21 @@
 -- The parts of a plan, one after another, and the steps before a run.
-use Rattle.std.proofs.Common.{◌≡◌, ◌⊎◌, inl, inr, ℕ, zero, suc, ◌+◌, ◌<◌, List, [], ◌∷◌, ◌++◌, length, map, Some, None, Ok, Err, refl, sym, ◌∙◌, ap, subst, arith, length-append}
+use Rattle.std.proofs.Common.{◌≡◌, ◌⊎◌, inl, inr, ℕ, zero, suc, ◌+◌, List, [], ◌∷◌, ◌++◌, length, map, Some, Ok, Err, refl, sym, ◌∙◌, ap, subst, arith, length-append}
 use Rattle.std.proofs.lemmas.List.{map-append}
-use Rattle.std.specs.Prelude.{IfSome, Vec, slice_get, string_bytes, String}
-use Rattle.std.specs.declared.alloc.Global.{Global}
+use Rattle.std.specs.Prelude.{slice_get}
 use Rattle.std.specs.declared.option.Option.{Option}
-use Rattle.std.specs.declared.result.Result.{Result}
-use Rattle.std.specs.Option.{option_map}
 use Rattle.flow_text.specs.Edge.{Outside, Name, Files, Logged}
 use Rattle.flow_text.specs.declared.all.ReadStop.{ReadStop}
 use Rattle.flow_text.specs.declared.all.ReadStop.TheVariants as reads
 use Rattle.flow_plan.specs.declared.plan.Process.{Process}
 use Rattle.flow_plan.specs.Network.{Network}
-use Rattle.flow_words.specs.Words.{Asked, Run}
-use Rattle.flow_words.specs.Lines.{file_of}
-use Rattle.flow_parse.specs.declared.value.NetText.{NetText}
-use Rattle.flow_journal.specs.declared.merge.Journal.{Journal}
-use Rattle.flow_catalogue.specs.Files.{UsesFile}
 use Rattle.flow_catalogue.specs.declared.standard.Std.{Std}
-use Rattle.flow_catalogue.specs.Processes.{IsMade, Fits}
-use Rattle.flow_cli.specs.Step.{Filled, OnlyReads, FailsToRead, MayRead, IsRead, HoldsMore, ReadsFile, whole}
+use Rattle.flow_cli.specs.Step.{Filled, OnlyReads, HoldsMore, ReadsFile, whole}
 use Rattle.flow_cli.specs.Stops.{IsReadStop}
-use Rattle.flow_cli.specs.Networks.{ReadsAs}
-use Rattle.flow_cli.specs.Parts.{read_by, input_of, inputs_of, AreRead, IsPart, AreParts, IsNext, StopsAtFile, ReadsPart, ReadsParts}
-use Rattle.flow_cli.specs.Causes.{Work, Asks, IsCommand, IsEmptyJournal, IsFile, IsUntouched, HasCause}
-use Rattle.flow_cli.specs.Prepare.{Loads, StopsCommand, IsReady, ReadsInputs}
-use Rattle.flow_cli.specs.declared.net_file.NetFile.{NetFile}
-use Rattle.flow_cli.specs.declared.before.Job.{Job}
+use Rattle.flow_cli.specs.Parts.{read_by, input_of, inputs_of, AreRead, IsPart, IsNext, StopsAtFile, ReadsPart, ReadsParts}
 use Rattle.flow_cli.specs.declared.stop.Stop.{Stop}
 use Rattle.flow_cli.specs.declared.stop.Stop.TheVariants.{Words, Refused, ReadFault, WriteFault, TooLong, NoMemory}
 use Rattle.flow_cli.proofs.Steps.{no-reads, may-read, may-fail-to-read, MayRead-trans}
-use Rattle.flow_cli.proofs.Readings.{OnlyReads-trans, FailsToRead-after, OnlyReads-files, are-read-append, none-read, one-read, inputs-none, inputs-more, get-more, get-last}
+use Rattle.flow_cli.proofs.Readings.{OnlyReads-trans, FailsToRead-after, OnlyReads-files, are-read-append, none-read, inputs-none, inputs-more, get-more, get-last}
 
 -- the stop of a read is that of its file
 pub read-stopped : (old new : Outside) (name : Name) (why : ReadStop) (stop : Stop) (limit : ℕ) → ReadsFile old new (Err why) name limit → IsReadStop why name stop
@@ -52,54 +38,6 @@ read-stopped old new name reads.NoMemory (Refused refusal) limit r is = absurd i
 read-stopped old new name reads.NoMemory (ReadFault read) limit r is = absurd is
 read-stopped old new name reads.NoMemory (WriteFault written) limit r is = absurd is
 read-stopped old new name reads.NoMemory (TooLong read) limit r is = absurd is
-
--- process p of a plan, on the bytes of its file
-module _ (plan : Network) (p : ℕ) (process : Process) (there : slice_get plan.processes p ≡ Some process) where
-  pub of-process : (P : Process → Type 0) → IfSome (slice_get plan.processes p) P → P process
-  of-process P is = subst (λ (found : Option Process). IfSome found P) there is
-
-  pub made-of : (bytes : List ℕ) (part : Std) → IfSome (slice_get plan.processes p) (λ q. IsMade plan p q bytes part) → IfSome (slice_get plan.processes p) (λ q. Fits plan p q part)
-      → IsPart plan p bytes part
-  made-of bytes part made fits = record {
-    process = process;
-    there = there;
-    made = of-process (λ q. IsMade plan p q bytes part) made;
-    fits = of-process (λ q. Fits plan p q part) fits;
-  }
-
-  pub read-one : (old new : Outside) (name : Name) (v : Vec ℕ Global) (part : Std) (limit : ℕ) → read_by process ≡ name ∷ [] → ReadsFile old new (Ok v) name limit
-      → IsPart plan p v.items part → ReadsPart old new plan p (Ok part) limit
-  read-one old new name v part limit reads r is =
-      let inputs : input_of process v.items ≡ (name, v.items) ∷ [] = ap (λ names. map (λ (n : Name). (n, v.items)) names) reads in (
-        process,
-        v.items,
-        there,
-        subst (λ (l : List Filled). OnlyReads old new (map whole l)) (sym inputs) r.0,
-        subst (λ (l : List Filled). AreRead old.files limit l) (sym inputs) (one-read old.files limit (name, v.items) r.1),
-        is,
-      )
-
-  pub read-no : (old : Outside) (bytes : List ℕ) (part : Std) (limit : ℕ) → read_by process ≡ [] → IsPart plan p bytes part → ReadsPart old old plan p (Ok part) limit
-  read-no old bytes part limit reads is =
-      let inputs : input_of process bytes ≡ [] = ap (λ names. map (λ (n : Name). (n, bytes)) names) reads in (
-        process,
-        bytes,
-        there,
-        subst (λ (l : List Filled). OnlyReads old old (map whole l)) (sym inputs) (no-reads old old refl),
-        subst (λ (l : List Filled). AreRead old.files limit l) (sym inputs) (none-read old.files limit),
-        is,
-      )
-
-  pub stop-one : (old new : Outside) (name : Name) (why : ReadStop) (stop : Stop) (limit : ℕ) → read_by process ≡ name ∷ [] → ReadsFile old new (Err why) name limit → IsReadStop why name stop
-      → ReadsPart old new plan p (Err stop) limit
-  stop-one old new name why stop limit reads r is = go stop (read-stopped old new name why stop limit r is) where
-    go : (stop : Stop) → StopsAtFile old new [] name stop limit → ReadsPart old new plan p (Err stop) limit
-    go NoMemory s = s
-    go (ReadFault read) s = (process, name, there, reads, s)
-    go (TooLong read) s = (process, name, there, reads, s)
-    go Words s = absurd s
-    go (Refused refusal) s = absurd s
-    go (WriteFault written) s = absurd s
 
 -- The files of the first processes were read, and these are their parts.
 pub record SoFar (old new : Outside) (plan : Network) (limit k : ℕ) (parts : List Std) : Type 0 where
@@ -148,19 +86,15 @@ more-so-far old mid new plan limit k parts part s r =
       count = omega (arith, length-append parts (part ∷ []), s.count);
       each = λ p one at. each p one (pushed parts part one p at);
     } where
-  each : (p : ℕ) (one : Std) → (slice_get parts p ≡ Some one) ⊎ ((p ≡ length parts) × (one ≡ part)) → (b : List ℕ) × (slice_get (s.given ++ r.1 ∷ []) p ≡ Some b) × IsPart plan p b one
-  each p one (inl at) = let e = s.each p one at in (e.0, get-more s.given r.1 e.0 p e.1, e.2)
-  each p one (inr at) =
-      let here : p ≡ k = at.0 ∙ s.count in
-      let place : p ≡ length s.given = here ∙ sym s.each_given in (
-        r.1,
-        ap (λ n. slice_get (s.given ++ r.1 ∷ []) n) place ∙ get-last s.given r.1,
-        subst (λ (n : ℕ). IsPart plan n r.1 one) (sym here) (subst (λ (o : Std). IsPart plan k r.1 o) (sym at.1) r.5),
-      )
-
-pub all-so-far : (old new : Outside) (plan : Network) (limit k : ℕ) (parts : Vec Std Global) → SoFar old new plan limit k parts.items → k ≡ length plan.processes
-    → ReadsParts old new plan (Ok parts) limit
-all-so-far old new plan limit k parts s all = (s.given, s.reads, s.were_read, record { count = s.count ∙ all; each = s.each })
+      each : (p : ℕ) (one : Std) → (slice_get parts p ≡ Some one) ⊎ ((p ≡ length parts) × (one ≡ part)) → (b : List ℕ) × (slice_get (s.given ++ r.1 ∷ []) p ≡ Some b) × IsPart plan p b one
+      each p one (inl at) = let e = s.each p one at in (e.0, get-more s.given r.1 e.0 p e.1, e.2)
+      each p one (inr at) =
+          let here : p ≡ k = at.0 ∙ s.count in
+          let place : p ≡ length s.given = here ∙ sym s.each_given in (
+            r.1,
+            ap (λ n. slice_get (s.given ++ r.1 ∷ []) n) place ∙ get-last s.given r.1,
+            subst (λ (n : ℕ). IsPart plan n r.1 one) (sym here) (subst (λ (o : Std). IsPart plan k r.1 o) (sym at.1) r.5),
+          )
 
 -- a stop behind other files
 stopped-behind : (old mid new : Outside) (earlier : List Filled) (name : Name) (stop : Stop) (limit : ℕ) → OnlyReads old mid (map whole earlier) → StopsAtFile mid new [] name stop limit

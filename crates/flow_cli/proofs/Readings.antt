@@ -1,18 +1,12 @@
 -- Files that are read one after another.
-use Rattle.std.proofs.Common.{◌≡◌, ◌≢◌, ◌⊎◌, inl, inr, ℕ, zero, suc, ◌+◌, ◌<◌, Bool, true, false, cond, List, [], ◌∷◌, ◌++◌, length, map, Some, None, Ok, Err, refl, sym, ◌∙◌, ap, subst, arith, append_assoc, length-append}
+use Rattle.std.proofs.Common.{◌≡◌, ℕ, zero, suc, List, [], ◌∷◌, ◌++◌, length, Some, refl, sym, ◌∙◌, ap, subst, append_assoc}
 use mathlib.Core.List.{append-nil}
-use Rattle.std.proofs.lemmas.List.{map-append}
-use Rattle.std.specs.Prelude.{IfSome, slice_get, codes, string_bytes}
+use Rattle.std.specs.Prelude.{slice_get}
 use Rattle.std.specs.declared.option.Option.{Option}
-use Rattle.std.specs.Str.{bytes_eq}
-use Rattle.std.proofs.lemmas.Slice.Eq.{bytes_eq-Decides}
 use Rattle.flow_text.specs.Edge.{Outside, Name, Files, Logged, Rose}
 use Rattle.flow_plan.specs.declared.plan.Process.{Process}
-use Rattle.flow_catalogue.specs.Files.{UsesFile}
-use Rattle.flow_catalogue.specs.declared.process.FileUse.{FileUse}
-use Rattle.flow_catalogue.specs.declared.process.FileUse.TheVariants.{Read, Write}
-use Rattle.flow_cli.specs.Step.{Filled, OnlyReads, FailsToRead, IsRead, whole}
-use Rattle.flow_cli.specs.Parts.{first_option, read_by, input_of, inputs_of, AreRead}
+use Rattle.flow_cli.specs.Step.{Filled, OnlyReads, FailsToRead, IsRead}
+use Rattle.flow_cli.specs.Parts.{input_of, inputs_of, AreRead}
 
 -- what was opened before and after
 pub OnlyReads-trans : (a b c : Outside) (xs ys : List Logged) → OnlyReads a b xs → OnlyReads b c ys → OnlyReads a c (xs ++ ys)
@@ -67,28 +61,3 @@ get-more (z ∷ zs) x y (suc p) there = get-more zs x y p there
 pub get-last : {X : Type 0} (xs : List X) (x : X) → slice_get (xs ++ x ∷ []) (length xs) ≡ Some x
 get-last [] x = refl
 get-last (z ∷ zs) x = get-last zs x
-
--- what a process reads
-test_false : (b : Bool) (P : Type 0) → (b ≡ true → P) → (P → ⊥) → b ≡ false
-test_false true P to no_way = absurd (no_way (to refl))
-test_false false P to no_way = refl
-
-test_true : (b : Bool) (P : Type 0) → (P → b ≡ true) → P → b ≡ true
-test_true b P to is = to is
-
-pub reads-none : (p : Process) → p.kind ≢ codes "ReadLines" → read_by p ≡ []
-reads-none p differ =
-    ap (λ b. cond b (first_option p.options) [])
-    (test_false (bytes_eq p.kind (codes "ReadLines")) (p.kind ≡ codes "ReadLines") (bytes_eq-Decides p.kind (codes "ReadLines")).0 differ)
-
-pub reads-one : (p : Process) (name : Name) → p.kind ≡ codes "ReadLines" → p.options ≡ (0, name) ∷ [] → read_by p ≡ name ∷ []
-reads-one p name kind options =
-    ap (λ b. cond b (first_option p.options) []) ((bytes_eq-Decides p.kind (codes "ReadLines")).1 kind) ∙ ap first_option options
-
--- a file that is written is none that is read
-pub writes-reads : codes "WriteLines" ≢ codes "ReadLines"
-writes-reads same = absurd cc
-
-pub uses-read : (p : Process) (file : FileUse) → UsesFile p (Some file) → (name : Name) × ((read_by p ≡ name ∷ []) ⊎ (read_by p ≡ []))
-uses-read p (Read file) uses = (file.now, inl (reads-one p file.now uses.0 uses.1))
-uses-read p (Write file) uses = (file.now, inr (reads-none p (λ kind. writes-reads (sym uses.0 ∙ kind))))

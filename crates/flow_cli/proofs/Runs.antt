@@ -1,5 +1,5 @@
 -- What stands after a run and the writing of its files.
-use Rattle.std.proofs.Common.{◌≡◌, ◌⊎◌, inl, inr, ℕ, List, ◌∷◌, map, Ok, Err, sym, ◌∙◌, ap, subst}
+use Rattle.std.proofs.Common.{inl, inr, ℕ, List, Err, ap, subst}
 use Rattle.std.specs.Prelude.{String, string_bytes}
 use Rattle.std.specs.declared.alloc.Global.{Global}
 use Rattle.flow_text.specs.Edge.{Outside, Name}
@@ -7,7 +7,7 @@ use Rattle.flow_report.specs.Text.{report_text}
 use Rattle.flow_cli.specs.Step.{Filled}
 use Rattle.flow_cli.specs.Many.{WritesFiles, WritesAll, EndsAt, FailsAt}
 use Rattle.flow_cli.specs.After.{Prints, verdict_status}
-use Rattle.flow_cli.specs.Causes.{Work, IsRunOf, IsWriteFault, HasCause}
+use Rattle.flow_cli.specs.Causes.{IsRunOf, IsWriteFault, HasCause}
 use Rattle.flow_cli.specs.Top.{IsWhole, HasRun}
 use Rattle.flow_cli.specs.declared.engine.Ran.{Ran}
 use Rattle.flow_cli.specs.Runs.{net_outputs}

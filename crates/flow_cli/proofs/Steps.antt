@@ -1,5 +1,5 @@
 -- One file is read, or written.
-use Rattle.std.proofs.Common.{◌≡◌, ◌⊎◌, inl, inr, ℕ, zero, suc, ◌+◌, ◌-◌, ◌^◌, ◌<◌, ◌≤◌, Bool, true, false, List, [], ◌∷◌, ◌++◌, length, take, Some, None, Ok, Err, refl, sym, ◌∙◌, ap, subst, arith, length-append, min}
+use Rattle.std.proofs.Common.{◌≡◌, inl, inr, ℕ, ◌+◌, ◌≤◌, Bool, true, false, List, [], ◌∷◌, ◌++◌, length, take, Some, None, Ok, Err, refl, sym, ◌∙◌, ap, subst, arith, length-append}
 use mathlib.Core.List.{append-nil}
 use Rattle.std.proofs.Math.Seq.{take-length}
 use Rattle.std.specs.Prelude.{IfSome, Vec}
@@ -8,7 +8,7 @@ use Rattle.std.specs.declared.alloc.Global.{Global}
 use Rattle.std.specs.declared.option.Option.{Option}
 use Rattle.std.specs.declared.result.Result.{Result}
 use Rattle.std.specs.Io.KnownBytes.{Consumes, IsAtEnd}
-use Rattle.flow_text.specs.Edge.{Outside, Name, Files, Logged, Rose, begun, counted_on, moved, last_moved, replaced, appended_at, appended_to, IsHeld, after_open, after_create, after_finish, after_read, after_read_fault, after_write, after_write_fault}
+use Rattle.flow_text.specs.Edge.{Outside, Name, Files, Logged, Rose, begun, counted_on, last_moved, replaced, appended_at, appended_to, IsHeld, after_open, after_create, after_finish, after_read, after_read_fault, after_write, after_write_fault}
 use Rattle.flow_text.specs.Shelf.{FailsToWrite as FailedWrite}
 use Rattle.flow_text.specs.ReadAll.{ReadsAll}
 use Rattle.flow_text.specs.WriteAll.{WritesAll}
@@ -19,8 +19,8 @@ use Rattle.flow_text.specs.declared.all.WriteStop.TheVariants as writes
 use Rattle.flow_text.specs.declared.edge.ShelfStop.TheVariants as shelf
 use Rattle.std.proofs.lemmas.List.{length-take-le}
 use Rattle.flow_text.proofs.Writes.{replaced-same, replaced-replaced}
-use Rattle.flow_text.proofs.Logs.{last_moved-push, last_moved-again}
-use Rattle.flow_cli.specs.Step.{Filled, OnlyReads, FailsToRead, MayRead, OnlyWrites, FailsToWrite, Unended, IsRead, HoldsMore, HoldsPart, ReadsFile, WritesFile, whole, partly}
+use Rattle.flow_text.proofs.Logs.{last_moved-push}
+use Rattle.flow_cli.specs.Step.{OnlyReads, FailsToRead, MayRead, OnlyWrites, FailsToWrite, HoldsMore, ReadsFile, WritesFile, whole, partly}
 
 -- equations in the form of what reading and writing change
 pub fit-reads : (old new : Outside) (n : Option Name) (l : Option (List ℕ)) (o files : List Logged) → new ≡ record old { open_name = n; left = l; opened = o } → o ≡ old.opened ++ files

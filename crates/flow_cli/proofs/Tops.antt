@@ -1,12 +1,11 @@
 -- What a call came to, and what was printed of it.
-use Rattle.std.proofs.Common.{◌≡◌, ◌⊎◌, ℕ, ◌+◌, ◌<◌, ◌≤◌, List, Some, None, Ok, Err, inl, inr, arith, refl, sym, ◌∙◌, ap, subst}
+use Rattle.std.proofs.Common.{◌≡◌, ◌⊎◌, ℕ, List, Some, None, inl, inr, arith, refl, sym, ◌∙◌, ap, subst}
 use Rattle.std.specs.Prelude.{◌≢◌, String, string_bytes, map, IfSome}
 use Rattle.std.specs.Option.{option_map}
 use Rattle.std.specs.declared.alloc.Global.{Global}
 use Rattle.std.specs.declared.option.Option.{Option}
-use Rattle.flow_text.specs.Edge.{Outside, Name, Files, Rose, after_write}
-use Rattle.flow_plan.specs.Network.{Network}
-use Rattle.flow_words.specs.Words.{Run, Check, command_of}
+use Rattle.flow_text.specs.Edge.{Outside, Name, Files, Rose}
+use Rattle.flow_words.specs.Words.{command_of}
 use Rattle.flow_words.specs.Lines.{file_of}
 use Rattle.flow_parse.specs.Canonical.{canonical}
 use Rattle.flow_report.specs.Text.{report_text}
@@ -18,13 +17,12 @@ use Rattle.flow_model.specs.Verdicts.{Quiet}
 use Rattle.flow_catalogue.specs.declared.standard.Std.{Std}
 use Rattle.flow_journal.specs.declared.merge.Journal.{Journal}
 use Rattle.flow_cli.specs.Step.{HoldsMore}
-use Rattle.flow_cli.specs.Parts.{IsNext}
 use Rattle.flow_cli.specs.Networks.{Holds}
 use Rattle.flow_cli.specs.After.{Prints, verdict_status}
 use Rattle.flow_cli.specs.Statuses.{IsOver}
 use Rattle.flow_cli.specs.Stops.{status_of, text_of}
-use Rattle.flow_cli.specs.Causes.{Work, Asks, IsCommand, IsEmptyJournal, IsNextFile, HasCause}
-use Rattle.flow_cli.specs.Top.{Call, call_of, HasRun, HasChecked, IsChecked, Finishes, PrintsStop, TellsStop, IsCaused, ComesToEnd, IsNetwork, IsReadFor, IsValid, NoFaults, IsComplete}
+use Rattle.flow_cli.specs.Causes.{Work, IsCommand, IsEmptyJournal, IsNextFile, HasCause}
+use Rattle.flow_cli.specs.Top.{call_of, HasRun, HasChecked, IsChecked, Finishes, PrintsStop, TellsStop, IsCaused, ComesToEnd, IsReadFor, IsValid, IsComplete}
 use Rattle.flow_cli.specs.declared.engine.Ran.{Ran}
 use Rattle.flow_cli.specs.Many.{WritesAll}
 use Rattle.flow_cli.specs.Runs.{net_outputs}
@@ -179,6 +177,7 @@ module _ (words : List (String Global)) (o a n po pn : Outside) (ran : Ran) (sta
     well : WritesAll a n (net_outputs ran.plan ran.net) → Prints po pn (report_text has.leaves.told_is.report) (verdict_status has.leaves.told_is.report.verdict) status → ComesToEnd (call_of words o n po pn ran.told.journal status) limit
     well w (inl p) = inl (has.name, has.asks, record { report = has.leaves.told_is.report; whole = whole-run o a n words limit ran has w; printed = p.1; status = p.0 })
     well w (inr p) = absurd (subst IsOver p.0 over)
+
     go : Finishes a n po pn ran status → ComesToEnd (call_of words o n po pn ran.told.journal status) limit
     go (inl (w, p)) = well w (printed-report o a n words limit ran has po pn status p)
     go (inr (stop, w, p)) = absurd (stop-not-over po pn stop status p over)

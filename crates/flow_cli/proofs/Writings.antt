@@ -1,6 +1,6 @@
 -- Files that are written one after another.
-use Rattle.std.proofs.Common.{◌≡◌, inl, inr, ℕ, zero, suc, ◌<◌, List, [], ◌∷◌, ◌++◌, length, map, take, get_or, Some, None, Err, Ok, subst, refl, sym, ◌∙◌, ap, arith, append_assoc}
-use Rattle.std.specs.Prelude.{string_bytes, slice_get}
+use Rattle.std.proofs.Common.{◌≡◌, inl, inr, ℕ, zero, suc, ◌<◌, List, [], ◌∷◌, ◌++◌, length, map, take, get_or, Some, None, Err, subst, refl, sym, ◌∙◌, ap, arith, append_assoc}
+use Rattle.std.specs.Prelude.{string_bytes}
 use Rattle.std.specs.declared.option.Option.{Option}
 use Rattle.std.specs.Option.{option_map}
 use Rattle.std.proofs.lemmas.Option.{slice_get-get_or}
@@ -8,7 +8,7 @@ use Rattle.flow_text.specs.Edge.{Outside, Name, Files, Logged, Rose, replaced}
 use Rattle.flow_text.specs.declared.edge.ShelfStop.{ShelfStop}
 use Rattle.flow_text.specs.declared.edge.ShelfStop.TheVariants as shelf
 use Rattle.flow_cli.specs.Step.{Filled, OnlyWrites, FailsToWrite, WritesFile, HoldsPart, whole}
-use Rattle.flow_cli.specs.Many.{WritesFiles, FailsAt, EndsAt, replaced_all, after_some}
+use Rattle.flow_cli.specs.Many.{WritesFiles, FailsAt, replaced_all, after_some}
 use Rattle.flow_cli.specs.Stops.{IsWriteStop}
 use Rattle.flow_cli.specs.declared.stop.Stop.{Stop}
 use Rattle.flow_cli.specs.declared.stop.Stop.TheVariants.{Words, Refused, ReadFault, WriteFault, TooLong, NoMemory}

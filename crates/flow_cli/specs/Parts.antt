@@ -11,7 +11,7 @@ use Rattle.flow_catalogue.specs.declared.standard.Std.{Std}
 use Rattle.flow_catalogue.specs.Processes.{IsMade, Fits}
 use Rattle.flow_cli.specs.Step.{Filled, OnlyReads, FailsToRead, MayRead, Unended, IsRead, HoldsMore, whole, partly}
 use Rattle.flow_cli.specs.declared.stop.Stop.{Stop}
-use Rattle.flow_cli.specs.declared.stop.Stop.TheVariants.{Words, Refused, ReadFault, WriteFault, TooLong, NoMemory}
+use Rattle.flow_cli.specs.declared.stop.Stop.TheVariants.{ReadFault, TooLong, NoMemory}
 
 -- The name of the first option.
 abbrev pub first_option : List (ℕ × List ℕ) → List Name

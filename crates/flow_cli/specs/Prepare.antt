@@ -1,5 +1,5 @@
 -- What a call does before its network runs: the words, the network file, the input files.
-use Rattle.std.specs.Prelude.{◌≡◌, ℕ, List, [], ◌∷◌, map, Ok, Err, String}
+use Rattle.std.specs.Prelude.{ℕ, List, [], ◌∷◌, map, Ok, Err, String}
 use Rattle.std.specs.declared.alloc.Global.{Global}
 use Rattle.std.specs.declared.result.Result.{Result}
 use Rattle.flow_text.specs.Edge.{Outside, Name}
@@ -10,7 +10,7 @@ use Rattle.flow_journal.specs.declared.merge.Journal.{Journal}
 use Rattle.flow_catalogue.specs.declared.standard.Std.{Std}
 use Rattle.flow_cli.specs.Step.{OnlyReads, whole}
 use Rattle.flow_cli.specs.Parts.{inputs_of, AreRead, AreParts}
-use Rattle.flow_cli.specs.Causes.{Work, Asks, IsCommand, IsEmptyJournal, IsFile, HasCause}
+use Rattle.flow_cli.specs.Causes.{Asks, IsCommand, IsEmptyJournal, IsFile, HasCause}
 use Rattle.flow_cli.specs.declared.net_file.NetFile.{NetFile}
 use Rattle.flow_cli.specs.declared.before.Job.{Job}
 use Rattle.flow_cli.specs.declared.before.Task.{Task}

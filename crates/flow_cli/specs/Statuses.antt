@@ -1,5 +1,5 @@
 -- The numbers of the statuses.
-use Rattle.std.specs.Prelude.{◌⊎◌, ◌≡◌, ℕ, ⊤}
+use Rattle.std.specs.Prelude.{ℕ, ⊤}
 use Rattle.flow_cli.specs.declared.status.Status.{Status}
 use Rattle.flow_cli.specs.declared.status.Status.TheVariants.{Finished, FinishedLeft, Words, Refused, Deadlock, Failed, ReadFault, WriteFault, NoMemory, TooLong, Running}
 

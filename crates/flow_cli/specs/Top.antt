@@ -1,9 +1,7 @@
 -- What the top call does.
-use Rattle.std.specs.Prelude.{◌≡◌, ◌⊎◌, ℕ, ◌≤◌, List, [], ◌∷◌, length, map, Some, Ok, Err, IfSome, String}
+use Rattle.std.specs.Prelude.{◌≡◌, ◌⊎◌, ℕ, ◌≤◌, List, [], ◌∷◌, length, Some, Ok, Err, IfSome, String}
 use Rattle.std.specs.declared.alloc.Global.{Global}
-use Rattle.std.specs.declared.option.Option.{Option}
 use Rattle.std.specs.declared.result.Result.{Result}
-use Rattle.std.specs.Option.{option_map}
 use Rattle.flow_text.specs.Edge.{Outside, Name, Files, Rose, after_write}
 use Rattle.flow_plan.specs.Network.{Network}
 use Rattle.flow_words.specs.Words.{Run, Check}
