@@ -1,4 +1,5 @@
 -- The table of the standard kinds: one row for each. (Morrison's components and JavaFBP's; the ports are this project's own.)
+use Rattle.flow_limits.specs.declared.TheConstants.{TEXT_LIMIT}
 use Rattle.std.specs.Prelude.{ℕ, List, [], ◌∷◌, map, codes}
 use Rattle.flow_plan.specs.declared.kind.PortClass.TheVariants.{Number, Fields, File}
 use Rattle.flow_plan.specs.declared.kind.PortSpec.{PortSpec}
@@ -17,7 +18,7 @@ spec_of ReadLines = row (codes "ReadLines") (option_port (codes "FILE") File ∷
 spec_of WriteLines = row (codes "WriteLines") (option_port (codes "FILE") File ∷ stream_port (codes "IN") ∷ []) []
 spec_of Passthru = row (codes "Passthru") (stream_port (codes "IN") ∷ []) (stream_port (codes "OUT") ∷ [])
 spec_of Words = row (codes "Words") (stream_port (codes "IN") ∷ []) (stream_port (codes "OUT") ∷ [])
-spec_of Fill = row (codes "Fill") (option_port (codes "SIZE") (Number 1 1048576) ∷ stream_port (codes "IN") ∷ []) (stream_port (codes "OUT") ∷ [])
+spec_of Fill = row (codes "Fill") (option_port (codes "SIZE") (Number 1 TEXT_LIMIT) ∷ stream_port (codes "IN") ∷ []) (stream_port (codes "OUT") ∷ [])
 spec_of Brackets = row (codes "Brackets") (stream_port (codes "IN") ∷ []) (stream_port (codes "OUT") ∷ [])
 spec_of Copy = row (codes "Copy") (stream_port (codes "IN") ∷ []) (array_port (codes "OUT") ∷ [])
 spec_of Concat = row (codes "Concat") (array_port (codes "IN") ∷ []) (stream_port (codes "OUT") ∷ [])

@@ -1,4 +1,5 @@
 -- The rows of the table of kinds: their ports as they are spelled in Morrison's diagrams, and what a process of a row has.
+use Rattle.flow_limits.specs.declared.TheConstants.{ELEMENT_LIMIT}
 use Rattle.std.specs.Prelude.{◌≡◌, ℕ, zero, suc, ◌+◌, ◌≤◌, ◌&&◌, if◌then◌else◌, not, nat_le, Bool, true, false, List, [], ◌∷◌, map, length, Option, Some, None}
 use Rattle.std.specs.List.{list_all, list_any, range_with_len}
 use Rattle.flow_plan.specs.declared.kind.PortClass.{PortClass}
@@ -31,10 +32,10 @@ pub data Count : Type 0 where
   Elements : Count
   Unsaid : Count
 
--- Such a count is this number. An array has 1 to 512 elements.
+-- Such a count is this number. An array has 1 to ELEMENT_LIMIT elements.
 abbrev pub IsCount : Count → ℕ → Type 0
 IsCount (Exactly number) n = n ≡ number
-IsCount Elements n = (1 ≤ n) × (n ≤ 512)
+IsCount Elements n = (1 ≤ n) × (n ≤ ELEMENT_LIMIT)
 IsCount Unsaid n = Unit {0}
 
 -- An option port has no number, an array one for each element, and every other port one.

@@ -11,6 +11,7 @@ use crate::options::{fields, is_connected, number as number_in, option_text};
 use crate::plans::a_first_component_fits;
 use crate::standard::Std;
 use crate::table::StdKind;
+use flow_limits::TEXT_LIMIT;
 use flow_net::{Plan, PortClass, Process};
 use flow_parts::{Brackets, Count, Fill, ReadLines, Words, WriteLines};
 use flow_streams::{
@@ -48,12 +49,12 @@ fn file_name(process: &Process) -> &str
 }
 
 fn line_size(process: &Process) -> u32
-    requires { HasOption (Some (PortClass.Number 1 1048576)) process.now.options }
+    requires { HasOption (Some (PortClass.Number 1 TEXT_LIMIT)) process.now.options }
     ensures size { result ≡ number_of (option_text process.now.options) }
     ensures least { 1 ≤ result }
-    ensures most { result ≤ 1048576 }
+    ensures most { result ≤ TEXT_LIMIT }
 {
-    number_in(option_text(process), 1, 1_048_576) as u32
+    number_in(option_text(process), 1, TEXT_LIMIT) as u32
 }
 
 /// The file that a process reads or writes; none where its kind has none. Takes no memory.

@@ -30,7 +30,7 @@ own_meant text x = option_map_or (λ (part : NetPart). filter_map (statement_mea
 abbrev pub own_process : NetText → List ℕ × List ℕ → Option (List ℕ × List ℕ)
 own_process text x = if is_some (subnet_called text x.1) then None else Some x
 
--- Each text that a subnet gives to a port has at most 1,048,576 bytes.
+-- Each text that a subnet gives to a port has at most TEXT_LIMIT bytes.
 abbrev pub HasShortSubnets : NetText → Type 0
 HasShortSubnets text = (name : List ℕ) (part : NetPart) → subnet_called text name ≡ Some part → HasShortTexts part
 

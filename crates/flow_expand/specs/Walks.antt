@@ -1,4 +1,5 @@
 -- What is looked at of a process that a text stands for, by the numbers of those before it.
+use Rattle.flow_limits.specs.declared.TheConstants.{SUBNET_PROCESS_LIMIT}
 use Rattle.std.specs.Prelude.{◌≡◌, ℕ, ◌+◌, nat_le, ◌∷◌, ◌++◌, length, if◌then◌else◌, Bool, true, false, List, [], Option, Some, None, Ok, Err}
 use Rattle.std.specs.declared.result.Result.{Result}
 use Rattle.std.specs.List.{list_any}
@@ -21,7 +22,7 @@ use Rattle.flow_expand.specs.Ways.{part_at}
 
 -- A process that is a subnet, behind so many.
 abbrev pub subnet_tested : ℕ → List ℕ → NetPart → Result (Unit {0}) ExpandFault
-subnet_tested subnets name part = if nat_le 512 subnets then Err (faults.Plan (TooMany many.Instances)) else outer_test name (given_again [] part.statements)
+subnet_tested subnets name part = if nat_le SUBNET_PROCESS_LIMIT subnets then Err (faults.Plan (TooMany many.Instances)) else outer_test name (given_again [] part.statements)
 
 -- A process that is none, behind so many.
 abbrev pub plain_tested : List KindSpec → ℕ → List ℕ → List ℕ → Result (Unit {0}) ExpandFault

@@ -14,13 +14,14 @@ use crate::meaning::{inside, joined};
 use crate::named::{is_kind, subnet_named};
 use crate::stop::ExpandStop;
 use crate::way::{Frame, part_of};
+use flow_limits::SUBNET_PROCESS_LIMIT;
 use flow_flat::ExpandFault;
 use flow_items::Text;
 use flow_net::{KindSpec, Many, PlanFault, PortRef};
 use flow_parse::NetPart;
 use std::alloc::{AllocError, Global};
 
-// A process that is a subnet: there are fewer than 512 before it, and its subnet gives no outer name
+// A process that is a subnet: there are fewer than SUBNET_PROCESS_LIMIT before it, and its subnet gives no outer name
 // twice.
 fn check_subnet(
     alloc: Global,
@@ -29,9 +30,9 @@ fn check_subnet(
     part: &NetPart,
 ) -> Result<(), ExpandStop>
     ensures tested { Gives result (λ outcome. subnet_tested subnets name.now part.now ≡ outcome) }
-    ensures few { IfOk result (λ _. subnets < 512) }
+    ensures few { IfOk result (λ _. subnets < SUBNET_PROCESS_LIMIT) }
 {
-    if subnets >= 512 {
+    if subnets >= SUBNET_PROCESS_LIMIT {
         let fault = PlanFault::TooMany(Many::Instances);
         return Err(ExpandStop::Fault(ExpandFault::Plan(fault)));
     }

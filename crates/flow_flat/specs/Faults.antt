@@ -1,4 +1,5 @@
 -- What a flat text is refused for.
+use Rattle.flow_limits.specs.declared.TheConstants.{CONNECTION_LIMIT, SENDER_LIMIT}
 use Rattle.std.specs.Prelude.{◌≡◌, ◌⊎◌, ℕ, ◌==◌, ◌||◌, nat_le, not, if◌then◌else◌, Bool, false, List, [], length, Option, Some, None, Ok, Err, is_some, slice_get, position}
 use Rattle.std.specs.Option.{option_map_or}
 use Rattle.std.specs.declared.result.Result.{Result}
@@ -41,9 +42,9 @@ has_text texts end = list_any (λ (t : End × List ℕ). same_element t.0 end) t
 abbrev pub is_stream_end : List PortAt → End → Bool
 is_stream_end ports end = option_map_or (λ (port : PortAt). is_stream port.spec.class) (slice_get ports end.port) false
 
--- There are 512 connections and this would be one more, or the connection has its 65,535 senders.
+-- There are CONNECTION_LIMIT connections and this would be one more, or the connection has its SENDER_LIMIT senders.
 abbrev pub is_full : List Join → End → Bool
-is_full joins into = if receives joins into then nat_le 65535 (length (joins_into joins into)) else nat_le 512 (length (receivers joins))
+is_full joins into = if receives joins into then nat_le SENDER_LIMIT (length (joins_into joins into)) else nat_le CONNECTION_LIMIT (length (receivers joins))
 
 -- Two elements may be joined, after these connect statements and texts.
 abbrev pub join_test : List PortAt → List Join → List (End × List ℕ) → List ℕ → PortRef → Option ℕ → List ℕ → PortRef → End × End → Result (Unit {0}) PlanFault

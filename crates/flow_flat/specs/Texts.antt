@@ -1,4 +1,5 @@
 -- The plan of a text with subnets, and what it is refused for.
+use Rattle.flow_limits.specs.declared.TheConstants.{SUBNET_PROCESS_LIMIT}
 use Rattle.std.specs.Prelude.{◌≡◌, ℕ, ◌+◌, nat_le, not, if◌then◌else◌, Bool, false, List, [], ◌∷◌, ◌++◌, length, Option, Some, None, Ok, Err, is_some, count_by}
 use Rattle.std.specs.declared.result.Result.{Result}
 use Rattle.std.specs.List.{filter_map, list_any}
@@ -60,10 +61,10 @@ abbrev pub outer_test : List ℕ → Option (List ℕ) → Result (Unit {0}) Exp
 outer_test process None = Ok tt
 outer_test process (Some name) = Err (faults.OuterPort process (record { name = name; element = None }))
 
--- A process that is a subnet: there are fewer than 512 before it, and its subnet gives no outer name twice.
+-- A process that is a subnet: there are fewer than SUBNET_PROCESS_LIMIT before it, and its subnet gives no outer name twice.
 abbrev pub subnet_test : NetText → List Instance → Instance → NetPart → Result (Unit {0}) ExpandFault
 subnet_test text before x part =
-    if nat_le 512 (count_by (is_subnet text) before) then Err (faults.Plan (TooMany many.Instances)) else outer_test x.name (given_again [] part.statements)
+    if nat_le SUBNET_PROCESS_LIMIT (count_by (is_subnet text) before) then Err (faults.Plan (TooMany many.Instances)) else outer_test x.name (given_again [] part.statements)
 
 -- A process that is none: its kind is in the table, and there are fewer than 128 before it.
 abbrev pub plain_test : NetText → List KindSpec → List Instance → Instance → Result (Unit {0}) ExpandFault

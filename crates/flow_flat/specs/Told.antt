@@ -1,4 +1,5 @@
 -- The plan that a part of a network text is, and the fault that it has.
+use Rattle.flow_limits.specs.declared.TheConstants.{TEXT_LIMIT}
 use Rattle.std.specs.Prelude.{◌≡◌, ◌≤◌, ℕ, List, [], ◌∷◌, length, Ok, Err, MatchResult}
 use Rattle.std.specs.declared.result.Result.{Result}
 use Rattle.std.specs.List.{All}
@@ -17,14 +18,14 @@ use Rattle.flow_parse.specs.declared.value.NetPart.{NetPart}
 use Rattle.flow_flat.specs.declared.fault.ExpandFault.{ExpandFault}
 use Rattle.flow_flat.specs.declared.fault.ExpandFault.TheVariants.{Plan}
 
--- A text that is given to a port has at most 1,048,576 bytes.
+-- A text that is given to a port has at most TEXT_LIMIT bytes.
 abbrev pub IsShort : Statement → Type 0
 IsShort (Connect from out capacity to into) = Unit {0}
-IsShort (Initial text to into) = length text ≤ 1048576
+IsShort (Initial text to into) = length text ≤ TEXT_LIMIT
 IsShort (InPort outer to into) = Unit {0}
 IsShort (OutPort from out outer) = Unit {0}
 
--- Each text that a part gives to a port has at most 1,048,576 bytes.
+-- Each text that a part gives to a port has at most TEXT_LIMIT bytes.
 abbrev pub HasShortTexts : NetPart → Type 0
 HasShortTexts part = All IsShort part.statements
 

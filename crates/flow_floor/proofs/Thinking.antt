@@ -1,11 +1,11 @@
 -- A held body that thinks still agrees with what the machine has.
+use Rattle.flow_limits.specs.declared.TheConstants.{HANDS_LIMIT}
 use Rattle.std.proofs.Common.{◌≡◌, ℕ, ◌<◌, Bool, true, false, cond, List, [], ◌∷◌, length, Option, Some, None, nat_lt, ap, sym, subst, ◌∙◌, ◌⊎◌, inl, inr}
 use Rattle.std.specs.Prelude.{slice_index}
 use Rattle.atomic_table.specs.Seated.{TableId}
 use Rattle.flow_packet.specs.Tree.{Tree, kind_of}
 use Rattle.flow_packet.specs.Hands.{packet_at}
 use Rattle.flow_packet.specs.Held.{Held as Hands}
-use Rattle.flow_packet.specs.Edits.{hands_limit}
 use Rattle.flow_component.specs.declared.Answer.{Answer}
 use Rattle.flow_component.specs.declared.Wish.{Wish}
 use Rattle.flow_component.specs.declared.Wish.TheVariants as wishes
@@ -32,7 +32,7 @@ use Rattle.flow_floor.specs.Law.{Rests}
 use Rattle.flow_floor.specs.Workers.{IsHeldBy}
 
 thought-judged : (depths : List ℕ) (held : Hands) (wish : Wish) → IsThoughtStage (judged depths held wish)
-thought-judged depths held (wishes.Receive port) = by (nat_lt (length held.packets) hands_limit)
+thought-judged depths held (wishes.Receive port) = by (nat_lt (length held.packets) HANDS_LIMIT)
   where
     by : (b : Bool) → IsThoughtStage (cond b (stages.Wishing (wishes.Receive port)) (stages.Failed fails.HandsLimit))
     by true = tt

@@ -1,4 +1,5 @@
 -- Turns and thoughts keep what holds of each net.
+use Rattle.flow_limits.specs.declared.TheConstants.{TURN_LIMIT}
 use Rattle.std.proofs.Common.{◌≡◌, ◌≢◌, ℕ, ◌+◌, ◌*◌, ◌<◌, ◌≤◌, Bool, List, [], ◌∷◌, ◌++◌, length, map, Option, Some, None, suc, zero, refl, ap, sym, subst, ◌∙◌, arith, slice_get, slice_set, length-set, length-append, append-nil, ◌⊎◌, inl, inr}
 use Rattle.std.specs.Prelude.{sum_by}
 use Rattle.std.proofs.lemmas.List.{map-set}
@@ -15,7 +16,7 @@ use Rattle.flow_model.specs.declared.Stage.{Stage}
 use Rattle.flow_model.specs.declared.Stage.TheVariants as stages
 use Rattle.flow_model.specs.States.{Process, Channel, Put, State, From, Outlet, outlets, change_at, changed}
 use Rattle.flow_model.specs.Events.{Event, Starts, Finishes, Gets, Takes_text, Hears_end, Sends, Learns, Sleeps, Closes, event_from, received, seen_by}
-use Rattle.flow_model.specs.Turns.{process_after, channels_after, past_after, turn_limit, Turn}
+use Rattle.flow_model.specs.Turns.{process_after, channels_after, past_after, Turn}
 use Rattle.flow_model.specs.Works.{worked, past_worked, Work}
 use Rattle.flow_model.specs.Stands.{ChannelShown, NetShown, channels_from, body_after, shown_after, all_shown_after, net_after, StandsForOpen}
 use Rattle.flow_model.specs.Valid.{ReadyAt, HasToClose}
@@ -211,7 +212,7 @@ module _ {K : Type 0} (shape_of : K → Shape) (uses : K → ℕ → Bool) (read
 
   pub turns-most : (net : NetValue K) → FitNet shape_of uses ready net → turns_made net ≤ 1073741824
   turns-most net fit =
-      let each = turns-few net.bodies turn_limit (λ p b is. omega (arith, (fit.fit.valid.each p b.process (process-in net fit.state p b fit.stands is)).turns)) in
+      let each = turns-few net.bodies TURN_LIMIT (λ p b is. omega (arith, (fit.fit.valid.each p b.process (process-in net fit.state p b fit.stands is)).turns)) in
       omega (arith, each, fit.few)
 
   pub get-below : {A : Type 0} (xs : List A) (i : ℕ) (x : A) → slice_get xs i ≡ Some x → i < length xs

@@ -1,4 +1,5 @@
 -- A process that stands well goes on to stand well.
+use Rattle.flow_limits.specs.declared.TheConstants.{HANDS_LIMIT, TURN_LIMIT}
 use Rattle.std.proofs.Common.{◌≡◌, ℕ, ◌+◌, ◌*◌, ◌<◌, ◌≤◌, Bool, true, false, cond, List, [], ◌∷◌, length, Some, None, Option, nat_lt, nat_eq, refl, ap, sym, subst, ◌∙◌, arith, slice_get, slice_set, slice_index, length-set, get_or-set_same, get_or-set_other, suc, zero, ◌⊎◌, inl, inr, IsSome, IsTrue}
 use Rattle.std.specs.Prelude.{◌^◌}
 use Rattle.std.proofs.lemmas.Bool.Decides.{nat_tests}
@@ -6,7 +7,6 @@ use Rattle.flow_packet.specs.declared.packet.Kind.{Kind}
 use Rattle.flow_packet.specs.declared.packet.Kind.TheVariants as kinds
 use Rattle.flow_packet.specs.Tree.{Tree, kind_of, id_of}
 use Rattle.flow_packet.specs.Hands.{packet_at}
-use Rattle.flow_packet.specs.Edits.{hands_limit}
 use Rattle.flow_packet.specs.Ids.{times, ordinal_of}
 use Rattle.flow_packet.specs.Held.{Held, held_ids, next_id, Sound, with_made, with_packet, without_packet}
 use Rattle.flow_packet.proofs.Comes.{Keeps, MakesOne, comes, made-one, drops-keep}
@@ -22,7 +22,7 @@ use Rattle.flow_model.specs.declared.Stage.{Stage}
 use Rattle.flow_model.specs.declared.Stage.TheVariants as stages
 use Rattle.flow_model.specs.States.{Process, Input, outlets_from}
 use Rattle.flow_model.specs.Events.{Gets, Takes_text}
-use Rattle.flow_model.specs.Turns.{limited, turn_limit, process_after, at_stage, depth_after}
+use Rattle.flow_model.specs.Turns.{limited, process_after, at_stage, depth_after}
 use Rattle.flow_model.specs.Works.{worked, judged, sending, nests}
 use Rattle.flow_model.specs.Schedules.{IsThoughtStage}
 use Rattle.flow_model.specs.Valid.{ReadyAt, IsNested, IsGranted, FitProcess, owed, least_left}
@@ -71,7 +71,7 @@ sound-comes old new (inr one) below sound = record {
 }
 
 owed-judged : (depths : List ℕ) (held : Held) (wish : Wish) → owed (judged depths held wish) ≡ 0
-owed-judged depths held (wishes.Receive port) = by (nat_lt (length held.packets) hands_limit)
+owed-judged depths held (wishes.Receive port) = by (nat_lt (length held.packets) HANDS_LIMIT)
   where
     by : (b : Bool) → owed (cond b (stages.Wishing (wishes.Receive port)) (stages.Failed fails.HandsLimit)) ≡ 0
     by true = refl
@@ -93,7 +93,7 @@ owed-worked x (Wishes part held wish) = owed-judged x.depths held wish
 owed-worked x (Fails part held cause) = refl
 
 thought-judged : (depths : List ℕ) (held : Held) (wish : Wish) → IsThoughtStage (judged depths held wish)
-thought-judged depths held (wishes.Receive port) = by (nat_lt (length held.packets) hands_limit)
+thought-judged depths held (wishes.Receive port) = by (nat_lt (length held.packets) HANDS_LIMIT)
   where
     by : (b : Bool) → IsThoughtStage (cond b (stages.Wishing (wishes.Receive port)) (stages.Failed fails.HandsLimit))
     by true = tt
@@ -124,23 +124,23 @@ module _ {K : Type 0} (shape_of : K → Shape) (uses : K → ℕ → Bool) (read
   few-made x well = omega (arith, well.good.made, well.good.turns)
 
   -- A process that was told an answer by its turn.
-  pub stands-told : (x y : Process K) (answer : Answer) → StandsWell shape_of uses ready x → x.turns < turn_limit → y.stage ≡ limited (x.turns + 1) (stages.Told answer) → y.turns ≡ x.turns + 1 → y.part ≡ x.part → y.inputs ≡ x.inputs → y.outputs ≡ x.outputs
+  pub stands-told : (x y : Process K) (answer : Answer) → StandsWell shape_of uses ready x → x.turns < TURN_LIMIT → y.stage ≡ limited (x.turns + 1) (stages.Told answer) → y.turns ≡ x.turns + 1 → y.part ≡ x.part → y.inputs ≡ x.inputs → y.outputs ≡ x.outputs
       → length y.depths ≡ length x.depths → length y.fresh ≡ length x.fresh → ((port : ℕ) → slice_index y.depths port ≤ y.turns) → Sound y.held → y.held.made ≤ x.held.made + 1 → owed x.stage ≡ 0
       → ReadyIfSound (ready x.part) y.held answer → StandsWell shape_of uses ready y
   stands-told x y answer well left stage turns part inputs outputs depths fresh deep sound made owes is_ready = record {
     good = record {
       maker = refl;
       made = omega (arith, made, turns, owed-most y.stage, well.good.made, owes);
-      turns = subst (λ (st : Stage). y.turns + least_left st ≤ turn_limit) (sym stage) (limit (nat_eq (x.turns + 1) turn_limit) refl);
+      turns = subst (λ (st : Stage). y.turns + least_left st ≤ TURN_LIMIT) (sym stage) (limit (nat_eq (x.turns + 1) TURN_LIMIT) refl);
       depths = depths ∙ well.good.depths ∙ ap length (sym outputs);
-      nested = subst (IsNested y) (sym stage) (nested (nat_eq (x.turns + 1) turn_limit));
-      is_ready = subst (ReadyAt (ready y.part) y.held) (sym stage) (can (nat_eq (x.turns + 1) turn_limit));
+      nested = subst (IsNested y) (sym stage) (nested (nat_eq (x.turns + 1) TURN_LIMIT));
+      is_ready = subst (ReadyAt (ready y.part) y.held) (sym stage) (can (nat_eq (x.turns + 1) TURN_LIMIT));
     };
     fit = record {
       inputs = ap (λ (k : K). (shape_of k).inputs) part ∙ well.fit.inputs ∙ ap length (sym inputs);
       used = λ port is. (let u = well.fit.used port (subst (λ (k : K). IsTrue (uses k port)) part is) in
           subst (λ (os : List (Option ℕ)). IsSome (output_in os port)) (sym outputs) u);
-      granted = subst (IsGranted y) (sym stage) (granted (nat_eq (x.turns + 1) turn_limit));
+      granted = subst (IsGranted y) (sym stage) (granted (nat_eq (x.turns + 1) TURN_LIMIT));
     };
     sound = sound;
     fresh = fresh ∙ well.fresh ∙ ap length (sym inputs);
@@ -149,9 +149,9 @@ module _ {K : Type 0} (shape_of : K → Shape) (uses : K → ℕ → Bool) (read
     few = subst (λ (os : List (Option ℕ)). length os < 2 ^ 32) (sym outputs) well.few;
   }
     where
-      limit : (b : Bool) → nat_eq (x.turns + 1) turn_limit ≡ b → y.turns + least_left (cond b (stages.Failed fails.TurnLimit) (stages.Told answer)) ≤ turn_limit
+      limit : (b : Bool) → nat_eq (x.turns + 1) TURN_LIMIT ≡ b → y.turns + least_left (cond b (stages.Failed fails.TurnLimit) (stages.Told answer)) ≤ TURN_LIMIT
       limit true t = omega (arith, turns, left)
-      limit false t = let below : x.turns + 1 < turn_limit = less_or (x.turns + 1) turn_limit t (omega (arith, left)) in omega (arith, turns, below)
+      limit false t = let below : x.turns + 1 < TURN_LIMIT = less_or (x.turns + 1) TURN_LIMIT t (omega (arith, left)) in omega (arith, turns, below)
 
       nested : (b : Bool) → IsNested y (cond b (stages.Failed fails.TurnLimit) (stages.Told answer))
       nested true = tt
@@ -185,7 +185,7 @@ module _ {K : Type 0} (shape_of : K → Shape) (uses : K → ℕ → Bool) (read
       made-comes old new (inl keeps) = omega (arith, keeps.made)
       made-comes old new (inr one) = omega (arith, one.made)
 
-      by : (outcome : Outcome K) → ReadyAt (ready (worked x outcome).part) (worked x outcome).held (worked x outcome).stage → FitProcess shape_of uses (worked x outcome) → Sound (held_after outcome) → (held_after outcome).made ≤ 2 * x.turns → x.turns + 1 ≤ turn_limit
+      by : (outcome : Outcome K) → ReadyAt (ready (worked x outcome).part) (worked x outcome).held (worked x outcome).stage → FitProcess shape_of uses (worked x outcome) → Sound (held_after outcome) → (held_after outcome).made ≤ 2 * x.turns → x.turns + 1 ≤ TURN_LIMIT
           → StandsWell shape_of uses ready (worked x outcome)
       by (Wishes part held wish) is_ready fit sound made turns = record {
         good = record {
@@ -214,13 +214,13 @@ module _ {K : Type 0} (shape_of : K → Shape) (uses : K → ℕ → Bool) (read
       }
 
   -- A process that goes to its end, or on with it.
-  pub stands-closing : (x y : Process K) (place : ℕ) → StandsWell shape_of uses ready x → x.turns < turn_limit → y ≡ record x { stage = limited (x.turns + 1) (closing_in x.outputs place); turns = x.turns + 1 } → StandsWell shape_of uses ready y
+  pub stands-closing : (x y : Process K) (place : ℕ) → StandsWell shape_of uses ready x → x.turns < TURN_LIMIT → y ≡ record x { stage = limited (x.turns + 1) (closing_in x.outputs place); turns = x.turns + 1 } → StandsWell shape_of uses ready y
   stands-closing x y place well left is = subst (StandsWell shape_of uses ready) (sym is) (by (nat_lt place (length (outlets_from 0 x.outputs))) refl)
     where
       z : Stage → Process K
       z stage = record x { stage = stage; turns = x.turns + 1 }
 
-      well-at : (stage : Stage) → owed stage ≡ 0 → x.turns + 1 + least_left stage ≤ turn_limit → IsNested (z stage) stage → ReadyAt (ready x.part) x.held stage → IsGranted (z stage) stage → StandsWell shape_of uses ready (z stage)
+      well-at : (stage : Stage) → owed stage ≡ 0 → x.turns + 1 + least_left stage ≤ TURN_LIMIT → IsNested (z stage) stage → ReadyAt (ready x.part) x.held stage → IsGranted (z stage) stage → StandsWell shape_of uses ready (z stage)
       well-at stage owes most nested can granted = record {
         good = record { maker = refl; made = omega (arith, owes, well.good.made); turns = most; depths = well.good.depths; nested = nested; is_ready = can };
         fit = record { inputs = well.fit.inputs; used = well.fit.used; granted = granted };
@@ -231,16 +231,16 @@ module _ {K : Type 0} (shape_of : K → Shape) (uses : K → ℕ → Bool) (read
         few = well.few;
       }
 
-      limit : (i : ℕ) → i < length (outlets_from 0 x.outputs) → (b : Bool) → nat_eq (x.turns + 1) turn_limit ≡ b → StandsWell shape_of uses ready (z (cond b (stages.Failed fails.TurnLimit) (stages.Closing i)))
+      limit : (i : ℕ) → i < length (outlets_from 0 x.outputs) → (b : Bool) → nat_eq (x.turns + 1) TURN_LIMIT ≡ b → StandsWell shape_of uses ready (z (cond b (stages.Failed fails.TurnLimit) (stages.Closing i)))
       limit i within true t = well-at (stages.Failed fails.TurnLimit) refl (omega (arith, left)) tt tt tt
-      limit i within false t = let below : x.turns + 1 < turn_limit = less_or (x.turns + 1) turn_limit t (omega (arith, left)) in well-at (stages.Closing i) refl (omega (arith, below)) tt tt within
+      limit i within false t = let below : x.turns + 1 < TURN_LIMIT = less_or (x.turns + 1) TURN_LIMIT t (omega (arith, left)) in well-at (stages.Closing i) refl (omega (arith, below)) tt tt within
 
       by : (b : Bool) → nat_lt place (length (outlets_from 0 x.outputs)) ≡ b → StandsWell shape_of uses ready (z (limited (x.turns + 1) (cond b (stages.Closing place) stages.Ended)))
-      by true t = limit place (let h : place < length (outlets_from 0 x.outputs) = grind (arith, nat_tests) in h) (nat_eq (x.turns + 1) turn_limit) refl
+      by true t = limit place (let h : place < length (outlets_from 0 x.outputs) = grind (arith, nat_tests) in h) (nat_eq (x.turns + 1) TURN_LIMIT) refl
       by false t = well-at stages.Ended refl (omega (arith, left)) tt tt tt
 
   -- A process that still takes turns has one left.
-  pub turn-left : (x : Process K) → StandsWell shape_of uses ready x → least_left x.stage ≡ 1 → x.turns < turn_limit
+  pub turn-left : (x : Process K) → StandsWell shape_of uses ready x → least_left x.stage ≡ 1 → x.turns < TURN_LIMIT
   turn-left x well one = omega (arith, well.good.turns, one)
 
   -- A process that took an initial text.

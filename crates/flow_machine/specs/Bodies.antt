@@ -1,4 +1,5 @@
 -- What holds of each body.
+use Rattle.flow_limits.specs.declared.TheConstants.{TEXT_LIMIT}
 use Rattle.std.specs.Prelude.{◌≡◌, ℕ, ◌<◌, ◌≤◌, ◌^◌, Bool, List, length, Option, Some, None, slice_get, slice_index}
 use Rattle.flow_packet.specs.declared.packet.Kind.{Kind}
 use Rattle.flow_packet.specs.Tree.{Tree, kind_of}
@@ -20,7 +21,7 @@ pub record StandsWell {K : Type 0} (shape_of : K → Shape) (uses : K → ℕ �
   pub sound : Sound x.held
   pub fresh : length x.fresh ≡ length x.inputs
   pub deep : (port : ℕ) → slice_index x.depths port ≤ x.turns
-  pub short : (i : ℕ) (text : List ℕ) → slice_get x.inputs i ≡ Some (Text text) → length text ≤ 1048576
+  pub short : (i : ℕ) (text : List ℕ) → slice_get x.inputs i ≡ Some (Text text) → length text ≤ TEXT_LIMIT
   pub few : length x.outputs < 2 ^ 32
 
 -- A packet of this kind has left the hands of a process that stood well, and the turn that sends it isn't over.

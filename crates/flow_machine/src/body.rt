@@ -15,6 +15,7 @@ ghost use Rattle.flow_machine.specs.Outlets.{output_in};
 use crate::answers::{Case, Over, Status};
 use crate::inlet::Inlet;
 use crate::outlets::{outlet_at, output_at};
+use flow_limits::TURN_LIMIT;
 use flow_component::{Component, Port, Wish};
 use flow_model::Stage;
 use flow_packet::{Hands, Kind, Packet, PacketId};
@@ -121,7 +122,7 @@ impl<K: Component> Body<K> {
     pub fn turns(&self) -> &[u32]
         ensures stamps { result.now ≡ self.now.stamps }
         ensures count { length result.now ≡ self.now.process.turns }
-        ensures few { length result.now ≤ 8388608 }
+        ensures few { length result.now ≤ TURN_LIMIT }
     {
         &self.stamps
     }

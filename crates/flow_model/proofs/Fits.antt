@@ -1,8 +1,8 @@
 -- What a running net keeps holds at the start, and every turn and every work keeps it.
+use Rattle.flow_limits.specs.declared.TheConstants.{HANDS_LIMIT}
 use Rattle.std.proofs.Common.{◌≡◌, ℕ, ◌<◌, ◌≤◌, Bool, List, [], ◌∷◌, length, Some, ap, arith, sym, subst, ◌∙◌, slice_get, slice_set, length-append, inl, inr}
 use Rattle.flow_packet.specs.declared.packet.Kind.TheVariants as kinds
 use Rattle.flow_packet.specs.Tree.{id_of, packet_of}
-use Rattle.flow_packet.specs.Edits.{hands_limit}
 use Rattle.flow_packet.specs.Held.{Held, next_id}
 use Rattle.flow_packet.proofs.Roots.{length-without, few-comes}
 use Rattle.flow_component.specs.declared.Answer.{Answer}
@@ -27,7 +27,7 @@ use Rattle.flow_model.proofs.Start.{Valid-start, start-process}
 use Rattle.flow_model.proofs.Leaving.{OpenSendersTell-turn, OpenSendersTell-work, OpenSendersTell-start}
 
 -- a turn leaves at most 4,096 packets at the root: what is received finds room
-few-after : {K : Type 0} (channels : List Channel) (x : Process K) (n : ℕ) (e : Event) → event_of channels x n ≡ Some e → IsGranted x x.stage → length x.held.packets ≤ hands_limit → length (process_after x e).held.packets ≤ hands_limit
+few-after : {K : Type 0} (channels : List Channel) (x : Process K) (n : ℕ) (e : Event) → event_of channels x n ≡ Some e → IsGranted x x.stage → length x.held.packets ≤ HANDS_LIMIT → length (process_after x e).held.packets ≤ HANDS_LIMIT
 few-after channels x n Starts is granted few = few
 few-after channels x n Finishes is granted few = few
 few-after channels x n (Gets port c packet) is granted few =
@@ -45,10 +45,10 @@ few-after channels x n Sleeps is granted few = few
 few-after channels x n (Closes output c) is granted few = few
 
 -- the other processes hold what they held
-few-set : {K : Type 0} (processes : List (Process K)) (p : ℕ) (x y : Process K) → slice_get processes p ≡ Some x → FewAtRoot processes → length y.held.packets ≤ hands_limit → FewAtRoot (slice_set processes p y)
+few-set : {K : Type 0} (processes : List (Process K)) (p : ℕ) (x y : Process K) → slice_get processes p ≡ Some x → FewAtRoot processes → length y.held.packets ≤ HANDS_LIMIT → FewAtRoot (slice_set processes p y)
 few-set {K} processes p x y there old new q z is = elim (same_or_not q p) [
   | inl same ↦ (let h : Some y ≡ Some z = sym (ap (slice_get (slice_set processes p y)) same ∙ slice_get-set_same processes p x y there) ∙ is in
-      let y_is : y ≡ z = cc in subst (λ (w : Process K). length w.held.packets ≤ hands_limit) y_is new)
+      let y_is : y ≡ z = cc in subst (λ (w : Process K). length w.held.packets ≤ HANDS_LIMIT) y_is new)
   | inr other ↦ old q z (sym (slice_get-set_other processes p q y other) ∙ is)
 ]
 
@@ -96,8 +96,8 @@ module _ {K : Type 0} (shape_of : K → Shape) (uses : K → ℕ → Bool) (read
       let sound = sound-hands s p x there was.maker below fit.valid.one_place in
       let now : ready x.part x.held work.kept.answer = subst (ReadyAt (ready x.part) x.held) told was.is_ready sound in
       let lawful = obeys x.part x.held work.kept.answer work.outcome now work.kept.comes in
-      let few : length (worked x work.outcome).held.packets ≤ hands_limit =
-      subst (λ (h : Held). length h.packets ≤ hands_limit) (sym (held-worked x work.outcome)) (few-comes x.held (held_after work.outcome) (comes-of (shape_of x.part) (uses x.part) x.held work.outcome lawful) (fit.few p x there)) in
+      let few : length (worked x work.outcome).held.packets ≤ HANDS_LIMIT =
+      subst (λ (h : Held). length h.packets ≤ HANDS_LIMIT) (sym (held-worked x work.outcome)) (few-comes x.held (held_after work.outcome) (comes-of (shape_of x.part) (uses x.part) x.held work.outcome lawful) (fit.few p x there)) in
       record {
         valid = Valid-work ready next shape_of uses obeys stays s p s' work fit.valid;
         all_fit = AllFit-work shape_of uses next s p s' work lawful (steady x.part x.held work.kept.answer work.outcome work.kept.comes) fit.all_fit;

@@ -1,9 +1,9 @@
 -- Turns and works keep what each process was told a run of its component.
+use Rattle.flow_limits.specs.declared.TheConstants.{HANDS_LIMIT, TURN_LIMIT}
 use Rattle.std.proofs.Common.{◌≡◌, ℕ, ◌+◌, Bool, true, false, List, [], ◌∷◌, ◌++◌, length, Option, Some, None, refl, sym, ap, ◌∙◌, subst, append-nil, cond, nat_lt, slice_index, ◌==◌}
 use Rattle.flow_packet.specs.declared.packet.Kind.TheVariants as kinds
 use Rattle.flow_packet.specs.Tree.{Tree, id_of, kind_of, packet_of}
 use Rattle.flow_packet.specs.Hands.{packet_at}
-use Rattle.flow_packet.specs.Edits.{hands_limit}
 use Rattle.flow_packet.specs.Held.{Held, Sound, next_id}
 use Rattle.flow_component.specs.declared.Answer.{Answer}
 use Rattle.flow_component.specs.declared.Answer.TheVariants as answers
@@ -18,7 +18,7 @@ use Rattle.flow_model.specs.declared.Stage.{Stage}
 use Rattle.flow_model.specs.declared.Stage.TheVariants as stages
 use Rattle.flow_model.specs.States.{Process, Channel, outlets}
 use Rattle.flow_model.specs.Events.{Event, Starts, Finishes, Gets, Takes_text, Hears_end, Sends, Learns, Sleeps, Closes, event_of}
-use Rattle.flow_model.specs.Turns.{process_after, heard, limited, closing, closing_on, turn_limit}
+use Rattle.flow_model.specs.Turns.{process_after, heard, limited, closing, closing_on}
 use Rattle.flow_model.specs.Works.{judged, sending, nests, worked}
 use Rattle.flow_model.specs.Runs.{poise, IsPending, Follows}
 use Rattle.flow_model.proofs.Inverse.{explains}
@@ -31,11 +31,11 @@ module _ {K : Type 0} (ready : K → Held → Answer → Type 0) (next : K → H
 
   follows-limited : (start : Poise K) (told : List Happening) (x : Process K) (n : ℕ) (stage : Stage) → Follows ready next start told x stage → Follows ready next start told x (limited n stage)
   follows-limited start told x n stages.Ended is = is
-  follows-limited start told x n stages.Idle is = follows-cond start told x (n == turn_limit) stages.Idle is
-  follows-limited start told x n (stages.Told a) is = follows-cond start told x (n == turn_limit) (stages.Told a) is
-  follows-limited start told x n (stages.Wishing w) is = follows-cond start told x (n == turn_limit) (stages.Wishing w) is
-  follows-limited start told x n (stages.Closing i) is = follows-cond start told x (n == turn_limit) (stages.Closing i) is
-  follows-limited start told x n (stages.Failed c) is = follows-cond start told x (n == turn_limit) (stages.Failed c) is
+  follows-limited start told x n stages.Idle is = follows-cond start told x (n == TURN_LIMIT) stages.Idle is
+  follows-limited start told x n (stages.Told a) is = follows-cond start told x (n == TURN_LIMIT) (stages.Told a) is
+  follows-limited start told x n (stages.Wishing w) is = follows-cond start told x (n == TURN_LIMIT) (stages.Wishing w) is
+  follows-limited start told x n (stages.Closing i) is = follows-cond start told x (n == TURN_LIMIT) (stages.Closing i) is
+  follows-limited start told x n (stages.Failed c) is = follows-cond start told x (n == TURN_LIMIT) (stages.Failed c) is
 
   follows-closing : (start : Poise K) (told : List Happening) (y x : Process K) (i : ℕ) → Runs ready next start told (poise y wishes.Deactivate) → Follows ready next start told y (closing x i)
   follows-closing start told y x i r = by (nat_lt i (length (outlets x)))
@@ -118,7 +118,7 @@ module _ {K : Type 0} (ready : K → Held → Answer → Type 0) (next : K → H
 
   follows-judged : (start : Poise K) (told : List Happening) (x : Process K) (part : K) (held : Held) (wish : Wish) → Runs ready next start told (record { part = part; held = held; wish = wish })
       → Follows ready next start told (worked x (Wishes part held wish)) (judged x.depths held wish)
-  follows-judged start told x part held (wishes.Receive port) r = by (nat_lt (length held.packets) hands_limit)
+  follows-judged start told x part held (wishes.Receive port) r = by (nat_lt (length held.packets) HANDS_LIMIT)
     where
       by : (b : Bool) → Follows ready next start told (worked x (Wishes part held (wishes.Receive port))) (cond b (stages.Wishing (wishes.Receive port)) (stages.Failed fails.HandsLimit))
       by true = r

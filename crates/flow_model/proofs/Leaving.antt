@@ -1,4 +1,5 @@
 -- Open senders are those that still have to close, or that a failed process leaves open: at the start, and after every turn and work.
+use Rattle.flow_limits.specs.declared.TheConstants.{HANDS_LIMIT, TURN_LIMIT}
 use Rattle.std.proofs.Common.{◌≡◌, ◌≢◌, ℕ, ◌+◌, ◌<◌, ◌≤◌, List, [], ◌∷◌, length, Some, None, true, false, refl, ap, arith, nat_lt, nat_eq, Option, ◌∙◌, sym, Bool, cond, ◌==◌, ◌||◌, slice_get, slice_set, slice_index, get_or, subst, map, suc, zero, ◌⊎◌, inl, inr, IsTrue, position}
 use Rattle.std.specs.List.{list_any, range_with_len}
 use Rattle.std.proofs.lemmas.Bool.Decides.{nat_tests}
@@ -15,13 +16,12 @@ use Rattle.flow_component.specs.declared.Shape.{Shape}
 use Rattle.flow_component.specs.Laws.{Outcome, Wishes, Fails}
 use Rattle.flow_packet.specs.Tree.{Tree, id_of, kind_of}
 use Rattle.flow_packet.specs.Hands.{packet_at}
-use Rattle.flow_packet.specs.Edits.{hands_limit}
 use Rattle.flow_model.specs.declared.Stage.{Stage}
 use Rattle.flow_model.specs.declared.Stage.TheVariants as stages
 use Rattle.flow_model.specs.States.{is_sender, without_sender, Process, Channel, State, Outlet, outlets, outlets_from, change_at, changed}
 use Rattle.flow_plan.specs.declared.plan.Sender.{Sender}
 use Rattle.flow_model.specs.Events.{Event, Starts, Finishes, Gets, Takes_text, Hears_end, Sends, Learns, Sleeps, Closes, Look, looks, stage_event, event_of}
-use Rattle.flow_model.specs.Turns.{process_after, channel_after, channels_after, limited, closing, closing_on, turn_limit, Turn}
+use Rattle.flow_model.specs.Turns.{process_after, channel_after, channels_after, limited, closing, closing_on, Turn}
 use Rattle.flow_model.specs.Works.{judged, sending, nests, worked, Work}
 use Rattle.flow_model.specs.Plans.{sends_at, process_at_start, processes_at_start, start_of, StartsWell}
 use Rattle.flow_plan.specs.Network.{Network as Plan}
@@ -146,10 +146,10 @@ leaves-cond false stage j has = inl has
 
 leaves-limited : (n : ℕ) (stage : Stage) (j : ℕ) → HasToClose stage j → Leaves (limited n stage) j
 leaves-limited n stages.Ended j has = absurd has
-leaves-limited n stages.Idle j has = leaves-cond (n == turn_limit) stages.Idle j has
-leaves-limited n (stages.Told a) j has = leaves-cond (n == turn_limit) (stages.Told a) j has
-leaves-limited n (stages.Wishing w) j has = leaves-cond (n == turn_limit) (stages.Wishing w) j has
-leaves-limited n (stages.Closing i) j has = leaves-cond (n == turn_limit) (stages.Closing i) j has
+leaves-limited n stages.Idle j has = leaves-cond (n == TURN_LIMIT) stages.Idle j has
+leaves-limited n (stages.Told a) j has = leaves-cond (n == TURN_LIMIT) (stages.Told a) j has
+leaves-limited n (stages.Wishing w) j has = leaves-cond (n == TURN_LIMIT) (stages.Wishing w) j has
+leaves-limited n (stages.Closing i) j has = leaves-cond (n == TURN_LIMIT) (stages.Closing i) j has
 leaves-limited n (stages.Failed c) j has = absurd has
 
 -- one that goes on closing at i still has to close each outlet from there on
@@ -198,7 +198,7 @@ leaves-after channels x n (Closes output c) j is within spared has =
     subst (λ (st : Stage). Leaves (limited (x.turns + 1) (closing_on x st)) j) (sym at.stage) (leaves-limited (x.turns + 1) (closing x (at.i + 1)) j (closes-from x (at.i + 1) j (omega (arith, least, ne)) within))
 
 leaves-judged : (depths : List ℕ) (held : Held) (wish : Wish) (j : ℕ) → Leaves (judged depths held wish) j
-leaves-judged depths held (wishes.Receive port) j = by (nat_lt (length held.packets) hands_limit)
+leaves-judged depths held (wishes.Receive port) j = by (nat_lt (length held.packets) HANDS_LIMIT)
   where
     by : (b : Bool) → Leaves (cond b (stages.Wishing (wishes.Receive port)) (stages.Failed fails.HandsLimit)) j
     by true = inl tt

@@ -1,10 +1,10 @@
 -- Each component is ready for what comes.
+use Rattle.flow_limits.specs.declared.TheConstants.{HANDS_LIMIT, TURN_LIMIT}
 use Rattle.std.proofs.Common.{◌≡◌, ℕ, ◌+◌, ◌<◌, List, length, Some, None, true, false, refl, ap, arith, nat_lt, Option, ◌∙◌, sym, Bool, cond, ◌==◌, slice_get, slice_index, subst}
 use Rattle.std.proofs.lemmas.Bool.Decides.{nat_tests}
 use Rattle.flow_packet.specs.Tree.{Tree, kind_of, id_of}
 use Rattle.flow_packet.specs.Hands.{packet_at}
 use Rattle.flow_packet.specs.Ids.{maker_of, ordinal_of}
-use Rattle.flow_packet.specs.Edits.{hands_limit}
 use Rattle.flow_packet.specs.Held.{Held, Sound, without_packet}
 use Rattle.flow_component.specs.declared.Answer.{Answer}
 use Rattle.flow_component.specs.declared.Answer.TheVariants as answers
@@ -16,7 +16,7 @@ use Rattle.flow_model.specs.declared.Stage.{Stage}
 use Rattle.flow_model.specs.declared.Stage.TheVariants as stages
 use Rattle.flow_model.specs.States.{Process, Channel, State, outlets}
 use Rattle.flow_model.specs.Events.{Event, Starts, Finishes, Gets, Takes_text, Hears_end, Sends, Learns, Sleeps, Closes, event_of}
-use Rattle.flow_model.specs.Turns.{process_after, limited, closing, closing_on, turn_limit}
+use Rattle.flow_model.specs.Turns.{process_after, limited, closing, closing_on}
 use Rattle.flow_model.specs.Works.{judged, sending, nests, worked}
 use Rattle.flow_model.specs.Places.{OnePlaceCounted, made_count, made_by}
 use Rattle.flow_model.specs.Valid.{ReadyAt, IsNested, SmallCapacities}
@@ -29,11 +29,11 @@ ready-cond ready held false stage is = is
 
 ready-limited : (ready : Held → Answer → Type 0) (held : Held) (n : ℕ) (stage : Stage) → ReadyAt ready held stage → ReadyAt ready held (limited n stage)
 ready-limited ready held n stages.Ended is = tt
-ready-limited ready held n stages.Idle is = ready-cond ready held (n == turn_limit) stages.Idle is
-ready-limited ready held n (stages.Told a) is = ready-cond ready held (n == turn_limit) (stages.Told a) is
-ready-limited ready held n (stages.Wishing w) is = ready-cond ready held (n == turn_limit) (stages.Wishing w) is
-ready-limited ready held n (stages.Closing i) is = ready-cond ready held (n == turn_limit) (stages.Closing i) is
-ready-limited ready held n (stages.Failed c) is = ready-cond ready held (n == turn_limit) (stages.Failed c) is
+ready-limited ready held n stages.Idle is = ready-cond ready held (n == TURN_LIMIT) stages.Idle is
+ready-limited ready held n (stages.Told a) is = ready-cond ready held (n == TURN_LIMIT) (stages.Told a) is
+ready-limited ready held n (stages.Wishing w) is = ready-cond ready held (n == TURN_LIMIT) (stages.Wishing w) is
+ready-limited ready held n (stages.Closing i) is = ready-cond ready held (n == TURN_LIMIT) (stages.Closing i) is
+ready-limited ready held n (stages.Failed c) is = ready-cond ready held (n == TURN_LIMIT) (stages.Failed c) is
 
 ready-closing : {K : Type 0} (ready : Held → Answer → Type 0) (held : Held) (x : Process K) (i : ℕ) → ReadyAt ready held (closing x i)
 ready-closing ready held x i = by (nat_lt i (length (outlets x)))
@@ -79,7 +79,7 @@ ready-event ready channels x n (Closes output c) small is was =
     ready-limited ready x.held (x.turns + 1) (closing_on x x.stage) (subst (λ (stage : Stage). ReadyAt ready x.held (closing_on x stage)) (sym at.stage) (ready-closing ready x.held x (at.i + 1)))
 
 ready-judged : (ready : Held → Answer → Type 0) (depths : List ℕ) (held : Held) (wish : Wish) → ReadyAfter ready held wish → ReadyAt ready held (judged depths held wish)
-ready-judged ready depths held (wishes.Receive port) r = by (nat_lt (length held.packets) hands_limit)
+ready-judged ready depths held (wishes.Receive port) r = by (nat_lt (length held.packets) HANDS_LIMIT)
   where
     by : (b : Bool) → ReadyAt ready held (cond b (stages.Wishing (wishes.Receive port)) (stages.Failed fails.HandsLimit))
     by true = r
@@ -103,7 +103,7 @@ ready-worked ready x (Fails part held cause) stays = tt
 
 -- a wish that stands after a work nests
 nested-judged : {K : Type 0} (y : Process K) (wish : Wish) → IsNested y (judged y.depths y.held wish)
-nested-judged y (wishes.Receive port) = by (nat_lt (length y.held.packets) hands_limit)
+nested-judged y (wishes.Receive port) = by (nat_lt (length y.held.packets) HANDS_LIMIT)
   where
     by : (b : Bool) → IsNested y (cond b (stages.Wishing (wishes.Receive port)) (stages.Failed fails.HandsLimit))
     by true = tt
@@ -133,19 +133,19 @@ nested-closing : {K : Type 0} (y x : Process K) (i : ℕ) → IsNested y (limite
 nested-closing y x i = by (nat_lt i (length (outlets x)))
   where
     by : (b : Bool) → IsNested y (limited y.turns (cond b (stages.Closing i) stages.Ended))
-    by true = nested-cond y (y.turns == turn_limit) (stages.Closing i) tt
+    by true = nested-cond y (y.turns == TURN_LIMIT) (stages.Closing i) tt
     by false = tt
 
 -- after a turn no wish stands
 pub nested-event : {K : Type 0} (channels : List Channel) (x : Process K) (n : ℕ) (e : Event) → event_of channels x n ≡ Some e → IsNested (process_after x e) (process_after x e).stage
-nested-event channels x n Starts is = nested-cond (process_after x Starts) (x.turns + 1 == turn_limit) (stages.Told answers.Start) tt
+nested-event channels x n Starts is = nested-cond (process_after x Starts) (x.turns + 1 == TURN_LIMIT) (stages.Told answers.Start) tt
 nested-event channels x n Finishes is = nested-closing (process_after x Finishes) x 0
-nested-event channels x n (Gets port c packet) is = nested-cond (process_after x (Gets port c packet)) (x.turns + 1 == turn_limit) (stages.Told (answers.Got (id_of packet))) tt
-nested-event channels x n (Takes_text port text) is = nested-cond (process_after x (Takes_text port text)) (x.turns + 1 == turn_limit) (stages.Told (answers.Got _)) tt
-nested-event channels x n (Hears_end port) is = nested-cond (process_after x (Hears_end port)) (x.turns + 1 == turn_limit) (stages.Told answers.End) tt
-nested-event channels x n (Sends port c packet) is = nested-cond (process_after x (Sends port c packet)) (x.turns + 1 == turn_limit) (stages.Told answers.Sent) tt
-nested-event channels x n (Learns port level) is = nested-cond (process_after x (Learns port level)) (x.turns + 1 == turn_limit) (stages.Told (answers.Level level)) tt
-nested-event channels x n Sleeps is = nested-cond (process_after x Sleeps) (x.turns + 1 == turn_limit) stages.Idle tt
+nested-event channels x n (Gets port c packet) is = nested-cond (process_after x (Gets port c packet)) (x.turns + 1 == TURN_LIMIT) (stages.Told (answers.Got (id_of packet))) tt
+nested-event channels x n (Takes_text port text) is = nested-cond (process_after x (Takes_text port text)) (x.turns + 1 == TURN_LIMIT) (stages.Told (answers.Got _)) tt
+nested-event channels x n (Hears_end port) is = nested-cond (process_after x (Hears_end port)) (x.turns + 1 == TURN_LIMIT) (stages.Told answers.End) tt
+nested-event channels x n (Sends port c packet) is = nested-cond (process_after x (Sends port c packet)) (x.turns + 1 == TURN_LIMIT) (stages.Told answers.Sent) tt
+nested-event channels x n (Learns port level) is = nested-cond (process_after x (Learns port level)) (x.turns + 1 == TURN_LIMIT) (stages.Told (answers.Level level)) tt
+nested-event channels x n Sleeps is = nested-cond (process_after x Sleeps) (x.turns + 1 == TURN_LIMIT) stages.Idle tt
 nested-event channels x n (Closes output c) is =
     let at = explains channels x n (Closes output c) is in
     let y = process_after x (Closes output c) in

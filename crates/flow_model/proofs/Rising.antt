@@ -1,4 +1,5 @@
 -- Each process begins to close after all that feed it.
+use Rattle.flow_limits.specs.declared.TheConstants.{HANDS_LIMIT, TURN_LIMIT}
 use Rattle.std.proofs.Common.{◌≡◌, ◌≢◌, ◌⊎◌, inl, inr, ℕ, ◌+◌, ◌<◌, Bool, true, false, List, [], ◌∷◌, map, length, Option, Some, None, refl, sym, ap, ◌∙◌, subst, cond, nat_eq, nat_lt, arith, slice_get, slice_set, suc, zero, if◌then◌else◌, get_or, ◌==◌, ◌&&◌}
 use Rattle.std.specs.Prelude.{option_and_then, option_map, slice_index}
 use Rattle.std.specs.List.{list_any}
@@ -7,7 +8,6 @@ use Rattle.std.proofs.lemmas.Option.{slice_get-map}
 use Rattle.std.proofs.lemmas.List.Quantifiers.{position-Some}
 use Rattle.flow_packet.specs.Tree.{Tree, id_of, kind_of}
 use Rattle.flow_packet.specs.Held.{Held, next_id}
-use Rattle.flow_packet.specs.Edits.{hands_limit}
 use Rattle.flow_packet.specs.Hands.{packet_at}
 use Rattle.flow_component.specs.declared.Answer.{Answer}
 use Rattle.flow_component.specs.declared.Answer.TheVariants as answers
@@ -26,7 +26,7 @@ use Rattle.flow_plan.specs.declared.plan.Connection.{Connection as PlanConnectio
 use Rattle.flow_model.specs.Wires.{Wires, wires, SameWires}
 use Rattle.flow_model.specs.Rising.{LeadsOn}
 use Rattle.flow_model.specs.Events.{Event, Starts, Finishes, Gets, Takes_text, Hears_end, Sends, Learns, Sleeps, Closes, Look, looks, event_of, stage_event}
-use Rattle.flow_model.specs.Turns.{Turn, process_after, limited, closing_on, turn_limit}
+use Rattle.flow_model.specs.Turns.{Turn, process_after, limited, closing_on}
 use Rattle.flow_model.specs.Works.{Work, worked, judged, sending, nests}
 use Rattle.flow_model.specs.Schedules.{Settles, Journal, Leads, LeadsBy}
 use Rattle.flow_model.specs.Valid.{HasToClose, SendersOpen, IsFailedStage}
@@ -62,17 +62,17 @@ idle-not false has = has
 
 -- one that begins by a turn finishes by it
 begun-before : {K : Type 0} (channels : List Channel) (x : Process K) (n : ℕ) (e : Event) → event_of channels x n ≡ Some e → HasBegun (process_after x e).stage → HasBegun x.stage ⊎ (e ≡ Finishes)
-begun-before channels x n Starts is has = absurd (told-not (x.turns + 1 == turn_limit) answers.Start has)
+begun-before channels x n Starts is has = absurd (told-not (x.turns + 1 == TURN_LIMIT) answers.Start has)
 begun-before channels x n Finishes is has = inr refl
-begun-before channels x n (Gets port c packet) is has = absurd (told-not (x.turns + 1 == turn_limit) (answers.Got (id_of packet)) has)
-begun-before channels x n (Takes_text port text) is has = absurd (told-not (x.turns + 1 == turn_limit) (answers.Got (next_id x.held)) has)
-begun-before channels x n (Hears_end port) is has = absurd (told-not (x.turns + 1 == turn_limit) answers.End has)
-begun-before channels x n (Sends port c packet) is has = absurd (told-not (x.turns + 1 == turn_limit) answers.Sent has)
-begun-before channels x n (Learns port level) is has = absurd (told-not (x.turns + 1 == turn_limit) (answers.Level level) has)
-begun-before channels x n Sleeps is has = absurd (idle-not (x.turns + 1 == turn_limit) has)
+begun-before channels x n (Gets port c packet) is has = absurd (told-not (x.turns + 1 == TURN_LIMIT) (answers.Got (id_of packet)) has)
+begun-before channels x n (Takes_text port text) is has = absurd (told-not (x.turns + 1 == TURN_LIMIT) (answers.Got (next_id x.held)) has)
+begun-before channels x n (Hears_end port) is has = absurd (told-not (x.turns + 1 == TURN_LIMIT) answers.End has)
+begun-before channels x n (Sends port c packet) is has = absurd (told-not (x.turns + 1 == TURN_LIMIT) answers.Sent has)
+begun-before channels x n (Learns port level) is has = absurd (told-not (x.turns + 1 == TURN_LIMIT) (answers.Level level) has)
+begun-before channels x n Sleeps is has = absurd (idle-not (x.turns + 1 == TURN_LIMIT) has)
 begun-before channels x n (Closes output c) is has = inl (subst HasBegun (sym (explains channels x n (Closes output c) is).stage) tt)
 
-limited-begun : (n : ℕ) (b c : Bool) (i : ℕ) → (n == turn_limit) ≡ c → HasBegun (limited n (cond b (stages.Closing i) stages.Ended)) ⊎ IsFailedStage (limited n (cond b (stages.Closing i) stages.Ended))
+limited-begun : (n : ℕ) (b c : Bool) (i : ℕ) → (n == TURN_LIMIT) ≡ c → HasBegun (limited n (cond b (stages.Closing i) stages.Ended)) ⊎ IsFailedStage (limited n (cond b (stages.Closing i) stages.Ended))
 limited-begun n true true i t = inr (rw t tt)
 limited-begun n true false i t = inl (rw t tt)
 limited-begun n false c i t = inl tt
@@ -90,7 +90,7 @@ begun-after channels x n Sleeps is has = absurd (subst HasBegun (explains channe
 begun-after channels x n (Closes output c) is has =
     let at = explains channels x n (Closes output c) is in
     let Goal : Stage → Type 0 = λ stage. HasBegun (limited (x.turns + 1) (closing_on x stage)) ⊎ IsFailedStage (limited (x.turns + 1) (closing_on x stage)) in
-    subst Goal (sym at.stage) (limited-begun (x.turns + 1) (nat_lt (at.i + 1) (length (outlets x))) (x.turns + 1 == turn_limit) (at.i + 1) refl)
+    subst Goal (sym at.stage) (limited-begun (x.turns + 1) (nat_lt (at.i + 1) (length (outlets x))) (x.turns + 1 == TURN_LIMIT) (at.i + 1) refl)
 
 -- one that has failed has no turn
 stays-failed : {K : Type 0} (ls : List Look) (x : Process K) (n : ℕ) (e : Event) (stage : Stage) → stage_event ls x n stage ≡ Some e → IsFailedStage stage → ⊥
@@ -103,7 +103,7 @@ stays-failed ls x n e (stages.Failed cause) is has = cc
 
 -- a work begins nothing
 judged-not : (depths : List ℕ) (held : Held) (wish : Wish) → HasBegun (judged depths held wish) → ⊥
-judged-not depths held (wishes.Receive port) has = by (nat_lt (length held.packets) hands_limit) has
+judged-not depths held (wishes.Receive port) has = by (nat_lt (length held.packets) HANDS_LIMIT) has
   where
     by : (b : Bool) → HasBegun (cond b (stages.Wishing (wishes.Receive port)) (stages.Failed fails.HandsLimit)) → ⊥
     by true h = h

@@ -1,10 +1,11 @@
 -- What holds after every schedule, open or closed.
+use Rattle.flow_limits.specs.declared.TheConstants.{HANDS_LIMIT, TURN_LIMIT}
 use Rattle.std.proofs.Common.{◌≡◌, ℕ, ◌+◌, ◌<◌, ◌≤◌, List, [], ◌∷◌, length, Some, None, true, false, refl, ap, arith, nat_lt, Option, ◌∙◌, sym, Bool, cond, ◌==◌, slice_get, slice_set, slice_index, subst, length-set, ◌⊎◌, inl, inr}
 use Rattle.std.proofs.lemmas.Bool.Decides.{nat_tests}
 use Rattle.flow_packet.specs.Tree.{Tree, kind_of}
 use Rattle.flow_packet.specs.Hands.{packet_at}
 use Rattle.flow_packet.specs.Held.{Held}
-use Rattle.flow_packet.specs.Edits.{ComesBy, hands_limit}
+use Rattle.flow_packet.specs.Edits.{ComesBy}
 use Rattle.flow_packet.proofs.Comes.{Keeps, MakesOne, comes}
 use Rattle.flow_component.specs.declared.Answer.{Answer}
 use Rattle.flow_component.specs.declared.Answer.TheVariants as answers
@@ -17,7 +18,7 @@ use Rattle.flow_model.specs.declared.Stage.{Stage}
 use Rattle.flow_model.specs.declared.Stage.TheVariants as stages
 use Rattle.flow_model.specs.States.{Process, Channel, State, change_at, changed}
 use Rattle.flow_model.specs.Events.{Event, Starts, Finishes, Gets, Takes_text, Hears_end, Sends, Learns, Sleeps, Closes, Look, looks, stage_event}
-use Rattle.flow_model.specs.Turns.{process_after, channel_after, channels_after, limited, closing, closing_on, turn_limit, Turn}
+use Rattle.flow_model.specs.Turns.{process_after, channel_after, channels_after, limited, closing, closing_on, Turn}
 use Rattle.flow_model.specs.Works.{judged, sending, nests, worked, Work}
 use Rattle.flow_model.specs.Schedules.{Settles, WorksLead, LeadsBy, Leads, Journal, Step, Turned, Worked, Reaches}
 use Rattle.flow_model.specs.Places.{OnePlaceCounted}
@@ -31,9 +32,9 @@ use Rattle.flow_model.proofs.Ready.{ready-event, ready-worked, nested-event, nes
 less_or : (n m : ℕ) → n == m ≡ false → n ≤ m → n < m
 less_or n m t most = grind (arith, nat_tests)
 
-limit-cond : (n : ℕ) (b : Bool) (stage : Stage) → (n == turn_limit) ≡ b → n ≤ turn_limit → least_left stage ≤ 1 → n + least_left (cond b (stages.Failed fails.TurnLimit) stage) ≤ turn_limit
+limit-cond : (n : ℕ) (b : Bool) (stage : Stage) → (n == TURN_LIMIT) ≡ b → n ≤ TURN_LIMIT → least_left stage ≤ 1 → n + least_left (cond b (stages.Failed fails.TurnLimit) stage) ≤ TURN_LIMIT
 limit-cond n true stage t most one = omega arith
-limit-cond n false stage t most one = let below : n < turn_limit = less_or n turn_limit t most in omega (arith, below, one)
+limit-cond n false stage t most one = let below : n < TURN_LIMIT = less_or n TURN_LIMIT t most in omega (arith, below, one)
 
 pub least_left-most : (stage : Stage) → least_left stage ≤ 1
 least_left-most stages.Ended = omega arith
@@ -51,13 +52,13 @@ owed-most stages.Idle = omega arith
 owed-most (stages.Wishing wish) = omega arith
 owed-most (stages.Closing i) = omega arith
 
-limited-left : (n : ℕ) (stage : Stage) → n ≤ turn_limit → n + least_left (limited n stage) ≤ turn_limit
+limited-left : (n : ℕ) (stage : Stage) → n ≤ TURN_LIMIT → n + least_left (limited n stage) ≤ TURN_LIMIT
 limited-left n stages.Ended most = omega arith
-limited-left n stages.Idle most = limit-cond n (n == turn_limit) stages.Idle refl most (least_left-most stages.Idle)
-limited-left n (stages.Told a) most = limit-cond n (n == turn_limit) (stages.Told a) refl most (least_left-most (stages.Told a))
-limited-left n (stages.Wishing w) most = limit-cond n (n == turn_limit) (stages.Wishing w) refl most (least_left-most (stages.Wishing w))
-limited-left n (stages.Closing i) most = limit-cond n (n == turn_limit) (stages.Closing i) refl most (least_left-most (stages.Closing i))
-limited-left n (stages.Failed c) most = limit-cond n (n == turn_limit) (stages.Failed c) refl most (least_left-most (stages.Failed c))
+limited-left n stages.Idle most = limit-cond n (n == TURN_LIMIT) stages.Idle refl most (least_left-most stages.Idle)
+limited-left n (stages.Told a) most = limit-cond n (n == TURN_LIMIT) (stages.Told a) refl most (least_left-most (stages.Told a))
+limited-left n (stages.Wishing w) most = limit-cond n (n == TURN_LIMIT) (stages.Wishing w) refl most (least_left-most (stages.Wishing w))
+limited-left n (stages.Closing i) most = limit-cond n (n == TURN_LIMIT) (stages.Closing i) refl most (least_left-most (stages.Closing i))
+limited-left n (stages.Failed c) most = limit-cond n (n == TURN_LIMIT) (stages.Failed c) refl most (least_left-most (stages.Failed c))
 
 -- a process that has a turn isn't over, and owes no work
 pub left-event : {K : Type 0} (channels : List Look) (x : Process K) (n : ℕ) (stage : Stage) (e : Event) → stage_event channels x n stage ≡ Some e → (least_left stage ≡ 1) × (owed stage ≡ 0)
@@ -124,7 +125,7 @@ depths-after x (Learns port level) = refl
 depths-after x Sleeps = refl
 depths-after x (Closes output c) = refl
 
-left-after : {K : Type 0} (x : Process K) (e : Event) → x.turns + 1 ≤ turn_limit → (process_after x e).turns + least_left (process_after x e).stage ≤ turn_limit
+left-after : {K : Type 0} (x : Process K) (e : Event) → x.turns + 1 ≤ TURN_LIMIT → (process_after x e).turns + least_left (process_after x e).stage ≤ TURN_LIMIT
 left-after x Starts most = limited-left (x.turns + 1) (stages.Told answers.Start) most
 left-after x Finishes most = limited-left (x.turns + 1) (closing x 0) most
 left-after x (Gets port c packet) most = limited-left (x.turns + 1) (stages.Told (answers.Got _)) most
@@ -223,7 +224,7 @@ turns-worked x (Wishes part held wish) = refl
 turns-worked x (Fails part held cause) = refl
 
 owed-judged : (depths : List ℕ) (held : Held) (wish : Wish) → owed (judged depths held wish) ≡ 0
-owed-judged depths held (wishes.Receive port) = by (nat_lt (length held.packets) hands_limit)
+owed-judged depths held (wishes.Receive port) = by (nat_lt (length held.packets) HANDS_LIMIT)
   where
     by : (b : Bool) → owed (cond b (stages.Wishing (wishes.Receive port)) (stages.Failed fails.HandsLimit)) ≡ 0
     by true = refl

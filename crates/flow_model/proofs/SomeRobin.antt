@@ -1,4 +1,5 @@
 -- From every start there is a round robin: a process has an exact turn or none, and its turns are limited.
+use Rattle.flow_limits.specs.declared.TheConstants.{TURN_LIMIT}
 use Rattle.std.proofs.Common.{Bool, ◌≡◌, ℕ, ◌+◌, ◌*◌, ◌<◌, ◌≤◌, List, [], ◌∷◌, ◌++◌, length, Option, Some, None, IsSome, refl, ap, arith, sym, subst, ◌∙◌, suc, zero, ◌⊎◌, inl, inr, slice_get, slice_set, length-set}
 use Rattle.std.specs.List.{sum_by}
 use Rattle.std.proofs.lemmas.List.Sums.{sum_by-cons}
@@ -12,7 +13,7 @@ use Rattle.flow_model.specs.declared.Stage.TheVariants as stages
 use Rattle.flow_model.specs.declared.Block.{Block}
 use Rattle.flow_model.specs.States.{Process, Kept, State}
 use Rattle.flow_model.specs.Events.{Event, Starts, Finishes, Gets, Takes_text, Hears_end, Sends, Learns, Sleeps, Closes, Look, looks, event_from, event_of, stage_event, seen_by}
-use Rattle.flow_model.specs.Turns.{process_after, turn_limit, Turn}
+use Rattle.flow_model.specs.Turns.{process_after, Turn}
 use Rattle.flow_model.specs.Works.{worked, past_worked, Work}
 use Rattle.flow_model.specs.Schedules.{IsThoughtStage, Settles, LeadsBy, Journal, no_turns, then_turns}
 use Rattle.flow_model.specs.Verdicts.{HasNoTurn, exact_level, exact_level_for, block_of}
@@ -71,7 +72,7 @@ turns-worked x (Fails part held cause) = refl
 abbrev all_turns : {K : Type 0} → State K → ℕ
 all_turns s = sum_by (λ x. x.turns) s.kept.processes
 
-sum-most : {A : Type 0} (f : A → ℕ) (xs : List A) → ((i : ℕ) (x : A) → slice_get xs i ≡ Some x → f x ≤ turn_limit) → sum_by f xs ≤ length xs * turn_limit
+sum-most : {A : Type 0} (f : A → ℕ) (xs : List A) → ((i : ℕ) (x : A) → slice_get xs i ≡ Some x → f x ≤ TURN_LIMIT) → sum_by f xs ≤ length xs * TURN_LIMIT
 sum-most f [] each = omega arith
 sum-most f (x ∷ xs) each = let here = each 0 x refl in let sum = sum_by-cons f x xs in let rest = sum-most f xs (λ i y is. each (suc i) y is) in omega (arith, here, rest, sum)
 
@@ -212,7 +213,7 @@ module _ {K : Type 0} (shape_of : K → Shape) (uses : K → ℕ → Bool) (read
   Fit-exact s p e s' exact fit = Fit-settles shape_of uses ready next obeys stays steady exact.mid p s' exact.settles (Fit-turn shape_of uses ready s p e exact.mid exact.turn fit)
 
   -- a process that has a turn made fewer turns than it may
-  turn-left : (s : State K) (p : ℕ) (e : Event) (s' : State K) → Fit shape_of uses ready s → (exact : ExactTurn next s p e s') → exact.turn.kept.before.turns < turn_limit
+  turn-left : (s : State K) (p : ℕ) (e : Event) (s' : State K) → Fit shape_of uses ready s → (exact : ExactTurn next s p e s') → exact.turn.kept.before.turns < TURN_LIMIT
   turn-left s p e s' fit exact =
       let turn = exact.turn.kept in
       let x = turn.before in
@@ -238,7 +239,7 @@ module _ {K : Type 0} (shape_of : K → Shape) (uses : K → ℕ → Bool) (read
           ap (λ (w : Process K). w.turns) (sym same) ∙ turns-worked work.before work.outcome ∙ ap (λ (w : Process K). w.turns) (sym was) ∙ turns-after exact.turn.kept.before e
 
   -- a process takes turns until it has none
-  burst-exists : (n : ℕ) (s : State K) (p : ℕ) → Fit shape_of uses ready s → ((x : Process K) → slice_get s.kept.processes p ≡ Some x → turn_limit ≤ x.turns + n) → (journal : Journal) × (s' : State K) × Burst next p s journal s'
+  burst-exists : (n : ℕ) (s : State K) (p : ℕ) → Fit shape_of uses ready s → ((x : Process K) → slice_get s.kept.processes p ≡ Some x → TURN_LIMIT ≤ x.turns + n) → (journal : Journal) × (s' : State K) × Burst next p s journal s'
   burst-exists zero s p fit few = elim (exact-or-none s p fit) [
     | inr none ↦ (no_turns, s, ((refl, refl), none))
     | inl found ↦ absurd (omega (arith, few found.2.turn.kept.before found.2.turn.kept.there, turn-left s p found.0 found.1 fit found.2))
@@ -256,7 +257,7 @@ module _ {K : Type 0} (shape_of : K → Shape) (uses : K → ℕ → Bool) (read
   pass-exists (suc p) s fit =
       let front = pass-exists p s fit in
       let fit' = Fit-leads shape_of uses ready next obeys stays steady s front.0 front.1 fit (pass-leads next p s front.0 front.1 front.2) in
-      let back = burst-exists turn_limit front.1 p fit' (λ x is. omega arith) in
+      let back = burst-exists TURN_LIMIT front.1 p fit' (λ x is. omega arith) in
       (then_turns front.0 back.0, back.1, (front.0, back.0, front.1, refl, front.2, back.2))
 
   fit-pass : (s : State K) (journal : Journal) (s' : State K) → Fit shape_of uses ready s → Pass next s journal s' → Fit shape_of uses ready s'
@@ -266,7 +267,7 @@ module _ {K : Type 0} (shape_of : K → Shape) (uses : K → ℕ → Bool) (read
   count-pass s journal s' pass = count-leads next s journal.turns journal.seen s' (pass-leads next (length s.kept.processes) s journal s' pass)
 
   -- no more turns are made than all processes may make
-  turns-most : (s : State K) → Fit shape_of uses ready s → all_turns s ≤ length s.kept.processes * turn_limit
+  turns-most : (s : State K) → Fit shape_of uses ready s → all_turns s ≤ length s.kept.processes * TURN_LIMIT
   turns-most s fit = sum-most (λ (x : Process K). x.turns) s.kept.processes (λ p x there. omega (arith, (fit.valid.each p x there).turns))
 
   -- The passes of a round robin from s.
@@ -282,7 +283,7 @@ module _ {K : Type 0} (shape_of : K → Shape) (uses : K → ℕ → Bool) (read
       record { passes = []; last = s; go = refl; still = subst (λ (t : State K). Pass next s no_turns t) same.1 (subst (λ (j : Journal). Pass next s j s') same.0 pass) }
 
   -- passes go on until one has no turn
-  passes-exist : (n : ℕ) (s : State K) → Fit shape_of uses ready s → length s.kept.processes * turn_limit ≤ all_turns s + n → SomePasses s
+  passes-exist : (n : ℕ) (s : State K) → Fit shape_of uses ready s → length s.kept.processes * TURN_LIMIT ≤ all_turns s + n → SomePasses s
   passes-exist zero s fit few =
       let pass = pass-exists (length s.kept.processes) s fit in
       elim (nothing-or-more pass.0.turns) [
@@ -303,7 +304,7 @@ module _ {K : Type 0} (shape_of : K → Shape) (uses : K → ℕ → Bool) (read
   -- there is a round robin from a state that fits
   pub some-robin : (s : State K) → Fit shape_of uses ready s → (journal : Journal) × (s' : State K) × RoundRobin next s journal s'
   some-robin s fit =
-      let all = passes-exist (length s.kept.processes * turn_limit) s fit (omega arith) in
+      let all = passes-exist (length s.kept.processes * TURN_LIMIT) s fit (omega arith) in
       (joined all.passes, all.last, record { passes = all.passes; parts = refl; go = all.go; last = all.still })
 
   -- and it is the only one where components come to one outcome

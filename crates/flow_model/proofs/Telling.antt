@@ -1,4 +1,5 @@
 -- What each process was told is a run of its component, ends stand and starts bring something: so it is at the start, and turns and works keep it so.
+use Rattle.flow_limits.specs.declared.TheConstants.{HANDS_LIMIT, TURN_LIMIT}
 use Rattle.std.proofs.Common.{◌≡◌, ◌≢◌, ℕ, length-append, ◌≤◌, ◌+◌, ◌<◌, Bool, true, false, List, [], ◌∷◌, ◌++◌, length, map, Option, Some, None, refl, sym, ap, ◌∙◌, subst, cond, nat_eq, nat_lt, arith, ◌⊎◌, inl, inr, slice_get, slice_set, slice_index, append-nil, ◌==◌, zero, suc, ◌&&◌, unwrap_or}
 use Rattle.std.specs.Prelude.{replicate}
 use Rattle.std.specs.List.{list_any}
@@ -6,7 +7,6 @@ use Rattle.std.proofs.lemmas.Bool.Decides.{nat_tests}
 use Rattle.flow_packet.specs.declared.packet.Kind.TheVariants as kinds
 use Rattle.flow_packet.specs.Tree.{Tree, id_of, kind_of, packet_of}
 use Rattle.flow_packet.specs.Hands.{packet_at}
-use Rattle.flow_packet.specs.Edits.{hands_limit}
 use Rattle.flow_packet.specs.Held.{Held, Sound, next_id}
 use Rattle.flow_component.specs.declared.Answer.{Answer}
 use Rattle.flow_component.specs.declared.Answer.TheVariants as answers
@@ -21,7 +21,7 @@ use Rattle.flow_model.specs.declared.Stage.{Stage}
 use Rattle.flow_model.specs.declared.Stage.TheVariants as stages
 use Rattle.flow_model.specs.States.{Input, From, Text, Process, Channel, Kept, State, outlets, got_at, entry_of}
 use Rattle.flow_model.specs.Events.{Event, Starts, Finishes, Gets, Takes_text, Hears_end, Sends, Learns, Sleeps, Closes, event_of, is_fresh, is_connected}
-use Rattle.flow_model.specs.Turns.{process_after, channels_after, heard, past_after, limited, closing, closing_on, turn_limit, Turn}
+use Rattle.flow_model.specs.Turns.{process_after, channels_after, heard, past_after, limited, closing, closing_on, Turn}
 use Rattle.flow_model.specs.Works.{judged, sending, nests, worked, Work}
 use Rattle.flow_model.specs.Schedules.{Settles, LeadsBy, Leads, Journal, Step, Turned, Worked, Reaches}
 use Rattle.flow_model.specs.Plans.{process_at_start, processes_at_start, start_of}
@@ -59,11 +59,11 @@ begun-cond y told false stage is = is
 
 begun-limited : {K : Type 0} (y : Process K) (told : List Happening) (n : ℕ) (stage : Stage) → Begun y told stage → Begun y told (limited n stage)
 begun-limited y told n stages.Ended is = is
-begun-limited y told n stages.Idle is = begun-cond y told (n == turn_limit) stages.Idle is
-begun-limited y told n (stages.Told a) is = begun-cond y told (n == turn_limit) (stages.Told a) is
-begun-limited y told n (stages.Wishing w) is = begun-cond y told (n == turn_limit) (stages.Wishing w) is
-begun-limited y told n (stages.Closing i) is = begun-cond y told (n == turn_limit) (stages.Closing i) is
-begun-limited y told n (stages.Failed c) is = begun-cond y told (n == turn_limit) (stages.Failed c) is
+begun-limited y told n stages.Idle is = begun-cond y told (n == TURN_LIMIT) stages.Idle is
+begun-limited y told n (stages.Told a) is = begun-cond y told (n == TURN_LIMIT) (stages.Told a) is
+begun-limited y told n (stages.Wishing w) is = begun-cond y told (n == TURN_LIMIT) (stages.Wishing w) is
+begun-limited y told n (stages.Closing i) is = begun-cond y told (n == TURN_LIMIT) (stages.Closing i) is
+begun-limited y told n (stages.Failed c) is = begun-cond y told (n == TURN_LIMIT) (stages.Failed c) is
 
 begun-closing : {K : Type 0} (y x : Process K) (told : List Happening) (i : ℕ) → (NoneConnected y → told ≢ []) → Begun y told (closing x i)
 begun-closing y x told i is = by (nat_lt i (length (outlets x)))
@@ -108,14 +108,14 @@ IsOverStage stages.Ended = Unit {0}
 IsOverStage (stages.Failed cause) = ⊥
 
 at-work : (n : ℕ) (answer : Answer) → IsOverStage (limited n (stages.Told answer)) → ⊥
-at-work n answer is = by (n == turn_limit) is
+at-work n answer is = by (n == TURN_LIMIT) is
   where
     by : (b : Bool) → IsOverStage (cond b (stages.Failed fails.TurnLimit) (stages.Told answer)) → ⊥
     by true is = is
     by false is = is
 
 asleep : (n : ℕ) → IsOverStage (limited n stages.Idle) → ⊥
-asleep n is = by (n == turn_limit) is
+asleep n is = by (n == TURN_LIMIT) is
   where
     by : (b : Bool) → IsOverStage (cond b (stages.Failed fails.TurnLimit) stages.Idle) → ⊥
     by true is = is
@@ -134,7 +134,7 @@ over-before channels x n Sleeps is over = absurd (asleep (x.turns + 1) over)
 over-before channels x n (Closes output c) is over = let at = explains channels x n (Closes output c) is in inl (subst IsOverStage (sym at.stage) tt)
 
 judged-works : (depths : List ℕ) (held : Held) (wish : Wish) → IsOverStage (judged depths held wish) → ⊥
-judged-works depths held (wishes.Receive port) is = by (nat_lt (length held.packets) hands_limit) is
+judged-works depths held (wishes.Receive port) is = by (nat_lt (length held.packets) HANDS_LIMIT) is
   where
     by : (b : Bool) → IsOverStage (cond b (stages.Wishing (wishes.Receive port)) (stages.Failed fails.HandsLimit)) → ⊥
     by true is = is
@@ -152,7 +152,7 @@ judged-works depths held (wishes.Level port) is = is
 judged-works depths held wishes.Deactivate is = is
 
 begun-judged : {K : Type 0} (y : Process K) (told : List Happening) (depths : List ℕ) (held : Held) (wish : Wish) → told ≢ [] → Begun y told (judged depths held wish)
-begun-judged y told depths held (wishes.Receive port) some = by (nat_lt (length held.packets) hands_limit)
+begun-judged y told depths held (wishes.Receive port) some = by (nat_lt (length held.packets) HANDS_LIMIT)
   where
     by : (b : Bool) → Begun y told (cond b (stages.Wishing (wishes.Receive port)) (stages.Failed fails.HandsLimit))
     by true = some
@@ -688,12 +688,12 @@ module _ {K : Type 0} (ready : K → Held → Answer → Type 0) (next : K → H
   pub AllTell-leads : (s : State K) (journal : Journal) (s' : State K) → Valid ready s → AllTell ready next parts s → Leads next s journal s' → AllTell ready next parts s'
   AllTell-leads s journal s' valid all leads = AllTell-leads_by s journal.turns journal.seen s' valid all leads
 
-pub turns-most : {K : Type 0} (x : Process K) → x.turns + least_left x.stage ≤ turn_limit → x.turns ≤ turn_limit
+pub turns-most : {K : Type 0} (x : Process K) → x.turns + least_left x.stage ≤ TURN_LIMIT → x.turns ≤ TURN_LIMIT
 turns-most x most = omega (arith, most)
 
 -- what is promised of it
 pub Tells-run : {K : Type 0} (ready : K → Held → Answer → Type 0) (next : K → Held → Answer → Outcome K → Type 0) (parts : List K) (channels : List Channel) (p : ℕ) (told : List Happening) (x : Process K) (part : K)
-    → slice_get parts p ≡ Some part → x.turns ≤ turn_limit → Tells ready next parts channels p told x → HasRun ready next part p told x
+    → slice_get parts p ≡ Some part → x.turns ≤ TURN_LIMIT → Tells ready next parts channels p told x → HasRun ready next part p told x
 Tells-run ready next parts channels p told x part at most t = record {
   follows = t.follows part at;
   end_is_last = t.last;

@@ -1,5 +1,6 @@
 -- What each process was told is a run of its component, and what the machine adds to that: an end that was heard stands, a start on
 -- an input brings something, and a process that nothing can wake has run before it ends. (This project's own.)
+use Rattle.flow_limits.specs.declared.TheConstants.{TURN_LIMIT}
 use Rattle.std.specs.Prelude.{◌≡◌, ◌≢◌, ◌⊎◌, ℕ, ◌≤◌, true, false, Bool, List, [], ◌∷◌, ◌++◌, length, Some, slice_get}
 use Rattle.std.specs.List.{list_any}
 use Rattle.flow_packet.specs.Held.{Held}
@@ -14,7 +15,6 @@ use Rattle.flow_model.specs.declared.Stage.{Stage}
 use Rattle.flow_model.specs.declared.Stage.TheVariants as stages
 use Rattle.flow_model.specs.States.{Input, From, Text, Process, State, got_at}
 use Rattle.flow_model.specs.Events.{is_connected}
-use Rattle.flow_model.specs.Turns.{turn_limit}
 use Rattle.flow_model.specs.Schedules.{Journal, Leads, Step, Reaches}
 use Rattle.flow_model.specs.Plans.{start_of, StartsWell}
 use Rattle.flow_plan.specs.Network.{Network as Plan}
@@ -72,7 +72,7 @@ pub record HasRun {K : Type 0} (ready : K → Held → Answer → Type 0) (next 
   -- where no input is connected it was started once at most
   pub once : NoneConnected x → starts told ≤ 1
   -- it was told no more than it may make turns
-  pub few : length told ≤ turn_limit
+  pub few : length told ≤ TURN_LIMIT
   -- where no input is connected it has run before it ends
   pub has_run : NoneConnected x → x.stage ≡ stages.Ended → told ≢ []
 

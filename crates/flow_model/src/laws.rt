@@ -16,7 +16,7 @@ pub fn every_schedule_keeps_the_packets<K: Component>()
     ensures while_open { KeepsOpen K.shape_of K.uses K.ready K.next }
 {}
 
-/// After every schedule from such a start no process holds more than 4,096 packets at the root of its hands.
+/// After every schedule from such a start no process holds more than HANDS_LIMIT packets at the root of its hands.
 pub fn every_schedule_keeps_the_hands_limit<K: Component>()
     ensures { KeepsFew K.shape_of K.uses K.ready K.next }
 {}

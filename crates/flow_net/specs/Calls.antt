@@ -1,5 +1,5 @@
 -- What each call of a builder makes of what it holds, and which fault it gives first.
-use Rattle.flow_plan.specs.declared.limits.TheConstants.{CAPACITY_LIMIT, CONNECTION_LIMIT, ELEMENT_LIMIT, PROCESS_LIMIT, SENDER_LIMIT}
+use Rattle.flow_limits.specs.declared.TheConstants.{CAPACITY_LIMIT, CONNECTION_LIMIT, ELEMENT_LIMIT, PROCESS_LIMIT, SENDER_LIMIT}
 use Rattle.std.specs.Prelude.{ℕ, ◌+◌, ◌==◌, ◌&&◌, nat_le, if◌then◌else◌, Bool, true, false, List, [], ◌∷◌, ◌++◌, length, replicate, Option, Some, None, Ok, slice_get, is_some}
 use Rattle.std.specs.declared.result.Result.{Result}
 use Rattle.std.specs.Option.{option_and_then, option_map, option_map_or, ok_or}
@@ -93,7 +93,7 @@ ends_of processes ports from out to into = do
   input ← end_of_port ports receiver true to into
   Ok (output, input)
 
--- A capacity is from 1 to 1,024.
+-- A capacity is from 1 to CAPACITY_LIMIT.
 abbrev pub allowed_capacity : Option ℕ → Result (Unit {0}) PlanFault
 allowed_capacity None = Ok tt
 allowed_capacity (Some n) = refused_if (if nat_le 1 n && nat_le n CAPACITY_LIMIT then false else true) (Capacity n)
@@ -122,12 +122,12 @@ same_capacity (Some before) (Some n) = refused_if (if before == n then false els
 same_capacity (Some before) None = Ok tt
 same_capacity None n = Ok tt
 
--- A connection has its 65,535 senders.
+-- A connection has its SENDER_LIMIT senders.
 abbrev pub has_all_senders : Option Link → Bool
 has_all_senders None = false
 has_all_senders (Some link) = nat_le SENDER_LIMIT (length link.senders)
 
--- There are 512 connections and this would be one more, or the connection has its 65,535 senders.
+-- There are CONNECTION_LIMIT connections and this would be one more, or the connection has its SENDER_LIMIT senders.
 abbrev pub is_full : List Link → Option ℕ → Bool
 is_full links None = nat_le CONNECTION_LIMIT (length links)
 is_full links (Some c) = has_all_senders (slice_get links c)

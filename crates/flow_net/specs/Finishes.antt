@@ -1,5 +1,5 @@
 -- What is wrong with a draft that is to be a plan, and the plan that it is.
-use Rattle.flow_plan.specs.declared.limits.TheConstants.{CAPACITY_SUM_LIMIT}
+use Rattle.flow_limits.specs.declared.TheConstants.{CAPACITY_SUM_LIMIT}
 use Rattle.std.specs.Prelude.{ℕ, ◌+◌, ◌==◌, nat_le, if◌then◌else◌, Bool, true, false, List, [], ◌∷◌, map, take, Option, Some, None, Ok, Err, slice_get, position, unwrap_or}
 use Rattle.std.specs.declared.result.Result.{Result}
 use Rattle.std.specs.List.{sum_by}

@@ -1,5 +1,5 @@
 -- Tables of kinds.
-use Rattle.flow_plan.specs.declared.limits.TheConstants.{PORT_LIMIT}
+use Rattle.flow_limits.specs.declared.TheConstants.{PORT_LIMIT}
 use Rattle.std.specs.Prelude.{ℕ, ◌&&◌, nat_le, not, if◌then◌else◌, Bool, true, List, [], ◌∷◌, map, length}
 use Rattle.std.specs.List.{list_all, list_any}
 use Rattle.std.specs.Str.{bytes_eq}
@@ -20,7 +20,7 @@ is_needed_array spec = if spec.array then spec.needed else true
 abbrev pub is_input : PortSpec → Bool
 is_input spec = spec.needed && (if is_stream spec.class then true else not spec.array)
 
--- A kind: its inputs and its arrays are needed, its option ports are no arrays, its ports have different names on each side, and there are at most 4,096 on each.
+-- A kind: its inputs and its arrays are needed, its option ports are no arrays, its ports have different names on each side, and there are at most PORT_LIMIT on each.
 abbrev pub is_kind : KindSpec → Bool
 is_kind kind =
     (list_all is_input kind.inputs && list_all is_needed_array kind.outputs)

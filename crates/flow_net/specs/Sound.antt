@@ -1,5 +1,5 @@
 -- What holds of every draft.
-use Rattle.flow_plan.specs.declared.limits.TheConstants.{CAPACITY_LIMIT, CONNECTION_LIMIT, ELEMENT_LIMIT, PORT_LIMIT, PROCESS_LIMIT, SENDER_LIMIT, TEXT_LIMIT}
+use Rattle.flow_limits.specs.declared.TheConstants.{CAPACITY_LIMIT, CONNECTION_LIMIT, ELEMENT_LIMIT, PORT_LIMIT, PROCESS_LIMIT, SENDER_LIMIT, TEXT_LIMIT}
 use Rattle.std.specs.Prelude.{◌≡◌, ℕ, ◌*◌, ◌<◌, ◌≤◌, if◌then◌else◌, Bool, true, false, List, [], ◌∷◌, map, length, take, Option, Some, slice_get}
 use Rattle.std.specs.List.{sum_by}
 use Rattle.std.specs.Option.{option_and_then, option_map}
@@ -70,7 +70,7 @@ pub record IsSided (ports : List Port) (processes : List Begun) (links : List Li
   pub sender : (c k : ℕ) (end : End) → sender_at links c k ≡ Some end → is_input_at ports end ≡ Some false
   pub text : (p k : ℕ) (end : End) (text : List ℕ) → text_at processes p k ≡ Some (end, text) → (is_input_at ports end ≡ Some true) × FitsPort (slice_get ports end.port) text × (length text ≤ TEXT_LIMIT)
 
--- What a connection may have: a capacity from 1 to 1,024, and up to 65,535 senders.
+-- What a connection may have: a capacity from 1 to CAPACITY_LIMIT, and up to SENDER_LIMIT senders.
 pub record IsLink (link : Link) : Type 0 where
   pub capacity : (n : ℕ) → link.capacity ≡ Some n → (1 ≤ n) × (n ≤ CAPACITY_LIMIT)
   pub senders : length link.senders ≤ SENDER_LIMIT

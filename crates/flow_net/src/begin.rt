@@ -7,7 +7,8 @@ use crate::draft::{Begun, Binding, Port};
 use crate::fault::{Many, PlanFault, PlanStop};
 use crate::find;
 use flow_items::{Items, Text};
-use flow_plan::{ELEMENT_LIMIT, KindSpec, PORT_LIMIT, PROCESS_LIMIT, PortClass, PortSpec};
+use flow_limits::{ELEMENT_LIMIT, PORT_LIMIT, PROCESS_LIMIT};
+use flow_plan::{KindSpec, PortClass, PortSpec};
 use std::alloc::{AllocError, Global};
 
 /// The number of elements that a port has from the start.

@@ -12,7 +12,8 @@ use crate::draft::{Begun, Link, Port};
 use crate::fault::{PlanFault, PlanStop};
 use crate::{begin, check, find, finish, give, join, lay, options};
 use flow_items::Text;
-use flow_plan::{KindSpec, Plan, PortRef, TEXT_LIMIT};
+use flow_limits::TEXT_LIMIT;
+use flow_plan::{KindSpec, Plan, PortRef};
 use std::alloc::Global;
 use std::marker::Model;
 

@@ -7,7 +7,7 @@ ghost use Rattle.flow_net.specs.Finishes.{size_of, gap_fault, port_fault, first_
 use crate::draft::{Begun, Binding, Link, Port};
 use crate::fault::{Many, PlanFault, PlanStop};
 use flow_items::Text;
-use flow_plan::{CAPACITY_LIMIT, CAPACITY_SUM_LIMIT, CONNECTION_LIMIT, ELEMENT_LIMIT};
+use flow_limits::{CAPACITY_LIMIT, CAPACITY_SUM_LIMIT, CONNECTION_LIMIT, ELEMENT_LIMIT};
 use std::alloc::Global;
 
 fn is_free(binding: &Binding) -> bool

@@ -8,7 +8,8 @@ ghost use Rattle.flow_net.specs.Calls.{kind_named, process_of_name, end_at, end_
 use crate::draft::{Begun, Binding, End, Port};
 use crate::fault::{PlanFault, PlanStop};
 use flow_items::Text;
-use flow_plan::{ELEMENT_LIMIT, KindSpec, PROCESS_LIMIT, PortClass, PortRef};
+use flow_limits::{ELEMENT_LIMIT, PROCESS_LIMIT};
+use flow_plan::{KindSpec, PortClass, PortRef};
 use std::alloc::{AllocError, Global};
 
 /// The kind of a name.

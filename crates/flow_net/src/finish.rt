@@ -11,9 +11,8 @@ use crate::draft::{Begun, End, Link, Port};
 use crate::find::{is_side, is_stream_at};
 use crate::give::process_at;
 use flow_items::{Items, Text};
-use flow_plan::{
-    Connection, ELEMENT_LIMIT, PortClass, PortRow, PortSpec, PortTable, Process, Sender,
-};
+use flow_limits::ELEMENT_LIMIT;
+use flow_plan::{Connection, PortClass, PortRow, PortSpec, PortTable, Process, Sender};
 use std::alloc::{AllocError, Global};
 
 /// The number of elements of a port.

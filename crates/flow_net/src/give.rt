@@ -7,7 +7,8 @@ use crate::draft::{Begun, Binding, End, Port};
 use crate::fault::{PlanFault, PlanStop};
 use crate::{find, join};
 use flow_items::Text;
-use flow_plan::{PROCESS_LIMIT, PortRef};
+use flow_limits::PROCESS_LIMIT;
+use flow_plan::PortRef;
 use std::alloc::{AllocError, Global};
 
 /// The input that a text is for, or the first thing that is against it.

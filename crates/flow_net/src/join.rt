@@ -7,7 +7,8 @@ use crate::draft::{Binding, End, Link, Port};
 use crate::fault::{Many, PlanFault, PlanStop};
 use crate::find;
 use flow_items::{Items, Text};
-use flow_plan::{CAPACITY_LIMIT, CONNECTION_LIMIT, PortRef, SENDER_LIMIT};
+use flow_limits::{CAPACITY_LIMIT, CONNECTION_LIMIT, SENDER_LIMIT};
+use flow_plan::PortRef;
 use std::alloc::{AllocError, Global};
 
 fn allowed_capacity(capacity: Option<u32>) -> Result<(), PlanStop>

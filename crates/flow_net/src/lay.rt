@@ -8,7 +8,8 @@ use crate::draft::{Begun, End, Port};
 use crate::find::{is_side, is_stream_at};
 use crate::finish::{elements_in, number, total};
 use flow_items::{Items, Text};
-use flow_plan::{ELEMENT_LIMIT, PortRow, PortSpec, PortTable, Process};
+use flow_limits::ELEMENT_LIMIT;
+use flow_plan::{PortRow, PortSpec, PortTable, Process};
 use std::alloc::{AllocError, Global};
 
 fn row(alloc: Global, port: &Port) -> Result<PortRow, AllocError>

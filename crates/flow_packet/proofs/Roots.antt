@@ -1,9 +1,10 @@
 -- How many packets edits of hands leave at the root.
+use Rattle.flow_limits.specs.declared.TheConstants.{HANDS_LIMIT}
 use Rattle.std.proofs.Common.{◌≡◌, ℕ, ◌≤◌, List, [], ◌∷◌, length, take, true, false, cond, ap, arith, length-append, Option, Some, None}
 use Rattle.flow_packet.specs.Tree.{Tree, packet_of, chains_of, with_chains, detach_from}
 use Rattle.flow_packet.specs.Hands.{has_id, packet_at, without, update, put_into, detached, chain_of_root}
 use Rattle.flow_packet.specs.Held.{Held, next_id}
-use Rattle.flow_packet.specs.Edits.{IsOpen, Edit, Makes, Drops, Attaches, Detaches, edited, Edits, hands_limit, ComesBy}
+use Rattle.flow_packet.specs.Edits.{IsOpen, Edit, Makes, Drops, Attaches, Detaches, edited, Edits, ComesBy}
 
 -- without a packet there are no more than before
 pub length-without : (ts : List Tree) (id : ℕ) → length (without ts id) ≤ length ts
@@ -25,7 +26,7 @@ length-take_one [] = omega arith
 length-take_one (t ∷ ts) = omega arith
 
 -- one edit leaves at most 4,096 at the root
-few-edited : (held : Held) (edit : Edit) → IsOpen held edit → length held.packets ≤ hands_limit → length (edited held edit).packets ≤ hands_limit
+few-edited : (held : Held) (edit : Edit) → IsOpen held edit → length held.packets ≤ HANDS_LIMIT → length (edited held edit).packets ≤ HANDS_LIMIT
 few-edited held (Makes kind text) opens few = omega (arith, opens, length-append held.packets (packet_of (next_id held) kind text [] ∷ []))
 few-edited held (Drops id) opens few = omega (arith, few, length-without held.packets id)
 few-edited held (Attaches root chain child) opens few = omega (arith, few, length-without held.packets child, length-put_into (without held.packets child) root chain (packet_at held.packets child))
@@ -38,10 +39,10 @@ few-edited held (Detaches root chain) opens few =
       length-take_one (chain_of_root held.packets root chain),
     )
 
-few-edits : (edits : List Edit) (old new : Held) → Edits old edits new → length old.packets ≤ hands_limit → length new.packets ≤ hands_limit
+few-edits : (edits : List Edit) (old new : Held) → Edits old edits new → length old.packets ≤ HANDS_LIMIT → length new.packets ≤ HANDS_LIMIT
 few-edits [] old new follow few = omega (arith, few, ap (λ (h : Held). length h.packets) follow)
 few-edits (edit ∷ edits) old new follow few = few-edits edits (edited old edit) new follow.1 (few-edited old edit follow.0 few)
 
 -- hands that come from others hold at most 4,096 at the root
-pub few-comes : (old new : Held) → ComesBy old new → length old.packets ≤ hands_limit → length new.packets ≤ hands_limit
+pub few-comes : (old new : Held) → ComesBy old new → length old.packets ≤ HANDS_LIMIT → length new.packets ≤ HANDS_LIMIT
 few-comes old new by few = few-edits by.edits old new by.follow few

@@ -1,4 +1,5 @@
 -- Which value a file spells, and which fault it has.
+use Rattle.flow_limits.specs.declared.TheConstants.{STATEMENT_LIMIT, TEXT_LIMIT}
 use Rattle.std.specs.Prelude.{◌≡◌, ℕ, ◌+◌, List, [], ◌∷◌, ◌++◌, map, length, Option, Some, None, Result, Ok, Err, Bool, true, false, ◌&&◌, nat_le, not, if◌then◌else◌, is_some, is_none, unwrap_or, MatchResult, option_map, option_and_then, filter}
 use Rattle.std.specs.Str.{bytes_eq}
 use Rattle.std.specs.Str.Lines.{lines}
@@ -184,14 +185,14 @@ abbrev pub is_new_subnet : Parts → Form → Bool
 is_new_subnet parts (Subnet name) = not (list_any (λ s. bytes_eq s.0 name) parts.subnets)
 is_new_subnet parts _ = true
 
--- A quoted text stands for at most 1,048,576 bytes.
+-- A quoted text stands for at most TEXT_LIMIT bytes.
 abbrev pub text_fits : Form → Bool
-text_fits (Initial text into to) = nat_le (length text) 1048576
+text_fits (Initial text into to) = nat_le (length text) TEXT_LIMIT
 text_fits _ = true
 
--- The text fits, and this is at most the 4,096th statement of the file.
+-- The text fits, and with this the file has at most STATEMENT_LIMIT statements.
 abbrev pub is_within_limits : Parts → Form → Bool
-is_within_limits parts form = text_fits form && nat_le (statement_count parts + length (statements_of form)) 4096
+is_within_limits parts form = text_fits form && nat_le (statement_count parts + length (statements_of form)) STATEMENT_LIMIT
 
 -- The first reason for which a line is refused, where it says this behind these parts.
 abbrev pub reason_at : Parts → Form → Option Reason

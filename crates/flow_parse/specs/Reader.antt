@@ -1,4 +1,5 @@
 -- What a reader stands for.
+use Rattle.flow_limits.specs.declared.TheConstants.{STATEMENT_LIMIT}
 use Rattle.std.specs.Prelude.{◌≡◌, ℕ, ◌≤◌, List, [], ◌∷◌, ◌++◌, map, Option, Some, None, Result, Ok, Err, Bool, true, false}
 use Rattle.flow_parse.specs.declared.form.Form.{Form}
 use Rattle.flow_parse.specs.declared.fault.NetFault.{NetFault}
@@ -35,7 +36,7 @@ pub record HasRead (reader : Reader) (parts : Parts) : Type 0 where
   pub subnets : reader.subnets ≡ map (λ s. (s.0, value_of s.1)) parts.subnets
   pub open_part : IsOpen reader.open_part parts.open_part
   pub count : reader.statements ≡ statement_count parts
-  pub within : reader.statements ≤ 4096
+  pub within : reader.statements ≤ STATEMENT_LIMIT
 
 -- The reader stands for what comes before the next line.
 abbrev pub Stands : Reader → Option Parts → Type 0

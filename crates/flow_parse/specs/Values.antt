@@ -1,4 +1,5 @@
 -- Which values are values of files.
+use Rattle.flow_limits.specs.declared.TheConstants.{CAPACITY_LIMIT, STATEMENT_LIMIT, TEXT_LIMIT}
 use Rattle.std.specs.Prelude.{◌≡◌, ◌≢◌, ℕ, ◌+◌, ◌≤◌, List, [], ◌∷◌, map, length, Option, Some, None, true, false}
 use Rattle.std.specs.Str.{bytes_eq}
 use Rattle.std.specs.List.{AllByRecursion, list_any, sum_by}
@@ -23,13 +24,13 @@ IsWithin least most (Some n) = (least ≤ n) × (n ≤ most)
 abbrev pub IsPort : PortRef → Type 0
 IsPort port = IsName port.name × IsWithin 0 511 port.element
 
--- A text that stands within one line: no byte 10, and at most 1,048,576 bytes.
+-- A text that stands within one line: no byte 10, and at most TEXT_LIMIT bytes.
 abbrev pub IsQuotable : List ℕ → Type 0
-IsQuotable text = AllByRecursion (λ b. b ≢ 10) text × (length text ≤ 1048576)
+IsQuotable text = AllByRecursion (λ b. b ≢ 10) text × (length text ≤ TEXT_LIMIT)
 
 -- Each word of a statement is a name, its elements and its capacity lie within their bounds, and its text stands within one line.
 abbrev pub IsStatement : Statement → Type 0
-IsStatement (Connect from out capacity to into) = IsName from × IsPort out × IsWithin 1 1024 capacity × IsName to × IsPort into
+IsStatement (Connect from out capacity to into) = IsName from × IsPort out × IsWithin 1 CAPACITY_LIMIT capacity × IsName to × IsPort into
 IsStatement (Initial text to into) = IsQuotable text × IsName to × IsPort into
 IsStatement (InPort outer to into) = IsName outer × IsName to × IsPort into
 IsStatement (OutPort from out outer) = IsName from × IsPort out × IsName outer
@@ -63,11 +64,11 @@ pub record IsNetPart (part : NetPart) : Type 0 where
   pub said : AllByRecursion IsStatement part.statements
   pub known : AllByRecursion (NamesKnown part.processes) part.statements
 
--- A value has version 1, subnets under different names, no outer port in its main part, and at most 4,096 statements in all.
+-- A value has version 1, subnets under different names, no outer port in its main part, and at most STATEMENT_LIMIT statements in all.
 pub record IsNetText (value : NetText) : Type 0 where
   pub version : value.version ≡ 1
   pub subnets : AllByRecursion (λ (s : List ℕ × NetPart). IsName s.0 × IsNetPart s.1) value.subnets
   pub differ : Differ (map (λ s. s.0) value.subnets)
   pub main : IsNetPart value.main
   pub inner : AllByRecursion IsInner value.main.statements
-  pub count : length value.main.statements + sum_by (λ (s : List ℕ × NetPart). length s.1.statements) value.subnets ≤ 4096
+  pub count : length value.main.statements + sum_by (λ (s : List ℕ × NetPart). length s.1.statements) value.subnets ≤ STATEMENT_LIMIT

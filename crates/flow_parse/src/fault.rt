@@ -18,7 +18,7 @@ pub enum Reason {
     /// A word in the place of a name is none: a name begins with a letter, has at most 64 bytes, and is
     /// none of `flow`, `subnet`, `end`, `inport` and `outport`.
     Name,
-    /// A capacity isn't a decimal number from 1 to 1,024, or an element isn't one from 0 to 511.
+    /// A capacity isn't a decimal number from 1 to CAPACITY_LIMIT, or an element isn't one from 0 to 511.
     Number,
     /// A process is given a second, different kind in its part; or its part ends, and it has none. Then
     /// the line is that of its first mention.
@@ -26,7 +26,7 @@ pub enum Reason {
     /// A subnet's name was used before; or the file ends inside a subnet. Then the line is that of its
     /// beginning.
     Subnet,
-    /// A quoted text stands for more than 1,048,576 bytes, or the file has more than 4,096 statements.
+    /// A quoted text stands for more than TEXT_LIMIT bytes, or the file has more than STATEMENT_LIMIT statements.
     Limit,
 }
 

@@ -7,6 +7,7 @@ ghost use Rattle.flow_parse.specs.Names.{is_name, begins_with_letter, begins_wit
 
 use crate::form::{Form, Mention, Port};
 use crate::same::is;
+use flow_limits::CAPACITY_LIMIT;
 use flow_items::Text;
 
 pub const MOST_NAME: usize = 64;
@@ -111,7 +112,7 @@ fn number(word: &[u8], least: u32, most: u32) -> Option<u32>
 pub fn capacity(word: &Text) -> Option<u32>
     ensures { result ≡ capacity_of word.now }
 {
-    number(word.as_slice(), 1, 1024)
+    number(word.as_slice(), 1, CAPACITY_LIMIT)
 }
 
 pub fn element(word: &Text) -> Option<u32>

@@ -13,12 +13,11 @@ use crate::stop::LineStop;
 use crate::subnets::Subnets;
 use crate::table::{Processes, kindless};
 use crate::value::{NetPart, NetText, Statement};
+use flow_limits::{STATEMENT_LIMIT, TEXT_LIMIT};
 use flow_items::{Items, Text};
 use std::alloc::{AllocError, Global};
 
-const MOST_TEXT: usize = 1_048_576;
 
-const MOST_STATEMENTS: usize = 4096;
 
 /// A part as far as it is read.
 #[derive(Drop)]
@@ -69,7 +68,7 @@ fn has_fitting_text(form: &Form) -> bool
             text,
             into: _,
             to: _,
-        } => text.len() <= MOST_TEXT,
+        } => text.len() <= TEXT_LIMIT,
         _ => true,
     }
 }
@@ -219,7 +218,7 @@ impl Reader {
             return stop(line, Reason::Limit);
         }
         if counts {
-            if self.statements >= MOST_STATEMENTS {
+            if self.statements >= STATEMENT_LIMIT {
                 return stop(line, Reason::Limit);
             }
             self.statements += 1;

@@ -3,7 +3,7 @@ use flow_items::{Items, Text};
 use flow_net::PortRef;
 
 /// What a line of a network file adds to its part. A process is named as its part names it; a port may
-/// be given with an element, and a connection with a capacity, from 1 to 1,024 packets.
+/// be given with an element, and a connection with a capacity, from 1 to CAPACITY_LIMIT packets.
 #[derive(Debug, Drop)]
 pub enum Statement {
     /// A connection from an output port to an input port.

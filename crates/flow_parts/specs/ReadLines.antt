@@ -1,4 +1,5 @@
 -- The component that sends the lines of a file. Its state is the lines that are left.
+use Rattle.flow_limits.specs.declared.TheConstants.{TEXT_LIMIT}
 use Rattle.std.specs.Prelude.{◌≡◌, ℕ, suc, ◌≤◌, ◌==◌, List, [], ◌∷◌, length, drop, slice_range, nat_lt, if◌then◌else◌}
 use Rattle.std.specs.Str.Lines.{lines}
 use Rattle.flow_packet.specs.declared.packet.Kind.TheVariants.{Normal}
@@ -26,7 +27,7 @@ pub record IsNextLine (bytes : List ℕ) (from end next : ℕ) : Type 0 where
 abbrev pub reads : Held → List (List ℕ) → Outcome (List (List ℕ))
 reads held [] = Wishes [] held Deactivate
 reads held (line ∷ left) =
-    if nat_lt 1048576 (length line) then Fails (line ∷ left) held (TextLimit (length line)) else Wishes left (with_made held Normal line) (send_first (next_id held))
+    if nat_lt TEXT_LIMIT (length line) then Fails (line ∷ left) held (TextLimit (length line)) else Wishes left (with_made held Normal line) (send_first (next_id held))
 
 -- Told to start, or that its line was sent, it reads the next line.
 abbrev pub ReadLinesNext : List (List ℕ) → Held → Answer → Outcome (List (List ℕ)) → Type 0

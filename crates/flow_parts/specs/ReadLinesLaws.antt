@@ -1,4 +1,5 @@
 -- ReadLines keeps the laws of components.
+use Rattle.flow_limits.specs.declared.TheConstants.{TEXT_LIMIT}
 use Rattle.std.proofs.Common.{◌≡◌, ℕ, true, false, List, [], ◌∷◌, length, refl, nat_lt, if◌then◌else◌, sym, subst, ap, arith}
 use Rattle.flow_packet.specs.declared.packet.Kind.TheVariants.{Normal}
 use Rattle.flow_packet.specs.Held.{Held, next_id, with_made}
@@ -17,7 +18,7 @@ Lawful held outcome = Obeys none_to_one uses_first held outcome × StaysReady Re
 read : (held : Held) (left : List (List ℕ)) → held.packets ≡ [] → Lawful held (reads held left)
 read held [] e = ((comes_same held, tt), λ sound. e)
 read held (line ∷ left) e =
-    elim (nat_lt 1048576 (length line)) as (λ b. Lawful held (if b then Fails (line ∷ left) held (TextLimit (length line)) else Wishes left (with_made held Normal line) (send_first (next_id held)))) [
+    elim (nat_lt TEXT_LIMIT (length line)) as (λ b. Lawful held (if b then Fails (line ∷ left) held (TextLimit (length line)) else Wishes left (with_made held Normal line) (send_first (next_id held)))) [
       | true ↦ ((comes_same held, tt), tt)
       | false ↦ ((comes_made held Normal line (omega (arith, ap length e)), (refl, IsAtRoot-made held Normal line)), λ sound. made_gone held Normal line e)
     ]

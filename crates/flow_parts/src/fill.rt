@@ -8,6 +8,7 @@ ghost use Rattle.flow_component.specs.Alone.{HoldsOnly};
 ghost use Rattle.flow_parts.specs.Text.{joined};
 ghost use Rattle.flow_parts.specs.FillState.{FillState};
 
+use flow_limits::TEXT_LIMIT;
 use flow_component::{Answer, Component, Port, Shape, Stop, Wish};
 use flow_packet::{Hands, Kind, PacketId};
 use std::alloc::{AllocError, Global};
@@ -33,12 +34,13 @@ pub struct Fill {
 impl Model for Fill {
     ghost use Rattle.std.specs.Prelude.{◌≤◌, length};
     ghost use Rattle.flow_parts.specs.FillState.{FillState};
+    ghost use Rattle.flow_limits.specs.declared.TheConstants.{TEXT_LIMIT};
 
     ghost Value = { FillState };
 
     ghost view = { λ f. record { size = f.size; line = f.line.items; place = f.place } };
 
-    ghost invariant = { λ f. (f.size ≤ 1048576) × (length f.line.items ≤ 1048576) };
+    ghost invariant = { λ f. (f.size ≤ TEXT_LIMIT) × (length f.line.items ≤ TEXT_LIMIT) };
 }
 
 // Puts the word at the end of the line.
@@ -62,7 +64,7 @@ impl Fill {
 
     pub fn new(alloc: Global, size: u32) -> Fill
         requires least { 1 ≤ size }
-        requires most { size ≤ 1048576 }
+        requires most { size ≤ TEXT_LIMIT }
         ensures { result ≡ record { size = size; line = []; place = FillPlace.Waiting } }
     {
         Fill {

@@ -1,5 +1,5 @@
 -- What makes a network a valid plan.
-use Rattle.flow_plan.specs.declared.limits.TheConstants.{CAPACITY_LIMIT, CAPACITY_SUM_LIMIT, CONNECTION_LIMIT, ELEMENT_LIMIT, PROCESS_LIMIT, SENDER_LIMIT, TEXT_LIMIT}
+use Rattle.flow_limits.specs.declared.TheConstants.{CAPACITY_LIMIT, CAPACITY_SUM_LIMIT, CONNECTION_LIMIT, ELEMENT_LIMIT, PROCESS_LIMIT, SENDER_LIMIT, TEXT_LIMIT}
 use Rattle.std.specs.Prelude.{◌≡◌, ◌⊎◌, ℕ, ◌≤◌, Bool, true, false, List, map, length, Some, slice_get}
 use Rattle.std.specs.List.{flat_map, sum_by}
 use Rattle.flow_plan.specs.declared.kind.PortRef.{PortRef}
@@ -73,7 +73,7 @@ pub record HasOptions (n : Network) : Type 0 where
   pub each_option : (p i : ℕ) → HasOptionPort n p i → HasOption n p i
   pub one_option : (p k l i : ℕ) (x : Process) (text other : List ℕ) → slice_get n.processes p ≡ Some x → slice_get x.options k ≡ Some (i, text) → slice_get x.options l ≡ Some (i, other) → k ≡ l
 
--- An array has from 1 to 512 elements, and every other port has 1.
+-- An array has from 1 to ELEMENT_LIMIT elements, and every other port has 1.
 pub record IsRow (row : PortRow) : Type 0 where
   pub array : row.spec.array ≡ true → (1 ≤ row.elements) × (row.elements ≤ ELEMENT_LIMIT)
   pub single : row.spec.array ≡ false → row.elements ≡ 1

@@ -1,4 +1,5 @@
 -- The component that collates its inputs.
+use Rattle.flow_limits.specs.declared.TheConstants.{ELEMENT_LIMIT}
 use Rattle.std.specs.Prelude.{◌≡◌, ℕ, ◌+◌, ◌-◌, ◌<◌, ◌≤◌, ◌==◌, true, false, List, [], ◌∷◌, ◌++◌, length, take, slice_index, remove, nat_lt, if◌then◌else◌, Option, Some, None}
 use Rattle.flow_packet.specs.declared.packet.Kind.{Kind}
 use Rattle.flow_packet.specs.declared.packet.Kind.TheVariants.{Normal, Open, Close}
@@ -120,7 +121,7 @@ pub record Keeps (elements : ℕ) (owners : List ℕ) (held : Held) : Type 0 whe
   pub new : IsAtRoot held.packets (next_id held) → ⊥
   pub inputs : AreInputs elements owners
   pub some : 1 ≤ elements
-  pub most : elements ≤ 512
+  pub most : elements ≤ ELEMENT_LIMIT
 
 -- It receives from an input from which it holds nothing.
 abbrev pub IsReceiving : CollateState → CollatePlace → Type 0

@@ -8,6 +8,7 @@ ghost use Rattle.flow_component.specs.Resumes.{Resumes};
 ghost use Rattle.flow_streams.specs.CollateState.{CollateState};
 ghost use Rattle.flow_streams.specs.Collation.{width, goes_before, first_of, or_later, levels_that_differ, packet_there};
 
+use flow_limits::{ELEMENT_LIMIT, HANDS_LIMIT, TEXT_LIMIT};
 use flow_component::{Answer, Component, Fail, Port, Shape, Stop, Wish};
 use flow_packet::{Hands, HandsStop, Kind, Packet, PacketId};
 use std::alloc::AllocError;
@@ -152,8 +153,8 @@ fn levels_that_differ(fields: &[u8], old: &[u8], new: &[u8]) -> usize
 
 // Makes a bracket, for which there is room.
 fn make_bracket(hands: &mut Hands, kind: Kind, text: &[u8]) -> Result<PacketId, AllocError>
-    requires short { length text.now ≤ 1048576 }
-    requires few { length hands.old.packets < 4096 }
+    requires short { length text.now ≤ TEXT_LIMIT }
+    requires few { length hands.old.packets < HANDS_LIMIT }
     requires room { hands.old.made < 4294967295 }
     ensures id { IfOk result (λ id. id ≡ new_id hands.old) }
     ensures made { OnOk result (hands.new ≡ record hands.old { made = hands.old.made + 1; packets = hands.old.packets ++ packet_of (new_id hands.old) kind text.now [] ∷ []; spare = hands.new.spare }) }
@@ -175,7 +176,7 @@ impl Collate {
         requires one_field { 1 ≤ length fields.items }
         requires few_fields { length fields.items ≤ 8 }
         requires one { 1 ≤ elements }
-        requires few { elements ≤ 512 }
+        requires few { elements ≤ ELEMENT_LIMIT }
         ensures { result ≡ record { fields = fields.items; elements = elements; owners = []; opened = false; last = []; place = CollatePlace.Filling 0 } }
     {
         let alloc = *fields.allocator();
@@ -223,7 +224,7 @@ impl Collate {
 
     // Sends a Close packet.
     fn close(&mut self, hands: &mut Hands, place: CollatePlace) -> Result<Wish, Stop>
-        requires few { length hands.old.packets < 4096 }
+        requires few { length hands.old.packets < HANDS_LIMIT }
         requires room { hands.old.made < 4294967295 }
         ensures sends { Resumes (λ state held _ outcome. outcome ≡ sends_bracket state held place Kind.Close []) self.old hands.old Answer.Sent result self.new hands.new }
         ensures only { IfErr result (λ stop. stop ≡ Stop.NoMemory) }
@@ -238,7 +239,7 @@ impl Collate {
     // Sends an Open packet with the key of the level.
     fn open(&mut self, hands: &mut Hands, place: CollatePlace, level: usize) -> Result<Wish, Stop>
         requires level { level ≤ length self.old.fields }
-        requires few { length hands.old.packets < 4096 }
+        requires few { length hands.old.packets < HANDS_LIMIT }
         requires room { hands.old.made < 4294967295 }
         ensures sends { Resumes (λ state held _ outcome. outcome ≡ sends_bracket state held place Kind.Open (take (width state.fields level) state.last)) self.old hands.old Answer.Sent result self.new hands.new }
         ensures only { IfErr result (λ stop. stop ≡ Stop.NoMemory) }
@@ -262,7 +263,7 @@ impl Collate {
         requires opens { opens ≤ length self.old.fields }
         requires place { place < length self.old.owners }
         requires each { length self.old.owners ≡ length hands.old.packets }
-        requires few { length hands.old.packets < 4096 }
+        requires few { length hands.old.packets < HANDS_LIMIT }
         requires room { hands.old.made < 4294967295 }
         ensures sends { Resumes (λ state held _ outcome. outcome ≡ turns state held closes opens place) self.old hands.old Answer.Sent result self.new hands.new }
         ensures only { IfErr result (λ stop. stop ≡ Stop.NoMemory) }
@@ -291,7 +292,7 @@ impl Collate {
     fn turns_to(&mut self, hands: &mut Hands, place: usize) -> Result<Wish, Stop>
         requires place { place < length self.old.owners }
         requires each { length self.old.owners ≡ length hands.old.packets }
-        requires few { length hands.old.packets < 4096 }
+        requires few { length hands.old.packets < HANDS_LIMIT }
         requires room { hands.old.made < 4294967295 }
         ensures sends { Resumes (λ state held _ outcome. outcome ≡ turns_to state held place (opening state (packet_there held.packets place))) self.old hands.old Answer.Sent result self.new hands.new }
         ensures only { IfErr result (λ stop. stop ≡ Stop.NoMemory) }
@@ -318,7 +319,7 @@ impl Collate {
 
     // Sends what is due after the last packet, or deactivates.
     fn leaves(&mut self, hands: &mut Hands, closes: usize) -> Result<Wish, Stop>
-        requires few { length hands.old.packets < 4096 }
+        requires few { length hands.old.packets < HANDS_LIMIT }
         requires room { hands.old.made < 4294967295 }
         ensures sends { Resumes (λ state held _ outcome. outcome ≡ leaves state held closes) self.old hands.old Answer.Sent result self.new hands.new }
         ensures only { IfErr result (λ stop. stop ≡ Stop.NoMemory) }
@@ -334,7 +335,7 @@ impl Collate {
     // The packet that goes first comes next.
     fn chooses(&mut self, hands: &mut Hands) -> Result<Wish, Stop>
         requires each { length self.old.owners ≡ length hands.old.packets }
-        requires few { length hands.old.packets < 4096 }
+        requires few { length hands.old.packets < HANDS_LIMIT }
         requires room { hands.old.made < 4294967295 }
         ensures sends { Resumes (λ state held _ outcome. outcome ≡ chooses state held) self.old hands.old Answer.Sent result self.new hands.new }
         ensures only { IfErr result (λ stop. stop ≡ Stop.NoMemory) }
@@ -351,9 +352,9 @@ impl Collate {
     // An input gave a packet or its end.
     fn goes_on(&mut self, hands: &mut Hands) -> Result<Wish, Stop>
         requires each { length self.old.owners ≡ length hands.old.packets }
-        requires few { length hands.old.packets < 4096 }
+        requires few { length hands.old.packets < HANDS_LIMIT }
         requires room { hands.old.made < 4294967295 }
-        requires small { self.old.elements ≤ 512 }
+        requires small { self.old.elements ≤ ELEMENT_LIMIT }
         requires below { element_of self.old.place < self.old.elements }
         ensures sends { Resumes (λ state held _ outcome. outcome ≡ goes_on state held state.place) self.old hands.old Answer.Sent result self.new hands.new }
         ensures only { IfErr result (λ stop. stop ≡ Stop.NoMemory) }
@@ -382,9 +383,9 @@ impl Collate {
     // A packet has come from an input.
     fn comes(&mut self, hands: &mut Hands) -> Result<Wish, Stop>
         requires each { length self.old.owners + 1 ≡ length hands.old.packets }
-        requires few { length hands.old.packets < 4096 }
+        requires few { length hands.old.packets < HANDS_LIMIT }
         requires room { hands.old.made < 4294967295 }
-        requires small { self.old.elements ≤ 512 }
+        requires small { self.old.elements ≤ ELEMENT_LIMIT }
         requires below { element_of self.old.place < self.old.elements }
         ensures { Resumes (λ state held _ outcome. outcome ≡ goes_on (record state { owners = state.owners ++ element_of state.place ∷ [] }) held state.place) self.old hands.old Answer.Sent result self.new hands.new }
     {
@@ -403,7 +404,7 @@ impl Collate {
     fn sent_on(&mut self, hands: &mut Hands) -> Result<Wish, Stop>
         requires ready { IsReadyOn self.old self.old.place }
         requires each { length self.old.owners ≡ length hands.old.packets }
-        requires few { length hands.old.packets < 4096 }
+        requires few { length hands.old.packets < HANDS_LIMIT }
         requires room { hands.old.made < 4294967295 }
         ensures { Resumes (λ state held _ outcome. outcome ≡ sent_on state held state.place) self.old hands.old Answer.Sent result self.new hands.new }
     {

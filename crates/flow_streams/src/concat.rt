@@ -3,6 +3,7 @@
 ghost use Rattle.std.specs.Prelude.{◌≡◌, ◌≤◌};
 ghost use Rattle.flow_streams.specs.Concat.{ConcatState};
 
+use flow_limits::ELEMENT_LIMIT;
 use flow_component::{Answer, Component, Port, Shape, Stop, Wish};
 use flow_packet::Hands;
 use std::marker::Model;
@@ -26,7 +27,7 @@ impl Concat {
     /// The component before its first packet, with so many inputs. Takes no memory.
     pub fn new(elements: u32) -> Concat
         requires one { 1 ≤ elements }
-        requires few { elements ≤ 512 }
+        requires few { elements ≤ ELEMENT_LIMIT }
         ensures { result ≡ record { count = elements; at = 0 } }
     {
         Concat {

@@ -6,6 +6,7 @@ ghost use Rattle.flow_component.specs.Alone.{HoldsOnly};
 ghost use Rattle.flow_component.specs.Resumes.{Resumes};
 ghost use Rattle.flow_streams.specs.Copy.{CopyState};
 
+use flow_limits::ELEMENT_LIMIT;
 use flow_component::{Answer, Component, Port, Shape, Stop, Wish};
 use flow_packet::{Hands, PacketId};
 use std::marker::Model;
@@ -40,7 +41,7 @@ impl Copy {
     /// The component before its first packet, with so many outputs. Takes no memory.
     pub fn new(elements: u32) -> Copy
         requires one { 1 ≤ elements }
-        requires few { elements ≤ 512 }
+        requires few { elements ≤ ELEMENT_LIMIT }
         ensures { result ≡ record { count = elements; place = CopyPlace.Waiting } }
     {
         Copy {

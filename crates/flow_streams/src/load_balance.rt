@@ -7,11 +7,12 @@ ghost use Rattle.flow_component.specs.Alone.{HoldsOnly};
 ghost use Rattle.flow_component.specs.Resumes.{Resumes};
 ghost use Rattle.flow_streams.specs.LoadBalance.{LoadState, no_level};
 
+use flow_limits::ELEMENT_LIMIT;
 use flow_component::{Answer, Component, Port, Shape, Stop, Wish};
 use flow_packet::{Hands, Kind, PacketId};
 use std::marker::Model;
 
-// More than any level is: a connection holds at most 65,535 packets.
+// More than any level is: a connection holds at most CAPACITY_LIMIT packets.
 const NO_LEVEL: u32 = 65_536;
 
 /// What a LoadBalance does once it is answered.
@@ -53,7 +54,7 @@ impl LoadBalance {
     /// The component before its first packet, with so many outputs. Takes no memory.
     pub fn new(elements: u32) -> LoadBalance
         requires one { 1 ≤ elements }
-        requires few { elements ≤ 512 }
+        requires few { elements ≤ ELEMENT_LIMIT }
         ensures { result ≡ record { count = elements; depth = 0; chosen = 0; place = LoadPlace.Waiting } }
     {
         LoadBalance {

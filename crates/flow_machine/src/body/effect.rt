@@ -12,11 +12,10 @@ use super::Body;
 use crate::answers::Effect;
 use crate::inlet::{Inlet, freshen};
 use crate::outlets::outlet_count;
+use flow_limits::TURN_LIMIT;
 use flow_component::{Answer, Component, Fail, Port, Wish};
 use flow_model::Stage;
 use flow_packet::{Kind, Packet};
-
-const TURN_LIMIT: usize = 8_388_608;
 
 /// A process that made its last turn fails by it, unless it has ended.
 fn limited_stage(turns: usize, stage: Stage) -> Stage

@@ -10,14 +10,13 @@ ghost use Rattle.flow_machine.specs.Thoughts.{Thinks, KeepsTurns, HasRoom, Worke
 use super::Body;
 use crate::answers::Thought;
 use crate::inlet::{is_fresh, next_text};
+use flow_limits::HANDS_LIMIT;
 use flow_component::{Answer, Component, Fail, Gate, Stop, Wish};
 use flow_model::Stage;
 use flow_packet::{Hands, Kind};
 use std::alloc::AllocError;
 
 /// The packets that hands may hold at their root.
-const HANDS_LIMIT: usize = 4096;
-
 /// Where a wish leaves a process: it can't send a close packet at depth 0, and can't receive while its hands are full.
 fn judged_stage(depths: &[u32], hands: &Hands, wish: Wish) -> Stage
     requires { SendsHeld hands.now.packets wish }

@@ -8,6 +8,7 @@ use super::Net;
 use crate::body::Body;
 use crate::channel::Channel;
 use crate::wires::{receiving, sending};
+use flow_limits::{CONNECTION_LIMIT, SENDER_LIMIT};
 use flow_component::Component;
 use flow_net::{Connection, Plan};
 use std::alloc::{AllocError, Global};
@@ -32,7 +33,7 @@ pub(crate) fn discard_channels(channels: Vec<Channel>) {
 
 /// The connections at their start.
 fn channels_of(alloc: Global, connections: &[Connection]) -> Result<Vec<Channel>, AllocError>
-    requires { (c : ℕ) (x : NetConnection) → slice_get connections.now c ≡ Some x → length x.senders ≤ 65535 }
+    requires { (c : ℕ) (x : NetConnection) → slice_get connections.now c ≡ Some x → length x.senders ≤ SENDER_LIMIT }
     ensures { IfOk result (λ channels. StartsChannels connections.now channels.items) }
 {
     let mut channels = Vec::with_capacity(alloc, connections.len())?;
@@ -58,7 +59,7 @@ fn bodies_of<K: Component>(
     parts: Vec<K>,
 ) -> Result<Vec<Body<K>>, AllocError>
     requires well { StartsWell K.shape_of K.uses K.ready plan.now parts.items }
-    requires few { length plan.now.connections ≤ 512 }
+    requires few { length plan.now.connections ≤ CONNECTION_LIMIT }
     ensures { IfOk result (λ bodies. StartsBodies plan.now parts.items bodies.items) }
 {
     let receiving = receiving(alloc, plan)?;
@@ -87,7 +88,7 @@ impl<K: Component> Net<K> {
     /// the places of its capacity.
     pub fn start(alloc: Global, plan: &Plan, parts: Vec<K>) -> Result<Net<K>, AllocError>
         requires well { StartsWell K.shape_of K.uses K.ready plan.now parts.items }
-        requires few { length plan.now.connections ≤ 512 }
+        requires few { length plan.now.connections ≤ CONNECTION_LIMIT }
         ensures { IfOk result (λ net. StartsNet plan.now parts.items net) }
     {
         let channels = channels_of(alloc, plan.connections())?;

@@ -1,4 +1,5 @@
-//! The limits of a plan. They are this project's own, and stand nowhere else: code, contracts and definitions cite them.
+//! The limits of this project. They are its own, and stand nowhere else: code, contracts and definitions cite them.
+#![tactic(auto)]
 
 /// The most processes of a plan.
 pub const PROCESS_LIMIT: usize = 128;
@@ -23,3 +24,15 @@ pub const SENDER_LIMIT: usize = 65_535;
 
 /// The longest initial text, option or text of a packet, in bytes.
 pub const TEXT_LIMIT: usize = 1_048_576;
+
+/// The most packets at the root of the hands of one process.
+pub const HANDS_LIMIT: usize = 4096;
+
+/// The most turns of one process in a run.
+pub const TURN_LIMIT: usize = 8_388_608;
+
+/// The most statements of a network file, those of its subnets among them.
+pub const STATEMENT_LIMIT: usize = 4096;
+
+/// The most processes of a network file that are subnets, when all are written out.
+pub const SUBNET_PROCESS_LIMIT: usize = 512;
