@@ -1,4 +1,5 @@
 -- How large a chain may be.
+use Rattle.flow_chain.specs.declared.size.TheConstants.{LINE_LIMIT}
 use Rattle.std.specs.Prelude.{◌≤◌}
 use Rattle.flow_chain.specs.declared.size.Size.{Size}
 
@@ -6,4 +7,4 @@ use Rattle.flow_chain.specs.declared.size.Size.{Size}
 pub record IsSize (size : Size) : Type 0 where
   pub some : 1 ≤ size.passers
   pub few : size.passers ≤ 100
-  pub short : size.lines ≤ 1048576
+  pub short : size.lines ≤ LINE_LIMIT

@@ -1,6 +1,9 @@
 //! How large a chain is.
 ghost use Rattle.std.specs.Prelude.{◌≤◌, ℕ, IfSome};
 
+/// The most lines that the reader of a chain may have.
+pub const LINE_LIMIT: u32 = 1_048_576;
+
 /// How many processes pass lines on, and how many lines the reader has.
 #[derive(Clone, Copy, Debug, PartialEq, Eq)]
 pub struct Size {
@@ -22,14 +25,14 @@ fn number(word: &str, least: u32, most: u32) -> Option<u32>
 impl Size {
     ghost use Rattle.flow_chain.specs.Sizes.{IsSize};
 
-    /// The size that two words name: from 1 to 100 passers, and at most 1,048,576 lines.
+    /// The size that two words name: from 1 to 100 passers, and at most `LINE_LIMIT` lines.
     pub fn named(words: &[String]) -> Option<Size>
         ensures { IfSome result IsSize }
     {
         match words {
             [passers, lines] => Some(Size {
                 passers: number(passers, 1, 100)?,
-                lines: number(lines, 0, 1_048_576)?,
+                lines: number(lines, 0, LINE_LIMIT)?,
             }),
             _ => None,
         }

@@ -1,5 +1,5 @@
 -- What is looked at of a process that a text stands for, by the numbers of those before it.
-use Rattle.flow_limits.specs.declared.TheConstants.{SUBNET_PROCESS_LIMIT}
+use Rattle.flow_limits.specs.declared.TheConstants.{PROCESS_LIMIT, SUBNET_PROCESS_LIMIT}
 use Rattle.std.specs.Prelude.{◌≡◌, ℕ, ◌+◌, nat_le, ◌∷◌, ◌++◌, length, if◌then◌else◌, Bool, true, false, List, [], Option, Some, None, Ok, Err}
 use Rattle.std.specs.declared.result.Result.{Result}
 use Rattle.std.specs.List.{list_any}
@@ -27,7 +27,7 @@ subnet_tested subnets name part = if nat_le SUBNET_PROCESS_LIMIT subnets then Er
 -- A process that is none, behind so many.
 abbrev pub plain_tested : List KindSpec → ℕ → List ℕ → List ℕ → Result (Unit {0}) ExpandFault
 plain_tested kinds plain name kind =
-    if list_any (λ (k : KindSpec). bytes_eq k.name kind) kinds then fails_if (nat_le 128 plain) (faults.Plan (TooMany many.Processes)) else Err (faults.Plan (UnknownKind name kind))
+    if list_any (λ (k : KindSpec). bytes_eq k.name kind) kinds then fails_if (nat_le PROCESS_LIMIT plain) (faults.Plan (TooMany many.Processes)) else Err (faults.Plan (UnknownKind name kind))
 
 -- A process that is none is put behind the others, or refused.
 abbrev pub PutsPlain : List KindSpec → List ℕ → List ℕ → Counts → Counts → List (List ℕ × List ℕ) → List (List ℕ × List ℕ) → Result (Unit {0}) ExpandStop → Type 0

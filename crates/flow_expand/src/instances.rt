@@ -14,7 +14,7 @@ use crate::meaning::{inside, joined};
 use crate::named::{is_kind, subnet_named};
 use crate::stop::ExpandStop;
 use crate::way::{Frame, part_of};
-use flow_limits::SUBNET_PROCESS_LIMIT;
+use flow_limits::{PROCESS_LIMIT, SUBNET_PROCESS_LIMIT};
 use flow_flat::ExpandFault;
 use flow_items::Text;
 use flow_net::{KindSpec, Many, PlanFault, PortRef};
@@ -46,7 +46,7 @@ fn check_subnet(
     Err(ExpandStop::Fault(ExpandFault::OuterPort(name.copy(alloc)?, port)))
 }
 
-// A process that is none: its kind is in the table, and there are fewer than 128 before it.
+// A process that is none: its kind is in the table, and there are fewer than PROCESS_LIMIT before it.
 fn check_plain(
     alloc: Global,
     kinds: &[KindSpec],
@@ -55,13 +55,13 @@ fn check_plain(
     kind: &Text,
 ) -> Result<(), ExpandStop>
     ensures tested { Gives result (λ outcome. plain_tested kinds.now plain name.now kind.now ≡ outcome) }
-    ensures few { IfOk result (λ _. plain < 128) }
+    ensures few { IfOk result (λ _. plain < PROCESS_LIMIT) }
 {
     if !is_kind(kinds, kind.as_slice()) {
         let fault = PlanFault::UnknownKind(name.copy(alloc)?, kind.copy(alloc)?);
         return Err(ExpandStop::Fault(ExpandFault::Plan(fault)));
     }
-    if plain >= 128 {
+    if plain >= PROCESS_LIMIT {
         let fault = PlanFault::TooMany(Many::Processes);
         return Err(ExpandStop::Fault(ExpandFault::Plan(fault)));
     }

@@ -1,5 +1,5 @@
 -- What a flat text is refused for.
-use Rattle.flow_limits.specs.declared.TheConstants.{CONNECTION_LIMIT, SENDER_LIMIT}
+use Rattle.flow_limits.specs.declared.TheConstants.{CONNECTION_LIMIT, PROCESS_LIMIT, SENDER_LIMIT}
 use Rattle.std.specs.Prelude.{◌≡◌, ◌⊎◌, ℕ, ◌==◌, ◌||◌, nat_le, not, if◌then◌else◌, Bool, false, List, [], length, Option, Some, None, Ok, Err, is_some, slice_get, position}
 use Rattle.std.specs.Option.{option_map_or}
 use Rattle.std.specs.declared.result.Result.{Result}
@@ -22,12 +22,12 @@ use Rattle.flow_flat.specs.Firsts.{AllPass, FirstFails}
 use Rattle.flow_flat.specs.Names.{PortAt, Join, process_called, text_ports, join_ends, text_end, joins_of, texts_of}
 use Rattle.flow_flat.specs.Plans.{same_element, joins_into, receivers, capacity_given, ends_of, size_of, plan_of}
 
--- A process may follow those before it: its name is new, its kind is in the table, and there are fewer than 128.
+-- A process may follow those before it: its name is new, its kind is in the table, and there are fewer than PROCESS_LIMIT.
 abbrev pub process_test : List KindSpec → List (List ℕ × List ℕ) → List ℕ × List ℕ → Result (Unit {0}) PlanFault
 process_test kinds before x = do
   new ← refused_if (is_some (process_called before x.0)) (SameName x.0)
   known ← refused_if (not (is_some (kind_named kinds x.1))) (UnknownKind x.0 x.1)
-  refused_if (nat_le 128 (length before)) (TooMany many.Processes)
+  refused_if (nat_le PROCESS_LIMIT (length before)) (TooMany many.Processes)
 
 abbrev pub sends : List Join → End → Bool
 sends joins end = list_any (λ (j : Join). same_element j.out end) joins

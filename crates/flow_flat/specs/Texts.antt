@@ -1,5 +1,5 @@
 -- The plan of a text with subnets, and what it is refused for.
-use Rattle.flow_limits.specs.declared.TheConstants.{SUBNET_PROCESS_LIMIT}
+use Rattle.flow_limits.specs.declared.TheConstants.{PROCESS_LIMIT, SUBNET_PROCESS_LIMIT}
 use Rattle.std.specs.Prelude.{◌≡◌, ℕ, ◌+◌, nat_le, not, if◌then◌else◌, Bool, false, List, [], ◌∷◌, ◌++◌, length, Option, Some, None, Ok, Err, is_some, count_by}
 use Rattle.std.specs.declared.result.Result.{Result}
 use Rattle.std.specs.List.{filter_map, list_any}
@@ -66,10 +66,10 @@ abbrev pub subnet_test : NetText → List Instance → Instance → NetPart → 
 subnet_test text before x part =
     if nat_le SUBNET_PROCESS_LIMIT (count_by (is_subnet text) before) then Err (faults.Plan (TooMany many.Instances)) else outer_test x.name (given_again [] part.statements)
 
--- A process that is none: its kind is in the table, and there are fewer than 128 before it.
+-- A process that is none: its kind is in the table, and there are fewer than PROCESS_LIMIT before it.
 abbrev pub plain_test : NetText → List KindSpec → List Instance → Instance → Result (Unit {0}) ExpandFault
 plain_test text kinds before x =
-    if is_some (kind_named kinds x.kind) then fails_if (nat_le 128 (count_by (λ y. not (is_subnet text y)) before)) (faults.Plan (TooMany many.Processes))
+    if is_some (kind_named kinds x.kind) then fails_if (nat_le PROCESS_LIMIT (count_by (λ y. not (is_subnet text y)) before)) (faults.Plan (TooMany many.Processes))
     else Err (faults.Plan (UnknownKind x.name x.kind))
 
 abbrev pub instance_test : NetText → List KindSpec → List Instance → Instance → Result (Unit {0}) ExpandFault

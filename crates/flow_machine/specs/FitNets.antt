@@ -1,4 +1,5 @@
 -- What holds of each net.
+use Rattle.flow_limits.specs.declared.TheConstants.{PROCESS_LIMIT}
 use Rattle.std.specs.Prelude.{◌≡◌, ℕ, ◌<◌, ◌≤◌, Bool, List, length, None, Some, slice_get}
 use Rattle.flow_packet.specs.Held.{Held}
 use Rattle.flow_component.specs.declared.Answer.{Answer}
@@ -22,7 +23,7 @@ pub record FitNet {K : Type 0} (shape_of : K → Shape) (uses : K → ℕ → Bo
   pub log : List Logged
   pub logs : Logs log net
   pub total : length log ≡ turns_made net
-  pub few : length net.bodies ≤ 128
+  pub few : length net.bodies ≤ PROCESS_LIMIT
   pub whole : (p : ℕ) (b : BodyValue K) → slice_get net.bodies p ≡ Some b → b.leaving ≡ None
   pub wired : (p : ℕ) (b : BodyValue K) → slice_get net.bodies p ≡ Some b → IsWiredBody (length net.channels) b
   pub puts : (c : ℕ) (channel : ChannelShown) → slice_get net.channels c ≡ Some channel → channel.puts ≤ length log

@@ -10,6 +10,7 @@ use self::begin::{discard_bodies, discard_channels};
 use crate::answers::{Thought, Turn};
 use crate::body::Body;
 use crate::channel::Channel;
+use flow_limits::PROCESS_LIMIT;
 use flow_component::{Component, Gate, Wish};
 use flow_model::{Block, Stage};
 use std::marker::Model;
@@ -62,7 +63,7 @@ impl<K: Component> Net<K> {
     /// How many processes it has.
     pub fn processes(&self) -> u32
         ensures count { result ≡ length self.now.bodies }
-        ensures few { result ≤ 128 }
+        ensures few { result ≤ PROCESS_LIMIT }
     {
         self.bodies.len() as u32
     }

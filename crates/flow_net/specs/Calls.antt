@@ -54,7 +54,7 @@ with_process draft name kind = record draft {
   ports = draft.ports ++ (fresh_ports (length draft.processes) true 0 kind.inputs ++ fresh_ports (length draft.processes) false 0 kind.outputs);
 }
 
--- The kind of a new process: its name is new, its kind is there, and there are fewer than 128 processes.
+-- The kind of a new process: its name is new, its kind is there, and there are fewer than PROCESS_LIMIT processes.
 abbrev pub kind_for : List KindSpec → List Begun → List ℕ → List ℕ → Result KindSpec PlanFault
 kind_for kinds processes name kind = do
   new ← refused_if (is_some (process_named processes name)) (SameName name)

@@ -1,5 +1,6 @@
 -- What the components make of their streams, from their first state to their end. (Morrison's components and JavaFBP's; the exact
 -- rules are this project's own.)
+use Rattle.flow_limits.specs.declared.TheConstants.{TURN_LIMIT}
 use Rattle.std.specs.Prelude.{◌≡◌, ◌≢◌, ℕ, List, [], ◌∷◌, ◌++◌, map, ◌+◌, ◌≤◌, Bool, true, false, length, drop, Option, Some, None}
 use Rattle.std.specs.Fmt.{decimal}
 use Rattle.std.specs.List.{flat_map}
@@ -81,7 +82,7 @@ pub record IsCounted (connected : Bool) (x y count : List Tree) : Type 0 where
   pub counted : x ≢ [] → count ≡ text_packet (decimal (normals x)) ∷ []
 
 abbrev pub CountMeaning : Type 0
-CountMeaning = (connected : Bool) (told : List Happening) → EndedRun CountReady CountNext (fresh_count connected) told → StartsBring (λ port. port ≡ 0) told → Wakes 1 [] told → length told ≤ 8388608
+CountMeaning = (connected : Bool) (told : List Happening) → EndedRun CountReady CountNext (fresh_count connected) told → StartsBring (λ port. port ≡ 0) told → Wakes 1 [] told → length told ≤ TURN_LIMIT
     → IsCounted connected (got 0 told) (sent 0 told) (sent 1 told)
 
 -- A packet, or the bracket that its text names, with the rest of the text.

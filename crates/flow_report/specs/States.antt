@@ -1,4 +1,5 @@
 -- What a report tells of a state of the network machine.
+use Rattle.flow_limits.specs.declared.TheConstants.{PROCESS_LIMIT}
 use Rattle.std.specs.Prelude.{◌≡◌, ◌≢◌, ℕ, ◌≤◌, ◌+◌, ◌++◌, Bool, List, [], ◌∷◌, map, length, sum_by, Option, Some, None}
 use Rattle.flow_packet.specs.Held.{Held}
 use Rattle.flow_component.specs.declared.Answer.{Answer}
@@ -55,5 +56,5 @@ pub record TellsOf {K : Type 0} (plan : Network) (s : State K) (told : Told) : T
 abbrev pub ReportsTell : {K : Type 0} → (K → Shape) → (K → ℕ → Bool) → (K → Held → Answer → Type 0) → Type 0
 ReportsTell {K} shape_of uses ready =
     (plan : Network) (net : NetValue K) (s : State K)
-    → Fit shape_of uses ready s → Quiet s → length s.kept.processes ≤ 128 → StandsForOpen (shown_net net) s
+    → Fit shape_of uses ready s → Quiet s → length s.kept.processes ≤ PROCESS_LIMIT → StandsForOpen (shown_net net) s
     → TellsOf plan s (told_of plan net.bodies)
