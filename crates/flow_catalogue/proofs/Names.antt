@@ -15,7 +15,7 @@ use Rattle.flow_catalogue.specs.declared.table.StdKind.{StdKind}
 use Rattle.flow_catalogue.specs.declared.table.StdKind.TheVariants as kinds
 use Rattle.flow_catalogue.specs.declared.standard.Std.{Std}
 use Rattle.flow_catalogue.specs.Kinds.{name_of, all_kinds}
-use Rattle.flow_catalogue.specs.Processes.{first_part, given, IsMade}
+use Rattle.flow_catalogue.specs.Processes.{first_component, given, IsMade}
 
 -- each kind stands in the table
 pub place-of : (kind : StdKind) → (i : ℕ) × (slice_get all_kinds i ≡ Some kind)
@@ -76,7 +76,7 @@ name_of-same k l e =
     cc
 
 -- the component that is made is that of the process's kind
-pub IsMade-kind : (network : Network) (p : ℕ) (process : Process) (file : List ℕ) (part : Std) (kind : StdKind) → process.kind ≡ name_of kind → IsMade network p process file part → part ≡ first_part kind (given network p process) file
-IsMade-kind network p process file part kind named made =
+pub IsMade-kind : (network : Network) (p : ℕ) (process : Process) (file : List ℕ) (component : Std) (kind : StdKind) → process.kind ≡ name_of kind → IsMade network p process file component → component ≡ first_component kind (given network p process) file
+IsMade-kind network p process file component kind named made =
     let same : made.kind ≡ kind = name_of-same made.kind kind (sym made.named ∙ named) in
-    made.is ∙ ap (λ (k : StdKind). first_part k (given network p process) file) same
+    made.is ∙ ap (λ (k : StdKind). first_component k (given network p process) file) same

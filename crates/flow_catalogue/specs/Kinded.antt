@@ -13,6 +13,6 @@ pub record Kinded (K : Type 0) : Type 1 where
   pub ready : K → Held → Answer → Type 0
   pub next : K → Held → Answer → Outcome K
   pub written : K → Option (List ℕ)
-  pub obeys : (part : K) (held : Held) (answer : Answer) (outcome : Outcome K) → ready part held answer → outcome ≡ next part held answer → Obeys (shape part) (uses part) held outcome
-  pub stays_ready : (part : K) (held : Held) (answer : Answer) (outcome : Outcome K) → ready part held answer → outcome ≡ next part held answer → StaysReady ready outcome
-  pub steady : (part : K) (held : Held) (answer : Answer) (outcome : Outcome K) → outcome ≡ next part held answer → IsSteady shape uses part outcome
+  pub obeys : (component : K) (held : Held) (answer : Answer) (outcome : Outcome K) → ready component held answer → outcome ≡ next component held answer → Obeys (shape component) (uses component) held outcome
+  pub stays_ready : (component : K) (held : Held) (answer : Answer) (outcome : Outcome K) → ready component held answer → outcome ≡ next component held answer → StaysReady ready outcome
+  pub steady : (component : K) (held : Held) (answer : Answer) (outcome : Outcome K) → outcome ≡ next component held answer → IsSteady shape uses component outcome

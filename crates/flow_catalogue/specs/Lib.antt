@@ -1,5 +1,5 @@
 pub mod Kinded
-pub mod Parts
+pub mod Components
 pub mod Std
 pub mod StdLaws
 pub mod Rows

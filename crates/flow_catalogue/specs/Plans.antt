@@ -6,7 +6,7 @@ use Rattle.flow_plan.specs.Valid.{IsValid}
 use Rattle.flow_net.specs.Over.{IsOver}
 use Rattle.flow_catalogue.specs.declared.table.StdKind.{StdKind}
 use Rattle.flow_catalogue.specs.Kinds.{std_kinds}
-use Rattle.flow_catalogue.specs.Processes.{IsStandard, IsOfKind, Fits, first_part, given}
+use Rattle.flow_catalogue.specs.Processes.{IsStandard, IsOfKind, Fits, first_component, given}
 
 -- In a valid plan over the standard kinds each process is a standard one.
 abbrev pub OverIsStandard : Type 0
@@ -14,4 +14,4 @@ OverIsStandard = (plan : Network) → IsValid plan → IsOver std_kinds plan →
 
 -- What a process of a standard kind makes in its first state fits it.
 abbrev pub FirstFits : Type 0
-FirstFits = (plan : Network) (p : ℕ) (process : Process) (kind : StdKind) (file : List ℕ) → IsOfKind plan p process kind → Fits plan p process (first_part kind (given plan p process) file)
+FirstFits = (plan : Network) (p : ℕ) (process : Process) (kind : StdKind) (file : List ℕ) → IsOfKind plan p process kind → Fits plan p process (first_component kind (given plan p process) file)

@@ -21,7 +21,7 @@ use Rattle.flow_streams.specs.Meanings.{fresh_collate}
 use Rattle.flow_catalogue.specs.declared.table.StdKind.{StdKind}
 use Rattle.flow_catalogue.specs.declared.table.StdKind.TheVariants as kinds
 use Rattle.flow_catalogue.specs.declared.standard.Std.{Std}
-use Rattle.flow_catalogue.specs.declared.standard.Std.TheVariants as parts
+use Rattle.flow_catalogue.specs.declared.standard.Std.TheVariants as components
 use Rattle.flow_catalogue.specs.Rows.{IsCount, count_on, option_of, HasOption, needs}
 use Rattle.flow_catalogue.specs.Kinds.{name_of, spec_of}
 use Rattle.flow_catalogue.specs.Std.{std_shape, std_uses, StdReady}
@@ -66,37 +66,38 @@ pub record Given : Type 0 where
   pub option : List ℕ
   pub connected : ℕ → Bool
 
+-- All that a component is made of, read off the plan.
 abbrev pub given : Network → ℕ → Process → Given
 given network p process = record { inputs = process.inputs; outputs = process.outputs; option = option_text process.options; connected = is_connected network p }
 
 -- The component of a process of this kind in its first state, on this file where it reads one.
-abbrev pub first_part : StdKind → Given → List ℕ → Std
-first_part kinds.ReadLines given file = parts.ReadLines (lines file)
-first_part kinds.WriteLines given file = parts.WriteLines []
-first_part kinds.Passthru given file = parts.Passthru (record {})
-first_part kinds.Words given file = parts.Words words_parts.Waiting
-first_part kinds.Fill given file = parts.Fill (fresh_fill (number_of given.option))
-first_part kinds.Brackets given file = parts.Brackets (record {})
-first_part kinds.Copy given file = parts.Copy (record { count = given.outputs; place = copy_places.Waiting })
-first_part kinds.Concat given file = parts.Concat (record { count = given.inputs; at = 0 })
-first_part kinds.Collate given file = parts.Collate (fresh_collate (fields_of given.option) given.inputs)
-first_part kinds.Discard given file = parts.Discard (record {})
-first_part kinds.Bundle given file = parts.Bundle bundle_parts.Outside
-first_part kinds.Unbundle given file = parts.Unbundle unbundle_parts.Waiting
-first_part kinds.Hoard given file = parts.Hoard (record {})
-first_part kinds.Count given file = parts.Count (fresh_count (given.connected 0))
-first_part kinds.LoadBalance given file = parts.LoadBalance (record { count = given.outputs; depth = 0; chosen = 0; place = load_places.Waiting })
-first_part kinds.Select given file = parts.Select (record { rejects = given.connected 1; place = select_places.Waiting })
+abbrev pub first_component : StdKind → Given → List ℕ → Std
+first_component kinds.ReadLines given file = components.ReadLines (lines file)
+first_component kinds.WriteLines given file = components.WriteLines []
+first_component kinds.Passthru given file = components.Passthru (record {})
+first_component kinds.Words given file = components.Words words_parts.Waiting
+first_component kinds.Fill given file = components.Fill (fresh_fill (number_of given.option))
+first_component kinds.Brackets given file = components.Brackets (record {})
+first_component kinds.Copy given file = components.Copy (record { count = given.outputs; place = copy_places.Waiting })
+first_component kinds.Concat given file = components.Concat (record { count = given.inputs; at = 0 })
+first_component kinds.Collate given file = components.Collate (fresh_collate (fields_of given.option) given.inputs)
+first_component kinds.Discard given file = components.Discard (record {})
+first_component kinds.Bundle given file = components.Bundle bundle_parts.Outside
+first_component kinds.Unbundle given file = components.Unbundle unbundle_parts.Waiting
+first_component kinds.Hoard given file = components.Hoard (record {})
+first_component kinds.Count given file = components.Count (fresh_count (given.connected 0))
+first_component kinds.LoadBalance given file = components.LoadBalance (record { count = given.outputs; depth = 0; chosen = 0; place = load_places.Waiting })
+first_component kinds.Select given file = components.Select (record { rejects = given.connected 1; place = select_places.Waiting })
 
 -- The component is that of process p, in its first state on this file.
-pub record IsMade (network : Network) (p : ℕ) (process : Process) (file : List ℕ) (part : Std) : Type 0 where
+pub record IsMade (network : Network) (p : ℕ) (process : Process) (file : List ℕ) (component : Std) : Type 0 where
   pub kind : StdKind
   pub named : process.kind ≡ name_of kind
-  pub is : part ≡ first_part kind (given network p process) file
+  pub is : component ≡ first_component kind (given network p process) file
 
 -- The component fits process p: it has its numbers of inputs and outputs, each output that it uses has its connection, and it can start with empty hands.
-pub record Fits (network : Network) (p : ℕ) (process : Process) (part : Std) : Type 0 where
-  pub inputs : (std_shape part).inputs ≡ process.inputs
-  pub outputs : (std_shape part).outputs ≡ process.outputs
-  pub uses : (output : ℕ) → IsTrue (std_uses part output) → HasSender network p output
-  pub starts : CanStart (StdReady part)
+pub record Fits (network : Network) (p : ℕ) (process : Process) (component : Std) : Type 0 where
+  pub inputs : (std_shape component).inputs ≡ process.inputs
+  pub outputs : (std_shape component).outputs ≡ process.outputs
+  pub uses : (output : ℕ) → IsTrue (std_uses component output) → HasSender network p output
+  pub starts : CanStart (StdReady component)

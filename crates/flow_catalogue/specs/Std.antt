@@ -6,70 +6,74 @@ use Rattle.flow_component.specs.declared.Shape.{Shape}
 use Rattle.flow_component.specs.Laws.{Outcome}
 use Rattle.flow_component.specs.Outcomes.{outcome_as}
 use Rattle.flow_catalogue.specs.declared.standard.Std.{Std}
-use Rattle.flow_catalogue.specs.declared.standard.Std.TheVariants as parts
+use Rattle.flow_catalogue.specs.declared.standard.Std.TheVariants as components
 use Rattle.flow_catalogue.specs.Kinded.{Kinded}
-use Rattle.flow_catalogue.specs.Parts.{read_lines_kind, write_lines_kind, words_kind, fill_kind, brackets_kind, passthru_kind, copy_kind, concat_kind, collate_kind, discard_kind, bundle_kind, unbundle_kind, hoard_kind, count_kind, load_balance_kind, select_kind}
+use Rattle.flow_catalogue.specs.Components.{read_lines_kind, write_lines_kind, words_kind, fill_kind, brackets_kind, passthru_kind, copy_kind, concat_kind, collate_kind, discard_kind, bundle_kind, unbundle_kind, hoard_kind, count_kind, load_balance_kind, select_kind}
 
 -- A component of some kind: its kind, what a component of this kind is as a standard one, and its state.
 pub data Standing : Type 1 where
-  Stands : (K : Type 0) → (kind : Kinded K) → (within : K → Std) → (part : K) → Standing
+  Stands : (K : Type 0) → (kind : Kinded K) → (within : K → Std) → (component : K) → Standing
 
 -- Each variant is a component of its own kind.
 abbrev pub standing : Std → Standing
-standing (parts.ReadLines part) = Stands _ read_lines_kind parts.ReadLines part
-standing (parts.WriteLines part) = Stands _ write_lines_kind parts.WriteLines part
-standing (parts.Words part) = Stands _ words_kind parts.Words part
-standing (parts.Fill part) = Stands _ fill_kind parts.Fill part
-standing (parts.Brackets part) = Stands _ brackets_kind parts.Brackets part
-standing (parts.Passthru part) = Stands _ passthru_kind parts.Passthru part
-standing (parts.Copy part) = Stands _ copy_kind parts.Copy part
-standing (parts.Concat part) = Stands _ concat_kind parts.Concat part
-standing (parts.Collate part) = Stands _ collate_kind parts.Collate part
-standing (parts.Discard part) = Stands _ discard_kind parts.Discard part
-standing (parts.Bundle part) = Stands _ bundle_kind parts.Bundle part
-standing (parts.Unbundle part) = Stands _ unbundle_kind parts.Unbundle part
-standing (parts.Hoard part) = Stands _ hoard_kind parts.Hoard part
-standing (parts.Count part) = Stands _ count_kind parts.Count part
-standing (parts.LoadBalance part) = Stands _ load_balance_kind parts.LoadBalance part
-standing (parts.Select part) = Stands _ select_kind parts.Select part
+standing (components.ReadLines component) = Stands _ read_lines_kind components.ReadLines component
+standing (components.WriteLines component) = Stands _ write_lines_kind components.WriteLines component
+standing (components.Words component) = Stands _ words_kind components.Words component
+standing (components.Fill component) = Stands _ fill_kind components.Fill component
+standing (components.Brackets component) = Stands _ brackets_kind components.Brackets component
+standing (components.Passthru component) = Stands _ passthru_kind components.Passthru component
+standing (components.Copy component) = Stands _ copy_kind components.Copy component
+standing (components.Concat component) = Stands _ concat_kind components.Concat component
+standing (components.Collate component) = Stands _ collate_kind components.Collate component
+standing (components.Discard component) = Stands _ discard_kind components.Discard component
+standing (components.Bundle component) = Stands _ bundle_kind components.Bundle component
+standing (components.Unbundle component) = Stands _ unbundle_kind components.Unbundle component
+standing (components.Hoard component) = Stands _ hoard_kind components.Hoard component
+standing (components.Count component) = Stands _ count_kind components.Count component
+standing (components.LoadBalance component) = Stands _ load_balance_kind components.LoadBalance component
+standing (components.Select component) = Stands _ select_kind components.Select component
 
 -- What its kind says of it: its numbers of inputs and outputs, the outputs that it uses, the answers and hands for which it is ready, what it comes to, and the
 -- bytes of its file.
 abbrev pub shape_standing : Standing → Shape
-shape_standing (Stands K kind within part) = kind.shape part
+shape_standing (Stands K kind within component) = kind.shape component
 
+-- The outputs that it uses are those that its kind says.
 abbrev pub uses_standing : Standing → ℕ → Bool
-uses_standing (Stands K kind within part) = kind.uses part
+uses_standing (Stands K kind within component) = kind.uses component
 
+-- It is ready where its kind says so.
 abbrev pub ReadyStanding : Standing → Held → Answer → Type 0
-ReadyStanding (Stands K kind within part) held answer = kind.ready part held answer
+ReadyStanding (Stands K kind within component) held answer = kind.ready component held answer
 
+-- What it comes to is what its kind says, as a standard component.
 abbrev pub next_standing : Standing → Held → Answer → Outcome Std
-next_standing (Stands K kind within part) held answer = outcome_as within (kind.next part held answer)
+next_standing (Stands K kind within component) held answer = outcome_as within (kind.next component held answer)
 
+-- What it has written is what its kind says.
 abbrev pub written_standing : Standing → Option (List ℕ)
-written_standing (Stands K kind within part) = kind.written part
+written_standing (Stands K kind within component) = kind.written component
 
 -- How many inputs and outputs it has.
 abbrev pub std_shape : Std → Shape
-std_shape part = shape_standing (standing part)
+std_shape component = shape_standing (standing component)
 
 -- The outputs that it uses.
 abbrev pub std_uses : Std → ℕ → Bool
-std_uses part = uses_standing (standing part)
+std_uses component = uses_standing (standing component)
 
 -- The answers and hands for which it is ready.
 abbrev pub StdReady : Std → Held → Answer → Type 0
-StdReady part held answer = ReadyStanding (standing part) held answer
+StdReady component held answer = ReadyStanding (standing component) held answer
 
 -- What it comes to.
 abbrev pub std_next : Std → Held → Answer → Outcome Std
-std_next part held answer = next_standing (standing part) held answer
+std_next component held answer = next_standing (standing component) held answer
 
 -- It comes to this alone.
 abbrev pub StdNext : Std → Held → Answer → Outcome Std → Type 0
-StdNext part held answer outcome = outcome ≡ std_next part held answer
+StdNext component held answer outcome = outcome ≡ std_next component held answer
 
 -- The bytes of a WriteLines.
 abbrev pub written_of : Std → Option (List ℕ)
-written_of part = written_standing (standing part)
+written_of component = written_standing (standing component)

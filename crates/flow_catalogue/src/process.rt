@@ -4,7 +4,7 @@ ghost use Rattle.std.specs.Prelude.{◌≡◌, ◌≤◌, ◌∷◌, [], Some, I
 ghost use Rattle.flow_text.specs.Text.{number_of};
 ghost use Rattle.flow_streams.specs.Meanings.{fresh_collate};
 ghost use Rattle.flow_catalogue.specs.Rows.{IsCount, Elements, HasOption};
-ghost use Rattle.flow_catalogue.specs.Processes.{IsStandard, IsOfKind, IsMade, Fits, first_part, given, fields_of, option_text};
+ghost use Rattle.flow_catalogue.specs.Processes.{IsStandard, IsOfKind, IsMade, Fits, first_component, given, fields_of, option_text};
 ghost use Rattle.flow_catalogue.specs.Files.{UsesFile, NamesFile};
 
 use crate::options::{fields, is_connected, number as number_in, option_text};
@@ -54,7 +54,7 @@ fn line_size(process: &Process) -> u32
     ensures least { 1 ≤ result }
     ensures most { result ≤ TEXT_LIMIT }
 {
-    number_in(option_text(process), 1, TEXT_LIMIT) as u32
+    number_in(option_text(process), 1, TEXT_LIMIT as u64) as u32
 }
 
 /// The file that a process reads or writes; none where its kind has none. Takes no memory.
@@ -74,14 +74,14 @@ pub fn file_of(plan: &Plan, process: u32) -> Option<FileUse<'_>>
 fn collate(alloc: Global, process: &Process) -> Result<Collate, AllocError>
     requires fields { HasOption (Some PortClass.Fields) process.now.options }
     requires inputs { IsCount Elements process.now.inputs }
-    ensures { IfOk result (λ part. part ≡ fresh_collate (fields_of (option_text process.now.options)) process.now.inputs) }
+    ensures { IfOk result (λ component. component ≡ fresh_collate (fields_of (option_text process.now.options)) process.now.inputs) }
 {
     let fields = fields(alloc, option_text(process))?;
     Ok(Collate::new(fields, process.inputs))
 }
 
 // The component of a process of this kind, in its first state.
-fn first_part(
+fn first_component(
     alloc: Global,
     plan: &Plan,
     number: u32,
@@ -90,7 +90,7 @@ fn first_part(
     file: Vec<u8>,
 ) -> Result<Std, AllocError>
     requires { IsOfKind plan.now number process.now kind }
-    ensures { IfOk result (λ part. part ≡ first_part kind (given plan.now number process.now) file.items) }
+    ensures { IfOk result (λ component. component ≡ first_component kind (given plan.now number process.now) file.items) }
 {
     match kind {
         StdKind::ReadLines => Ok(Std::ReadLines(ReadLines::new(file))),
@@ -116,11 +116,11 @@ fn first_part(
 /// other kind they are let go.
 pub fn make(alloc: Global, plan: &Plan, process: u32, file: Vec<u8>) -> Result<Std, AllocError>
     requires { IsStandard plan.now process }
-    ensures made { IfOk result (λ part. IfSome (slice_get plan.now.processes process) (λ p. IsMade plan.now process p file.items part)) }
-    ensures fits { IfOk result (λ part. IfSome (slice_get plan.now.processes process) (λ p. Fits plan.now process p part)) }
+    ensures made { IfOk result (λ component. IfSome (slice_get plan.now.processes process) (λ p. IsMade plan.now process p file.items component)) }
+    ensures fits { IfOk result (λ component. IfSome (slice_get plan.now.processes process) (λ p. Fits plan.now process p component)) }
 {
     a_first_component_fits();
     let kind = kind_of(plan, process);
     let of = &plan.processes()[process as usize];
-    first_part(alloc, plan, process, of, kind, file)
+    first_component(alloc, plan, process, of, kind, file)
 }

@@ -42,7 +42,7 @@ impl Std {
         ensures { option_copied result ≡ written_of self.now }
     {
         match self {
-            Std::WriteLines(part) => Some(part.written()),
+            Std::WriteLines(component) => Some(component.written()),
             _ => None,
         }
     }
@@ -67,47 +67,47 @@ impl Component for Std {
 
     ghost steady = { std_steady };
 
-    ghost has_outcome = { λ part held answer _. (std_next part held answer, refl) };
+    ghost has_outcome = { λ component held answer _. (std_next component held answer, refl) };
 
     fn shape(&self) -> Shape {
         match self {
-            Std::ReadLines(part) => part.shape(),
-            Std::WriteLines(part) => part.shape(),
-            Std::Words(part) => part.shape(),
-            Std::Fill(part) => part.shape(),
-            Std::Brackets(part) => part.shape(),
-            Std::Passthru(part) => part.shape(),
-            Std::Copy(part) => part.shape(),
-            Std::Concat(part) => part.shape(),
-            Std::Collate(part) => part.shape(),
-            Std::Discard(part) => part.shape(),
-            Std::Bundle(part) => part.shape(),
-            Std::Unbundle(part) => part.shape(),
-            Std::Hoard(part) => part.shape(),
-            Std::Count(part) => part.shape(),
-            Std::LoadBalance(part) => part.shape(),
-            Std::Select(part) => part.shape(),
+            Std::ReadLines(component) => component.shape(),
+            Std::WriteLines(component) => component.shape(),
+            Std::Words(component) => component.shape(),
+            Std::Fill(component) => component.shape(),
+            Std::Brackets(component) => component.shape(),
+            Std::Passthru(component) => component.shape(),
+            Std::Copy(component) => component.shape(),
+            Std::Concat(component) => component.shape(),
+            Std::Collate(component) => component.shape(),
+            Std::Discard(component) => component.shape(),
+            Std::Bundle(component) => component.shape(),
+            Std::Unbundle(component) => component.shape(),
+            Std::Hoard(component) => component.shape(),
+            Std::Count(component) => component.shape(),
+            Std::LoadBalance(component) => component.shape(),
+            Std::Select(component) => component.shape(),
         }
     }
 
     fn resume(&mut self, hands: &mut Hands, answer: Answer) -> Result<Wish, Stop> {
         match self {
-            Std::ReadLines(part) => part.resume(hands, answer),
-            Std::WriteLines(part) => part.resume(hands, answer),
-            Std::Words(part) => part.resume(hands, answer),
-            Std::Fill(part) => part.resume(hands, answer),
-            Std::Brackets(part) => part.resume(hands, answer),
-            Std::Passthru(part) => part.resume(hands, answer),
-            Std::Copy(part) => part.resume(hands, answer),
-            Std::Concat(part) => part.resume(hands, answer),
-            Std::Collate(part) => part.resume(hands, answer),
-            Std::Discard(part) => part.resume(hands, answer),
-            Std::Bundle(part) => part.resume(hands, answer),
-            Std::Unbundle(part) => part.resume(hands, answer),
-            Std::Hoard(part) => part.resume(hands, answer),
-            Std::Count(part) => part.resume(hands, answer),
-            Std::LoadBalance(part) => part.resume(hands, answer),
-            Std::Select(part) => part.resume(hands, answer),
+            Std::ReadLines(component) => component.resume(hands, answer),
+            Std::WriteLines(component) => component.resume(hands, answer),
+            Std::Words(component) => component.resume(hands, answer),
+            Std::Fill(component) => component.resume(hands, answer),
+            Std::Brackets(component) => component.resume(hands, answer),
+            Std::Passthru(component) => component.resume(hands, answer),
+            Std::Copy(component) => component.resume(hands, answer),
+            Std::Concat(component) => component.resume(hands, answer),
+            Std::Collate(component) => component.resume(hands, answer),
+            Std::Discard(component) => component.resume(hands, answer),
+            Std::Bundle(component) => component.resume(hands, answer),
+            Std::Unbundle(component) => component.resume(hands, answer),
+            Std::Hoard(component) => component.resume(hands, answer),
+            Std::Count(component) => component.resume(hands, answer),
+            Std::LoadBalance(component) => component.resume(hands, answer),
+            Std::Select(component) => component.resume(hands, answer),
         }
     }
 }

@@ -4,8 +4,8 @@ ghost use Rattle.std.specs.Prelude.{◌≡◌, ◌≢◌, ◌∷◌, [], IfOk, M
 ghost use Rattle.flow_catalogue.specs.Kinds.{name_of, row, spec_of, std_kinds};
 ghost use Rattle.flow_catalogue.specs.Rows.{option_port, stream_port, array_port, optional_port};
 
-use flow_limits::TEXT_LIMIT;
 use flow_items::{Items, Text};
+use flow_limits::TEXT_LIMIT;
 use flow_net::{KindSpec, PortClass, PortSpec};
 use std::alloc::{AllocError, Global};
 
@@ -199,7 +199,7 @@ fn fill(alloc: Global) -> Result<KindSpec, AllocError>
 {
     let sizes = PortClass::Number {
         least: 1,
-        most: TEXT_LIMIT as u32,
+        most: TEXT_LIMIT as u64,
     };
     let size = option(alloc, b"SIZE", sizes)?;
     let input = stream(alloc, b"IN")?;

@@ -14,7 +14,7 @@ use Rattle.flow_journal.specs.declared.merge.Journal.{Journal}
 use Rattle.flow_catalogue.specs.declared.standard.Std.{Std}
 use Rattle.flow_cli.specs.Step.{Filled, OnlyReads, FailsToRead, MayRead, Unended, IsRead, HoldsMore, whole, partly}
 use Rattle.flow_cli.specs.Networks.{ReadsAs}
-use Rattle.flow_cli.specs.Parts.{inputs_of, AreRead, IsNext, StopsAtFile, ReadsParts}
+use Rattle.flow_cli.specs.Components.{inputs_of, AreRead, IsNext, StopsAtFile, ReadsComponents}
 use Rattle.flow_cli.specs.Causes.{Work, Asks, IsCommand, IsEmptyJournal, IsFile, IsUntouched, IsNextFile, HasCause}
 use Rattle.flow_cli.specs.Prepare.{Loads, StopsCommand, IsReady}
 use Rattle.flow_cli.specs.declared.net_file.NetFile.{NetFile}
@@ -90,7 +90,7 @@ module _ (old mid new : Outside) (name net : Name) (text : NetText) (plan : Netw
   behind words asks inputs input read same is =
       inr (asks, (net, text, plan, file, (inputs, subst (λ (n : Name). IsNext old.files limit plan inputs n) (sym same) (subst (λ (t : Option Files). IsNext t limit plan inputs input) told is), refl)))
 
-  pub inputs-stopped : (stop : Stop) → ReadsParts mid new plan (Err stop) limit → (words : List (String Global)) (journal : Journal) → Asks words (Run name) → IsEmptyJournal journal
+  pub inputs-stopped : (stop : Stop) → ReadsComponents mid new plan (Err stop) limit → (words : List (String Global)) (journal : Journal) → Asks words (Run name) → IsEmptyJournal journal
       → HasCause (so_far words old new journal) limit stop
   inputs-stopped (ReadFault read) r words journal asks empty = record {
     name = name;
@@ -118,13 +118,13 @@ module _ (old mid new : Outside) (name net : Name) (text : NetText) (plan : Netw
   inputs-stopped (Refused refusal) r words journal asks empty = absurd r.3
   inputs-stopped (WriteFault written) r words journal asks empty = absurd r.3
 
-  pub ready : (parts : Vec Std Global) → ReadsParts mid new plan (Ok parts) limit → IsReady old new limit name plan parts.items
-  ready parts r = record {
+  pub ready : (components : Vec Std Global) → ReadsComponents mid new plan (Ok components) limit → IsReady old new limit name plan components.items
+  ready components r = record {
     net = net;
     text = text;
     file = file;
     given = r.0;
     inputs = subst (λ (t : Option Files). AreRead t limit (inputs_of plan.processes r.0)) told r.2;
     reads = OnlyReads-trans old mid new (whole (name, net) ∷ []) (map whole (inputs_of plan.processes r.0)) only r.1;
-    are_parts = r.3;
+    are_components = r.3;
   }

@@ -16,18 +16,18 @@ use Rattle.flow_report.specs.States.{ReportsTell}
 use Rattle.flow_report.proofs.Shown.{processes-shown}
 use Rattle.flow_cli.specs.Networks.{IsStandardPlan}
 use Rattle.flow_cli.specs.Step.{Filled}
-use Rattle.flow_cli.specs.Parts.{written_by}
+use Rattle.flow_cli.specs.Components.{written_by}
 use Rattle.flow_cli.specs.Runs.{IsToldOfNet, Leaves, machine_journal, outputs_at, outputs_from, bytes_at, bytes_in}
 use Rattle.flow_cli.specs.declared.engine.Told.{Told}
 use Rattle.flow_cli.specs.declared.engine.Ran.{Ran}
 
 -- the bytes that each process wrote are those of its body
 bytes-same : (bodies : List (BodyValue Std)) (xs : List (Process Std)) (p : ℕ) → map (λ b. b.process) bodies ≡ xs
-    → unwrap_or (option_and_then (λ (b : BodyValue Std). written_of b.process.part) (slice_get bodies p)) [] ≡ unwrap_or (option_and_then (λ (x : Process Std). written_of x.part) (slice_get xs p)) []
+    → unwrap_or (option_and_then (λ (b : BodyValue Std). written_of b.process.component) (slice_get bodies p)) [] ≡ unwrap_or (option_and_then (λ (x : Process Std). written_of x.component) (slice_get xs p)) []
 bytes-same [] [] p same = refl
 bytes-same [] (x ∷ xs) p same = absurd cc
 bytes-same (b ∷ bodies) [] p same = absurd cc
-bytes-same (b ∷ bodies) (x ∷ xs) zero same = let h : b.process ≡ x = cc in ap (λ (y : Process Std). unwrap_or (written_of y.part) []) h
+bytes-same (b ∷ bodies) (x ∷ xs) zero same = let h : b.process ≡ x = cc in ap (λ (y : Process Std). unwrap_or (written_of y.component) []) h
 bytes-same (b ∷ bodies) (x ∷ xs) (suc p) same = let h : map (λ (b : BodyValue Std). b.process) bodies ≡ xs = cc in bytes-same bodies xs p h
 
 -- the files of two tellings of the same bytes are the same
@@ -38,9 +38,9 @@ outputs-same one other same p (x ∷ xs) =
     let rest = outputs-same one other same (p + 1) xs in
     ap (λ (l : List Filled). l ++ outputs_from one (p + 1) xs) first ∙ ap (λ (l : List Filled). outputs_at other p x ++ l) rest
 
-leaves-one : (plan : Network) (parts : List Std) (net : NetValue Std) (told : Told) → IsStandardPlan plan → ReportsTell std_shape std_uses StdReady
-    → ComesOfRun std_shape std_uses StdReady StdNext plan parts (machine_journal told.journal) net → IsToldOfNet plan net told → Leaves plan parts net told
-leaves-one plan parts net told standard tell comes is =
+leaves-one : (plan : Network) (components : List Std) (net : NetValue Std) (told : Told) → IsStandardPlan plan → ReportsTell std_shape std_uses StdReady
+    → ComesOfRun std_shape std_uses StdReady StdNext plan components (machine_journal told.journal) net → IsToldOfNet plan net told → Leaves plan components net told
+leaves-one plan components net told standard tell comes is =
     let last = comes.last in
     let procs = processes-shown last.past.dropped 0 net.bodies last.kept.processes (ap (λ v. v.bodies) comes.stands) in
     let few : length last.kept.processes ≤ 128 = omega (arith, comes.count, standard.valid.wired.few_processes) in
@@ -57,10 +57,10 @@ leaves-one plan parts net told standard tell comes is =
     }
 
 -- whatever the telling answers
-pub leaves : (plan : Network) (parts : List Std) (net : NetValue Std) (result : Result Ran AllocError) → IsStandardPlan plan → ReportsTell std_shape std_uses StdReady
-    → ((told : Told) → IsToldOfNet plan net told → ComesOfRun std_shape std_uses StdReady StdNext plan parts (machine_journal told.journal) net)
+pub leaves : (plan : Network) (components : List Std) (net : NetValue Std) (result : Result Ran AllocError) → IsStandardPlan plan → ReportsTell std_shape std_uses StdReady
+    → ((told : Told) → IsToldOfNet plan net told → ComesOfRun std_shape std_uses StdReady StdNext plan components (machine_journal told.journal) net)
     → IfOk result (λ ran. ran.net ≡ net) → IfOk result (λ ran. IsToldOfNet plan net ran.told)
-    → IfOk result (λ ran. Leaves plan parts ran.net ran.told)
-leaves plan parts net (Ok ran) standard tell comes same told =
-    subst (λ (n : NetValue Std). Leaves plan parts n ran.told) (sym same) (leaves-one plan parts net ran.told standard tell (comes ran.told told) told)
-leaves plan parts net (Err e) standard tell comes same told = tt
+    → IfOk result (λ ran. Leaves plan components ran.net ran.told)
+leaves plan components net (Ok ran) standard tell comes same told =
+    subst (λ (n : NetValue Std). Leaves plan components n ran.told) (sym same) (leaves-one plan components net ran.told standard tell (comes ran.told told) told)
+leaves plan components net (Err e) standard tell comes same told = tt

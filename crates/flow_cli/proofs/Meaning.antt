@@ -14,7 +14,7 @@ use Rattle.flow_report.specs.declared.report.Verdict.TheVariants.{Finished, Fini
 use Rattle.flow_report.specs.States.{IsVerdict}
 use Rattle.flow_meanings.specs.Composition.{AreFirst, FinishedComposes, wrote_in}
 use Rattle.flow_meanings.proofs.Every.{made-first}
-use Rattle.flow_cli.specs.Parts.{AreParts}
+use Rattle.flow_cli.specs.Components.{AreComponents}
 use Rattle.flow_cli.specs.After.{Prints, verdict_status}
 use Rattle.flow_cli.specs.Runs.{machine_journal, net_outputs}
 use Rattle.flow_cli.specs.Statuses.{IsFinished as IsFinishedStatus, IsOver}
@@ -26,7 +26,7 @@ use Rattle.flow_cli.proofs.Befores.{so_far}
 use Rattle.flow_cli.specs.declared.engine.Ran.{Ran}
 use Rattle.flow_cli.specs.Step.{Filled}
 use Rattle.flow_cli.specs.Top.{HasRun, Finishes}
-use Rattle.flow_cli.proofs.Fitting.{parts-fit}
+use Rattle.flow_cli.proofs.Fitting.{components-fit}
 use Rattle.flow_cli.proofs.Tops.{stop-not-over}
 
 finished-of : (s : State Std) (verdict : Verdict) → IsVerdict s verdict → IsFinishedStatus (verdict_status verdict) → IsFinished s
@@ -36,8 +36,8 @@ finished-of s Deadlock is e = absurd e
 finished-of s Failed is e = absurd e
 finished-of s Running is e = absurd e
 
-are-first : (plan : Network) (given : List (List ℕ)) (ks : List Std) → AreParts plan given ks → AreFirst ks
-are-first plan given ks are p part at = let is = are.each p part at in made-first plan p is.2.process is.0 part is.2.made
+are-first : (plan : Network) (given : List (List ℕ)) (ks : List Std) → AreComponents plan given ks → AreFirst ks
+are-first plan given ks are p component at = let is = are.each p component at in made-first plan p is.2.process is.0 component is.2.made
 
 pub finished-over : (status : Status) → IsFinishedStatus status → IsOver status
 finished-over statuses.Finished is = is
@@ -60,7 +60,7 @@ module _ (starts : StartsPlans std_shape std_uses StdReady) (composes : Finished
   left w (inl p) finished =
       let plan = ran.plan in
       let of = has.ready in
-      let well = starts plan has.parts of.file.standard.valid (parts-fit plan has.parts (of.given, of.are_parts)) in
+      let well = starts plan has.components of.file.standard.valid (components-fit plan has.components (of.given, of.are_components)) in
       let ends = finished-of has.leaves.last has.leaves.told_is.report.verdict has.leaves.told_is.tells.verdict (subst IsFinishedStatus (p.0 ∙ ap verdict_status has.leaves.told_is.verdict) finished) in
       inl (
         has.name,
@@ -74,10 +74,10 @@ module _ (starts : StartsPlans std_shape std_uses StdReady) (composes : Finished
           inputs = of.inputs;
           middle = a;
           reads = of.reads;
-          parts = has.parts;
-          are_parts = of.are_parts;
+          components = has.components;
+          are_components = of.are_components;
           wrote = wrote_in has.leaves.last;
-          composes = composes plan has.parts (machine_journal ran.told.journal) has.leaves.last well (are-first plan of.given has.parts of.are_parts) has.leaves.run.schedule.leads ends;
+          composes = composes plan has.components (machine_journal ran.told.journal) has.leaves.last well (are-first plan of.given has.components of.are_components) has.leaves.run.schedule.leads ends;
           writes = subst (λ (l : List Filled). WritesAll a n l) has.leaves.outputs w;
         },
       )

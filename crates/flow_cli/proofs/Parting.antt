@@ -1,4 +1,4 @@
--- The parts of a plan, one after another, and the steps before a run.
+-- The components of a plan, one after another, and the steps before a run.
 use Rattle.std.proofs.Common.{◌≡◌, ◌⊎◌, inl, inr, ℕ, zero, suc, ◌+◌, List, [], ◌∷◌, ◌++◌, length, map, Some, Ok, Err, refl, sym, ◌∙◌, ap, subst, arith, length-append}
 use Rattle.std.proofs.lemmas.List.{map-append}
 use Rattle.std.specs.Prelude.{slice_get}
@@ -11,7 +11,7 @@ use Rattle.flow_plan.specs.Network.{Network}
 use Rattle.flow_catalogue.specs.declared.standard.Std.{Std}
 use Rattle.flow_cli.specs.Step.{Filled, OnlyReads, HoldsMore, ReadsFile, whole}
 use Rattle.flow_cli.specs.Stops.{IsReadStop}
-use Rattle.flow_cli.specs.Parts.{read_by, input_of, inputs_of, AreRead, IsPart, IsNext, StopsAtFile, ReadsPart, ReadsParts}
+use Rattle.flow_cli.specs.Components.{read_by, input_of, inputs_of, AreRead, IsComponent, IsNext, StopsAtFile, ReadsComponent, ReadsComponents}
 use Rattle.flow_cli.specs.declared.stop.Stop.{Stop}
 use Rattle.flow_cli.specs.declared.stop.Stop.TheVariants.{Words, Refused, ReadFault, WriteFault, TooLong, NoMemory}
 use Rattle.flow_cli.proofs.Steps.{no-reads, may-read, may-fail-to-read, MayRead-trans}
@@ -40,13 +40,13 @@ read-stopped old new name reads.NoMemory (WriteFault written) limit r is = absur
 read-stopped old new name reads.NoMemory (TooLong read) limit r is = absurd is
 
 -- The files of the first processes were read, and these are their parts.
-pub record SoFar (old new : Outside) (plan : Network) (limit k : ℕ) (parts : List Std) : Type 0 where
+pub record SoFar (old new : Outside) (plan : Network) (limit k : ℕ) (components : List Std) : Type 0 where
   pub given : List (List ℕ)
   pub each_given : length given ≡ k
   pub reads : OnlyReads old new (map whole (inputs_of plan.processes given))
   pub were_read : AreRead old.files limit (inputs_of plan.processes given)
-  pub count : length parts ≡ k
-  pub each : (p : ℕ) (part : Std) → slice_get parts p ≡ Some part → (bytes : List ℕ) × (slice_get given p ≡ Some bytes) × IsPart plan p bytes part
+  pub count : length components ≡ k
+  pub each : (p : ℕ) (component : Std) → slice_get components p ≡ Some component → (bytes : List ℕ) × (slice_get given p ≡ Some bytes) × IsComponent plan p bytes component
 
 pub nothing-so-far : (old : Outside) (plan : Network) (limit : ℕ) → SoFar old old plan limit 0 []
 nothing-so-far old plan limit = record {
@@ -55,7 +55,7 @@ nothing-so-far old plan limit = record {
   reads = subst (λ (l : List Filled). OnlyReads old old (map whole l)) (sym (inputs-none plan.processes)) (no-reads old old refl);
   were_read = subst (λ (l : List Filled). AreRead old.files limit l) (sym (inputs-none plan.processes)) (none-read old.files limit);
   count = refl;
-  each = λ p part at. absurd cc;
+  each = λ p component at. absurd cc;
 }
 
 pushed : {X : Type 0} (xs : List X) (y z : X) (p : ℕ) → slice_get (xs ++ y ∷ []) p ≡ Some z → (slice_get xs p ≡ Some z) ⊎ ((p ≡ length xs) × (z ≡ y))
@@ -68,9 +68,9 @@ pushed (x ∷ xs) y z (suc p) at = go (pushed xs y z p at) where
   go (inr h) = inr (ap suc h.0, h.1)
 
 -- one process more
-pub more-so-far : (old mid new : Outside) (plan : Network) (limit k : ℕ) (parts : List Std) (part : Std) → SoFar old mid plan limit k parts → ReadsPart mid new plan k (Ok part) limit
-    → SoFar old new plan limit (k + 1) (parts ++ part ∷ [])
-more-so-far old mid new plan limit k parts part s r =
+pub more-so-far : (old mid new : Outside) (plan : Network) (limit k : ℕ) (components : List Std) (component : Std) → SoFar old mid plan limit k components → ReadsComponent mid new plan k (Ok component) limit
+    → SoFar old new plan limit (k + 1) (components ++ component ∷ [])
+more-so-far old mid new plan limit k components component s r =
     let process = r.0 in
     let bytes = r.1 in
     let at : slice_get plan.processes (length s.given) ≡ Some process = ap (λ n. slice_get plan.processes n) s.each_given ∙ r.2 in
@@ -83,17 +83,17 @@ more-so-far old mid new plan limit k parts part s r =
           (OnlyReads-trans old mid new (map whole (inputs_of plan.processes s.given)) (map whole (input_of process bytes)) s.reads r.3);
       were_read = subst (λ (l : List Filled). AreRead old.files limit l) (sym inputs)
           (are-read-append old.files limit (inputs_of plan.processes s.given) (input_of process bytes) s.were_read (subst (λ (t : Option Files). AreRead t limit (input_of process bytes)) told r.4));
-      count = omega (arith, length-append parts (part ∷ []), s.count);
-      each = λ p one at. each p one (pushed parts part one p at);
+      count = omega (arith, length-append components (component ∷ []), s.count);
+      each = λ p one at. each p one (pushed components component one p at);
     } where
-      each : (p : ℕ) (one : Std) → (slice_get parts p ≡ Some one) ⊎ ((p ≡ length parts) × (one ≡ part)) → (b : List ℕ) × (slice_get (s.given ++ r.1 ∷ []) p ≡ Some b) × IsPart plan p b one
+      each : (p : ℕ) (one : Std) → (slice_get components p ≡ Some one) ⊎ ((p ≡ length components) × (one ≡ component)) → (b : List ℕ) × (slice_get (s.given ++ r.1 ∷ []) p ≡ Some b) × IsComponent plan p b one
       each p one (inl at) = let e = s.each p one at in (e.0, get-more s.given r.1 e.0 p e.1, e.2)
       each p one (inr at) =
           let here : p ≡ k = at.0 ∙ s.count in
           let place : p ≡ length s.given = here ∙ sym s.each_given in (
             r.1,
             ap (λ n. slice_get (s.given ++ r.1 ∷ []) n) place ∙ get-last s.given r.1,
-            subst (λ (n : ℕ). IsPart plan n r.1 one) (sym here) (subst (λ (o : Std). IsPart plan k r.1 o) (sym at.1) r.5),
+            subst (λ (n : ℕ). IsComponent plan n r.1 one) (sym here) (subst (λ (o : Std). IsComponent plan k r.1 o) (sym at.1) r.5),
           )
 
 -- a stop behind other files
@@ -111,9 +111,9 @@ stopped-behind old mid new earlier name (Refused refusal) limit r s = absurd s
 stopped-behind old mid new earlier name (WriteFault written) limit r s = absurd s
 
 -- the next file is that of process k
-next : (old mid : Outside) (plan : Network) (limit k : ℕ) (parts : List Std) (s : SoFar old mid plan limit k parts) (process : Process) (name : Name)
+next : (old mid : Outside) (plan : Network) (limit k : ℕ) (components : List Std) (s : SoFar old mid plan limit k components) (process : Process) (name : Name)
     → slice_get plan.processes k ≡ Some process → read_by process ≡ name ∷ [] → IsNext old.files limit plan (inputs_of plan.processes s.given) name
-next old mid plan limit k parts s process name there reads = record {
+next old mid plan limit k components s process name there reads = record {
   place = k;
   process = process;
   there = there;
@@ -124,13 +124,13 @@ next old mid plan limit k parts s process name there reads = record {
   were_read = s.were_read;
 }
 
-pub stop-so-far : (old mid new : Outside) (plan : Network) (limit k : ℕ) (parts : List Std) (stop : Stop) → SoFar old mid plan limit k parts → ReadsPart mid new plan k (Err stop) limit
-    → ReadsParts old new plan (Err stop) limit
-stop-so-far old mid new plan limit k parts NoMemory s r = MayRead-trans old mid new (may-read old mid (map whole (inputs_of plan.processes s.given)) s.reads) r
-stop-so-far old mid new plan limit k parts (ReadFault read) s r =
-    (inputs_of plan.processes s.given, r.1, next old mid plan limit k parts s r.0 r.1 r.2 r.3, stopped-behind old mid new (inputs_of plan.processes s.given) r.1 (ReadFault read) limit s.reads r.4)
-stop-so-far old mid new plan limit k parts (TooLong read) s r =
-    (inputs_of plan.processes s.given, r.1, next old mid plan limit k parts s r.0 r.1 r.2 r.3, stopped-behind old mid new (inputs_of plan.processes s.given) r.1 (TooLong read) limit s.reads r.4)
-stop-so-far old mid new plan limit k parts Words s r = absurd r.4
-stop-so-far old mid new plan limit k parts (Refused refusal) s r = absurd r.4
-stop-so-far old mid new plan limit k parts (WriteFault written) s r = absurd r.4
+pub stop-so-far : (old mid new : Outside) (plan : Network) (limit k : ℕ) (components : List Std) (stop : Stop) → SoFar old mid plan limit k components → ReadsComponent mid new plan k (Err stop) limit
+    → ReadsComponents old new plan (Err stop) limit
+stop-so-far old mid new plan limit k components NoMemory s r = MayRead-trans old mid new (may-read old mid (map whole (inputs_of plan.processes s.given)) s.reads) r
+stop-so-far old mid new plan limit k components (ReadFault read) s r =
+    (inputs_of plan.processes s.given, r.1, next old mid plan limit k components s r.0 r.1 r.2 r.3, stopped-behind old mid new (inputs_of plan.processes s.given) r.1 (ReadFault read) limit s.reads r.4)
+stop-so-far old mid new plan limit k components (TooLong read) s r =
+    (inputs_of plan.processes s.given, r.1, next old mid plan limit k components s r.0 r.1 r.2 r.3, stopped-behind old mid new (inputs_of plan.processes s.given) r.1 (TooLong read) limit s.reads r.4)
+stop-so-far old mid new plan limit k components Words s r = absurd r.4
+stop-so-far old mid new plan limit k components (Refused refusal) s r = absurd r.4
+stop-so-far old mid new plan limit k components (WriteFault written) s r = absurd r.4

@@ -6,7 +6,7 @@ use Rattle.std.specs.declared.option.Option.{Option}
 use Rattle.flow_text.specs.Edge.{Outside, Name, Files, Logged, Rose}
 use Rattle.flow_plan.specs.declared.plan.Process.{Process}
 use Rattle.flow_cli.specs.Step.{Filled, OnlyReads, FailsToRead, IsRead}
-use Rattle.flow_cli.specs.Parts.{input_of, inputs_of, AreRead}
+use Rattle.flow_cli.specs.Components.{input_of, inputs_of, AreRead}
 
 -- what was opened before and after
 pub OnlyReads-trans : (a b c : Outside) (xs ys : List Logged) → OnlyReads a b xs → OnlyReads b c ys → OnlyReads a c (xs ++ ys)

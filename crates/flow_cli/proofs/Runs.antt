@@ -25,8 +25,8 @@ module _ (o a n : Outside) (words : List (String Global)) (limit : ℕ) (ran : R
     given = has.ready.given;
     inputs = has.ready.inputs;
     reads = has.ready.reads;
-    parts = has.parts;
-    are_parts = has.ready.are_parts;
+    components = has.components;
+    are_components = has.ready.are_components;
     run = has.leaves.run;
   }
 

@@ -9,7 +9,7 @@ use Rattle.flow_plan.specs.declared.plan.Process.{Process}
 use Rattle.flow_catalogue.specs.Files.{UsesFile}
 use Rattle.flow_text.specs.Edge.{Name}
 use Rattle.flow_cli.specs.Step.{Filled}
-use Rattle.flow_cli.specs.Parts.{written_by, first_option}
+use Rattle.flow_cli.specs.Components.{written_by, first_option}
 use Rattle.flow_cli.specs.Runs.{outputs_at, outputs_from}
 
 step : (wrote : ℕ → List ℕ) (p k : ℕ) (ps : List Process) (process : Process) → slice_get ps k ≡ Some process

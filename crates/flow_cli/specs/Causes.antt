@@ -13,7 +13,7 @@ use Rattle.flow_catalogue.specs.declared.standard.Std.{Std}
 use Rattle.flow_journal.specs.declared.merge.Journal.{Journal}
 use Rattle.flow_cli.specs.Step.{Filled, OnlyReads, FailsToRead, Unended, IsRead, HoldsMore, whole, partly}
 use Rattle.flow_cli.specs.Many.{FailsAt, EndsAt}
-use Rattle.flow_cli.specs.Parts.{inputs_of, AreRead, AreParts, IsNext}
+use Rattle.flow_cli.specs.Components.{inputs_of, AreRead, AreComponents, IsNext}
 use Rattle.flow_cli.specs.Networks.{Holds, RefusedFor, IsStandardPlan}
 use Rattle.flow_cli.specs.Runs.{RunsTo, outputs_of}
 use Rattle.flow_cli.specs.declared.stop.Refusal.{Refusal}
@@ -54,9 +54,9 @@ pub record IsRunOf (w : Work) (limit : ℕ) (name : Name) (plan : Network) (last
   pub given : List (List ℕ)
   pub inputs : AreRead w.before.files limit (inputs_of plan.processes given)
   pub reads : OnlyReads w.before middle (map whole ((name, net) ∷ inputs_of plan.processes given))
-  pub parts : List Std
-  pub are_parts : AreParts plan given parts
-  pub run : RunsTo plan parts w.journal last
+  pub components : List Std
+  pub are_components : AreComponents plan given components
+  pub run : RunsTo plan components w.journal last
 
 -- No turn was made, and no file was created.
 pub record IsUntouched (w : Work) : Type 0 where

@@ -3,7 +3,7 @@ pub mod Causes
 pub mod Many
 pub mod Meant
 pub mod Networks
-pub mod Parts
+pub mod Components
 pub mod Prepare
 pub mod Runs
 pub mod Statuses

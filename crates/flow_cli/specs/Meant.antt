@@ -9,7 +9,7 @@ use Rattle.flow_catalogue.specs.declared.standard.Std.{Std}
 use Rattle.flow_meanings.specs.Composition.{Composes}
 use Rattle.flow_cli.specs.Step.{OnlyReads, whole}
 use Rattle.flow_cli.specs.Many.{WritesAll}
-use Rattle.flow_cli.specs.Parts.{inputs_of, AreRead, AreParts}
+use Rattle.flow_cli.specs.Components.{inputs_of, AreRead, AreComponents}
 use Rattle.flow_cli.specs.Causes.{Work, Asks, IsFile}
 use Rattle.flow_cli.specs.Runs.{outputs_from}
 
@@ -24,10 +24,10 @@ pub record IsMeant (w : Work) (limit : ℕ) (name : Name) : Type 0 where
   pub inputs : AreRead w.before.files limit (inputs_of plan.processes given)
   pub middle : Outside
   pub reads : OnlyReads w.before middle (map whole ((name, net) ∷ inputs_of plan.processes given))
-  pub parts : List Std
-  pub are_parts : AreParts plan given parts
+  pub components : List Std
+  pub are_components : AreComponents plan given components
   pub wrote : ℕ → List ℕ
-  pub composes : Composes plan parts wrote
+  pub composes : Composes plan components wrote
   pub writes : WritesAll middle w.after (outputs_from wrote 0 plan.processes)
 
 -- A run that finished left the files that its network means.

@@ -17,7 +17,7 @@ use Rattle.flow_report.specs.Text.{Told as Report, report_text}
 use Rattle.flow_report.specs.Of.{told_of}
 use Rattle.flow_report.specs.States.{TellsOf}
 use Rattle.flow_cli.specs.Step.{Filled}
-use Rattle.flow_cli.specs.Parts.{written_by}
+use Rattle.flow_cli.specs.Components.{written_by}
 use Rattle.flow_cli.specs.declared.engine.Told.{Told}
 
 -- A journal, as the machine knows it.
@@ -26,7 +26,7 @@ machine_journal journal = record { turns = journal.turns; seen = journal.seen }
 
 -- This is the journal of the run of a plan with these components, and this the state to which it leads.
 abbrev pub RunsTo : Network → List Std → Journal → State Std → Type 0
-RunsTo plan parts journal last = IsRun StdNext plan parts (machine_journal journal) last
+RunsTo plan components journal last = IsRun StdNext plan components (machine_journal journal) last
 
 -- The file that a process writes, with its bytes, if it writes one; where `wrote` says what each process wrote.
 abbrev pub outputs_at : (ℕ → List ℕ) → ℕ → Process → List Filled
@@ -39,7 +39,7 @@ outputs_from wrote p (process ∷ processes) = outputs_at wrote p process ++ out
 
 -- The bytes that process p wrote.
 abbrev pub bytes_in : State Std → ℕ → List ℕ
-bytes_in s p = unwrap_or (option_and_then (λ x. written_of x.part) (slice_get s.kept.processes p)) []
+bytes_in s p = unwrap_or (option_and_then (λ x. written_of x.component) (slice_get s.kept.processes p)) []
 
 -- The files of a state with their bytes, in the order of the processes.
 abbrev pub outputs_of : Network → State Std → List Filled
@@ -52,10 +52,10 @@ pub record IsToldOf (plan : Network) (last : State Std) (told : Told) : Type 0 w
   pub verdict : told.verdict ≡ report.verdict
   pub text : told.report.items ≡ report_text report
 
--- The network of this plan started with these parts, and its processes took turns, round and round, until none could go on.
-pub record RanOn (plan : Network) (parts : List Std) (net : NetValue Std) : Type 0 where
+-- The network of this plan started with these components, and its processes took turns, round and round, until none could go on.
+pub record RanOn (plan : Network) (components : List Std) (net : NetValue Std) : Type 0 where
   pub start : NetValue Std
-  pub starts : StartsNet plan parts start
+  pub starts : StartsNet plan components start
   pub goes : Goes std_shape std_uses StdReady (round_robin StdNext) start (turns_made start) net (turns_made net)
 
 -- What is told is the report of the network and the journal of its turns.
@@ -67,15 +67,15 @@ pub record IsToldOfNet (plan : Network) (net : NetValue Std) (told : Told) : Typ
 
 -- The bytes that process p wrote.
 abbrev pub bytes_at : List (BodyValue Std) → ℕ → List ℕ
-bytes_at bodies p = unwrap_or (option_and_then (λ (b : BodyValue Std). written_of b.process.part) (slice_get bodies p)) []
+bytes_at bodies p = unwrap_or (option_and_then (λ (b : BodyValue Std). written_of b.process.component) (slice_get bodies p)) []
 
 -- The files of a net with their bytes, in the order of the processes.
 abbrev pub net_outputs : Network → NetValue Std → List Filled
 net_outputs plan net = outputs_from (bytes_at net.bodies) 0 plan.processes
 
 -- A run has left a net, and what is told of it: the journal is that of the run, and report and files are those of its last state.
-pub record Leaves (plan : Network) (parts : List Std) (net : NetValue Std) (told : Told) : Type 0 where
+pub record Leaves (plan : Network) (components : List Std) (net : NetValue Std) (told : Told) : Type 0 where
   pub last : State Std
-  pub run : RunsTo plan parts told.journal last
+  pub run : RunsTo plan components told.journal last
   pub told_is : IsToldOf plan last told
   pub outputs : net_outputs plan net ≡ outputs_of plan last

@@ -8,7 +8,7 @@ use Rattle.flow_words.specs.Words.{Run, Check}
 use Rattle.flow_parse.specs.declared.value.NetText.{NetText}
 use Rattle.flow_parse.specs.Canonical.{canonical}
 use Rattle.flow_cli.specs.Step.{OnlyReads, whole}
-use Rattle.flow_cli.specs.Parts.{IsInput}
+use Rattle.flow_cli.specs.Components.{IsInput}
 use Rattle.flow_cli.specs.Networks.{Holds}
 use Rattle.flow_cli.specs.Many.{WritesAll, WritesFiles}
 use Rattle.flow_cli.specs.After.{Prints, verdict_status}
@@ -51,9 +51,9 @@ pub record IsChecked (w : Work) (limit : ℕ) (name : Name) (text : NetText) : T
 pub record HasRun (old new : Outside) (words : List (String Global)) (limit : ℕ) (ran : Ran) : Type 0 where
   pub name : Name
   pub asks : Asks words (Run name)
-  pub parts : List Std
-  pub ready : IsReady old new limit name ran.plan parts
-  pub leaves : Leaves ran.plan parts ran.net ran.told
+  pub components : List Std
+  pub ready : IsReady old new limit name ran.plan components
+  pub leaves : Leaves ran.plan components ran.net ran.told
 
 -- A network file was read, and this is the canonical spelling of its value.
 pub record HasChecked (old new : Outside) (words : List (String Global)) (limit : ℕ) (spelled : List ℕ) : Type 0 where

@@ -2,8 +2,8 @@
 ghost use Rattle.std.specs.Prelude.{◌≡◌};
 ghost use Rattle.flow_cli.specs.Prepare.{Loads, ReadsInputs, Prepares};
 
+use crate::components::{FILE_LIMIT, read_components};
 use crate::net_file::{NetFile, network};
-use crate::parts::{FILE_LIMIT, read_parts};
 use crate::step::read_file;
 use crate::stop::{Stop, read_stop};
 use flow_catalogue::Std;
@@ -13,11 +13,11 @@ use flow_text::Shelf;
 use flow_words::{Command, command};
 use std::alloc::Global;
 
-/// A network that can run: its plan, and the parts of its processes on what their files hold.
+/// A network that can run: its plan, and the components of its processes on what their files hold.
 #[derive(Drop)]
 pub struct Job {
     pub plan: Plan,
-    pub parts: Vec<Std>,
+    pub components: Vec<Std>,
 }
 
 /// What is to be done: a network is to run, or the value of a network file is to be printed.
@@ -45,7 +45,7 @@ pub fn prepare<F: Shelf>(alloc: Global, words: &[String], shelf: &mut F) -> Resu
     }
 }
 
-// The network of this file, with its parts.
+// The network of this file, with its components.
 fn runnable<F: Shelf>(alloc: Global, shelf: &mut F, name: &str) -> Result<Job, Stop>
     ensures { ReadsInputs (F.outside shelf.old) (F.outside shelf.new) name.now result FILE_LIMIT }
 {
@@ -53,8 +53,8 @@ fn runnable<F: Shelf>(alloc: Global, shelf: &mut F, name: &str) -> Result<Job, S
         Ok(file) => file.plan,
         Err(stop) => return Err(stop),
     };
-    match read_parts(alloc, shelf, &plan) {
-        Ok(parts) => Ok(Job { plan, parts }),
+    match read_components(alloc, shelf, &plan) {
+        Ok(components) => Ok(Job { plan, components }),
         Err(stop) => Err(stop),
     }
 }

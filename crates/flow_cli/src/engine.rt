@@ -1,7 +1,7 @@
 //! The run of a network, and what it leaves.
 ghost use Rattle.std.specs.Prelude.{◌≡◌, ◌∷◌, [], IfOk, IfSome, IfNone, map, slice_get};
 ghost use Rattle.flow_cli.specs.Many.{output_of};
-ghost use Rattle.flow_cli.specs.Parts.{HasParts, written_by};
+ghost use Rattle.flow_cli.specs.Components.{HasComponents, written_by};
 ghost use Rattle.flow_cli.specs.Networks.{IsStandardPlan};
 ghost use Rattle.flow_cli.specs.Runs.{IsToldOfNet, Leaves, bytes_at, net_outputs};
 ghost use Rattle.flow_catalogue.specs.Processes.{IsStandard};
@@ -35,16 +35,16 @@ pub struct Told {
 /// Runs a network on one thread until no process can go on, and makes its report.
 pub fn run_net(alloc: Global, job: Job) -> Result<Ran, AllocError>
     requires standard { IsStandardPlan job.plan }
-    requires parts { HasParts job.plan job.parts.items }
+    requires components { HasComponents job.plan job.components.items }
     ensures plan { IfOk result (λ ran. ran.plan ≡ job.plan) }
-    ensures leaves { IfOk result (λ ran. Leaves job.plan job.parts.items ran.net ran.told) }
+    ensures leaves { IfOk result (λ ran. Leaves job.plan job.components.items ran.net ran.told) }
 {
     a_plan_over_the_table_is_standard();
     a_valid_plan_is_ready::<Std>();
     a_round_of_a_net_is_a_run::<Std>();
     a_report_tells_of_its_state::<Std>();
-    let Job { plan, parts } = job;
-    let net = Net::start(alloc, &plan, parts)?;
+    let Job { plan, components } = job;
+    let net = Net::start(alloc, &plan, components)?;
     match solo(alloc, net) {
         Ok(closed) => tell(alloc, plan, closed),
         Err(closed) => {

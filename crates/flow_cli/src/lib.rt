@@ -3,10 +3,10 @@
 
 mod after;
 mod before;
+mod components;
 mod engine;
 mod many;
 mod net_file;
-mod parts;
 mod run;
 mod status;
 mod step;
@@ -15,10 +15,10 @@ mod top;
 
 pub use after::{print, verdict_status, write_outputs};
 pub use before::{Job, Task, prepare};
+pub use components::{FILE_LIMIT, read_components};
 pub use engine::{Ran, Told, run_net};
 pub use many::{Output, write_files};
 pub use net_file::{NetFile, network};
-pub use parts::{FILE_LIMIT, read_parts};
 pub use status::Status;
 pub use step::{read_file, write_file};
 pub use stop::{Refusal, Stop, read_stop, write_stop};

@@ -4,8 +4,8 @@ ghost use Rattle.flow_parse.specs.Canonical.{canonical};
 ghost use Rattle.flow_cli.specs.Top.{Performs};
 
 use crate::before::{Task, prepare};
+use crate::components::FILE_LIMIT;
 use crate::engine::{Ran, run_net};
-use crate::parts::FILE_LIMIT;
 use crate::stop::Stop;
 use flow_parse::{NetText, print as spelled};
 use flow_text::Shelf;

@@ -8,8 +8,8 @@ ghost use Rattle.flow_cli.specs.Top.{ComesToEnd, Finishes, IsCaused, IsComplete,
 ghost use Rattle.flow_cli.specs.declared.status.Status.TheVariants.{Running};
 
 use crate::after::{print, verdict_status, write_outputs};
+use crate::components::FILE_LIMIT;
 use crate::engine::Ran;
-use crate::parts::FILE_LIMIT;
 use crate::run::{Done, perform};
 use crate::status::Status;
 use crate::stop::Stop;

@@ -17,12 +17,12 @@ abbrev pub dropped_after : Holding → Holding → ℕ
 dropped_after old new = dropped_count old.dropped (drops_between (held_of old) (held_of new))
 
 -- A call that meets a relation meets each that says no more, at the same hands.
-pub Resumes-weaker : {K : Type 0} (next next' : K → Held → Answer → Outcome K → Type 0) (part : K) (hands : Holding) (answer answer' : Answer) (result : Result Wish Stop) (part' : K) (hands' : Holding)
-    → ((outcome : Outcome K) → next part (held_of hands) answer outcome → next' part (held_of hands) answer' outcome)
-    → Resumes next part hands answer result part' hands' → Resumes next' part hands answer' result part' hands'
-Resumes-weaker next next' part hands answer answer' (Ok wish) part' hands' f r = (f (Wishes part' (held_of hands') wish) r.0, r.1)
-Resumes-weaker next next' part hands answer answer' (Err (stops.Fail cause)) part' hands' f r = (f (Fails part' (held_of hands') cause) r.0, r.1)
-Resumes-weaker next next' part hands answer answer' (Err stops.NoMemory) part' hands' f r = r
+pub Resumes-weaker : {K : Type 0} (next next' : K → Held → Answer → Outcome K → Type 0) (component : K) (hands : Holding) (answer answer' : Answer) (result : Result Wish Stop) (component' : K) (hands' : Holding)
+    → ((outcome : Outcome K) → next component (held_of hands) answer outcome → next' component (held_of hands) answer' outcome)
+    → Resumes next component hands answer result component' hands' → Resumes next' component hands answer' result component' hands'
+Resumes-weaker next next' component hands answer answer' (Ok wish) component' hands' f r = (f (Wishes component' (held_of hands') wish) r.0, r.1)
+Resumes-weaker next next' component hands answer answer' (Err (stops.Fail cause)) component' hands' f r = (f (Fails component' (held_of hands') cause) r.0, r.1)
+Resumes-weaker next next' component hands answer answer' (Err stops.NoMemory) component' hands' f r = r
 
 none_dropped : (old new : Holding) → drops_between (held_of old) (held_of new) ≡ 0 → dropped_after old new ≡ old.dropped
 none_dropped old new e = let t : nat_eq (drops_between (held_of old) (held_of new)) 0 ≡ true = grind (arith, nat_tests) in rw t refl

@@ -51,9 +51,9 @@ good-run ready next Good step p (e ∷ es) q g r = good-run ready next Good step
 
 -- the law on wishes holds at each step
 pub stays-allowed : {K : Type 0} (ready : K → Held → Answer → Type 0) (next : K → Held → Answer → Outcome K → Type 0) (shape : Shape) (uses : ℕ → Bool)
-    → ((part : K) (held : Held) (answer : Answer) (outcome : Outcome K) → ready part held answer → next part held answer outcome → Obeys shape uses held outcome)
+    → ((component : K) (held : Held) (answer : Answer) (outcome : Outcome K) → ready component held answer → next component held answer outcome → Obeys shape uses held outcome)
     → (p : Poise K) (e : Happening) (q : Poise K) → Steps ready next p e q → IsAllowed shape uses q.held q.wish
-stays-allowed ready next shape uses obeys p e q s = (obeys p.part s.held (answer_of e) (Wishes q.part q.held q.wish) s.is_ready s.comes_to).1
+stays-allowed ready next shape uses obeys p e q s = (obeys p.component s.held (answer_of e) (Wishes q.component q.held q.wish) s.is_ready s.comes_to).1
 
 -- one step more
 pub Runs-more : {K : Type 0} (ready : K → Held → Answer → Type 0) (next : K → Held → Answer → Outcome K → Type 0) (p : Poise K) (es : List Happening) (m : Poise K) (e : Happening) (q : Poise K)

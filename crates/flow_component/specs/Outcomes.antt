@@ -15,5 +15,5 @@ IsAtHand held (answers.Level n) = ⊥
 
 -- The outcome of a component, as one of a type that has it among others.
 abbrev pub outcome_as : {K L : Type 0} → (K → L) → Outcome K → Outcome L
-outcome_as f (Wishes part held wish) = Wishes (f part) held wish
-outcome_as f (Fails part held cause) = Fails (f part) held cause
+outcome_as f (Wishes component held wish) = Wishes (f component) held wish
+outcome_as f (Fails component held cause) = Fails (f component) held cause

@@ -14,13 +14,13 @@ use Rattle.flow_component.specs.Happenings.{Happening, Started, Received, Ended,
 
 -- A component between two answers: its state, its hands and its wish. One that hasn't started stands as one that has deactivated.
 pub record Poise (K : Type 0) : Type 0 where
-  pub part : K
+  pub component : K
   pub held : Held
   pub wish : Wish
 
 -- A component before its first start.
 abbrev pub fresh : {K : Type 0} → K → ℕ → Poise K
-fresh part maker = record { part = part; held = record { maker = maker; made = 0; packets = [] }; wish = wishes.Deactivate }
+fresh component maker = record { component = component; held = record { maker = maker; made = 0; packets = [] }; wish = wishes.Deactivate }
 
 -- A packet that is got comes into the hands from a connection, or is made there of an initial text.
 pub data Comes (old : Held) (packet : Tree) (new : Held) : Type 0 where
@@ -40,8 +40,8 @@ pub record Steps {K : Type 0} (ready : K → Held → Answer → Type 0) (next :
   pub held : Held
   pub grants : Grants p.held p.wish happening held
   pub sound : Sound held
-  pub is_ready : ready p.part held (answer_of happening)
-  pub comes_to : next p.part held (answer_of happening) (Wishes q.part q.held q.wish)
+  pub is_ready : ready p.component held (answer_of happening)
+  pub comes_to : next p.component held (answer_of happening) (Wishes q.component q.held q.wish)
 
 -- A run over these happenings, in order.
 abbrev pub Runs : {K : Type 0} → (K → Held → Answer → Type 0) → (K → Held → Answer → Outcome K → Type 0) → Poise K → List Happening → Poise K → Type 0
@@ -60,6 +60,7 @@ content_got port (Ended input) = []
 content_got port (Sent output packet) = []
 content_got port (Learned output level) = []
 
+-- What a happening sends on an output: the packet as a content, or nothing.
 abbrev pub content_sent : ℕ → Happening → List Tree
 content_sent port Started = []
 content_sent port (Received input packet) = []
@@ -71,6 +72,7 @@ content_sent port (Learned output level) = []
 abbrev pub got : ℕ → List Happening → List Tree
 got port happenings = flat_map (content_got port) happenings
 
+-- All that was sent on an output, in order.
 abbrev pub sent : ℕ → List Happening → List Tree
 sent port happenings = flat_map (content_sent port) happenings
 
@@ -124,6 +126,7 @@ abbrev pub HeardEnd : ℕ → List Happening → Type 0
 HeardEnd port [] = ⊥
 HeardEnd port (happening ∷ happenings) = IsEnd port happening ⊎ HeardEnd port happenings
 
+-- It is started.
 abbrev pub IsStart : Happening → Type 0
 IsStart Started = Unit {0}
 IsStart (Received input packet) = ⊥
@@ -146,8 +149,8 @@ starts (Sent output packet ∷ later) = starts later
 starts (Learned output level ∷ later) = starts later
 
 -- A run from the first state of a component to a deactivation: all that a process that has ended was told.
-pub record EndedRun {K : Type 0} (ready : K → Held → Answer → Type 0) (next : K → Held → Answer → Outcome K → Type 0) (part : K) (happenings : List Happening) : Type 0 where
+pub record EndedRun {K : Type 0} (ready : K → Held → Answer → Type 0) (next : K → Held → Answer → Outcome K → Type 0) (component : K) (happenings : List Happening) : Type 0 where
   pub maker : ℕ
   pub last : Poise K
-  pub runs : Runs ready next (fresh part maker) happenings last
+  pub runs : Runs ready next (fresh component maker) happenings last
   pub idle : last.wish ≡ wishes.Deactivate

@@ -29,12 +29,15 @@ process_test kinds before x = do
   known ← refused_if (not (is_some (kind_named kinds x.1))) (UnknownKind x.0 x.1)
   refused_if (nat_le PROCESS_LIMIT (length before)) (TooMany many.Processes)
 
+-- Some connection begins at the element.
 abbrev pub sends : List Join → End → Bool
 sends joins end = list_any (λ (j : Join). same_element j.out end) joins
 
+-- Some connection leads to the element.
 abbrev pub receives : List Join → End → Bool
 receives joins end = list_any (λ (j : Join). same_element j.into end) joins
 
+-- Some text is given to the element.
 abbrev pub has_text : List (End × List ℕ) → End → Bool
 has_text texts end = list_any (λ (t : End × List ℕ). same_element t.0 end) texts
 
@@ -82,6 +85,7 @@ StatementTest processes ports before (Initial text to into) outcome = TextTest p
 StatementTest processes ports before (InPort outer to into) outcome = outcome ≡ Ok tt
 StatementTest processes ports before (OutPort from out outer) outcome = outcome ≡ Ok tt
 
+-- The element is among those.
 abbrev pub is_named : List End → End → Bool
 is_named ends end = list_any (λ (e : End). same_element e end) ends
 
@@ -89,6 +93,7 @@ is_named ends end = list_any (λ (e : End). same_element e end) ends
 abbrev pub gap : List End → ℕ → Option ℕ
 gap ends g = position (λ e. not (is_named ends (record { port = g; element = e }))) (range_with_len 0 (size_of ends g))
 
+-- The fault of a gap, where there is one.
 abbrev pub gap_test : List ℕ → List ℕ → Option ℕ → Result (Unit {0}) PlanFault
 gap_test process port None = Ok tt
 gap_test process port (Some e) = Err (ElementGap process port e)
@@ -108,14 +113,17 @@ sum_test connections = refused_if (not (nat_le (sum_by (λ (c : Connection). c.c
 abbrev pub ProcessPasses : List KindSpec → List (List ℕ × List ℕ) → List ℕ × List ℕ → Result (Unit {0}) PlanFault → Type 0
 ProcessPasses kinds before x outcome = process_test kinds before x ≡ outcome
 
+-- What comes of a statement, behind those before it.
 abbrev pub StatementPasses : List KindSpec → NetPart → List Statement → Statement → Result (Unit {0}) PlanFault → Type 0
 StatementPasses kinds text before s outcome = StatementTest text.processes (text_ports kinds text.processes) before s outcome
 
+-- All elements that the statements of a text name.
 abbrev pub text_ends : List KindSpec → NetPart → List End
 text_ends kinds text =
     let ports = text_ports kinds text.processes in
     ends_of (joins_of text.processes ports text.statements) (texts_of text.processes ports text.statements)
 
+-- What comes of a port, once all statements are there.
 abbrev pub PortPasses : List KindSpec → NetPart → List PortAt → PortAt → Result (Unit {0}) PlanFault → Type 0
 PortPasses kinds text before port outcome = port_test text.processes (text_ends kinds text) before port ≡ outcome
 

@@ -83,20 +83,24 @@ pub record Join : Type 0 where
   pub into : End
   pub capacity : Option ℕ
 
+-- The connection between two ends, where both were found.
 abbrev pub joined_by : Option ℕ → Result (End × End) PlanFault → Option Join
 joined_by capacity (Ok ends) = Some (record { out = ends.0; into = ends.1; capacity = capacity })
 joined_by capacity (Err fault) = None
 
+-- The connection that a statement asks for.
 abbrev pub join_of : List (List ℕ × List ℕ) → List PortAt → Statement → Option Join
 join_of processes ports (Connect from out capacity to into) = joined_by capacity (join_ends processes ports from out to into)
 join_of processes ports (Initial text to into) = None
 join_of processes ports (InPort outer to into) = None
 join_of processes ports (OutPort from out outer) = None
 
+-- The text at an input, where that was found.
 abbrev pub given_by : List ℕ → Result End PlanFault → Option (End × List ℕ)
 given_by text (Ok input) = Some (input, text)
 given_by text (Err fault) = None
 
+-- The text that a statement gives.
 abbrev pub text_of : List (List ℕ × List ℕ) → List PortAt → Statement → Option (End × List ℕ)
 text_of processes ports (Connect from out capacity to into) = None
 text_of processes ports (Initial text to into) = given_by text (text_end processes ports to into)

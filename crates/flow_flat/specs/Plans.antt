@@ -14,6 +14,7 @@ use Rattle.flow_net.specs.Calls.{first_given}
 use Rattle.flow_parse.specs.declared.value.NetPart.{NetPart}
 use Rattle.flow_flat.specs.Names.{PortAt, Join, text_ports, is_on, joins_of, texts_of}
 
+-- The two are one element of one port.
 abbrev pub same_element : End → End → Bool
 same_element a b = (a.port == b.port) && (a.element == b.element)
 
@@ -49,6 +50,7 @@ pub record Sized : Type 0 where
   pub port : PortAt
   pub elements : ℕ
 
+-- The ports with their numbers of elements, the first of them number g.
 abbrev pub sized_from : List End → ℕ → List PortAt → List Sized
 sized_from ends g [] = []
 sized_from ends g (port ∷ ports) = record { port = port; elements = if port.spec.array then size_of ends g else 1 } ∷ sized_from ends (g + 1) ports
@@ -57,15 +59,19 @@ sized_from ends g (port ∷ ports) = record { port = port; elements = if port.sp
 abbrev pub numbers : ℕ → Bool → Sized → ℕ
 numbers p input x = if is_on p input x.port then (if is_stream x.port.spec.class then x.elements else 0) else 0
 
+-- The process of the port of an element.
 abbrev pub process_at : List Sized → End → ℕ
 process_at ports end = option_map_or (λ (x : Sized). x.port.process) (slice_get ports end.port) 0
 
+-- The port of the element is an input.
 abbrev pub is_input : List Sized → End → Bool
 is_input ports end = option_map_or (λ (x : Sized). x.port.input) (slice_get ports end.port) false
 
+-- The place of the port among those of its side of its process.
 abbrev pub place_at : List Sized → End → ℕ
 place_at ports end = option_map_or (λ (x : Sized). x.port.place) (slice_get ports end.port) 0
 
+-- The port of the element carries packets.
 abbrev pub carries_at : List Sized → End → Bool
 carries_at ports end = option_map_or (λ (x : Sized). is_stream x.port.spec.class) (slice_get ports end.port) false
 
@@ -73,6 +79,7 @@ carries_at ports end = option_map_or (λ (x : Sized). is_stream x.port.spec.clas
 abbrev pub number_of : List Sized → End → ℕ
 number_of ports end = sum_by (numbers (process_at ports end) (is_input ports end)) (take end.port ports) + end.element
 
+-- The output that a connection begins at.
 abbrev pub sender_of : List Sized → Join → Sender
 sender_of ports j = record { process = process_at ports j.out; output = number_of ports j.out }
 
@@ -93,6 +100,7 @@ option_of ports p t = if (process_at ports t.0 == p) && not (carries_at ports t.
 abbrev pub initial_of : List Sized → ℕ → End × List ℕ → Option (ℕ × List ℕ)
 initial_of ports p t = if (process_at ports t.0 == p) && carries_at ports t.0 then Some (number_of ports t.0, t.1) else None
 
+-- A process of the plan.
 abbrev pub process_of : List Sized → List (End × List ℕ) → ℕ → List ℕ × List ℕ → Process
 process_of ports texts p x = record {
   name = x.0;
@@ -103,13 +111,16 @@ process_of ports texts p x = record {
   outputs = sum_by (numbers p false) ports;
 }
 
+-- The processes of the plan, the first of them number p.
 abbrev pub processes_from : List Sized → List (End × List ℕ) → ℕ → List (List ℕ × List ℕ) → List Process
 processes_from ports texts p [] = []
 processes_from ports texts p (x ∷ xs) = process_of ports texts p x ∷ processes_from ports texts (p + 1) xs
 
+-- The ports of one side of a process, with their numbers of elements.
 abbrev pub rows_of : List Sized → ℕ → Bool → List PortRow
 rows_of ports p input = map (λ (x : Sized). record { spec = x.port.spec; elements = x.elements }) (filter (λ (x : Sized). is_on p input x.port) ports)
 
+-- The tables of ports of the processes, the first of them number p.
 abbrev pub tables_from : List Sized → ℕ → List (List ℕ × List ℕ) → List PortTable
 tables_from ports p [] = []
 tables_from ports p (x ∷ xs) = record { inputs = rows_of ports p true; outputs = rows_of ports p false } ∷ tables_from ports (p + 1) xs

@@ -42,6 +42,7 @@ stands_for true name (InPort outer to into) = if bytes_eq outer name then Some (
 stands_for false name (OutPort from out outer) = if bytes_eq outer name then Some (from, out) else None
 stands_for _ name _ = None
 
+-- What an outer port of a subnet stands for: a process in it, and a port of that.
 abbrev pub outer_port : NetPart → Bool → PortRef → Option (List ℕ × PortRef)
 outer_port part input port = if is_some port.element then None else slice_get (filter_map (stands_for input port.name) part.statements) 0
 
@@ -62,6 +63,7 @@ connect_meant capacity (Ok out) (Ok into) = Ok (Connect out.0 out.1 capacity int
 connect_meant capacity (Ok out) (Err fault) = Err fault
 connect_meant capacity (Err fault) into = Err fault
 
+-- The text at what its port stands for.
 abbrev pub initial_meant : List ℕ → Result (List ℕ × PortRef) ExpandFault → Result Statement ExpandFault
 initial_meant text (Ok into) = Ok (Initial text into.0 into.1)
 initial_meant text (Err fault) = Err fault

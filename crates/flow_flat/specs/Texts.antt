@@ -38,6 +38,7 @@ deep_instances text = instances text (length text.subnets + 1) [] [] text.main
 abbrev pub all_instances : NetText → List Instance
 all_instances text = instances text 10 [] [] text.main
 
+-- Its kind is a subnet of the text.
 abbrev pub is_subnet : NetText → Instance → Bool
 is_subnet text x = is_some (subnet_called text x.kind)
 
@@ -47,6 +48,7 @@ is_given_by (InPort outer to into) (InPort other q r) = bytes_eq outer other
 is_given_by (OutPort from out outer) (OutPort q r other) = bytes_eq outer other
 is_given_by _ _ = false
 
+-- The outer name that a statement gives.
 abbrev pub outer_name : Statement → List ℕ
 outer_name (InPort outer to into) = outer
 outer_name (OutPort from out outer) = outer
@@ -57,6 +59,7 @@ abbrev pub given_again : List Statement → List Statement → Option (List ℕ)
 given_again before [] = None
 given_again before (s ∷ ss) = if list_any (is_given_by s) before then Some (outer_name s) else given_again (before ++ s ∷ []) ss
 
+-- The fault of an outer name that is given twice.
 abbrev pub outer_test : List ℕ → Option (List ℕ) → Result (Unit {0}) ExpandFault
 outer_test process None = Ok tt
 outer_test process (Some name) = Err (faults.OuterPort process (record { name = name; element = None }))
@@ -72,20 +75,25 @@ plain_test text kinds before x =
     if is_some (kind_named kinds x.kind) then fails_if (nat_le PROCESS_LIMIT (count_by (λ y. not (is_subnet text y)) before)) (faults.Plan (TooMany many.Processes))
     else Err (faults.Plan (UnknownKind x.name x.kind))
 
+-- What comes of a process, behind those before it.
 abbrev pub instance_test : NetText → List KindSpec → List Instance → Instance → Result (Unit {0}) ExpandFault
 instance_test text kinds before x = if nat_le 9 (length x.inside) then Err (faults.Depth x.name)
     else elim (subnet_called text x.kind) [ None ↦ plain_test text kinds before x | Some part ↦ subnet_test text before x part ]
 
+-- The same as a relation.
 abbrev pub InstancePasses : NetText → List KindSpec → List Instance → Instance → Result (Unit {0}) ExpandFault → Type 0
 InstancePasses text kinds before x outcome = instance_test text kinds before x ≡ outcome
 
+-- A process of the flat text, where its kind is no subnet.
 abbrev pub plain_process : NetText → Instance → Option (List ℕ × List ℕ)
 plain_process text x = if is_subnet text x then None else Some (x.name, x.kind)
 
+-- The statement, where it could be said.
 abbrev pub said : Result Statement ExpandFault → Option Statement
 said (Ok s) = Some s
 said (Err fault) = None
 
+-- The statements of the flat text, or why one of them has no meaning, in order.
 abbrev pub all_statements : NetText → List (Result Statement ExpandFault)
 all_statements text = statements_in text 11 [] text.main
 
@@ -101,6 +109,7 @@ AsPlan P (Err (faults.Recursive name)) = ⊥
 AsPlan P (Err (faults.Depth name)) = ⊥
 AsPlan P (Err (faults.OuterPort name port)) = ⊥
 
+-- What comes of a statement of the flat text, behind those before it.
 abbrev pub MeaningPasses : List KindSpec → NetText → List (Result Statement ExpandFault) → Result Statement ExpandFault → Result (Unit {0}) ExpandFault → Type 0
 MeaningPasses kinds text before (Ok s) outcome = AsPlan (StatementPasses kinds (flat_of text) (filter_map said before) s) outcome
 MeaningPasses kinds text before (Err fault) outcome = outcome ≡ Err fault

@@ -56,7 +56,7 @@ module _ {K : Type 0} (shape_of : K → Shape) (uses : K → ℕ → Bool) (read
     pub slots : length xs ≡ length start.bodies + length start.channels
     pub quiet : v.read_zero ≡ true → ((p : ℕ) (b : BodyValue K) → slice_get now.bodies p ≡ Some b → (get_or ws p 0 ≡ 0) ⊎ IsOverStage b.process.stage) → (t : State K) → StandsForOpen (shown_net now) t → Quiet t
 
-  pub closing : (id : ℕ) (v : View K) (ws : List ℕ) (xs : List (Slot K)) → v.parts ≡ 32 → v.held ≡ None → Final (Seen Rule id v) ws xs → Closes v ws xs
+  pub closing : (id : ℕ) (v : View K) (ws : List ℕ) (xs : List (Slot K)) → v.shares ≡ 32 → v.held ≡ None → Final (Seen Rule id v) ws xs → Closes v ws xs
   closing id v ws xs all idle (s, seen, words, deep, homes) =
       let r = seen.0 in
       let ended = closes shape_of uses ready next start id v ws xs all idle (s, seen, words, deep, homes) in

@@ -22,11 +22,11 @@ All-last P [] y a = a zero y (omega arith)
 All-last P (x ∷ xs) y a = All-last P xs y (λ i e m. a (suc i) e (omega (arith, m)))
 
 module _ {K : Type 0} where
-  parts : Worker K → ℕ
-  parts = λ w. w.seat.me.0.parts
+  shares : Worker K → ℕ
+  shares = λ w. w.seat.me.0.shares
 
-  pub parts-push : (ws : List (Worker K)) (w : Worker K) → sum_by (λ (x : Worker K). x.seat.me.0.parts) (ws ++ w ∷ []) ≡ sum_by (λ (x : Worker K). x.seat.me.0.parts) ws + w.seat.me.0.parts
-  parts-push ws w = let e = sum_by-append (λ (x : Worker K). x.seat.me.0.parts) ws (w ∷ []) in omega (arith, e)
+  pub shares-push : (ws : List (Worker K)) (w : Worker K) → sum_by (λ (x : Worker K). x.seat.me.0.shares) (ws ++ w ∷ []) ≡ sum_by (λ (x : Worker K). x.seat.me.0.shares) ws + w.seat.me.0.shares
+  shares-push ws w = let e = sum_by-append (λ (x : Worker K). x.seat.me.0.shares) ws (w ∷ []) in omega (arith, e)
 
   pub idle-push : (z : TableId) (ws : List (Worker K)) (w : Worker K) → All (IsIdle z) ws → IsIdle z w → All (IsIdle z) (ws ++ w ∷ [])
   idle-push z ws w a i = All-append (IsIdle z) ws (w ∷ []) a (All-one (IsIdle z) w i)
@@ -34,20 +34,20 @@ module _ {K : Type 0} where
   pub crew-two : (z : TableId) (xs : List (Worker K)) (a b : Worker K) → IsCrew z ((xs ++ a ∷ []) ++ b ∷ []) → IsIdle z a × IsIdle z b
   crew-two z xs a b h = (All-last (IsIdle z) xs a (All-front (IsIdle z) (xs ++ a ∷ []) b h.0), All-last (IsIdle z) (xs ++ a ∷ []) b h.0)
 
-  pub crew-pair : (z : TableId) (xs : List (Worker K)) (a b c : Worker K) → IsIdle z c → c.seat.me.0.parts ≡ b.seat.me.0.parts + a.seat.me.0.parts → IsCrew z ((xs ++ a ∷ []) ++ b ∷ []) → IsCrew z (xs ++ c ∷ [])
+  pub crew-pair : (z : TableId) (xs : List (Worker K)) (a b c : Worker K) → IsIdle z c → c.seat.me.0.shares ≡ b.seat.me.0.shares + a.seat.me.0.shares → IsCrew z ((xs ++ a ∷ []) ++ b ∷ []) → IsCrew z (xs ++ c ∷ [])
   crew-pair z xs a b c idle both h = (
     idle-push z xs c (All-front (IsIdle z) xs a (All-front (IsIdle z) (xs ++ a ∷ []) b h.0)) idle,
-    (let p = parts-push xs a in let q = parts-push (xs ++ a ∷ []) b in let r = parts-push xs c in omega (arith, p, q, r, both, h.1)),
+    (let p = shares-push xs a in let q = shares-push (xs ++ a ∷ []) b in let r = shares-push xs c in omega (arith, p, q, r, both, h.1)),
   )
 
-  pub crew-one : (z : TableId) (a : Worker K) → IsCrew z (a ∷ []) → IsIdle z a × (a.seat.me.0.parts ≡ 32)
+  pub crew-one : (z : TableId) (a : Worker K) → IsCrew z (a ∷ []) → IsIdle z a × (a.seat.me.0.shares ≡ 32)
   crew-one z a h = (All-last (IsIdle z) [] a h.0, omega (arith, h.1))
 
-  parts-each : (xs ys : List (Worker K)) → length ys ≡ length xs → ((i : ℕ) (d : Worker K) → i < length xs → (get_or ys i d).seat.me.0.parts ≡ (get_or xs i d).seat.me.0.parts) → sum_by (λ (x : Worker K). x.seat.me.0.parts) ys ≡ sum_by (λ (x : Worker K). x.seat.me.0.parts) xs
-  parts-each [] [] l h = omega arith
-  parts-each [] (y ∷ ys) l h = absurd (omega (arith, l))
-  parts-each (x ∷ xs) [] l h = absurd (omega (arith, l))
-  parts-each (x ∷ xs) (y ∷ ys) l h = let r = parts-each xs ys (omega (arith, l)) (λ i d m. h (suc i) d (omega (arith, m))) in let e = h zero x (omega arith) in let f = (λ (w : Worker K). w.seat.me.0.parts) in let a = sum_by-append f (x ∷ []) xs in let b = sum_by-append f (y ∷ []) ys in omega (arith, r, e, a, b)
+  shares-each : (xs ys : List (Worker K)) → length ys ≡ length xs → ((i : ℕ) (d : Worker K) → i < length xs → (get_or ys i d).seat.me.0.shares ≡ (get_or xs i d).seat.me.0.shares) → sum_by (λ (x : Worker K). x.seat.me.0.shares) ys ≡ sum_by (λ (x : Worker K). x.seat.me.0.shares) xs
+  shares-each [] [] l h = omega arith
+  shares-each [] (y ∷ ys) l h = absurd (omega (arith, l))
+  shares-each (x ∷ xs) [] l h = absurd (omega (arith, l))
+  shares-each (x ∷ xs) (y ∷ ys) l h = let r = shares-each xs ys (omega (arith, l)) (λ i d m. h (suc i) d (omega (arith, m))) in let e = h zero x (omega arith) in let f = (λ (w : Worker K). w.seat.me.0.shares) in let a = sum_by-append f (x ∷ []) xs in let b = sum_by-append f (y ∷ []) ys in omega (arith, r, e, a, b)
 
-  pub crew-each : (z : TableId) (xs ys : List (Worker K)) → IsCrew z xs → length ys ≡ length xs → ((i : ℕ) (d : Worker K) → i < length xs → IsIdle z (get_or ys i d) × ((get_or ys i d).seat.me.0.parts ≡ (get_or xs i d).seat.me.0.parts)) → IsCrew z ys
-  crew-each z xs ys c l h = ((λ k d m. (h k d (omega (arith, m, l))).0), omega (arith, parts-each xs ys l (λ i d m. (h i d m).1), c.1))
+  pub crew-each : (z : TableId) (xs ys : List (Worker K)) → IsCrew z xs → length ys ≡ length xs → ((i : ℕ) (d : Worker K) → i < length xs → IsIdle z (get_or ys i d) × ((get_or ys i d).seat.me.0.shares ≡ (get_or xs i d).seat.me.0.shares)) → IsCrew z ys
+  crew-each z xs ys c l h = ((λ k d m. (h k d (omega (arith, m, l))).0), omega (arith, shares-each xs ys l (λ i d m. (h i d m).1), c.1))

@@ -89,7 +89,7 @@ module _ {K : Type 0} (shape_of : K → Shape) (uses : K → ℕ → Bool) (read
     wakes = record {
       wired = record { inputs = λ p x y is is'. ap (λ (z : BodyValue K). z.process.inputs) (same start.bodies p x y is is'); outputs = λ p x y is is'. ap (λ (z : BodyValue K). z.process.outputs) (same start.bodies p x y is is'); capacities = λ c k l is is'. ap (λ (z : ChannelShown). z.capacity) (same start.channels c k l is is') };
       live = b.live ∙ sym (live-all P ws (omega (arith, b.wide)) (λ p lt. (let x = get-exists start.bodies p lt in (b.bodies p x.0 x.1).0))) ∙ (let e : live_in P ws ≡ live_in P ws + 0 = omega arith in e);
-      parts = refl;
+      shares = refl;
       each = λ j v e. subst (Keeps (get_or ws L 0)) (one j v e) (record { spare = omega arith; noted = λ _. refl; zero = λ z. absurd (cc); bare = λ z. (refl, refl) });
       parked = λ q x there z. absurd (omega (arith, (b.bodies q x there).0, z));
       held = λ j q v x e holds z. absurd (let h : None ≡ Some (q, x) = ap (λ (u : View K). u.held) (one j v e) ∙ holds in cc);
@@ -103,10 +103,10 @@ module _ {K : Type 0} (shape_of : K → Shape) (uses : K → ℕ → Bool) (read
       same : {A : Type 0} (xs : List A) (i : ℕ) (x y : A) → slice_get xs i ≡ Some x → slice_get xs i ≡ Some y → x ≡ y
       same xs i x y is is' = some_Some x y (sym is ∙ is')
 
-  -- a seat with all parts leaves none to the others
-  alone : (vs : List (View K)) (id : ℕ) (v : View K) → get_elem? vs id ≡ some v → sum_by (λ (u : View K). u.parts) vs ≡ v.parts → (j : ℕ) (u : View K) → j ≢ id → get_elem? vs j ≡ some u → u.parts ≡ 0
+  -- a seat with all shares leaves none to the others
+  alone : (vs : List (View K)) (id : ℕ) (v : View K) → get_elem? vs id ≡ some v → sum_by (λ (u : View K). u.shares) vs ≡ v.shares → (j : ℕ) (u : View K) → j ≢ id → get_elem? vs j ≡ some u → u.shares ≡ 0
   alone vs id v at all j u other e =
-      let f : View K → ℕ = λ u. u.parts in
+      let f : View K → ℕ = λ u. u.shares in
       let bare : View K = newcomer 0 in
       let a = total_set f vs id v bare at in
       let b = total_one f (set vs id bare) j u (set_else vs id j bare other ∙ e) in
@@ -117,11 +117,11 @@ module _ {K : Type 0} (shape_of : K → Shape) (uses : K → ℕ → Bool) (read
   view_at (x ∷ xs) zero l = (x, refl)
   view_at (x ∷ xs) (suc j) l = view_at xs j (omega (arith, l))
 
-  -- Where one seat has all parts and holds nothing, no other seat holds anything, and all turns are its own.
-  pub none-else : (s : St K) (r : Rule s) (id : ℕ) (v : View K) → get_elem? s.views id ≡ some v → v.parts ≡ 32 → v.held ≡ None → (j : ℕ) (u : View K) → get_elem? s.views j ≡ some u → u.held ≡ None
+  -- Where one seat has all shares and holds nothing, no other seat holds anything, and all turns are its own.
+  pub none-else : (s : St K) (r : Rule s) (id : ℕ) (v : View K) → get_elem? s.views id ≡ some v → v.shares ≡ 32 → v.held ≡ None → (j : ℕ) (u : View K) → get_elem? s.views j ≡ some u → u.held ≡ None
   none-else s r id v at all idle j u u_at = dite (ℕ_discrete j id)
       (λ e. (let same : v ≡ u = some-injective v u (sym at ∙ ap (get_elem? s.views) (sym e) ∙ u_at) in ap (λ (x : View K). x.held) (sym same) ∙ idle))
-      (λ other. ((r.wakes.each j u u_at).bare (alone s.views id v at (r.wakes.parts ∙ sym all) j u other u_at)).0)
+      (λ other. ((r.wakes.each j u u_at).bare (alone s.views id v at (r.wakes.shares ∙ sym all) j u other u_at)).0)
 
   -- What stands at the end: each body and each channel is in its slot, as the machine has it; and the seat's turns are all turns since the floor was
   -- opened, in the order of their stamps.
@@ -131,7 +131,7 @@ module _ {K : Type 0} (shape_of : K → Shape) (uses : K → ℕ → Bool) (read
     pub channels : (c : ℕ) (k : ChannelShown) → slice_get g.now.channels c ≡ Some k → get_elem? xs (P + c) ≡ some (slot.Channel k)
     pub turns : map (λ (e : ℕ × ℕ). e.1) v.made ≡ map (λ (t : Logged). t.process) g.log
 
-  pub closes : (id : ℕ) (v : View K) (ws : List ℕ) (xs : List (Slot K)) → v.parts ≡ 32 → v.held ≡ None → (f : Final (Seen Rule id v) ws xs) → Ended f.1.0.beside v xs
+  pub closes : (id : ℕ) (v : View K) (ws : List ℕ) (xs : List (Slot K)) → v.shares ≡ 32 → v.held ≡ None → (f : Final (Seen Rule id v) ws xs) → Ended f.1.0.beside v xs
   closes id v ws xs all idle (s, seen, words, deep, homes) =
       let r = seen.0 in
       let at = seen.1 in
@@ -141,7 +141,7 @@ module _ {K : Type 0} (shape_of : K → Shape) (uses : K → ℕ → Bool) (read
         bodies = λ p b there. homes p (slot.Body b) (at-home p b (g.holder p) (r.flow.each_process p b there));
         channels = λ c k there. homes (P + c) (slot.Channel k) (channel-home c k (g.grabber c) (r.flow.each_channel c k there));
         turns = ap (map (λ (e : ℕ × ℕ). e.1)) (r.flow.each_seat id v at).made ∙ turns_by-all id (length s.views) (turns_made start) g.by g.log r.flow.seats r.flow.inside
-            (λ j l other. (let u = view_at s.views j l in sym (r.flow.each_seat j u.0 u.1).made ∙ ((r.wakes.each j u.0 u.1).bare (alone s.views id v at (r.wakes.parts ∙ sym all) j u.0 other u.1)).1));
+            (λ j l other. (let u = view_at s.views j l in sym (r.flow.each_seat j u.0 u.1).made ∙ ((r.wakes.each j u.0 u.1).bare (alone s.views id v at (r.wakes.shares ∙ sym all) j u.0 other u.1)).1));
       }
     where
       none_of : (j : ℕ) (u : View K) → get_elem? s.views j ≡ some u → u.held ≡ None
@@ -161,9 +161,9 @@ module _ {K : Type 0} (shape_of : K → Shape) (uses : K → ℕ → Bool) (read
 
   law-views : (s : St K) (r : Rule s) (vs : List (View K)) (by : List ℕ) → Remap s vs → length by ≡ length r.beside.log → AllBelow (length vs) by
       → ((j : ℕ) (u : View K) → get_elem? vs j ≡ some u → Knows r.beside.holder r.beside.grabber r.beside.now P (turns_made start) by r.beside.log j u)
-      → sum_by (λ (v : View K). v.spare) vs ≡ sum_by (λ (v : View K). v.spare) s.views → sum_by (λ (v : View K). v.parts) vs ≡ 32 → ((j : ℕ) (u : View K) → get_elem? vs j ≡ some u → Keeps (get_or s.words L 0) u)
+      → sum_by (λ (v : View K). v.spare) vs ≡ sum_by (λ (v : View K). v.spare) s.views → sum_by (λ (v : View K). v.shares) vs ≡ 32 → ((j : ℕ) (u : View K) → get_elem? vs j ≡ some u → Keeps (get_or s.words L 0) u)
       → ((j q : ℕ) (u : View K) (b : BodyValue K) → get_elem? vs j ≡ some u → u.held ≡ Some (q, b) → (v : View K) × (get_elem? s.views j ≡ some v) × (v.held ≡ Some (q, b)) × (v.seen ≡ u.seen)) → Rule (state s.words s.homes vs)
-  law-views s r vs by remap len below knows spare parts each held = record {
+  law-views s r vs by remap len below knows spare shares each held = record {
     beside = record r.beside { by = by };
     flow = record {
       fit = r.flow.fit;
@@ -183,7 +183,7 @@ module _ {K : Type 0} (shape_of : K → Shape) (uses : K → ℕ → Bool) (read
     wakes = record {
       wired = r.wakes.wired;
       live = omega (arith, r.wakes.live, spare);
-      parts = parts;
+      shares = shares;
       each = each;
       parked = λ q b there none_in. (let p = r.wakes.parked q b there none_in in (
         p.0,
@@ -224,8 +224,8 @@ module _ {K : Type 0} (shape_of : K → Shape) (uses : K → ℕ → Bool) (read
           )
 
   -- a seat is cut in two
-  pub splits : (s : St K) (id : ℕ) (v : View K) → Rule s → get_elem? s.views id ≡ some v → 1 < v.parts → v.spare ≡ 0 → Rule (state s.words s.homes (set s.views id (cut v) ++ newcomer 1 ∷ []))
-  splits s id v r at some_parts no_spare =
+  pub splits : (s : St K) (id : ℕ) (v : View K) → Rule s → get_elem? s.views id ≡ some v → 1 < v.shares → v.spare ≡ 0 → Rule (state s.words s.homes (set s.views id (cut v) ++ newcomer 1 ∷ []))
+  splits s id v r at some_shares no_spare =
       let vs1 = set s.views id (cut v) in
       let vs = vs1 ++ newcomer 1 ∷ [] in
       let inside_id = at_inside s.views id v at in
@@ -248,11 +248,11 @@ module _ {K : Type 0} (shape_of : K → Shape) (uses : K → ℕ → Bool) (read
             (record { holds = tt; grabs = tt; idle = λ _. refl; made = sym (turns_by-none j (length s.views) (turns_made start) r.beside.by r.beside.log r.flow.inside (omega (arith, new.0, len1))); seen = tt }))
       ])
       (omega (arith, sum_by-append (λ (x : View K). x.spare) vs1 (newcomer 1 ∷ []), total_set (λ (x : View K). x.spare) s.views id v (cut v) at))
-      (omega (arith, sum_by-append (λ (x : View K). x.parts) vs1 (newcomer 1 ∷ []), total_set (λ (x : View K). x.parts) s.views id v (cut v) at, r.wakes.parts, some_parts))
+      (omega (arith, sum_by-append (λ (x : View K). x.shares) vs1 (newcomer 1 ∷ []), total_set (λ (x : View K). x.shares) s.views id v (cut v) at, r.wakes.shares, some_shares))
       (λ j u u_at. elim (at_end vs1 (newcomer 1) u j u_at) [
         | inl here ↦ dite (ℕ_discrete j id)
             (λ e. (let same : cut v ≡ u = some-injective (cut v) u (sym (set_here s.views id (cut v) inside_id) ∙ ap (get_elem? vs1) (sym e) ∙ here) in
-            subst (Keeps (get_or s.words L 0)) same (record { spare = omega (arith, no_spare); noted = ks.noted; zero = ks.zero; bare = λ z. absurd (omega (arith, z, some_parts)) })))
+            subst (Keeps (get_or s.words L 0)) same (record { spare = omega (arith, no_spare); noted = ks.noted; zero = ks.zero; bare = λ z. absurd (omega (arith, z, some_shares)) })))
             (λ other. r.wakes.each j u (sym (set_else s.views id j (cut v) other) ∙ here))
         | inr new ↦ (subst (Keeps (get_or s.words L 0)) new.1 (record { spare = omega arith; noted = λ _. refl; zero = λ z. absurd (cc); bare = λ z. (refl, refl) }))
       ])
@@ -312,7 +312,7 @@ module _ {K : Type 0} (shape_of : K → Shape) (uses : K → ℕ → Bool) (read
       (λ not_other. (let q = r.flow.each_seat j u (sym (else_at j not_id not_other) ∙ u_at) in
       record { holds = q.holds; grabs = q.grabs; idle = q.idle; made = q.made ∙ sym (turns_by-renamed_else other id j (turns_made start) g.by g.log not_other not_id); seen = q.seen }))))
       (omega (arith, total_set (λ (x : View K). x.spare) s.views id v both at, total_set (λ (x : View K). x.spare) vs1 other w bare w_at1, w_no_spare))
-      (omega (arith, total_set (λ (x : View K). x.parts) s.views id v both at, total_set (λ (x : View K). x.parts) vs1 other w bare w_at1, r.wakes.parts))
+      (omega (arith, total_set (λ (x : View K). x.shares) s.views id v both at, total_set (λ (x : View K). x.shares) vs1 other w bare w_at1, r.wakes.shares))
       (λ j u u_at. dite (ℕ_discrete j id)
       (λ e. (let same : both ≡ u = some-injective both u (sym here ∙ ap (get_elem? vs) (sym e) ∙ u_at) in
       subst (Keeps (get_or s.words L 0)) same (record {

@@ -55,9 +55,9 @@ miss : (n old new : ℕ) → n ≢ old → either (n == old) new n ≡ n
 miss n old new ne = ap (λ b. either b new n) (ne_eqb n old ne)
 
 module _ {K : Type 0} (shape_of : K → Shape) (uses : K → ℕ → Bool) (ready : K → Held → Answer → Type 0) (next : K → Held → Answer → Outcome K → Type 0)
-    (obeys : (part : K) (held : Held) (answer : Answer) (outcome : Outcome K) → ready part held answer → next part held answer outcome → Obeys (shape_of part) (uses part) held outcome)
-    (stays : (part : K) (held : Held) (answer : Answer) (outcome : Outcome K) → ready part held answer → next part held answer outcome → StaysReady ready outcome)
-    (steady : (part : K) (held : Held) (answer : Answer) (outcome : Outcome K) → next part held answer outcome → IsSteady shape_of uses part outcome)
+    (obeys : (component : K) (held : Held) (answer : Answer) (outcome : Outcome K) → ready component held answer → next component held answer outcome → Obeys (shape_of component) (uses component) held outcome)
+    (stays : (component : K) (held : Held) (answer : Answer) (outcome : Outcome K) → ready component held answer → next component held answer outcome → StaysReady ready outcome)
+    (steady : (component : K) (held : Held) (answer : Answer) (outcome : Outcome K) → next component held answer outcome → IsSteady shape_of uses component outcome)
     (start : NetValue K) where
   abbrev Rule : St K → Type 0
   Rule = Law shape_of uses ready next start
@@ -132,18 +132,18 @@ module _ {K : Type 0} (shape_of : K → Shape) (uses : K → ℕ → Bool) (read
   same-words ws i = set-get_or ws i 0
 
   -- A step that changes no word, and of the view nothing but looks.
-  law-look : (s : St K) (id : ℕ) (v w : View K) (r : Rule s) → get_elem? s.views id ≡ some v → w.parts ≡ v.parts → w.held ≡ v.held → w.grab ≡ v.grab → w.word ≡ v.word → w.made ≡ v.made → w.spare ≡ v.spare → w.noted ≡ v.noted → w.read_zero ≡ v.read_zero
+  law-look : (s : St K) (id : ℕ) (v w : View K) (r : Rule s) → get_elem? s.views id ≡ some v → w.shares ≡ v.shares → w.held ≡ v.held → w.grab ≡ v.grab → w.word ≡ v.word → w.made ≡ v.made → w.spare ≡ v.spare → w.noted ≡ v.noted → w.read_zero ≡ v.read_zero
       → AllSeen P r.beside.now w.held w.seen → ((q : ℕ) (b : BodyValue K) → v.held ≡ Some (q, b) → AllBlock P start.channels s.words b v.seen → AllBlock P start.channels s.words b w.seen)
       → Rule (state s.words s.homes (set s.views id w))
-  law-look s id v w r at parts held grab word made spare noted zeros seen blocks =
+  law-look s id v w r at shares held grab word made spare noted zeros seen blocks =
       let f = r.flow in
       let g = r.beside in
       let ks = r.wakes.each id v at in
       record {
         beside = g;
         flow = flow-view shape_of uses ready next obeys stays steady start s g id v w s.words f at refl (λ q below. (λ z. z, λ z. z)) (λ q a b. refl) held grab word made seen;
-        wakes = wakes-view shape_of uses ready next obeys stays steady start s g g s.words s.homes id v w f r.wakes at refl (λ q below. refl) refl (λ c below. (refl, refl)) (omega (arith, spare)) (λ z. z) held parts
-            (record { spare = omega (arith, ks.spare, spare, parts); noted = λ e. noted ∙ ks.noted (sym held ∙ e); zero = λ z. ks.zero (sym zeros ∙ z); bare = λ e. (let n = ks.bare (sym parts ∙ e) in (held ∙ n.0, made ∙ n.1)) }) (λ q there. subst (InList q) (sym noted) there) blocks;
+        wakes = wakes-view shape_of uses ready next obeys stays steady start s g g s.words s.homes id v w f r.wakes at refl (λ q below. refl) refl (λ c below. (refl, refl)) (omega (arith, spare)) (λ z. z) held shares
+            (record { spare = omega (arith, ks.spare, spare, shares); noted = λ e. noted ∙ ks.noted (sym held ∙ e); zero = λ z. ks.zero (sym zeros ∙ z); bare = λ e. (let n = ks.bare (sym shares ∙ e) in (held ∙ n.0, made ∙ n.1)) }) (λ q there. subst (InList q) (sym noted) there) blocks;
       }
 
   -- a look that isn't kept
@@ -165,12 +165,12 @@ module _ {K : Type 0} (shape_of : K → Shape) (uses : K → ℕ → Bool) (read
   law-commit s id p v w b d r at holds rests is = record {
     beside = record r.beside { now = with_body r.beside.now p d };
     flow = flow-commit shape_of uses ready next obeys stays steady start s r.beside id p v w b d r.flow at holds rests (ap (λ (y : View K). y.held) is) (ap (λ (y : View K). y.grab) is) (ap (λ (y : View K). y.word) is) (ap (λ (y : View K). y.made) is) (ap (λ (y : View K). y.seen) is);
-    wakes = wakes-commit shape_of uses ready next obeys stays steady start s r.beside id p v w b d r.flow r.wakes at holds rests (ap (λ (y : View K). y.held) is) (ap (λ (y : View K). y.parts) is) (ap (λ (y : View K). y.spare) is) (ap (λ (y : View K). y.noted) is) (ap (λ (y : View K). y.read_zero) is)
+    wakes = wakes-commit shape_of uses ready next obeys stays steady start s r.beside id p v w b d r.flow r.wakes at holds rests (ap (λ (y : View K). y.held) is) (ap (λ (y : View K). y.shares) is) (ap (λ (y : View K). y.spare) is) (ap (λ (y : View K). y.noted) is) (ap (λ (y : View K). y.read_zero) is)
         (ap (λ (y : View K). y.seen) is);
   }
 
-  pub claims : (slots i id m : ℕ) (me : Sat K) → m ≡ C → i < P → me.0.held ≡ None → 0 < me.0.parts → Allows Rule slots id me i (λ n. either (n == 2) 1 n) (claimed m (step slots i 2 1 none) me)
-  claims slots i id m me count below idle part s r deep at fits =
+  pub claims : (slots i id m : ℕ) (me : Sat K) → m ≡ C → i < P → me.0.held ≡ None → 0 < me.0.shares → Allows Rule slots id me i (λ n. either (n == 2) 1 n) (claimed m (step slots i 2 1 none) me)
+  claims slots i id m me count below idle share s r deep at fits =
       let v = me.0 in
       let f = r.flow in
       let g = r.beside in
@@ -188,7 +188,7 @@ module _ {K : Type 0} (shape_of : K → Shape) (uses : K → ℕ → Bool) (read
         subst (λ (y : ℕ). Rule (state (set s.words i y) (set s.homes i none) (set s.views id w))) (sym (hit x 2 1 e)) (record {
           beside = record g { holder = put g.holder i (Some id) };
           flow = flow-claim shape_of uses ready next obeys stays steady start s g id i 1 v w b f at idle there.1 free.0 (inl refl) refl (ks.idle idle) refl refl;
-          wakes = wakes-claim shape_of uses ready next obeys stays steady start s g id i (set s.homes i none) v w b f r.wakes at there.1 free.0 e part refl refl refl refl refl refl (put g.holder i (Some id));
+          wakes = wakes-claim shape_of uses ready next obeys stays steady start s g id i (set s.homes i none) v w b f r.wakes at there.1 free.0 e share refl refl refl refl refl refl (put g.holder i (Some id));
         }),
         (λ _. (b, f.fit.whole i b there.1, subst (λ n. IsWiredBody n b) (f.same.1 ∙ sym count) (f.fit.wired i b there.1), refl), λ other. absurd (other e)),
       )))
@@ -267,8 +267,8 @@ module _ {K : Type 0} (shape_of : K → Shape) (uses : K → ℕ → Bool) (read
       ))
     where
       grab-wakes : (s : St K) (r : Rule s) (id p c : ℕ) (v w : View K) (b : BodyValue K) (look : Look) (y : ℕ) → get_elem? s.views id ≡ some v → v.held ≡ Some (p, b) → c < C → y ≡ get_or s.words (P + c) 0 + held_bit → look.word ≡ P + c → look.read ≡ get_or s.words (P + c) 0
-          → w.held ≡ v.held → w.made ≡ v.made → w.parts ≡ v.parts → w.spare ≡ v.spare → w.noted ≡ v.noted → w.read_zero ≡ v.read_zero → w.seen ≡ look ∷ v.seen → (hs' : Homes K) (h' : ℕ → Option ℕ) → Wakes start (state (set s.words (P + c) y) hs' (set s.views id w)) (record r.beside { grabber = h' })
-      grab-wakes s r id p c v w b look y at holds below y_is word read held made parts spare noted zeros seen hs' h' =
+          → w.held ≡ v.held → w.made ≡ v.made → w.shares ≡ v.shares → w.spare ≡ v.spare → w.noted ≡ v.noted → w.read_zero ≡ v.read_zero → w.seen ≡ look ∷ v.seen → (hs' : Homes K) (h' : ℕ → Option ℕ) → Wakes start (state (set s.words (P + c) y) hs' (set s.views id w)) (record r.beside { grabber = h' })
+      grab-wakes s r id p c v w b look y at holds below y_is word read held made shares spare noted zeros seen hs' h' =
           let i : ℕ = P + c in
           let ws' = set s.words i y in
           let wide = r.flow.wide in
@@ -282,8 +282,8 @@ module _ {K : Type 0} (shape_of : K → Shape) (uses : K → ℕ → Bool) (read
           (λ d d_below. dite (ℕ_discrete d c)
           (λ e. subst (λ n. (level_in (get_or ws' (P + n) 0) ≡ level_in (get_or s.words (P + n) 0)) × (senders_in (get_or ws' (P + n) 0) ≡ senders_in (get_or s.words (P + n) 0))) (sym e) (ap level_in here ∙ level, ap senders_in here ∙ opens))
           (λ other. (let stay = get_or-set_other s.words i (P + d) y 0 (λ e. other (omega arith)) in (ap level_in stay, ap senders_in stay))))
-          (omega (arith, same_live, spare)) (λ z. same_live ∙ z) held parts
-          (record { spare = omega (arith, ks.spare, spare, parts); noted = λ e. noted ∙ ks.noted (sym held ∙ e); zero = λ z. same_live ∙ ks.zero (sym zeros ∙ z); bare = λ e. (let n = ks.bare (sym parts ∙ e) in (held ∙ n.0, made ∙ n.1)) }) (λ q there. subst (InList q) (sym noted) there)
+          (omega (arith, same_live, spare)) (λ z. same_live ∙ z) held shares
+          (record { spare = omega (arith, ks.spare, spare, shares); noted = λ e. noted ∙ ks.noted (sym held ∙ e); zero = λ z. same_live ∙ ks.zero (sym zeros ∙ z); bare = λ e. (let n = ks.bare (sym shares ∙ e) in (held ∙ n.0, made ∙ n.1)) }) (λ q there. subst (InList q) (sym noted) there)
           (λ q z h all. subst (AllBlock P start.channels ws' z) (sym seen)
           (look-blocks shape_of uses ready next obeys stays steady start ws' z look c word (ap level_in read ∙ sym (ap level_in here ∙ level)) (ap senders_in read ∙ sym (ap senders_in here ∙ opens)), all))
 
@@ -388,9 +388,9 @@ module _ {K : Type 0} (shape_of : K → Shape) (uses : K → ℕ → Bool) (read
 
   -- a held process is left: its body goes home
   law-leave : (s : St K) (id p y : ℕ) (v w : View K) (b d : BodyValue K) → Rule s → get_elem? s.views id ≡ some v → v.held ≡ Some (p, b) → Rests next b d → v.grab ≡ None → v.noted ≡ [] → IsFree y
-      → w.held ≡ None → w.grab ≡ None → w.made ≡ v.made → w.parts ≡ v.parts → w.spare + counts y ≡ v.spare + 1 → w.spare ≤ w.parts → w.noted ≡ [] → w.read_zero ≡ v.read_zero
+      → w.held ≡ None → w.grab ≡ None → w.made ≡ v.made → w.shares ≡ v.shares → w.spare + counts y ≡ v.spare + 1 → w.spare ≤ w.shares → w.noted ≡ [] → w.read_zero ≡ v.read_zero
       → (y ≡ 0 → (get_or s.words p 0 ≡ 1) × Blocks d v.seen) → Rule (state (set s.words p y) (set s.homes p (some (slot.Body d))) (set s.views id w))
-  law-leave s id p y v w b d r at holds rests no_grab no_notes free held grab made parts spare few noted zeros parks =
+  law-leave s id p y v w b d r at holds rests no_grab no_notes free held grab made shares spare few noted zeros parks =
       let v1 : View K = record v { held = Some (p, d) } in
       let s1 = state s.words s.homes (set s.views id v1) in
       let r1 : Rule s1 = law-commit s id p v v1 b d r at holds rests refl in
@@ -399,7 +399,7 @@ module _ {K : Type 0} (shape_of : K → Shape) (uses : K → ℕ → Bool) (read
       let law : Rule (state (set s.words p y) hs' (set s1.views id w)) = record {
         beside = record r1.beside { holder = put r1.beside.holder p None };
         flow = flow-leave shape_of uses ready next obeys stays steady start s1 r1.beside id p y v1 w d r1.flow at1 refl no_grab free held grab made;
-        wakes = wakes-leave shape_of uses ready next obeys stays steady start s1 r1.beside id p y hs' v1 w d r1.flow r1.wakes at1 refl free held parts spare few no_notes noted zeros
+        wakes = wakes-leave shape_of uses ready next obeys stays steady start s1 r1.beside id p y hs' v1 w d r1.flow r1.wakes at1 refl free held shares spare few no_notes noted zeros
             (λ none. (let a = parks none in (
               a.1.0,
               elim (r1.wakes.held id p v1 d at1 refl a.0) [
@@ -410,8 +410,8 @@ module _ {K : Type 0} (shape_of : K → Shape) (uses : K → ℕ → Bool) (read
       } in
       subst (λ (vs : List (View K)). Rule (state (set s.words p y) hs' vs)) (set-set s.views id v1 w) law
 
-  parts-most : (s : St K) (id : ℕ) (v : View K) → Rule s → get_elem? s.views id ≡ some v → v.parts ≤ 32
-  parts-most s id v r at = omega (arith, total_one (λ (x : View K). x.parts) s.views id v at, r.wakes.parts)
+  shares-most : (s : St K) (id : ℕ) (v : View K) → Rule s → get_elem? s.views id ≡ some v → v.shares ≤ 32
+  shares-most s id v r at = omega (arith, total_one (λ (x : View K). x.shares) s.views id v at, r.wakes.shares)
 
   pub leaves : (slots i id : ℕ) (me : Sat K) (b d : BodyValue K) (more : List (ℕ × Slot K)) → me.0.held ≡ Some (i, b) → Rests next b d → me.0.grab ≡ None → me.0.noted ≡ [] → me.1 ≡ (i, slot.Body d) ∷ more
       → Allows Rule slots id me i (λ _. 2) (left (step slots i 2 0 none) me)
@@ -428,9 +428,9 @@ module _ {K : Type 0} (shape_of : K → Shape) (uses : K → ℕ → Bool) (read
         refl,
       )
 
-  pub retires : (slots i id : ℕ) (me : Sat K) (b d : BodyValue K) (more : List (ℕ × Slot K)) → me.0.held ≡ Some (i, b) → Rests next b d → me.0.grab ≡ None → me.0.noted ≡ [] → me.0.spare ≡ 0 → 0 < me.0.parts → me.1 ≡ (i, slot.Body d) ∷ more
+  pub retires : (slots i id : ℕ) (me : Sat K) (b d : BodyValue K) (more : List (ℕ × Slot K)) → me.0.held ≡ Some (i, b) → Rests next b d → me.0.grab ≡ None → me.0.noted ≡ [] → me.0.spare ≡ 0 → 0 < me.0.shares → me.1 ≡ (i, slot.Body d) ∷ more
       → Allows Rule slots id me i (λ _. 4) (retired (step slots i 4 0 none) me)
-  retires slots i id me b d more holds rests no_grab no_notes none_spare part carried s r deep at fits =
+  retires slots i id me b d more holds rests no_grab no_notes none_spare share carried s r deep at fits =
       let v = me.0 in
       let x = get_or s.words i 0 in
       let w = parking v i x in (
@@ -438,13 +438,13 @@ module _ {K : Type 0} (shape_of : K → Shape) (uses : K → ℕ → Bool) (read
         gives,
         tt,
         subst (λ (hs : Homes K). Rule (state (set s.words i 4) hs (set s.views id w))) (ap (λ (cs : List (ℕ × Slot K)). homes_after s.homes cs gives) (sym carried))
-            (law-leave s id i 4 v w b d r at holds rests no_grab no_notes (inr (inr (inl refl))) refl no_grab refl refl (omega arith) (omega (arith, none_spare, part)) no_notes refl (λ e. absurd (omega (arith, e)))),
+            (law-leave s id i 4 v w b d r at holds rests no_grab no_notes (inr (inr (inl refl))) refl no_grab refl refl (omega arith) (omega (arith, none_spare, share)) no_notes refl (λ e. absurd (omega (arith, e)))),
         refl,
       )
 
-  pub parks : (slots i id : ℕ) (me : Sat K) (b d : BodyValue K) (more : List (ℕ × Slot K)) → me.0.held ≡ Some (i, b) → Rests next b d → me.0.grab ≡ None → me.0.noted ≡ [] → me.0.spare ≡ 0 → 0 < me.0.parts → me.1 ≡ (i, slot.Body d) ∷ more
+  pub parks : (slots i id : ℕ) (me : Sat K) (b d : BodyValue K) (more : List (ℕ × Slot K)) → me.0.held ≡ Some (i, b) → Rests next b d → me.0.grab ≡ None → me.0.noted ≡ [] → me.0.spare ≡ 0 → 0 < me.0.shares → me.1 ≡ (i, slot.Body d) ∷ more
       → Blocks d me.0.seen → Allows Rule slots id me i (λ n. either (n == 1) 0 n) (parked (step slots i 1 0 none) me)
-  parks slots i id me b d more holds rests no_grab no_notes none_spare part carried blocks s r deep at fits =
+  parks slots i id me b d more holds rests no_grab no_notes none_spare share carried blocks s r deep at fits =
       let v = me.0 in
       let x = get_or s.words i 0 in
       dite (ℕ_discrete x 1)
@@ -454,7 +454,7 @@ module _ {K : Type 0} (shape_of : K → Shape) (uses : K → ℕ → Bool) (read
         gives,
         tt,
         subst (λ (z : ℕ × Homes K). Rule (state (set s.words i z.0) z.1 (set s.views id w))) (λ j. (sym (hit x 1 0 e) j, ap (λ (cs : List (ℕ × Slot K)). homes_after s.homes cs gives) (sym carried) j))
-            (law-leave s id i 0 v w b d r at holds rests no_grab no_notes (inl refl) refl no_grab refl refl (omega arith) (omega (arith, none_spare, part)) no_notes refl (λ _. (e, blocks))),
+            (law-leave s id i 0 v w b d r at holds rests no_grab no_notes (inl refl) refl no_grab refl refl (omega arith) (omega (arith, none_spare, share)) no_notes refl (λ _. (e, blocks))),
         (λ _. refl, λ other. absurd (other e)),
       )))
       (λ other. (
@@ -471,8 +471,8 @@ module _ {K : Type 0} (shape_of : K → Shape) (uses : K → ℕ → Bool) (read
 
   -- the live word and the seat's tokens change together
   law-live : (s : St K) (id y : ℕ) (v w : View K) → Rule s → get_elem? s.views id ≡ some v → y + v.spare ≡ get_or s.words L 0 + w.spare → (get_or s.words L 0 ≡ 0 → y ≡ 0) → w.held ≡ v.held → w.grab ≡ v.grab → w.word ≡ v.word → w.made ≡ v.made → w.seen ≡ v.seen
-      → w.parts ≡ v.parts → w.spare ≤ w.parts → w.noted ≡ v.noted → (w.read_zero ≡ true → y ≡ 0) → Rule (state (set s.words L y) s.homes (set s.views id w))
-  law-live s id y v w r at live falls held grab word made seen parts few noted zeros =
+      → w.shares ≡ v.shares → w.spare ≤ w.shares → w.noted ≡ v.noted → (w.read_zero ≡ true → y ≡ 0) → Rule (state (set s.words L y) s.homes (set s.views id w))
+  law-live s id y v w r at live falls held grab word made seen shares few noted zeros =
       let f = r.flow in
       let g = r.beside in
       let ws' = set s.words L y in
@@ -485,8 +485,8 @@ module _ {K : Type 0} (shape_of : K → Shape) (uses : K → ℕ → Bool) (read
         flow = flow-view shape_of uses ready next obeys stays steady start s g id v w ws' f at (length-set s.words L y) (λ q below. (let e = other q (omega arith) in (subst IsFree (sym e), subst IsTaken (sym e)))) (λ q a b. other q (omega arith)) held grab word made
             (subst (λ (z : Option (ℕ × BodyValue K) × List Look). AllSeen P g.now z.0 z.1) (λ j. (sym held j, sym seen j)) (f.each_seat id v at).seen);
         wakes = wakes-view shape_of uses ready next obeys stays steady start s g g ws' s.homes id v w f r.wakes at refl (λ q below. other q (omega arith)) (live-other P L y s.words (omega arith))
-            (λ c below. (let e = other (P + c) (omega arith) in (ap level_in e, ap senders_in e))) (omega (arith, here, live)) (λ z. here ∙ falls z) held parts
-            (record { spare = few; noted = λ e. noted ∙ ks.noted (sym held ∙ e); zero = λ z. here ∙ zeros z; bare = λ e. (let n = ks.bare (sym parts ∙ e) in (held ∙ n.0, made ∙ n.1)) }) (λ q there. subst (InList q) (sym noted) there) (λ q z h all. subst (AllBlock P start.channels ws' z) (sym seen) all);
+            (λ c below. (let e = other (P + c) (omega arith) in (ap level_in e, ap senders_in e))) (omega (arith, here, live)) (λ z. here ∙ falls z) held shares
+            (record { spare = few; noted = λ e. noted ∙ ks.noted (sym held ∙ e); zero = λ z. here ∙ zeros z; bare = λ e. (let n = ks.bare (sym shares ∙ e) in (held ∙ n.0, made ∙ n.1)) }) (λ q there. subst (InList q) (sym noted) there) (λ q z h all. subst (AllBlock P start.channels ws' z) (sym seen) all);
       }
 
   -- the process that a seat holds counts, so the live word isn't 0
@@ -506,12 +506,12 @@ module _ {K : Type 0} (shape_of : K → Shape) (uses : K → ℕ → Bool) (read
   -- the live word is small
   live-few : (s : St K) (r : Rule s) → get_or s.words L 0 ≤ 160
   live-few s r =
-      let spare = total_le (λ (x : View K). x.spare) (λ (x : View K). x.parts) s.views (λ j v e. (r.wakes.each j v e).spare) in
+      let spare = total_le (λ (x : View K). x.spare) (λ (x : View K). x.shares) s.views (λ j v e. (r.wakes.each j v e).spare) in
       let few : P ≤ 128 = omega (arith, r.flow.fit.few, r.flow.same.0) in
-      omega (arith, r.wakes.live, live-most P s.words, spare, r.wakes.parts, few)
+      omega (arith, r.wakes.live, live-most P s.words, spare, r.wakes.shares, few)
 
-  pub raises : (slots i id p : ℕ) (me : Sat K) (b : BodyValue K) → i ≡ L → me.0.held ≡ Some (p, b) → me.0.spare ≡ 0 → 0 < me.0.parts → Allows Rule slots id me i (λ x. (x + 1) % 2 ^ 64) (raised (step slots i 1 0 none) me)
-  raises slots i id p me b place holds none_spare part s r deep at fits =
+  pub raises : (slots i id p : ℕ) (me : Sat K) (b : BodyValue K) → i ≡ L → me.0.held ≡ Some (p, b) → me.0.spare ≡ 0 → 0 < me.0.shares → Allows Rule slots id me i (λ x. (x + 1) % 2 ^ 64) (raised (step slots i 1 0 none) me)
+  raises slots i id p me b place holds none_spare share s r deep at fits =
       let v = me.0 in
       let x = get_or s.words i 0 in
       let w = raising v i x in
@@ -523,7 +523,7 @@ module _ {K : Type 0} (shape_of : K → Shape) (uses : K → ℕ → Bool) (read
         keeps,
         tt,
         subst (λ (z : ℕ × ℕ). Rule (state (set s.words z.0 z.1) s.homes (set s.views id w))) (λ j. (sym place j, sym up j))
-            (law-live s id (x + 1) v w r at (omega (arith, x_is)) (λ e. absurd (omega (arith, e, some_live))) refl refl refl refl refl refl (omega (arith, none_spare, part)) refl (λ e. absurd (omega (arith, ks.zero e, some_live)))),
+            (law-live s id (x + 1) v w r at (omega (arith, x_is)) (λ e. absurd (omega (arith, e, some_live))) refl refl refl refl refl refl (omega (arith, none_spare, share)) refl (λ e. absurd (omega (arith, ks.zero e, some_live)))),
         refl,
       )
 
@@ -614,8 +614,8 @@ module _ {K : Type 0} (shape_of : K → Shape) (uses : K → ℕ → Bool) (read
   word-of s q b None k = inl k.0
   word-of s q b (Some j) k = inr k.0
 
-  pub pokes : (slots i id p : ℕ) (me : Sat K) (b : BodyValue K) (more : List ℕ) → i < P → me.0.held ≡ Some (p, b) → me.0.noted ≡ i ∷ more → me.0.spare ≡ 1 → 0 < me.0.parts → Allows Rule slots id me i (λ n. bit_or n 2) (poked (step slots i 2 0 none) me)
-  pokes slots i id p me b more below holds notes one_spare part s r deep at fits =
+  pub pokes : (slots i id p : ℕ) (me : Sat K) (b : BodyValue K) (more : List ℕ) → i < P → me.0.held ≡ Some (p, b) → me.0.noted ≡ i ∷ more → me.0.spare ≡ 1 → 0 < me.0.shares → Allows Rule slots id me i (λ n. bit_or n 2) (poked (step slots i 2 0 none) me)
+  pokes slots i id p me b more below holds notes one_spare share s r deep at fits =
       let v = me.0 in
       let f = r.flow in
       let g = r.beside in
@@ -644,7 +644,7 @@ module _ {K : Type 0} (shape_of : K → Shape) (uses : K → ℕ → Bool) (read
               ))
               (λ other. (let e = get_or-set_other s.words i q y 0 other in (subst IsFree (sym e), subst IsTaken (sym e)))))
               (λ q a b. get_or-set_other s.words i q y 0 (λ e. omega (arith, e, below, a))) refl refl refl refl ks.seen;
-          wakes = wakes-poke shape_of uses ready next obeys stays steady start s g g id p i y s.homes v w b f r.wakes at holds refl below k.high (notes ∙ ap (λ (l : List ℕ). i ∷ l) (sym rest_is)) (omega (arith, spent, k.spare, one_spare)) (omega (arith, spent, low, part)) refl refl refl refl;
+          wakes = wakes-poke shape_of uses ready next obeys stays steady start s g g id p i y s.homes v w b f r.wakes at holds refl below k.high (notes ∙ ap (λ (l : List ℕ). i ∷ l) (sym rest_is)) (omega (arith, spent, k.spare, one_spare)) (omega (arith, spent, low, share)) refl refl refl refl;
         },
         refl,
       )

@@ -27,9 +27,9 @@ use Rattle.flow_floor.specs.Plays.{WasSo, HeldIn}
 use Rattle.flow_floor.proofs.Going.{rest-fit}
 
 module _ {K : Type 0} (shape_of : K → Shape) (uses : K → ℕ → Bool) (ready : K → Hands → Answer → Type 0) (next : K → Hands → Answer → Outcome K → Type 0)
-    (obeys : (part : K) (held : Hands) (answer : Answer) (outcome : Outcome K) → ready part held answer → next part held answer outcome → Obeys (shape_of part) (uses part) held outcome)
-    (stays : (part : K) (held : Hands) (answer : Answer) (outcome : Outcome K) → ready part held answer → next part held answer outcome → StaysReady ready outcome)
-    (steady : (part : K) (held : Hands) (answer : Answer) (outcome : Outcome K) → next part held answer outcome → IsSteady shape_of uses part outcome) where
+    (obeys : (component : K) (held : Hands) (answer : Answer) (outcome : Outcome K) → ready component held answer → next component held answer outcome → Obeys (shape_of component) (uses component) held outcome)
+    (stays : (component : K) (held : Hands) (answer : Answer) (outcome : Outcome K) → ready component held answer → next component held answer outcome → StaysReady ready outcome)
+    (steady : (component : K) (held : Hands) (answer : Answer) (outcome : Outcome K) → next component held answer outcome → IsSteady shape_of uses component outcome) where
   -- the held body, its work done, and the channel are in one net that is well
   pub both-fit : (h : Option (ℕ × BodyValue K)) (p c : ℕ) (b d : BodyValue K) (k : ChannelShown) → WasSo shape_of uses ready h c k → h ≡ Some (p, b) → Rests next b d
       → (now : NetValue K) × FitNet shape_of uses ready now × (slice_get now.bodies p ≡ Some d) × (slice_get now.channels c ≡ Some k)

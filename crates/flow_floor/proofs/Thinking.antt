@@ -51,8 +51,8 @@ thought-judged depths held wishes.Deactivate = tt
 
 -- after a work no work is to come
 thought-worked : {K : Type 0} (x : Process K) (outcome : Outcome K) → IsThoughtStage (worked x outcome).stage
-thought-worked x (Wishes part held wish) = thought-judged x.depths held wish
-thought-worked x (Fails part held cause) = tt
+thought-worked x (Wishes component held wish) = thought-judged x.depths held wish
+thought-worked x (Fails component held cause) = tt
 
 module _ {K : Type 0} (next : K → Hands → Answer → Outcome K → Type 0) where
   same-worked : (a b c : BodyValue K) → SameBody a b → WorkedBody next b c → WorkedBody next a c
@@ -60,7 +60,7 @@ module _ {K : Type 0} (next : K → Hands → Answer → Outcome K → Type 0) w
     answer = work.answer;
     outcome = work.outcome;
     told = sym (ap (λ (x : Process K). x.stage) same.process) ∙ work.told;
-    comes = subst (λ (x : Process K). next x.part x.held work.answer work.outcome) same.process work.comes;
+    comes = subst (λ (x : Process K). next x.component x.held work.answer work.outcome) same.process work.comes;
     process = work.process ∙ ap (λ (x : Process K). worked x work.outcome) same.process;
     dropped = work.dropped ∙ (λ i. dropped_count (same.dropped i) (drops_between (same.process i).held (held_after work.outcome)));
   }

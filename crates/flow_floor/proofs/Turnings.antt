@@ -54,7 +54,7 @@ module _ {K : Type 0} (next : K → Hands → Answer → Outcome K → Type 0) w
       → w'.seat.me.0 ≡ stamping w.seat.me.0 i r e f → w'.seat.me.1 ≡ w.seat.me.1 → ((b : BodyValue K) → f b ≡ h.body) → BodyTurn h.body e r h'.body → h'.process ≡ h.process → k' ≡ shown_after e k → length k'.packets < 65536 → k'.open_senders < 65536 → IsGrabbing next z n w' h' c k'
   grabbing-turned z n w w' h h' c k k' i r e f g table view slots after turn process channel level senders = record {
     table = table ∙ g.table;
-    part = subst (λ m. 0 < m) (sym (ap (λ (v : View K). v.parts) view)) g.part;
+    share = subst (λ m. 0 < m) (sym (ap (λ (v : View K). v.shares) view)) g.share;
     noted = ap (λ (v : View K). v.noted) view ∙ g.noted;
     spare = ap (λ (v : View K). v.spare) view ∙ g.spare;
     below = subst (λ m. m < n) (sym process) g.below;
@@ -109,7 +109,7 @@ pub waking-after : {K : Type 0} (next : K → Hands → Answer → Outcome K →
     → w'.seat.me.1 ≡ (h.process, slot.Vacant) ∷ [] → notes ≡ more → IsWaking next z n w' h more
 waking-after {K} next z n w w' h c i r k notes more g table view slots told = record {
   table = table ∙ g.table;
-  part = subst (λ m. 0 < m) (sym (ap (λ (v : View K). v.parts) view)) g.part;
+  share = subst (λ m. 0 < m) (sym (ap (λ (v : View K). v.shares) view)) g.share;
   grab = ap (λ (v : View K). v.grab) view;
   noted = ap (λ (v : View K). v.noted) view ∙ ap (λ (xs : List ℕ). notes ++ xs) g.noted ∙ append-nil notes ∙ told;
   spare = ap (λ (v : View K). v.spare) view ∙ g.spare;
@@ -127,10 +127,10 @@ poked-spent {K} v w i r is none_there = ap (λ (x : View K). x.spare) is ∙ (le
 
 -- one noted process was woken
 pub woken : {K : Type 0} (next : K → Hands → Answer → Outcome K → Type 0) (z : TableId) (n : ℕ) (w w' : Worker K) (h : Held K) (notes more : List ℕ) → IsWaking next z n w h notes → w'.seat.table_id ≡ w.seat.table_id → w'.seat.me.1 ≡ w.seat.me.1
-    → w'.seat.me.0.parts ≡ w.seat.me.0.parts → w'.seat.me.0.grab ≡ w.seat.me.0.grab → w'.seat.me.0.held ≡ w.seat.me.0.held → w'.seat.me.0.noted ≡ more → w'.seat.me.0.spare ≡ 0 → IsWaking next z n w' h more
-woken next z n w w' h notes more q table slots parts grab held noted spare = record {
+    → w'.seat.me.0.shares ≡ w.seat.me.0.shares → w'.seat.me.0.grab ≡ w.seat.me.0.grab → w'.seat.me.0.held ≡ w.seat.me.0.held → w'.seat.me.0.noted ≡ more → w'.seat.me.0.spare ≡ 0 → IsWaking next z n w' h more
+woken next z n w w' h notes more q table slots shares grab held noted spare = record {
   table = table ∙ q.table;
-  part = subst (λ m. 0 < m) (sym parts) q.part;
+  share = subst (λ m. 0 < m) (sym shares) q.share;
   grab = grab ∙ q.grab;
   noted = noted;
   spare = spare;
@@ -145,7 +145,7 @@ pub held-turned : {K : Type 0} (next : K → Hands → Answer → Outcome K → 
 held-turned next z n w w' h h' i r e f q table view slots after turn process = record {
   calm = record {
     table = table ∙ q.calm.table;
-    part = subst (λ m. 0 < m) (sym (ap (λ (v : View _). v.parts) view)) q.calm.part;
+    share = subst (λ m. 0 < m) (sym (ap (λ (v : View _). v.shares) view)) q.calm.share;
     grab = ap (λ (v : View _). v.grab) view ∙ ap (grab_after e) q.calm.grab;
     noted = ap (λ (v : View _). v.noted) view ∙ q.calm.noted;
     spare = ap (λ (v : View _). v.spare) view ∙ q.calm.spare;
@@ -234,7 +234,7 @@ learn-deed {K} b d port l m r k e e_is same takes =
 
 -- where nobody is noted any more the worker owes nothing
 pub waking-none : {K : Type 0} (next : K → Hands → Answer → Outcome K → Type 0) (z : TableId) (n : ℕ) (w : Worker K) (h : Held K) → IsWaking next z n w h [] → IsHeldBy next z n w h
-waking-none next z n w h q = record { calm = record { table = q.table; part = q.part; grab = q.grab; noted = q.noted; spare = q.spare }; below = q.below; agrees = q.agrees; slots = q.slots }
+waking-none next z n w h q = record { calm = record { table = q.table; share = q.share; grab = q.grab; noted = q.noted; spare = q.spare }; below = q.below; agrees = q.agrees; slots = q.slots }
 
 in-front : (q : ℕ) (xs ys : List ℕ) → InList q xs → InList q (xs ++ ys)
 in-front q [] ys there = absurd there

@@ -124,17 +124,17 @@ module _ {K : Type 0} where
 
     -- One seat steps. Each process that was blocked stays blocked, is noted, or was poked; and what the seat itself parks, holds or counts is told.
     pub wakes-keep : (s : St K) (g g' : Beside K) (ws' : List ℕ) (hs' : Homes K) (id : ℕ) (v w : View K) → Wakes start s g → get_elem? s.views id ≡ some v → IsWiredAs start g'.now
-        → get_or ws' L 0 ≡ live_in P ws' + sum_by (λ (x : View K). x.spare) (set s.views id w) → w.parts ≡ v.parts → (get_or s.words L 0 ≡ 0 → get_or ws' L 0 ≡ 0) → Keeps (get_or ws' L 0) w
+        → get_or ws' L 0 ≡ live_in P ws' + sum_by (λ (x : View K). x.spare) (set s.views id w) → w.shares ≡ v.shares → (get_or s.words L 0 ≡ 0 → get_or ws' L 0 ≡ 0) → Keeps (get_or ws' L 0) w
         → ((q : ℕ) → InList q v.noted → InList q w.noted ⊎ (1 < get_or ws' q 0))
         → ((q : ℕ) (b : BodyValue K) → slice_get g.now.bodies q ≡ Some b → Calm P b s.words ws' ⊎ IsNoted (set s.views id w) q)
         → ((q : ℕ) (b : BodyValue K) → slice_get g'.now.bodies q ≡ Some b → get_or ws' q 0 ≡ 0 → ((get_or s.words q 0 ≡ 0) × (slice_get g.now.bodies q ≡ Some b)) ⊎ (IsThoughtStage b.process.stage × (WordsBlock P start.channels ws' b b.process.stage ⊎ IsNoted (set s.views id w) q)))
         → ((q : ℕ) (b : BodyValue K) → w.held ≡ Some (q, b) → get_or ws' q 0 ≡ 1 → AllBlock P start.channels ws' b w.seen ⊎ IsNoted (set s.views id w) q)
         → ((j q : ℕ) (u : View K) (b : BodyValue K) → j ≢ id → get_elem? s.views j ≡ some u → u.held ≡ Some (q, b) → get_or ws' q 0 ≡ 1 → (get_or s.words q 0 ≡ 1) × (slice_get g.now.bodies q ≡ Some b))
         → Wakes start (state ws' hs' (set s.views id w)) g'
-    wakes-keep s g g' ws' hs' id v w k at wired live parts zero_keep mine notes calm parked own others = record {
+    wakes-keep s g g' ws' hs' id v w k at wired live shares zero_keep mine notes calm parked own others = record {
       wired = wired;
       live = live;
-      parts = omega (arith, total_set (λ (x : View K). x.parts) s.views id v w at, k.parts, parts);
+      shares = omega (arith, total_set (λ (x : View K). x.shares) s.views id v w at, k.shares, shares);
       each = seats_stay (λ j u. Keeps (get_or ws' L 0) u) s.views id w mine (λ j u other e. (let o = k.each j u e in record { spare = o.spare; noted = o.noted; zero = λ z. zero_keep (o.zero z); bare = o.bare }));
       parked = λ q b there empty. elim (parked q b there empty) [
         | inl was ↦ (let old = k.parked q b was.1 was.0 in (

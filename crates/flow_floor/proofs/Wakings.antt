@@ -63,9 +63,9 @@ capacity-after e cs c k k' at at' = by e at'
     by Sleeps is = same is
 
 module _ {K : Type 0} (shape_of : K → Shape) (uses : K → ℕ → Bool) (ready : K → Held → Answer → Type 0) (next : K → Held → Answer → Outcome K → Type 0)
-    (obeys : (part : K) (held : Held) (answer : Answer) (outcome : Outcome K) → ready part held answer → next part held answer outcome → Obeys (shape_of part) (uses part) held outcome)
-    (stays : (part : K) (held : Held) (answer : Answer) (outcome : Outcome K) → ready part held answer → next part held answer outcome → StaysReady ready outcome)
-    (steady : (part : K) (held : Held) (answer : Answer) (outcome : Outcome K) → next part held answer outcome → IsSteady shape_of uses part outcome)
+    (obeys : (component : K) (held : Held) (answer : Answer) (outcome : Outcome K) → ready component held answer → next component held answer outcome → Obeys (shape_of component) (uses component) held outcome)
+    (stays : (component : K) (held : Held) (answer : Answer) (outcome : Outcome K) → ready component held answer → next component held answer outcome → StaysReady ready outcome)
+    (steady : (component : K) (held : Held) (answer : Answer) (outcome : Outcome K) → next component held answer outcome → IsSteady shape_of uses component outcome)
     (start : NetValue K) where
   abbrev F : St K → Beside K → Type 0
   F s g = Flow shape_of uses ready next start s g
@@ -99,12 +99,12 @@ module _ {K : Type 0} (shape_of : K → Shape) (uses : K → ℕ → Bool) (read
   calm-all ws ws' same b = calm-same P b ws ws' (λ c. (ap level_in (same c), ap senders_in (same c)))
 
   -- what a seat keeps where it holds a process
-  keeps-held : (live : ℕ) (p : ℕ) (b : BodyValue K) (w : View K) → w.held ≡ Some (p, b) → w.spare ≤ w.parts → (w.read_zero ≡ true → live ≡ 0) → (w.parts ≡ 0 → ⊥) → Keeps live w
-  keeps-held live p b w holds spare zeros part = record { spare = spare; noted = λ none. (let e : None ≡ Some (p, b) = sym none ∙ holds in absurd (cc)); zero = zeros; bare = λ e. absurd (part e) }
+  keeps-held : (live : ℕ) (p : ℕ) (b : BodyValue K) (w : View K) → w.held ≡ Some (p, b) → w.spare ≤ w.shares → (w.read_zero ≡ true → live ≡ 0) → (w.shares ≡ 0 → ⊥) → Keeps live w
+  keeps-held live p b w holds spare zeros share = record { spare = spare; noted = λ none. (let e : None ≡ Some (p, b) = sym none ∙ holds in absurd (cc)); zero = zeros; bare = λ e. absurd (share e) }
 
-  -- a seat that holds a process has a part
-  has-part : (live p : ℕ) (b : BodyValue K) (v w : View K) → Keeps live v → v.held ≡ Some (p, b) → w.parts ≡ v.parts → w.parts ≡ 0 → ⊥
-  has-part live p b v w ks holds parts e = let a : v.held ≡ None = (ks.bare (sym parts ∙ e)).0 in let gone : None ≡ Some (p, b) = sym a ∙ holds in absurd (cc)
+  -- a seat that holds a process has a share
+  has-share : (live p : ℕ) (b : BodyValue K) (v w : View K) → Keeps live v → v.held ≡ Some (p, b) → w.shares ≡ v.shares → w.shares ≡ 0 → ⊥
+  has-share live p b v w ks holds shares e = let a : v.held ≡ None = (ks.bare (sym shares ∙ e)).0 in let gone : None ≡ Some (p, b) = sym a ∙ holds in absurd (cc)
 
   still-body : (ws : List ℕ) (b d : BodyValue K) (seen : List Look) → d.process.inputs ≡ b.process.inputs → d.process.outputs ≡ b.process.outputs → AllBlock P start.channels ws b seen → AllBlock P start.channels ws d seen
   still-body ws b d [] inputs outputs all = tt
@@ -135,15 +135,15 @@ module _ {K : Type 0} (shape_of : K → Shape) (uses : K → ℕ → Bool) (read
 
   -- the work that was to come is in the list
   pub wakes-commit : (s : St K) (g : Beside K) (id p : ℕ) (v w : View K) (b d : BodyValue K) → F s g → W s g → get_elem? s.views id ≡ some v → v.held ≡ Some (p, b) → Rests next b d
-      → w.held ≡ Some (p, d) → w.parts ≡ v.parts → w.spare ≡ v.spare → w.noted ≡ v.noted → w.read_zero ≡ v.read_zero → w.seen ≡ v.seen → W (state s.words s.homes (set s.views id w)) (record g { now = with_body g.now p d })
-  wakes-commit s g id p v w b d f k at holds r held parts spare noted zeros seen =
+      → w.held ≡ Some (p, d) → w.shares ≡ v.shares → w.spare ≡ v.spare → w.noted ≡ v.noted → w.read_zero ≡ v.read_zero → w.seen ≡ v.seen → W (state s.words s.homes (set s.views id w)) (record g { now = with_body g.now p d })
+  wakes-commit s g id p v w b d f k at holds r held shares spare noted zeros seen =
       let mine = holds-of s g id p v b f at holds in
       let same = same-turns shape_of uses ready next obeys stays steady b d r.0 in
       let taken = word-taken s g id p v b f at holds in
       let ks = k.each id v at in
       wakes-keep start s g (record g { now = with_body g.now p d }) s.words s.homes id v w k at (wired-body g.now p b d mine.1 same.1 same.2 k.wired g.now.channels k.wired.capacities)
-      (omega (arith, k.live, total_set (λ (x : View K). x.spare) s.views id v w at, spare)) parts (λ z. z)
-      (keeps-held (get_or s.words L 0) p d w held (omega (arith, ks.spare, spare, parts)) (λ z. ks.zero (sym zeros ∙ z)) (has-part (get_or s.words L 0) p b v w ks holds parts))
+      (omega (arith, k.live, total_set (λ (x : View K). x.spare) s.views id v w at, spare)) shares (λ z. z)
+      (keeps-held (get_or s.words L 0) p d w held (omega (arith, ks.spare, spare, shares)) (λ z. ks.zero (sym zeros ∙ z)) (has-share (get_or s.words L 0) p b v w ks holds shares))
       (λ q there. inl (subst (InList q) (sym noted) there)) (λ q x there. inl (calm-all s.words s.words (λ c. refl) x))
       (λ q x is empty. inl (empty, sym (slice_get-set_other g.now.bodies p q d (λ e. taken-some (get_or s.words p 0) taken (ap (λ n. get_or s.words n 0) (sym e) ∙ empty))) ∙ is))
       (λ q x is one.
@@ -166,8 +166,8 @@ module _ {K : Type 0} (shape_of : K → Shape) (uses : K → ℕ → Bool) (read
 
   -- a ready process is taken
   pub wakes-claim : (s : St K) (g : Beside K) (id p : ℕ) (hs' : Homes K) (v w : View K) (b : BodyValue K) → F s g → W s g → get_elem? s.views id ≡ some v → slice_get g.now.bodies p ≡ Some b → g.holder p ≡ None → get_or s.words p 0 ≡ 2
-      → 0 < v.parts → w.held ≡ Some (p, b) → w.parts ≡ v.parts → w.spare ≡ v.spare → w.noted ≡ v.noted → w.read_zero ≡ v.read_zero → w.seen ≡ [] → (h' : ℕ → Option ℕ) → W (state (set s.words p 1) hs' (set s.views id w)) (record g { holder = h' })
-  wakes-claim s g id p hs' v w b f k at there free two part held parts spare noted zeros seen h' =
+      → 0 < v.shares → w.held ≡ Some (p, b) → w.shares ≡ v.shares → w.spare ≡ v.spare → w.noted ≡ v.noted → w.read_zero ≡ v.read_zero → w.seen ≡ [] → (h' : ℕ → Option ℕ) → W (state (set s.words p 1) hs' (set s.views id w)) (record g { holder = h' })
+  wakes-claim s g id p hs' v w b f k at there free two share held shares spare noted zeros seen h' =
       let below = body-below s g p b f there in
       let wide = f.wide in
       let ws' = set s.words p 1 in
@@ -178,8 +178,8 @@ module _ {K : Type 0} (shape_of : K → Shape) (uses : K → ℕ → Bool) (read
       let old : counts (get_or s.words p 0) ≡ 1 = ap counts two in
       let now1 : counts 1 ≡ 1 = refl in
       wakes-keep start s g (record g { holder = h' }) ws' hs' id v w k at k.wired
-      (omega (arith, same_live, k.live, live, old, now1, total_set (λ (x : View K). x.spare) s.views id v w at, spare)) parts (λ z. same_live ∙ z)
-      (keeps-held (get_or ws' L 0) p b w held (omega (arith, ks.spare, spare, parts)) (λ z. same_live ∙ ks.zero (sym zeros ∙ z)) (λ e. omega (arith, e, parts, part)))
+      (omega (arith, same_live, k.live, live, old, now1, total_set (λ (x : View K). x.spare) s.views id v w at, spare)) shares (λ z. same_live ∙ z)
+      (keeps-held (get_or ws' L 0) p b w held (omega (arith, ks.spare, spare, shares)) (λ z. same_live ∙ ks.zero (sym zeros ∙ z)) (λ e. omega (arith, e, shares, share)))
       (λ q in_it. inl (subst (InList q) (sym noted) in_it)) (λ q x is. inl (calm-all s.words ws' (λ c. get_or-set_other s.words p (P + c) 1 0 (λ e. omega arith)) x))
       (λ q x is empty. inl (sym (get_or-set_other s.words p q 1 0 (λ e. absurd (let a : 1 ≡ 0 = sym here ∙ ap (λ n. get_or ws' n 0) (sym e) ∙ empty in omega (arith, a)))) ∙ empty, is))
       (λ q x is one. inl (subst (AllBlock P start.channels ws' x) (sym seen) tt))
@@ -188,9 +188,9 @@ module _ {K : Type 0} (shape_of : K → Shape) (uses : K → ℕ → Bool) (read
 
   -- a process is left: it is ready, parked or done
   pub wakes-leave : (s : St K) (g : Beside K) (id p y : ℕ) (hs' : Homes K) (v w : View K) (b : BodyValue K) → F s g → W s g → get_elem? s.views id ≡ some v → v.held ≡ Some (p, b) → IsFree y
-      → w.held ≡ None → w.parts ≡ v.parts → w.spare + counts y ≡ v.spare + 1 → w.spare ≤ w.parts → v.noted ≡ [] → w.noted ≡ [] → w.read_zero ≡ v.read_zero
+      → w.held ≡ None → w.shares ≡ v.shares → w.spare + counts y ≡ v.spare + 1 → w.spare ≤ w.shares → v.noted ≡ [] → w.noted ≡ [] → w.read_zero ≡ v.read_zero
       → (y ≡ 0 → IsThoughtStage b.process.stage × (WordsBlock P start.channels s.words b b.process.stage ⊎ IsNoted s.views p)) → (h' : ℕ → Option ℕ) → W (state (set s.words p y) hs' (set s.views id w)) (record g { holder = h' })
-  wakes-leave s g id p y hs' v w b f k at holds free held parts spare few empties noted zeros parked h' =
+  wakes-leave s g id p y hs' v w b f k at holds free held shares spare few empties noted zeros parked h' =
       let mine = holds-of s g id p v b f at holds in
       let below = body-below s g p b f mine.1 in
       let wide = f.wide in
@@ -202,8 +202,8 @@ module _ {K : Type 0} (shape_of : K → Shape) (uses : K → ℕ → Bool) (read
       let old = taken-counts (get_or s.words p 0) (word-taken s g id p v b f at holds) in
       let calm = λ (x : BodyValue K). calm-all s.words ws' (λ c. get_or-set_other s.words p (P + c) y 0 (λ e. omega arith)) x in
       wakes-keep start s g (record g { holder = h' }) ws' hs' id v w k at k.wired
-      (omega (arith, same_live, k.live, live, old, total_set (λ (x : View K). x.spare) s.views id v w at, spare)) parts (λ z. same_live ∙ z)
-      (record { spare = few; noted = λ e. noted; zero = λ z. same_live ∙ ks.zero (sym zeros ∙ z); bare = λ e. absurd (has-part (get_or s.words L 0) p b v w ks holds parts e) })
+      (omega (arith, same_live, k.live, live, old, total_set (λ (x : View K). x.spare) s.views id v w at, spare)) shares (λ z. same_live ∙ z)
+      (record { spare = few; noted = λ e. noted; zero = λ z. same_live ∙ ks.zero (sym zeros ∙ z); bare = λ e. absurd (has-share (get_or s.words L 0) p b v w ks holds shares e) })
       (λ q in_it. absurd (subst (InList q) empties in_it)) (λ q x is. inl (calm x))
       (λ q x is empty. elim (same_or_not q p) [
         | inl same ↦ (let xb : b ≡ x = some_Some b x (sym mine.1 ∙ ap (slice_get g.now.bodies) (sym same) ∙ is) in
@@ -252,10 +252,10 @@ module _ {K : Type 0} (shape_of : K → Shape) (uses : K → ℕ → Bool) (read
   -- only what the seat knows changes, and words that keep the levels and the process words
   pub wakes-view : (s : St K) (g g' : Beside K) (ws' : List ℕ) (hs' : Homes K) (id : ℕ) (v w : View K) → F s g → W s g → get_elem? s.views id ≡ some v → g'.now ≡ g.now
       → ((q : ℕ) → q < P → get_or ws' q 0 ≡ get_or s.words q 0) → live_in P ws' ≡ live_in P s.words → ((c : ℕ) → c < C → (level_in (get_or ws' (P + c) 0) ≡ level_in (get_or s.words (P + c) 0)) × (senders_in (get_or ws' (P + c) 0) ≡ senders_in (get_or s.words (P + c) 0)))
-      → get_or ws' L 0 + v.spare ≡ get_or s.words L 0 + w.spare → (get_or s.words L 0 ≡ 0 → get_or ws' L 0 ≡ 0) → w.held ≡ v.held → w.parts ≡ v.parts → Keeps (get_or ws' L 0) w → ((q : ℕ) → InList q v.noted → InList q w.noted)
+      → get_or ws' L 0 + v.spare ≡ get_or s.words L 0 + w.spare → (get_or s.words L 0 ≡ 0 → get_or ws' L 0 ≡ 0) → w.held ≡ v.held → w.shares ≡ v.shares → Keeps (get_or ws' L 0) w → ((q : ℕ) → InList q v.noted → InList q w.noted)
       → ((q : ℕ) (b : BodyValue K) → v.held ≡ Some (q, b) → AllBlock P start.channels ws' b v.seen → AllBlock P start.channels ws' b w.seen) → W (state ws' hs' (set s.views id w)) g'
-  wakes-view s g g' ws' hs' id v w f k at now same counted levels live zeros held parts mine notes seen =
-      wakes-keep start s g g' ws' hs' id v w k at (subst (IsWiredAs start) (sym now) k.wired) (omega (arith, live, counted, k.live, total_set (λ (x : View K). x.spare) s.views id v w at)) parts zeros mine
+  wakes-view s g g' ws' hs' id v w f k at now same counted levels live zeros held shares mine notes seen =
+      wakes-keep start s g g' ws' hs' id v w k at (subst (IsWiredAs start) (sym now) k.wired) (omega (arith, live, counted, k.live, total_set (λ (x : View K). x.spare) s.views id v w at)) shares zeros mine
       (λ q there. inl (notes q there)) (λ q x is. inl (calm-in s g q x ws' f is levels))
       (λ q x is empty. (let was : slice_get g.now.bodies q ≡ Some x = ap (λ (n : NetValue K). slice_get n.bodies q) (sym now) ∙ is in inl (sym (same q (body-below s g q x f was)) ∙ empty, was)))
       (λ q x is one. (let is_v : v.held ≡ Some (q, x) = sym held ∙ is in
@@ -268,8 +268,8 @@ module _ {K : Type 0} (shape_of : K → Shape) (uses : K → ℕ → Bool) (read
 
   -- a turn
   pub wakes-stamp : (s : St K) (g g' : Beside K) (id p m y : ℕ) (v w : View K) (b : BodyValue K) (e : Event) → F s g → W s g → get_elem? s.views id ≡ some v → v.held ≡ Some (p, b) → g'.now ≡ turned_net g.now p b e m
-      → w.held ≡ Some (p, turned_body e m b) → w.parts ≡ v.parts → w.spare ≡ v.spare → w.noted ≡ v.noted → w.read_zero ≡ v.read_zero → w.seen ≡ [] → W (state (set s.words (P + C) y) s.homes (set s.views id w)) g'
-  wakes-stamp s g g' id p m y v w b e f k at holds now held parts spare noted zeros seen =
+      → w.held ≡ Some (p, turned_body e m b) → w.shares ≡ v.shares → w.spare ≡ v.spare → w.noted ≡ v.noted → w.read_zero ≡ v.read_zero → w.seen ≡ [] → W (state (set s.words (P + C) y) s.homes (set s.views id w)) g'
+  wakes-stamp s g g' id p m y v w b e f k at holds now held shares spare noted zeros seen =
       let mine = holds-of s g id p v b f at holds in
       let d = turned_body e m b in
       let i : ℕ = P + C in
@@ -281,8 +281,8 @@ module _ {K : Type 0} (shape_of : K → Shape) (uses : K → ℕ → Bool) (read
       wakes-keep start s g g' ws' s.homes id v w k at
       (subst (IsWiredAs start) (sym now) (wired-body g.now p b d mine.1 (inputs-after b.process e) (outputs-after b.process e) k.wired (all_shown_after e g.now.channels)
       (λ c x x0 is is0. (let old = get-exists g.now.channels c (omega (arith, get-within (all_shown_after e g.now.channels) c x is, channels-len e g.now.channels)) in capacity-after e g.now.channels c old.0 x old.1 is ∙ k.wired.capacities c old.0 x0 old.1 is0))))
-      (omega (arith, same_live, k.live, live-other P i y s.words (omega arith), total_set (λ (x : View K). x.spare) s.views id v w at, spare)) parts (λ z. same_live ∙ z)
-      (keeps-held (get_or ws' L 0) p d w held (omega (arith, ks.spare, spare, parts)) (λ z. same_live ∙ ks.zero (sym zeros ∙ z)) (has-part (get_or s.words L 0) p b v w ks holds parts))
+      (omega (arith, same_live, k.live, live-other P i y s.words (omega arith), total_set (λ (x : View K). x.spare) s.views id v w at, spare)) shares (λ z. same_live ∙ z)
+      (keeps-held (get_or ws' L 0) p d w held (omega (arith, ks.spare, spare, shares)) (λ z. same_live ∙ ks.zero (sym zeros ∙ z)) (has-share (get_or s.words L 0) p b v w ks holds shares))
       (λ q there. inl (subst (InList q) (sym noted) there)) (λ q x is. inl (calm-in s g q x ws' f is (λ c below. (let same = get_or-set_other s.words i (P + c) y 0 (λ e. omega arith) in (ap level_in same, ap senders_in same)))))
       (λ q x is empty.
       (let is' : slice_get (slice_set g.now.bodies p d) q ≡ Some x = ap (λ (n : NetValue K). slice_get n.bodies q) (sym now) ∙ is in
@@ -342,9 +342,9 @@ module _ {K : Type 0} (shape_of : K → Shape) (uses : K → ℕ → Bool) (read
 
   -- a connection is released, and those whom that may unblock are noted
   pub wakes-release : (s : St K) (g g' : Beside K) (id p c y : ℕ) (hs' : Homes K) (v w : View K) (b : BodyValue K) → F s g → W s g → get_elem? s.views id ≡ some v → v.held ≡ Some (p, b) → c < C → g'.now ≡ g.now
-      → w.held ≡ v.held → w.parts ≡ v.parts → w.spare ≡ v.spare → w.read_zero ≡ v.read_zero → w.seen ≡ v.seen → ((q : ℕ) → InList q v.noted → InList q w.noted) → Notes start c (get_or s.words (P + c) 0) y w.noted
+      → w.held ≡ v.held → w.shares ≡ v.shares → w.spare ≡ v.spare → w.read_zero ≡ v.read_zero → w.seen ≡ v.seen → ((q : ℕ) → InList q v.noted → InList q w.noted) → Notes start c (get_or s.words (P + c) 0) y w.noted
       → W (state (set s.words (P + c) y) hs' (set s.views id w)) g'
-  wakes-release s g g' id p c y hs' v w b f k at holds below now held parts spare zeros seen keep notes =
+  wakes-release s g g' id p c y hs' v w b f k at holds below now held shares spare zeros seen keep notes =
       let i : ℕ = P + c in
       let ws' = set s.words i y in
       let ks = k.each id v at in
@@ -354,8 +354,8 @@ module _ {K : Type 0} (shape_of : K → Shape) (uses : K → ℕ → Bool) (read
       let word = λ (q : ℕ) (q_below : q < P). get_or-set_other s.words i q y 0 (λ e. omega arith) in
       let here = get_or-set_same s.words i y 0 (omega arith) in
       wakes-keep start s g g' ws' hs' id v w k at (subst (IsWiredAs start) (sym now) k.wired)
-      (omega (arith, same_live, k.live, live-other P i y s.words (omega arith), total_set (λ (x : View K). x.spare) s.views id v w at, spare)) parts (λ z. same_live ∙ z)
-      (keeps-held (get_or ws' L 0) p b w held' (omega (arith, ks.spare, spare, parts)) (λ z. same_live ∙ ks.zero (sym zeros ∙ z)) (has-part (get_or s.words L 0) p b v w ks holds parts))
+      (omega (arith, same_live, k.live, live-other P i y s.words (omega arith), total_set (λ (x : View K). x.spare) s.views id v w at, spare)) shares (λ z. same_live ∙ z)
+      (keeps-held (get_or ws' L 0) p b w held' (omega (arith, ks.spare, spare, shares)) (λ z. same_live ∙ ks.zero (sym zeros ∙ z)) (has-share (get_or s.words L 0) p b v w ks holds shares))
       (λ q there. inl (keep q there)) (λ q x is. calm q x is here)
       (λ q x is empty. (let was : slice_get g.now.bodies q ≡ Some x = ap (λ (n : NetValue K). slice_get n.bodies q) (sym now) ∙ is in inl (sym (word q (body-below s g q x f was)) ∙ empty, was)))
       (λ q x is one.
@@ -412,8 +412,8 @@ module _ {K : Type 0} (shape_of : K → Shape) (uses : K → ℕ → Bool) (read
 
   -- a noted process is woken
   pub wakes-poke : (s : St K) (g g' : Beside K) (id p q y : ℕ) (hs' : Homes K) (v w : View K) (b : BodyValue K) → F s g → W s g → get_elem? s.views id ≡ some v → v.held ≡ Some (p, b) → g'.now ≡ g.now → q < P → 1 < y → v.noted ≡ q ∷ w.noted
-      → w.spare + counts y ≡ v.spare + counts (get_or s.words q 0) → w.spare ≤ w.parts → w.held ≡ v.held → w.parts ≡ v.parts → w.read_zero ≡ v.read_zero → w.seen ≡ v.seen → W (state (set s.words q y) hs' (set s.views id w)) g'
-  wakes-poke s g g' id p q y hs' v w b f k at holds now below high noted spare few held parts zeros seen =
+      → w.spare + counts y ≡ v.spare + counts (get_or s.words q 0) → w.spare ≤ w.shares → w.held ≡ v.held → w.shares ≡ v.shares → w.read_zero ≡ v.read_zero → w.seen ≡ v.seen → W (state (set s.words q y) hs' (set s.views id w)) g'
+  wakes-poke s g g' id p q y hs' v w b f k at holds now below high noted spare few held shares zeros seen =
       let ws' = set s.words q y in
       let ks = k.each id v at in
       let wide = f.wide in
@@ -424,8 +424,8 @@ module _ {K : Type 0} (shape_of : K → Shape) (uses : K → ℕ → Bool) (read
       let not_q = λ (x n : ℕ) (le : n ≤ 1) (is : get_or ws' x 0 ≡ n) (e : x ≡ q). (let a : y ≡ n = sym here ∙ ap (λ m. get_or ws' m 0) (sym e) ∙ is in let r : ⊥ = omega (arith, a, le, high) in r) in
       let calm = λ (x : BodyValue K). calm-all s.words ws' (λ c. get_or-set_other s.words q (P + c) y 0 (λ e. omega arith)) x in
       wakes-keep start s g g' ws' hs' id v w k at (subst (IsWiredAs start) (sym now) k.wired)
-      (omega (arith, same_live, k.live, live, total_set (λ (x : View K). x.spare) s.views id v w at, spare)) parts (λ z. same_live ∙ z)
-      (keeps-held (get_or ws' L 0) p b w held' few (λ z. same_live ∙ ks.zero (sym zeros ∙ z)) (has-part (get_or s.words L 0) p b v w ks holds parts))
+      (omega (arith, same_live, k.live, live, total_set (λ (x : View K). x.spare) s.views id v w at, spare)) shares (λ z. same_live ∙ z)
+      (keeps-held (get_or ws' L 0) p b w held' few (λ z. same_live ∙ ks.zero (sym zeros ∙ z)) (has-share (get_or s.words L 0) p b v w ks holds shares))
       (λ x there. elim (subst (InList x) noted there) [
         | inl e ↦ inr (subst (λ m. 1 < get_or ws' m 0) (sym e) (subst (λ m. 1 < m) (sym here) high))
         | inr rest ↦ inl rest

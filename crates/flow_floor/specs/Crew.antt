@@ -4,6 +4,6 @@ use Rattle.atomic_table.specs.Seated.{TableId}
 use Rattle.flow_floor.specs.declared.floor.Worker.{Worker}
 use Rattle.flow_floor.specs.Workers.{IsIdle}
 
--- Idle workers of this floor, which have all its parts.
+-- Idle workers of this floor, which have all its shares.
 abbrev pub IsCrew : {K : Type 0} → TableId → List (Worker K) → Type 0
-IsCrew {K} z ws = All (IsIdle z) ws × (sum_by (λ (w : Worker K). w.seat.me.0.parts) ws ≡ 32)
+IsCrew {K} z ws = All (IsIdle z) ws × (sum_by (λ (w : Worker K). w.seat.me.0.shares) ws ≡ 32)

@@ -137,7 +137,7 @@ renamed o i [] = []
 renamed o i (k ∷ ks) = (if k == o then i else k) ∷ renamed o i ks
 
 abbrev pub cut : {K : Type 0} → View K → View K
-cut v = record v { parts = v.parts - 1 }
+cut v = record v { shares = v.shares - 1 }
 
 abbrev pub merged : {K : Type 0} → View K → View K → View K
-merged v w = record v { parts = v.parts + w.parts; made = merge w.made v.made; read_zero = v.read_zero || w.read_zero }
+merged v w = record v { shares = v.shares + w.shares; made = merge w.made v.made; read_zero = v.read_zero || w.read_zero }

@@ -7,4 +7,4 @@ abbrev pub no_look : Look
 no_look = record { word = 0; read = 0; holding = false; at = 0 }
 
 abbrev pub newcomer : {K : Type 0} → ℕ → View K
-newcomer parts = record { parts = parts; held = None; grab = None; word = 0; made = []; seen = []; noted = []; spare = 0; read_zero = false; steps = 0; look = no_look }
+newcomer shares = record { shares = shares; held = None; grab = None; word = 0; made = []; seen = []; noted = []; spare = 0; read_zero = false; steps = 0; look = no_look }

@@ -73,19 +73,19 @@ module _ {K : Type 0} where
     pub outputs : (p : ℕ) (b b0 : BodyValue K) → slice_get now.bodies p ≡ Some b → slice_get start.bodies p ≡ Some b0 → b.process.outputs ≡ b0.process.outputs
     pub capacities : (c : ℕ) (k k0 : ChannelShown) → slice_get now.channels c ≡ Some k → slice_get start.channels c ≡ Some k0 → k.capacity ≡ k0.capacity
 
-  -- What holds of a seat: it has no more spare tokens than parts; only a seat that holds a process has noted one; where it has read 0 the live word is
-  -- 0; and one without parts holds nothing and made no turn.
+  -- What holds of a seat: it has no more spare tokens than shares; only a seat that holds a process has noted one; where it has read 0 the live word is
+  -- 0; and one without shares holds nothing and made no turn.
   pub record Keeps (live : ℕ) (v : View K) : Type 0 where
-    pub spare : v.spare ≤ v.parts
+    pub spare : v.spare ≤ v.shares
     pub noted : v.held ≡ None → v.noted ≡ []
     pub zero : v.read_zero ≡ true → live ≡ 0
-    pub bare : v.parts ≡ 0 → (v.held ≡ None) × (v.made ≡ [])
+    pub bare : v.shares ≡ 0 → (v.held ≡ None) × (v.made ≡ [])
 
   pub record Wakes (start : NetValue K) (s : State (Slot K) (View K)) (g : Beside K) : Type 0 where
     pub wired : IsWiredAs start g.now
     -- Q1
     pub live : slice_index s.words (length start.bodies + length start.channels + 1) ≡ live_in (length start.bodies) s.words + sum_by (λ (v : View K). v.spare) s.views
-    pub parts : sum_by (λ (v : View K). v.parts) s.views ≡ 32
+    pub shares : sum_by (λ (v : View K). v.shares) s.views ≡ 32
     -- Q3 and Q4
     pub each : (j : ℕ) (v : View K) → get_elem? s.views j ≡ some v → Keeps (slice_index s.words (length start.bodies + length start.channels + 1)) v
     -- Q2

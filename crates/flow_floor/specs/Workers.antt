@@ -35,7 +35,7 @@ module _ {K : Type 0} where
   -- The worker is a seat of this table, and owes nothing: it holds no connection, has noted no process, and has no spare token.
   pub record IsCalm (z : TableId) (w : Worker K) : Type 0 where
     pub table : w.seat.table_id ≡ z
-    pub part : 0 < w.seat.me.0.parts
+    pub share : 0 < w.seat.me.0.shares
     pub grab : w.seat.me.0.grab ≡ None
     pub noted : w.seat.me.0.noted ≡ []
     pub spare : w.seat.me.0.spare ≡ 0
@@ -63,7 +63,7 @@ module _ {K : Type 0} where
   -- The body is this worker's, which has noted these processes, and holds no connection.
   pub record IsWaking (next : K → Hands → Answer → Outcome K → Type 0) (z : TableId) (n : ℕ) (w : Worker K) (h : Held K) (notes : List ℕ) : Type 0 where
     pub table : w.seat.table_id ≡ z
-    pub part : 0 < w.seat.me.0.parts
+    pub share : 0 < w.seat.me.0.shares
     pub grab : w.seat.me.0.grab ≡ None
     pub noted : w.seat.me.0.noted ≡ notes
     pub spare : w.seat.me.0.spare ≡ 0
@@ -74,7 +74,7 @@ module _ {K : Type 0} where
   -- The worker holds connection c too, whose channel is this.
   pub record IsGrabbing (next : K → Hands → Answer → Outcome K → Type 0) (z : TableId) (n : ℕ) (w : Worker K) (h : Held K) (c : ℕ) (k : ChannelShown) : Type 0 where
     pub table : w.seat.table_id ≡ z
-    pub part : 0 < w.seat.me.0.parts
+    pub share : 0 < w.seat.me.0.shares
     pub noted : w.seat.me.0.noted ≡ []
     pub spare : w.seat.me.0.spare ≡ 0
     pub below : h.process < n
@@ -97,7 +97,7 @@ module _ {K : Type 0} where
   -- The same with this many spare tokens, and nothing noted.
   pub record IsDone (z : TableId) (w : Worker K) (tokens : ℕ) : Type 0 where
     pub table : w.seat.table_id ≡ z
-    pub part : 0 < w.seat.me.0.parts
+    pub share : 0 < w.seat.me.0.shares
     pub grab : w.seat.me.0.grab ≡ None
     pub noted : w.seat.me.0.noted ≡ []
     pub spare : w.seat.me.0.spare ≡ tokens

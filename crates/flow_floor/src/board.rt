@@ -24,8 +24,8 @@ pub struct Look {
 
 /// What a seat knows. No value of it is made.
 pub struct View<K: Component> {
-    /// Its parts of the right to be a seat: all seats have 32.
-    pub parts: u64,
+    /// Its shares of the right to be a seat: all seats have 32.
+    pub shares: u64,
     /// The process that it holds, with its body as the machine has it.
     pub held: Option<(u64, Body<K>)>,
     /// The connection that it holds, with its channel as the machine has it.

@@ -12,7 +12,7 @@ impl<K: Component> Floor<K> {
     /// One worker more.
     pub(crate) fn split(&self, worker: &mut Worker<K>) -> Worker<K>
         requires idle { IsIdle self.now.table.shared.table_id worker.old }
-        requires parts { 1 < (view worker.old).parts }
+        requires shares { 1 < (view worker.old).shares }
         ensures old { IsIdle self.now.table.shared.table_id worker.new × (view worker.new ≡ cut (view worker.old)) }
         ensures new { IsIdle self.now.table.shared.table_id result × (view result ≡ newcomer 1) }
     {

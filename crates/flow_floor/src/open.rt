@@ -286,7 +286,7 @@ impl<K: Component> Floor<K> {
     fn hire(&self, mut crew: Vec<Worker<K>>, mut first: Worker<K>, workers: usize) -> Vec<Worker<K>>
         requires workers { (0 < workers) × (workers ≤ 32) }
         requires crew { (crew.items ≡ []) × (workers ≤ vec_capacity crew) }
-        requires first { IsIdle self.now.table.shared.table_id first × ((view first).parts ≡ 32) }
+        requires first { IsIdle self.now.table.shared.table_id first × ((view first).shares ≡ 32) }
         ensures { IsCrew self.now.table.shared.table_id result.items × (length result.items ≡ workers) }
     {
         for _i in 1..workers {
@@ -300,7 +300,7 @@ impl<K: Component> Floor<K> {
     /// One worker takes in the turns of all others.
     fn gather(&self, mut first: Worker<K>, mut workers: Vec<Worker<K>>) -> Worker<K>
         requires { IsCrew self.now.table.shared.table_id (workers.items ++ first ∷ []) }
-        ensures { IsIdle self.now.table.shared.table_id result × ((view result).parts ≡ 32) }
+        ensures { IsIdle self.now.table.shared.table_id result × ((view result).shares ≡ 32) }
     {
         while let Some(worker) = workers.pop() {
             self.join(&mut first, worker);

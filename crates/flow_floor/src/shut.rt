@@ -70,7 +70,7 @@ impl<K: Component> Floor<K> {
         channels: Vec<Channel>,
     ) -> Net<K>
         requires worker { IsIdle self.table.shared.table_id worker }
-        requires all { (view worker).parts ≡ 32 }
+        requires all { (view worker).shares ≡ 32 }
         requires bodies { (bodies.items ≡ []) × (self.processes ≤ vec_capacity bodies) }
         requires channels { (channels.items ≡ []) × (self.connections ≤ vec_capacity channels) }
         ensures { IsShut K.shape_of K.uses K.ready K.next self.table.shared.key.value (view worker) result }

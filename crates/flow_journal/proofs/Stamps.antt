@@ -121,7 +121,7 @@ count-all n (turn ∷ log) all (suc k) within = count-all n log (let most = coun
 -- each turn of a net is of one of its processes
 pub process-below : {K : Type 0} (net : NetValue K) (log : List Logged) → IsLogOf log net → sum_by (λ (b : BodyValue K). length b.stamps) net.bodies ≡ turns_made net → (k : ℕ) → k < length log → process_in log k < length net.bodies
 process-below {K} net log is counted = count-all (length net.bodies) log
-    (sym (sum-count net.bodies 0 log (λ k b there. (let at : 0 + k ≡ k = omega arith in ap length (is.parts k b there).0 ∙ ap (λ q. length (stamps_of q 0 log)) (sym at)))) ∙ counted ∙ sym is.total)
+    (sym (sum-count net.bodies 0 log (λ k b there. (let at : 0 + k ≡ k = omega arith in ap length (is.logs k b there).0 ∙ ap (λ q. length (stamps_of q 0 log)) (sym at)))) ∙ counted ∙ sym is.total)
 
 -- the process of a turn, as an element of the list of processes
 pub process-at : (log : List Logged) (k : ℕ) (d : ℕ) → k < length log → get_or (map (λ turn. turn.process) log) k d ≡ process_in log k

@@ -26,6 +26,7 @@ abbrev pub numbers_under : ℕ → List (ℕ × ℕ) → List ℕ
 numbers_under stamp [] = []
 numbers_under stamp (level ∷ levels) = if level.0 == stamp then level.1 ∷ numbers_under stamp levels else []
 
+-- The numbers that are left behind those.
 abbrev pub after_numbers : ℕ → List (ℕ × ℕ) → List (ℕ × ℕ)
 after_numbers stamp [] = []
 after_numbers stamp (level ∷ levels) = if level.0 == stamp then after_numbers stamp levels else level ∷ levels

@@ -252,8 +252,8 @@ module _ {K : Type 0} (shape_of : K → Shape) (uses : K → ℕ → Bool) (read
       )
 
 turns-worked : {K : Type 0} (x : Process K) (outcome : Outcome K) → (worked x outcome).turns ≡ x.turns
-turns-worked x (Wishes part held wish) = refl
-turns-worked x (Fails part held cause) = refl
+turns-worked x (Wishes component held wish) = refl
+turns-worked x (Fails component held cause) = refl
 
 -- what a thought did: nothing that is shown, or a work
 pub thinks-step : {K : Type 0} (next : K → Held → Answer → Outcome K → Type 0) (old : BodyValue K) (t : Thought) (new : BodyValue K) → Thinks next old t new → SameBody old new ⊎ WorkedBody next old new
@@ -270,9 +270,9 @@ thinks-step {K} next old (thoughts.Failed cause) new thinks = settled thinks.0
 thinks-step next old thoughts.NoMemory new thinks = thinks.0
 
 module _ {K : Type 0} (shape_of : K → Shape) (uses : K → ℕ → Bool) (ready : K → Held → Answer → Type 0) (next : K → Held → Answer → Outcome K → Type 0)
-    (obeys : (part : K) (held : Held) (answer : Answer) (outcome : Outcome K) → ready part held answer → next part held answer outcome → Obeys (shape_of part) (uses part) held outcome)
-    (stays : (part : K) (held : Held) (answer : Answer) (outcome : Outcome K) → ready part held answer → next part held answer outcome → StaysReady ready outcome)
-    (steady : (part : K) (held : Held) (answer : Answer) (outcome : Outcome K) → next part held answer outcome → IsSteady shape_of uses part outcome) where
+    (obeys : (component : K) (held : Held) (answer : Answer) (outcome : Outcome K) → ready component held answer → next component held answer outcome → Obeys (shape_of component) (uses component) held outcome)
+    (stays : (component : K) (held : Held) (answer : Answer) (outcome : Outcome K) → ready component held answer → next component held answer outcome → StaysReady ready outcome)
+    (steady : (component : K) (held : Held) (answer : Answer) (outcome : Outcome K) → next component held answer outcome → IsSteady shape_of uses component outcome) where
   -- the state after a work
   state-worked : State K → ℕ → Process K → Outcome K → State K
   state-worked s p x outcome = record { kept = record { processes = slice_set s.kept.processes p (worked x outcome); channels = s.kept.channels }; past = past_worked s.past p x.held (held_after outcome) }
@@ -298,8 +298,8 @@ module _ {K : Type 0} (shape_of : K → Shape) (uses : K → ℕ → Bool) (read
       let was = fit.valid.each p x at in
       let below : x.held.made < 4294967296 = omega (arith, was.made, was.turns) in
       let sound = sound-hands s p x at was.maker below fit.valid.one_place in
-      let now : ready x.part x.held work.answer = (subst (ReadyAt (ready x.part) x.held) work.told was.is_ready) sound in
-      let works = comes x.held (held_after outcome) (comes-of (shape_of x.part) (uses x.part) x.held outcome (obeys x.part x.held work.answer outcome now work.comes)) in
+      let now : ready x.component x.held work.answer = (subst (ReadyAt (ready x.component) x.held) work.told was.is_ready) sound in
+      let works = comes x.held (held_after outcome) (comes-of (shape_of x.component) (uses x.component) x.held outcome (obeys x.component x.held work.answer outcome now work.comes)) in
       let body : shown_body after ≡ body_worked outcome (shown_body before) = λ i. record { process = work.process i; dropped = work.dropped i } in
       let all : map shown_body new.bodies ≡ change_at (map shown_body old.bodies) p (body_worked outcome) =
       ap (map shown_body) bodies ∙ map-set shown_body old.bodies p after ∙ ap (slice_set (map shown_body old.bodies) p) body

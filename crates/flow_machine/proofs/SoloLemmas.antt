@@ -188,8 +188,8 @@ empty-front (x ∷ xs) ys is = absurd (cc)
 -- a pass without a turn changes nothing, and no process has a turn
 quiet-pass : {K : Type 0} (next : K → Held → Answer → Outcome K → Type 0) (n : ℕ) (s : State K) (journal : Journal) (s' : State K) → journal ≡ no_turns → PassBelow next n s journal s' → (s' ≡ s) × ((p : ℕ) → p < n → HasNoTurn s.kept p)
 quiet-pass next zero s journal s' none pass = (pass.1, λ p below. absurd (omega (arith, below)))
-quiet-pass {K} next (suc n) s journal s' none (front, back, mid, parts, first, burst) =
-    let both : then_turns front back ≡ no_turns = sym parts ∙ none in
+quiet-pass {K} next (suc n) s journal s' none (front, back, mid, components, first, burst) =
+    let both : then_turns front back ≡ no_turns = sym components ∙ none in
     let ts = empty-front front.turns back.turns (ap (λ (j : Journal). j.turns) both) in
     let ns = empty-front front.seen back.seen (ap (λ (j : Journal). j.seen) both) in
     let front_none : front ≡ no_turns = λ i. record { turns = ts.0 i; seen = ns.0 i } in
@@ -216,9 +216,9 @@ shown-length dropped k [] = refl
 shown-length dropped k (x ∷ xs) = omega (arith, shown-length dropped (k + 1) xs)
 
 module _ {K : Type 0} (shape_of : K → Shape) (uses : K → ℕ → Bool) (ready : K → Held → Answer → Type 0) (next : K → Held → Answer → Outcome K → Type 0)
-    (obeys : (part : K) (held : Held) (answer : Answer) (outcome : Outcome K) → ready part held answer → next part held answer outcome → Obeys (shape_of part) (uses part) held outcome)
-    (stays : (part : K) (held : Held) (answer : Answer) (outcome : Outcome K) → ready part held answer → next part held answer outcome → StaysReady ready outcome)
-    (steady : (part : K) (held : Held) (answer : Answer) (outcome : Outcome K) → next part held answer outcome → IsSteady shape_of uses part outcome) where
+    (obeys : (component : K) (held : Held) (answer : Answer) (outcome : Outcome K) → ready component held answer → next component held answer outcome → Obeys (shape_of component) (uses component) held outcome)
+    (stays : (component : K) (held : Held) (answer : Answer) (outcome : Outcome K) → ready component held answer → next component held answer outcome → StaysReady ready outcome)
+    (steady : (component : K) (held : Held) (answer : Answer) (outcome : Outcome K) → next component held answer outcome → IsSteady shape_of uses component outcome) where
   abbrev Goes' : (Journal → State K → State K → Type 0) → NetValue K → ℕ → NetValue K → ℕ → Type 0
   Goes' way old n new m = Goes shape_of uses ready way old n new m
 
@@ -365,7 +365,7 @@ module _ {K : Type 0} (shape_of : K → Shape) (uses : K → ℕ → Bool) (read
                 (
                   t.0,
                   t.1.1,
-                  record { passes = g.1.0; parts = g.1.1; go = subst (λ (u : State K). Passes next t.0 g.1.0 u) (sym still.0) g.1.2; last = last },
+                  record { passes = g.1.0; whole = g.1.1; go = subst (λ (u : State K). Passes next t.0 g.1.0 u) (sym still.0) g.1.2; last = last },
                   record {
                     thought = λ p x is answer. not-told x.stage answer (all-thought new h.0 h.3 set p x is);
                     still = λ p. subst (λ (u : State K). HasNoTurn u.kept p) (sym still.0) (quiet-at g.0 p still.1);
@@ -461,8 +461,8 @@ turn-count {K} old p k e m new turn =
     omega (arith, ts, ap (λ (bs : List (BodyValue K)). sum_by (λ (x : BodyValue K). x.process.turns) bs) turn.bodies, turns-set old.bodies p turn.before turn.after turn.there)
 
 turns-worked : {K : Type 0} (x : Process K) (outcome : Outcome K) → (worked x outcome).turns ≡ x.turns
-turns-worked x (Wishes part held wish) = refl
-turns-worked x (Fails part held cause) = refl
+turns-worked x (Wishes component held wish) = refl
+turns-worked x (Fails component held cause) = refl
 
 pub count-rest : {K : Type 0} (next : K → Held → Answer → Outcome K → Type 0) (old : NetValue K) (p : ℕ) (b b' : BodyValue K) (new : NetValue K) → slice_get old.bodies p ≡ Some b → SameBody b b' ⊎ WorkedBody next b b' → new.bodies ≡ slice_set old.bodies p b' → turns_made new ≡ turns_made old
 count-rest {K} next old p b b' new there step bodies = omega (arith, by step, ap (λ (bs : List (BodyValue K)). sum_by (λ (x : BodyValue K). x.process.turns) bs) bodies, turns-set old.bodies p b b' there)

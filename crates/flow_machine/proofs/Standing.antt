@@ -89,8 +89,8 @@ owed-judged depths held (wishes.Level port) = refl
 owed-judged depths held wishes.Deactivate = refl
 
 owed-worked : {K : Type 0} (x : Process K) (outcome : Outcome K) → owed (worked x outcome).stage ≡ 0
-owed-worked x (Wishes part held wish) = owed-judged x.depths held wish
-owed-worked x (Fails part held cause) = refl
+owed-worked x (Wishes component held wish) = owed-judged x.depths held wish
+owed-worked x (Fails component held cause) = refl
 
 thought-judged : (depths : List ℕ) (held : Held) (wish : Wish) → IsThoughtStage (judged depths held wish)
 thought-judged depths held (wishes.Receive port) = by (nat_lt (length held.packets) HANDS_LIMIT)
@@ -112,8 +112,8 @@ thought-judged depths held wishes.Deactivate = tt
 
 -- after a work none is to come
 pub thought-worked : {K : Type 0} (x : Process K) (outcome : Outcome K) → IsThoughtStage (worked x outcome).stage
-thought-worked x (Wishes part held wish) = thought-judged x.depths held wish
-thought-worked x (Fails part held cause) = tt
+thought-worked x (Wishes component held wish) = thought-judged x.depths held wish
+thought-worked x (Fails component held cause) = tt
 
 less_or : (n m : ℕ) → nat_eq n m ≡ false → n ≤ m → n < m
 less_or n m t most = grind (arith, nat_tests)
@@ -124,21 +124,21 @@ module _ {K : Type 0} (shape_of : K → Shape) (uses : K → ℕ → Bool) (read
   few-made x well = omega (arith, well.good.made, well.good.turns)
 
   -- A process that was told an answer by its turn.
-  pub stands-told : (x y : Process K) (answer : Answer) → StandsWell shape_of uses ready x → x.turns < TURN_LIMIT → y.stage ≡ limited (x.turns + 1) (stages.Told answer) → y.turns ≡ x.turns + 1 → y.part ≡ x.part → y.inputs ≡ x.inputs → y.outputs ≡ x.outputs
+  pub stands-told : (x y : Process K) (answer : Answer) → StandsWell shape_of uses ready x → x.turns < TURN_LIMIT → y.stage ≡ limited (x.turns + 1) (stages.Told answer) → y.turns ≡ x.turns + 1 → y.component ≡ x.component → y.inputs ≡ x.inputs → y.outputs ≡ x.outputs
       → length y.depths ≡ length x.depths → length y.fresh ≡ length x.fresh → ((port : ℕ) → slice_index y.depths port ≤ y.turns) → Sound y.held → y.held.made ≤ x.held.made + 1 → owed x.stage ≡ 0
-      → ReadyIfSound (ready x.part) y.held answer → StandsWell shape_of uses ready y
-  stands-told x y answer well left stage turns part inputs outputs depths fresh deep sound made owes is_ready = record {
+      → ReadyIfSound (ready x.component) y.held answer → StandsWell shape_of uses ready y
+  stands-told x y answer well left stage turns component inputs outputs depths fresh deep sound made owes is_ready = record {
     good = record {
       maker = refl;
       made = omega (arith, made, turns, owed-most y.stage, well.good.made, owes);
       turns = subst (λ (st : Stage). y.turns + least_left st ≤ TURN_LIMIT) (sym stage) (limit (nat_eq (x.turns + 1) TURN_LIMIT) refl);
       depths = depths ∙ well.good.depths ∙ ap length (sym outputs);
       nested = subst (IsNested y) (sym stage) (nested (nat_eq (x.turns + 1) TURN_LIMIT));
-      is_ready = subst (ReadyAt (ready y.part) y.held) (sym stage) (can (nat_eq (x.turns + 1) TURN_LIMIT));
+      is_ready = subst (ReadyAt (ready y.component) y.held) (sym stage) (can (nat_eq (x.turns + 1) TURN_LIMIT));
     };
     fit = record {
-      inputs = ap (λ (k : K). (shape_of k).inputs) part ∙ well.fit.inputs ∙ ap length (sym inputs);
-      used = λ port is. (let u = well.fit.used port (subst (λ (k : K). IsTrue (uses k port)) part is) in
+      inputs = ap (λ (k : K). (shape_of k).inputs) component ∙ well.fit.inputs ∙ ap length (sym inputs);
+      used = λ port is. (let u = well.fit.used port (subst (λ (k : K). IsTrue (uses k port)) component is) in
           subst (λ (os : List (Option ℕ)). IsSome (output_in os port)) (sym outputs) u);
       granted = subst (IsGranted y) (sym stage) (granted (nat_eq (x.turns + 1) TURN_LIMIT));
     };
@@ -157,9 +157,9 @@ module _ {K : Type 0} (shape_of : K → Shape) (uses : K → ℕ → Bool) (read
       nested true = tt
       nested false = tt
 
-      can : (b : Bool) → ReadyAt (ready y.part) y.held (cond b (stages.Failed fails.TurnLimit) (stages.Told answer))
+      can : (b : Bool) → ReadyAt (ready y.component) y.held (cond b (stages.Failed fails.TurnLimit) (stages.Told answer))
       can true = tt
-      can false = subst (λ (k : K). ReadyIfSound (ready k) y.held answer) (sym part) is_ready
+      can false = subst (λ (k : K). ReadyIfSound (ready k) y.held answer) (sym component) is_ready
 
       granted : (b : Bool) → IsGranted y (cond b (stages.Failed fails.TurnLimit) (stages.Told answer))
       granted true = tt
@@ -167,33 +167,33 @@ module _ {K : Type 0} (shape_of : K → Shape) (uses : K → ℕ → Bool) (read
 
   -- A process that has done its work.
   pub stands-worked : (next : K → Held → Answer → Outcome K → Type 0)
-      → ((part : K) (held : Held) (answer : Answer) (outcome : Outcome K) → ready part held answer → next part held answer outcome → Obeys (shape_of part) (uses part) held outcome)
-      → ((part : K) (held : Held) (answer : Answer) (outcome : Outcome K) → ready part held answer → next part held answer outcome → StaysReady ready outcome)
-      → ((part : K) (held : Held) (answer : Answer) (outcome : Outcome K) → next part held answer outcome → IsSteady shape_of uses part outcome)
-      → (x : Process K) (answer : Answer) (outcome : Outcome K) → x.stage ≡ stages.Told answer → next x.part x.held answer outcome → StandsWell shape_of uses ready x → StandsWell shape_of uses ready (worked x outcome)
+      → ((component : K) (held : Held) (answer : Answer) (outcome : Outcome K) → ready component held answer → next component held answer outcome → Obeys (shape_of component) (uses component) held outcome)
+      → ((component : K) (held : Held) (answer : Answer) (outcome : Outcome K) → ready component held answer → next component held answer outcome → StaysReady ready outcome)
+      → ((component : K) (held : Held) (answer : Answer) (outcome : Outcome K) → next component held answer outcome → IsSteady shape_of uses component outcome)
+      → (x : Process K) (answer : Answer) (outcome : Outcome K) → x.stage ≡ stages.Told answer → next x.component x.held answer outcome → StandsWell shape_of uses ready x → StandsWell shape_of uses ready (worked x outcome)
   stands-worked next obeys stays steady x answer outcome told comes_to well =
-      let now : ready x.part x.held answer = (subst (ReadyAt (ready x.part) x.held) told well.good.is_ready) well.sound in
-      let lawful = obeys x.part x.held answer outcome now comes_to in
-      let works = comes x.held (held_after outcome) (comes-of (shape_of x.part) (uses x.part) x.held outcome lawful) in
+      let now : ready x.component x.held answer = (subst (ReadyAt (ready x.component) x.held) told well.good.is_ready) well.sound in
+      let lawful = obeys x.component x.held answer outcome now comes_to in
+      let works = comes x.held (held_after outcome) (comes-of (shape_of x.component) (uses x.component) x.held outcome lawful) in
       let owes : owed x.stage ≡ 1 = ap owed told in
       let left : least_left x.stage ≡ 1 = ap least_left told in
       let made = made-comes x.held (held_after outcome) works in
-      by outcome (ready-worked ready x outcome (stays x.part x.held answer outcome now comes_to)) (fit-worked shape_of uses x outcome lawful (steady x.part x.held answer outcome comes_to) well.fit)
+      by outcome (ready-worked ready x outcome (stays x.component x.held answer outcome now comes_to)) (fit-worked shape_of uses x outcome lawful (steady x.component x.held answer outcome comes_to) well.fit)
       (sound-comes x.held (held_after outcome) works (few-made x well) well.sound) (omega (arith, made, well.good.made, owes)) (omega (arith, well.good.turns, left))
     where
       made-comes : (old new : Held) → Keeps old new ⊎ MakesOne old new → new.made ≤ old.made + 1
       made-comes old new (inl keeps) = omega (arith, keeps.made)
       made-comes old new (inr one) = omega (arith, one.made)
 
-      by : (outcome : Outcome K) → ReadyAt (ready (worked x outcome).part) (worked x outcome).held (worked x outcome).stage → FitProcess shape_of uses (worked x outcome) → Sound (held_after outcome) → (held_after outcome).made ≤ 2 * x.turns → x.turns + 1 ≤ TURN_LIMIT
+      by : (outcome : Outcome K) → ReadyAt (ready (worked x outcome).component) (worked x outcome).held (worked x outcome).stage → FitProcess shape_of uses (worked x outcome) → Sound (held_after outcome) → (held_after outcome).made ≤ 2 * x.turns → x.turns + 1 ≤ TURN_LIMIT
           → StandsWell shape_of uses ready (worked x outcome)
-      by (Wishes part held wish) is_ready fit sound made turns = record {
+      by (Wishes component held wish) is_ready fit sound made turns = record {
         good = record {
           maker = refl;
-          made = omega (arith, made, owed-worked x (Wishes part held wish));
-          turns = omega (arith, turns, least_left-most (worked x (Wishes part held wish)).stage);
+          made = omega (arith, made, owed-worked x (Wishes component held wish));
+          turns = omega (arith, turns, least_left-most (worked x (Wishes component held wish)).stage);
           depths = well.good.depths;
-          nested = nested-worked x (Wishes part held wish);
+          nested = nested-worked x (Wishes component held wish);
           is_ready = is_ready;
         };
         fit = fit;
@@ -203,7 +203,7 @@ module _ {K : Type 0} (shape_of : K → Shape) (uses : K → ℕ → Bool) (read
         short = well.short;
         few = well.few;
       }
-      by (Fails part held cause) is_ready fit sound made turns = record {
+      by (Fails component held cause) is_ready fit sound made turns = record {
         good = record { maker = refl; made = omega (arith, made); turns = omega (arith, turns); depths = well.good.depths; nested = tt; is_ready = tt };
         fit = fit;
         sound = sound;
@@ -220,7 +220,7 @@ module _ {K : Type 0} (shape_of : K → Shape) (uses : K → ℕ → Bool) (read
       z : Stage → Process K
       z stage = record x { stage = stage; turns = x.turns + 1 }
 
-      well-at : (stage : Stage) → owed stage ≡ 0 → x.turns + 1 + least_left stage ≤ TURN_LIMIT → IsNested (z stage) stage → ReadyAt (ready x.part) x.held stage → IsGranted (z stage) stage → StandsWell shape_of uses ready (z stage)
+      well-at : (stage : Stage) → owed stage ≡ 0 → x.turns + 1 + least_left stage ≤ TURN_LIMIT → IsNested (z stage) stage → ReadyAt (ready x.component) x.held stage → IsGranted (z stage) stage → StandsWell shape_of uses ready (z stage)
       well-at stage owes most nested can granted = record {
         good = record { maker = refl; made = omega (arith, owes, well.good.made); turns = most; depths = well.good.depths; nested = nested; is_ready = can };
         fit = record { inputs = well.fit.inputs; used = well.fit.used; granted = granted };
@@ -246,14 +246,14 @@ module _ {K : Type 0} (shape_of : K → Shape) (uses : K → ℕ → Bool) (read
   -- A process that took an initial text.
   pub stands-text : (x : Process K) (port : Port) (text : List ℕ) → StandsWell shape_of uses ready x → x.stage ≡ stages.Wishing (wishes.Receive port) → StandsWell shape_of uses ready (process_after x (Takes_text port.0 text))
   stands-text x port text well stage =
-      let now = subst (ReadyAt (ready x.part) x.held) stage well.good.is_ready in
+      let now = subst (ReadyAt (ready x.component) x.held) stage well.good.is_ready in
       stands-told x (process_after x (Takes_text port.0 text)) (answers.Got (next_id x.held)) well (turn-left x well (ap least_left stage)) refl refl refl refl refl refl (length-set x.fresh port.0 false) (λ p. omega (arith, well.deep p))
       (sound-comes x.held (with_made x.held kinds.Normal text) (inr (made-one x.held kinds.Normal text)) (few-made x well) well.sound) (omega arith) (ap owed stage) (now.2 text)
 
   -- A process that got a packet.
   pub stands-got : (x : Process K) (port : Port) (packet : Tree) → StandsWell shape_of uses ready x → x.stage ≡ stages.Wishing (wishes.Receive port) → Sound (with_packet x.held packet) → StandsWell shape_of uses ready (process_after x (Gets port.0 0 packet))
   stands-got x port packet well stage sound =
-      let now = subst (ReadyAt (ready x.part) x.held) stage well.good.is_ready in
+      let now = subst (ReadyAt (ready x.component) x.held) stage well.good.is_ready in
       stands-told x (process_after x (Gets port.0 0 packet)) (answers.Got (id_of packet)) well (turn-left x well (ap least_left stage)) refl refl refl refl refl refl refl (λ p. omega (arith, well.deep p)) sound (omega arith) (ap owed stage) (now.1 packet)
 
   depth-most : (kind : Kind) (depth : ℕ) → depth_after kind depth ≤ depth + 1
@@ -291,7 +291,7 @@ module _ {K : Type 0} (shape_of : K → Shape) (uses : K → ℕ → Bool) (read
   stands-sent kind x left =
       let y = left.before in
       let well = left.stood in
-      let now = subst (ReadyAt (ready y.part) y.held) left.wished well.good.is_ready in
+      let now = subst (ReadyAt (ready y.component) y.held) left.wished well.good.is_ready in
       let granted = subst (IsGranted y) left.wished well.fit.granted in
       let there : left.port.0 < length y.depths = omega (arith, within-some y.outputs left.port.0 granted.0, well.good.depths) in
       let z : ℕ → Process K = λ port. record y { stage = limited (y.turns + 1) (stages.Told answers.Sent); turns = y.turns + 1; held = without_packet y.held left.id; depths = slice_set y.depths port (depth_after kind (slice_index y.depths port)) } in

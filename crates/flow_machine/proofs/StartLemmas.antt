@@ -28,17 +28,17 @@ use Rattle.flow_model.specs.Plans.{comes_from}
 use Rattle.flow_machine.specs.FitNets.{IsWiredBody, FitNet}
 use Rattle.flow_machine.specs.Starts.{StartsBody, StartsBodies, StartsNet, channel_begun}
 
-process-there : {K : Type 0} (plan : Plan) (n : ℕ) (xs : List PlanProcess) (parts : List K) (k : ℕ) (x : PlanProcess) (part : K) → slice_get xs k ≡ Some x → slice_get parts k ≡ Some part → slice_get (processes_at_start plan n xs parts) k ≡ Some (process_at_start plan (n + k) x part)
-process-there plan n [] parts k x part is at = absurd (cc)
-process-there plan n (y ∷ xs) [] k x part is at = absurd (cc)
-process-there plan n (y ∷ xs) (z ∷ parts) zero x part is at =
+process-there : {K : Type 0} (plan : Plan) (n : ℕ) (xs : List PlanProcess) (components : List K) (k : ℕ) (x : PlanProcess) (component : K) → slice_get xs k ≡ Some x → slice_get components k ≡ Some component → slice_get (processes_at_start plan n xs components) k ≡ Some (process_at_start plan (n + k) x component)
+process-there plan n [] components k x component is at = absurd (cc)
+process-there plan n (y ∷ xs) [] k x component is at = absurd (cc)
+process-there plan n (y ∷ xs) (z ∷ components) zero x component is at =
     let same : y ≡ x = cc in
-    let same' : z ≡ part = cc in
+    let same' : z ≡ component = cc in
     let m : n ≡ n + zero = omega arith in
     λ i. Some (process_at_start plan (m i) (same i) (same' i))
-process-there plan n (y ∷ xs) (z ∷ parts) (suc k) x part is at =
+process-there plan n (y ∷ xs) (z ∷ components) (suc k) x component is at =
     let m : n + 1 + k ≡ n + suc k = omega arith in
-    process-there plan (n + 1) xs parts k x part is at ∙ ap (λ (q : ℕ). Some (process_at_start plan q x part)) m
+    process-there plan (n + 1) xs components k x component is at ∙ ap (λ (q : ℕ). Some (process_at_start plan q x component)) m
 
 length-ports : {A : Type 0} (f : ℕ → A) (k n : ℕ) → length (map f (range_with_len k n)) ≡ n
 length-ports f k zero = refl
@@ -74,15 +74,15 @@ connected : (text : List ℕ) (found : Option ℕ) (c : ℕ) → connected_or te
 connected text (Some d) c is = let h : d ≡ c = cc in ap (λ n. Some n) h
 connected text None c is = absurd (cc)
 
-pub stands-start : {K : Type 0} (shape_of : K → Shape) (uses : K → ℕ → Bool) (ready : K → Held → Answer → Type 0) (plan : Plan) (parts : List K) (p : ℕ) (q : PlanProcess) (part : K) → StartsWell shape_of uses ready plan parts → slice_get plan.processes p ≡ Some q → slice_get parts p ≡ Some part
-    → q.outputs < 2 ^ 32 → StandsWell shape_of uses ready (process_at_start plan p q part)
-stands-start {K} shape_of uses ready plan parts p q part well is at few =
-    let x : Process K = process_at_start plan p q part in
+pub stands-start : {K : Type 0} (shape_of : K → Shape) (uses : K → ℕ → Bool) (ready : K → Held → Answer → Type 0) (plan : Plan) (components : List K) (p : ℕ) (q : PlanProcess) (component : K) → StartsWell shape_of uses ready plan components → slice_get plan.processes p ≡ Some q → slice_get components p ≡ Some component
+    → q.outputs < 2 ^ 32 → StandsWell shape_of uses ready (process_at_start plan p q component)
+stands-start {K} shape_of uses ready plan components p q component well is at few =
+    let x : Process K = process_at_start plan p q component in
     let z : 0 + p ≡ p = omega arith in
-    let there : slice_get (start_of plan parts).kept.processes p ≡ Some x = process-there plan 0 plan.processes parts p q part is at ∙ ap (λ (m : ℕ). Some (process_at_start plan m q part)) z in
+    let there : slice_get (start_of plan components).kept.processes p ≡ Some x = process-there plan 0 plan.processes components p q component is at ∙ ap (λ (m : ℕ). Some (process_at_start plan m q component)) z in
     record {
-      good = (Valid-start ready shape_of uses plan parts well).each p x there;
-      fit = AllFit-start shape_of uses ready plan parts well p x there;
+      good = (Valid-start ready shape_of uses plan components well).each p x there;
+      fit = AllFit-start shape_of uses ready plan components well p x there;
       sound = record { once = λ id. omega arith; counted = omega arith; below = λ id here own. absurd (omega (arith, here)) };
       fresh = length-replicate q.inputs false ∙ sym (length-ports (input_at plan p q) 0 q.inputs);
       deep = λ port. omega (arith, zero-depth q.outputs port);
@@ -92,18 +92,18 @@ stands-start {K} shape_of uses ready plan parts p q part well is at few =
       few = omega (arith, length-ports (sends_at plan p) 0 q.outputs, few);
     }
 
-bodies-shown : {K : Type 0} (plan : Plan) (n : ℕ) (xs : List PlanProcess) (parts : List K) (bodies : List (BodyValue K)) → length parts ≡ length xs → length bodies ≡ length xs
-    → ((k : ℕ) (q : PlanProcess) (part : K) (b : BodyValue K) → slice_get xs k ≡ Some q → slice_get parts k ≡ Some part → slice_get bodies k ≡ Some b → StartsBody (process_at_start plan (n + k) q part) b) → map shown_body bodies ≡ bodies_from (λ p. []) n (processes_at_start plan n xs parts)
-bodies-shown plan n [] parts [] each count starts = refl
-bodies-shown plan n [] parts (b ∷ bodies) each count starts = absurd (omega (arith, count))
+bodies-shown : {K : Type 0} (plan : Plan) (n : ℕ) (xs : List PlanProcess) (components : List K) (bodies : List (BodyValue K)) → length components ≡ length xs → length bodies ≡ length xs
+    → ((k : ℕ) (q : PlanProcess) (component : K) (b : BodyValue K) → slice_get xs k ≡ Some q → slice_get components k ≡ Some component → slice_get bodies k ≡ Some b → StartsBody (process_at_start plan (n + k) q component) b) → map shown_body bodies ≡ bodies_from (λ p. []) n (processes_at_start plan n xs components)
+bodies-shown plan n [] components [] each count starts = refl
+bodies-shown plan n [] components (b ∷ bodies) each count starts = absurd (omega (arith, count))
 bodies-shown plan n (q ∷ xs) [] bodies each count starts = absurd (omega (arith, each))
-bodies-shown plan n (q ∷ xs) (part ∷ parts) [] each count starts = absurd (omega (arith, count))
-bodies-shown {K} plan n (q ∷ xs) (part ∷ parts) (b ∷ bodies) each count starts =
-    let first = starts 0 q part b refl refl refl in
+bodies-shown plan n (q ∷ xs) (component ∷ components) [] each count starts = absurd (omega (arith, count))
+bodies-shown {K} plan n (q ∷ xs) (component ∷ components) (b ∷ bodies) each count starts =
+    let first = starts 0 q component b refl refl refl in
     let m : n + 0 ≡ n = omega arith in
-    let process : b.process ≡ process_at_start plan n q part = first.process ∙ ap (λ (k : ℕ). process_at_start plan k q part) m in
-    let rest = bodies-shown plan (n + 1) xs parts bodies (omega (arith, each)) (omega (arith, count))
-    (λ k q' part' b' is at here. (let e : n + suc k ≡ n + 1 + k = omega arith in subst (λ (j : ℕ). StartsBody (process_at_start plan j q' part') b') e (starts (suc k) q' part' b' is at here))) in
+    let process : b.process ≡ process_at_start plan n q component = first.process ∙ ap (λ (k : ℕ). process_at_start plan k q component) m in
+    let rest = bodies-shown plan (n + 1) xs components bodies (omega (arith, each)) (omega (arith, count))
+    (λ k q' component' b' is at here. (let e : n + suc k ≡ n + 1 + k = omega arith in subst (λ (j : ℕ). StartsBody (process_at_start plan j q' component') b') e (starts (suc k) q' component' b' is at here))) in
     λ i. record { process = process i; dropped = first.dropped i } ∷ rest i
 
 channels-shown : (n : ℕ) (cs : List NetConnection) → map channel_begun cs ≡ channels_from (λ c. []) n (map channel_at_start cs)
@@ -117,15 +117,15 @@ turns-none {K} (b ∷ bodies) none = sum_by-cons (λ (x : BodyValue K). x.proces
 -- each body is a process of the plan that starts
 record Begun {K : Type 0} (plan : Plan) (p : ℕ) (b : BodyValue K) : Type 0 where
   spec : PlanProcess
-  part : K
-  starts : StartsBody (process_at_start plan p spec part) b
+  component : K
+  starts : StartsBody (process_at_start plan p spec component) b
 
-begun : {K : Type 0} (plan : Plan) (parts : List K) (bodies : List (BodyValue K)) → length parts ≡ length plan.processes → StartsBodies plan parts bodies → (p : ℕ) (b : BodyValue K) → slice_get bodies p ≡ Some b → Begun plan p b
-begun plan parts bodies each start p b is =
+begun : {K : Type 0} (plan : Plan) (components : List K) (bodies : List (BodyValue K)) → length components ≡ length plan.processes → StartsBodies plan components bodies → (p : ℕ) (b : BodyValue K) → slice_get bodies p ≡ Some b → Begun plan p b
+begun plan components bodies each start p b is =
     let within = slice_get_within bodies p b is in
     let q = element-there plan.processes p (omega (arith, within, start.count)) in
-    let part = element-there parts p (omega (arith, within, start.count, each)) in
-    record { spec = q.0; part = part.0; starts = start.each p q.0 part.0 b q.1 part.1 is }
+    let component = element-there components p (omega (arith, within, start.count, each)) in
+    record { spec = q.0; component = component.0; starts = start.each p q.0 component.0 b q.1 component.1 is }
 
 no_connection : PlanConnection
 no_connection = record { receiver = 0; input = 0; capacity = 0; senders = [] }
@@ -134,8 +134,8 @@ unwrapped : (found : Option (Option ℕ)) (c : ℕ) → option_and_then (λ (con
 unwrapped (Some x) c is = ap (λ (y : Option ℕ). Some y) is
 unwrapped None c is = absurd (cc)
 
-wired-start : {K : Type 0} (network : Network) (p : ℕ) (q : PlanProcess) (part : K) (b : BodyValue K) → b.process ≡ process_at_start network p q part → IsWiredBody (length (map channel_begun network.connections)) b
-wired-start {K} network p q part b process =
+wired-start : {K : Type 0} (network : Network) (p : ℕ) (q : PlanProcess) (component : K) (b : BodyValue K) → b.process ≡ process_at_start network p q component → IsWiredBody (length (map channel_begun network.connections)) b
+wired-start {K} network p q component b process =
     let plan = network in
     let same : length network.connections ≡ length (map channel_begun network.connections) = sym (length-map network.connections channel_begun) in
     record {
@@ -172,43 +172,43 @@ first-is (y ∷ xs) (suc n) v x there is = first-is xs n v x there is
 pub first-of : {A : Type 0} (xs ys : List A) (n : ℕ) (v x : A) → ys ≡ drop n xs → slice_get xs n ≡ Some x → v ≡ get_or ys 0 v → v ≡ x
 first-of {A} xs ys n v x is there first = first-is xs n v x there (first ∙ ap (λ (zs : List A). get_or zs 0 v) is)
 
-pub starts-same : {K : Type 0} (plan : Plan) (p p' : ℕ) (q q' : PlanProcess) (part part' : K) (b b' : BodyValue K) → p ≡ p' → q ≡ q' → part ≡ part' → b ≡ b' → StartsBody (process_at_start plan p q part) b → StartsBody (process_at_start plan p' q' part') b'
-starts-same {K} plan p p' q q' part part' b b' places specs parts bodies start =
-    subst (λ (x : BodyValue K). StartsBody (process_at_start plan p' q' part') x) bodies
-    (subst (λ (x : K). StartsBody (process_at_start plan p' q' x) b) parts
-    (subst (λ (x : PlanProcess). StartsBody (process_at_start plan p' x part) b) specs
-    (subst (λ (x : ℕ). StartsBody (process_at_start plan x q part) b) places start)))
+pub starts-same : {K : Type 0} (plan : Plan) (p p' : ℕ) (q q' : PlanProcess) (component component' : K) (b b' : BodyValue K) → p ≡ p' → q ≡ q' → component ≡ component' → b ≡ b' → StartsBody (process_at_start plan p q component) b → StartsBody (process_at_start plan p' q' component') b'
+starts-same {K} plan p p' q q' component component' b b' places specs components bodies start =
+    subst (λ (x : BodyValue K). StartsBody (process_at_start plan p' q' component') x) bodies
+    (subst (λ (x : K). StartsBody (process_at_start plan p' q' x) b) components
+    (subst (λ (x : PlanProcess). StartsBody (process_at_start plan p' x component) b) specs
+    (subst (λ (x : ℕ). StartsBody (process_at_start plan x q component) b) places start)))
 
-module _ {K : Type 0} (shape_of : K → Shape) (uses : K → ℕ → Bool) (ready : K → Held → Answer → Type 0) (network : Network) (parts : List K) (bodies : List (BodyValue K)) where
+module _ {K : Type 0} (shape_of : K → Shape) (uses : K → ℕ → Bool) (ready : K → Held → Answer → Type 0) (network : Network) (components : List K) (bodies : List (BodyValue K)) where
   abbrev pub begun_net : NetValue K
   begun_net = net_of bodies (map channel_begun network.connections)
 
-  pub starts-net : StartsWell shape_of uses ready network parts → StartsBodies network parts bodies → StartsNet network parts begun_net
+  pub starts-net : StartsWell shape_of uses ready network components → StartsBodies network components bodies → StartsNet network components begun_net
   starts-net well start =
       let plan = network in
-      let shown = bodies-shown plan 0 plan.processes parts bodies well.one_each start.count
-      (λ k q part b is at here. (let e : k ≡ 0 + k = omega arith in subst (λ (j : ℕ). StartsBody (process_at_start plan j q part) b) e (start.each k q part b is at here))) in
+      let shown = bodies-shown plan 0 plan.processes components bodies well.one_each start.count
+      (λ k q component b is at here. (let e : k ≡ 0 + k = omega arith in subst (λ (j : ℕ). StartsBody (process_at_start plan j q component) b) e (start.each k q component b is at here))) in
       let channels = channels-shown 0 network.connections in
       record {
         stands = λ i. record { bodies = shown i; channels = channels i };
-        set = λ p b is. (begun plan parts bodies well.one_each start p b is).starts.set;
-        unmade = λ p b is. (let s = (begun plan parts bodies well.one_each start p b is).starts in (s.stamps, s.levels));
+        set = λ p b is. (begun plan components bodies well.one_each start p b is).starts.set;
+        unmade = λ p b is. (let s = (begun plan components bodies well.one_each start p b is).starts in (s.stamps, s.levels));
       }
 
-  pub fit-start : StartsWell shape_of uses ready network parts → StartsBodies network parts bodies → FitNet shape_of uses ready begun_net
+  pub fit-start : StartsWell shape_of uses ready network components → StartsBodies network components bodies → FitNet shape_of uses ready begun_net
   fit-start well start =
       let plan = network in
-      let each = begun plan parts bodies well.one_each start in
+      let each = begun plan components bodies well.one_each start in
       let none = turns-none bodies (λ p b is. ap (λ (x : Process K). x.turns) (each p b is).starts.process) in
       record {
-        state = start_of plan parts;
-        fit = Fit-start shape_of uses ready plan parts well;
+        state = start_of plan components;
+        fit = Fit-start shape_of uses ready plan components well;
         stands = (starts-net well start).stands;
         log = [];
         logs = λ p b is. (let s = (each p b is).starts in (s.stamps, s.levels));
         total = sym none;
         few = omega (arith, start.count, well.wired.few_processes);
         whole = λ p b is. (each p b is).starts.leaving;
-        wired = λ p b is. (let s = each p b is in wired-start network p s.spec s.part b s.starts.process);
+        wired = λ p b is. (let s = each p b is in wired-start network p s.spec s.component b s.starts.process);
         puts = λ c channel is. omega (arith, no-puts network.connections c channel is);
       }

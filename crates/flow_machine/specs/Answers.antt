@@ -28,20 +28,24 @@ receive_case port (Some (From c)) = Some (cases.Receive c port)
 receive_case port (Some (Text text)) = Some (cases.Initial port)
 receive_case port None = None
 
+-- The case of a wish to send, by what stands at the output.
 abbrev pub send_case : Port → Option ℕ → Option Case
 send_case port (Some c) = Some (cases.Send c port)
 send_case port None = None
 
+-- The case of a wish to learn a level, by what stands at the output.
 abbrev pub level_case : Port → Option ℕ → Option Case
 level_case port (Some c) = Some (cases.Level c port)
 level_case port None = None
 
+-- The case of a wish.
 abbrev pub wish_case : {K : Type 0} → Process K → Wish → Option Case
 wish_case x (wishes.Receive port) = receive_case port (slice_get x.inputs port.0)
 wish_case x (wishes.Send port id) = send_case port (output_at x port.0)
 wish_case x (wishes.Level port) = level_case port (output_at x port.0)
 wish_case x wishes.Deactivate = Some cases.Deactivate
 
+-- The case of closing, by the next output.
 abbrev pub close_case : Option Outlet → Option Case
 close_case (Some outlet) = Some (cases.Close outlet.connection)
 close_case None = None
@@ -55,6 +59,7 @@ stage_case x (stages.Closing i) = close_case (slice_get (outlets x) i)
 stage_case x stages.Ended = Some (cases.Over overs.Ended)
 stage_case x (stages.Failed cause) = Some (cases.Over overs.Failed)
 
+-- The kind of turn that a process would have.
 abbrev pub case_of : {K : Type 0} → Process K → Option Case
 case_of x = stage_case x x.stage
 

@@ -23,6 +23,7 @@ port_of (wishes.Send port id) = port.0
 port_of (wishes.Level port) = port.0
 port_of wishes.Deactivate = 0
 
+-- The port that a wish names.
 abbrev pub port_at : Stage → ℕ
 port_at (stages.Wishing wish) = port_of wish
 port_at stages.Idle = 0
@@ -77,15 +78,19 @@ levels_by effects.Closed stamp = []
 abbrev pub WishesReceive : Stage → Type 0
 WishesReceive stage = (port : Port) × (stage ≡ stages.Wishing (wishes.Receive port))
 
+-- It wishes to send.
 abbrev pub WishesSend : Stage → Type 0
 WishesSend stage = (port : Port) × (id : ℕ) × (stage ≡ stages.Wishing (wishes.Send port id))
 
+-- It wishes to learn a level.
 abbrev pub WishesLevel : Stage → Type 0
 WishesLevel stage = (port : Port) × (stage ≡ stages.Wishing (wishes.Level port))
 
+-- It wishes to receive at an input with an initial text.
 abbrev pub WishesText : {K : Type 0} → Process K → Type 0
 WishesText x = (port : Port) × (text : List ℕ) × (x.stage ≡ stages.Wishing (wishes.Receive port)) × (slice_get x.inputs port.0 ≡ Some (Text text))
 
+-- It closes its outputs.
 abbrev pub IsClosing : Stage → Type 0
 IsClosing stage = (i : ℕ) × (stage ≡ stages.Closing i)
 
@@ -108,6 +113,7 @@ id_wished (wishes.Receive port) = None
 id_wished (wishes.Level port) = None
 id_wished wishes.Deactivate = None
 
+-- The packet that it wishes to send.
 abbrev pub id_sent : Stage → Option ℕ
 id_sent (stages.Wishing wish) = id_wished wish
 id_sent stages.Idle = None

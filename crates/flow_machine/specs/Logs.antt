@@ -37,7 +37,7 @@ Logs {K} log net = (p : ℕ) (b : BodyValue K) → slice_get net.bodies p ≡ So
 
 -- These are all turns that were made in a net, in the order of their stamps: each body remembers its part, and there are no more.
 pub record IsLogOf {K : Type 0} (log : List Logged) (net : NetValue K) : Type 0 where
-  pub parts : Logs log net
+  pub logs : Logs log net
   pub total : length log ≡ turns_made net
 
 -- A net has such a list of turns.

@@ -126,6 +126,7 @@ is_asking (stages.Closing i) = false
 is_asking stages.Ended = false
 is_asking (stages.Failed cause) = false
 
+-- It wishes to learn a level.
 abbrev pub asks_level : Stage → Type 0
 asks_level stage = is_asking stage ≡ true
 

@@ -74,12 +74,15 @@ pub record IsFirstUnset {K : Type 0} (bodies : List (BodyValue K)) (p : ℕ) : T
 abbrev pub turns_of : {K : Type 0} → (K → Held → Answer → Outcome K → Type 0) → ℕ → Journal → State K → State K → Type 0
 turns_of next p journal s s' = TurnsOf next p s journal.turns journal.seen s'
 
+-- Turns of one process until it has none.
 abbrev pub burst_of : {K : Type 0} → (K → Held → Answer → Outcome K → Type 0) → ℕ → Journal → State K → State K → Type 0
 burst_of next p journal s s' = Burst next p s journal s'
 
+-- A pass over the first n processes.
 abbrev pub pass_below : {K : Type 0} → (K → Held → Answer → Outcome K → Type 0) → ℕ → Journal → State K → State K → Type 0
 pass_below next n journal s s' = PassBelow next n s journal s'
 
+-- Passes, each with a turn.
 abbrev pub some_passes : {K : Type 0} → (K → Held → Answer → Outcome K → Type 0) → Journal → State K → State K → Type 0
 some_passes next journal s s' = (passes : List Journal) × (journal ≡ joined passes) × Passes next s passes s'
 
@@ -87,6 +90,7 @@ some_passes next journal s s' = (passes : List Journal) × (journal ≡ joined p
 abbrev pub some_works : {K : Type 0} → (K → Held → Answer → Outcome K → Type 0) → Journal → State K → State K → Type 0
 some_works next journal s s' = (journal ≡ no_turns) × ((works : List ℕ) × WorksLead next s works s')
 
+-- The pending works, process by process.
 abbrev pub all_settled : {K : Type 0} → (K → Held → Answer → Outcome K → Type 0) → Journal → State K → State K → Type 0
 all_settled next journal s s' = (journal ≡ no_turns) × SettlesAll next s s'
 

@@ -23,19 +23,20 @@ abbrev pub AllSet : {K : Type 0} → List (BodyValue K) → Type 0
 AllSet {K} bodies = (p : ℕ) (b : BodyValue K) → slice_get bodies p ≡ Some b → IsSet b
 
 -- Bodies that have made no turn are the processes of the plan at their start, each with its component.
-pub record StartsBodies {K : Type 0} (plan : Plan) (parts : List K) (bodies : List (BodyValue K)) : Type 0 where
+pub record StartsBodies {K : Type 0} (plan : Plan) (components : List K) (bodies : List (BodyValue K)) : Type 0 where
   pub count : length bodies ≡ length plan.processes
-  pub each : (p : ℕ) (q : PlanProcess) (part : K) (b : BodyValue K) → slice_get plan.processes p ≡ Some q → slice_get parts p ≡ Some part → slice_get bodies p ≡ Some b → StartsBody (process_at_start plan p q part) b
+  pub each : (p : ℕ) (q : PlanProcess) (component : K) (b : BodyValue K) → slice_get plan.processes p ≡ Some q → slice_get components p ≡ Some component → slice_get bodies p ≡ Some b → StartsBody (process_at_start plan p q component) b
 
 -- A connection at its start: it is empty, with every sender open, and nothing was put.
 abbrev pub channel_begun : NetConnection → ChannelShown
 channel_begun c = record { packets = []; capacity = c.capacity; open_senders = length c.senders; puts = 0; takes = 0 }
 
+-- The channels of a start: empty, with the capacity and the senders of their connections.
 abbrev pub StartsChannels : List NetConnection → List ChannelShown → Type 0
 StartsChannels connections channels = channels ≡ map channel_begun connections
 
 -- A net that has just started: it stands for the start state of the plan with these components, each process is set, and no turn was made.
-pub record StartsNet {K : Type 0} (plan : Plan) (parts : List K) (net : NetValue K) : Type 0 where
-  pub stands : StandsForOpen (shown_net net) (start_of plan parts)
+pub record StartsNet {K : Type 0} (plan : Plan) (components : List K) (net : NetValue K) : Type 0 where
+  pub stands : StandsForOpen (shown_net net) (start_of plan components)
   pub set : AllSet net.bodies
   pub unmade : (p : ℕ) (b : BodyValue K) → slice_get net.bodies p ≡ Some b → (b.stamps ≡ []) × (b.levels ≡ [])

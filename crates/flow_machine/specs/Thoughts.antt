@@ -19,6 +19,7 @@ use Rattle.flow_machine.specs.declared.answers.Thought.TheVariants as thoughts
 use Rattle.flow_machine.specs.Values.{BodyValue}
 use Rattle.flow_machine.specs.Texts.{text_taken}
 
+-- The initial text at the input that a wish names.
 abbrev pub text_wished : {K : Type 0} → Process K → Wish → Option (List ℕ)
 text_wished x (wishes.Receive port) = text_taken (is_fresh x port.0) (slice_get x.inputs port.0)
 text_wished x (wishes.Send port id) = None
@@ -63,7 +64,7 @@ pub record WorkedBody {K : Type 0} (next : K → Held → Answer → Outcome K �
   pub answer : Answer
   pub outcome : Outcome K
   pub told : old.process.stage ≡ stages.Told answer
-  pub comes : next old.process.part old.process.held answer outcome
+  pub comes : next old.process.component old.process.held answer outcome
   pub process : new.process ≡ worked old.process outcome
   pub dropped : new.dropped ≡ dropped_count old.dropped (drops_between old.process.held (held_after outcome))
 

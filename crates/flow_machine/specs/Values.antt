@@ -31,5 +31,6 @@ net_of bodies channels = record { bodies = bodies; channels = channels }
 abbrev pub shown_body : {K : Type 0} → BodyValue K → BodyShown K
 shown_body body = record { process = body.process; dropped = body.dropped }
 
+-- What a net shows of a state.
 abbrev pub shown_net : {K : Type 0} → NetValue K → NetShown K
 shown_net net = record { bodies = map shown_body net.bodies; channels = net.channels }

@@ -12,7 +12,7 @@ abbrev pub process_shown : {K : Type 0} → Inside K → Process K
 process_shown b = record {
   stage = b.stage;
   has_run = b.has_run;
-  part = b.part;
+  component = b.component;
   held = held_of b.hands;
   fresh = b.fresh.items;
   depths = b.depths.items;
@@ -21,6 +21,7 @@ process_shown b = record {
   outputs = b.outputs.items;
 }
 
+-- What a body shows.
 abbrev pub body_shown : {K : Type 0} → Inside K → BodyValue K
 body_shown b = record {
   process = process_shown b;

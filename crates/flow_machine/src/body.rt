@@ -15,8 +15,8 @@ ghost use Rattle.flow_machine.specs.Outlets.{output_in};
 use crate::answers::{Case, Over, Status};
 use crate::inlet::Inlet;
 use crate::outlets::{outlet_at, output_at};
-use flow_limits::TURN_LIMIT;
 use flow_component::{Component, Port, Wish};
+use flow_limits::TURN_LIMIT;
 use flow_model::Stage;
 use flow_packet::{Hands, Kind, Packet, PacketId};
 use std::marker::Model;
@@ -32,7 +32,7 @@ pub struct Body<K: Component> {
     number: u32,
     stage: Stage,
     has_run: bool,
-    part: K,
+    component: K,
     hands: Hands,
     inlets: Vec<Inlet>,
     fresh: Vec<bool>,
@@ -105,9 +105,9 @@ impl<K: Component> Body<K> {
     }
 
     pub fn component(&self) -> &K
-        ensures { result.now ≡ self.now.process.part }
+        ensures { result.now ≡ self.now.process.component }
     {
-        &self.part
+        &self.component
     }
 
     /// The packets that it owns and holds.
@@ -243,7 +243,7 @@ impl<K: Component> Body<K> {
             number: _,
             stage: _,
             has_run: _,
-            part: _,
+            component: _,
             hands,
             inlets: _,
             fresh: _,

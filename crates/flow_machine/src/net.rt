@@ -10,8 +10,8 @@ use self::begin::{discard_bodies, discard_channels};
 use crate::answers::{Thought, Turn};
 use crate::body::Body;
 use crate::channel::Channel;
-use flow_limits::PROCESS_LIMIT;
 use flow_component::{Component, Gate, Wish};
+use flow_limits::PROCESS_LIMIT;
 use flow_model::{Block, Stage};
 use std::marker::Model;
 

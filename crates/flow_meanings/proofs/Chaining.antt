@@ -11,7 +11,7 @@ use Rattle.flow_parts.specs.Filling.{Filling}
 use Rattle.flow_component.specs.Runs.{text_packet}
 use Rattle.flow_parts.specs.Meanings.{rendered_all, words_of}
 use Rattle.flow_catalogue.specs.declared.standard.Std.{Std}
-use Rattle.flow_catalogue.specs.declared.standard.Std.TheVariants as parts
+use Rattle.flow_catalogue.specs.declared.standard.Std.TheVariants as components
 use Rattle.flow_catalogue.specs.Std.{std_shape, std_uses, StdReady, StdNext}
 use Rattle.flow_model.specs.States.{Input, From, is_sender}
 use Rattle.flow_plan.specs.declared.plan.Sender.{Sender}
@@ -26,9 +26,9 @@ use Rattle.flow_meanings.specs.Means.{is_looper}
 use Rattle.flow_meanings.specs.Composition.{Sending, coming, activated, inputs_of, arriving, leaving, Composes, wrote_in}
 use Rattle.flow_model.specs.Rising.{LeadsOn}
 use Rattle.flow_model.proofs.Rising.{finished-leads_on}
-use Rattle.flow_meanings.specs.Chains.{RunsPart, LeadsTo, TelegramMeans}
+use Rattle.flow_meanings.specs.Chains.{RunsComponent, LeadsTo, TelegramMeans}
 use Rattle.flow_meanings.specs.Outcomes.{AreSettled, IsUnmerged, OneOutcome, SameFiles, MergesAndBalancesNothing, PlanSameFiles}
-use Rattle.flow_meanings.proofs.Every.{facts-of, parts-first, made-settled}
+use Rattle.flow_meanings.proofs.Every.{facts-of, components-first, made-settled}
 use Rattle.flow_meanings.proofs.Composing.{start-there, length-ports, finished-composes}
 
 filter-all : {A : Type 0} (test : A → Bool) (xs : List A) → ((k : ℕ) (x : A) → slice_get xs k ≡ Some x → test x ≡ true) → filter test xs ≡ xs
@@ -58,10 +58,10 @@ led plan ks wrote m p q n x l =
 
 pub telegram-means : TelegramMeans
 telegram-means plan ks wrote a b c d lines size m is =
-    let read = m.each a is.reader.process (parts.ReadLines lines) is.reader.there is.reader.here in
-    let split = m.each b is.splitter.process (parts.Words _) is.splitter.there is.splitter.here in
-    let fills = m.each c is.filler.process (parts.Fill _) is.filler.there is.filler.here in
-    let writes = m.each d is.writer.process (parts.WriteLines []) is.writer.there is.writer.here in
+    let read = m.each a is.reader.process (components.ReadLines lines) is.reader.there is.reader.here in
+    let split = m.each b is.splitter.process (components.Words _) is.splitter.there is.splitter.here in
+    let fills = m.each c is.filler.process (components.Fill _) is.filler.there is.filler.here in
+    let writes = m.each d is.writer.process (components.WriteLines []) is.writer.there is.writer.here in
     let x1 = led plan ks wrote m a b _ is.splitter.process is.to_splitter ∙ read in
     let y1 = split ∙ ap (λ (ts : List Tree). flat_map words_of ts) x1 in
     let x2 = led plan ks wrote m b c _ is.filler.process is.to_filler ∙ y1 in
@@ -89,7 +89,7 @@ no_connection : PlanConnection
 no_connection = record { receiver = 0; input = 0; capacity = 0; senders = [] }
 
 -- whoever sends to a connection is a process whose component has that output
-feeds : (plan : Plan) (ks : List Std) → StartsWell std_shape std_uses StdReady plan ks → (p o c : ℕ) → sends_at plan p o ≡ Some c → (part : Std) × RunsPart plan ks p part × (o < (std_shape part).outputs)
+feeds : (plan : Plan) (ks : List Std) → StartsWell std_shape std_uses StdReady plan ks → (p o c : ℕ) → sends_at plan p o ≡ Some c → (component : Std) × RunsComponent plan ks p component × (o < (std_shape component).outputs)
 feeds plan ks well p o c sends =
     let sender : Sender = record { process = p; output = o } in
     let pos = position-Some (λ (x : PlanConnection). list_any (is_sender sender) x.senders) plan.connections c no_connection sends in
@@ -99,12 +99,12 @@ feeds plan ks well p o c sends =
     let q = well.wired.senders c at.0 x at.1 (get-there plan.connections c no_connection pos.0) at.2 in
     let there : slice_get plan.processes p ≡ Some q.0 = ap (slice_get plan.processes) who.0 ∙ q.1 in
     let below : p < length ks = omega (arith, slice_get_within plan.processes p q.0 there, well.one_each) in
-    let part = get_or ks p (parts.WriteLines []) in
-    let here : slice_get ks p ≡ Some part = get-there ks p (parts.WriteLines []) below in
+    let component = get_or ks p (components.WriteLines []) in
+    let here : slice_get ks p ≡ Some component = get-there ks p (components.WriteLines []) below in
     let n : 0 + p ≡ p = omega arith in
-    let z = process_at_start plan p q.0 part in
-    let fit = well.fit p z (start-there plan 0 plan.processes ks p q.0 part there here ∙ ap (λ (m : ℕ). Some (process_at_start plan m q.0 part)) n) in
-    (part, record { process = q.0; there = there; here = here }, omega (arith, fit.outputs, length-ports (sends_at plan p) 0 q.0.outputs, who.1, q.2))
+    let z = process_at_start plan p q.0 component in
+    let fit = well.fit p z (start-there plan 0 plan.processes ks p q.0 component there here ∙ ap (λ (m : ℕ). Some (process_at_start plan m q.0 component)) n) in
+    (component, record { process = q.0; there = there; here = here }, omega (arith, fit.outputs, length-ports (sends_at plan p) 0 q.0.outputs, who.1, q.2))
 
 -- in a network without merges and without a way back, what arrives at a process is the same in each composition
 module _ (plan : Plan) (ks : List Std) (wrote other : ℕ → List ℕ) (well : StartsWell std_shape std_uses StdReady plan ks) (settled : AreSettled ks) (unmerged : IsUnmerged plan) (order : LeadsOn plan) (m : Composes plan ks wrote) (n : Composes plan ks other) where
@@ -113,7 +113,7 @@ module _ (plan : Plan) (ks : List Std) (wrote other : ℕ → List ℕ) (well : 
 
   -- what arrives at a process of a lower rank, whatever it runs, is the same
   abbrev Before : ℕ → Type 0
-  Before fuel = (p : ℕ) (y : PlanProcess) (part : Std) (j : ℕ) → order.rank p < fuel → arriving m.on (activated part m.on (inputs_of plan p y)) (input_at plan p y j) ≡ arriving n.on (activated part n.on (inputs_of plan p y)) (input_at plan p y j)
+  Before fuel = (p : ℕ) (y : PlanProcess) (component : Std) (j : ℕ) → order.rank p < fuel → arriving m.on (activated component m.on (inputs_of plan p y)) (input_at plan p y j) ≡ arriving n.on (activated component n.on (inputs_of plan p y)) (input_at plan p y j)
 
   -- where someone sends there
   same-sent : (fuel q i c : ℕ) → order.rank q < suc fuel → receives_at plan q i ≡ Some c → Before fuel → (sender : Sender) → sends_at plan sender.process sender.output ≡ Some c → Same c
@@ -141,9 +141,9 @@ module _ (plan : Plan) (ks : List Std) (wrote other : ℕ → List ℕ) (well : 
       ap (λ (k : ℕ). Some k) e
 
   -- so a process is activated as often
-  same-times : (fuel q : ℕ) (x : PlanProcess) (part : Std) → order.rank q < suc fuel → Before fuel → activated part m.on (inputs_of plan q x) ≡ activated part n.on (inputs_of plan q x)
-  same-times fuel q x part less rest =
-      ap (λ (ns : List (Option ℕ)). activations (is_looper part) (greatest ns)) (map-same (coming m.on) (coming n.on) (inputs_of plan q x) (λ i input at. one i input (receives_at plan q i) refl (port-at (input_at plan q x) 0 x.inputs i input at)))
+  same-times : (fuel q : ℕ) (x : PlanProcess) (component : Std) → order.rank q < suc fuel → Before fuel → activated component m.on (inputs_of plan q x) ≡ activated component n.on (inputs_of plan q x)
+  same-times fuel q x component less rest =
+      ap (λ (ns : List (Option ℕ)). activations (is_looper component) (greatest ns)) (map-same (coming m.on) (coming n.on) (inputs_of plan q x) (λ i input at. one i input (receives_at plan q i) refl (port-at (input_at plan q x) 0 x.inputs i input at)))
     where
       at-input : (i : ℕ) (found : Option ℕ) → receives_at plan q i ≡ found → coming m.on (connected_or (text_at x.initials i) found) ≡ coming n.on (connected_or (text_at x.initials i) found)
       at-input i None is = refl
@@ -155,20 +155,20 @@ module _ (plan : Plan) (ks : List Std) (wrote other : ℕ → List ℕ) (well : 
           let here : connected_or (text_at x.initials i) found ≡ input = ap (connected_or (text_at x.initials i)) (sym is) ∙ ap (input_at plan q x) (sym e) ∙ at in
           ap (coming m.on) (sym here) ∙ at-input i found is ∙ ap (coming n.on) here
 
-  same-input : (fuel q : ℕ) (x : PlanProcess) (part : Std) (i : ℕ) → order.rank q < fuel → arriving m.on (activated part m.on (inputs_of plan q x)) (input_at plan q x i) ≡ arriving n.on (activated part n.on (inputs_of plan q x)) (input_at plan q x i)
-  same-input zero q x part i less = absurd (omega arith)
-  same-input (suc fuel) q x part i less = by (receives_at plan q i) refl (λ p y k j below. same-input fuel p y k j below)
+  same-input : (fuel q : ℕ) (x : PlanProcess) (component : Std) (i : ℕ) → order.rank q < fuel → arriving m.on (activated component m.on (inputs_of plan q x)) (input_at plan q x i) ≡ arriving n.on (activated component n.on (inputs_of plan q x)) (input_at plan q x i)
+  same-input zero q x component i less = absurd (omega arith)
+  same-input (suc fuel) q x component i less = by (receives_at plan q i) refl (λ p y k j below. same-input fuel p y k j below)
     where
       by : (found : Option ℕ) → receives_at plan q i ≡ found → Before fuel
-          → arriving m.on (activated part m.on (inputs_of plan q x)) (connected_or (text_at x.initials i) found) ≡ arriving n.on (activated part n.on (inputs_of plan q x)) (connected_or (text_at x.initials i) found)
-      by None is rest = ap (λ (k : ℕ). replicate k (text_packet (text_at x.initials i))) (same-times fuel q x part less rest)
+          → arriving m.on (activated component m.on (inputs_of plan q x)) (connected_or (text_at x.initials i) found) ≡ arriving n.on (activated component n.on (inputs_of plan q x)) (connected_or (text_at x.initials i) found)
+      by None is rest = ap (λ (k : ℕ). replicate k (text_packet (text_at x.initials i))) (same-times fuel q x component less rest)
       by (Some c) is rest = same-on fuel q i c less is rest (m.on c) (n.on c) refl refl
 
 pub one-outcome : OneOutcome
 one-outcome plan ks wrote other well settled unmerged order m n p bytes runs =
-    let a = m.each p runs.process (parts.WriteLines bytes) runs.there runs.here in
-    let b = n.each p runs.process (parts.WriteLines bytes) runs.there runs.here in
-    a ∙ ap rendered_all (same-input plan ks wrote other well settled unmerged order m n (suc (order.rank p)) p runs.process (parts.WriteLines bytes) 0 (omega arith)) ∙ sym b
+    let a = m.each p runs.process (components.WriteLines bytes) runs.there runs.here in
+    let b = n.each p runs.process (components.WriteLines bytes) runs.there runs.here in
+    a ∙ ap rendered_all (same-input plan ks wrote other well settled unmerged order m n (suc (order.rank p)) p runs.process (components.WriteLines bytes) 0 (omega arith)) ∙ sym b
 
 pub same-files : SameFiles
 same-files plan ks journal other s t well first settled unmerged leads finished leads' finished' p bytes runs =
@@ -205,5 +205,5 @@ unmerged-plan plan none c p o q r one two =
 
 pub plan-same-files : PlanSameFiles
 plan-same-files plan ks journal other s t none well are leads finished leads' finished' p bytes runs =
-    same-files plan ks journal other s t well (parts-first plan ks are) (λ q part at. (let is = are q part at in made-settled plan q is.process is.file part (none.no_balance q is.process is.there) is.made)) (unmerged-plan plan none)
+    same-files plan ks journal other s t well (components-first plan ks are) (λ q component at. (let is = are q component at in made-settled plan q is.process is.file component (none.no_balance q is.process is.there) is.made)) (unmerged-plan plan none)
     leads finished leads' finished' p bytes runs

@@ -43,45 +43,45 @@ some-contents [] some none = some refl
 some-contents (put ∷ puts) some none = cc
 
 -- what a schedule leads to, from a start of standard components
-module _ (plan : Plan) (parts : List Std) (journal : Journal) (s : State Std) (well : StartsWell std_shape std_uses StdReady plan parts) (leads : Leads StdNext (start_of plan parts) journal s) where
-  told : AllTell StdReady StdNext parts s
-  told = AllTell-leads StdReady StdNext std_shape std_uses std_obeys std_stays_ready parts (start_of plan parts) journal s (Valid-start StdReady std_shape std_uses plan parts well) (AllTell-start StdReady StdNext plan parts) leads
+module _ (plan : Plan) (components : List Std) (journal : Journal) (s : State Std) (well : StartsWell std_shape std_uses StdReady plan components) (leads : Leads StdNext (start_of plan components) journal s) where
+  told : AllTell StdReady StdNext components s
+  told = AllTell-leads StdReady StdNext std_shape std_uses std_obeys std_stays_ready components (start_of plan components) journal s (Valid-start StdReady std_shape std_uses plan components well) (AllTell-start StdReady StdNext plan components) leads
 
   valid : Valid StdReady s
-  valid = Valid-leads StdReady StdNext std_shape std_uses std_obeys std_stays_ready (start_of plan parts) journal s (Valid-start StdReady std_shape std_uses plan parts well) leads
+  valid = Valid-leads StdReady StdNext std_shape std_uses std_obeys std_stays_ready (start_of plan components) journal s (Valid-start StdReady std_shape std_uses plan components well) leads
 
   order : InOrder s
   order = valid.in_order
 
-  kept : SameWires (start_of plan parts) s × PutBySenders s
-  kept = wires-leads StdNext plan parts journal s leads
+  kept : SameWires (start_of plan components) s × PutBySenders s
+  kept = wires-leads StdNext plan components journal s leads
 
   gots : EndedGotAll s
-  gots = got-all StdReady StdNext parts s order told
+  gots = got-all StdReady StdNext components s order told
 
   -- a process as it was at the start, and as it is
-  was : (p : ℕ) (x : Process Std) → slice_get s.kept.processes p ≡ Some x → (z : Process Std) × (slice_get (processes_at_start plan 0 plan.processes parts) p ≡ Some z) × (wires z ≡ wires x)
+  was : (p : ℕ) (x : Process Std) → slice_get s.kept.processes p ≡ Some x → (z : Process Std) × (slice_get (processes_at_start plan 0 plan.processes components) p ≡ Some z) × (wires z ≡ wires x)
   was p x there =
-      let h : slice_get (map wires (processes_at_start plan 0 plan.processes parts)) p ≡ Some (wires x) = ap (λ (ws : List Wires). slice_get ws p) (sym kept.0) ∙ slice_get-map wires s.kept.processes p ∙ ap (option_map wires) there in
-      map-found wires (processes_at_start plan 0 plan.processes parts) p (wires x) h
+      let h : slice_get (map wires (processes_at_start plan 0 plan.processes components)) p ≡ Some (wires x) = ap (λ (ws : List Wires). slice_get ws p) (sym kept.0) ∙ slice_get-map wires s.kept.processes p ∙ ap (option_map wires) there in
+      map-found wires (processes_at_start plan 0 plan.processes components) p (wires x) h
 
   -- what was put on the connection at an input of a process that has ended is what it got there
   arrived : (p i c : ℕ) (x : Process Std) → slice_get s.kept.processes p ≡ Some x → x.stage ≡ stages.Ended → slice_get x.inputs i ≡ Some (From c) → contents (entries (s.past.put c)) ≡ got i (s.past.told p)
   arrived p i c x there ended input = ap contents (gots p i c x there ended input) ∙ got-contents s.past p i
 
-  over : (p : ℕ) (part : Std) (x : Process Std) → slice_get parts p ≡ Some part → slice_get s.kept.processes p ≡ Some x → x.stage ≡ stages.Ended → Over part p (s.past.told p) x
-  over p part x at there ended =
+  over : (p : ℕ) (component : Std) (x : Process Std) → slice_get components p ≡ Some component → slice_get s.kept.processes p ≡ Some x → x.stage ≡ stages.Ended → Over component p (s.past.told p) x
+  over p component x at there ended =
       let z = was p x there in
-      let began = begins plan 0 plan.processes parts p z.0 part z.1 at in
-      let own : z.0.part ≡ part = ap (λ (y : Process Std). y.part) began.1 in
+      let began = begins plan 0 plan.processes components p z.0 component z.1 at in
+      let own : z.0.component ≡ component = ap (λ (y : Process Std). y.component) began.1 in
       let fit = well.fit p z.0 z.1 in
-      let run = Tells-run StdReady StdNext parts s.kept.channels p (s.past.told p) x part at (turns-most x (valid.each p x there).turns) (told p x there) in
+      let run = Tells-run StdReady StdNext components s.kept.channels p (s.past.told p) x component at (turns-most x (valid.each p x there).turns) (told p x there) in
       record {
         run = run;
         ended = ended;
         fits = ap (λ (k : Std). (std_shape k).inputs) (sym own) ∙ fit.inputs ∙ ap (λ (w : Wires). length w.inputs) z.2;
         can_start = subst (λ (k : Std). CanStart (StdReady k)) own fit.can_start;
-        woken = λ some. elim (all-woken StdReady StdNext std_shape std_uses std_obeys std_stays_ready plan parts journal s well leads p x there (begins-starts (s.past.told p) (ended-begins part p (s.past.told p) x run ended some))) [
+        woken = λ some. elim (all-woken StdReady StdNext std_shape std_uses std_obeys std_stays_ready plan components journal s well leads p x there (begins-starts (s.past.told p) (ended-begins component p (s.past.told p) x run ended some))) [
           | inl none ↦ inl none
           | inr gets ↦ inr (record {
             input = gets.input;
@@ -91,29 +91,29 @@ module _ (plan : Plan) (parts : List Std) (journal : Journal) (s : State Std) (w
         ];
       }
 
-  pub means : (p : ℕ) (part : Std) (x : Process Std) → slice_get parts p ≡ Some part → IsFirst part → slice_get s.kept.processes p ≡ Some x → x.stage ≡ stages.Ended
-      → Means part (bytes_of x.part) (λ i. contents (got_at s.past p i)) (λ o. contents (sent_at s.past p o))
-  means p part x at first there ended =
-      let m = (facts-of part).means p (s.past.told p) x first (over p part x at there ended) in
-      let P : (ℕ → List Tree) → (ℕ → List Tree) → Type 0 = λ a b. Means part (bytes_of x.part) a b in
+  pub means : (p : ℕ) (component : Std) (x : Process Std) → slice_get components p ≡ Some component → IsFirst component → slice_get s.kept.processes p ≡ Some x → x.stage ≡ stages.Ended
+      → Means component (bytes_of x.component) (λ i. contents (got_at s.past p i)) (λ o. contents (sent_at s.past p o))
+  means p component x at first there ended =
+      let m = (facts-of component).means p (s.past.told p) x first (over p component x at there ended) in
+      let P : (ℕ → List Tree) → (ℕ → List Tree) → Type 0 = λ a b. Means component (bytes_of x.component) a b in
       subst (λ (b : ℕ → List Tree). P (λ i. contents (got_at s.past p i)) b) (λ j o. sym (sent-contents s.past p o) j)
       (subst (λ (a : ℕ → List Tree). P a (λ o. sent o (s.past.told p))) (λ j i. sym (got-contents s.past p i) j) m)
 
 pub keeps-meanings : KeepsMeanings
-keeps-meanings plan parts journal s well leads p part x at first there ended = means plan parts journal s well leads p part x at first there ended
+keeps-meanings plan components journal s well leads p component x at first there ended = means plan components journal s well leads p component x at first there ended
 
-pub start-there : {K : Type 0} (plan : Plan) (p : ℕ) (xs : List PlanProcess) (ks : List K) (k : ℕ) (x : PlanProcess) (part : K) → slice_get xs k ≡ Some x → slice_get ks k ≡ Some part
-    → slice_get (processes_at_start plan p xs ks) k ≡ Some (process_at_start plan (p + k) x part)
-start-there plan p [] ks k x part at here = absurd (cc)
-start-there plan p (y ∷ xs) [] k x part at here = absurd (cc)
-start-there plan p (y ∷ xs) (first ∷ ks) zero x part at here =
+pub start-there : {K : Type 0} (plan : Plan) (p : ℕ) (xs : List PlanProcess) (ks : List K) (k : ℕ) (x : PlanProcess) (component : K) → slice_get xs k ≡ Some x → slice_get ks k ≡ Some component
+    → slice_get (processes_at_start plan p xs ks) k ≡ Some (process_at_start plan (p + k) x component)
+start-there plan p [] ks k x component at here = absurd (cc)
+start-there plan p (y ∷ xs) [] k x component at here = absurd (cc)
+start-there plan p (y ∷ xs) (first ∷ ks) zero x component at here =
     let a : y ≡ x = cc in
-    let b : first ≡ part = cc in
+    let b : first ≡ component = cc in
     let n : p ≡ p + zero = omega arith in
     λ i. Some (process_at_start plan (n i) (a i) (b i))
-start-there plan p (y ∷ xs) (first ∷ ks) (suc k) x part at here =
+start-there plan p (y ∷ xs) (first ∷ ks) (suc k) x component at here =
     let n : p + 1 + k ≡ p + suc k = omega arith in
-    start-there plan (p + 1) xs ks k x part at here ∙ ap (λ (m : ℕ). Some (process_at_start plan m x part)) n
+    start-there plan (p + 1) xs ks k x component at here ∙ ap (λ (m : ℕ). Some (process_at_start plan m x component)) n
 
 pub range-at : {A : Type 0} (f : ℕ → A) (k n i : ℕ) → i < n → slice_get (map f (range_with_len k n)) i ≡ Some (f (k + i))
 range-at f k zero i l = absurd (omega arith)
@@ -142,8 +142,8 @@ never true = refl
 never false = refl
 
 -- so it was never activated
-pub asleep : (part : Std) (p : ℕ) (told : List Happening) (x : Process Std) (loops : Bool) → Over part p told x → told ≡ [] → activations loops (greatest (came 0 told x.inputs)) ≡ 0
-asleep part p told x loops over none = by (list_any is_connected x.inputs) refl
+pub asleep : (component : Std) (p : ℕ) (told : List Happening) (x : Process Std) (loops : Bool) → Over component p told x → told ≡ [] → activations loops (greatest (came 0 told x.inputs)) ≡ 0
+asleep component p told x loops over none = by (list_any is_connected x.inputs) refl
   where
     by : (b : Bool) → list_any is_connected x.inputs ≡ b → activations loops (greatest (came 0 told x.inputs)) ≡ 0
     by true some = ap (λ (es : List Happening). activations loops (greatest (came 0 es x.inputs))) none ∙ ap (activations loops) (none-told 0 x.inputs some) ∙ never loops
@@ -161,7 +161,7 @@ comings on k told (Text text ∷ inputs) same =
     ap (λ ns. None ∷ ns) later
 
 pub finished-composes : FinishedComposes
-finished-composes plan parts journal s well first leads finished = record {
+finished-composes plan components journal s well first leads finished = record {
   one_each = well.one_each;
   first = first;
   on = put_on s;
@@ -170,15 +170,15 @@ finished-composes plan parts journal s well first leads finished = record {
   others = others;
 }
   where
-    now : (p : ℕ) (z : Process Std) → slice_get (processes_at_start plan 0 plan.processes parts) p ≡ Some z → (x : Process Std) × (slice_get s.kept.processes p ≡ Some x) × (wires x ≡ wires z)
+    now : (p : ℕ) (z : Process Std) → slice_get (processes_at_start plan 0 plan.processes components) p ≡ Some z → (x : Process Std) × (slice_get s.kept.processes p ≡ Some x) × (wires x ≡ wires z)
     now p z there =
-        let h : slice_get (map wires s.kept.processes) p ≡ Some (wires z) = ap (λ (ws : List Wires). slice_get ws p) (kept plan parts journal s well leads).0 ∙ slice_get-map wires (processes_at_start plan 0 plan.processes parts) p ∙ ap (option_map wires) there in
+        let h : slice_get (map wires s.kept.processes) p ≡ Some (wires z) = ap (λ (ws : List Wires). slice_get ws p) (kept plan components journal s well leads).0 ∙ slice_get-map wires (processes_at_start plan 0 plan.processes components) p ∙ ap (option_map wires) there in
         map-found wires s.kept.processes p (wires z) h
 
     sends-in : (p o c : ℕ) (x : Process Std) → slice_get s.kept.processes p ≡ Some x → output_at x o ≡ Some c → sends_at plan p o ≡ Some c
     sends-in p o c x there output =
-        let z = was plan parts journal s well leads p x there in
-        let start = Rattle.flow_model.proofs.Start.start-process plan parts p z.0 z.1 in
+        let z = was plan components journal s well leads p x there in
+        let start = Rattle.flow_model.proofs.Start.start-process plan components p z.0 z.1 in
         let outputs : x.outputs ≡ map (sends_at plan p) (range_with_len 0 start.spec.outputs) = ap (λ (w : Wires). w.outputs) (sym z.2) ∙ ap (λ (y : Process Std). y.outputs) start.is in
         by start.spec.outputs (slice_get x.outputs o) refl output outputs
       where
@@ -196,38 +196,38 @@ finished-composes plan parts journal s well first leads finished = record {
     senders : (c k : ℕ) (sending : Sending) → slice_get (put_on s c) k ≡ Some sending → sends_at plan sending.sender.process sending.sender.output ≡ Some c
     senders c k sending is =
         let put = map-found sending_of (s.past.put c) k sending is in
-        let h = senders-at c put.0 (slice_get s.kept.processes put.0.sender.process) refl ((kept plan parts journal s well leads).1 c k put.0 put.1) in
+        let h = senders-at c put.0 (slice_get s.kept.processes put.0.sender.process) refl ((kept plan components journal s well leads).1 c k put.0 put.1) in
         subst (λ (sender : Sender). sends_at plan sender.process sender.output ≡ Some c) (ap (λ (w : Sending). w.sender) put.2) h
 
     -- how many packets are on a connection
     on-length : (p i c : ℕ) (x : Process Std) → slice_get s.kept.processes p ≡ Some x → x.stage ≡ stages.Ended → slice_get x.inputs i ≡ Some (From c) → length (put_on s c) ≡ length (got i (s.past.told p))
     on-length p i c x there ended input =
-        sym (length-map (put_on s c) (λ (sending : Sending). sending.content)) ∙ ap length (all-contents (s.past.put c) ∙ arrived plan parts journal s well leads p i c x there ended input)
+        sym (length-map (put_on s c) (λ (sending : Sending). sending.content)) ∙ ap length (all-contents (s.past.put c) ∙ arrived plan components journal s well leads p i c x there ended input)
 
     -- a process was activated as often as what is on its connections says
-    times : (p : ℕ) (part : Std) (x : Process Std) → slice_get s.kept.processes p ≡ Some x → x.stage ≡ stages.Ended → activated part (put_on s) x.inputs ≡ activations (is_looper part) (greatest (came 0 (s.past.told p) x.inputs))
-    times p part x there ended =
-        ap (λ (ns : List (Option ℕ)). activations (is_looper part) (greatest ns))
+    times : (p : ℕ) (component : Std) (x : Process Std) → slice_get s.kept.processes p ≡ Some x → x.stage ≡ stages.Ended → activated component (put_on s) x.inputs ≡ activations (is_looper component) (greatest (came 0 (s.past.told p) x.inputs))
+    times p component x there ended =
+        ap (λ (ns : List (Option ℕ)). activations (is_looper component) (greatest ns))
         (comings (put_on s) 0 (s.past.told p) x.inputs (λ i c at. on-length p i c x there ended at ∙ ap (λ (j : ℕ). length (got j (s.past.told p))) (let e : i ≡ 0 + i = omega arith in e)))
 
     -- what arrives at an input is what was got there
-    arrives : (p : ℕ) (part : Std) (x : Process Std) (i : ℕ) → slice_get parts p ≡ Some part → slice_get s.kept.processes p ≡ Some x → x.stage ≡ stages.Ended → (input : Input) → slice_get x.inputs i ≡ Some input
-        → contents (got_at s.past p i) ≡ arriving (put_on s) (activated part (put_on s) x.inputs) input
-    arrives p part x i at there ended (From c) input = sym (all-contents (s.past.put c) ∙ ap contents (gots plan parts journal s well leads p i c x there ended input))
-    arrives p part x i at there ended (Text text) input = got-contents s.past p i ∙ by (s.past.told p) refl ∙ ap (λ (n : ℕ). replicate n (text_packet text)) (sym (times p part x there ended))
+    arrives : (p : ℕ) (component : Std) (x : Process Std) (i : ℕ) → slice_get components p ≡ Some component → slice_get s.kept.processes p ≡ Some x → x.stage ≡ stages.Ended → (input : Input) → slice_get x.inputs i ≡ Some input
+        → contents (got_at s.past p i) ≡ arriving (put_on s) (activated component (put_on s) x.inputs) input
+    arrives p component x i at there ended (From c) input = sym (all-contents (s.past.put c) ∙ ap contents (gots plan components journal s well leads p i c x there ended input))
+    arrives p component x i at there ended (Text text) input = got-contents s.past p i ∙ by (s.past.told p) refl ∙ ap (λ (n : ℕ). replicate n (text_packet text)) (sym (times p component x there ended))
       where
-        o : Over part p (s.past.told p) x
-        o = over plan parts journal s well leads p part x at there ended
+        o : Over component p (s.past.told p) x
+        o = over plan components journal s well leads p component x at there ended
 
-        by : (es : List Happening) → s.past.told p ≡ es → got i (s.past.told p) ≡ replicate (activations (is_looper part) (greatest (came 0 (s.past.told p) x.inputs))) (text_packet text)
-        by [] none = ap (got i) none ∙ ap (λ (n : ℕ). replicate n (text_packet text)) (sym (asleep part p (s.past.told p) x (is_looper part) o none))
-        by (e ∷ es) told_is = (facts-of part).texts p (s.past.told p) x (first p part at) o (λ h. (let bad : e ∷ es ≡ [] = sym told_is ∙ h in cc)) i text input
+        by : (es : List Happening) → s.past.told p ≡ es → got i (s.past.told p) ≡ replicate (activations (is_looper component) (greatest (came 0 (s.past.told p) x.inputs))) (text_packet text)
+        by [] none = ap (got i) none ∙ ap (λ (n : ℕ). replicate n (text_packet text)) (sym (asleep component p (s.past.told p) x (is_looper component) o none))
+        by (e ∷ es) told_is = (facts-of component).texts p (s.past.told p) x (first p component at) o (λ h. (let bad : e ∷ es ≡ [] = sym told_is ∙ h in cc)) i text input
 
     -- what leaves an output is what was sent there
     leaves : (p : ℕ) (x : Process Std) (o c : ℕ) → slice_get s.kept.processes p ≡ Some x → output_at x o ≡ Some c → contents (sent_at s.past p o) ≡ leaving (put_on s) (record { process = p; output = o }) (sends_at plan p o)
     leaves p x o c there output =
         let sender : Sender = record { process = p; output = o } in
-        let sent' = (order plan parts journal s well leads).sent p o c (ap (output_of o) there ∙ output) in
+        let sent' = (order plan components journal s well leads).sent p o c (ap (output_of o) there ∙ output) in
         sym (ap (leaving (put_on s) sender) (sends-in p o c x there output) ∙ own-contents sender (s.past.put c) ∙ ap contents sent')
 
     leaves-used : (p : ℕ) (x : Process Std) (o : ℕ) (found : Option ℕ) → slice_get s.kept.processes p ≡ Some x → output_at x o ≡ found → IsSome found → contents (sent_at s.past p o) ≡ leaving (put_on s) (record { process = p; output = o }) (sends_at plan p o)
@@ -241,36 +241,36 @@ finished-composes plan parts journal s well first leads finished = record {
         by : (found : Option ℕ) → sends_at plan p o ≡ found → leaving (put_on s) (record { process = p; output = o }) found ≡ []
         by None is = refl
         by (Some c) is =
-            let z = sends-now std_shape std_uses StdReady StdNext plan parts journal s well leads p o c is in
+            let z = sends-now std_shape std_uses StdReady StdNext plan components journal s well leads p o c is in
             sym (ap (leaving (put_on s) (record { process = p; output = o })) is) ∙ sym (leaves p z.0 o c z.1 z.2) ∙ none
 
-    each : (p : ℕ) (x : PlanProcess) (part : Std) → slice_get plan.processes p ≡ Some x → slice_get parts p ≡ Some part
-        → Means part (wrote_in s p) (λ i. arriving (put_on s) (activated part (put_on s) (inputs_of plan p x)) (input_at plan p x i)) (λ o. leaving (put_on s) (record { process = p; output = o }) (sends_at plan p o))
-    each p x part here at =
-        let z = process_at_start plan p x part in
+    each : (p : ℕ) (x : PlanProcess) (component : Std) → slice_get plan.processes p ≡ Some x → slice_get components p ≡ Some component
+        → Means component (wrote_in s p) (λ i. arriving (put_on s) (activated component (put_on s) (inputs_of plan p x)) (input_at plan p x i)) (λ o. leaving (put_on s) (record { process = p; output = o }) (sends_at plan p o))
+    each p x component here at =
+        let z = process_at_start plan p x component in
         let n : 0 + p ≡ p = omega arith in
-        let there : slice_get (processes_at_start plan 0 plan.processes parts) p ≡ Some z = start-there plan 0 plan.processes parts p x part here at ∙ ap (λ (m : ℕ). Some (process_at_start plan m x part)) n in
+        let there : slice_get (processes_at_start plan 0 plan.processes components) p ≡ Some z = start-there plan 0 plan.processes components p x component here at ∙ ap (λ (m : ℕ). Some (process_at_start plan m x component)) n in
         let y = now p z there in
         let ended : y.0.stage ≡ stages.Ended = finished p y.0 y.1 in
         let fit = well.fit p z there in
         let inputs : y.0.inputs ≡ z.inputs = ap (λ (w : Wires). w.inputs) y.2 in
         let outputs : y.0.outputs ≡ z.outputs = ap (λ (w : Wires). w.outputs) y.2 in
-        let wrote : bytes_of y.0.part ≡ wrote_in s p = sym (ap (λ (f : Option (Process Std)). unwrap_or (option_and_then (λ (w : Process Std). written_of w.part) f) []) y.1) in
-        (facts-of part).change (bytes_of y.0.part) (wrote_in s p) (λ i. contents (got_at s.past p i)) (λ i. arriving (put_on s) (activated part (put_on s) (inputs_of plan p x)) (input_at plan p x i)) (λ o. contents (sent_at s.past p o))
+        let wrote : bytes_of y.0.component ≡ wrote_in s p = sym (ap (λ (f : Option (Process Std)). unwrap_or (option_and_then (λ (w : Process Std). written_of w.component) f) []) y.1) in
+        (facts-of component).change (bytes_of y.0.component) (wrote_in s p) (λ i. contents (got_at s.past p i)) (λ i. arriving (put_on s) (activated component (put_on s) (inputs_of plan p x)) (input_at plan p x i)) (λ o. contents (sent_at s.past p o))
         (λ o. leaving (put_on s) (record { process = p; output = o }) (sends_at plan p o)) (record {
           bytes = wrote;
           inputs = λ i l.
-              arrives p part y.0 i at y.1 ended (input_at plan p x i)
+              arrives p component y.0 i at y.1 ended (input_at plan p x i)
               (ap (λ (is : List Input). slice_get is i) inputs ∙ range-at (input_at plan p x) 0 x.inputs i (omega (arith, l, fit.inputs, length-ports (input_at plan p x) 0 x.inputs)) ∙ ap (λ (m : ℕ). Some (input_at plan p x m)) (let e : 0 + i ≡ i = omega arith in e))
-              ∙ ap (λ (is : List Input). arriving (put_on s) (activated part (put_on s) is) (input_at plan p x i)) inputs;
+              ∙ ap (λ (is : List Input). arriving (put_on s) (activated component (put_on s) is) (input_at plan p x i)) inputs;
           outputs = λ o used. leaves-used p y.0 o (output_at y.0 o) y.1 refl (subst (λ (os : List (Option ℕ)). IsSome (option_and_then (λ (c : Option ℕ). c) (slice_get os o))) (sym outputs) (fit.used o used));
           silent = λ o none. leaves-none p y.0 o y.1 none;
         })
-        (means plan parts journal s well leads p part y.0 at (first p part at) y.1 ended)
+        (means plan components journal s well leads p component y.0 at (first p component at) y.1 ended)
 
-    others : (p : ℕ) (part : Std) → slice_get parts p ≡ Some part → written_of part ≡ None → wrote_in s p ≡ []
-    others p part at none = by (slice_get s.kept.processes p) refl
+    others : (p : ℕ) (component : Std) → slice_get components p ≡ Some component → written_of component ≡ None → wrote_in s p ≡ []
+    others p component at none = by (slice_get s.kept.processes p) refl
       where
-        by : (found : Option (Process Std)) → slice_get s.kept.processes p ≡ found → unwrap_or (option_and_then (λ (x : Process Std). written_of x.part) found) [] ≡ []
+        by : (found : Option (Process Std)) → slice_get s.kept.processes p ≡ found → unwrap_or (option_and_then (λ (x : Process Std). written_of x.component) found) [] ≡ []
         by None there = refl
-        by (Some x) there = (facts-of part).wrote_none p (s.past.told p) x (over plan parts journal s well leads p part x at there (finished p x there)) none
+        by (Some x) there = (facts-of component).wrote_none p (s.past.told p) x (over plan components journal s well leads p component x at there (finished p x there)) none

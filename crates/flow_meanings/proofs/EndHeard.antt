@@ -65,13 +65,13 @@ use Rattle.flow_streams.specs.Passthru.{passes, PassthruNext}
 use Rattle.flow_streams.specs.PassthruLaws.{passthru_obeys}
 
 -- where only an end leads to a deactivation, or what is on the way to one since an end
-module _ {K : Type 0} (ready : K → Held → Answer → Type 0) (next : K → Held → Answer → Outcome K → Type 0) (shape_of : K → Shape) (uses : K → ℕ → Bool) (one : (part : K) → (shape_of part).inputs ≡ 1)
-    (obeys : (part : K) (held : Held) (answer : Answer) (outcome : Outcome K) → ready part held answer → next part held answer outcome → Obeys (shape_of part) (uses part) held outcome)
+module _ {K : Type 0} (ready : K → Held → Answer → Type 0) (next : K → Held → Answer → Outcome K → Type 0) (shape_of : K → Shape) (uses : K → ℕ → Bool) (one : (component : K) → (shape_of component).inputs ≡ 1)
+    (obeys : (component : K) (held : Held) (answer : Answer) (outcome : Outcome K) → ready component held answer → next component held answer outcome → Obeys (shape_of component) (uses component) held outcome)
     (Leaves : K → Type 0)
-    (start : (p : Poise K) (q : Poise K) → Steps ready next p Started q → (q.wish ≡ wishes.Deactivate) ⊎ Leaves q.part → ⊥)
-    (got : (p : Poise K) (port : ℕ) (t : _) (q : Poise K) → Steps ready next p (Received port t) q → (q.wish ≡ wishes.Deactivate) ⊎ Leaves q.part → ⊥)
-    (sent : (p : Poise K) (port : ℕ) (t : _) (q : Poise K) → Steps ready next p (Sent port t) q → (q.wish ≡ wishes.Deactivate) ⊎ Leaves q.part → Leaves p.part)
-    (learned : (p : Poise K) (port level : ℕ) (q : Poise K) → Steps ready next p (Learned port level) q → (q.wish ≡ wishes.Deactivate) ⊎ Leaves q.part → ⊥) where
+    (start : (p : Poise K) (q : Poise K) → Steps ready next p Started q → (q.wish ≡ wishes.Deactivate) ⊎ Leaves q.component → ⊥)
+    (got : (p : Poise K) (port : ℕ) (t : _) (q : Poise K) → Steps ready next p (Received port t) q → (q.wish ≡ wishes.Deactivate) ⊎ Leaves q.component → ⊥)
+    (sent : (p : Poise K) (port : ℕ) (t : _) (q : Poise K) → Steps ready next p (Sent port t) q → (q.wish ≡ wishes.Deactivate) ⊎ Leaves q.component → Leaves p.component)
+    (learned : (p : Poise K) (port level : ℕ) (q : Poise K) → Steps ready next p (Learned port level) q → (q.wish ≡ wishes.Deactivate) ⊎ Leaves q.component → ⊥) where
   -- it receives from its one input alone
   abbrev FromFirst : Wish → Type 0
   FromFirst (wishes.Receive port) = port.0 ≡ 0
@@ -79,23 +79,23 @@ module _ {K : Type 0} (ready : K → Held → Answer → Type 0) (next : K → H
   FromFirst (wishes.Level port) = Unit {0}
   FromFirst wishes.Deactivate = Unit {0}
 
-  from-first : (part : K) (held : Held) (wish : Wish) → IsAllowed (shape_of part) (uses part) held wish → FromFirst wish
-  from-first part held (wishes.Receive port) a = omega (arith, a, one part)
-  from-first part held (wishes.Send port id) a = tt
-  from-first part held (wishes.Level port) a = tt
-  from-first part held wishes.Deactivate a = tt
+  from-first : (component : K) (held : Held) (wish : Wish) → IsAllowed (shape_of component) (uses component) held wish → FromFirst wish
+  from-first component held (wishes.Receive port) a = omega (arith, a, one component)
+  from-first component held (wishes.Send port id) a = tt
+  from-first component held (wishes.Level port) a = tt
+  from-first component held wishes.Deactivate a = tt
 
   stays-first : (p : Poise K) (e : Happening) (q : Poise K) → Steps ready next p e q → FromFirst q.wish
-  stays-first p e q s = from-first p.part q.held q.wish (obeys p.part s.held (answer_of e) (Wishes q.part q.held q.wish) s.is_ready s.comes_to).1
+  stays-first p e q s = from-first p.component q.held q.wish (obeys p.component s.held (answer_of e) (Wishes q.component q.held q.wish) s.is_ready s.comes_to).1
 
-  heard-step : (p : Poise K) (e : Happening) (q : Poise K) → FromFirst p.wish → Steps ready next p e q → (q.wish ≡ wishes.Deactivate) ⊎ Leaves q.part → IsEnd 0 e ⊎ Leaves p.part
+  heard-step : (p : Poise K) (e : Happening) (q : Poise K) → FromFirst p.wish → Steps ready next p e q → (q.wish ≡ wishes.Deactivate) ⊎ Leaves q.component → IsEnd 0 e ⊎ Leaves p.component
   heard-step p Started q a s l = absurd (start p q s l)
   heard-step p (Received port t) q a s l = absurd (got p port t q s l)
   heard-step p (Ended port) q a s l = (let z : port ≡ 0 = rw s.grants.0 at a in inl z)
   heard-step p (Sent port t) q a s l = inr (sent p port t q s l)
   heard-step p (Learned port level) q a s l = absurd (learned p port level q s l)
 
-  heard-run : (es : List Happening) (p q : Poise K) → FromFirst p.wish → Runs ready next p es q → q.wish ≡ wishes.Deactivate → es ≢ [] → HeardEnd 0 es ⊎ Leaves p.part
+  heard-run : (es : List Happening) (p q : Poise K) → FromFirst p.wish → Runs ready next p es q → q.wish ≡ wishes.Deactivate → es ≢ [] → HeardEnd 0 es ⊎ Leaves p.component
   heard-run [] p q a r d some = absurd (some refl)
   heard-run (e ∷ []) p q a r d some =
       let w : r.0.wish ≡ wishes.Deactivate = ap (λ (u : Poise K). u.wish) (sym r.2) ∙ d in
@@ -107,49 +107,49 @@ module _ {K : Type 0} (ready : K → Held → Answer → Type 0) (next : K → H
         | inr l ↦ elim (heard-step p e m a r.1 (inr l)) [ inl h ↦ inl (inl h) | inr k ↦ inr k ]
       ]
 
-  pub end-heard : (part : K) (told : List Happening) → EndedRun ready next part told → (Leaves part → ⊥) → told ≢ [] → HeardEnd 0 told
-  end-heard part told run not some = elim (heard-run told (fresh part run.maker) run.last tt run.runs run.idle some) [ inl h ↦ h | inr l ↦ absurd (not l) ]
+  pub end-heard : (component : K) (told : List Happening) → EndedRun ready next component told → (Leaves component → ⊥) → told ≢ [] → HeardEnd 0 told
+  end-heard component told run not some = elim (heard-run told (fresh component run.maker) run.last tt run.runs run.idle some) [ inl h ↦ h | inr l ↦ absurd (not l) ]
 
 abbrev Never : {K : Type 0} → K → Type 0
-Never part = ⊥
+Never component = ⊥
 
 pub write_lines-hears : (bytes : List ℕ) (told : List Happening) → EndedRun (λ (_ : List ℕ). IsAtHand) WriteLinesNext bytes told → told ≢ [] → HeardEnd 0 told
 write_lines-hears bytes told run some =
     end-heard (λ (_ : List ℕ). IsAtHand) WriteLinesNext (λ _. one_to_none) (λ _. uses_none) (λ _. refl) write_lines_obeys Never
-    (λ p q s l. elim l [ inl d ↦ (let c : Wishes q.part q.held q.wish ≡ Wishes p.part s.held receive_first = s.comes_to in cc) | inr n ↦ n ])
+    (λ p q s l. elim l [ inl d ↦ (let c : Wishes q.component q.held q.wish ≡ Wishes p.component s.held receive_first = s.comes_to in cc) | inr n ↦ n ])
     (λ p port t q s l. elim l [ inl d ↦ (let c = s.comes_to in let w : q.wish ≡ receive_first = cc in cc) | inr n ↦ n ])
-    (λ p port t q s l. elim l [ inl d ↦ (let c : Wishes q.part q.held q.wish ≡ Wishes p.part s.held receive_first = s.comes_to in cc) | inr n ↦ n ])
+    (λ p port t q s l. elim l [ inl d ↦ (let c : Wishes q.component q.held q.wish ≡ Wishes p.component s.held receive_first = s.comes_to in cc) | inr n ↦ n ])
     (λ p port level q s l. s.is_ready) bytes told run (λ n. n) some
 
-pub passthru-hears : {K : Type 0} (part : K) (told : List Happening) → EndedRun (λ (_ : K). IsAtHand) PassthruNext part told → told ≢ [] → HeardEnd 0 told
-passthru-hears {K} part told run some =
+pub passthru-hears : {K : Type 0} (component : K) (told : List Happening) → EndedRun (λ (_ : K). IsAtHand) PassthruNext component told → told ≢ [] → HeardEnd 0 told
+passthru-hears {K} component told run some =
     end-heard (λ (_ : K). IsAtHand) PassthruNext (λ _. one_to_one) (λ _. uses_first) (λ _. refl) passthru_obeys Never
-    (λ p q s l. elim l [ inl d ↦ (let c : Wishes q.part q.held q.wish ≡ Wishes p.part s.held receive_first = s.comes_to in cc) | inr n ↦ n ])
+    (λ p q s l. elim l [ inl d ↦ (let c : Wishes q.component q.held q.wish ≡ Wishes p.component s.held receive_first = s.comes_to in cc) | inr n ↦ n ])
     (λ p port t q s l. elim l [ inl d ↦ (let c = s.comes_to in let w : q.wish ≡ passes (answer_of (Received port t)) = cc in cc) | inr n ↦ n ])
-    (λ p port t q s l. elim l [ inl d ↦ (let c : Wishes q.part q.held q.wish ≡ Wishes p.part s.held receive_first = s.comes_to in cc) | inr n ↦ n ])
-    (λ p port level q s l. s.is_ready) part told run (λ n. n) some
+    (λ p port t q s l. elim l [ inl d ↦ (let c : Wishes q.component q.held q.wish ≡ Wishes p.component s.held receive_first = s.comes_to in cc) | inr n ↦ n ])
+    (λ p port level q s l. s.is_ready) component told run (λ n. n) some
 
 -- a Discard and a Hoard
-pub discard-hears : {K : Type 0} (part : K) (told : List Happening) → EndedRun (λ (_ : K). IsAtHand) DiscardNext part told → told ≢ [] → HeardEnd 0 told
-discard-hears {K} part told run some =
+pub discard-hears : {K : Type 0} (component : K) (told : List Happening) → EndedRun (λ (_ : K). IsAtHand) DiscardNext component told → told ≢ [] → HeardEnd 0 told
+discard-hears {K} component told run some =
     end-heard (λ (_ : K). IsAtHand) DiscardNext (λ _. one_to_none) (λ _. uses_none) (λ _. refl) discard_obeys Never
-    (λ p q s l. elim l [ inl d ↦ (let c : Wishes q.part q.held q.wish ≡ Wishes p.part s.held receive_first = s.comes_to in cc) | inr n ↦ n ])
-    (λ p port t q s l. elim l [ inl d ↦ (let c : Wishes q.part q.held q.wish ≡ Wishes p.part (without_packet s.held (Rattle.flow_packet.specs.Tree.id_of t)) receive_first = s.comes_to in cc) | inr n ↦ n ])
-    (λ p port t q s l. elim l [ inl d ↦ (let c : Wishes q.part q.held q.wish ≡ Wishes p.part s.held receive_first = s.comes_to in cc) | inr n ↦ n ])
-    (λ p port level q s l. s.is_ready) part told run (λ n. n) some
+    (λ p q s l. elim l [ inl d ↦ (let c : Wishes q.component q.held q.wish ≡ Wishes p.component s.held receive_first = s.comes_to in cc) | inr n ↦ n ])
+    (λ p port t q s l. elim l [ inl d ↦ (let c : Wishes q.component q.held q.wish ≡ Wishes p.component (without_packet s.held (Rattle.flow_packet.specs.Tree.id_of t)) receive_first = s.comes_to in cc) | inr n ↦ n ])
+    (λ p port t q s l. elim l [ inl d ↦ (let c : Wishes q.component q.held q.wish ≡ Wishes p.component s.held receive_first = s.comes_to in cc) | inr n ↦ n ])
+    (λ p port level q s l. s.is_ready) component told run (λ n. n) some
 
-pub hoard-hears : {K : Type 0} (part : K) (told : List Happening) → EndedRun (λ (_ : K). IsAtHand) HoardNext part told → told ≢ [] → HeardEnd 0 told
-hoard-hears {K} part told run some =
+pub hoard-hears : {K : Type 0} (component : K) (told : List Happening) → EndedRun (λ (_ : K). IsAtHand) HoardNext component told → told ≢ [] → HeardEnd 0 told
+hoard-hears {K} component told run some =
     end-heard (λ (_ : K). IsAtHand) HoardNext (λ _. one_to_none) (λ _. uses_none) (λ _. refl) hoard_obeys Never
-    (λ p q s l. elim l [ inl d ↦ (let c : Wishes q.part q.held q.wish ≡ Wishes p.part s.held receive_first = s.comes_to in cc) | inr n ↦ n ])
-    (λ p port t q s l. elim l [ inl d ↦ (let c : Wishes q.part q.held q.wish ≡ Wishes p.part s.held receive_first = s.comes_to in cc) | inr n ↦ n ])
-    (λ p port t q s l. elim l [ inl d ↦ (let c : Wishes q.part q.held q.wish ≡ Wishes p.part s.held receive_first = s.comes_to in cc) | inr n ↦ n ])
-    (λ p port level q s l. s.is_ready) part told run (λ n. n) some
+    (λ p q s l. elim l [ inl d ↦ (let c : Wishes q.component q.held q.wish ≡ Wishes p.component s.held receive_first = s.comes_to in cc) | inr n ↦ n ])
+    (λ p port t q s l. elim l [ inl d ↦ (let c : Wishes q.component q.held q.wish ≡ Wishes p.component s.held receive_first = s.comes_to in cc) | inr n ↦ n ])
+    (λ p port t q s l. elim l [ inl d ↦ (let c : Wishes q.component q.held q.wish ≡ Wishes p.component s.held receive_first = s.comes_to in cc) | inr n ↦ n ])
+    (λ p port level q s l. s.is_ready) component told run (λ n. n) some
 
 -- where the outcome goes on
 abbrev GoesOn : {K : Type 0} → Outcome K → Type 0
-GoesOn (Wishes part held wish) = wish ≡ wishes.Deactivate → ⊥
-GoesOn (Fails part held cause) = Unit {0}
+GoesOn (Wishes component held wish) = wish ≡ wishes.Deactivate → ⊥
+GoesOn (Fails component held cause) = Unit {0}
 
 words-piece : (held : Held) (id : ℕ) (text : List ℕ) (taken : ℕ) → GoesOn (sends_piece held id text taken)
 words-piece held id text taken = by (nat_lt (word_start text taken) (length text))
@@ -163,34 +163,34 @@ words-takes held id Normal = words-piece held id (text_at held.packets id) 0
 words-takes held id Open = λ d. cc
 words-takes held id Close = λ d. cc
 
-words-goes : (held : Held) (part : Words) → GoesOn (goes_on held part)
+words-goes : (held : Held) (component : Words) → GoesOn (goes_on held component)
 words-goes held words_parts.Waiting = λ d. cc
 words-goes held (words_parts.Splitting id taken) = words-piece held id (text_at held.packets id) taken
 
-pub words-hears : (part : Words) (told : List Happening) → EndedRun WordsReady WordsNext part told → told ≢ [] → HeardEnd 0 told
-words-hears part told run some =
+pub words-hears : (component : Words) (told : List Happening) → EndedRun WordsReady WordsNext component told → told ≢ [] → HeardEnd 0 told
+words-hears component told run some =
     end-heard WordsReady WordsNext (λ _. one_to_one) (λ _. uses_first) (λ _. refl) words_obeys Never
-    (λ p q s l. elim l [ inl d ↦ (let c : Wishes q.part q.held q.wish ≡ Wishes words_parts.Waiting s.held receive_first = s.comes_to in cc) | inr n ↦ n ])
+    (λ p q s l. elim l [ inl d ↦ (let c : Wishes q.component q.held q.wish ≡ Wishes words_parts.Waiting s.held receive_first = s.comes_to in cc) | inr n ↦ n ])
     (λ p port t q s l. elim l [ inl d ↦ subst GoesOn (sym s.comes_to) (words-takes s.held (Rattle.flow_packet.specs.Tree.id_of t) (kind_at s.held.packets (Rattle.flow_packet.specs.Tree.id_of t))) d | inr n ↦ n ])
-    (λ p port t q s l. elim l [ inl d ↦ subst GoesOn (sym s.comes_to) (words-goes s.held p.part) d | inr n ↦ n ])
-    (λ p port level q s l. s.is_ready) part told run (λ n. n) some
+    (λ p port t q s l. elim l [ inl d ↦ subst GoesOn (sym s.comes_to) (words-goes s.held p.component) d | inr n ↦ n ])
+    (λ p port level q s l. s.is_ready) component told run (λ n. n) some
 
-brackets-turn : {K : Type 0} (part : K) (held : Held) (id : ℕ) (text : List ℕ) (kind : Option Kind) → GoesOn (turns part held id text kind)
-brackets-turn part held id text None = λ d. cc
-brackets-turn part held id text (Some kind) = λ d. cc
+brackets-turn : {K : Type 0} (component : K) (held : Held) (id : ℕ) (text : List ℕ) (kind : Option Kind) → GoesOn (turns component held id text kind)
+brackets-turn component held id text None = λ d. cc
+brackets-turn component held id text (Some kind) = λ d. cc
 
-brackets-take : {K : Type 0} (part : K) (held : Held) (id : ℕ) (kind : Kind) → GoesOn (brackets.takes part held id kind)
-brackets-take part held id Normal = brackets-turn part held id (text_at held.packets id) (bracket_of (text_at held.packets id))
-brackets-take part held id Open = λ d. cc
-brackets-take part held id Close = λ d. cc
+brackets-take : {K : Type 0} (component : K) (held : Held) (id : ℕ) (kind : Kind) → GoesOn (brackets.takes component held id kind)
+brackets-take component held id Normal = brackets-turn component held id (text_at held.packets id) (bracket_of (text_at held.packets id))
+brackets-take component held id Open = λ d. cc
+brackets-take component held id Close = λ d. cc
 
-pub brackets-hears : {K : Type 0} (part : K) (told : List Happening) → EndedRun BracketsReady BracketsNext part told → told ≢ [] → HeardEnd 0 told
-brackets-hears {K} part told run some =
+pub brackets-hears : {K : Type 0} (component : K) (told : List Happening) → EndedRun BracketsReady BracketsNext component told → told ≢ [] → HeardEnd 0 told
+brackets-hears {K} component told run some =
     end-heard {K = K} BracketsReady BracketsNext (λ _. one_to_one) (λ _. uses_first) (λ _. refl) brackets_obeys Never
     (λ p q s l. elim l [ inl d ↦ subst GoesOn (sym s.comes_to) (λ e. cc) d | inr n ↦ n ])
-    (λ p port t q s l. elim l [ inl d ↦ subst GoesOn (sym s.comes_to) (brackets-take p.part s.held (Rattle.flow_packet.specs.Tree.id_of t) (kind_at s.held.packets (Rattle.flow_packet.specs.Tree.id_of t))) d | inr n ↦ n ])
+    (λ p port t q s l. elim l [ inl d ↦ subst GoesOn (sym s.comes_to) (brackets-take p.component s.held (Rattle.flow_packet.specs.Tree.id_of t) (kind_at s.held.packets (Rattle.flow_packet.specs.Tree.id_of t))) d | inr n ↦ n ])
     (λ p port t q s l. elim l [ inl d ↦ subst GoesOn (sym s.comes_to) (λ e. cc) d | inr n ↦ n ])
-    (λ p port level q s l. s.is_ready) part told run (λ n. n) some
+    (λ p port level q s l. s.is_ready) component told run (λ n. n) some
 
 -- A Fill leaves once its last line was sent.
 abbrev IsLeaving : FillState → Type 0
@@ -241,9 +241,9 @@ fill-goes state held places.Leaving w = λ h. w
 pub fill-hears : (size : ℕ) (told : List Happening) → EndedRun FillReady FillNext (fresh_fill size) told → told ≢ [] → HeardEnd 0 told
 fill-hears size told run some =
     end-heard FillReady FillNext (λ _. one_to_one) (λ _. uses_first) (λ _. refl) fill_obeys IsLeaving
-    (λ p q s l. subst Stays (sym s.comes_to) (stays-waiting p.part receive_first s.is_ready.0 (λ d. cc)) l)
-    (λ p port t q s l. subst Stays (sym s.comes_to) (fill-packet p.part s.held (Rattle.flow_packet.specs.Tree.id_of t) (kind_at s.held.packets (Rattle.flow_packet.specs.Tree.id_of t)) s.is_ready.0) l)
-    (λ p port t q s l. subst (Left p.part) (sym s.comes_to) (fill-goes p.part s.held p.part.place refl) l)
+    (λ p q s l. subst Stays (sym s.comes_to) (stays-waiting p.component receive_first s.is_ready.0 (λ d. cc)) l)
+    (λ p port t q s l. subst Stays (sym s.comes_to) (fill-packet p.component s.held (Rattle.flow_packet.specs.Tree.id_of t) (kind_at s.held.packets (Rattle.flow_packet.specs.Tree.id_of t)) s.is_ready.0) l)
+    (λ p port t q s l. subst (Left p.component) (sym s.comes_to) (fill-goes p.component s.held p.component.place refl) l)
     (λ p port level q s l. s.is_ready) (fresh_fill size) told run (λ l. let h : places.Waiting ≡ places.Leaving = l in cc) some
 
 -- Copy
@@ -259,13 +259,13 @@ copy-on : (state : CopyState) (held : Held) (place : CopyPlace) → GoesOn (copy
 copy-on state held copy_places.Waiting = λ d. cc
 copy-on state held (copy_places.Copying id output) = copy-goes state held id output
 
-pub copy-hears : (part : CopyState) (told : List Happening) → EndedRun CopyReady CopyNext part told → told ≢ [] → HeardEnd 0 told
-copy-hears part told run some =
+pub copy-hears : (component : CopyState) (told : List Happening) → EndedRun CopyReady CopyNext component told → told ≢ [] → HeardEnd 0 told
+copy-hears component told run some =
     end-heard CopyReady CopyNext copy_shape copy_uses (λ _. refl) copy_obeys Never
     (λ p q s l. elim l [ inl d ↦ subst GoesOn (sym s.comes_to) (λ e. cc) d | inr n ↦ n ])
-    (λ p port t q s l. elim l [ inl d ↦ subst GoesOn (sym s.comes_to) (copy-goes p.part s.held (id_of t) 0) d | inr n ↦ n ])
-    (λ p port t q s l. elim l [ inl d ↦ subst GoesOn (sym s.comes_to) (copy-on p.part s.held p.part.place) d | inr n ↦ n ])
-    (λ p port level q s l. s.is_ready) part told run (λ n. n) some
+    (λ p port t q s l. elim l [ inl d ↦ subst GoesOn (sym s.comes_to) (copy-goes p.component s.held (id_of t) 0) d | inr n ↦ n ])
+    (λ p port t q s l. elim l [ inl d ↦ subst GoesOn (sym s.comes_to) (copy-on p.component s.held p.component.place) d | inr n ↦ n ])
+    (λ p port level q s l. s.is_ready) component told run (λ n. n) some
 
 -- Count, which leaves once its number was sent
 
@@ -290,9 +290,9 @@ not-telling state f l = let h : false ≡ true = sym f ∙ l in cc
 pub count-hears : (connected : Bool) (told : List Happening) → EndedRun CountReady CountNext (fresh_count connected) told → told ≢ [] → HeardEnd 0 told
 count-hears connected told run some =
     end-heard CountReady CountNext (λ _. count_shape) count_uses (λ _. refl) count_obeys IsTelling
-    (λ p q s l. not-telling p.part s.is_ready.0 (subst (Counts p.part) (sym s.comes_to) (λ h. elim h [ inl d ↦ absurd (cc) | inr k ↦ k ]) l))
-    (λ p port t q s l. not-telling p.part s.is_ready.0 (subst (Counts p.part) (sym s.comes_to) (count-goes p.part.connected (record p.part { number = count.one_more (kind_at s.held.packets (id_of t)) p.part.number }) s.held (id_of t)) l))
-    (λ p port t q s l. subst (Counts p.part) (sym s.comes_to) (count-on p.part.leaving p.part s.held refl) l)
+    (λ p q s l. not-telling p.component s.is_ready.0 (subst (Counts p.component) (sym s.comes_to) (λ h. elim h [ inl d ↦ absurd (cc) | inr k ↦ k ]) l))
+    (λ p port t q s l. not-telling p.component s.is_ready.0 (subst (Counts p.component) (sym s.comes_to) (count-goes p.component.connected (record p.component { number = count.one_more (kind_at s.held.packets (id_of t)) p.component.number }) s.held (id_of t)) l))
+    (λ p port t q s l. subst (Counts p.component) (sym s.comes_to) (count-on p.component.leaving p.component s.held refl) l)
     (λ p port level q s l. s.is_ready) (fresh_count connected) told run (λ l. let h : false ≡ true = l in cc) some
 
 -- LoadBalance
@@ -319,25 +319,25 @@ load-comes : (state : LoadState) (held : Held) (id depth : ℕ) → GoesOn (load
 load-comes state held id zero = λ d. cc
 load-comes state held id (suc outer) = λ d. cc
 
-pub load-hears : (part : LoadState) (told : List Happening) → EndedRun LoadReady LoadNext part told → told ≢ [] → HeardEnd 0 told
-load-hears part told run some =
+pub load-hears : (component : LoadState) (told : List Happening) → EndedRun LoadReady LoadNext component told → told ≢ [] → HeardEnd 0 told
+load-hears component told run some =
     end-heard LoadReady LoadNext load_shape load_uses (λ _. refl) load_obeys Never
     (λ p q s l. elim l [ inl d ↦ subst GoesOn (sym s.comes_to) (λ e. cc) d | inr n ↦ n ])
-    (λ p port t q s l. elim l [ inl d ↦ subst GoesOn (sym s.comes_to) (load-comes (record p.part { depth = load.depth_after (kind_at s.held.packets (id_of t)) p.part.depth }) s.held (id_of t) p.part.depth) d | inr n ↦ n ])
+    (λ p port t q s l. elim l [ inl d ↦ subst GoesOn (sym s.comes_to) (load-comes (record p.component { depth = load.depth_after (kind_at s.held.packets (id_of t)) p.component.depth }) s.held (id_of t) p.component.depth) d | inr n ↦ n ])
     (λ p port t q s l. elim l [ inl d ↦ subst GoesOn (sym s.comes_to) (λ e. cc) d | inr n ↦ n ])
-    (λ p port level q s l. elim l [ inl d ↦ subst GoesOn (sym s.comes_to) (load-learns p.part s.held p.part.place level s.is_ready.1) d | inr n ↦ n ])
-    part told run (λ n. n) some
+    (λ p port level q s l. elim l [ inl d ↦ subst GoesOn (sym s.comes_to) (load-learns p.component s.held p.component.place level s.is_ready.1) d | inr n ↦ n ])
+    component told run (λ n. n) some
 
 -- Bundle
 
-bundle-gathers : (part : Bundle) (held : Held) (id packet depth : ℕ) → GoesOn (bundle.gathers part held id packet depth)
-bundle-gathers part held id packet depth = by (height_at held.packets packet == 16)
+bundle-gathers : (component : Bundle) (held : Held) (id packet depth : ℕ) → GoesOn (bundle.gathers component held id packet depth)
+bundle-gathers component held id packet depth = by (height_at held.packets packet == 16)
   where
-    by : (b : Bool) → GoesOn (cond b (Fails part held TreeDepth) (Wishes (bundle_parts.Inside id depth) (record held { packets = Rattle.flow_packet.specs.Hands.attached held.packets id items packet }) receive_first))
+    by : (b : Bool) → GoesOn (cond b (Fails component held TreeDepth) (Wishes (bundle_parts.Inside id depth) (record held { packets = Rattle.flow_packet.specs.Hands.attached held.packets id items packet }) receive_first))
     by true = tt
     by false = λ d. cc
 
-bundle-takes : (part : Bundle) (held : Held) (id : ℕ) (kind : Kind) → GoesOn (bundle.bundles part held id kind)
+bundle-takes : (component : Bundle) (held : Held) (id : ℕ) (kind : Kind) → GoesOn (bundle.bundles component held id kind)
 bundle-takes bundle_parts.Outside held id Normal = λ d. cc
 bundle-takes bundle_parts.Outside held id Open = λ d. cc
 bundle-takes bundle_parts.Outside held id Close = λ d. cc
@@ -349,13 +349,13 @@ bundle-takes (bundle_parts.Inside id depth) held packet Close = by (nat_lt 1 dep
     by true = bundle-gathers (bundle_parts.Inside id depth) held id packet (depth - 1)
     by false = λ d. cc
 
-pub bundle-hears : (part : Bundle) (told : List Happening) → EndedRun BundleReady BundleNext part told → told ≢ [] → HeardEnd 0 told
-bundle-hears part told run some =
+pub bundle-hears : (component : Bundle) (told : List Happening) → EndedRun BundleReady BundleNext component told → told ≢ [] → HeardEnd 0 told
+bundle-hears component told run some =
     end-heard BundleReady BundleNext (λ _. one_to_one) (λ _. uses_first) (λ _. refl) bundle_obeys Never
     (λ p q s l. elim l [ inl d ↦ subst GoesOn (sym s.comes_to) (λ e. cc) d | inr n ↦ n ])
-    (λ p port t q s l. elim l [ inl d ↦ subst GoesOn (sym s.comes_to) (bundle-takes p.part s.held (id_of t) (kind_at s.held.packets (id_of t))) d | inr n ↦ n ])
+    (λ p port t q s l. elim l [ inl d ↦ subst GoesOn (sym s.comes_to) (bundle-takes p.component s.held (id_of t) (kind_at s.held.packets (id_of t))) d | inr n ↦ n ])
     (λ p port t q s l. elim l [ inl d ↦ subst GoesOn (sym s.comes_to) (λ e. cc) d | inr n ↦ n ])
-    (λ p port level q s l. s.is_ready) part told run (λ n. n) some
+    (λ p port level q s l. s.is_ready) component told run (λ n. n) some
 
 -- Unbundle
 
@@ -367,14 +367,14 @@ unbundle-unpacks : (held : Held) (id : ℕ) (chain : List Tree) → GoesOn (unbu
 unbundle-unpacks held id [] = λ d. cc
 unbundle-unpacks held id (child ∷ children) = λ d. cc
 
-unbundle-on : (held : Held) (part : Unbundle) → GoesOn (unbundle.goes_on held part)
+unbundle-on : (held : Held) (component : Unbundle) → GoesOn (unbundle.goes_on held component)
 unbundle-on held unbundle_parts.Waiting = λ d. cc
 unbundle-on held (unbundle_parts.Unpacking id) = unbundle-unpacks held id (chain_of_root held.packets id items)
 
-pub unbundle-hears : (part : Unbundle) (told : List Happening) → EndedRun UnbundleReady UnbundleNext part told → told ≢ [] → HeardEnd 0 told
-unbundle-hears part told run some =
+pub unbundle-hears : (component : Unbundle) (told : List Happening) → EndedRun UnbundleReady UnbundleNext component told → told ≢ [] → HeardEnd 0 told
+unbundle-hears component told run some =
     end-heard UnbundleReady UnbundleNext (λ _. one_to_one) (λ _. uses_first) (λ _. refl) unbundle_obeys Never
     (λ p q s l. elim l [ inl d ↦ subst GoesOn (sym s.comes_to) (λ e. cc) d | inr n ↦ n ])
     (λ p port t q s l. elim l [ inl d ↦ subst GoesOn (sym s.comes_to) (unbundle-opens s.held (id_of t) (chain_of_root s.held.packets (id_of t) items)) d | inr n ↦ n ])
-    (λ p port t q s l. elim l [ inl d ↦ subst GoesOn (sym s.comes_to) (unbundle-on s.held p.part) d | inr n ↦ n ])
-    (λ p port level q s l. s.is_ready) part told run (λ n. n) some
+    (λ p port t q s l. elim l [ inl d ↦ subst GoesOn (sym s.comes_to) (unbundle-on s.held p.component) d | inr n ↦ n ])
+    (λ p port level q s l. s.is_ready) component told run (λ n. n) some

@@ -26,7 +26,7 @@ use Rattle.flow_parts.proofs.OneFilling.{one_filling}
 use Rattle.flow_parts.proofs.BracketsStream.{brackets_meaning}
 use Rattle.flow_parts.proofs.CountStream.{count_meaning}
 use Rattle.flow_catalogue.specs.declared.standard.Std.{Std}
-use Rattle.flow_catalogue.specs.declared.standard.Std.TheVariants as parts
+use Rattle.flow_catalogue.specs.declared.standard.Std.TheVariants as components
 use Rattle.flow_model.specs.States.{Input, From, Text, Process}
 use Rattle.flow_model.specs.Events.{is_connected}
 use Rattle.flow_model.specs.Runs.{IsConnectedAt}
@@ -35,13 +35,13 @@ use Rattle.flow_meanings.proofs.Over.{Over, Own, own, none-alone, single-ends, s
 use Rattle.flow_meanings.proofs.EndHeard.{write_lines-hears, words-hears, fill-hears, brackets-hears, count-hears}
 use Rattle.flow_meanings.proofs.Facts.{Facts}
 
-read_lines-own : (left : List (List ℕ)) (p : ℕ) (told : List Happening) (x : Process Std) → Over (parts.ReadLines left) p told x → Own parts.ReadLines ReadLinesReady (λ left held answer outcome. outcome ≡ reads held left) left told x
-read_lines-own left p told x over = own parts.ReadLines ReadLinesReady (λ left held answer. reads held left) (λ part held answer r. r) (λ part held answer. refl) left p told x over
+read_lines-own : (left : List (List ℕ)) (p : ℕ) (told : List Happening) (x : Process Std) → Over (components.ReadLines left) p told x → Own components.ReadLines ReadLinesReady (λ left held answer outcome. outcome ≡ reads held left) left told x
+read_lines-own left p told x over = own components.ReadLines ReadLinesReady (λ left held answer. reads held left) (λ component held answer r. r) (λ component held answer. refl) left p told x over
 
-pub read_lines-facts : (left : List (List ℕ)) → Facts (parts.ReadLines left)
+pub read_lines-facts : (left : List (List ℕ)) → Facts (components.ReadLines left)
 read_lines-facts left = record {
   means = λ p told x first over. read_lines_meaning left told (read_lines-own left p told x over).run (over.run.has_run (none-alone x over.fits) over.ended);
-  texts = λ p told x first over some. no-texts (parts.ReadLines left) p told x true over refl;
+  texts = λ p told x first over some. no-texts (components.ReadLines left) p told x true over refl;
   change = λ w w' x x' y y' same m. sym (same.outputs 0 refl) ∙ m;
   wrote_none = λ p told x over none. ap bytes_of (read_lines-own left p told x over).is;
   settles = λ s w w' x x' y y' ins m n o. one y y' o m n;
@@ -51,13 +51,13 @@ read_lines-facts left = record {
     one y y' zero m n l = m ∙ sym n
     one y y' (suc o) m n l = absurd (omega arith)
 
-write_lines-own : (bytes : List ℕ) (p : ℕ) (told : List Happening) (x : Process Std) → Over (parts.WriteLines bytes) p told x → Own parts.WriteLines (λ (_ : List ℕ). IsAtHand) (λ part held answer outcome. outcome ≡ writes part held answer) bytes told x
-write_lines-own bytes p told x over = own parts.WriteLines (λ (_ : List ℕ). IsAtHand) writes (λ part held answer r. r) (λ part held answer. refl) bytes p told x over
+write_lines-own : (bytes : List ℕ) (p : ℕ) (told : List Happening) (x : Process Std) → Over (components.WriteLines bytes) p told x → Own components.WriteLines (λ (_ : List ℕ). IsAtHand) (λ component held answer outcome. outcome ≡ writes component held answer) bytes told x
+write_lines-own bytes p told x over = own components.WriteLines (λ (_ : List ℕ). IsAtHand) writes (λ component held answer r. r) (λ component held answer. refl) bytes p told x over
 
-pub write_lines-facts : (bytes : List ℕ) → Facts (parts.WriteLines bytes)
+pub write_lines-facts : (bytes : List ℕ) → Facts (components.WriteLines bytes)
 write_lines-facts bytes = record {
   means = λ p told x first over. (let o = write_lines-own bytes p told x over in ap bytes_of o.is ∙ write_lines_meaning bytes told o.run ∙ ap (λ (bs : List ℕ). bs ++ rendered_all (got 0 told)) first);
-  texts = λ p told x first over some. single-texts (parts.WriteLines bytes) p told x over refl some (write_lines-hears bytes told (write_lines-own bytes p told x over).run some);
+  texts = λ p told x first over some. single-texts (components.WriteLines bytes) p told x over refl some (write_lines-hears bytes told (write_lines-own bytes p told x over).run some);
   change = λ w w' x x' y y' same m. sym same.bytes ∙ m ∙ ap rendered_all (same.inputs 0 (omega arith));
   wrote_none = λ p told x over none. absurd (cc);
   settles = λ s w w' x x' y y' ins m n o l. absurd (omega arith);
@@ -68,29 +68,29 @@ pub by-one : (f : List Tree → List Tree) (x x' y y' : ℕ → List Tree) → (
 by-one f x x' y y' ins m n zero l = m ∙ ap f (ins 0) ∙ sym n
 by-one f x x' y y' ins m n (suc o) l = absurd (omega arith)
 
-words-own : (part : Words) (p : ℕ) (told : List Happening) (x : Process Std) → Over (parts.Words part) p told x → Own parts.Words WordsReady WordsNext part told x
-words-own part p told x over = own parts.Words WordsReady words_next (λ part held answer r. r) (λ part held answer. refl) part p told x over
+words-own : (component : Words) (p : ℕ) (told : List Happening) (x : Process Std) → Over (components.Words component) p told x → Own components.Words WordsReady WordsNext component told x
+words-own component p told x over = own components.Words WordsReady words_next (λ component held answer r. r) (λ component held answer. refl) component p told x over
 
-pub words-facts : (part : Words) → Facts (parts.Words part)
-words-facts part = record {
-  means = λ p told x first over. words_meaning told (subst (λ (w : Words). EndedRun WordsReady WordsNext w told) first (words-own part p told x over).run);
-  texts = λ p told x first over some. single-texts (parts.Words part) p told x over refl some (words-hears part told (words-own part p told x over).run some);
+pub words-facts : (component : Words) → Facts (components.Words component)
+words-facts component = record {
+  means = λ p told x first over. words_meaning told (subst (λ (w : Words). EndedRun WordsReady WordsNext w told) first (words-own component p told x over).run);
+  texts = λ p told x first over some. single-texts (components.Words component) p told x over refl some (words-hears component told (words-own component p told x over).run some);
   change = λ w w' x x' y y' same m. sym (same.outputs 0 refl) ∙ m ∙ ap (λ (ts : List Tree). flat_map words_of ts) (same.inputs 0 (omega arith));
-  wrote_none = λ p told x over none. ap bytes_of (words-own part p told x over).is;
+  wrote_none = λ p told x over none. ap bytes_of (words-own component p told x over).is;
   settles = λ s w w' x x' y y' ins m n. by-one (λ ts. flat_map words_of ts) x x' y y' ins m n;
 }
 
-fill-own : (state : FillState) (p : ℕ) (told : List Happening) (x : Process Std) → Over (parts.Fill state) p told x → Own parts.Fill FillReady FillNext state told x
-fill-own state p told x over = own parts.Fill FillReady fill_next (λ part held answer r. r) (λ part held answer. refl) state p told x over
+fill-own : (state : FillState) (p : ℕ) (told : List Happening) (x : Process Std) → Over (components.Fill state) p told x → Own components.Fill FillReady FillNext state told x
+fill-own state p told x over = own components.Fill FillReady fill_next (λ component held answer r. r) (λ component held answer. refl) state p told x over
 
-fill-run : (state : FillState) (size : ℕ) (p : ℕ) (told : List Happening) (x : Process Std) → state ≡ fresh_fill size → Over (parts.Fill state) p told x → EndedRun FillReady FillNext (fresh_fill size) told
+fill-run : (state : FillState) (size : ℕ) (p : ℕ) (told : List Happening) (x : Process Std) → state ≡ fresh_fill size → Over (components.Fill state) p told x → EndedRun FillReady FillNext (fresh_fill size) told
 fill-run state size p told x first over = subst (λ (w : FillState). EndedRun FillReady FillNext w told) first (fill-own state p told x over).run
 
-pub fill-facts : (state : FillState) → Facts (parts.Fill state)
+pub fill-facts : (state : FillState) → Facts (components.Fill state)
 fill-facts state = record {
   means = λ p told x first over.
       subst (λ (w : FillState). Filling w.size (got 0 told) (sent 0 told)) (sym first.1) (fill_meaning first.0 told (fill-run state first.0 p told x first.1 over) (over.run.end_is_last 0 (single-ends x told over.run.once over.fits)));
-  texts = λ p told x first over some. single-texts (parts.Fill state) p told x over refl some (fill-hears first.0 told (fill-run state first.0 p told x first.1 over) some);
+  texts = λ p told x first over some. single-texts (components.Fill state) p told x over refl some (fill-hears first.0 told (fill-run state first.0 p told x first.1 over) some);
   change = λ w w' x x' y y' same m. subst (λ (b : List Tree). Filling state.size (x' 0) b) (same.outputs 0 refl) (subst (λ (a : List Tree). Filling state.size a (y 0)) (same.inputs 0 (omega arith)) m);
   wrote_none = λ p told x over none. ap bytes_of (fill-own state p told x over).is;
   settles = λ s w w' x x' y y' ins m n. one x x' y y' ins m n;
@@ -100,37 +100,37 @@ fill-facts state = record {
     one x x' y y' ins m n zero l = one_filling state.size (x' 0) (y 0) (y' 0) (subst (λ (ts : List Tree). Filling state.size ts (y 0)) (ins 0) m) n
     one x x' y y' ins m n (suc o) l = absurd (omega arith)
 
-brackets-own : (part : Brackets) (p : ℕ) (told : List Happening) (x : Process Std) → Over (parts.Brackets part) p told x → Own parts.Brackets BracketsReady (λ part held answer outcome. outcome ≡ brackets_next part held answer) part told x
-brackets-own part p told x over = own parts.Brackets BracketsReady brackets_next (λ part held answer r. r) (λ part held answer. refl) part p told x over
+brackets-own : (component : Brackets) (p : ℕ) (told : List Happening) (x : Process Std) → Over (components.Brackets component) p told x → Own components.Brackets BracketsReady (λ component held answer outcome. outcome ≡ brackets_next component held answer) component told x
+brackets-own component p told x over = own components.Brackets BracketsReady brackets_next (λ component held answer r. r) (λ component held answer. refl) component p told x over
 
-pub brackets-facts : (part : Brackets) → Facts (parts.Brackets part)
-brackets-facts part = record {
-  means = λ p told x first over. brackets_meaning part told (brackets-own part p told x over).run;
-  texts = λ p told x first over some. single-texts (parts.Brackets part) p told x over refl some (brackets-hears part told (brackets-own part p told x over).run some);
+pub brackets-facts : (component : Brackets) → Facts (components.Brackets component)
+brackets-facts component = record {
+  means = λ p told x first over. brackets_meaning component told (brackets-own component p told x over).run;
+  texts = λ p told x first over some. single-texts (components.Brackets component) p told x over refl some (brackets-hears component told (brackets-own component p told x over).run some);
   change = λ w w' x x' y y' same m. sym (same.outputs 0 refl) ∙ m ∙ ap (λ (ts : List Tree). map bracketed ts) (same.inputs 0 (omega arith));
-  wrote_none = λ p told x over none. ap bytes_of (brackets-own part p told x over).is;
+  wrote_none = λ p told x over none. ap bytes_of (brackets-own component p told x over).is;
   settles = λ s w w' x x' y y' ins m n. by-one (λ ts. map bracketed ts) x x' y y' ins m n;
 }
 
 -- Count
 
-count-own : (state : CountState) (p : ℕ) (told : List Happening) (x : Process Std) → Over (parts.Count state) p told x → Own parts.Count CountReady CountNext state told x
-count-own state p told x over = own parts.Count CountReady count_next (λ part held answer r. r) (λ part held answer. refl) state p told x over
+count-own : (state : CountState) (p : ℕ) (told : List Happening) (x : Process Std) → Over (components.Count state) p told x → Own components.Count CountReady CountNext state told x
+count-own state p told x over = own components.Count CountReady count_next (λ component held answer r. r) (λ component held answer. refl) state p told x over
 
-count-run : (state : CountState) (p : ℕ) (told : List Happening) (x : Process Std) → state ≡ fresh_count state.connected → Over (parts.Count state) p told x → EndedRun CountReady CountNext (fresh_count state.connected) told
+count-run : (state : CountState) (p : ℕ) (told : List Happening) (x : Process Std) → state ≡ fresh_count state.connected → Over (components.Count state) p told x → EndedRun CountReady CountNext (fresh_count state.connected) told
 count-run state p told x first over = subst (λ (w : CountState). EndedRun CountReady CountNext w told) first (count-own state p told x over).run
 
 -- each start brings something at its one input
-single-brings : (part : Std) (p : ℕ) (told : List Happening) (x : Process Std) → Over part p told x → (inputs : List Input) → x.inputs ≡ inputs → 1 ≡ length inputs → StartsBring (λ port. port ≡ 0) told
-single-brings part p told x over [] is one = absurd (omega arith)
-single-brings part p told x over (Text text ∷ []) is one = text-brings 0 text _ told (over.run.texts 0 text (ap (λ (inputs : List Input). Rattle.std.proofs.Common.slice_get inputs 0) is))
-single-brings part p told x over (From c ∷ []) is one =
+single-brings : (component : Std) (p : ℕ) (told : List Happening) (x : Process Std) → Over component p told x → (inputs : List Input) → x.inputs ≡ inputs → 1 ≡ length inputs → StartsBring (λ port. port ≡ 0) told
+single-brings component p told x over [] is one = absurd (omega arith)
+single-brings component p told x over (Text text ∷ []) is one = text-brings 0 text _ told (over.run.texts 0 text (ap (λ (inputs : List Input). Rattle.std.proofs.Common.slice_get inputs 0) is))
+single-brings component p told x over (From c ∷ []) is one =
     brings-more (IsConnectedAt x.inputs) (λ port. port ≡ 0) (λ port at. first port (subst (λ (inputs : List Input). IsConnectedAt inputs port) is at)) told (over.run.starts_bring (ap (λ (inputs : List Input). list_any is_connected inputs) is))
   where
     first : (port : ℕ) → IsConnectedAt (From c ∷ []) port → port ≡ 0
     first zero at = refl
     first (suc port) at = absurd (let h = at.1 in cc)
-single-brings part p told x over (i ∷ j ∷ inputs) is one = absurd (omega arith)
+single-brings component p told x over (i ∷ j ∷ inputs) is one = absurd (omega arith)
 
 -- the streams of a Count, where its first output is connected or isn't
 counted-change : (connected : Bool) (x x' y y' n n' : List Tree) → x ≡ x' → (connected ≡ true → y ≡ y') → (connected ≡ false → y' ≡ []) → n ≡ n' → IsCounted connected x y n → IsCounted connected x' y' n'
@@ -152,11 +152,11 @@ passed-same : (connected : Bool) (x x' y y' n n' : List Tree) → IsCounted conn
 passed-same true x x' y y' n n' m k e = m.passed refl ∙ e ∙ sym (k.passed refl)
 passed-same false x x' y y' n n' m k e = m.silent refl ∙ sym (k.silent refl)
 
-pub count-facts : (state : CountState) → Facts (parts.Count state)
+pub count-facts : (state : CountState) → Facts (components.Count state)
 count-facts state = record {
   means = λ p told x first over.
-      count_meaning state.connected told (count-run state p told x first over) (single-brings (parts.Count state) p told x over x.inputs refl over.fits) (subst (λ (k : ℕ). Wakes k [] told) (sym over.fits) over.run.wakes) over.run.few;
-  texts = λ p told x first over some. single-texts (parts.Count state) p told x over refl some (count-hears state.connected told (count-run state p told x first over) some);
+      count_meaning state.connected told (count-run state p told x first over) (single-brings (components.Count state) p told x over x.inputs refl over.fits) (subst (λ (k : ℕ). Wakes k [] told) (sym over.fits) over.run.wakes) over.run.few;
+  texts = λ p told x first over some. single-texts (components.Count state) p told x over refl some (count-hears state.connected told (count-run state p told x first over) some);
   change = λ w w' x x' y y' same m. counted-change state.connected (x 0) (x' 0) (y 0) (y' 0) (y 1) (y' 1) (same.inputs 0 (omega arith)) (λ c. same.outputs 0 c) (λ c. same.silent 0 (m.silent c)) (same.outputs 1 refl) m;
   wrote_none = λ p told x over none. ap bytes_of (count-own state p told x over).is;
   settles = λ s w w' x x' y y' ins m n. one x x' y y' ins m n;

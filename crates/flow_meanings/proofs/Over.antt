@@ -28,27 +28,27 @@ pub record HasCome (told : List Happening) (inputs : List Input) : Type 0 where
 
 -- A process that has ended, with what it was told. Its component began with as many inputs as the process has, and could start; it wasn't told anything unless it
 -- was woken.
-pub record Over (part : Std) (p : ℕ) (told : List Happening) (x : Process Std) : Type 0 where
-  pub run : HasRun StdReady StdNext part p told x
+pub record Over (component : Std) (p : ℕ) (told : List Happening) (x : Process Std) : Type 0 where
+  pub run : HasRun StdReady StdNext component p told x
   pub ended : x.stage ≡ stages.Ended
-  pub fits : (std_shape part).inputs ≡ length x.inputs
-  pub can_start : CanStart (StdReady part)
+  pub fits : (std_shape component).inputs ≡ length x.inputs
+  pub can_start : CanStart (StdReady component)
   pub woken : told ≢ [] → NoneConnected x ⊎ HasCome told x.inputs
 
 -- its run, of its own kind
-pub record Own {K : Type 0} (f : K → Std) (own-ready : K → Held → Answer → Type 0) (own-next : K → Held → Answer → Outcome K → Type 0) (part : K) (told : List Happening) (x : Process Std) : Type 0 where
-  pub run : EndedRun own-ready own-next part told
-  pub is : x.part ≡ f run.last.part
+pub record Own {K : Type 0} (f : K → Std) (own-ready : K → Held → Answer → Type 0) (own-next : K → Held → Answer → Outcome K → Type 0) (component : K) (told : List Happening) (x : Process Std) : Type 0 where
+  pub run : EndedRun own-ready own-next component told
+  pub is : x.component ≡ f run.last.component
 
 pub own : {K : Type 0} (f : K → Std) (own-ready : K → Held → Answer → Type 0) (own-next : K → Held → Answer → Outcome K)
-    → ((part : K) (held : Held) (answer : Answer) → StdReady (f part) held answer → own-ready part held answer) → ((part : K) (held : Held) (answer : Answer) → std_next (f part) held answer ≡ outcome_as f (own-next part held answer))
-    → (part : K) (p : ℕ) (told : List Happening) (x : Process Std) → Over (f part) p told x → Own f own-ready (λ part held answer outcome. outcome ≡ own-next part held answer) part told x
-own f own-ready own-next down-ready down-next part p told x over =
-    let r : Runs StdReady StdNext (fresh (f part) p) told (poise x wishes.Deactivate) = subst (Follows StdReady StdNext (fresh (f part) p) told x) over.ended over.run.follows in
-    let o = own-run f own-ready own-next StdReady std_next down-ready down-next told (fresh part p) (poise x wishes.Deactivate) r in
+    → ((component : K) (held : Held) (answer : Answer) → StdReady (f component) held answer → own-ready component held answer) → ((component : K) (held : Held) (answer : Answer) → std_next (f component) held answer ≡ outcome_as f (own-next component held answer))
+    → (component : K) (p : ℕ) (told : List Happening) (x : Process Std) → Over (f component) p told x → Own f own-ready (λ component held answer outcome. outcome ≡ own-next component held answer) component told x
+own f own-ready own-next down-ready down-next component p told x over =
+    let r : Runs StdReady StdNext (fresh (f component) p) told (poise x wishes.Deactivate) = subst (Follows StdReady StdNext (fresh (f component) p) told x) over.ended over.run.follows in
+    let o = own-run f own-ready own-next StdReady std_next down-ready down-next told (fresh component p) (poise x wishes.Deactivate) r in
     record {
       run = record { maker = p; last = o.0; runs = o.1; idle = sym (ap (λ (u : Poise Std). u.wish) o.2) };
-      is = ap (λ (u : Poise Std). u.part) o.2;
+      is = ap (λ (u : Poise Std). u.component) o.2;
     }
 
 -- What a process was told begins with a start.
@@ -58,16 +58,16 @@ pub record Begins (told : List Happening) : Type 0 where
   pub later : List Happening
   pub is : told ≡ Started ∷ later
 
-begins-run : (part : Std) (p : ℕ) (es : List Happening) (q : Poise Std) → Runs StdReady StdNext (fresh part p) es q → es ≢ [] → Begins es
-begins-run part p [] q r some = absurd (some refl)
-begins-run part p (Started ∷ es) q r some = record { later = es; is = refl }
-begins-run part p (Received i t ∷ es) q r some = absurd (let h : wishes.Deactivate ≡ wishes.Receive (record { 0 = i }) = r.1.grants.0 in cc)
-begins-run part p (Ended i ∷ es) q r some = absurd (let h : wishes.Deactivate ≡ wishes.Receive (record { 0 = i }) = r.1.grants.0 in cc)
-begins-run part p (Sent o t ∷ es) q r some = absurd (let h : wishes.Deactivate ≡ wishes.Send (record { 0 = o }) (id_of t) = r.1.grants.0 in cc)
-begins-run part p (Learned o n ∷ es) q r some = absurd (let h : wishes.Deactivate ≡ wishes.Level (record { 0 = o }) = r.1.grants.0 in cc)
+begins-run : (component : Std) (p : ℕ) (es : List Happening) (q : Poise Std) → Runs StdReady StdNext (fresh component p) es q → es ≢ [] → Begins es
+begins-run component p [] q r some = absurd (some refl)
+begins-run component p (Started ∷ es) q r some = record { later = es; is = refl }
+begins-run component p (Received i t ∷ es) q r some = absurd (let h : wishes.Deactivate ≡ wishes.Receive (record { 0 = i }) = r.1.grants.0 in cc)
+begins-run component p (Ended i ∷ es) q r some = absurd (let h : wishes.Deactivate ≡ wishes.Receive (record { 0 = i }) = r.1.grants.0 in cc)
+begins-run component p (Sent o t ∷ es) q r some = absurd (let h : wishes.Deactivate ≡ wishes.Send (record { 0 = o }) (id_of t) = r.1.grants.0 in cc)
+begins-run component p (Learned o n ∷ es) q r some = absurd (let h : wishes.Deactivate ≡ wishes.Level (record { 0 = o }) = r.1.grants.0 in cc)
 
-pub ended-begins : (part : Std) (p : ℕ) (told : List Happening) (x : Process Std) → HasRun StdReady StdNext part p told x → x.stage ≡ stages.Ended → told ≢ [] → Begins told
-ended-begins part p told x run ended some = begins-run part p told (poise x wishes.Deactivate) (subst (Follows StdReady StdNext (fresh part p) told x) ended run.follows) some
+pub ended-begins : (component : Std) (p : ℕ) (told : List Happening) (x : Process Std) → HasRun StdReady StdNext component p told x → x.stage ≡ stages.Ended → told ≢ [] → Begins told
+ended-begins component p told x run ended some = begins-run component p told (poise x wishes.Deactivate) (subst (Follows StdReady StdNext (fresh component p) told x) ended run.follows) some
 
 pub begins-starts : (told : List Happening) → Begins told → 0 < starts told
 begins-starts told b = subst (λ (es : List Happening). 0 < starts es) (sym b.is) (omega arith)
@@ -117,8 +117,8 @@ looper-once : (n : Option ℕ) → (n ≡ None) ⊎ IsPositive n → activations
 looper-once n (inl none) = ap (activations true) none
 looper-once n (inr some) = ap (activations true) some.1 ∙ (let l = some.2 in let e : min some.0 1 ≡ 1 = omega (arith, l) in e)
 
-pub woken-once : (part : Std) (p : ℕ) (told : List Happening) (x : Process Std) → Over part p told x → told ≢ [] → activations true (greatest (came 0 told x.inputs)) ≡ 1
-woken-once part p told x over some = looper-once (greatest (came 0 told x.inputs)) (elim (over.woken some) [
+pub woken-once : (component : Std) (p : ℕ) (told : List Happening) (x : Process Std) → Over component p told x → told ≢ [] → activations true (greatest (came 0 told x.inputs)) ≡ 1
+woken-once component p told x over some = looper-once (greatest (came 0 told x.inputs)) (elim (over.woken some) [
   | inl none ↦ inl (none-came 0 told x.inputs none)
   | inr come ↦ inr (let e : come.input ≡ 0 + come.input = omega arith in some-came 0 come.input told x.inputs come.connected (subst (λ (j : ℕ). got j told ≢ []) e come.some))
 ])
@@ -137,11 +137,11 @@ once-got told port text b few gives heard =
     let later : HeardEnd port b.later = elim heard' [ inl h ↦ absurd h | inr h ↦ h ] in
     ap (got port) is ∙ until-start port text true b.later (subst (GivesText port text false) is gives) none (λ _. later)
 
-pub texts-once : (part : Std) (p : ℕ) (told : List Happening) (x : Process Std) → Over part p told x → told ≢ [] → starts told ≤ 1 → ((i : ℕ) → i < length x.inputs → HeardEnd i told) → GotTexts true told x
-texts-once part p told x over some few heard i text at =
+pub texts-once : (component : Std) (p : ℕ) (told : List Happening) (x : Process Std) → Over component p told x → told ≢ [] → starts told ≤ 1 → ((i : ℕ) → i < length x.inputs → HeardEnd i told) → GotTexts true told x
+texts-once component p told x over some few heard i text at =
     let within : i < length x.inputs = Rattle.std.proofs.lemmas.Option.slice_get_within x.inputs i (Text text) at in
-    let one : got i told ≡ text_packet text ∷ [] = once-got told i text (ended-begins part p told x over.run over.ended some) few (over.run.texts i text at) (heard i within) in
-    one ∙ ap (λ (n : ℕ). replicate n (text_packet text)) (sym (woken-once part p told x over some))
+    let one : got i told ≡ text_packet text ∷ [] = once-got told i text (ended-begins component p told x over.run over.ended some) few (over.run.texts i text at) (heard i within) in
+    one ∙ ap (λ (n : ℕ). replicate n (text_packet text)) (sym (woken-once component p told x over some))
 
 -- Components with one input, or with none
 
@@ -171,11 +171,11 @@ alone-text (Text t ∷ []) i text one at = refl
 alone-text (j ∷ k ∷ inputs) i text one at = absurd (omega arith)
 
 -- a looper with one input, whose end it heard
-pub single-texts : (part : Std) (p : ℕ) (told : List Happening) (x : Process Std) → Over part p told x → (std_shape part).inputs ≡ 1 → told ≢ [] → HeardEnd 0 told → GotTexts true told x
-single-texts part p told x over one some heard i text at =
+pub single-texts : (component : Std) (p : ℕ) (told : List Happening) (x : Process Std) → Over component p told x → (std_shape component).inputs ≡ 1 → told ≢ [] → HeardEnd 0 told → GotTexts true told x
+single-texts component p told x over one some heard i text at =
     let is : 1 ≡ length x.inputs = sym one ∙ over.fits in
-    texts-once part p told x over some (over.run.once (alone-text x.inputs i text is at)) (λ j l. let zero_is : 0 ≡ j = omega (arith, is, l) in subst (λ (k : ℕ). HeardEnd k told) zero_is heard) i text at
+    texts-once component p told x over some (over.run.once (alone-text x.inputs i text is at)) (λ j l. let zero_is : 0 ≡ j = omega (arith, is, l) in subst (λ (k : ℕ). HeardEnd k told) zero_is heard) i text at
 
 -- and one with none
-pub no-texts : (part : Std) (p : ℕ) (told : List Happening) (x : Process Std) (loops : Bool) → Over part p told x → (std_shape part).inputs ≡ 0 → GotTexts loops told x
-no-texts part p told x loops over none i text at = absurd (let l = Rattle.std.proofs.lemmas.Option.slice_get_within x.inputs i (Text text) at in omega (arith, l, over.fits, none))
+pub no-texts : (component : Std) (p : ℕ) (told : List Happening) (x : Process Std) (loops : Bool) → Over component p told x → (std_shape component).inputs ≡ 0 → GotTexts loops told x
+no-texts component p told x loops over none i text at = absurd (let l = Rattle.std.proofs.lemmas.Option.slice_get_within x.inputs i (Text text) at in omega (arith, l, over.fits, none))

@@ -12,7 +12,7 @@ use Rattle.flow_streams.specs.Selected.{accepted, rejected, IsSelected}
 use Rattle.flow_streams.specs.Meanings.{fresh_select}
 use Rattle.flow_streams.proofs.SelectStream.{select_meaning, select_takes_texts, select_starts}
 use Rattle.flow_catalogue.specs.declared.standard.Std.{Std}
-use Rattle.flow_catalogue.specs.declared.standard.Std.TheVariants as parts
+use Rattle.flow_catalogue.specs.declared.standard.Std.TheVariants as components
 use Rattle.flow_model.specs.States.{Input, From, Text, Process}
 use Rattle.flow_model.specs.Events.{is_connected}
 use Rattle.flow_model.specs.Runs.{IsConnectedAt}
@@ -21,10 +21,10 @@ use Rattle.flow_meanings.specs.Means.{bytes_of}
 use Rattle.flow_meanings.proofs.Over.{Over, Own, own, came, GotTexts, ended-begins, begins-starts}
 use Rattle.flow_meanings.proofs.Facts.{Facts}
 
-select-own : (state : SelectState) (p : ℕ) (told : List Happening) (x : Process Std) → Over (parts.Select state) p told x → Own parts.Select SelectReady SelectNext state told x
-select-own state p told x over = own parts.Select SelectReady select_next (λ part held answer r. r) (λ part held answer. refl) state p told x over
+select-own : (state : SelectState) (p : ℕ) (told : List Happening) (x : Process Std) → Over (components.Select state) p told x → Own components.Select SelectReady SelectNext state told x
+select-own state p told x over = own components.Select SelectReady select_next (λ component held answer r. r) (λ component held answer. refl) state p told x over
 
-module _ (state : SelectState) (p : ℕ) (told : List Happening) (x : Process Std) (first : state ≡ fresh_select state.rejects) (over : Over (parts.Select state) p told x) where
+module _ (state : SelectState) (p : ℕ) (told : List Happening) (x : Process Std) (first : state ≡ fresh_select state.rejects) (over : Over (components.Select state) p told x) where
   run : EndedRun SelectReady SelectNext (fresh_select state.rejects) told
   run = subst (λ (w : SelectState). EndedRun SelectReady SelectNext w told) first (select-own state p told x over).run
 
@@ -85,7 +85,7 @@ module _ (state : SelectState) (p : ℕ) (told : List Happening) (x : Process St
   counted : (i j : Input) → x.inputs ≡ i ∷ j ∷ [] → told ≢ [] → starts told ≡ activations false (greatest (came 0 told (i ∷ j ∷ [])))
   counted (Text s) (Text t) e some =
       let few = over.run.once (ap (λ (l : List Input). list_any is_connected l) e) in
-      let more = begins-starts told (ended-begins (parts.Select state) p told x over.run over.ended some) in
+      let more = begins-starts told (ended-begins (components.Select state) p told x over.run over.ended some) in
       omega (arith, few, more)
   counted (From c) (Text t) e some = most (λ port. port == 0) is-zero (brings (λ port. port == 0) (From c ∷ Text t ∷ []) e refl up) ∙ max-zero (length (got 0 told))
     where
@@ -112,7 +112,7 @@ module _ (state : SelectState) (p : ℕ) (told : List Happening) (x : Process St
       let times : starts told ≡ activations false (greatest (came 0 told x.inputs)) = counted inputs.keys inputs.packets inputs.are some ∙ ap (λ (is : List Input). activations false (greatest (came 0 told is))) (sym inputs.are) in
       (select_takes_texts state.rejects told run i text l (over.run.texts i text at)).0 ∙ ap (λ (n : ℕ). replicate n (text_packet text)) times
 
-pub select-facts : (state : SelectState) → Facts (parts.Select state)
+pub select-facts : (state : SelectState) → Facts (components.Select state)
 select-facts state = record {
   means = λ p told x first over. selects state p told x first over;
   texts = λ p told x first over some. select-texts state p told x first over some;

@@ -36,7 +36,7 @@ use Rattle.flow_streams.proofs.BundleStream.{bundle_meaning}
 use Rattle.flow_streams.proofs.UnbundleStream.{unbundle_meaning}
 use Rattle.flow_streams.proofs.LoadStream.{load_meaning}
 use Rattle.flow_catalogue.specs.declared.standard.Std.{Std}
-use Rattle.flow_catalogue.specs.declared.standard.Std.TheVariants as parts
+use Rattle.flow_catalogue.specs.declared.standard.Std.TheVariants as components
 use Rattle.flow_model.specs.States.{Process}
 use Rattle.flow_meanings.specs.Kinds.{joined}
 use Rattle.flow_meanings.specs.Means.{IsFirst, bytes_of}
@@ -45,28 +45,28 @@ use Rattle.flow_meanings.proofs.EndHeard.{passthru-hears, copy-hears, discard-he
 use Rattle.flow_meanings.proofs.Facts.{Facts}
 use Rattle.flow_meanings.proofs.LineKinds.{by-one}
 
-passthru-own : (part : Passthru) (p : ℕ) (told : List Happening) (x : Process Std) → Over (parts.Passthru part) p told x → Own parts.Passthru (λ (_ : Passthru). IsAtHand) PassthruNext part told x
-passthru-own part p told x over = own parts.Passthru (λ (_ : Passthru). IsAtHand) (λ part held answer. Wishes part held (passes answer)) (λ part held answer r. r) (λ part held answer. refl) part p told x over
+passthru-own : (component : Passthru) (p : ℕ) (told : List Happening) (x : Process Std) → Over (components.Passthru component) p told x → Own components.Passthru (λ (_ : Passthru). IsAtHand) PassthruNext component told x
+passthru-own component p told x over = own components.Passthru (λ (_ : Passthru). IsAtHand) (λ component held answer. Wishes component held (passes answer)) (λ component held answer r. r) (λ component held answer. refl) component p told x over
 
-pub passthru-facts : (part : Passthru) → Facts (parts.Passthru part)
-passthru-facts part = record {
-  means = λ p told x first over. passthru_meaning part told (passthru-own part p told x over).run;
-  texts = λ p told x first over some. single-texts (parts.Passthru part) p told x over refl some (passthru-hears part told (passthru-own part p told x over).run some);
+pub passthru-facts : (component : Passthru) → Facts (components.Passthru component)
+passthru-facts component = record {
+  means = λ p told x first over. passthru_meaning component told (passthru-own component p told x over).run;
+  texts = λ p told x first over some. single-texts (components.Passthru component) p told x over refl some (passthru-hears component told (passthru-own component p told x over).run some);
   change = λ w w' x x' y y' same m. sym (same.outputs 0 refl) ∙ m ∙ same.inputs 0 (omega arith);
-  wrote_none = λ p told x over none. ap bytes_of (passthru-own part p told x over).is;
+  wrote_none = λ p told x over none. ap bytes_of (passthru-own component p told x over).is;
   settles = λ s w w' x x' y y' ins m n. by-one (λ ts. ts) x x' y y' ins m n;
 }
 
 below-true : (a b : ℕ) → a < b → nat_lt a b ≡ true
 below-true a b l = grind (arith, nat_tests)
 
-copy-own : (state : CopyState) (p : ℕ) (told : List Happening) (x : Process Std) → Over (parts.Copy state) p told x → Own parts.Copy CopyReady CopyNext state told x
-copy-own state p told x over = own parts.Copy CopyReady copy_next (λ part held answer r. r) (λ part held answer. refl) state p told x over
+copy-own : (state : CopyState) (p : ℕ) (told : List Happening) (x : Process Std) → Over (components.Copy state) p told x → Own components.Copy CopyReady CopyNext state told x
+copy-own state p told x over = own components.Copy CopyReady copy_next (λ component held answer r. r) (λ component held answer. refl) state p told x over
 
-pub copy-facts : (state : CopyState) → Facts (parts.Copy state)
+pub copy-facts : (state : CopyState) → Facts (components.Copy state)
 copy-facts state = record {
   means = λ p told x first over o below. copy_meaning state.count told (subst (λ (w : CopyState). EndedRun CopyReady CopyNext w told) first (copy-own state p told x over).run) o below;
-  texts = λ p told x first over some. single-texts (parts.Copy state) p told x over refl some (copy-hears state told (copy-own state p told x over).run some);
+  texts = λ p told x first over some. single-texts (components.Copy state) p told x over refl some (copy-hears state told (copy-own state p told x over).run some);
   change = λ w w' x x' y y' same m o l. sym (same.outputs o (below-true o state.count l)) ∙ m o l ∙ ap (λ (ts : List Tree). map (share state.count o) ts) (same.inputs 0 (omega arith));
   wrote_none = λ p told x over none. ap bytes_of (copy-own state p told x over).is;
   settles = λ s w w' x x' y y' ins m n o l. m o l ∙ ap (λ (ts : List Tree). map (share state.count o) ts) (ins 0) ∙ sym (n o l);
@@ -106,18 +106,18 @@ concats (suc n) state told is first some run wakes =
       heard = λ some i below. m.2 some i (omega (arith, below, count));
     }
 
-concat-own : (state : ConcatState) (p : ℕ) (told : List Happening) (x : Process Std) → Over (parts.Concat state) p told x → Own parts.Concat ConcatReady ConcatNext state told x
-concat-own state p told x over = own parts.Concat ConcatReady concat_next (λ part held answer r. r) (λ part held answer. refl) state p told x over
+concat-own : (state : ConcatState) (p : ℕ) (told : List Happening) (x : Process Std) → Over (components.Concat state) p told x → Own components.Concat ConcatReady ConcatNext state told x
+concat-own state p told x over = own components.Concat ConcatReady concat_next (λ component held answer r. r) (λ component held answer. refl) state p told x over
 
-concat-over : (state : ConcatState) (p : ℕ) (told : List Happening) (x : Process Std) → IsFirst (parts.Concat state) → Over (parts.Concat state) p told x → Concats state told
+concat-over : (state : ConcatState) (p : ℕ) (told : List Happening) (x : Process Std) → IsFirst (components.Concat state) → Over (components.Concat state) p told x → Concats state told
 concat-over state p told x first over =
     let ready : (state.at < state.count) × ([] ≡ []) = over.can_start (empty p) refl in
     concats state.count state told refl first (omega (arith, ready.0)) (concat-own state p told x over).run (subst (λ (k : ℕ). Wakes k [] told) (sym over.fits) over.run.wakes)
 
-pub concat-facts : (state : ConcatState) → Facts (parts.Concat state)
+pub concat-facts : (state : ConcatState) → Facts (components.Concat state)
 concat-facts state = record {
   means = λ p told x first over. (concat-over state p told x first over).joins;
-  texts = λ p told x first over some. (let c = concat-over state p told x first over in texts-once (parts.Concat state) p told x over some c.once (λ i l. c.heard some i (omega (arith, l, over.fits))));
+  texts = λ p told x first over some. (let c = concat-over state p told x first over in texts-once (components.Concat state) p told x over some c.once (λ i l. c.heard some i (omega (arith, l, over.fits))));
   change = λ w w' x x' y y' same m. sym (same.outputs 0 refl) ∙ m ∙ joined-same 0 state.count x x' (λ i l. same.inputs i (omega (arith, l)));
   wrote_none = λ p told x over none. ap bytes_of (concat-own state p told x over).is;
   settles = λ s w w' x x' y y' ins m n. one x x' y y' ins m n;
@@ -133,20 +133,20 @@ listed-same : (k n : ℕ) (x x' : ℕ → List Tree) → ((i : ℕ) → i < k + 
 listed-same k zero x x' same = refl
 listed-same k (suc n) x x' same = λ j. same k (omega arith) j ∷ listed-same (k + 1) n x x' (λ i l. same i (omega arith)) j
 
-collate-own : (state : CollateState) (p : ℕ) (told : List Happening) (x : Process Std) → Over (parts.Collate state) p told x → Own parts.Collate CollateReady CollateNext state told x
-collate-own state p told x over = own parts.Collate CollateReady collate_next (λ part held answer r. r) (λ part held answer. refl) state p told x over
+collate-own : (state : CollateState) (p : ℕ) (told : List Happening) (x : Process Std) → Over (components.Collate state) p told x → Own components.Collate CollateReady CollateNext state told x
+collate-own state p told x over = own components.Collate CollateReady collate_next (λ component held answer r. r) (λ component held answer. refl) state p told x over
 
-collate-over : (state : CollateState) (p : ℕ) (told : List Happening) (x : Process Std) → IsFirst (parts.Collate state) → Over (parts.Collate state) p told x
+collate-over : (state : CollateState) (p : ℕ) (told : List Happening) (x : Process Std) → IsFirst (components.Collate state) → Over (components.Collate state) p told x
     → (sent 0 told ≡ collation state.fields (listed 0 state.elements (λ i. got i told))) × (starts told ≤ 1) × (told ≢ [] → (i : ℕ) → i < state.elements → HeardEnd i told)
 collate-over state p told x first over =
     let some : 1 ≤ state.elements = (over.can_start (empty p) refl).0.some in
     collate_meaning state.fields state.elements told first.0 some (subst (λ (w : CollateState). EndedRun CollateReady CollateNext w told) first.1 (collate-own state p told x over).run)
     (subst (λ (k : ℕ). Wakes k [] told) (sym over.fits) over.run.wakes)
 
-pub collate-facts : (state : CollateState) → Facts (parts.Collate state)
+pub collate-facts : (state : CollateState) → Facts (components.Collate state)
 collate-facts state = record {
   means = λ p told x first over. (collate-over state p told x first over).0;
-  texts = λ p told x first over some. (let c = collate-over state p told x first over in texts-once (parts.Collate state) p told x over some c.1 (λ i l. c.2 some i (omega (arith, l, over.fits))));
+  texts = λ p told x first over some. (let c = collate-over state p told x first over in texts-once (components.Collate state) p told x over some c.1 (λ i l. c.2 some i (omega (arith, l, over.fits))));
   change = λ w w' x x' y y' same m. sym (same.outputs 0 refl) ∙ m ∙ ap (collation state.fields) (listed-same 0 state.elements x x' (λ i l. same.inputs i (omega (arith, l))));
   wrote_none = λ p told x over none. ap bytes_of (collate-own state p told x over).is;
   settles = λ s w w' x x' y y' ins m n. one x x' y y' ins m n;
@@ -156,61 +156,61 @@ collate-facts state = record {
     one x x' y y' ins m n zero l = m ∙ ap (collation state.fields) (listed-same 0 state.elements x x' (λ i below. ins i)) ∙ sym n
     one x x' y y' ins m n (suc o) l = absurd (omega arith)
 
-discard-own : (part : Discard) (p : ℕ) (told : List Happening) (x : Process Std) → Over (parts.Discard part) p told x → Own parts.Discard (λ (_ : Discard). IsAtHand) DiscardNext part told x
-discard-own part p told x over = own parts.Discard (λ (_ : Discard). IsAtHand) discards (λ part held answer r. r) (λ part held answer. refl) part p told x over
+discard-own : (component : Discard) (p : ℕ) (told : List Happening) (x : Process Std) → Over (components.Discard component) p told x → Own components.Discard (λ (_ : Discard). IsAtHand) DiscardNext component told x
+discard-own component p told x over = own components.Discard (λ (_ : Discard). IsAtHand) discards (λ component held answer r. r) (λ component held answer. refl) component p told x over
 
-pub discard-facts : (part : Discard) → Facts (parts.Discard part)
-discard-facts part = record {
+pub discard-facts : (component : Discard) → Facts (components.Discard component)
+discard-facts component = record {
   means = λ p told x first over. tt;
-  texts = λ p told x first over some. single-texts (parts.Discard part) p told x over refl some (discard-hears part told (discard-own part p told x over).run some);
+  texts = λ p told x first over some. single-texts (components.Discard component) p told x over refl some (discard-hears component told (discard-own component p told x over).run some);
   change = λ w w' x x' y y' same m. tt;
-  wrote_none = λ p told x over none. ap bytes_of (discard-own part p told x over).is;
+  wrote_none = λ p told x over none. ap bytes_of (discard-own component p told x over).is;
   settles = λ s w w' x x' y y' ins m n o l. absurd (omega arith);
 }
 
-hoard-own : (part : Hoard) (p : ℕ) (told : List Happening) (x : Process Std) → Over (parts.Hoard part) p told x → Own parts.Hoard (λ (_ : Hoard). IsAtHand) HoardNext part told x
-hoard-own part p told x over = own parts.Hoard (λ (_ : Hoard). IsAtHand) (λ part held answer. Wishes part held (hoards answer)) (λ part held answer r. r) (λ part held answer. refl) part p told x over
+hoard-own : (component : Hoard) (p : ℕ) (told : List Happening) (x : Process Std) → Over (components.Hoard component) p told x → Own components.Hoard (λ (_ : Hoard). IsAtHand) HoardNext component told x
+hoard-own component p told x over = own components.Hoard (λ (_ : Hoard). IsAtHand) (λ component held answer. Wishes component held (hoards answer)) (λ component held answer r. r) (λ component held answer. refl) component p told x over
 
-pub hoard-facts : (part : Hoard) → Facts (parts.Hoard part)
-hoard-facts part = record {
+pub hoard-facts : (component : Hoard) → Facts (components.Hoard component)
+hoard-facts component = record {
   means = λ p told x first over. tt;
-  texts = λ p told x first over some. single-texts (parts.Hoard part) p told x over refl some (hoard-hears part told (hoard-own part p told x over).run some);
+  texts = λ p told x first over some. single-texts (components.Hoard component) p told x over refl some (hoard-hears component told (hoard-own component p told x over).run some);
   change = λ w w' x x' y y' same m. tt;
-  wrote_none = λ p told x over none. ap bytes_of (hoard-own part p told x over).is;
+  wrote_none = λ p told x over none. ap bytes_of (hoard-own component p told x over).is;
   settles = λ s w w' x x' y y' ins m n o l. absurd (omega arith);
 }
 
-bundle-own : (part : Bundle) (p : ℕ) (told : List Happening) (x : Process Std) → Over (parts.Bundle part) p told x → Own parts.Bundle BundleReady BundleNext part told x
-bundle-own part p told x over = own parts.Bundle BundleReady bundle_next (λ part held answer r. r) (λ part held answer. refl) part p told x over
+bundle-own : (component : Bundle) (p : ℕ) (told : List Happening) (x : Process Std) → Over (components.Bundle component) p told x → Own components.Bundle BundleReady BundleNext component told x
+bundle-own component p told x over = own components.Bundle BundleReady bundle_next (λ component held answer r. r) (λ component held answer. refl) component p told x over
 
-pub bundle-facts : (part : Bundle) → Facts (parts.Bundle part)
-bundle-facts part = record {
-  means = λ p told x first over. bundle_meaning told (subst (λ (w : Bundle). EndedRun BundleReady BundleNext w told) first (bundle-own part p told x over).run);
-  texts = λ p told x first over some. single-texts (parts.Bundle part) p told x over refl some (bundle-hears part told (bundle-own part p told x over).run some);
+pub bundle-facts : (component : Bundle) → Facts (components.Bundle component)
+bundle-facts component = record {
+  means = λ p told x first over. bundle_meaning told (subst (λ (w : Bundle). EndedRun BundleReady BundleNext w told) first (bundle-own component p told x over).run);
+  texts = λ p told x first over some. single-texts (components.Bundle component) p told x over refl some (bundle-hears component told (bundle-own component p told x over).run some);
   change = λ w w' x x' y y' same m. sym (same.outputs 0 refl) ∙ m ∙ ap (bundled bundling.Outside) (same.inputs 0 (omega arith));
-  wrote_none = λ p told x over none. ap bytes_of (bundle-own part p told x over).is;
+  wrote_none = λ p told x over none. ap bytes_of (bundle-own component p told x over).is;
   settles = λ s w w' x x' y y' ins m n. by-one (bundled bundling.Outside) x x' y y' ins m n;
 }
 
-unbundle-own : (part : Unbundle) (p : ℕ) (told : List Happening) (x : Process Std) → Over (parts.Unbundle part) p told x → Own parts.Unbundle UnbundleReady UnbundleNext part told x
-unbundle-own part p told x over = own parts.Unbundle UnbundleReady unbundle_next (λ part held answer r. r) (λ part held answer. refl) part p told x over
+unbundle-own : (component : Unbundle) (p : ℕ) (told : List Happening) (x : Process Std) → Over (components.Unbundle component) p told x → Own components.Unbundle UnbundleReady UnbundleNext component told x
+unbundle-own component p told x over = own components.Unbundle UnbundleReady unbundle_next (λ component held answer r. r) (λ component held answer. refl) component p told x over
 
-pub unbundle-facts : (part : Unbundle) → Facts (parts.Unbundle part)
-unbundle-facts part = record {
-  means = λ p told x first over. unbundle_meaning told (subst (λ (w : Unbundle). EndedRun UnbundleReady UnbundleNext w told) first (unbundle-own part p told x over).run);
-  texts = λ p told x first over some. single-texts (parts.Unbundle part) p told x over refl some (unbundle-hears part told (unbundle-own part p told x over).run some);
+pub unbundle-facts : (component : Unbundle) → Facts (components.Unbundle component)
+unbundle-facts component = record {
+  means = λ p told x first over. unbundle_meaning told (subst (λ (w : Unbundle). EndedRun UnbundleReady UnbundleNext w told) first (unbundle-own component p told x over).run);
+  texts = λ p told x first over some. single-texts (components.Unbundle component) p told x over refl some (unbundle-hears component told (unbundle-own component p told x over).run some);
   change = λ w w' x x' y y' same m. sym (same.outputs 0 refl) ∙ m ∙ ap (λ (ts : List Tree). flat_map unbundled ts) (same.inputs 0 (omega arith));
-  wrote_none = λ p told x over none. ap bytes_of (unbundle-own part p told x over).is;
+  wrote_none = λ p told x over none. ap bytes_of (unbundle-own component p told x over).is;
   settles = λ s w w' x x' y y' ins m n. by-one (λ ts. flat_map unbundled ts) x x' y y' ins m n;
 }
 
-load-own : (state : LoadState) (p : ℕ) (told : List Happening) (x : Process Std) → Over (parts.LoadBalance state) p told x → Own parts.LoadBalance LoadReady LoadNext state told x
-load-own state p told x over = own parts.LoadBalance LoadReady load_next (λ part held answer r. r) (λ part held answer. refl) state p told x over
+load-own : (state : LoadState) (p : ℕ) (told : List Happening) (x : Process Std) → Over (components.LoadBalance state) p told x → Own components.LoadBalance LoadReady LoadNext state told x
+load-own state p told x over = own components.LoadBalance LoadReady load_next (λ component held answer r. r) (λ component held answer. refl) state p told x over
 
-pub load-facts : (state : LoadState) → Facts (parts.LoadBalance state)
+pub load-facts : (state : LoadState) → Facts (components.LoadBalance state)
 load-facts state = record {
   means = λ p told x first over. load_meaning state.count told (subst (λ (w : LoadState). EndedRun LoadReady LoadNext w told) first (load-own state p told x over).run);
-  texts = λ p told x first over some. single-texts (parts.LoadBalance state) p told x over refl some (load-hears state told (load-own state p told x over).run some);
+  texts = λ p told x first over some. single-texts (components.LoadBalance state) p told x over refl some (load-hears state told (load-own state p told x over).run some);
   change = λ w w' x x' y y' same m. record { routes = m.routes; all = m.all ∙ same.inputs 0 (omega arith); each = λ o l. sym (same.outputs o (below-true o state.count l)) ∙ m.each o l; within = m.within; whole = m.whole };
   wrote_none = λ p told x over none. ap bytes_of (load-own state p told x over).is;
   settles = λ s w w' x x' y y' ins m n o l. absurd (let h : false ≡ true = s in cc);

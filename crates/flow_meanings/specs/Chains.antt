@@ -7,17 +7,17 @@ use Rattle.flow_parts.specs.declared.words.Words.TheVariants as words_parts
 use Rattle.flow_parts.specs.Filling.{Filling}
 use Rattle.flow_parts.specs.Meanings.{rendered_all, words_of, fresh_fill}
 use Rattle.flow_catalogue.specs.declared.standard.Std.{Std}
-use Rattle.flow_catalogue.specs.declared.standard.Std.TheVariants as parts
+use Rattle.flow_catalogue.specs.declared.standard.Std.TheVariants as components
 use Rattle.flow_model.specs.Plans.{sends_at, receives_at}
 use Rattle.flow_plan.specs.Network.{Network as Plan}
 use Rattle.flow_plan.specs.declared.plan.Process.{Process as PlanProcess}
 use Rattle.flow_meanings.specs.Composition.{Composes}
 
 -- Process p of the plan runs this component.
-pub record RunsPart (plan : Plan) (ks : List Std) (p : ℕ) (part : Std) : Type 0 where
+pub record RunsComponent (plan : Plan) (ks : List Std) (p : ℕ) (component : Std) : Type 0 where
   pub process : PlanProcess
   pub there : slice_get plan.processes p ≡ Some process
-  pub here : slice_get ks p ≡ Some part
+  pub here : slice_get ks p ≡ Some component
 
 -- Output 0 of process p, and no other, sends to the connection at input 0 of process q.
 pub record LeadsTo (plan : Plan) (p q : ℕ) : Type 0 where
@@ -28,10 +28,10 @@ pub record LeadsTo (plan : Plan) (p q : ℕ) : Type 0 where
 
 -- A chain of a reader, a Words, a Fill and a writer.
 pub record IsTelegram (plan : Plan) (ks : List Std) (a b c d : ℕ) (lines : List (List ℕ)) (size : ℕ) : Type 0 where
-  pub reader : RunsPart plan ks a (parts.ReadLines lines)
-  pub splitter : RunsPart plan ks b (parts.Words words_parts.Waiting)
-  pub filler : RunsPart plan ks c (parts.Fill (fresh_fill size))
-  pub writer : RunsPart plan ks d (parts.WriteLines [])
+  pub reader : RunsComponent plan ks a (components.ReadLines lines)
+  pub splitter : RunsComponent plan ks b (components.Words words_parts.Waiting)
+  pub filler : RunsComponent plan ks c (components.Fill (fresh_fill size))
+  pub writer : RunsComponent plan ks d (components.WriteLines [])
   pub to_splitter : LeadsTo plan a b
   pub to_filler : LeadsTo plan b c
   pub to_writer : LeadsTo plan c d

@@ -28,7 +28,7 @@ coming on (Text text) = None
 
 -- How often a process with these inputs is activated, which runs this component.
 abbrev pub activated : Std → (ℕ → List Sending) → List Input → ℕ
-activated part on inputs = activations (is_looper part) (greatest (map (coming on) inputs))
+activated component on inputs = activations (is_looper component) (greatest (map (coming on) inputs))
 
 -- The inputs of process p of the plan.
 abbrev pub inputs_of : Plan → ℕ → PlanProcess → List Input
@@ -46,26 +46,26 @@ leaving on sender None = []
 
 -- All components are in their first states.
 abbrev pub AreFirst : List Std → Type 0
-AreFirst parts = (p : ℕ) (part : Std) → slice_get parts p ≡ Some part → IsFirst part
+AreFirst components = (p : ℕ) (component : Std) → slice_get components p ≡ Some component → IsFirst component
 
 -- The network means these bytes, by process: its components, one for each process, are in their first states; there are streams on its connections, each made of
 -- packets of the connection's senders alone; each process with its component makes of what arrives what its kind makes of it; and none has written anything but
 -- those that write a file.
-pub record Composes (plan : Plan) (parts : List Std) (wrote : ℕ → List ℕ) : Type 0 where
-  pub one_each : length parts ≡ length plan.processes
-  pub first : AreFirst parts
+pub record Composes (plan : Plan) (components : List Std) (wrote : ℕ → List ℕ) : Type 0 where
+  pub one_each : length components ≡ length plan.processes
+  pub first : AreFirst components
   pub on : ℕ → List Sending
   pub senders : (c k : ℕ) (sending : Sending) → slice_get (on c) k ≡ Some sending → sends_at plan sending.sender.process sending.sender.output ≡ Some c
-  pub each : (p : ℕ) (x : PlanProcess) (part : Std) → slice_get plan.processes p ≡ Some x → slice_get parts p ≡ Some part
-      → Means part (wrote p) (λ i. arriving on (activated part on (inputs_of plan p x)) (input_at plan p x i)) (λ o. leaving on (record { process = p; output = o }) (sends_at plan p o))
-  pub others : (p : ℕ) (part : Std) → slice_get parts p ≡ Some part → written_of part ≡ None → wrote p ≡ []
+  pub each : (p : ℕ) (x : PlanProcess) (component : Std) → slice_get plan.processes p ≡ Some x → slice_get components p ≡ Some component
+      → Means component (wrote p) (λ i. arriving on (activated component on (inputs_of plan p x)) (input_at plan p x i)) (λ o. leaving on (record { process = p; output = o }) (sends_at plan p o))
+  pub others : (p : ℕ) (component : Std) → slice_get components p ≡ Some component → written_of component ≡ None → wrote p ≡ []
 
 -- What a process has written.
 abbrev pub wrote_in : State Std → ℕ → List ℕ
-wrote_in s p = unwrap_or (option_and_then (λ (x : Process Std). written_of x.part) (slice_get s.kept.processes p)) []
+wrote_in s p = unwrap_or (option_and_then (λ (x : Process Std). written_of x.component) (slice_get s.kept.processes p)) []
 
 -- Whatever the schedule, where a network of standard components has finished, its writers have written what it means.
 abbrev pub FinishedComposes : Type 0
 FinishedComposes =
-    (plan : Plan) (parts : List Std) (journal : Journal) (s : State Std) → StartsWell std_shape std_uses StdReady plan parts → AreFirst parts → Leads StdNext (start_of plan parts) journal s → IsFinished s
-    → Composes plan parts (wrote_in s)
+    (plan : Plan) (components : List Std) (journal : Journal) (s : State Std) → StartsWell std_shape std_uses StdReady plan components → AreFirst components → Leads StdNext (start_of plan components) journal s → IsFinished s
+    → Composes plan components (wrote_in s)

@@ -26,7 +26,7 @@ use Rattle.flow_streams.specs.Unbundled.{unbundled}
 use Rattle.flow_streams.specs.Split.{IsSplit}
 use Rattle.flow_streams.specs.Selected.{IsSelected}
 use Rattle.flow_catalogue.specs.declared.standard.Std.{Std}
-use Rattle.flow_catalogue.specs.declared.standard.Std.TheVariants as parts
+use Rattle.flow_catalogue.specs.declared.standard.Std.TheVariants as components
 use Rattle.flow_meanings.specs.Meaning.{Meaning}
 
 -- A ReadLines sends its lines, each as a Normal packet.
@@ -39,7 +39,7 @@ write_lines_meaning bytes = record { first = bytes ≡ []; loops = true; settled
 
 -- A Words sends its input with each Normal packet replaced by its words.
 abbrev pub words_meaning : Words → Meaning
-words_meaning part = record { first = part ≡ words_parts.Waiting; loops = true; settled = true; makes = λ wrote x y. y 0 ≡ flat_map words_of (x 0) }
+words_meaning component = record { first = component ≡ words_parts.Waiting; loops = true; settled = true; makes = λ wrote x y. y 0 ≡ flat_map words_of (x 0) }
 
 -- A Fill sends a filling of its input. (There is one.)
 abbrev pub fill_meaning : FillState → Meaning
@@ -81,11 +81,11 @@ silent_meaning = record { first = Unit {0}; loops = true; settled = true; makes 
 
 -- A Bundle sends its input with each substream replaced by its bundle.
 abbrev pub bundle_meaning : Bundle → Meaning
-bundle_meaning part = record { first = part ≡ bundle_parts.Outside; loops = true; settled = true; makes = λ wrote x y. y 0 ≡ bundled bundling.Outside (x 0) }
+bundle_meaning component = record { first = component ≡ bundle_parts.Outside; loops = true; settled = true; makes = λ wrote x y. y 0 ≡ bundled bundling.Outside (x 0) }
 
 -- An Unbundle sends its input with each bundle replaced by a substream.
 abbrev pub unbundle_meaning : Unbundle → Meaning
-unbundle_meaning part = record { first = part ≡ unbundle_parts.Waiting; loops = true; settled = true; makes = λ wrote x y. y 0 ≡ flat_map unbundled (x 0) }
+unbundle_meaning component = record { first = component ≡ unbundle_parts.Waiting; loops = true; settled = true; makes = λ wrote x y. y 0 ≡ flat_map unbundled (x 0) }
 
 -- A Count sends its input on, where its first output is connected, and to its second output the number of its Normal packets.
 abbrev pub count_meaning : CountState → Meaning
@@ -101,19 +101,19 @@ select_meaning state = record { first = state ≡ fresh_select state.rejects; lo
 
 -- What a standard component means.
 abbrev pub meaning_of : Std → Meaning
-meaning_of (parts.ReadLines left) = read_lines_meaning left
-meaning_of (parts.WriteLines bytes) = write_lines_meaning bytes
-meaning_of (parts.Words part) = words_meaning part
-meaning_of (parts.Fill state) = fill_meaning state
-meaning_of (parts.Brackets part) = brackets_meaning
-meaning_of (parts.Passthru part) = passthru_meaning
-meaning_of (parts.Copy state) = copy_meaning state
-meaning_of (parts.Concat state) = concat_meaning state
-meaning_of (parts.Collate state) = collate_meaning state
-meaning_of (parts.Discard part) = silent_meaning
-meaning_of (parts.Bundle part) = bundle_meaning part
-meaning_of (parts.Unbundle part) = unbundle_meaning part
-meaning_of (parts.Hoard part) = silent_meaning
-meaning_of (parts.Count state) = count_meaning state
-meaning_of (parts.LoadBalance state) = load_balance_meaning state
-meaning_of (parts.Select state) = select_meaning state
+meaning_of (components.ReadLines left) = read_lines_meaning left
+meaning_of (components.WriteLines bytes) = write_lines_meaning bytes
+meaning_of (components.Words component) = words_meaning component
+meaning_of (components.Fill state) = fill_meaning state
+meaning_of (components.Brackets component) = brackets_meaning
+meaning_of (components.Passthru component) = passthru_meaning
+meaning_of (components.Copy state) = copy_meaning state
+meaning_of (components.Concat state) = concat_meaning state
+meaning_of (components.Collate state) = collate_meaning state
+meaning_of (components.Discard component) = silent_meaning
+meaning_of (components.Bundle component) = bundle_meaning component
+meaning_of (components.Unbundle component) = unbundle_meaning component
+meaning_of (components.Hoard component) = silent_meaning
+meaning_of (components.Count state) = count_meaning state
+meaning_of (components.LoadBalance state) = load_balance_meaning state
+meaning_of (components.Select state) = select_meaning state

@@ -1,7 +1,7 @@
 -- Networks whose compositions all leave the same files. (This project's own.)
 use Rattle.std.specs.Prelude.{◌≡◌, ◌≢◌, ℕ, ◌≤◌, true, List, length, Some, slice_get}
 use Rattle.flow_catalogue.specs.declared.standard.Std.{Std}
-use Rattle.flow_catalogue.specs.declared.standard.Std.TheVariants as parts
+use Rattle.flow_catalogue.specs.declared.standard.Std.TheVariants as components
 use Rattle.flow_catalogue.specs.declared.table.StdKind.TheVariants as kinds
 use Rattle.flow_catalogue.specs.Kinds.{name_of}
 use Rattle.flow_catalogue.specs.Processes.{IsMade}
@@ -16,11 +16,11 @@ use Rattle.flow_plan.specs.declared.plan.Process.{Process as PlanProcess}
 use Rattle.flow_plan.specs.declared.plan.Connection.{Connection as PlanConnection}
 use Rattle.flow_meanings.specs.Means.{is_settled}
 use Rattle.flow_meanings.specs.Composition.{Composes, AreFirst, wrote_in}
-use Rattle.flow_meanings.specs.Chains.{RunsPart}
+use Rattle.flow_meanings.specs.Chains.{RunsComponent}
 
 -- What each of the components sends follows from what it gets.
 abbrev pub AreSettled : List Std → Type 0
-AreSettled ks = (p : ℕ) (part : Std) → slice_get ks p ≡ Some part → is_settled part ≡ true
+AreSettled ks = (p : ℕ) (component : Std) → slice_get ks p ≡ Some component → is_settled component ≡ true
 
 -- No two outputs send to the same connection.
 abbrev pub IsUnmerged : Plan → Type 0
@@ -30,14 +30,14 @@ IsUnmerged plan = (c p o q r : ℕ) → sends_at plan p o ≡ Some c → sends_a
 abbrev pub OneOutcome : Type 0
 OneOutcome =
     (plan : Plan) (ks : List Std) (wrote other : ℕ → List ℕ) → StartsWell std_shape std_uses StdReady plan ks → AreSettled ks → IsUnmerged plan → LeadsOn plan → Composes plan ks wrote → Composes plan ks other
-    → (p : ℕ) (bytes : List ℕ) → RunsPart plan ks p (parts.WriteLines bytes) → wrote p ≡ other p
+    → (p : ℕ) (bytes : List ℕ) → RunsComponent plan ks p (components.WriteLines bytes) → wrote p ≡ other p
 
 -- Whatever the schedules, two of them that finish leave the same files. (That a network finishes shows that no connection leads back.)
 abbrev pub SameFiles : Type 0
 SameFiles =
     (plan : Plan) (ks : List Std) (journal other : Journal) (s t : State Std) → StartsWell std_shape std_uses StdReady plan ks → AreFirst ks → AreSettled ks → IsUnmerged plan
     → Leads StdNext (start_of plan ks) journal s → IsFinished s → Leads StdNext (start_of plan ks) other t → IsFinished t
-    → (p : ℕ) (bytes : List ℕ) → RunsPart plan ks p (parts.WriteLines bytes) → wrote_in s p ≡ wrote_in t p
+    → (p : ℕ) (bytes : List ℕ) → RunsComponent plan ks p (components.WriteLines bytes) → wrote_in s p ≡ wrote_in t p
 
 -- No connection of the plan has two senders, and no process is a LoadBalance.
 pub record MergesAndBalancesNothing (plan : Plan) : Type 0 where
@@ -45,23 +45,23 @@ pub record MergesAndBalancesNothing (plan : Plan) : Type 0 where
   pub no_balance : (p : ℕ) (process : PlanProcess) → slice_get plan.processes p ≡ Some process → process.kind ≢ name_of kinds.LoadBalance
 
 -- The component of process p of the plan, in its first state.
-pub record IsPartOf (plan : Plan) (p : ℕ) (part : Std) : Type 0 where
+pub record IsComponentOf (plan : Plan) (p : ℕ) (component : Std) : Type 0 where
   pub process : PlanProcess
   pub there : slice_get plan.processes p ≡ Some process
   pub file : List ℕ
-  pub made : IsMade plan p process file part
+  pub made : IsMade plan p process file component
 
 -- The components are those of the plan's processes, in their first states.
-abbrev pub ArePartsOf : Plan → List Std → Type 0
-ArePartsOf plan ks = (p : ℕ) (part : Std) → slice_get ks p ≡ Some part → IsPartOf plan p part
+abbrev pub AreComponentsOf : Plan → List Std → Type 0
+AreComponentsOf plan ks = (p : ℕ) (component : Std) → slice_get ks p ≡ Some component → IsComponentOf plan p component
 
 -- They are in their first states also as their meanings have it.
-abbrev pub PartsAreFirst : Type 0
-PartsAreFirst = (plan : Plan) (ks : List Std) → ArePartsOf plan ks → AreFirst ks
+abbrev pub ComponentsAreFirst : Type 0
+ComponentsAreFirst = (plan : Plan) (ks : List Std) → AreComponentsOf plan ks → AreFirst ks
 
 -- Where a plan merges and balances nothing, two schedules that finish leave the same files.
 abbrev pub PlanSameFiles : Type 0
 PlanSameFiles =
-    (plan : Plan) (ks : List Std) (journal other : Journal) (s t : State Std) → MergesAndBalancesNothing plan → StartsWell std_shape std_uses StdReady plan ks → ArePartsOf plan ks
+    (plan : Plan) (ks : List Std) (journal other : Journal) (s t : State Std) → MergesAndBalancesNothing plan → StartsWell std_shape std_uses StdReady plan ks → AreComponentsOf plan ks
     → Leads StdNext (start_of plan ks) journal s → IsFinished s → Leads StdNext (start_of plan ks) other t → IsFinished t
-    → (p : ℕ) (bytes : List ℕ) → RunsPart plan ks p (parts.WriteLines bytes) → wrote_in s p ≡ wrote_in t p
+    → (p : ℕ) (bytes : List ℕ) → RunsComponent plan ks p (components.WriteLines bytes) → wrote_in s p ≡ wrote_in t p

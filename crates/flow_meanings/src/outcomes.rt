@@ -2,7 +2,7 @@
 ghost use Rattle.std.specs.Prelude.{◌≡◌, ◌≤◌, ◌↔◌, IsTrue, length};
 ghost use Rattle.flow_catalogue.specs.declared.table.StdKind.TheVariants as kinds;
 ghost use Rattle.flow_catalogue.specs.Kinds.{name_of};
-ghost use Rattle.flow_meanings.specs.Outcomes.{OneOutcome, SameFiles, PlanSameFiles, PartsAreFirst, MergesAndBalancesNothing};
+ghost use Rattle.flow_meanings.specs.Outcomes.{OneOutcome, SameFiles, PlanSameFiles, ComponentsAreFirst, MergesAndBalancesNothing};
 
 use flow_net::{Connection, Plan, Process};
 
@@ -46,6 +46,6 @@ pub fn a_network_without_merges_means_one_outcome()
 {}
 
 /// The components of a plan's processes, as its kinds and options make them, are in the first states of which their meanings speak.
-pub fn parts_of_a_plan_are_first()
-    ensures { PartsAreFirst }
+pub fn components_of_a_plan_are_first()
+    ensures { ComponentsAreFirst }
 {}

@@ -66,25 +66,25 @@ Fit-turn shape_of uses ready s p event s' turn fit =
     }
 
 -- at the start nothing is held
-few-start : {K : Type 0} (plan : Plan) (parts : List K) → FewAtRoot (start_of plan parts).kept.processes
-few-start {K} plan parts p x is =
-    let none : x.held.packets ≡ [] = ap (λ (z : Process K). z.held.packets) (start-process plan parts p x is).is in
+few-start : {K : Type 0} (plan : Plan) (components : List K) → FewAtRoot (start_of plan components).kept.processes
+few-start {K} plan components p x is =
+    let none : x.held.packets ≡ [] = ap (λ (z : Process K). z.held.packets) (start-process plan components p x is).is in
     rw none (omega arith)
 
 -- it holds at the start of a plan with components that fit
-pub Fit-start : {K : Type 0} (shape_of : K → Shape) (uses : K → ℕ → Bool) (ready : K → Held → Answer → Type 0) (plan : Plan) (parts : List K) → StartsWell shape_of uses ready plan parts → Fit shape_of uses ready (start_of plan parts)
-Fit-start shape_of uses ready plan parts well = record {
-  valid = Valid-start ready shape_of uses plan parts well;
-  all_fit = AllFit-start shape_of uses ready plan parts well;
-  few = few-start plan parts;
-  senders = OpenSendersTell-start shape_of uses ready plan parts well;
+pub Fit-start : {K : Type 0} (shape_of : K → Shape) (uses : K → ℕ → Bool) (ready : K → Held → Answer → Type 0) (plan : Plan) (components : List K) → StartsWell shape_of uses ready plan components → Fit shape_of uses ready (start_of plan components)
+Fit-start shape_of uses ready plan components well = record {
+  valid = Valid-start ready shape_of uses plan components well;
+  all_fit = AllFit-start shape_of uses ready plan components well;
+  few = few-start plan components;
+  senders = OpenSendersTell-start shape_of uses ready plan components well;
 }
 
 -- along every schedule, of components that keep the laws
 module _ {K : Type 0} (shape_of : K → Shape) (uses : K → ℕ → Bool) (ready : K → Held → Answer → Type 0) (next : K → Held → Answer → Outcome K → Type 0)
-    (obeys : (part : K) (held : Held) (answer : Answer) (outcome : Outcome K) → ready part held answer → next part held answer outcome → Obeys (shape_of part) (uses part) held outcome)
-    (stays : (part : K) (held : Held) (answer : Answer) (outcome : Outcome K) → ready part held answer → next part held answer outcome → StaysReady ready outcome)
-    (steady : (part : K) (held : Held) (answer : Answer) (outcome : Outcome K) → next part held answer outcome → IsSteady shape_of uses part outcome) where
+    (obeys : (component : K) (held : Held) (answer : Answer) (outcome : Outcome K) → ready component held answer → next component held answer outcome → Obeys (shape_of component) (uses component) held outcome)
+    (stays : (component : K) (held : Held) (answer : Answer) (outcome : Outcome K) → ready component held answer → next component held answer outcome → StaysReady ready outcome)
+    (steady : (component : K) (held : Held) (answer : Answer) (outcome : Outcome K) → next component held answer outcome → IsSteady shape_of uses component outcome) where
   -- a work keeps it
   pub Fit-work : (s : State K) (p : ℕ) (s' : State K) → Work next s p s' → Fit shape_of uses ready s → Fit shape_of uses ready s'
   Fit-work s p s' work fit =
@@ -94,13 +94,13 @@ module _ {K : Type 0} (shape_of : K → Shape) (uses : K → ℕ → Bool) (read
       let was = fit.valid.each p x there in
       let below : x.held.made < 4294967296 = omega (arith, was.made, was.turns) in
       let sound = sound-hands s p x there was.maker below fit.valid.one_place in
-      let now : ready x.part x.held work.kept.answer = subst (ReadyAt (ready x.part) x.held) told was.is_ready sound in
-      let lawful = obeys x.part x.held work.kept.answer work.outcome now work.kept.comes in
+      let now : ready x.component x.held work.kept.answer = subst (ReadyAt (ready x.component) x.held) told was.is_ready sound in
+      let lawful = obeys x.component x.held work.kept.answer work.outcome now work.kept.comes in
       let few : length (worked x work.outcome).held.packets ≤ HANDS_LIMIT =
-      subst (λ (h : Held). length h.packets ≤ HANDS_LIMIT) (sym (held-worked x work.outcome)) (few-comes x.held (held_after work.outcome) (comes-of (shape_of x.part) (uses x.part) x.held work.outcome lawful) (fit.few p x there)) in
+      subst (λ (h : Held). length h.packets ≤ HANDS_LIMIT) (sym (held-worked x work.outcome)) (few-comes x.held (held_after work.outcome) (comes-of (shape_of x.component) (uses x.component) x.held work.outcome lawful) (fit.few p x there)) in
       record {
         valid = Valid-work ready next shape_of uses obeys stays s p s' work fit.valid;
-        all_fit = AllFit-work shape_of uses next s p s' work lawful (steady x.part x.held work.kept.answer work.outcome work.kept.comes) fit.all_fit;
+        all_fit = AllFit-work shape_of uses next s p s' work lawful (steady x.component x.held work.kept.answer work.outcome work.kept.comes) fit.all_fit;
         few = rw work.kept.processes (few-set s.kept.processes p x (worked x work.outcome) there fit.few few);
         senders = OpenSendersTell-work next s p s' work fit.senders;
       }

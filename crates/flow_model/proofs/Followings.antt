@@ -52,16 +52,16 @@ module _ {K : Type 0} (ready : K → Held → Answer → Type 0) (next : K → H
 
   -- an answer that the component's wish brought
   pending : (start : Poise K) (told : List Happening) (x : Process K) (e : Event) (happening : Happening) (wish : Wish) → x.stage ≡ stages.Wishing wish → Follows ready next start told x x.stage
-      → heard x e ≡ happening ∷ [] → Grants x.held wish happening (process_after x e).held → (process_after x e).part ≡ x.part
+      → heard x e ≡ happening ∷ [] → Grants x.held wish happening (process_after x e).held → (process_after x e).component ≡ x.component
       → IsPending ready next start (told ++ heard x e) (process_after x e) (answer_of happening)
-  pending start told x e happening wish at was hears grants part = record {
+  pending start told x e happening wish at was hears grants component = record {
     before = told;
     happening = happening;
     mid = poise x wish;
-    parts = ap (λ hs. told ++ hs) hears;
+    whole = ap (λ hs. told ++ hs) hears;
     runs = subst (Follows ready next start told x) at was;
     grants = grants;
-    part = part;
+    component = component;
     answers = refl;
   }
 
@@ -71,7 +71,7 @@ module _ {K : Type 0} (ready : K → Held → Answer → Type 0) (next : K → H
       let at = explains channels x n Starts is in
       let r : Runs ready next start told (poise x wishes.Deactivate) = subst (Follows ready next start told x) at was in
       follows-limited start (told ++ Started ∷ []) (process_after x Starts) (x.turns + 1) (stages.Told answers.Start)
-      (record { before = told; happening = Started; mid = poise x wishes.Deactivate; parts = refl; runs = r; grants = (refl, refl); part = refl; answers = refl })
+      (record { before = told; happening = Started; mid = poise x wishes.Deactivate; whole = refl; runs = r; grants = (refl, refl); component = refl; answers = refl })
   follows-event channels start told x n Finishes is was =
       let at = explains channels x n Finishes is in
       let r : Runs ready next start told (poise x wishes.Deactivate) = subst (Follows ready next start told x) at was in
@@ -116,31 +116,31 @@ module _ {K : Type 0} (ready : K → Held → Answer → Type 0) (next : K → H
       (subst (λ (stage : Stage). Follows ready next start (told ++ []) y (closing_on x stage)) (sym at.stage)
       (follows-closing start (told ++ []) y x (at.i + 1) (nothing-heard start told (poise x wishes.Deactivate) r)))
 
-  follows-judged : (start : Poise K) (told : List Happening) (x : Process K) (part : K) (held : Held) (wish : Wish) → Runs ready next start told (record { part = part; held = held; wish = wish })
-      → Follows ready next start told (worked x (Wishes part held wish)) (judged x.depths held wish)
-  follows-judged start told x part held (wishes.Receive port) r = by (nat_lt (length held.packets) HANDS_LIMIT)
+  follows-judged : (start : Poise K) (told : List Happening) (x : Process K) (component : K) (held : Held) (wish : Wish) → Runs ready next start told (record { component = component; held = held; wish = wish })
+      → Follows ready next start told (worked x (Wishes component held wish)) (judged x.depths held wish)
+  follows-judged start told x component held (wishes.Receive port) r = by (nat_lt (length held.packets) HANDS_LIMIT)
     where
-      by : (b : Bool) → Follows ready next start told (worked x (Wishes part held (wishes.Receive port))) (cond b (stages.Wishing (wishes.Receive port)) (stages.Failed fails.HandsLimit))
+      by : (b : Bool) → Follows ready next start told (worked x (Wishes component held (wishes.Receive port))) (cond b (stages.Wishing (wishes.Receive port)) (stages.Failed fails.HandsLimit))
       by true = r
       by false = tt
-  follows-judged start told x part held (wishes.Send port id) r = by (packet_at held.packets id)
+  follows-judged start told x component held (wishes.Send port id) r = by (packet_at held.packets id)
     where
-      by-nests : (b : Bool) → Follows ready next start told (worked x (Wishes part held (wishes.Send port id))) (cond b (stages.Wishing (wishes.Send port id)) (stages.Failed (fails.Unnested port)))
+      by-nests : (b : Bool) → Follows ready next start told (worked x (Wishes component held (wishes.Send port id))) (cond b (stages.Wishing (wishes.Send port id)) (stages.Failed (fails.Unnested port)))
       by-nests true = r
       by-nests false = tt
 
-      by : (found : Option Tree) → Follows ready next start told (worked x (Wishes part held (wishes.Send port id))) (sending x.depths port id found)
+      by : (found : Option Tree) → Follows ready next start told (worked x (Wishes component held (wishes.Send port id))) (sending x.depths port id found)
       by None = r
       by (Some packet) = by-nests (nests (kind_of packet) (slice_index x.depths port.0))
-  follows-judged start told x part held (wishes.Level port) r = r
-  follows-judged start told x part held wishes.Deactivate r = r
+  follows-judged start told x component held (wishes.Level port) r = r
+  follows-judged start told x component held wishes.Deactivate r = r
 
   -- after a work
-  pub follows-worked : (start : Poise K) (told : List Happening) (x : Process K) (answer : Answer) (outcome : Outcome K) → IsPending ready next start told x answer → Sound x.held → ready x.part x.held answer
-      → next x.part x.held answer outcome → Follows ready next start told (worked x outcome) (worked x outcome).stage
-  follows-worked start told x answer (Fails part held cause) i sound can is = tt
-  follows-worked start told x answer (Wishes part held wish) i sound can is =
-      let q : Poise K = record { part = part; held = held; wish = wish } in
-      let step : Steps ready next i.mid i.happening q = record { held = x.held; grants = i.grants; sound = sound; is_ready = rw (← i.part, ← i.answers) can; comes_to = rw (← i.part, ← i.answers) is } in
-      let r : Runs ready next start told q = rw i.parts (Runs-more ready next start i.before i.mid i.happening q i.runs step) in
-      follows-judged start told x part held wish r
+  pub follows-worked : (start : Poise K) (told : List Happening) (x : Process K) (answer : Answer) (outcome : Outcome K) → IsPending ready next start told x answer → Sound x.held → ready x.component x.held answer
+      → next x.component x.held answer outcome → Follows ready next start told (worked x outcome) (worked x outcome).stage
+  follows-worked start told x answer (Fails component held cause) i sound can is = tt
+  follows-worked start told x answer (Wishes component held wish) i sound can is =
+      let q : Poise K = record { component = component; held = held; wish = wish } in
+      let step : Steps ready next i.mid i.happening q = record { held = x.held; grants = i.grants; sound = sound; is_ready = rw (← i.component, ← i.answers) can; comes_to = rw (← i.component, ← i.answers) is } in
+      let r : Runs ready next start told q = rw i.whole (Runs-more ready next start i.before i.mid i.happening q i.runs step) in
+      follows-judged start told x component held wish r

@@ -216,8 +216,8 @@ leaves-judged depths held (wishes.Level port) j = inl tt
 leaves-judged depths held wishes.Deactivate j = inl tt
 
 leaves-worked : {K : Type 0} (x : Process K) (outcome : Outcome K) (j : ℕ) → Leaves (worked x outcome).stage j
-leaves-worked x (Wishes part held wish) j = leaves-judged x.depths held wish j
-leaves-worked x (Fails part held cause) j = inr tt
+leaves-worked x (Wishes component held wish) j = leaves-judged x.depths held wish j
+leaves-worked x (Fails component held cause) j = inr tt
 
 -- what is left open stays so where another process changes
 left-other : {K : Type 0} (processes : List (Process K)) (p : ℕ) (y : Process K) (sender : Sender) (c : ℕ) → sender.process ≢ p → IsLeftOpen processes sender c → IsLeftOpen (slice_set processes p y) sender c
@@ -371,25 +371,25 @@ position-only p xs i x is passes only = by (position p xs) refl
     by (Some k) at = let found = position-Some p xs k x at in ap (λ n. Some n) (only k (get_or xs k x) (slice_get-get_or xs k x found.0) found.1)
 
 -- a process of the plan stands at the start, with some component
-pub process-there : {K : Type 0} (plan : Plan) (n : ℕ) (xs : List PlanProcess) (parts : List K) (k : ℕ) (x : PlanProcess) → length parts ≡ length xs → slice_get xs k ≡ Some x
-    → (part : K) × (slice_get (processes_at_start plan n xs parts) k ≡ Some (process_at_start plan (n + k) x part))
-process-there plan n [] parts k x each is = absurd (cc)
+pub process-there : {K : Type 0} (plan : Plan) (n : ℕ) (xs : List PlanProcess) (components : List K) (k : ℕ) (x : PlanProcess) → length components ≡ length xs → slice_get xs k ≡ Some x
+    → (component : K) × (slice_get (processes_at_start plan n xs components) k ≡ Some (process_at_start plan (n + k) x component))
+process-there plan n [] components k x each is = absurd (cc)
 process-there plan n (y ∷ xs) [] k x each is = absurd (omega (arith, each))
-process-there plan n (y ∷ xs) (part ∷ parts) zero x each is =
+process-there plan n (y ∷ xs) (component ∷ components) zero x each is =
     let same : y ≡ x = same-found y x is in
     let m : n ≡ n + zero = omega arith in
-    (part, λ i. Some (process_at_start plan (m i) (same i) part))
-process-there {K} plan n (y ∷ xs) (part ∷ parts) (suc k) x each is =
-    let more = process-there plan (n + 1) xs parts k x (omega (arith, each)) is in
+    (component, λ i. Some (process_at_start plan (m i) (same i) component))
+process-there {K} plan n (y ∷ xs) (component ∷ components) (suc k) x each is =
+    let more = process-there plan (n + 1) xs components k x (omega (arith, each)) is in
     let m : n + 1 + k ≡ n + suc k = omega arith in
     (more.0, more.1 ∙ ap (λ (q : ℕ). Some (process_at_start plan q x more.0)) m)
 
 -- a sender of the plan is an output that its process has to close
-left-start : {K : Type 0} (plan : Plan) (parts : List K) → IsWired plan → length parts ≡ length plan.processes → (c : ℕ) (sender : Sender) (connection : PlanConnection) → slice_get plan.connections c ≡ Some connection → (k : ℕ) → slice_get connection.senders k ≡ Some sender
-    → IsLeftOpen (start_of plan parts).kept.processes sender c
-left-start {K} plan parts wired each c sender connection is k at =
+left-start : {K : Type 0} (plan : Plan) (components : List K) → IsWired plan → length components ≡ length plan.processes → (c : ℕ) (sender : Sender) (connection : PlanConnection) → slice_get plan.connections c ≡ Some connection → (k : ℕ) → slice_get connection.senders k ≡ Some sender
+    → IsLeftOpen (start_of plan components).kept.processes sender c
+left-start {K} plan components wired each c sender connection is k at =
     let spec = wired.senders c k connection sender is at in
-    let found = process-there plan 0 plan.processes parts sender.process spec.0 each spec.1 in
+    let found = process-there plan 0 plan.processes components sender.process spec.0 each spec.1 in
     let zero_p : 0 + sender.process ≡ sender.process = omega arith in
     let process : Process K = process_at_start plan sender.process spec.0 found.0 in
     let test : PlanConnection → Bool = λ (x : PlanConnection). list_any (is_sender (record { process = sender.process; output = sender.output })) x.senders in
@@ -409,13 +409,13 @@ left-start {K} plan parts wired each c sender connection is k at =
     }
 
 -- it holds at the start
-pub OpenSendersTell-start : {K : Type 0} (shape_of : K → Shape) (uses : K → ℕ → Bool) (ready : K → Held → Answer → Type 0) (plan : Plan) (parts : List K) → StartsWell shape_of uses ready plan parts → OpenSendersTell (start_of plan parts).kept
-OpenSendersTell-start {K} shape_of uses ready plan parts well = record {
-  all = start-senders plan parts;
+pub OpenSendersTell-start : {K : Type 0} (shape_of : K → Shape) (uses : K → ℕ → Bool) (ready : K → Held → Answer → Type 0) (plan : Plan) (components : List K) → StartsWell shape_of uses ready plan components → OpenSendersTell (start_of plan components).kept
+OpenSendersTell-start {K} shape_of uses ready plan components well = record {
+  all = start-senders plan components;
   once = λ c channel is. (let at = start-channel plan.connections c channel is in
       subst (λ (ch : Channel). AllDifferent ch.open_senders) (sym at.2) (places-different at.0.senders (λ k l s ks ls. (well.wired.one_sender c c k l at.0 at.0 s at.1 at.1 ks ls).1)));
   only = λ c channel sender is goes. (let at = start-channel plan.connections c channel is in
       let goes' : IsOpenSender sender at.0.senders = subst (λ (ch : Channel). IsOpenSender sender ch.open_senders) at.2 goes in
       let place = open-place sender at.0.senders goes' in
-      left-start plan parts well.wired well.one_each c sender at.0 at.1 place.0 place.1);
+      left-start plan components well.wired well.one_each c sender at.0 at.1 place.0 place.1);
 }

@@ -94,9 +94,9 @@ module _ {K : Type 0} (next : K → Held → Answer → Outcome K → Type 0) (o
       let before : one.before ≡ two.before = same-some one.before two.before (sym one.kept.there ∙ two.kept.there) in
       let told : stages.Told one.kept.answer ≡ stages.Told two.kept.answer = sym one.kept.told ∙ ap (λ (x : Process K). x.stage) before ∙ two.kept.told in
       let answer : one.kept.answer ≡ two.kept.answer = cc in
-      let comes : next two.before.part two.before.held two.kept.answer one.outcome =
-      subst (λ (w : Answer). next two.before.part two.before.held w one.outcome) answer (subst (λ (x : Process K). next x.part x.held one.kept.answer one.outcome) before one.kept.comes) in
-      let outcome : one.outcome ≡ two.outcome = one_outcome two.before.part two.before.held two.kept.answer one.outcome two.outcome comes two.kept.comes in
+      let comes : next two.before.component two.before.held two.kept.answer one.outcome =
+      subst (λ (w : Answer). next two.before.component two.before.held w one.outcome) answer (subst (λ (x : Process K). next x.component x.held one.kept.answer one.outcome) before one.kept.comes) in
+      let outcome : one.outcome ≡ two.outcome = one_outcome two.before.component two.before.held two.kept.answer one.outcome two.outcome comes two.kept.comes in
       same-state a b
       (one.kept.processes ∙ (λ i. slice_set s.kept.processes p (worked (before i) (outcome i))) ∙ sym two.kept.processes)
       (one.kept.channels ∙ sym two.kept.channels)
@@ -173,7 +173,7 @@ module _ {K : Type 0} (next : K → Held → Answer → Outcome K → Type 0) (o
   pub one-robin : (s : State K) (j : Journal) (a : State K) (k : Journal) (b : State K) → RoundRobin next s j a → RoundRobin next s k b → (j ≡ k) × (a ≡ b)
   one-robin s j a k b one two =
       let same = same-passes s one.passes a two.passes b one.go one.last two.go two.last in
-      (one.parts ∙ ap joined same.0 ∙ sym two.parts, same.1)
+      (one.whole ∙ ap joined same.0 ∙ sym two.whole, same.1)
 
   same-leads_by : (s : State K) (turns seen : List ℕ) (a b : State K) → LeadsBy next s turns seen a → LeadsBy next s turns seen b → a ≡ b
   same-leads_by s [] seen a b one two = one.1 ∙ sym two.1

@@ -21,7 +21,7 @@ use Rattle.flow_model.specs.Works.{judged, sending, nests, worked}
 use Rattle.flow_model.specs.Places.{OnePlaceCounted, made_count, made_by}
 use Rattle.flow_model.specs.Valid.{ReadyAt, IsNested, SmallCapacities}
 use Rattle.flow_model.proofs.Inverse.{explains}
-use Rattle.flow_model.proofs.Counts.{packet_at-id, held_count-part, made_by-most}
+use Rattle.flow_model.proofs.Counts.{packet_at-id, held_count-component, made_by-most}
 
 ready-cond : (ready : Held → Answer → Type 0) (held : Held) (b : Bool) (stage : Stage) → ReadyAt ready held stage → ReadyAt ready held (cond b (stages.Failed fails.TurnLimit) stage)
 ready-cond ready held true stage is = tt
@@ -97,9 +97,9 @@ ready-judged ready depths held (wishes.Level port) r = r
 ready-judged ready depths held wishes.Deactivate r = r
 
 -- after a work the component is ready for whatever its wish may bring
-pub ready-worked : {K : Type 0} (ready : K → Held → Answer → Type 0) (x : Process K) (outcome : Outcome K) → StaysReady ready outcome → ReadyAt (ready (worked x outcome).part) (worked x outcome).held (worked x outcome).stage
-ready-worked ready x (Wishes part held wish) stays = ready-judged (ready part) x.depths held wish stays
-ready-worked ready x (Fails part held cause) stays = tt
+pub ready-worked : {K : Type 0} (ready : K → Held → Answer → Type 0) (x : Process K) (outcome : Outcome K) → StaysReady ready outcome → ReadyAt (ready (worked x outcome).component) (worked x outcome).held (worked x outcome).stage
+ready-worked ready x (Wishes component held wish) stays = ready-judged (ready component) x.depths held wish stays
+ready-worked ready x (Fails component held cause) stays = tt
 
 -- a wish that stands after a work nests
 nested-judged : {K : Type 0} (y : Process K) (wish : Wish) → IsNested y (judged y.depths y.held wish)
@@ -122,8 +122,8 @@ nested-judged y (wishes.Level port) = tt
 nested-judged y wishes.Deactivate = tt
 
 pub nested-worked : {K : Type 0} (x : Process K) (outcome : Outcome K) → IsNested (worked x outcome) (worked x outcome).stage
-nested-worked x (Wishes part held wish) = nested-judged (worked x (Wishes part held wish)) wish
-nested-worked x (Fails part held cause) = tt
+nested-worked x (Wishes component held wish) = nested-judged (worked x (Wishes component held wish)) wish
+nested-worked x (Fails component held cause) = tt
 
 nested-cond : {K : Type 0} (y : Process K) (b : Bool) (stage : Stage) → IsNested y stage → IsNested y (cond b (stages.Failed fails.TurnLimit) stage)
 nested-cond y true stage is = tt
@@ -154,10 +154,10 @@ nested-event channels x n (Closes output c) is =
 -- in a state where each id has one place, all hands are sound
 pub sound-hands : {K : Type 0} (s : State K) (p : ℕ) (x : Process K) → slice_get s.kept.processes p ≡ Some x → x.held.maker ≡ p → x.held.made < 4294967296 → OnePlaceCounted s → Sound x.held
 sound-hands s p x there maker below place = record {
-  once = λ id. omega (arith, held_count-part id s.kept.processes p x there, place id, made_by-most id (slice_get s.kept.processes (maker_of id)));
+  once = λ id. omega (arith, held_count-component id s.kept.processes p x there, place id, made_by-most id (slice_get s.kept.processes (maker_of id)));
   counted = below;
   below = λ id here from.
       (let made : made_count id s.kept.processes ≡ cond (nat_lt (ordinal_of id) x.held.made) 1 0 = ap (made_by id) (ap (slice_get s.kept.processes) (from ∙ maker) ∙ there) in
-      let some : 0 < cond (nat_lt (ordinal_of id) x.held.made) 1 0 = omega (arith, held_count-part id s.kept.processes p x there, place id, made, here) in
+      let some : 0 < cond (nat_lt (ordinal_of id) x.held.made) 1 0 = omega (arith, held_count-component id s.kept.processes p x there, place id, made, here) in
       grind (arith, nat_tests));
 }

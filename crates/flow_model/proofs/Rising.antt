@@ -121,8 +121,8 @@ judged-not depths held (wishes.Level port) has = has
 judged-not depths held wishes.Deactivate has = has
 
 worked-not : {K : Type 0} (x : Process K) (outcome : Outcome K) → HasBegun (worked x outcome).stage → ⊥
-worked-not x (Wishes part held wish) has = judged-not x.depths held wish has
-worked-not x (Fails part held cause) has = has
+worked-not x (Wishes component held wish) has = judged-not x.depths held wish has
+worked-not x (Fails component held cause) has = has
 
 -- The order in which processes began to close
 
@@ -346,13 +346,13 @@ get-there [] c d l = absurd (omega arith)
 get-there (x ∷ xs) zero d l = refl
 get-there (x ∷ xs) (suc c) d l = get-there xs c d (omega arith)
 
-module _ {K : Type 0} (shape_of : K → Shape) (uses : K → ℕ → Bool) (ready : K → Held → Answer → Type 0) (next : K → Held → Answer → Outcome K → Type 0) (plan : Plan) (parts : List K) (journal : Journal) (s : State K) (well : StartsWell shape_of uses ready plan parts) (leads : Leads next (start_of plan parts) journal s) where
-  kept-wires : SameWires (start_of plan parts) s
-  kept-wires = (wires-leads next plan parts journal s leads).0
+module _ {K : Type 0} (shape_of : K → Shape) (uses : K → ℕ → Bool) (ready : K → Held → Answer → Type 0) (next : K → Held → Answer → Outcome K → Type 0) (plan : Plan) (components : List K) (journal : Journal) (s : State K) (well : StartsWell shape_of uses ready plan components) (leads : Leads next (start_of plan components) journal s) where
+  kept-wires : SameWires (start_of plan components) s
+  kept-wires = (wires-leads next plan components journal s leads).0
 
-  now : (p : ℕ) (z : Process K) → slice_get (processes_at_start plan 0 plan.processes parts) p ≡ Some z → (x : Process K) × (slice_get s.kept.processes p ≡ Some x) × (wires x ≡ wires z)
+  now : (p : ℕ) (z : Process K) → slice_get (processes_at_start plan 0 plan.processes components) p ≡ Some z → (x : Process K) × (slice_get s.kept.processes p ≡ Some x) × (wires x ≡ wires z)
   now p z there =
-      let h : slice_get (map wires s.kept.processes) p ≡ Some (wires z) = ap (λ (ws : List Wires). slice_get ws p) kept-wires ∙ slice_get-map wires (processes_at_start plan 0 plan.processes parts) p ∙ ap (option_map wires) there in
+      let h : slice_get (map wires s.kept.processes) p ≡ Some (wires z) = ap (λ (ws : List Wires). slice_get ws p) kept-wires ∙ slice_get-map wires (processes_at_start plan 0 plan.processes components) p ∙ ap (option_map wires) there in
       map-found wires s.kept.processes p (wires z) h
 
   -- whoever sends by the plan does so in the last state
@@ -363,7 +363,7 @@ module _ {K : Type 0} (shape_of : K → Shape) (uses : K → ℕ → Bool) (read
       let connection = get_or plan.connections c no_connection in
       let at = open-place sender connection.senders pos.1 in
       let spec = well.wired.senders c at.0 connection sender (get-there plan.connections c no_connection pos.0) at.1 in
-      let found = process-there plan 0 plan.processes parts p spec.0 well.one_each spec.1 in
+      let found = process-there plan 0 plan.processes components p spec.0 well.one_each spec.1 in
       let zero_p : 0 + p ≡ p = omega arith in
       let z : Process K = process_at_start plan p spec.0 found.0 in
       let x = now p z (found.1 ∙ ap (λ (m : ℕ). Some (process_at_start plan m spec.0 found.0)) zero_p) in
@@ -379,7 +379,7 @@ module _ {K : Type 0} (shape_of : K → Shape) (uses : K → ℕ → Bool) (read
       let is = both-true connection.receiver q connection.input i pos.1 in
       let spec = well.wired.receivers c connection (get-there plan.connections c no_connection pos.0) in
       let there : slice_get plan.processes q ≡ Some spec.0 = ap (slice_get plan.processes) (sym is.0) ∙ spec.1 in
-      let found = process-there plan 0 plan.processes parts q spec.0 well.one_each there in
+      let found = process-there plan 0 plan.processes components q spec.0 well.one_each there in
       let zero_q : 0 + q ≡ q = omega arith in
       let z : Process K = process_at_start plan q spec.0 found.0 in
       let y = now q z (found.1 ∙ ap (λ (m : ℕ). Some (process_at_start plan m spec.0 found.0)) zero_q) in
@@ -388,7 +388,7 @@ module _ {K : Type 0} (shape_of : K → Shape) (uses : K → ℕ → Bool) (read
       let input : slice_get z.inputs i ≡ Some (From c) = ports-at (input_at plan q spec.0) 0 spec.0.inputs i below ∙ ap (λ (m : ℕ). Some (input_at plan q spec.0 m)) zero_i ∙ ap (λ (d : Option ℕ). Some (connected_or (text_at spec.0.initials i) d)) receive in
       (y.0, y.1, ap (λ (w : Wires). slice_get w.inputs i) y.2 ∙ input)
 
-  start-ranked : Ranked (start_of plan parts).kept
+  start-ranked : Ranked (start_of plan components).kept
   start-ranked = record {
     rank = λ _. 0;
     top = 0;
@@ -396,15 +396,15 @@ module _ {K : Type 0} (shape_of : K → Shape) (uses : K → ℕ → Bool) (read
       below = λ p y is has. absurd (idle-start p y is has);
       rises = λ q p o i c x y hx ho hy hi has. absurd (idle-start p y hy has);
     };
-    senders = start-senders plan parts;
+    senders = start-senders plan components;
   }
     where
-      idle-start : (p : ℕ) (y : Process K) → slice_get (processes_at_start plan 0 plan.processes parts) p ≡ Some y → HasBegun y.stage → ⊥
-      idle-start p y is has = subst (λ (z : Process K). HasBegun z.stage) (start-process plan parts p y is).is has
+      idle-start : (p : ℕ) (y : Process K) → slice_get (processes_at_start plan 0 plan.processes components) p ≡ Some y → HasBegun y.stage → ⊥
+      idle-start p y is has = subst (λ (z : Process K). HasBegun z.stage) (start-process plan components p y is).is has
 
   pub finished-leads_on : IsFinished s → LeadsOn plan
   finished-leads_on finished =
-      let r = ranked-leads next (start_of plan parts) journal.turns journal.seen s leads start-ranked in
+      let r = ranked-leads next (start_of plan components) journal.turns journal.seen s leads start-ranked in
       record {
         rank = r.rank;
         rises = λ p o q i c sends receive. (

@@ -91,16 +91,16 @@ maker-after x (Learns port level) = refl
 maker-after x Sleeps = refl
 maker-after x (Closes output c) = refl
 
-pub part-after : {K : Type 0} (x : Process K) (e : Event) → (process_after x e).part ≡ x.part
-part-after x Starts = refl
-part-after x Finishes = refl
-part-after x (Gets port c packet) = refl
-part-after x (Takes_text port text) = refl
-part-after x (Hears_end port) = refl
-part-after x (Sends port c packet) = refl
-part-after x (Learns port level) = refl
-part-after x Sleeps = refl
-part-after x (Closes output c) = refl
+pub component-after : {K : Type 0} (x : Process K) (e : Event) → (process_after x e).component ≡ x.component
+component-after x Starts = refl
+component-after x Finishes = refl
+component-after x (Gets port c packet) = refl
+component-after x (Takes_text port text) = refl
+component-after x (Hears_end port) = refl
+component-after x (Sends port c packet) = refl
+component-after x (Learns port level) = refl
+component-after x Sleeps = refl
+component-after x (Closes output c) = refl
 
 -- a turn makes one packet at most
 made-after : {K : Type 0} (x : Process K) (e : Event) → (process_after x e).held.made ≤ x.held.made + 1
@@ -198,7 +198,7 @@ Valid-turn {K} ready s p event s' turn good =
       turns = left-after x event (omega (arith, was.turns, left.0));
       depths = depths-after x event ∙ was.depths ∙ ap length (sym (outputs-after x event));
       nested = nested-event s.kept.channels x turn.kept.level event turn.kept.happens;
-      is_ready = subst (λ (part : K). ReadyAt (ready part) y.held y.stage) (sym (part-after x event)) (ready-event (ready x.part) s.kept.channels x turn.kept.level event good.capacities turn.kept.happens was.is_ready);
+      is_ready = subst (λ (component : K). ReadyAt (ready component) y.held y.stage) (sym (component-after x event)) (ready-event (ready x.component) s.kept.channels x turn.kept.level event good.capacities turn.kept.happens was.is_ready);
     } in
     record {
       one_place = place;
@@ -216,12 +216,12 @@ maker-comes old new (inl keeps) = (keeps.maker, omega (arith, keeps.made))
 maker-comes old new (inr one) = (one.maker, omega (arith, one.made))
 
 pub comes-of : {K : Type 0} (shape : Shape) (uses : ℕ → Bool) (old : Held) (outcome : Outcome K) → Obeys shape uses old outcome → ComesBy old (held_after outcome)
-comes-of shape uses old (Wishes part held wish) obeys = obeys.0
-comes-of shape uses old (Fails part held cause) obeys = obeys.0
+comes-of shape uses old (Wishes component held wish) obeys = obeys.0
+comes-of shape uses old (Fails component held cause) obeys = obeys.0
 
 turns-worked : {K : Type 0} (x : Process K) (outcome : Outcome K) → (worked x outcome).turns ≡ x.turns
-turns-worked x (Wishes part held wish) = refl
-turns-worked x (Fails part held cause) = refl
+turns-worked x (Wishes component held wish) = refl
+turns-worked x (Fails component held cause) = refl
 
 owed-judged : (depths : List ℕ) (held : Held) (wish : Wish) → owed (judged depths held wish) ≡ 0
 owed-judged depths held (wishes.Receive port) = by (nat_lt (length held.packets) HANDS_LIMIT)
@@ -242,13 +242,13 @@ owed-judged depths held (wishes.Level port) = refl
 owed-judged depths held wishes.Deactivate = refl
 
 owed-worked : {K : Type 0} (x : Process K) (outcome : Outcome K) → owed (worked x outcome).stage ≡ 0
-owed-worked x (Wishes part held wish) = owed-judged x.depths held wish
-owed-worked x (Fails part held cause) = refl
+owed-worked x (Wishes component held wish) = owed-judged x.depths held wish
+owed-worked x (Fails component held cause) = refl
 
 -- along every schedule, of components that keep the laws
 module _ {K : Type 0} (ready : K → Held → Answer → Type 0) (next : K → Held → Answer → Outcome K → Type 0) (shape_of : K → Shape) (uses : K → ℕ → Bool)
-    (obeys : (part : K) (held : Held) (answer : Answer) (outcome : Outcome K) → ready part held answer → next part held answer outcome → Obeys (shape_of part) (uses part) held outcome)
-    (stays : (part : K) (held : Held) (answer : Answer) (outcome : Outcome K) → ready part held answer → next part held answer outcome → StaysReady ready outcome) where
+    (obeys : (component : K) (held : Held) (answer : Answer) (outcome : Outcome K) → ready component held answer → next component held answer outcome → Obeys (shape_of component) (uses component) held outcome)
+    (stays : (component : K) (held : Held) (answer : Answer) (outcome : Outcome K) → ready component held answer → next component held answer outcome → StaysReady ready outcome) where
   -- a work keeps a state valid
   pub Valid-work : (s : State K) (p : ℕ) (s' : State K) → Work next s p s' → Valid ready s → Valid ready s'
   Valid-work s p s' work good =
@@ -261,8 +261,8 @@ module _ {K : Type 0} (ready : K → Held → Answer → Type 0) (next : K → H
       let left : least_left x.stage ≡ 1 = ap least_left told in
       let below : x.held.made < 4294967296 = omega (arith, was.made, was.turns) in
       let sound = sound-hands s p x there was.maker below good.one_place in
-      let now : ready x.part x.held work.kept.answer = subst (ReadyAt (ready x.part) x.held) told was.is_ready sound in
-      let works = comes x.held (held_after work.outcome) (comes-of (shape_of x.part) (uses x.part) x.held work.outcome (obeys x.part x.held work.kept.answer work.outcome now work.kept.comes)) in
+      let now : ready x.component x.held work.kept.answer = subst (ReadyAt (ready x.component) x.held) told was.is_ready sound in
+      let works = comes x.held (held_after work.outcome) (comes-of (shape_of x.component) (uses x.component) x.held work.outcome (obeys x.component x.held work.kept.answer work.outcome now work.kept.comes)) in
       let few = maker-comes x.held (held_after work.outcome) works in
       let held : y.held ≡ held_after work.outcome = held-worked x work.outcome in
       let place : OnePlaceCounted s' = OnePlace-work next s p s' work works was.maker below good.one_place in
@@ -272,7 +272,7 @@ module _ {K : Type 0} (ready : K → Held → Answer → Type 0) (next : K → H
         turns = omega (arith, was.turns, left, turns-worked x work.outcome, least_left-most y.stage);
         depths = ap length (depths-worked x work.outcome) ∙ was.depths ∙ ap length (sym (outputs-worked x work.outcome));
         nested = nested-worked x work.outcome;
-        is_ready = ready-worked ready x work.outcome (stays x.part x.held work.kept.answer work.outcome now work.kept.comes);
+        is_ready = ready-worked ready x work.outcome (stays x.component x.held work.kept.answer work.outcome now work.kept.comes);
       } in
       record {
         one_place = place;

@@ -65,8 +65,8 @@ turns-after x Sleeps = refl
 turns-after x (Closes output c) = refl
 
 turns-worked : {K : Type 0} (x : Process K) (outcome : Outcome K) → (worked x outcome).turns ≡ x.turns
-turns-worked x (Wishes part held wish) = refl
-turns-worked x (Fails part held cause) = refl
+turns-worked x (Wishes component held wish) = refl
+turns-worked x (Fails component held cause) = refl
 
 -- the turns that all processes made
 abbrev all_turns : {K : Type 0} → State K → ℕ
@@ -136,17 +136,17 @@ pass-none next (suc p) s journal s' is none =
     (is.3 ∙ (λ i. then_turns (front.0 i) (last i)), back.1 ∙ front.1)
 
 module _ {K : Type 0} (shape_of : K → Shape) (uses : K → ℕ → Bool) (ready : K → Held → Answer → Type 0) (next : K → Held → Answer → Outcome K → Type 0)
-    (obeys : (part : K) (held : Held) (answer : Answer) (outcome : Outcome K) → ready part held answer → next part held answer outcome → Obeys (shape_of part) (uses part) held outcome)
-    (stays : (part : K) (held : Held) (answer : Answer) (outcome : Outcome K) → ready part held answer → next part held answer outcome → StaysReady ready outcome)
-    (steady : (part : K) (held : Held) (answer : Answer) (outcome : Outcome K) → next part held answer outcome → IsSteady shape_of uses part outcome)
-    (has_outcome : (part : K) (held : Held) (answer : Answer) → ready part held answer → HasOutcome next part held answer) where
+    (obeys : (component : K) (held : Held) (answer : Answer) (outcome : Outcome K) → ready component held answer → next component held answer outcome → Obeys (shape_of component) (uses component) held outcome)
+    (stays : (component : K) (held : Held) (answer : Answer) (outcome : Outcome K) → ready component held answer → next component held answer outcome → StaysReady ready outcome)
+    (steady : (component : K) (held : Held) (answer : Answer) (outcome : Outcome K) → next component held answer outcome → IsSteady shape_of uses component outcome)
+    (has_outcome : (component : K) (held : Held) (answer : Answer) → ready component held answer → HasOutcome next component held answer) where
   -- a pending work can be done
   work-exists : (s : State K) (p : ℕ) (x : Process K) (answer : Answer) → Fit shape_of uses ready s → slice_get s.kept.processes p ≡ Some x → x.stage ≡ stages.Told answer → (s' : State K) × Work next s p s'
   work-exists s p x answer fit there told =
       let was = fit.valid.each p x there in
       let below : x.held.made < 4294967296 = omega (arith, was.made, was.turns) in
       let sound = sound-hands s p x there was.maker below fit.valid.one_place in
-      let some = has_outcome x.part x.held answer (subst (ReadyAt (ready x.part) x.held) told was.is_ready sound) in
+      let some = has_outcome x.component x.held answer (subst (ReadyAt (ready x.component) x.held) told was.is_ready sound) in
       let s' : State K = record { kept = record { processes = slice_set s.kept.processes p (worked x some.0); channels = s.kept.channels }; past = past_worked s.past p x.held (held_after some.0) } in
       (s', record { before = x; outcome = some.0; kept = record { answer = answer; there = there; told = told; comes = some.1; processes = refl; channels = refl }; past = refl })
 
@@ -305,7 +305,7 @@ module _ {K : Type 0} (shape_of : K → Shape) (uses : K → ℕ → Bool) (read
   pub some-robin : (s : State K) → Fit shape_of uses ready s → (journal : Journal) × (s' : State K) × RoundRobin next s journal s'
   some-robin s fit =
       let all = passes-exist (length s.kept.processes * TURN_LIMIT) s fit (omega arith) in
-      (joined all.passes, all.last, record { passes = all.passes; parts = refl; go = all.go; last = all.still })
+      (joined all.passes, all.last, record { passes = all.passes; whole = refl; go = all.go; last = all.still })
 
   -- and it is the only one where components come to one outcome
   pub only-robin : AtMostOneOutcome next → (s : State K) → Fit shape_of uses ready s → ExactlyOneRoundRobin next s

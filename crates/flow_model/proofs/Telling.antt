@@ -255,8 +255,8 @@ text-apart told i t port text fresh apart is =
     kept false = refl
 
 -- What a process was told, at any moment.
-pub record Tells {K : Type 0} (ready : K → Held → Answer → Type 0) (next : K → Held → Answer → Outcome K → Type 0) (parts : List K) (channels : List Channel) (p : ℕ) (told : List Happening) (x : Process K) : Type 0 where
-  pub follows : (part : K) → slice_get parts p ≡ Some part → Follows ready next (fresh part p) told x x.stage
+pub record Tells {K : Type 0} (ready : K → Held → Answer → Type 0) (next : K → Held → Answer → Outcome K → Type 0) (components : List K) (channels : List Channel) (p : ℕ) (told : List Happening) (x : Process K) : Type 0 where
+  pub follows : (component : K) → slice_get components p ≡ Some component → Follows ready next (fresh component p) told x x.stage
   pub begun : Begun x told x.stage
   pub started : told ≢ [] → 1 ≤ starts told
   pub once : NoneConnected x → starts told ≤ 1
@@ -268,7 +268,7 @@ pub record Tells {K : Type 0} (ready : K → Held → Answer → Type 0) (next :
   pub texts : (port : ℕ) (text : List ℕ) → slice_get x.inputs port ≡ Some (Text text) → TextIs told port text (is_fresh x port)
   pub over : IsOverStage x.stage → (port c : ℕ) → slice_get x.inputs port ≡ Some (From c) → IsDry channels c
 
-module _ {K : Type 0} (ready : K → Held → Answer → Type 0) (next : K → Held → Answer → Outcome K → Type 0) (parts : List K) (kept : Kept K) (p : ℕ) (x : Process K) (n : ℕ) (there : slice_get kept.processes p ≡ Some x) (senders : SendersOpen kept)
+module _ {K : Type 0} (ready : K → Held → Answer → Type 0) (next : K → Held → Answer → Outcome K → Type 0) (components : List K) (kept : Kept K) (p : ℕ) (x : Process K) (n : ℕ) (there : slice_get kept.processes p ≡ Some x) (senders : SendersOpen kept)
     (one : OneReceiver kept.processes) where
   exhausted-after : (told : List Happening) (e : Event) (port : ℕ) → event_of kept.channels x n ≡ Some e → (told ≢ [] → 1 ≤ starts told) → EndsForGood x (told ++ heard x e) port → HeardEnd port told → Exhausted kept.channels x port
       → Exhausted (channels_after kept.channels p e) (process_after x e) port
@@ -291,7 +291,7 @@ module _ {K : Type 0} (ready : K → Held → Answer → Type 0) (next : K → H
       by (dry c input h) = dry c input h
       by (taken text input f) = taken text input f
 
-  ends-after : (told : List Happening) (e : Event) → event_of kept.channels x n ≡ Some e → Tells ready next parts kept.channels p told x
+  ends-after : (told : List Happening) (e : Event) → event_of kept.channels x n ≡ Some e → Tells ready next components kept.channels p told x
       → (port : ℕ) → EndsForGood (process_after x e) (told ++ heard x e) port → HeardEnd port (told ++ heard x e) → Exhausted (channels_after kept.channels p e) (process_after x e) port
   ends-after told e is was port good ended =
       let was_good = good-before (told ++ heard x e) e port good in
@@ -309,13 +309,13 @@ module _ {K : Type 0} (ready : K → Held → Answer → Type 0) (next : K → H
   takes-waits i text is = let from = explains kept.channels x n (Takes_text i text) is in text_waits text from.input from.fresh
 
   -- what waits isn't got after its end
-  nothing-got : (told : List Happening) (port i : ℕ) (t : Tree) → Tells ready next parts kept.channels p told x → EndsForGood x told port → Waits kept.channels x i → HeardEnd port told → content_got port (Received i t) ≡ []
+  nothing-got : (told : List Happening) (port i : ℕ) (t : Tree) → Tells ready next components kept.channels p told x → EndsForGood x told port → Waits kept.channels x i → HeardEnd port told → content_got port (Received i t) ≡ []
   nothing-got told port i t was good waits ended = elim (same_or_not port i) [
     | inl same ↦ absurd (not-both kept.channels x port (was.ends port good ended) (subst (Waits kept.channels x) (sym same) waits))
     | inr other ↦ not_got port i t other
   ]
 
-  last-after : (told : List Happening) (e : Event) → event_of kept.channels x n ≡ Some e → Tells ready next parts kept.channels p told x → (port : ℕ) → EndsForGood x told port → EndIsLast port (told ++ heard x e)
+  last-after : (told : List Happening) (e : Event) → event_of kept.channels x n ≡ Some e → Tells ready next components kept.channels p told x → (port : ℕ) → EndsForGood x told port → EndIsLast port (told ++ heard x e)
   last-after told Starts is was port good = last-more port told Started (was.last port good) (λ k. refl)
   last-after told Finishes is was port good = rw append-nil (was.last port good)
   last-after told (Gets i c packet) is was port good = last-more port told (Received i packet) (was.last port good) (nothing-got told port i packet was good (gets-waits i c packet is))
@@ -381,7 +381,7 @@ module _ {K : Type 0} (ready : K → Held → Answer → Type 0) (next : K → H
       rw append-nil (starts-same (Waits kept.channels x) (Waits (channels_after kept.channels p e) (process_after x e)) (IsConnectedAt x.inputs) (λ port w. keeps-waits e port (λ c i packet input h. cc) (λ text input f. f) w) told k)
 
   -- a start but the first finds an input at which a packet waits
-  start-open : (told : List Happening) → event_of kept.channels x n ≡ Some Starts → Tells ready next parts kept.channels p told x → (told ≡ []) ⊎ ((port : ℕ) × (port < length x.inputs) × (HeardEnd port told → ⊥))
+  start-open : (told : List Happening) → event_of kept.channels x n ≡ Some Starts → Tells ready next components kept.channels p told x → (told ≡ []) ⊎ ((port : ℕ) × (port < length x.inputs) × (HeardEnd port told → ⊥))
   start-open told is was = by x.has_run refl
     where
       by : (b : Bool) → x.has_run ≡ b → (told ≡ []) ⊎ ((port : ℕ) × (port < length x.inputs) × (HeardEnd port told → ⊥))
@@ -390,7 +390,7 @@ module _ {K : Type 0} (ready : K → Held → Answer → Type 0) (next : K → H
           inr (f.port, f.within, λ ended. not-both kept.channels x f.port (was.ends f.port (inl (f.connection, f.input)) ended) (packet_waits f.connection f.input f.some))
       by false ran = let idle = subst (Begun x told) (explains kept.channels x n Starts is) was.begun in inl (idle.0 ran)
 
-  wakes-after : (told : List Happening) (e : Event) → event_of kept.channels x n ≡ Some e → Tells ready next parts kept.channels p told x → Wakes (length x.inputs) [] (told ++ heard x e)
+  wakes-after : (told : List Happening) (e : Event) → event_of kept.channels x n ≡ Some e → Tells ready next components kept.channels p told x → Wakes (length x.inputs) [] (told ++ heard x e)
   wakes-after told Starts is was = wakes-more (length x.inputs) [] told Started was.wakes (λ _. start-open told is was)
   wakes-after told Finishes is was = rw append-nil was.wakes
   wakes-after told (Gets i c packet) is was = wakes-more (length x.inputs) [] told (Received i packet) was.wakes (λ h. absurd h)
@@ -401,10 +401,10 @@ module _ {K : Type 0} (ready : K → Held → Answer → Type 0) (next : K → H
   wakes-after told Sleeps is was = rw append-nil was.wakes
   wakes-after told (Closes o c) is was = rw append-nil was.wakes
 
-  wished : (told : List Happening) (wish : Wish) → x.stage ≡ stages.Wishing wish → Tells ready next parts kept.channels p told x → told ≢ []
+  wished : (told : List Happening) (wish : Wish) → x.stage ≡ stages.Wishing wish → Tells ready next components kept.channels p told x → told ≢ []
   wished told wish at was = subst (Begun x told) at was.begun
 
-  started-after : (told : List Happening) (e : Event) → event_of kept.channels x n ≡ Some e → Tells ready next parts kept.channels p told x → told ++ heard x e ≢ [] → 1 ≤ starts (told ++ heard x e)
+  started-after : (told : List Happening) (e : Event) → event_of kept.channels x n ≡ Some e → Tells ready next components kept.channels p told x → told ++ heard x e ≢ [] → 1 ≤ starts (told ++ heard x e)
   started-after told Starts is was some = omega (arith, starts-count told Started)
   started-after told Finishes is was some = rw append-nil (was.started (λ h. some (append-nil told ∙ h)))
   started-after told (Gets i c packet) is was some =
@@ -425,7 +425,7 @@ module _ {K : Type 0} (ready : K → Held → Answer → Type 0) (next : K → H
   started-after told Sleeps is was some = rw append-nil (was.started (λ h. some (append-nil told ∙ h)))
   started-after told (Closes o c) is was some = rw append-nil (was.started (λ h. some (append-nil told ∙ h)))
 
-  once-after : (told : List Happening) (e : Event) → event_of kept.channels x n ≡ Some e → Tells ready next parts kept.channels p told x → NoneConnected x → starts (told ++ heard x e) ≤ 1
+  once-after : (told : List Happening) (e : Event) → event_of kept.channels x n ≡ Some e → Tells ready next components kept.channels p told x → NoneConnected x → starts (told ++ heard x e) ≤ 1
   once-after told Starts is was none =
       let idle = subst (Begun x told) (explains kept.channels x n Starts is) was.begun in
       let empty : starts told ≡ 0 = ap starts (idle.0 (starts-first kept.channels x n none is)) in
@@ -439,7 +439,7 @@ module _ {K : Type 0} (ready : K → Held → Answer → Type 0) (next : K → H
   once-after told Sleeps is was none = rw append-nil (was.once none)
   once-after told (Closes o c) is was none = rw append-nil (was.once none)
 
-  texts-after : (told : List Happening) (e : Event) → event_of kept.channels x n ≡ Some e → Tells ready next parts kept.channels p told x → (port : ℕ) (text : List ℕ) → slice_get x.inputs port ≡ Some (Text text) → TextIs (told ++ heard x e) port text (is_fresh (process_after x e) port)
+  texts-after : (told : List Happening) (e : Event) → event_of kept.channels x n ≡ Some e → Tells ready next components kept.channels p told x → (port : ℕ) (text : List ℕ) → slice_get x.inputs port ≡ Some (Text text) → TextIs (told ++ heard x e) port text (is_fresh (process_after x e) port)
   texts-after told Starts is was port text input = text-more told Started port text (is_fresh x port) (is_fresh (process_after x Starts) port) tt (sym (fresh-start x.inputs port text input)) (was.texts port text input)
   texts-after told Finishes is was port text input = rw append-nil (was.texts port text input)
   texts-after told (Gets i c packet) is was port text input =
@@ -467,7 +467,7 @@ module _ {K : Type 0} (ready : K → Held → Answer → Type 0) (next : K → H
   texts-after told Sleeps is was port text input = rw append-nil (was.texts port text input)
   texts-after told (Closes o c) is was port text input = rw append-nil (was.texts port text input)
 
-  over-after : (told : List Happening) (e : Event) → event_of kept.channels x n ≡ Some e → Tells ready next parts kept.channels p told x → IsOverStage (process_after x e).stage → (port c : ℕ) → slice_get x.inputs port ≡ Some (From c)
+  over-after : (told : List Happening) (e : Event) → event_of kept.channels x n ≡ Some e → Tells ready next components kept.channels p told x → IsOverStage (process_after x e).stage → (port c : ℕ) → slice_get x.inputs port ≡ Some (From c)
       → IsDry (channels_after kept.channels p e) c
   over-after told e is was over port c input = dry-after kept p x n there senders e is c (elim (over-before kept.channels x n e is over) [
     | inl old ↦ was.over old port c input
@@ -475,11 +475,11 @@ module _ {K : Type 0} (ready : K → Held → Answer → Type 0) (next : K → H
   ])
 
   -- the process that takes the turn
-  pub Tells-own : (told : List Happening) (e : Event) → event_of kept.channels x n ≡ Some e → Tells ready next parts kept.channels p told x → Tells ready next parts (channels_after kept.channels p e) p (told ++ heard x e) (process_after x e)
+  pub Tells-own : (told : List Happening) (e : Event) → event_of kept.channels x n ≡ Some e → Tells ready next components kept.channels p told x → Tells ready next components (channels_after kept.channels p e) p (told ++ heard x e) (process_after x e)
   Tells-own told e is was =
       let inputs = inputs-after x e in
       record {
-        follows = λ part at. follows-event ready next kept.channels (fresh part p) told x n e is (was.follows part at);
+        follows = λ component at. follows-event ready next kept.channels (fresh component p) told x n e is (was.follows component at);
         begun = begun-event kept.channels x n told e is was.begun;
         ends = ends-after told e is was;
         last = λ port good. last-after told e is was port (good-less told e port (good-before (told ++ heard x e) e port good));
@@ -494,8 +494,8 @@ module _ {K : Type 0} (ready : K → Held → Answer → Type 0) (next : K → H
       }
 
   -- another process
-  pub Tells-other : (told : List Happening) (e : Event) (q : ℕ) (z : Process K) → q ≢ p → slice_get kept.processes q ≡ Some z → event_of kept.channels x n ≡ Some e → Tells ready next parts kept.channels q told z
-      → Tells ready next parts (channels_after kept.channels p e) q told z
+  pub Tells-other : (told : List Happening) (e : Event) (q : ℕ) (z : Process K) → q ≢ p → slice_get kept.processes q ≡ Some z → event_of kept.channels x n ≡ Some e → Tells ready next components kept.channels q told z
+      → Tells ready next components (channels_after kept.channels p e) q told z
   Tells-other told e q z other at is was = record {
     follows = was.follows;
     begun = was.begun;
@@ -521,7 +521,7 @@ module _ {K : Type 0} (ready : K → Held → Answer → Type 0) (next : K → H
 
 -- Each process was told so.
 abbrev pub AllTell : {K : Type 0} → (K → Held → Answer → Type 0) → (K → Held → Answer → Outcome K → Type 0) → List K → State K → Type 0
-AllTell {K} ready next parts s = (p : ℕ) (x : Process K) → slice_get s.kept.processes p ≡ Some x → Tells ready next parts s.kept.channels p (s.past.told p) x
+AllTell {K} ready next components s = (p : ℕ) (x : Process K) → slice_get s.kept.processes p ≡ Some x → Tells ready next components s.kept.channels p (s.past.told p) x
 
 told-same : (es fs : List Happening) (b : Bool) → b ≡ true → es ++ fs ≡ cond b (es ++ fs) es
 told-same es fs true t = refl
@@ -531,34 +531,34 @@ told-other : (es fs : List Happening) (b : Bool) → b ≡ false → es ≡ cond
 told-other es fs true t = absurd (cc)
 told-other es fs false t = refl
 
-pub AllTell-turn : {K : Type 0} (ready : K → Held → Answer → Type 0) (next : K → Held → Answer → Outcome K → Type 0) (parts : List K) (s : State K) (p : ℕ) (e : Event) (s' : State K) → Turn s p e s' → Valid ready s → AllTell ready next parts s → AllTell ready next parts s'
-AllTell-turn {K} ready next parts s p e s' turn valid all q z is =
+pub AllTell-turn : {K : Type 0} (ready : K → Held → Answer → Type 0) (next : K → Held → Answer → Outcome K → Type 0) (components : List K) (s : State K) (p : ℕ) (e : Event) (s' : State K) → Turn s p e s' → Valid ready s → AllTell ready next components s → AllTell ready next components s'
+AllTell-turn {K} ready next components s p e s' turn valid all q z is =
     let x = turn.kept.before in
     let there = turn.kept.there in
     let channels = channels_after s.kept.channels p e in
     let is' : slice_get (slice_set s.kept.processes p (process_after x e)) q ≡ Some z = rw (← turn.kept.processes) is in
-    let now : Tells ready next parts channels q ((past_after s.past p x e).told q) z = elim (same_or_not q p) [
+    let now : Tells ready next components channels q ((past_after s.past p x e).told q) z = elim (same_or_not q p) [
       | inl same ↦ (let y = process_after x e in
           let h : Some y ≡ Some z = sym (ap (slice_get (slice_set s.kept.processes p y)) same ∙ slice_get-set_same s.kept.processes p x y there) ∙ is' in
           let y_is : y ≡ z = cc in
           let t : nat_eq q p ≡ true = grind (arith, nat_tests) in
-          let own = Tells-own ready next parts s.kept p x turn.kept.level there valid.senders valid.one_receiver (s.past.told p) e turn.kept.happens (all p x there) in
-          let own' : Tells ready next parts channels q (s.past.told q ++ heard x e) z = subst (λ (m : ℕ). Tells ready next parts channels m (s.past.told m ++ heard x e) z) (sym same) (subst (Tells ready next parts channels p (s.past.told p ++ heard x e)) y_is own) in
-          subst (λ (hs : List Happening). Tells ready next parts channels q hs z) (told-same (s.past.told q) (heard x e) (nat_eq q p) t) own')
+          let own = Tells-own ready next components s.kept p x turn.kept.level there valid.senders valid.one_receiver (s.past.told p) e turn.kept.happens (all p x there) in
+          let own' : Tells ready next components channels q (s.past.told q ++ heard x e) z = subst (λ (m : ℕ). Tells ready next components channels m (s.past.told m ++ heard x e) z) (sym same) (subst (Tells ready next components channels p (s.past.told p ++ heard x e)) y_is own) in
+          subst (λ (hs : List Happening). Tells ready next components channels q hs z) (told-same (s.past.told q) (heard x e) (nat_eq q p) t) own')
       | inr other ↦ (let t : nat_eq q p ≡ false = grind (arith, nat_tests) in
           let at : slice_get s.kept.processes q ≡ Some z = sym (slice_get-set_other s.kept.processes p q (process_after x e) other) ∙ is' in
-          let kept = Tells-other ready next parts s.kept p x turn.kept.level there valid.senders valid.one_receiver (s.past.told q) e q z other at turn.kept.happens (all q z at) in
-          subst (λ (hs : List Happening). Tells ready next parts channels q hs z) (told-other (s.past.told q) (heard x e) (nat_eq q p) t) kept)
+          let kept = Tells-other ready next components s.kept p x turn.kept.level there valid.senders valid.one_receiver (s.past.told q) e q z other at turn.kept.happens (all q z at) in
+          subst (λ (hs : List Happening). Tells ready next components channels q hs z) (told-other (s.past.told q) (heard x e) (nat_eq q p) t) kept)
     ] in
     rw (turn.kept.channels, turn.past) now
 
 -- after a work of the process itself
-Tells-worked : {K : Type 0} (ready : K → Held → Answer → Type 0) (next : K → Held → Answer → Outcome K → Type 0) (parts : List K) (channels : List Channel) (p : ℕ) (told : List Happening) (x : Process K) (answer : Answer) (outcome : Outcome K)
-    → x.stage ≡ stages.Told answer → Sound x.held → ready x.part x.held answer → next x.part x.held answer outcome → Tells ready next parts channels p told x → Tells ready next parts channels p told (worked x outcome)
-Tells-worked {K} ready next parts channels p told x answer (Wishes part held wish) at sound can comes was =
-    let y = worked x (Wishes part held wish) in
+Tells-worked : {K : Type 0} (ready : K → Held → Answer → Type 0) (next : K → Held → Answer → Outcome K → Type 0) (components : List K) (channels : List Channel) (p : ℕ) (told : List Happening) (x : Process K) (answer : Answer) (outcome : Outcome K)
+    → x.stage ≡ stages.Told answer → Sound x.held → ready x.component x.held answer → next x.component x.held answer outcome → Tells ready next components channels p told x → Tells ready next components channels p told (worked x outcome)
+Tells-worked {K} ready next components channels p told x answer (Wishes component held wish) at sound can comes was =
+    let y = worked x (Wishes component held wish) in
     record {
-      follows = λ first here. follows-worked ready next (fresh first p) told x answer (Wishes part held wish) (subst (Follows ready next (fresh first p) told x) at (was.follows first here)) sound can comes;
+      follows = λ first here. follows-worked ready next (fresh first p) told x answer (Wishes component held wish) (subst (Follows ready next (fresh first p) told x) at (was.follows first here)) sound can comes;
       begun = begun-judged y told x.depths held wish (subst (Begun x told) at was.begun);
       ends = λ port good ended. still port (was.ends port good ended);
       last = was.last;
@@ -571,15 +571,15 @@ Tells-worked {K} ready next parts channels p told x answer (Wishes part held wis
       over = λ over. absurd (judged-works x.depths held wish over);
     }
   where
-    still : (port : ℕ) → Exhausted channels x port → Exhausted channels (worked x (Wishes part held wish)) port
+    still : (port : ℕ) → Exhausted channels x port → Exhausted channels (worked x (Wishes component held wish)) port
     still port (dry c input h) = dry c input h
     still port (taken text input f) = taken text input f
 
-    waits : (port : ℕ) → Waits channels x port → Waits channels (worked x (Wishes part held wish)) port
+    waits : (port : ℕ) → Waits channels x port → Waits channels (worked x (Wishes component held wish)) port
     waits port (packet_waits c input some) = packet_waits c input some
     waits port (text_waits text input f) = text_waits text input f
-Tells-worked {K} ready next parts channels p told x answer (Fails part held cause) at sound can comes was =
-    let y = worked x (Fails part held cause) in
+Tells-worked {K} ready next components channels p told x answer (Fails component held cause) at sound can comes was =
+    let y = worked x (Fails component held cause) in
     record {
       follows = λ first here. tt;
       begun = tt;
@@ -594,47 +594,47 @@ Tells-worked {K} ready next parts channels p told x answer (Fails part held caus
       over = λ over. absurd over;
     }
   where
-    still : (port : ℕ) → Exhausted channels x port → Exhausted channels (worked x (Fails part held cause)) port
+    still : (port : ℕ) → Exhausted channels x port → Exhausted channels (worked x (Fails component held cause)) port
     still port (dry c input h) = dry c input h
     still port (taken text input f) = taken text input f
 
-    waits : (port : ℕ) → Waits channels x port → Waits channels (worked x (Fails part held cause)) port
+    waits : (port : ℕ) → Waits channels x port → Waits channels (worked x (Fails component held cause)) port
     waits port (packet_waits c input some) = packet_waits c input some
     waits port (text_waits text input f) = text_waits text input f
 
-pub AllTell-work : {K : Type 0} (ready : K → Held → Answer → Type 0) (next : K → Held → Answer → Outcome K → Type 0) (parts : List K) (s : State K) (p : ℕ) (s' : State K) → Work next s p s' → Valid ready s → AllTell ready next parts s → AllTell ready next parts s'
-AllTell-work {K} ready next parts s p s' work valid all q z is =
+pub AllTell-work : {K : Type 0} (ready : K → Held → Answer → Type 0) (next : K → Held → Answer → Outcome K → Type 0) (components : List K) (s : State K) (p : ℕ) (s' : State K) → Work next s p s' → Valid ready s → AllTell ready next components s → AllTell ready next components s'
+AllTell-work {K} ready next components s p s' work valid all q z is =
     let x = work.before in
     let y = worked x work.outcome in
     let there = work.kept.there in
     let good = valid.each p x there in
     let below : x.held.made < 4294967296 = omega (arith, good.made, good.turns) in
     let sound = sound-hands s p x there good.maker below valid.one_place in
-    let can : ready x.part x.held work.kept.answer = subst (ReadyAt (ready x.part) x.held) work.kept.told good.is_ready sound in
+    let can : ready x.component x.held work.kept.answer = subst (ReadyAt (ready x.component) x.held) work.kept.told good.is_ready sound in
     let is' : slice_get (slice_set s.kept.processes p y) q ≡ Some z = rw (← work.kept.processes) is in
-    let now : Tells ready next parts s.kept.channels q (s.past.told q) z = elim (same_or_not q p) [
+    let now : Tells ready next components s.kept.channels q (s.past.told q) z = elim (same_or_not q p) [
       | inl same ↦ (let h : Some y ≡ Some z = sym (ap (slice_get (slice_set s.kept.processes p y)) same ∙ slice_get-set_same s.kept.processes p x y there) ∙ is' in
           let y_is : y ≡ z = cc in
-          let own = Tells-worked ready next parts s.kept.channels p (s.past.told p) x work.kept.answer work.outcome work.kept.told sound can work.kept.comes (all p x there) in
-          subst (λ (m : ℕ). Tells ready next parts s.kept.channels m (s.past.told m) z) (sym same) (subst (Tells ready next parts s.kept.channels p (s.past.told p)) y_is own))
+          let own = Tells-worked ready next components s.kept.channels p (s.past.told p) x work.kept.answer work.outcome work.kept.told sound can work.kept.comes (all p x there) in
+          subst (λ (m : ℕ). Tells ready next components s.kept.channels m (s.past.told m) z) (sym same) (subst (Tells ready next components s.kept.channels p (s.past.told p)) y_is own))
       | inr other ↦ all q z (sym (slice_get-set_other s.kept.processes p q y other) ∙ is')
     ] in
     rw (work.kept.channels, work.past) now
 
 -- a process of the start with its component
-pub begins : {K : Type 0} (plan : Plan) (p : ℕ) (xs : List PlanProcess) (parts : List K) (k : ℕ) (z : Process K) (part : K) → slice_get (processes_at_start plan p xs parts) k ≡ Some z → slice_get parts k ≡ Some part
-    → (spec : PlanProcess) × (z ≡ process_at_start plan (p + k) spec part)
-begins plan p [] parts k z part is at = absurd (cc)
-begins plan p (x ∷ xs) [] k z part is at = absurd (cc)
-begins plan p (x ∷ xs) (first ∷ parts) zero z part is at =
+pub begins : {K : Type 0} (plan : Plan) (p : ℕ) (xs : List PlanProcess) (components : List K) (k : ℕ) (z : Process K) (component : K) → slice_get (processes_at_start plan p xs components) k ≡ Some z → slice_get components k ≡ Some component
+    → (spec : PlanProcess) × (z ≡ process_at_start plan (p + k) spec component)
+begins plan p [] components k z component is at = absurd (cc)
+begins plan p (x ∷ xs) [] k z component is at = absurd (cc)
+begins plan p (x ∷ xs) (first ∷ components) zero z component is at =
     let h : process_at_start plan p x first ≡ z = cc in
-    let k : first ≡ part = cc in
+    let k : first ≡ component = cc in
     let n : p ≡ p + zero = omega arith in
-    (x, sym h ∙ ap (process_at_start plan p x) k ∙ ap (λ (m : ℕ). process_at_start plan m x part) n)
-begins plan p (x ∷ xs) (first ∷ parts) (suc k) z part is at =
-    let r = begins plan (p + 1) xs parts k z part is at in
+    (x, sym h ∙ ap (process_at_start plan p x) k ∙ ap (λ (m : ℕ). process_at_start plan m x component) n)
+begins plan p (x ∷ xs) (first ∷ components) (suc k) z component is at =
+    let r = begins plan (p + 1) xs components k z component is at in
     let n : p + 1 + k ≡ p + suc k = omega arith in
-    (r.0, r.1 ∙ ap (λ (m : ℕ). process_at_start plan m r.0 part) n)
+    (r.0, r.1 ∙ ap (λ (m : ℕ). process_at_start plan m r.0 component) n)
 
 -- no text is fresh
 none-fresh : (n port : ℕ) → unwrap_or (slice_get (replicate n false) port) false ≡ false
@@ -642,60 +642,60 @@ none-fresh zero port = refl
 none-fresh (suc n) zero = refl
 none-fresh (suc n) (suc port) = none-fresh n port
 
-pub AllTell-start : {K : Type 0} (ready : K → Held → Answer → Type 0) (next : K → Held → Answer → Outcome K → Type 0) (plan : Plan) (parts : List K) → AllTell ready next parts (start_of plan parts)
-AllTell-start {K} ready next plan parts p x is = record {
-  follows = λ part at. (let r = begins plan 0 plan.processes parts p x part is at in
+pub AllTell-start : {K : Type 0} (ready : K → Held → Answer → Type 0) (next : K → Held → Answer → Outcome K → Type 0) (plan : Plan) (components : List K) → AllTell ready next components (start_of plan components)
+AllTell-start {K} ready next plan components p x is = record {
+  follows = λ component at. (let r = begins plan 0 plan.processes components p x component is at in
       let n : 0 + p ≡ p = omega arith in
-      let same : x ≡ process_at_start plan p r.0 part = r.1 ∙ ap (λ (m : ℕ). process_at_start plan m r.0 part) n in
+      let same : x ≡ process_at_start plan p r.0 component = r.1 ∙ ap (λ (m : ℕ). process_at_start plan m r.0 component) n in
       rw same refl);
-  begun = (let start = Rattle.flow_model.proofs.Start.start-process plan parts p x is in rw start.is ((λ h. refl), (λ h. absurd (cc))));
+  begun = (let start = Rattle.flow_model.proofs.Start.start-process plan components p x is in rw start.is ((λ h. refl), (λ h. absurd (cc))));
   ends = λ port good ended. absurd ended;
   last = λ port good. tt;
   brings = λ some. tt;
   wakes = tt;
-  texts = λ port text input. (tt, (let start = Rattle.flow_model.proofs.Start.start-process plan parts p x is in sym (ap (λ (z : Process K). is_fresh z port) start.is ∙ none-fresh start.spec.inputs port)));
+  texts = λ port text input. (tt, (let start = Rattle.flow_model.proofs.Start.start-process plan components p x is in sym (ap (λ (z : Process K). is_fresh z port) start.is ∙ none-fresh start.spec.inputs port)));
   started = λ some. absurd (some refl);
   once = λ none. omega arith;
   few = omega arith;
-  over = λ over. absurd (let start = Rattle.flow_model.proofs.Start.start-process plan parts p x is in let h : x.stage ≡ stages.Idle = ap (λ (z : Process K). z.stage) start.is in subst IsOverStage h over);
+  over = λ over. absurd (let start = Rattle.flow_model.proofs.Start.start-process plan components p x is in let h : x.stage ≡ stages.Idle = ap (λ (z : Process K). z.stage) start.is in subst IsOverStage h over);
 }
 
 -- along every schedule, of components that keep the laws
 module _ {K : Type 0} (ready : K → Held → Answer → Type 0) (next : K → Held → Answer → Outcome K → Type 0) (shape_of : K → Shape) (uses : K → ℕ → Bool)
-    (obeys : (part : K) (held : Held) (answer : Answer) (outcome : Outcome K) → ready part held answer → next part held answer outcome → Obeys (shape_of part) (uses part) held outcome)
-    (stays : (part : K) (held : Held) (answer : Answer) (outcome : Outcome K) → ready part held answer → next part held answer outcome → StaysReady ready outcome) (parts : List K) where
-  AllTell-settles : (s : State K) (p : ℕ) (s' : State K) → Settles next s p s' → Valid ready s → AllTell ready next parts s → AllTell ready next parts s'
-  AllTell-settles s p s' (inl none) valid all = subst (AllTell ready next parts) (sym none.1) all
-  AllTell-settles s p s' (inr work) valid all = AllTell-work ready next parts s p s' work valid all
+    (obeys : (component : K) (held : Held) (answer : Answer) (outcome : Outcome K) → ready component held answer → next component held answer outcome → Obeys (shape_of component) (uses component) held outcome)
+    (stays : (component : K) (held : Held) (answer : Answer) (outcome : Outcome K) → ready component held answer → next component held answer outcome → StaysReady ready outcome) (components : List K) where
+  AllTell-settles : (s : State K) (p : ℕ) (s' : State K) → Settles next s p s' → Valid ready s → AllTell ready next components s → AllTell ready next components s'
+  AllTell-settles s p s' (inl none) valid all = subst (AllTell ready next components) (sym none.1) all
+  AllTell-settles s p s' (inr work) valid all = AllTell-work ready next components s p s' work valid all
 
-  AllTell-leads_by : (s : State K) (turns seen : List ℕ) (s' : State K) → Valid ready s → AllTell ready next parts s → LeadsBy next s turns seen s' → AllTell ready next parts s'
-  AllTell-leads_by s [] seen s' valid all is = subst (AllTell ready next parts) (sym is.1) all
+  AllTell-leads_by : (s : State K) (turns seen : List ℕ) (s' : State K) → Valid ready s → AllTell ready next components s → LeadsBy next s turns seen s' → AllTell ready next components s'
+  AllTell-leads_by s [] seen s' valid all is = subst (AllTell ready next components) (sym is.1) all
   AllTell-leads_by s (p ∷ turns) seen s' valid all leads =
       let whole = leads.3 in
       let mid = Valid-turn ready s p leads.0 whole.0 whole.1 valid in
       AllTell-leads_by leads.1 turns leads.2 s' (Valid-settles ready next shape_of uses obeys stays whole.0 p leads.1 whole.2 mid)
-      (AllTell-settles whole.0 p leads.1 whole.2 mid (AllTell-turn ready next parts s p leads.0 whole.0 whole.1 valid all)) leads.5
+      (AllTell-settles whole.0 p leads.1 whole.2 mid (AllTell-turn ready next components s p leads.0 whole.0 whole.1 valid all)) leads.5
 
   -- after every list of turns and works
-  pub AllTell-reaches : (s : State K) (steps : List Step) (s' : State K) → Valid ready s → AllTell ready next parts s → Reaches next s steps s' → AllTell ready next parts s'
-  AllTell-reaches s [] s' valid all is = subst (AllTell ready next parts) (sym is) all
+  pub AllTell-reaches : (s : State K) (steps : List Step) (s' : State K) → Valid ready s → AllTell ready next components s → Reaches next s steps s' → AllTell ready next components s'
+  AllTell-reaches s [] s' valid all is = subst (AllTell ready next components) (sym is) all
   AllTell-reaches s (Turned p seen ∷ steps) s' valid all reaches =
-      AllTell-reaches reaches.1 steps s' (Valid-turn ready s p reaches.0 reaches.1 reaches.2 valid) (AllTell-turn ready next parts s p reaches.0 reaches.1 reaches.2 valid all) reaches.4
+      AllTell-reaches reaches.1 steps s' (Valid-turn ready s p reaches.0 reaches.1 reaches.2 valid) (AllTell-turn ready next components s p reaches.0 reaches.1 reaches.2 valid all) reaches.4
   AllTell-reaches s (Worked p ∷ steps) s' valid all reaches =
-      AllTell-reaches reaches.0 steps s' (Valid-work ready next shape_of uses obeys stays s p reaches.0 reaches.1 valid) (AllTell-work ready next parts s p reaches.0 reaches.1 valid all) reaches.2
+      AllTell-reaches reaches.0 steps s' (Valid-work ready next shape_of uses obeys stays s p reaches.0 reaches.1 valid) (AllTell-work ready next components s p reaches.0 reaches.1 valid all) reaches.2
 
   -- after every schedule
-  pub AllTell-leads : (s : State K) (journal : Journal) (s' : State K) → Valid ready s → AllTell ready next parts s → Leads next s journal s' → AllTell ready next parts s'
+  pub AllTell-leads : (s : State K) (journal : Journal) (s' : State K) → Valid ready s → AllTell ready next components s → Leads next s journal s' → AllTell ready next components s'
   AllTell-leads s journal s' valid all leads = AllTell-leads_by s journal.turns journal.seen s' valid all leads
 
 pub turns-most : {K : Type 0} (x : Process K) → x.turns + least_left x.stage ≤ TURN_LIMIT → x.turns ≤ TURN_LIMIT
 turns-most x most = omega (arith, most)
 
 -- what is promised of it
-pub Tells-run : {K : Type 0} (ready : K → Held → Answer → Type 0) (next : K → Held → Answer → Outcome K → Type 0) (parts : List K) (channels : List Channel) (p : ℕ) (told : List Happening) (x : Process K) (part : K)
-    → slice_get parts p ≡ Some part → x.turns ≤ TURN_LIMIT → Tells ready next parts channels p told x → HasRun ready next part p told x
-Tells-run ready next parts channels p told x part at most t = record {
-  follows = t.follows part at;
+pub Tells-run : {K : Type 0} (ready : K → Held → Answer → Type 0) (next : K → Held → Answer → Outcome K → Type 0) (components : List K) (channels : List Channel) (p : ℕ) (told : List Happening) (x : Process K) (component : K)
+    → slice_get components p ≡ Some component → x.turns ≤ TURN_LIMIT → Tells ready next components channels p told x → HasRun ready next component p told x
+Tells-run ready next components channels p told x component at most t = record {
+  follows = t.follows component at;
   end_is_last = t.last;
   starts_bring = λ some. starts-kept (Waits channels x) (IsConnectedAt x.inputs) told (t.brings some);
   wakes = t.wakes;
@@ -706,8 +706,8 @@ Tells-run ready next parts channels p told x part at most t = record {
 }
 
 -- a process that has ended got all that was put
-pub got-all : {K : Type 0} (ready : K → Held → Answer → Type 0) (next : K → Held → Answer → Outcome K → Type 0) (parts : List K) (s : State K) → InOrder s → AllTell ready next parts s → EndedGotAll s
-got-all ready next parts s order all p port c x there ended input =
+pub got-all : {K : Type 0} (ready : K → Held → Answer → Type 0) (next : K → Held → Answer → Outcome K → Type 0) (components : List K) (s : State K) → InOrder s → AllTell ready next components s → EndedGotAll s
+got-all ready next components s order all p port c x there ended input =
     let dry = (all p x there).over (subst IsOverStage (sym ended) tt) port c input in
     let none : packets_at (slice_get s.kept.channels c) ≡ [] = ap packets_at dry.there ∙ dry.empty in
     let put = order.received p port c (ap (input_of port) there ∙ ap connection_of input) in

@@ -143,8 +143,8 @@ module _ {K : Type 0} (ready : K → Held → Answer → Type 0) where
     woken-settles s p s' (inr work) old = woken-work s p s' work old
 
     module _ (shape_of : K → Shape) (uses : K → ℕ → Bool)
-        (obeys : (part : K) (held : Held) (answer : Answer) (outcome : Outcome K) → ready part held answer → next part held answer outcome → Obeys (shape_of part) (uses part) held outcome)
-        (stays : (part : K) (held : Held) (answer : Answer) (outcome : Outcome K) → ready part held answer → next part held answer outcome → StaysReady ready outcome) where
+        (obeys : (component : K) (held : Held) (answer : Answer) (outcome : Outcome K) → ready component held answer → next component held answer outcome → Obeys (shape_of component) (uses component) held outcome)
+        (stays : (component : K) (held : Held) (answer : Answer) (outcome : Outcome K) → ready component held answer → next component held answer outcome → StaysReady ready outcome) where
       woken-leads : (s : State K) (turns seen : List ℕ) (s' : State K) → LeadsBy next s turns seen s' → Valid ready s → AllWoken s → AllWoken s'
       woken-leads s [] seen s' leads valid old = subst AllWoken (sym leads.1) old
       woken-leads s (p ∷ turns) seen s' leads valid old =
@@ -152,5 +152,5 @@ module _ {K : Type 0} (ready : K → Held → Answer → Type 0) where
           let valid' = Valid-turn ready s p leads.0 whole.0 whole.1 valid in
           woken-leads leads.1 turns leads.2 s' leads.5 (Valid-settles ready next shape_of uses obeys stays whole.0 p leads.1 whole.2 valid') (woken-settles whole.0 p leads.1 whole.2 (woken-turn s p leads.0 whole.0 whole.1 valid old))
 
-      pub all-woken : (plan : Plan) (parts : List K) (journal : Journal) (s : State K) → StartsWell shape_of uses ready plan parts → Leads next (start_of plan parts) journal s → AllWoken s
-      all-woken plan parts journal s well leads = woken-leads (start_of plan parts) journal.turns journal.seen s leads (Valid-start ready shape_of uses plan parts well) (λ p x is some. absurd (omega (arith, some)))
+      pub all-woken : (plan : Plan) (components : List K) (journal : Journal) (s : State K) → StartsWell shape_of uses ready plan components → Leads next (start_of plan components) journal s → AllWoken s
+      all-woken plan components journal s well leads = woken-leads (start_of plan components) journal.turns journal.seen s leads (Valid-start ready shape_of uses plan components well) (λ p x is some. absurd (omega (arith, some)))

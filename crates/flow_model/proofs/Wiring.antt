@@ -98,7 +98,7 @@ module _ {K : Type 0} (next : K → Held → Answer → Outcome K → Type 0) wh
       let rest = leads_by leads.1 turns leads.2 s' leads.5 in
       (rest.0 ∙ settled.0 ∙ wires-turn s p leads.0 whole.0 whole.1, λ all. rest.1 (settled.1 (puts-turn s p leads.0 whole.0 whole.1 all)))
 
-  pub wires-leads : (plan : Plan) (parts : List K) (journal : Journal) (s : State K) → Leads next (start_of plan parts) journal s → SameWires (start_of plan parts) s × PutBySenders s
-  wires-leads plan parts journal s leads =
-      let kept = leads_by (start_of plan parts) journal.turns journal.seen s leads in
+  pub wires-leads : (plan : Plan) (components : List K) (journal : Journal) (s : State K) → Leads next (start_of plan components) journal s → SameWires (start_of plan components) s × PutBySenders s
+  wires-leads plan components journal s leads =
+      let kept = leads_by (start_of plan components) journal.turns journal.seen s leads in
       (kept.0, kept.1 (λ c k put is. absurd (cc)))

@@ -20,4 +20,4 @@ pub record LeadsOn (plan : Plan) : Type 0 where
 -- a circle never do.
 abbrev pub FinishedLeadsOn : {K : Type 0} → (K → Shape) → (K → ℕ → Bool) → (K → Held → Answer → Type 0) → (K → Held → Answer → Outcome K → Type 0) → Type 0
 FinishedLeadsOn {K} shape_of uses ready next =
-    (plan : Plan) (parts : List K) (journal : Journal) (s : State K) → StartsWell shape_of uses ready plan parts → Leads next (start_of plan parts) journal s → IsFinished s → LeadsOn plan
+    (plan : Plan) (components : List K) (journal : Journal) (s : State K) → StartsWell shape_of uses ready plan components → Leads next (start_of plan components) journal s → IsFinished s → LeadsOn plan

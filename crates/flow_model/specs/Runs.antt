@@ -22,17 +22,17 @@ use Rattle.flow_model.specs.Order.{entries}
 
 -- A process between answers, with its wish. Before its start, and while it sleeps or closes, it stands as one that has deactivated.
 abbrev pub poise : {K : Type 0} → Process K → Wish → Poise K
-poise x wish = record { part = x.part; held = x.held; wish = wish }
+poise x wish = record { component = x.component; held = x.held; wish = wish }
 
 -- The last that it was told is the answer that is pending.
 pub record IsPending {K : Type 0} (ready : K → Held → Answer → Type 0) (next : K → Held → Answer → Outcome K → Type 0) (start : Poise K) (told : List Happening) (x : Process K) (answer : Answer) : Type 0 where
   pub before : List Happening
   pub happening : Happening
   pub mid : Poise K
-  pub parts : told ≡ before ++ happening ∷ []
+  pub whole : told ≡ before ++ happening ∷ []
   pub runs : Runs ready next start before mid
   pub grants : Grants mid.held mid.wish happening x.held
-  pub part : x.part ≡ mid.part
+  pub component : x.component ≡ mid.component
   pub answers : answer ≡ answer_of happening
 
 -- By what it was told a process has come to where it stands. Of one that failed this says nothing.
@@ -58,9 +58,9 @@ abbrev pub EndsForGood : {K : Type 0} → Process K → List Happening → ℕ �
 EndsForGood x told port = IsConnectedAt x.inputs port ⊎ (starts told ≤ 1)
 
 -- What process p, which began with this component, was told, and how it stands by it.
-pub record HasRun {K : Type 0} (ready : K → Held → Answer → Type 0) (next : K → Held → Answer → Outcome K → Type 0) (part : K) (p : ℕ) (told : List Happening) (x : Process K) : Type 0 where
+pub record HasRun {K : Type 0} (ready : K → Held → Answer → Type 0) (next : K → Held → Answer → Outcome K → Type 0) (component : K) (p : ℕ) (told : List Happening) (x : Process K) : Type 0 where
   -- it is a run of that component from its first state
-  pub follows : Follows ready next (fresh part p) told x x.stage
+  pub follows : Follows ready next (fresh component p) told x x.stage
   -- after the end of an input nothing comes there
   pub end_is_last : (port : ℕ) → EndsForGood x told port → EndIsLast port told
   -- where an input is connected, each start brings something at a connected input before its end
@@ -79,14 +79,14 @@ pub record HasRun {K : Type 0} (ready : K → Held → Answer → Type 0) (next 
 -- After every schedule from a start each process has run.
 abbrev pub KeepsRuns : {K : Type 0} → (K → Shape) → (K → ℕ → Bool) → (K → Held → Answer → Type 0) → (K → Held → Answer → Outcome K → Type 0) → Type 0
 KeepsRuns {K} shape_of uses ready next =
-    (plan : Plan) (parts : List K) (journal : Journal) (s : State K) → StartsWell shape_of uses ready plan parts → Leads next (start_of plan parts) journal s
-    → (p : ℕ) (part : K) (x : Process K) → slice_get parts p ≡ Some part → slice_get s.kept.processes p ≡ Some x → HasRun ready next part p (s.past.told p) x
+    (plan : Plan) (components : List K) (journal : Journal) (s : State K) → StartsWell shape_of uses ready plan components → Leads next (start_of plan components) journal s
+    → (p : ℕ) (component : K) (x : Process K) → slice_get components p ≡ Some component → slice_get s.kept.processes p ≡ Some x → HasRun ready next component p (s.past.told p) x
 
 -- The same after every list of turns and works from a start.
 abbrev pub KeepsRunsOpen : {K : Type 0} → (K → Shape) → (K → ℕ → Bool) → (K → Held → Answer → Type 0) → (K → Held → Answer → Outcome K → Type 0) → Type 0
 KeepsRunsOpen {K} shape_of uses ready next =
-    (plan : Plan) (parts : List K) (steps : List Step) (s : State K) → StartsWell shape_of uses ready plan parts → Reaches next (start_of plan parts) steps s
-    → (p : ℕ) (part : K) (x : Process K) → slice_get parts p ≡ Some part → slice_get s.kept.processes p ≡ Some x → HasRun ready next part p (s.past.told p) x
+    (plan : Plan) (components : List K) (steps : List Step) (s : State K) → StartsWell shape_of uses ready plan components → Reaches next (start_of plan components) steps s
+    → (p : ℕ) (component : K) (x : Process K) → slice_get components p ≡ Some component → slice_get s.kept.processes p ≡ Some x → HasRun ready next component p (s.past.told p) x
 
 -- A process that has ended got, at each connected input, all that was put into the connection there.
 abbrev pub EndedGotAll : {K : Type 0} → State K → Type 0
@@ -95,4 +95,4 @@ EndedGotAll {K} s =
 
 -- So it is after every schedule from a start.
 abbrev pub KeepsGotAll : {K : Type 0} → (K → Shape) → (K → ℕ → Bool) → (K → Held → Answer → Type 0) → (K → Held → Answer → Outcome K → Type 0) → Type 0
-KeepsGotAll {K} shape_of uses ready next = (plan : Plan) (parts : List K) (journal : Journal) (s : State K) → StartsWell shape_of uses ready plan parts → Leads next (start_of plan parts) journal s → EndedGotAll s
+KeepsGotAll {K} shape_of uses ready next = (plan : Plan) (components : List K) (journal : Journal) (s : State K) → StartsWell shape_of uses ready plan components → Leads next (start_of plan components) journal s → EndedGotAll s

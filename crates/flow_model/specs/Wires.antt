@@ -16,6 +16,7 @@ pub record Wires : Type 0 where
   pub inputs : List Input
   pub outputs : List (Option ℕ)
 
+-- What stands at the inputs and outputs of a process.
 abbrev pub wires : {K : Type 0} → Process K → Wires
 wires x = record { inputs = x.inputs; outputs = x.outputs }
 
@@ -30,4 +31,4 @@ PutBySenders s = (c k : ℕ) (put : Put) → slice_get (s.past.put c) k ≡ Some
 -- So it is after every schedule from a start.
 abbrev pub KeepsWires : {K : Type 0} → (K → Shape) → (K → ℕ → Bool) → (K → Held → Answer → Type 0) → (K → Held → Answer → Outcome K → Type 0) → Type 0
 KeepsWires {K} shape_of uses ready next =
-    (plan : Plan) (parts : List K) (journal : Journal) (s : State K) → StartsWell shape_of uses ready plan parts → Leads next (start_of plan parts) journal s → SameWires (start_of plan parts) s × PutBySenders s
+    (plan : Plan) (components : List K) (journal : Journal) (s : State K) → StartsWell shape_of uses ready plan components → Leads next (start_of plan components) journal s → SameWires (start_of plan components) s × PutBySenders s

@@ -22,5 +22,5 @@ pub record GetsSome {K : Type 0} (s : State K) (x : Process K) : Type 0 where
 -- Whatever the schedule, a process that was started has no connected input, or a packet was put for it.
 abbrev pub KeepsWoken : {K : Type 0} → (K → Shape) → (K → ℕ → Bool) → (K → Held → Answer → Type 0) → (K → Held → Answer → Outcome K → Type 0) → Type 0
 KeepsWoken {K} shape_of uses ready next =
-    (plan : Plan) (parts : List K) (journal : Journal) (s : State K) → StartsWell shape_of uses ready plan parts → Leads next (start_of plan parts) journal s
+    (plan : Plan) (components : List K) (journal : Journal) (s : State K) → StartsWell shape_of uses ready plan components → Leads next (start_of plan components) journal s
     → (p : ℕ) (x : Process K) → slice_get s.kept.processes p ≡ Some x → 0 < starts (s.past.told p) → NoneConnected x ⊎ GetsSome s x

@@ -58,12 +58,14 @@ binding_at ports end = option_and_then (λ (port : Port). slice_get port.element
 abbrev pub bound : List Port → End → Binding → List Port
 bound ports end binding = updated (λ (port : Port). record port { elements = slice_set port.elements end.element binding }) ports end.port
 
+-- Nothing stands at the element.
 abbrev pub is_free : Binding → Bool
 is_free Free = true
 is_free (Receives c) = false
 is_free (Sends c k) = false
 is_free (Given k) = false
 
+-- A text stands at the element.
 abbrev pub is_given : Binding → Bool
 is_given (Given k) = true
 is_given Free = false
@@ -77,6 +79,7 @@ receives Free = None
 receives (Sends c k) = None
 receives (Given k) = None
 
+-- The two are alike.
 abbrev pub same : Bool → Bool → Bool
 same true true = true
 same false false = true
@@ -102,6 +105,7 @@ element_named true (Some e) = if nat_le e 511 then Some e else None
 element_named false None = Some 0
 element_named false (Some e) = None
 
+-- The port carries packets.
 abbrev pub is_stream_port : Option Port → Bool
 is_stream_port None = false
 is_stream_port (Some port) = is_stream port.spec.class

@@ -77,9 +77,11 @@ number_of ports end = sum_by (counted (process_at ports end) (side_at ports end)
 abbrev pub total_of : List Port → ℕ → Bool → ℕ
 total_of ports process input = sum_by (counted process input) ports
 
+-- The output at an end.
 abbrev pub sender_of : List Port → End → Sender
 sender_of ports end = record { process = process_at ports end; output = number_of ports end }
 
+-- The connection that a link becomes.
 abbrev pub connection_of : List Port → Link → Connection
 connection_of ports link = record {
   receiver = process_at ports link.into;
@@ -102,6 +104,7 @@ abbrev pub initials_of : List Port → List (End × List ℕ) → List (ℕ × L
 initials_of ports [] = []
 initials_of ports (x ∷ xs) = if is_stream_at ports x.0 then (number_of ports x.0, x.1) ∷ initials_of ports xs else initials_of ports xs
 
+-- The process that a begun one becomes.
 abbrev pub process_of : List Port → Begun → Process
 process_of ports begun = record {
   name = begun.name;
@@ -112,6 +115,7 @@ process_of ports begun = record {
   outputs = total_of ports begun.number false;
 }
 
+-- A port with its number of elements.
 abbrev pub row_of : Port → PortRow
 row_of port = record { spec = port.spec; elements = elements_in port }
 
@@ -120,6 +124,7 @@ abbrev pub rows_of : List Port → ℕ → Bool → List PortRow
 rows_of [] process input = []
 rows_of (port ∷ ports) process input = if is_side process input port then row_of port ∷ rows_of ports process input else rows_of ports process input
 
+-- The ports of a process.
 abbrev pub table_of : List Port → Begun → PortTable
 table_of ports begun = record { inputs = rows_of ports begun.number true; outputs = rows_of ports begun.number false }
 

@@ -7,8 +7,8 @@ ghost use Rattle.flow_parse.specs.Names.{is_name, begins_with_letter, begins_wit
 
 use crate::form::{Form, Mention, Port};
 use crate::same::is;
-use flow_limits::CAPACITY_LIMIT;
 use flow_items::Text;
+use flow_limits::CAPACITY_LIMIT;
 
 pub const MOST_NAME: usize = 64;
 

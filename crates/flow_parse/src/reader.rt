@@ -13,11 +13,9 @@ use crate::stop::LineStop;
 use crate::subnets::Subnets;
 use crate::table::{Processes, kindless};
 use crate::value::{NetPart, NetText, Statement};
-use flow_limits::{STATEMENT_LIMIT, TEXT_LIMIT};
 use flow_items::{Items, Text};
+use flow_limits::{STATEMENT_LIMIT, TEXT_LIMIT};
 use std::alloc::{AllocError, Global};
-
-
 
 /// A part as far as it is read.
 #[derive(Drop)]

@@ -41,26 +41,26 @@ owes held wishes.Deactivate = []
 
 module _ {K : Type 0} where
   abbrev owes_after : Outcome K → List Tree
-  owes_after (Wishes part held wish) = owes held wish
-  owes_after (Fails part held cause) = []
+  owes_after (Wishes component held wish) = owes held wish
+  owes_after (Fails component held cause) = []
 
   abbrev owed : Poise K → List Tree
   owed p = owes p.held p.wish
 
-  after-turning : (part : K) (held : Held) (t : Tree) (text : List ℕ) (kind : Option Kind) (h : HoldsOnly held (id_of t)) → t ≡ h.packet → text ≡ text_of (content t) → owes_after (turns part held (id_of t) text kind) ≡ bracketed_as kind (content t) ∷ []
-  after-turning part held t text None h e w = let a : packet_at held.packets (id_of t) ≡ Some t = HoldsOnly-packet_at held (id_of t) h ∙ ap Some (sym e) in rw a refl
-  after-turning part held t text (Some kind) h e w =
+  after-turning : (component : K) (held : Held) (t : Tree) (text : List ℕ) (kind : Option Kind) (h : HoldsOnly held (id_of t)) → t ≡ h.packet → text ≡ text_of (content t) → owes_after (turns component held (id_of t) text kind) ≡ bracketed_as kind (content t) ∷ []
+  after-turning component held t text None h e w = let a : packet_at held.packets (id_of t) ≡ Some t = HoldsOnly-packet_at held (id_of t) h ∙ ap Some (sym e) in rw a refl
+  after-turning component held t text (Some kind) h e w =
       let r = renewed held (id_of t) kind (slice_range text 1 (length text)) h in
       let s = same_id (next_id held) in
       let rest : slice_range text 1 (length text) ≡ drop 1 (text_of (content t)) = rest-of text ∙ ap (drop 1) w in
       rw (r, s) (ap (λ (l : List ℕ). Rattle.flow_packet.specs.Tree.packet_of 0 kind l [] ∷ []) rest)
 
-  after-taking : (part : K) (held : Held) (t : Tree) (kind : Kind) (h : HoldsOnly held (id_of t)) → t ≡ h.packet → owes_after (takes part held (id_of t) kind) ≡ bracketed_by kind (content t) ∷ []
-  after-taking part held t Normal h e =
+  after-taking : (component : K) (held : Held) (t : Tree) (kind : Kind) (h : HoldsOnly held (id_of t)) → t ≡ h.packet → owes_after (takes component held (id_of t) kind) ≡ bracketed_by kind (content t) ∷ []
+  after-taking component held t Normal h e =
       let w : text_at held.packets (id_of t) ≡ text_of (content t) = HoldsOnly-text held (id_of t) h ∙ ap text_of (sym e) ∙ sym (content-text t) in
-      after-turning part held t (text_at held.packets (id_of t)) (bracket_of (text_at held.packets (id_of t))) h e w ∙ ap (λ (l : List ℕ). bracketed_as (bracket_of l) (content t) ∷ []) w
-  after-taking part held t Open h e = let a : packet_at held.packets (id_of t) ≡ Some t = HoldsOnly-packet_at held (id_of t) h ∙ ap Some (sym e) in rw a refl
-  after-taking part held t Close h e = let a : packet_at held.packets (id_of t) ≡ Some t = HoldsOnly-packet_at held (id_of t) h ∙ ap Some (sym e) in rw a refl
+      after-turning component held t (text_at held.packets (id_of t)) (bracket_of (text_at held.packets (id_of t))) h e w ∙ ap (λ (l : List ℕ). bracketed_as (bracket_of l) (content t) ∷ []) w
+  after-taking component held t Open h e = let a : packet_at held.packets (id_of t) ≡ Some t = HoldsOnly-packet_at held (id_of t) h ∙ ap Some (sym e) in rw a refl
+  after-taking component held t Close h e = let a : packet_at held.packets (id_of t) ≡ Some t = HoldsOnly-packet_at held (id_of t) h ∙ ap Some (sym e) in rw a refl
 
   step : (p : Poise K) (e : Happening) (q : Poise K) → IsAllowed one_to_one uses_first p.held p.wish → Steps BracketsReady BracketsNext p e q
       → owed p ++ flat_map (λ t. bracketed t ∷ []) (content_got 0 e) ≡ content_sent 0 e ++ owed q
@@ -74,7 +74,7 @@ module _ {K : Type 0} where
       let h = s.is_ready in
       let e : t ≡ h.packet = HoldsOnly-end s.held p.held.packets t (Comes-packets p.held t s.held s.grants.1) h in
       let k : kind_at s.held.packets (id_of t) ≡ kind_of (content t) = HoldsOnly-kind s.held (id_of t) h ∙ ap kind_of (sym e) ∙ sym (content-kind t) in
-      let b : owed q ≡ bracketed (content t) ∷ [] = ap owes_after s.comes_to ∙ after-taking p.part s.held t (kind_at s.held.packets (id_of t)) h e ∙ ap (λ (kind : Kind). bracketed_by kind (content t) ∷ []) k in
+      let b : owed q ≡ bracketed (content t) ∷ [] = ap owes_after s.comes_to ∙ after-taking p.component s.held t (kind_at s.held.packets (id_of t)) h e ∙ ap (λ (kind : Kind). bracketed_by kind (content t) ∷ []) k in
       rw (a, b, z) refl
   step p (Ended port) q g s =
       let a : owed p ≡ [] = rw s.grants.0 refl in
@@ -88,8 +88,8 @@ module _ {K : Type 0} where
   step p (Learned port level) q g s = absurd s.is_ready
 
   pub brackets_meaning : BracketsMeaning K
-  brackets_meaning part told run =
+  brackets_meaning component told run =
       let e = owed-run BracketsReady BracketsNext (λ p. IsAllowed one_to_one uses_first p.held p.wish) (λ t. bracketed t ∷ []) owed
-      (λ p e q g s. (stays-allowed BracketsReady BracketsNext one_to_one uses_first brackets_obeys p e q s, step p e q g s)) (fresh part run.maker) told run.last tt run.runs in
+      (λ p e q g s. (stays-allowed BracketsReady BracketsNext one_to_one uses_first brackets_obeys p e q s, step p e q g s)) (fresh component run.maker) told run.last tt run.runs in
       let b : owed run.last ≡ [] = rw run.idle refl in
       sym (append-nil (sent 0 told)) ∙ ap (λ us. sent 0 told ++ us) (sym b) ∙ sym e ∙ map-single bracketed (got 0 told)

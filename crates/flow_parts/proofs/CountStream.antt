@@ -49,9 +49,9 @@ abbrev at_number : Bool → ℕ → Bool → CountState
 at_number c n leaving = record { connected = c; number = n; leaving = leaving }
 
 abbrev Stands : Bool → ℕ → List Happening → Poise CountState → Phase → Type 0
-Stands c n before p Receiving = (p.wish ≡ receive_first) × (p.part ≡ at_number c n false)
-Stands c n before p (Passing t) = (p.wish ≡ send_first (id_of t)) × (p.part ≡ at_number c n false) × (p.held.packets ≡ t ∷ []) × (c ≡ true)
-Stands c n before p (Leaving id) = (p.wish ≡ wishes.Send (record { 0 = 1 }) id) × (p.part ≡ at_number c n true) × (contents_in (packet_at p.held.packets id) ≡ text_packet (decimal n) ∷ []) × HeardEnd 0 before
+Stands c n before p Receiving = (p.wish ≡ receive_first) × (p.component ≡ at_number c n false)
+Stands c n before p (Passing t) = (p.wish ≡ send_first (id_of t)) × (p.component ≡ at_number c n false) × (p.held.packets ≡ t ∷ []) × (c ≡ true)
+Stands c n before p (Leaving id) = (p.wish ≡ wishes.Send (record { 0 = 1 }) id) × (p.component ≡ at_number c n true) × (contents_in (packet_at p.held.packets id) ≡ text_packet (decimal n) ∷ []) × HeardEnd 0 before
 Stands c n before p Over = (p.wish ≡ wishes.Deactivate) × HeardEnd 0 before
 
 -- what it makes of what is to come
@@ -77,15 +77,15 @@ Rec c es q = (n : ℕ) (before : List Happening) (p : Poise CountState) (phase :
 
 -- a packet came
 takes : (c : Bool) (n : ℕ) (es : List Happening) (before : List Happening) (port : ℕ) (t : Tree) (held : Held) (m q : Poise CountState) (kind : Kind) → nat_eq 0 port ≡ true → held.packets ≡ t ∷ [] → kind ≡ kind_of (content t)
-    → Wishes m.part m.held m.wish ≡ passes_on c (at_number c (one_more kind n) false) held (id_of t) → Runs CountReady CountNext m es q → Wakes 1 (before ++ Received port t ∷ []) es → n + (length es + 1) ≤ 8388608 → Rec c es q
+    → Wishes m.component m.held m.wish ≡ passes_on c (at_number c (one_more kind n) false) held (id_of t) → Runs CountReady CountNext m es q → Wakes 1 (before ++ Received port t ∷ []) es → n + (length es + 1) ≤ 8388608 → Rec c es q
     → Makes c n [] (Received port t ∷ es)
 takes true n es before port t held m q kind z alone k comes r w few rec =
-    let part : m.part ≡ at_number true (one_more kind n) false = cc in
+    let component : m.component ≡ at_number true (one_more kind n) false = cc in
     let hands : m.held ≡ held = cc in
     let wish : m.wish ≡ send_first (id_of t) = cc in
     let number : one_more kind n ≡ n + normal_one kind = counted-one kind n (omega arith) in
     let most : normal_one kind ≤ 1 = most-one kind in
-    let made : Makes true (one_more kind n) (content t ∷ []) es = rec (one_more kind n) (before ++ Received port t ∷ []) m (Passing t) (wish, part, ap (λ (h : Held). h.packets) hands ∙ alone, refl) r w (omega arith) in
+    let made : Makes true (one_more kind n) (content t ∷ []) es = rec (one_more kind n) (before ++ Received port t ∷ []) m (Passing t) (wish, component, ap (λ (h : Held). h.packets) hands ∙ alone, refl) r w (omega arith) in
     let sum : one_more kind n + normals (got 0 es) ≡ n + (normal_one (kind_of (content t)) + normals (got 0 es)) = omega (arith, number, ap normal_one k) in
     record {
       heard = inr made.heard;
@@ -99,11 +99,11 @@ takes true n es before port t held m q kind z alone k comes r w few rec =
     most-one Open = omega arith
     most-one Close = omega arith
 takes false n es before port t held m q kind z alone k comes r w few rec =
-    let part : m.part ≡ at_number false (one_more kind n) false = cc in
+    let component : m.component ≡ at_number false (one_more kind n) false = cc in
     let wish : m.wish ≡ receive_first = cc in
     let number : one_more kind n ≡ n + normal_one kind = counted-one kind n (omega arith) in
     let most : normal_one kind ≤ 1 = most-one kind in
-    let made : Makes false (one_more kind n) [] es = rec (one_more kind n) (before ++ Received port t ∷ []) m Receiving (wish, part) r w (omega arith) in
+    let made : Makes false (one_more kind n) [] es = rec (one_more kind n) (before ++ Received port t ∷ []) m Receiving (wish, component) r w (omega arith) in
     let sum : one_more kind n + normals (got 0 es) ≡ n + (normal_one (kind_of (content t)) + normals (got 0 es)) = omega (arith, number, ap normal_one k) in
     record {
       heard = inr made.heard;
@@ -131,19 +131,19 @@ step c n es before p m q (Received port t) Receiving st s r w few rec =
     let same : t ≡ one.packet = HoldsOnly-end s.held p.held.packets t (Comes-packets p.held t s.held s.grants.1) one in
     let alone : s.held.packets ≡ t ∷ [] = one.holds ∙ ap (λ (u : Tree). u ∷ []) (sym same) in
     let kind : kind_at s.held.packets (id_of t) ≡ kind_of (content t) = HoldsOnly-kind s.held (id_of t) one ∙ ap kind_of (sym same) ∙ sym (content-kind t) in
-    let comes : Wishes m.part m.held m.wish ≡ passes_on c (at_number c (one_more (kind_at s.held.packets (id_of t)) n) false) s.held (id_of t) =
+    let comes : Wishes m.component m.held m.wish ≡ passes_on c (at_number c (one_more (kind_at s.held.packets (id_of t)) n) false) s.held (id_of t) =
     s.comes_to ∙ ap (λ (state : CountState). passes_on state.connected (record state { number = one_more (kind_at s.held.packets (id_of t)) state.number }) s.held (id_of t)) st.1 in
     takes c n es before port t s.held m q (kind_at s.held.packets (id_of t)) z alone kind comes r w.1 (omega arith) rec
 step c n es before p m q (Ended port) Receiving st s r w few rec =
     let h : wishes.Receive (record { 0 = port }) ≡ receive_first = sym s.grants.0 ∙ st.0 in
     let port_is : port ≡ 0 = ap port_of h in
-    let comes : Wishes m.part m.held m.wish ≡ Wishes (at_number c n true) (with_made s.held Normal (decimal n)) (wishes.Send (record { 0 = 1 }) (next_id s.held)) =
+    let comes : Wishes m.component m.held m.wish ≡ Wishes (at_number c n true) (with_made s.held Normal (decimal n)) (wishes.Send (record { 0 = 1 }) (next_id s.held)) =
     s.comes_to ∙ ap (λ (state : CountState). Wishes (record state { leaving = true }) (with_made s.held Normal (decimal state.number)) (wishes.Send (record { 0 = 1 }) (next_id s.held))) st.1 in
-    let part : m.part ≡ at_number c n true = cc in
+    let component : m.component ≡ at_number c n true = cc in
     let hands : m.held ≡ with_made s.held Normal (decimal n) = cc in
     let wish : m.wish ≡ wishes.Send (record { 0 = 1 }) (next_id s.held) = cc in
     let made : contents_in (packet_at m.held.packets (next_id s.held)) ≡ text_packet (decimal n) ∷ [] = ap (λ (h : Held). contents_in (packet_at h.packets (next_id s.held))) hands ∙ made_at s.held (decimal n) s.is_ready.1 in
-    let l = rec n (before ++ Ended port ∷ []) m (Leaving (next_id s.held)) (wish, part, made, heard-now 0 before (Ended port) port_is) r w.1 (omega arith) in
+    let l = rec n (before ++ Ended port ∷ []) m (Leaving (next_id s.held)) (wish, component, made, heard-now 0 before (Ended port) port_is) r w.1 (omega arith) in
     let zero : n ≡ n + 0 = omega arith in
     record {
       heard = inl port_is;
@@ -164,10 +164,10 @@ step c n es before p m q (Sent port t) (Passing u) st s r w few rec =
     let y : nat_eq 1 port ≡ false = grind (arith, nat_tests) in
     let found : Some t ≡ Some u = sym s.grants.1 ∙ ap (packet_at p.held.packets) id_is ∙ one-alone p.held.packets u st.2 in
     let same : t ≡ u = cc in
-    let comes : Wishes m.part m.held m.wish ≡ Wishes (at_number c n false) s.held receive_first = s.comes_to ∙ ap (λ (state : CountState). goes_on state.leaving state s.held) st.1 in
-    let part : m.part ≡ at_number c n false = cc in
+    let comes : Wishes m.component m.held m.wish ≡ Wishes (at_number c n false) s.held receive_first = s.comes_to ∙ ap (λ (state : CountState). goes_on state.leaving state s.held) st.1 in
+    let component : m.component ≡ at_number c n false = cc in
     let wish : m.wish ≡ receive_first = cc in
-    let made : Makes c n [] es = rec n (before ++ Sent port t ∷ []) m Receiving (wish, part) r w.1 (omega arith) in
+    let made : Makes c n [] es = rec n (before ++ Sent port t ∷ []) m Receiving (wish, component) r w.1 (omega arith) in
     record {
       heard = inr made.heard;
       count = rw y made.count;
@@ -185,7 +185,7 @@ step c n es before p m q (Sent port t) (Leaving id) st s r w few rec =
     let z : nat_eq 0 port ≡ false = grind (arith, nat_tests) in
     let y : nat_eq 1 port ≡ true = grind (arith, nat_tests) in
     let found : content t ∷ [] ≡ text_packet (decimal n) ∷ [] = sym (ap contents_in (ap (packet_at p.held.packets) (sym id_is) ∙ s.grants.1)) ∙ st.2 in
-    let comes : Wishes m.part m.held m.wish ≡ Wishes (at_number c n false) s.held wishes.Deactivate = s.comes_to ∙ ap (λ (state : CountState). goes_on state.leaving state s.held) st.1 in
+    let comes : Wishes m.component m.held m.wish ≡ Wishes (at_number c n false) s.held wishes.Deactivate = s.comes_to ∙ ap (λ (state : CountState). goes_on state.leaving state s.held) st.1 in
     let wish : m.wish ≡ wishes.Deactivate = cc in
     let over : es ≡ [] = rec n (before ++ Sent port t ∷ []) m Over (wish, heard-later 0 before (Sent port t) st.3) r w.1 (omega arith) in
     rw over (refl, rw z refl, rw y found)
@@ -209,10 +209,10 @@ count_run c (e ∷ es) q d n before p phase st r w few = step c n es before p r.
 begun : (c : Bool) (e : Happening) (es : List Happening) (p m q : Poise CountState) → p ≡ fresh (fresh_count c) p.held.maker → Step p e m → Runs CountReady CountNext m es q → q.wish ≡ wishes.Deactivate → Rattle.flow_component.specs.Runs.StartsBring (λ port. port ≡ 0) (e ∷ es) → Wakes 1 [] (e ∷ es)
     → length (e ∷ es) ≤ 8388608 → IsCounted c (got 0 (e ∷ es)) (sent 0 (e ∷ es)) (sent 1 (e ∷ es))
 begun c Started es p m q is s r d brings w few =
-    let comes : Wishes m.part m.held m.wish ≡ Wishes (fresh_count c) s.held receive_first = s.comes_to ∙ ap (λ (u : Poise CountState). Wishes u.part s.held receive_first) is in
-    let part : m.part ≡ fresh_count c = cc in
+    let comes : Wishes m.component m.held m.wish ≡ Wishes (fresh_count c) s.held receive_first = s.comes_to ∙ ap (λ (u : Poise CountState). Wishes u.component s.held receive_first) is in
+    let component : m.component ≡ fresh_count c = cc in
     let wish : m.wish ≡ receive_first = cc in
-    let made : Makes c 0 [] es = count_run c es q d 0 (Started ∷ []) m Receiving (wish, part) r w.1 (omega arith) in
+    let made : Makes c 0 [] es = count_run c es q d 0 (Started ∷ []) m Receiving (wish, component) r w.1 (omega arith) in
     let first : BringsFirst 0 es = subst (λ (i : ℕ). BringsFirst i es) brings.0.1 brings.0.2 in
     record {
       passed = made.passed;

@@ -144,17 +144,17 @@ allowed : (p : Poise FillState) (e : Happening) (m : Poise FillState) → Steps 
 allowed p e m s = stays-allowed FillReady FillNext one_to_one uses_first fill_obeys p e m s
 
 -- what holds of the outcome, once it holds of where it leads
-later : (p : Poise FillState) (e : Happening) (m : Poise FillState) (es : List Happening) (s : Steps FillReady FillNext p e m) → FromWish m.part m.held m.wish (got 0 es) (sent 0 es)
-    → FromOutcome (fill_next p.part s.held (answer_of e)) (got 0 es) (sent 0 es)
+later : (p : Poise FillState) (e : Happening) (m : Poise FillState) (es : List Happening) (s : Steps FillReady FillNext p e m) → FromWish m.component m.held m.wish (got 0 es) (sent 0 es)
+    → FromOutcome (fill_next p.component s.held (answer_of e)) (got 0 es) (sent 0 es)
 later p e m es s h = subst (λ o. FromOutcome o (got 0 es) (sent 0 es)) s.comes_to h
 
 fill_run : (events : List Happening) (p q : Poise FillState) → Runs FillReady FillNext p events q → EndIsLast 0 events → q.wish ≡ wishes.Deactivate → IsAllowed one_to_one uses_first p.held p.wish
-    → FromWish p.part p.held p.wish (got 0 events) (sent 0 events)
+    → FromWish p.component p.held p.wish (got 0 events) (sent 0 events)
 fill_run [] p q r l d a =
     let w : p.wish ≡ wishes.Deactivate = ap (λ (u : Poise FillState). u.wish) (sym r) ∙ d in
-    rw w (λ n. Begun-end p.part.size [] tt)
+    rw w (λ n. Begun-end p.component.size [] tt)
 fill_run (Started ∷ es) p q r l d a =
-    let f : From p.part (got 0 es) (sent 0 es) = later p Started r.0 es r.1 (fill_run es r.0 q r.2 l d (allowed p Started r.0 r.1)) in
+    let f : From p.component (got 0 es) (sent 0 es) = later p Started r.0 es r.1 (fill_run es r.0 q r.2 l d (allowed p Started r.0 r.1)) in
     rw r.1.grants.0 (λ n. f [] tt n)
 fill_run (Received port t ∷ es) p q r l d a =
     let held = r.1.held in
@@ -164,18 +164,18 @@ fill_run (Received port t ∷ es) p q r l d a =
     let e : t ≡ h.packet = HoldsOnly-end held p.held.packets t (Comes-packets p.held t held r.1.grants.1) h in
     let k : kind_of (content t) ≡ kind_at held.packets (id_of t) = content-kind t ∙ ap kind_of e ∙ sym (HoldsOnly-kind held (id_of t) h) in
     let f = later p (Received port t) r.0 es r.1 (fill_run es r.0 q r.2 l d (allowed p (Received port t) r.0 r.1)) in
-    rw (z, r.1.grants.0) (after-packet p.part held t (kind_at held.packets (id_of t)) (got 0 es) (sent 0 es) r.1.is_ready.0 h e k f)
+    rw (z, r.1.grants.0) (after-packet p.component held t (kind_at held.packets (id_of t)) (got 0 es) (sent 0 es) r.1.is_ready.0 h e k f)
 fill_run (Ended port ∷ es) p q r l d a =
     let b : port < 1 = rw r.1.grants.0 at a in
     let z : port ≡ 0 = omega arith in
     let n : got 0 es ≡ [] = l.0 z in
     let f = later p (Ended port) r.0 es r.1 (fill_run es r.0 q r.2 l.1 d (allowed p (Ended port) r.0 r.1)) in
-    rw r.1.grants.0 (after-end p.part r.1.held p.part.line (got 0 es) (sent 0 es) r.1.is_ready.1 n refl f)
+    rw r.1.grants.0 (after-end p.component r.1.held p.component.line (got 0 es) (sent 0 es) r.1.is_ready.1 n refl f)
 fill_run (Sent port t ∷ es) p q r l d a =
     let z : nat_eq 0 port ≡ true = port_zero port (rw r.1.grants.0 at a).0 in
     let f = later p (Sent port t) r.0 es r.1 (fill_run es r.0 q r.2 l d (allowed p (Sent port t) r.0 r.1)) in
-    let g : FromOutcome (goes_on p.part (without_packet p.held (id_of t)) p.part.place) (got 0 es) (sent 0 es) = subst (λ (h : Held). FromOutcome (goes_on p.part h p.part.place) (got 0 es) (sent 0 es)) r.1.grants.2 f in
-    rw (z, r.1.grants.0) (after-sent p.part p.held t p.part.place (got 0 es) (sent 0 es) r.1.grants.1 g)
+    let g : FromOutcome (goes_on p.component (without_packet p.held (id_of t)) p.component.place) (got 0 es) (sent 0 es) = subst (λ (h : Held). FromOutcome (goes_on p.component h p.component.place) (got 0 es) (sent 0 es)) r.1.grants.2 f in
+    rw (z, r.1.grants.0) (after-sent p.component p.held t p.component.place (got 0 es) (sent 0 es) r.1.grants.1 g)
 fill_run (Learned port level ∷ es) p q r l d a = absurd r.1.is_ready
 
 pub fill_meaning : FillMeaning

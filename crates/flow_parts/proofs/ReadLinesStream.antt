@@ -45,25 +45,25 @@ after-reading held (line ∷ left) e =
     ]
 
 abbrev owed : Poise Lines → List Tree
-owed p = owes p.held p.part p.wish
+owed p = owes p.held p.component p.wish
 
 abbrev Good : Poise Lines → Type 0
 Good p = IsAllowed none_to_one uses_first p.held p.wish
 
 abbrev Next : Poise Lines → Happening → Poise Lines → Type 0
-Next p e q = (owed p ++ flat_map (λ t. t ∷ []) (content_got 0 e) ≡ content_sent 0 e ++ owed q) × (q.wish ≡ wishes.Deactivate → q.part ≡ [])
+Next p e q = (owed p ++ flat_map (λ t. t ∷ []) (content_got 0 e) ≡ content_sent 0 e ++ owed q) × (q.wish ≡ wishes.Deactivate → q.component ≡ [])
 
 step : (p : Poise Lines) (e : Happening) (q : Poise Lines) → Good p → Steps ReadLinesReady ReadLinesNext p e q → Next p e q
 step p Started q g s =
-    let a = after-reading s.held p.part s.is_ready in
-    let w : owed q ≡ map text_packet p.part = ap owes_after s.comes_to ∙ a.0 in
+    let a = after-reading s.held p.component s.is_ready in
+    let w : owed q ≡ map text_packet p.component = ap owes_after s.comes_to ∙ a.0 in
     (rw (s.grants.0, w) (append-nil _), subst IsSpent (sym s.comes_to) a.1)
 step p (Received port t) q g s = absurd s.is_ready
 step p (Ended port) q g s = absurd s.is_ready
 step p (Sent port t) q g s =
-    let a = after-reading s.held p.part s.is_ready in
+    let a = after-reading s.held p.component s.is_ready in
     let z : nat_eq 0 port ≡ true = port_zero port (rw s.grants.0 at g).0 in
-    let w : owed q ≡ map text_packet p.part = ap owes_after s.comes_to ∙ a.0 in
+    let w : owed q ≡ map text_packet p.component = ap owes_after s.comes_to ∙ a.0 in
     (rw (s.grants.0, s.grants.1, w, z) (append-nil _), subst IsSpent (sym s.comes_to) a.1)
 step p (Learned port level) q g s = absurd s.is_ready
 
@@ -78,7 +78,7 @@ no_got (Ended port ∷ es) p q r = absurd r.1.is_ready
 no_got (Sent port t ∷ es) p q r = no_got es r.0 q r.2
 no_got (Learned port level ∷ es) p q r = absurd r.1.is_ready
 
-spent : (es : List Happening) (p q : Poise Lines) → Good p → (p.wish ≡ wishes.Deactivate → p.part ≡ []) → Runs ReadLinesReady ReadLinesNext p es q → q.wish ≡ wishes.Deactivate → q.part ≡ []
+spent : (es : List Happening) (p q : Poise Lines) → Good p → (p.wish ≡ wishes.Deactivate → p.component ≡ []) → Runs ReadLinesReady ReadLinesNext p es q → q.wish ≡ wishes.Deactivate → q.component ≡ []
 spent [] p q g h r d = rw r (h (ap (λ (u : Poise Lines). u.wish) (sym r) ∙ d))
 spent (e ∷ es) p q g h r d = spent es r.0 q (allowed p e r.0 r.1) (step p e r.0 g r.1).1 r.2 d
 
@@ -90,7 +90,7 @@ read_lines_meaning left (event ∷ events) run some =
     let r = run.runs in
     let e = owed-run ReadLinesReady ReadLinesNext Good (λ t. t ∷ []) owed (λ p e q g s. (allowed p e q s, (step p e q g s).0)) p (event ∷ events) q tt r in
     let n = no_got (event ∷ events) p q r in
-    let k : q.part ≡ [] = spent events r.0 q (allowed p event r.0 r.1) (step p event r.0 tt r.1).1 r.2 run.idle in
+    let k : q.component ≡ [] = spent events r.0 q (allowed p event r.0 r.1) (step p event r.0 tt r.1).1 r.2 run.idle in
     let o : owed q ≡ [] = rw (run.idle, k) refl in
     let f : map text_packet left ++ flat_map (λ (t : Tree). t ∷ []) (got 0 (event ∷ events)) ≡ sent 0 (event ∷ events) ++ owed q = e in
     sym (append-nil _) ∙ sym (ap (λ us. sent 0 (event ∷ events) ++ us) o) ∙ sym f ∙ ap (λ us. map text_packet left ++ flat_map (λ (t : Tree). t ∷ []) us) n ∙ append-nil _

@@ -32,17 +32,17 @@ left held Waiting = []
 left held (Splitting id taken) = map text_packet (words (drop taken (text_at held.packets id)))
 
 abbrev owes : Held → Words → Wish → List Tree
-owes held part (wishes.Receive port) = []
-owes held part (wishes.Send port id) = contents_in (packet_at held.packets id) ++ left (without_packet held id) part
-owes held part (wishes.Level port) = []
-owes held part wishes.Deactivate = []
+owes held component (wishes.Receive port) = []
+owes held component (wishes.Send port id) = contents_in (packet_at held.packets id) ++ left (without_packet held id) component
+owes held component (wishes.Level port) = []
+owes held component wishes.Deactivate = []
 
 abbrev owes_after : Outcome Words → List Tree
-owes_after (Wishes part held wish) = owes held part wish
-owes_after (Fails part held cause) = []
+owes_after (Wishes component held wish) = owes held component wish
+owes_after (Fails component held cause) = []
 
 abbrev owed : Poise Words → List Tree
-owed p = owes p.held p.part p.wish
+owed p = owes p.held p.component p.wish
 
 after-next : (held : Held) (id taken : ℕ) → HoldsOnly held id → owes_after (sends_next held id taken) ≡ map text_packet (words (drop taken (text_at held.packets id)))
 after-next held id taken h = by (nat_lt (word_start text taken) (length text)) refl
@@ -65,7 +65,7 @@ after-next held id taken h = by (nat_lt (word_start text taken) (length text)) r
         let l : length text ≤ word_start text taken = grind (arith, nat_tests) in
         rw (words-none text taken l) refl
 
-after-going : (held : Held) (part : Words) → IsReadyOn held part → owes_after (goes_on held part) ≡ left held part
+after-going : (held : Held) (component : Words) → IsReadyOn held component → owes_after (goes_on held component) ≡ left held component
 after-going held Waiting r = refl
 after-going held (Splitting id taken) r = after-next held id taken r.0
 
@@ -100,8 +100,8 @@ step p (Ended port) q g s =
     rw (a, b) refl
 step p (Sent port t) q g s =
     let z : nat_eq 0 port ≡ true = port_zero port (rw s.grants.0 at g).0 in
-    let a : owed p ≡ content t ∷ left (without_packet p.held (id_of t)) p.part = rw (s.grants.0, s.grants.1) refl in
-    let b : owed q ≡ left (without_packet p.held (id_of t)) p.part = ap owes_after s.comes_to ∙ after-going s.held p.part s.is_ready ∙ ap (λ (h : Held). left h p.part) s.grants.2 in
+    let a : owed p ≡ content t ∷ left (without_packet p.held (id_of t)) p.component = rw (s.grants.0, s.grants.1) refl in
+    let b : owed q ≡ left (without_packet p.held (id_of t)) p.component = ap owes_after s.comes_to ∙ after-going s.held p.component s.is_ready ∙ ap (λ (h : Held). left h p.component) s.grants.2 in
     rw (a, b, z) (append-nil _)
 step p (Learned port level) q g s = absurd s.is_ready
 

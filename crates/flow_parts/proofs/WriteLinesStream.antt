@@ -25,44 +25,44 @@ abbrev Step : Poise Bytes → Happening → Poise Bytes → Type 0
 Step p e q = Steps (λ (_ : Bytes). IsAtHand) WriteLinesNext p e q
 
 abbrev Next : Poise Bytes → Happening → Poise Bytes → Type 0
-Next p e q = (q.held.packets ≡ []) × (q.part ≡ p.part ++ rendered_all (content_got 0 e))
+Next p e q = (q.held.packets ≡ []) × (q.component ≡ p.component ++ rendered_all (content_got 0 e))
 
 step : (p : Poise Bytes) (e : Happening) (q : Poise Bytes) → Good p → Step p e q → Next p e q
 step p Started q g s =
-    let c : Wishes q.part q.held q.wish ≡ Wishes p.part s.held receive_first = s.comes_to in
+    let c : Wishes q.component q.held q.wish ≡ Wishes p.component s.held receive_first = s.comes_to in
     let held : q.held ≡ s.held = cc in
-    let part : q.part ≡ p.part = cc in
-    (ap (λ (h : Held). h.packets) (held ∙ s.grants.1) ∙ g.1, part ∙ sym (append-nil p.part))
+    let component : q.component ≡ p.component = cc in
+    (ap (λ (h : Held). h.packets) (held ∙ s.grants.1) ∙ g.1, component ∙ sym (append-nil p.component))
 step p (Received port t) q g s =
     let l : port < 1 = rw s.grants.0 at g.0 in
     let z : nat_eq 0 port ≡ true = port_below_one port l in
     let alone : s.held.packets ≡ t ∷ [] = Comes-packets p.held t s.held s.grants.1 ∙ ap (λ ts. ts ++ t ∷ []) g.1 in
-    let c : Wishes q.part q.held q.wish ≡ Wishes (p.part ++ rendered (kind_at s.held.packets (id_of t)) (text_at s.held.packets (id_of t))) (without_packet s.held (id_of t)) receive_first = s.comes_to in
+    let c : Wishes q.component q.held q.wish ≡ Wishes (p.component ++ rendered (kind_at s.held.packets (id_of t)) (text_at s.held.packets (id_of t))) (without_packet s.held (id_of t)) receive_first = s.comes_to in
     let held : q.held ≡ without_packet s.held (id_of t) = cc in
-    let part : q.part ≡ p.part ++ rendered (kind_at s.held.packets (id_of t)) (text_at s.held.packets (id_of t)) = cc in
+    let component : q.component ≡ p.component ++ rendered (kind_at s.held.packets (id_of t)) (text_at s.held.packets (id_of t)) = cc in
     let kind : kind_at s.held.packets (id_of t) ≡ kind_of (content t) = kind-alone s.held.packets t alone ∙ sym (content-kind t) in
     let text : text_at s.held.packets (id_of t) ≡ text_of (content t) = text-alone s.held.packets t alone ∙ sym (content-text t) in (
       ap (λ (h : Held). h.packets) held ∙ gone-alone s.held.packets t alone,
-      part ∙ (λ i. p.part ++ rendered (kind i) (text i)) ∙ rw z (ap (λ bs. p.part ++ bs) (sym (append-nil (rendered (kind_of (content t)) (text_of (content t)))))),
+      component ∙ (λ i. p.component ++ rendered (kind i) (text i)) ∙ rw z (ap (λ bs. p.component ++ bs) (sym (append-nil (rendered (kind_of (content t)) (text_of (content t)))))),
     )
 step p (Ended port) q g s =
-    let c : Wishes q.part q.held q.wish ≡ Wishes p.part s.held wishes.Deactivate = s.comes_to in
+    let c : Wishes q.component q.held q.wish ≡ Wishes p.component s.held wishes.Deactivate = s.comes_to in
     let held : q.held ≡ s.held = cc in
-    let part : q.part ≡ p.part = cc in
-    (ap (λ (h : Held). h.packets) (held ∙ s.grants.1) ∙ g.1, part ∙ sym (append-nil p.part))
+    let component : q.component ≡ p.component = cc in
+    (ap (λ (h : Held). h.packets) (held ∙ s.grants.1) ∙ g.1, component ∙ sym (append-nil p.component))
 step p (Sent port t) q g s = absurd (let bad = rw s.grants.0 at g.0 in cc bad.0)
 step p (Learned port level) q g s = absurd s.is_ready
 
 allowed : (p : Poise Bytes) (e : Happening) (q : Poise Bytes) → Step p e q → IsAllowed one_to_none uses_none q.held q.wish
 allowed p e q s = stays-allowed (λ (_ : Bytes). IsAtHand) WriteLinesNext one_to_none uses_none write_lines_obeys p e q s
 
-wrote : (es : List Happening) (p q : Poise Bytes) → Good p → Runs (λ (_ : Bytes). IsAtHand) WriteLinesNext p es q → q.part ≡ p.part ++ rendered_all (got 0 es)
-wrote [] p q g r = ap (λ (u : Poise Bytes). u.part) r ∙ sym (append-nil p.part)
+wrote : (es : List Happening) (p q : Poise Bytes) → Good p → Runs (λ (_ : Bytes). IsAtHand) WriteLinesNext p es q → q.component ≡ p.component ++ rendered_all (got 0 es)
+wrote [] p q g r = ap (λ (u : Poise Bytes). u.component) r ∙ sym (append-nil p.component)
 wrote (e ∷ es) p q g r =
     let s = step p e r.0 g r.1 in
     let rest = wrote es r.0 q (allowed p e r.0 r.1, s.0) r.2 in
-    rest ∙ ap (λ bs. bs ++ rendered_all (got 0 es)) s.1 ∙ append_assoc p.part (rendered_all (content_got 0 e)) (rendered_all (got 0 es))
-    ∙ ap (λ bs. p.part ++ bs) (sym (flat_map-append (λ (packet : Tree). rendered (kind_of packet) (text_of packet)) (content_got 0 e) (got 0 es)))
+    rest ∙ ap (λ bs. bs ++ rendered_all (got 0 es)) s.1 ∙ append_assoc p.component (rendered_all (content_got 0 e)) (rendered_all (got 0 es))
+    ∙ ap (λ bs. p.component ++ bs) (sym (flat_map-append (λ (packet : Tree). rendered (kind_of packet) (text_of packet)) (content_got 0 e) (got 0 es)))
 
 pub write_lines_meaning : WriteLinesMeaning
 write_lines_meaning bytes told run = wrote told (fresh bytes run.maker) run.last (tt, refl) run.runs

@@ -18,29 +18,31 @@ bracket_of (b ∷ bs) = if b == 40 then Some Open else (if b == 41 then Some Clo
 
 -- A packet is passed on, or in its place a bracket with the rest of its text.
 abbrev pub turns : {K : Type 0} → K → Held → ℕ → List ℕ → Option Kind → Outcome K
-turns part held id text None = Wishes part held (send_first id)
-turns part held id text (Some kind) = Wishes part (without_packet (with_made held kind (slice_range text 1 (length text))) id) (send_first (next_id held))
+turns component held id text None = Wishes component held (send_first id)
+turns component held id text (Some kind) = Wishes component (without_packet (with_made held kind (slice_range text 1 (length text))) id) (send_first (next_id held))
 
+-- What comes of a packet, by its kind.
 abbrev pub takes : {K : Type 0} → K → Held → ℕ → Kind → Outcome K
-takes part held id Normal = turns part held id (text_at held.packets id) (bracket_of (text_at held.packets id))
-takes part held id Open = Wishes part held (send_first id)
-takes part held id Close = Wishes part held (send_first id)
+takes component held id Normal = turns component held id (text_at held.packets id) (bracket_of (text_at held.packets id))
+takes component held id Open = Wishes component held (send_first id)
+takes component held id Close = Wishes component held (send_first id)
 
+-- The rule: each packet is passed on, a normal one whose text names a bracket as that bracket.
 abbrev pub brackets_next : {K : Type 0} → K → Held → Answer → Outcome K
-brackets_next part held answers.Start = Wishes part held receive_first
-brackets_next part held (answers.Got id) = takes part held id (kind_at held.packets id)
-brackets_next part held answers.End = Wishes part held Deactivate
-brackets_next part held answers.Sent = Wishes part held receive_first
-brackets_next part held (answers.Level n) = Wishes part held receive_first
+brackets_next component held answers.Start = Wishes component held receive_first
+brackets_next component held (answers.Got id) = takes component held id (kind_at held.packets id)
+brackets_next component held answers.End = Wishes component held Deactivate
+brackets_next component held answers.Sent = Wishes component held receive_first
+brackets_next component held (answers.Level n) = Wishes component held receive_first
 
 -- It comes to this alone.
 abbrev pub BracketsNext : {K : Type 0} → K → Held → Answer → Outcome K → Type 0
-BracketsNext part held answer outcome = outcome ≡ brackets_next part held answer
+BracketsNext component held answer outcome = outcome ≡ brackets_next component held answer
 
 -- Between packets its hands are empty.
 abbrev pub BracketsReady : {K : Type 0} → K → Held → Answer → Type 0
-BracketsReady part held answers.Start = held.packets ≡ []
-BracketsReady part held (answers.Got id) = HoldsOnly held id
-BracketsReady part held answers.End = held.packets ≡ []
-BracketsReady part held answers.Sent = held.packets ≡ []
-BracketsReady part held (answers.Level n) = ⊥
+BracketsReady component held answers.Start = held.packets ≡ []
+BracketsReady component held (answers.Got id) = HoldsOnly held id
+BracketsReady component held answers.End = held.packets ≡ []
+BracketsReady component held answers.Sent = held.packets ≡ []
+BracketsReady component held (answers.Level n) = ⊥

@@ -30,38 +30,38 @@ module _ {K : Type 0} where
   abbrev Lawful : Held → Outcome K → Type 0
   Lawful held outcome = Obeys one_to_one uses_first held outcome × StaysReady BracketsReady outcome
 
-  idle : (part : K) (held : Held) → held.packets ≡ [] → Lawful held (Wishes part held receive_first)
-  idle part held e = ((comes_same held, omega arith), ((λ s. e), (λ t s. HoldsOnly-came held t e s), (λ text s. HoldsOnly-made_alone held Normal text e s)))
+  idle : (component : K) (held : Held) → held.packets ≡ [] → Lawful held (Wishes component held receive_first)
+  idle component held e = ((comes_same held, omega arith), ((λ s. e), (λ t s. HoldsOnly-came held t e s), (λ text s. HoldsOnly-made_alone held Normal text e s)))
 
-  passed : (part : K) (held : Held) (id : ℕ) → HoldsOnly held id → Lawful held (Wishes part held (send_first id))
-  passed part held id h = ((comes_same held, (refl, HoldsOnly-root held id h)), λ s. HoldsOnly-without held id h)
+  passed : (component : K) (held : Held) (id : ℕ) → HoldsOnly held id → Lawful held (Wishes component held (send_first id))
+  passed component held id h = ((comes_same held, (refl, HoldsOnly-root held id h)), λ s. HoldsOnly-without held id h)
 
-  turned : (part : K) (held : Held) (id : ℕ) (text : List ℕ) (kind : Option Kind) → HoldsOnly held id → Lawful held (turns part held id text kind)
-  turned part held id text None h = passed part held id h
-  turned part held id text (Some kind) h =
+  turned : (component : K) (held : Held) (id : ℕ) (text : List ℕ) (kind : Option Kind) → HoldsOnly held id → Lawful held (turns component held id text kind)
+  turned component held id text None h = passed component held id h
+  turned component held id text (Some kind) h =
       let rest = slice_range text 1 (length text) in
       let e = renewed held id kind rest h in (
         (comes_renewed held kind rest id (omega (arith, ap length h.holds)) (HoldsOnly-root held id h), (refl, rw e (made-root (next_id held) kind rest))),
         λ s. rw e (made-gone (next_id held) kind rest),
       )
 
-  taken : (part : K) (held : Held) (id : ℕ) (kind : Kind) → HoldsOnly held id → Lawful held (takes part held id kind)
-  taken part held id Normal h = turned part held id (text_at held.packets id) (bracket_of (text_at held.packets id)) h
-  taken part held id Open h = passed part held id h
-  taken part held id Close h = passed part held id h
+  taken : (component : K) (held : Held) (id : ℕ) (kind : Kind) → HoldsOnly held id → Lawful held (takes component held id kind)
+  taken component held id Normal h = turned component held id (text_at held.packets id) (bracket_of (text_at held.packets id)) h
+  taken component held id Open h = passed component held id h
+  taken component held id Close h = passed component held id h
 
-  lawful : (part : K) (held : Held) (answer : Answer) → BracketsReady part held answer → Lawful held (brackets_next part held answer)
-  lawful part held answers.Start r = idle part held r
-  lawful part held (answers.Got id) r = taken part held id (kind_at held.packets id) r
-  lawful part held answers.End r = ((comes_same held, tt), λ s. r)
-  lawful part held answers.Sent r = idle part held r
-  lawful part held (answers.Level n) r = absurd r
+  lawful : (component : K) (held : Held) (answer : Answer) → BracketsReady component held answer → Lawful held (brackets_next component held answer)
+  lawful component held answers.Start r = idle component held r
+  lawful component held (answers.Got id) r = taken component held id (kind_at held.packets id) r
+  lawful component held answers.End r = ((comes_same held, tt), λ s. r)
+  lawful component held answers.Sent r = idle component held r
+  lawful component held (answers.Level n) r = absurd r
 
-  pub brackets_obeys : (part : K) (held : Held) (answer : Answer) (outcome : Outcome K) → BracketsReady part held answer → BracketsNext part held answer outcome → Obeys one_to_one uses_first held outcome
-  brackets_obeys part held answer outcome r is = subst (Obeys one_to_one uses_first held) (sym is) (lawful part held answer r).0
+  pub brackets_obeys : (component : K) (held : Held) (answer : Answer) (outcome : Outcome K) → BracketsReady component held answer → BracketsNext component held answer outcome → Obeys one_to_one uses_first held outcome
+  brackets_obeys component held answer outcome r is = subst (Obeys one_to_one uses_first held) (sym is) (lawful component held answer r).0
 
-  pub brackets_stays_ready : (part : K) (held : Held) (answer : Answer) (outcome : Outcome K) → BracketsReady part held answer → BracketsNext part held answer outcome → StaysReady BracketsReady outcome
-  brackets_stays_ready part held answer outcome r is = subst (StaysReady BracketsReady) (sym is) (lawful part held answer r).1
+  pub brackets_stays_ready : (component : K) (held : Held) (answer : Answer) (outcome : Outcome K) → BracketsReady component held answer → BracketsNext component held answer outcome → StaysReady BracketsReady outcome
+  brackets_stays_ready component held answer outcome r is = subst (StaysReady BracketsReady) (sym is) (lawful component held answer r).1
 
-  pub brackets_steady : (part : K) (held : Held) (answer : Answer) (outcome : Outcome K) → BracketsNext part held answer outcome → IsSteady (λ _. one_to_one) (λ _. uses_first) part outcome
-  brackets_steady part held answer outcome is = subst (IsSteady (λ _. one_to_one) (λ _. uses_first) part) (sym is) (record { shape = refl; outputs = refl })
+  pub brackets_steady : (component : K) (held : Held) (answer : Answer) (outcome : Outcome K) → BracketsNext component held answer outcome → IsSteady (λ _. one_to_one) (λ _. uses_first) component outcome
+  brackets_steady component held answer outcome is = subst (IsSteady (λ _. one_to_one) (λ _. uses_first) component) (sym is) (record { shape = refl; outputs = refl })

@@ -7,7 +7,7 @@ use Rattle.flow_packet.specs.Held.{Held, without_packet}
 use Rattle.flow_packet.specs.Edits.{ComesBy}
 use Rattle.flow_component.specs.declared.Answer.{Answer}
 use Rattle.flow_component.specs.declared.Answer.TheVariants as answers
-use Rattle.flow_component.specs.Laws.{Outcome, Wishes, Obeys, StaysReady, IsSteady, part_after}
+use Rattle.flow_component.specs.Laws.{Outcome, Wishes, Obeys, StaysReady, IsSteady, component_after}
 use Rattle.flow_component.specs.Alone.{HoldsOnly}
 use Rattle.flow_component.specs.Ports.{receive_first}
 use Rattle.flow_component.proofs.Roots.{IsAtRoot-made, made_gone}
@@ -44,15 +44,15 @@ lawful state held answers.End r = ended state.connected state held r.1
 lawful state held answers.Sent r = went_on state.connected state held state.leaving refl r
 lawful state held (answers.Level n) r = absurd r
 
-passed-connected : (connected : Bool) (state : CountState) (held : Held) (id : ℕ) → (part_after (passes_on connected state held id)).connected ≡ state.connected
+passed-connected : (connected : Bool) (state : CountState) (held : Held) (id : ℕ) → (component_after (passes_on connected state held id)).connected ≡ state.connected
 passed-connected true state held id = refl
 passed-connected false state held id = refl
 
-went-connected : (leaving : Bool) (state : CountState) (held : Held) → (part_after (goes_on leaving state held)).connected ≡ state.connected
+went-connected : (leaving : Bool) (state : CountState) (held : Held) → (component_after (goes_on leaving state held)).connected ≡ state.connected
 went-connected true state held = refl
 went-connected false state held = refl
 
-next-connected : (state : CountState) (held : Held) (answer : Answer) → (part_after (count_next state held answer)).connected ≡ state.connected
+next-connected : (state : CountState) (held : Held) (answer : Answer) → (component_after (count_next state held answer)).connected ≡ state.connected
 next-connected state held answers.Start = refl
 next-connected state held (answers.Got id) = passed-connected state.connected (record state { number = one_more (kind_at held.packets id) state.number }) held id
 next-connected state held answers.End = refl
@@ -67,5 +67,5 @@ count_stays_ready state held answer outcome r is = subst (StaysReady CountReady)
 
 pub count_steady : (state : CountState) (held : Held) (answer : Answer) (outcome : Outcome CountState) → CountNext state held answer outcome → IsSteady (λ _. count_shape) count_uses state outcome
 count_steady state held answer outcome is =
-    let e = ap (λ (o : Outcome CountState). (part_after o).connected) is ∙ next-connected state held answer in
+    let e = ap (λ (o : Outcome CountState). (component_after o).connected) is ∙ next-connected state held answer in
     record { shape = refl; outputs = ap used e }

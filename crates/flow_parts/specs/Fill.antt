@@ -51,6 +51,7 @@ packet_comes state held id Normal = word_comes state (without_packet held id) (t
 packet_comes state held id Open = bracket_comes state held id state.line
 packet_comes state held id Close = bracket_comes state held id state.line
 
+-- The rule, by what it is told.
 abbrev pub fill_next : FillState → Held → Answer → Outcome FillState
 fill_next state held answers.Start = Wishes state held receive_first
 fill_next state held (answers.Got id) = packet_comes state held id (kind_at held.packets id)
@@ -58,6 +59,7 @@ fill_next state held answers.End = end_comes state held state.line
 fill_next state held answers.Sent = goes_on state held state.place
 fill_next state held (answers.Level n) = Wishes state held receive_first
 
+-- The rule as a relation.
 abbrev pub FillNext : FillState → Held → Answer → Outcome FillState → Type 0
 FillNext state held answer outcome = outcome ≡ fill_next state held answer
 
@@ -67,6 +69,7 @@ IsReadyOn state held Waiting = held.packets ≡ []
 IsReadyOn state held (Passing id) = HoldsOnly held id × (state.line ≡ [])
 IsReadyOn state held Leaving = (held.packets ≡ []) × (state.line ≡ [])
 
+-- What it can be told.
 abbrev pub FillReady : FillState → Held → Answer → Type 0
 FillReady state held answers.Start = (state.place ≡ Waiting) × (held.packets ≡ [])
 FillReady state held (answers.Got id) = (state.place ≡ Waiting) × HoldsOnly held id

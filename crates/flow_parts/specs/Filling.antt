@@ -6,13 +6,16 @@ use Rattle.flow_packet.specs.declared.packet.Kind.TheVariants.{Normal}
 use Rattle.flow_parts.specs.Text.{is_filled}
 use Rattle.flow_component.specs.Runs.{text_packet}
 
+-- All elements have the property.
 abbrev pub Each : {X : Type 0} → (X → Type 0) → List X → Type 0
 Each P [] = Unit {0}
 Each P (x ∷ xs) = P x × Each P xs
 
+-- A packet of data.
 abbrev pub IsNormal : Tree → Type 0
 IsNormal t = kind_of t ≡ Normal
 
+-- A packet that opens or closes a substream.
 abbrev pub IsBracket : Tree → Type 0
 IsBracket t = kind_of t ≡ Normal → ⊥
 
@@ -20,9 +23,11 @@ IsBracket t = kind_of t ≡ Normal → ⊥
 abbrev pub Line : Type 0
 Line = List (List ℕ)
 
+-- The text of a line: its words with one space between them.
 abbrev pub line_text : Line → List ℕ
 line_text line = join_with_byte 32 line
 
+-- The word that a line begins with.
 abbrev pub first_word : Line → List ℕ
 first_word [] = []
 first_word (w ∷ ws) = w
@@ -47,6 +52,7 @@ pub record IsFilled (size : ℕ) (words : List (List ℕ)) (lines : List Line) :
   pub are_lines : Each (IsLine size) lines
   pub late : BreaksLate size lines
 
+-- The lines as packets.
 abbrev pub line_packets : List Line → List Tree
 line_packets lines = map (λ line. text_packet (line_text line)) lines
 

@@ -32,7 +32,7 @@ ReadLinesMeaning = (left : List (List ℕ)) (told : List Happening) → EndedRun
 
 -- A WriteLines has written what it got.
 abbrev pub WriteLinesMeaning : Type 0
-WriteLinesMeaning = (bytes : List ℕ) (told : List Happening) (run : EndedRun (λ (_ : List ℕ). IsAtHand) WriteLinesNext bytes told) → run.last.part ≡ bytes ++ rendered_all (got 0 told)
+WriteLinesMeaning = (bytes : List ℕ) (told : List Happening) (run : EndedRun (λ (_ : List ℕ). IsAtHand) WriteLinesNext bytes told) → run.last.component ≡ bytes ++ rendered_all (got 0 told)
 
 -- A Fill at its start: it has no line in hand.
 abbrev pub fresh_fill : ℕ → FillState
@@ -48,6 +48,7 @@ words_as Normal packet = map text_packet (words (text_of packet))
 words_as Open packet = packet ∷ []
 words_as Close packet = packet ∷ []
 
+-- What Words makes of a packet.
 abbrev pub words_of : Tree → List Tree
 words_of packet = words_as (kind_of packet) packet
 
@@ -69,6 +70,7 @@ normal_one Normal = 1
 normal_one Open = 0
 normal_one Close = 0
 
+-- How many packets of data there are.
 abbrev pub normals : List Tree → ℕ
 normals [] = 0
 normals (packet ∷ x) = normal_one (kind_of packet) + normals x
@@ -81,6 +83,7 @@ pub record IsCounted (connected : Bool) (x y count : List Tree) : Type 0 where
   pub nothing : x ≡ [] → count ≡ []
   pub counted : x ≢ [] → count ≡ text_packet (decimal (normals x)) ∷ []
 
+-- The meaning of Count, over whole runs.
 abbrev pub CountMeaning : Type 0
 CountMeaning = (connected : Bool) (told : List Happening) → EndedRun CountReady CountNext (fresh_count connected) told → StartsBring (λ port. port ≡ 0) told → Wakes 1 [] told → length told ≤ TURN_LIMIT
     → IsCounted connected (got 0 told) (sent 0 told) (sent 1 told)
@@ -96,9 +99,10 @@ bracketed_by Normal packet = bracketed_as (bracket_of (text_of packet)) packet
 bracketed_by Open packet = packet
 bracketed_by Close packet = packet
 
+-- What Brackets makes of a packet.
 abbrev pub bracketed : Tree → Tree
 bracketed packet = bracketed_by (kind_of packet) packet
 
 -- A Brackets sends what it gets, each Normal packet that names a bracket replaced by that.
 abbrev pub BracketsMeaning : Type 0 → Type 0
-BracketsMeaning K = (part : K) (told : List Happening) → EndedRun BracketsReady BracketsNext part told → sent 0 told ≡ map bracketed (got 0 told)
+BracketsMeaning K = (component : K) (told : List Happening) → EndedRun BracketsReady BracketsNext component told → sent 0 told ≡ map bracketed (got 0 told)

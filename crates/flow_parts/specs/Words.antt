@@ -21,6 +21,7 @@ sends_piece held id text taken =
     then Wishes (Splitting id (word_end text taken)) (with_made held Normal (slice_range text (word_start text taken) (word_end text taken))) (send_first (next_id held))
     else Wishes Waiting (without_packet held id) receive_first
 
+-- It sends the next word of the packet that it splits, or is done with it.
 abbrev pub sends_next : Held → ℕ → ℕ → Outcome Words
 sends_next held id taken = sends_piece held id (text_at held.packets id) taken
 
@@ -35,17 +36,19 @@ abbrev pub goes_on : Held → Words → Outcome Words
 goes_on held Waiting = Wishes Waiting held receive_first
 goes_on held (Splitting id taken) = sends_next held id taken
 
+-- The rule, by what it is told.
 abbrev pub words_next : Words → Held → Answer → Outcome Words
-words_next part held answers.Start = Wishes Waiting held receive_first
-words_next part held (answers.Got id) = takes held id (kind_at held.packets id)
-words_next part held answers.End = Wishes Waiting held Deactivate
-words_next part held answers.Sent = goes_on held part
-words_next part held (answers.Level n) = Wishes Waiting held receive_first
+words_next component held answers.Start = Wishes Waiting held receive_first
+words_next component held (answers.Got id) = takes held id (kind_at held.packets id)
+words_next component held answers.End = Wishes Waiting held Deactivate
+words_next component held answers.Sent = goes_on held component
+words_next component held (answers.Level n) = Wishes Waiting held receive_first
 
 -- It comes to this alone.
 abbrev pub WordsNext : Words → Held → Answer → Outcome Words → Type 0
-WordsNext part held answer outcome = outcome ≡ words_next part held answer
+WordsNext component held answer outcome = outcome ≡ words_next component held answer
 
+-- It splits no packet.
 abbrev pub IsWaiting : Words → Type 0
 IsWaiting Waiting = Unit {0}
 IsWaiting (Splitting id taken) = ⊥
@@ -55,9 +58,10 @@ abbrev pub IsReadyOn : Held → Words → Type 0
 IsReadyOn held Waiting = held.packets ≡ []
 IsReadyOn held (Splitting id taken) = HoldsOnly held id × (taken ≤ length (text_at held.packets id)) × (kind_at held.packets id ≡ Normal)
 
+-- What it can be told.
 abbrev pub WordsReady : Words → Held → Answer → Type 0
-WordsReady part held answers.Start = IsWaiting part × (held.packets ≡ [])
-WordsReady part held (answers.Got id) = IsWaiting part × HoldsOnly held id
-WordsReady part held answers.End = IsWaiting part × (held.packets ≡ [])
-WordsReady part held answers.Sent = IsReadyOn held part
-WordsReady part held (answers.Level n) = ⊥
+WordsReady component held answers.Start = IsWaiting component × (held.packets ≡ [])
+WordsReady component held (answers.Got id) = IsWaiting component × HoldsOnly held id
+WordsReady component held answers.End = IsWaiting component × (held.packets ≡ [])
+WordsReady component held answers.Sent = IsReadyOn held component
+WordsReady component held (answers.Level n) = ⊥

@@ -74,22 +74,22 @@ taken held id Normal h k = sent_next held id 0 h k
 taken held id Open h k = ((comes_same held, (refl, HoldsOnly-root held id h)), λ s. HoldsOnly-without held id h)
 taken held id Close h k = ((comes_same held, (refl, HoldsOnly-root held id h)), λ s. HoldsOnly-without held id h)
 
-went_on : (held : Held) (part : Words) → IsReadyOn held part → Lawful held (goes_on held part)
+went_on : (held : Held) (component : Words) → IsReadyOn held component → Lawful held (goes_on held component)
 went_on held Waiting r = idle held held (comes_same held) r
 went_on held (Splitting id taken) r = sent_next held id taken r.0 r.2
 
-lawful : (part : Words) (held : Held) (answer : Answer) → WordsReady part held answer → Lawful held (words_next part held answer)
-lawful part held answers.Start r = idle held held (comes_same held) r.1
-lawful part held (answers.Got id) r = taken held id (kind_at held.packets id) r.1 refl
-lawful part held answers.End r = ((comes_same held, tt), λ s. (tt, r.1))
-lawful part held answers.Sent r = went_on held part r
-lawful part held (answers.Level n) r = absurd r
+lawful : (component : Words) (held : Held) (answer : Answer) → WordsReady component held answer → Lawful held (words_next component held answer)
+lawful component held answers.Start r = idle held held (comes_same held) r.1
+lawful component held (answers.Got id) r = taken held id (kind_at held.packets id) r.1 refl
+lawful component held answers.End r = ((comes_same held, tt), λ s. (tt, r.1))
+lawful component held answers.Sent r = went_on held component r
+lawful component held (answers.Level n) r = absurd r
 
-pub words_obeys : (part : Words) (held : Held) (answer : Answer) (outcome : Outcome Words) → WordsReady part held answer → WordsNext part held answer outcome → Obeys one_to_one uses_first held outcome
-words_obeys part held answer outcome r is = subst (Obeys one_to_one uses_first held) (sym is) (lawful part held answer r).0
+pub words_obeys : (component : Words) (held : Held) (answer : Answer) (outcome : Outcome Words) → WordsReady component held answer → WordsNext component held answer outcome → Obeys one_to_one uses_first held outcome
+words_obeys component held answer outcome r is = subst (Obeys one_to_one uses_first held) (sym is) (lawful component held answer r).0
 
-pub words_stays_ready : (part : Words) (held : Held) (answer : Answer) (outcome : Outcome Words) → WordsReady part held answer → WordsNext part held answer outcome → StaysReady WordsReady outcome
-words_stays_ready part held answer outcome r is = subst (StaysReady WordsReady) (sym is) (lawful part held answer r).1
+pub words_stays_ready : (component : Words) (held : Held) (answer : Answer) (outcome : Outcome Words) → WordsReady component held answer → WordsNext component held answer outcome → StaysReady WordsReady outcome
+words_stays_ready component held answer outcome r is = subst (StaysReady WordsReady) (sym is) (lawful component held answer r).1
 
-pub words_steady : (part : Words) (held : Held) (answer : Answer) (outcome : Outcome Words) → WordsNext part held answer outcome → IsSteady (λ _. one_to_one) (λ _. uses_first) part outcome
-words_steady part held answer outcome is = record { shape = refl; outputs = refl }
+pub words_steady : (component : Words) (held : Held) (answer : Answer) (outcome : Outcome Words) → WordsNext component held answer outcome → IsSteady (λ _. one_to_one) (λ _. uses_first) component outcome
+words_steady component held answer outcome is = record { shape = refl; outputs = refl }

@@ -34,7 +34,7 @@ impl Brackets {
     fn take(&mut self, hands: &mut Hands, packet: PacketId) -> Result<Wish, Stop>
         requires alone { HoldsOnly (held_of hands.old) packet }
         requires room { hands.old.made < 4294967295 }
-        ensures { Resumes (λ part held _ outcome. outcome ≡ takes part held packet Kind.Normal) self.old hands.old Answer.Sent result self.new hands.new }
+        ensures { Resumes (λ component held _ outcome. outcome ≡ takes component held packet Kind.Normal) self.old hands.old Answer.Sent result self.new hands.new }
     {
         let text = hands.text(packet);
         let end = text.len();
@@ -69,7 +69,7 @@ impl Component for Brackets {
 
     ghost steady = { brackets_steady };
 
-    ghost has_outcome = { λ part held answer _. (brackets_next part held answer, refl) };
+    ghost has_outcome = { λ component held answer _. (brackets_next component held answer, refl) };
 
     fn shape(&self) -> Shape {
         Shape {

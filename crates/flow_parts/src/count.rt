@@ -106,7 +106,7 @@ impl Component for Count {
 
     ghost steady = { count_steady };
 
-    ghost has_outcome = { λ part held answer _. (count_next part held answer, refl) };
+    ghost has_outcome = { λ component held answer _. (count_next component held answer, refl) };
 
     fn shape(&self) -> Shape {
         Shape {

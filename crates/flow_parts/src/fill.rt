@@ -8,8 +8,8 @@ ghost use Rattle.flow_component.specs.Alone.{HoldsOnly};
 ghost use Rattle.flow_parts.specs.Text.{joined};
 ghost use Rattle.flow_parts.specs.FillState.{FillState};
 
-use flow_limits::TEXT_LIMIT;
 use flow_component::{Answer, Component, Port, Shape, Stop, Wish};
+use flow_limits::TEXT_LIMIT;
 use flow_packet::{Hands, Kind, PacketId};
 use std::alloc::{AllocError, Global};
 use std::marker::Model;
@@ -172,7 +172,7 @@ impl Component for Fill {
 
     ghost steady = { fill_steady };
 
-    ghost has_outcome = { λ part held answer _. (fill_next part held answer, refl) };
+    ghost has_outcome = { λ component held answer _. (fill_next component held answer, refl) };
 
     fn shape(&self) -> Shape {
         Shape {

@@ -122,7 +122,7 @@ impl Component for ReadLines {
 
     ghost steady = { read_lines_steady };
 
-    ghost has_outcome = { λ part held _ _. (reads held part, refl) };
+    ghost has_outcome = { λ component held _ _. (reads held component, refl) };
 
     fn shape(&self) -> Shape {
         Shape {

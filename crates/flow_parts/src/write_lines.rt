@@ -106,7 +106,7 @@ impl Component for WriteLines {
 
     ghost steady = { write_lines_steady };
 
-    ghost has_outcome = { λ part held answer _. (writes part held answer, refl) };
+    ghost has_outcome = { λ component held answer _. (writes component held answer, refl) };
 
     fn shape(&self) -> Shape {
         Shape {

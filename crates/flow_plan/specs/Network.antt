@@ -33,6 +33,7 @@ elements_of row =
 abbrev pub ports_of : List PortRow → List PortRef
 ports_of rows = flat_map elements_of rows
 
+-- An element behind the name of its port.
 abbrev pub spelled_element : Option ℕ → List ℕ
 spelled_element None = []
 spelled_element (Some e) = codes "[" ++ decimal e ++ codes "]"

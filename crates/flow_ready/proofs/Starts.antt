@@ -1,4 +1,4 @@
--- A valid plan with parts that fit starts well.
+-- A valid plan with components that fit starts well.
 use Rattle.std.proofs.Common.{◌≡◌, ℕ, zero, suc, ◌+◌, ◌<◌, Bool, List, [], ◌∷◌, length, map, Some, refl, sym, ◌∙◌, ap, subst, arith}
 use Rattle.std.specs.Prelude.{IsSome, slice_get}
 use Rattle.std.specs.declared.option.Option.{Option}
@@ -15,34 +15,34 @@ use Rattle.flow_model.specs.States.{Process}
 use Rattle.flow_model.specs.Plans.{input_at, sends_at, process_at_start, processes_at_start, FitsProcess, StartsWell}
 use Rattle.flow_plan.specs.Network.{Network as Plan}
 use Rattle.flow_plan.specs.declared.plan.Process.{Process as PlanProcess}
-use Rattle.flow_ready.specs.Ready.{PartFits, PartsFit}
+use Rattle.flow_ready.specs.Ready.{ComponentFits, ComponentsFit}
 use Rattle.flow_ready.proofs.Lookups.{same-there}
 use Rattle.flow_ready.proofs.Sends.{sends-there}
 
--- A process of the start, with its place in the plan and its part.
-record IsStarted {K : Type 0} (plan : Plan) (p : ℕ) (xs : List PlanProcess) (parts : List K) (k : ℕ) (z : Process K) : Type 0 where
+-- A process of the start, with its place in the plan and its component.
+record IsStarted {K : Type 0} (plan : Plan) (p : ℕ) (xs : List PlanProcess) (components : List K) (k : ℕ) (z : Process K) : Type 0 where
   spec : PlanProcess
-  part : K
+  component : K
   spec_there : slice_get xs k ≡ Some spec
-  part_there : slice_get parts k ≡ Some part
-  is : process_at_start plan (p + k) spec part ≡ z
+  component_there : slice_get components k ≡ Some component
+  is : process_at_start plan (p + k) spec component ≡ z
 
-started : {K : Type 0} (plan : Plan) (p : ℕ) (xs : List PlanProcess) (parts : List K) (k : ℕ) (z : Process K) → slice_get (processes_at_start plan p xs parts) k ≡ Some z → IsStarted plan p xs parts k z
-started plan p [] parts k z is = absurd cc
+started : {K : Type 0} (plan : Plan) (p : ℕ) (xs : List PlanProcess) (components : List K) (k : ℕ) (z : Process K) → slice_get (processes_at_start plan p xs components) k ≡ Some z → IsStarted plan p xs components k z
+started plan p [] components k z is = absurd cc
 started plan p (x ∷ xs) [] k z is = absurd cc
-started plan p (x ∷ xs) (part ∷ parts) zero z is =
-    let here : process_at_start plan p x part ≡ z = cc in
+started plan p (x ∷ xs) (component ∷ components) zero z is =
+    let here : process_at_start plan p x component ≡ z = cc in
     let first : p + zero ≡ p = omega arith in
-    record { spec = x; part = part; spec_there = refl; part_there = refl; is = ap (λ (m : ℕ). process_at_start plan m x part) first ∙ here }
-started plan p (x ∷ xs) (part ∷ parts) (suc k) z is =
-    let rest = started plan (p + 1) xs parts k z is in
+    record { spec = x; component = component; spec_there = refl; component_there = refl; is = ap (λ (m : ℕ). process_at_start plan m x component) first ∙ here }
+started plan p (x ∷ xs) (component ∷ components) (suc k) z is =
+    let rest = started plan (p + 1) xs components k z is in
     let later : p + suc k ≡ p + 1 + k = omega arith in
     record {
       spec = rest.spec;
-      part = rest.part;
+      component = rest.component;
       spec_there = rest.spec_there;
-      part_there = rest.part_there;
-      is = ap (λ (m : ℕ). process_at_start plan m rest.spec rest.part) later ∙ rest.is;
+      component_there = rest.component_there;
+      is = ap (λ (m : ℕ). process_at_start plan m rest.spec rest.component) later ∙ rest.is;
     }
 
 length-ports : {A : Type 0} (f : ℕ → A) (k n : ℕ) → length (map f (range_with_len k n)) ≡ n
@@ -71,9 +71,9 @@ module _ {K : Type 0} (shape_of : K → Shape) (uses : K → ℕ → Bool) (read
       let output : HasOutput network p o = valid.wired.senders has.number has.place has.connection (record { process = p; output = o }) has.here has.sender in
       subst (λ (x : NetProcess). o < x.outputs) (same-there network.processes p output.0 process output.1 there) output.2
 
-  fits-start : IsValid network → (p : ℕ) (process : NetProcess) (part : K) → slice_get network.processes p ≡ Some process → PartFits shape_of uses ready network p process part
-      → FitsProcess shape_of uses ready part (process_at_start network p process part)
-  fits-start valid p process part there fits = record {
+  fits-start : IsValid network → (p : ℕ) (process : NetProcess) (component : K) → slice_get network.processes p ≡ Some process → ComponentFits shape_of uses ready network p process component
+      → FitsProcess shape_of uses ready component (process_at_start network p process component)
+  fits-start valid p process component there fits = record {
     inputs = fits.inputs ∙ sym (length-ports (input_at network p process) 0 process.inputs);
     outputs = fits.outputs ∙ sym (length-ports (sends_at network p) 0 process.outputs);
     used = λ o used.
@@ -82,14 +82,14 @@ module _ {K : Type 0} (shape_of : K → Shape) (uses : K → ℕ → Bool) (read
     can_start = fits.can_start;
   }
 
-  pub starts-well : (parts : List K) → IsValid network → PartsFit shape_of uses ready network parts → StartsWell shape_of uses ready network parts
-  starts-well parts valid fit = record {
+  pub starts-well : (components : List K) → IsValid network → ComponentsFit shape_of uses ready network components → StartsWell shape_of uses ready network components
+  starts-well components valid fit = record {
     wired = valid.wired;
     one_each = fit.one_each;
     fit = λ p z here.
-        let s = started network 0 network.processes parts p z here in
+        let s = started network 0 network.processes components p z here in
         let number : p ≡ 0 + p = omega arith in
-        let is : process_at_start network p s.spec s.part ≡ z = ap (λ (m : ℕ). process_at_start network m s.spec s.part) number ∙ s.is in
-        subst (λ (x : Process K). FitsProcess shape_of uses ready x.part x) is
-        (fits-start valid p s.spec s.part s.spec_there (fit.fit p s.spec s.part s.spec_there s.part_there));
+        let is : process_at_start network p s.spec s.component ≡ z = ap (λ (m : ℕ). process_at_start network m s.spec s.component) number ∙ s.is in
+        subst (λ (x : Process K). FitsProcess shape_of uses ready x.component x) is
+        (fits-start valid p s.spec s.component s.spec_there (fit.fit p s.spec s.component s.spec_there s.component_there));
   }

@@ -1,11 +1,11 @@
-//! A valid plan with parts that fit is ready to start: parts that fit the processes of a plan fit those of its start.
+//! A valid plan with components that fit is ready to start: parts that fit the processes of a plan fit those of its start.
 #![tactic(auto)]
 
 ghost use Rattle.flow_ready.specs.Ready.{StartsPlans, SendsOut};
 
 use flow_component::Component;
 
-/// A valid plan with parts that fit its processes starts well, and every output in it that sends to a connection finds that
+/// A valid plan with components that fit its processes starts well, and every output in it that sends to a connection finds that
 /// connection.
 pub fn a_valid_plan_is_ready<K: Component>()
     ensures starts { StartsPlans K.shape_of K.uses K.ready }

@@ -25,6 +25,7 @@ use Rattle.flow_report.specs.Text.{Told}
 abbrev pub capped : ℕ → ℕ
 capped n = min n (2 ^ 64 - 1)
 
+-- The process has ended.
 abbrev pub has_ended : Stage → Bool
 has_ended stages.Ended = true
 has_ended stages.Idle = false
@@ -33,6 +34,7 @@ has_ended (stages.Wishing wish) = false
 has_ended (stages.Closing place) = false
 has_ended (stages.Failed cause) = false
 
+-- The process has failed.
 abbrev pub has_failed : Stage → Bool
 has_failed (stages.Failed cause) = true
 has_failed stages.Idle = false
@@ -71,9 +73,11 @@ spelled_if false port = []
 spelled_if true None = []
 spelled_if true (Some port) = spelled port
 
+-- How many inputs a process has.
 abbrev pub inputs_at : Network → ℕ → ℕ
 inputs_at plan p = unwrap_or (option_map (λ x. x.inputs) (slice_get plan.processes p)) 0
 
+-- How many outputs a process has.
 abbrev pub outputs_at : Network → ℕ → ℕ
 outputs_at plan p = unwrap_or (option_map (λ x. x.outputs) (slice_get plan.processes p)) 0
 
@@ -81,9 +85,11 @@ outputs_at plan p = unwrap_or (option_map (λ x. x.outputs) (slice_get plan.proc
 abbrev pub input_text : Network → ℕ → ℕ → List ℕ
 input_text plan p i = spelled_if (nat_lt i (inputs_at plan p)) (input_port plan p i)
 
+-- How an output of a process is spelled.
 abbrev pub output_text : Network → ℕ → ℕ → List ℕ
 output_text plan p o = spelled_if (nat_lt o (outputs_at plan p)) (output_port plan p o)
 
+-- The flat name of a process.
 abbrev pub name_text : Network → ℕ → List ℕ
 name_text plan p = unwrap_or (option_map (λ x. x.name) (slice_get plan.processes p)) []
 
@@ -99,9 +105,11 @@ waits_at plan p (stages.Closing place) = []
 waits_at plan p stages.Ended = []
 waits_at plan p (stages.Failed cause) = []
 
+-- What is told of a process that waits.
 abbrev pub blocked_at : Network → ℕ → Stage → List Blocked
 blocked_at plan p stage = map (λ wait. record { name = name_text plan p; wait = wait }) (waits_at plan p stage)
 
+-- Why a process failed, with its ports by their names.
 abbrev pub cause_at : Network → ℕ → Fail → Cause
 cause_at plan p (fails.Unnested port) = causes.Unnested (output_text plan p port.0)
 cause_at plan p fails.TurnLimit = causes.TurnLimit
@@ -110,6 +118,7 @@ cause_at plan p fails.HandsLimit = causes.HandsLimit
 cause_at plan p fails.TreeDepth = causes.TreeDepth
 cause_at plan p (fails.BracketIn port) = causes.BracketIn (input_text plan p port.0)
 
+-- What is told of a process that failed.
 abbrev pub failed_at : Network → ℕ → Stage → List Failure
 failed_at plan p (stages.Failed cause) = record { name = name_text plan p; cause = cause_at plan p cause } ∷ []
 failed_at plan p stages.Idle = []
@@ -123,6 +132,7 @@ abbrev pub told_from : {X : Type 0} → (ℕ → Stage → List X) → ℕ → L
 told_from tell p [] = []
 told_from tell p (stage ∷ stages) = tell p stage ++ told_from tell (p + 1) stages
 
+-- Where the processes stand.
 abbrev pub stages_of : {K : Type 0} → List (BodyValue K) → List Stage
 stages_of bodies = map (λ b. b.process.stage) bodies
 

@@ -25,6 +25,7 @@ pub record Told : Type 0 where
 abbrev pub line : List ℕ → List ℕ
 line text = text ++ 10 ∷ []
 
+-- A verdict in words.
 abbrev pub verdict_text : Verdict → List ℕ
 verdict_text Finished = codes "finished"
 verdict_text FinishedLeft = codes "finished, packets left"
@@ -32,11 +33,13 @@ verdict_text Deadlock = codes "deadlock"
 verdict_text Failed = codes "failed"
 verdict_text Running = codes "running"
 
+-- What a process waits for, in words.
 abbrev pub wait_text : Wait → List ℕ
 wait_text (Empty port) = codes "empty " ++ port
 wait_text (Full port) = codes "full " ++ port
 wait_text Dormant = codes "dormant"
 
+-- Why a process failed, in words.
 abbrev pub cause_text : Cause → List ℕ
 cause_text (Unnested port) = codes "unnested " ++ port
 cause_text TurnLimit = codes "turn limit"
@@ -45,15 +48,19 @@ cause_text HandsLimit = codes "hands limit"
 cause_text TreeDepth = codes "tree depth"
 cause_text (BracketIn port) = codes "bracket in " ++ port
 
+-- The line of the verdict.
 abbrev pub verdict_line : Verdict → List ℕ
 verdict_line verdict = line (codes "verdict " ++ verdict_text verdict)
 
+-- The line of a process that waits.
 abbrev pub blocked_line : Blocked → List ℕ
 blocked_line b = line (codes "blocked " ++ b.name ++ codes " " ++ wait_text b.wait)
 
+-- The line of a process that failed.
 abbrev pub failed_line : Failure → List ℕ
 failed_line f = line (codes "failed " ++ f.name ++ codes " " ++ cause_text f.cause)
 
+-- The line of the totals.
 abbrev pub total_line : ℕ → ℕ → ℕ → ℕ → List ℕ
 total_line turns made dropped left =
     line (codes "total turns " ++ decimal turns ++ codes " made " ++ decimal made ++ codes " dropped " ++ decimal dropped ++ codes " left " ++ decimal left)

@@ -5,15 +5,19 @@ use Rattle.std.specs.Prelude.{ℕ, ◌+◌, ◌*◌, ◌/◌, ◌%◌, Bool, if�
 abbrev pub held_bit : ℕ
 held_bit = 9223372036854775808
 
+-- The word of a connection that nobody holds: its level, and its open senders above.
 abbrev pub free_word : ℕ → ℕ → ℕ
 free_word level senders = level + senders * 65536
 
+-- The word of a connection, with its held bit.
 abbrev pub packed : ℕ → ℕ → Bool → ℕ
 packed level senders held = if held then free_word level senders + held_bit else free_word level senders
 
+-- The level in a word.
 abbrev pub level_in : ℕ → ℕ
 level_in word = word % 65536
 
+-- The open senders in a word.
 abbrev pub senders_in : ℕ → ℕ
 senders_in word = word / 65536 % 65536
 
@@ -21,8 +25,10 @@ senders_in word = word / 65536 % 65536
 abbrev pub connection_at : ℕ → ℕ → ℕ
 connection_at processes connection = processes + connection
 
+-- The number of the clock word.
 abbrev pub clock_at : ℕ → ℕ → ℕ
 clock_at processes connections = processes + connections
 
+-- The number of the live word.
 abbrev pub live_at : ℕ → ℕ → ℕ
 live_at processes connections = processes + connections + 1

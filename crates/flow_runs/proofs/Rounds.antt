@@ -26,16 +26,16 @@ use Rattle.flow_machine.specs.Values.{BodyValue, NetValue, shown_net, shown_body
 use Rattle.flow_machine.specs.Logs.{Logged, IsLogOf, Remembers, stamps_of, levels_of, turns_made}
 
 -- the start has no pending works
-idle : {K : Type 0} (plan : Plan) (p : ℕ) (xs : List PlanProcess) (parts : List K) (k : ℕ) (z : Process K) → slice_get (processes_at_start plan p xs parts) k ≡ Some z → z.stage ≡ stages.Idle
-idle plan p [] parts k z is = absurd cc
+idle : {K : Type 0} (plan : Plan) (p : ℕ) (xs : List PlanProcess) (components : List K) (k : ℕ) (z : Process K) → slice_get (processes_at_start plan p xs components) k ≡ Some z → z.stage ≡ stages.Idle
+idle plan p [] components k z is = absurd cc
 idle plan p (x ∷ xs) [] k z is = absurd cc
-idle plan p (x ∷ xs) (part ∷ parts) zero z is =
-    let h : process_at_start plan p x part ≡ z = cc in
+idle plan p (x ∷ xs) (component ∷ components) zero z is =
+    let h : process_at_start plan p x component ≡ z = cc in
     sym (ap (λ (y : Process _). y.stage) h)
-idle plan p (x ∷ xs) (part ∷ parts) (suc k) z is = idle plan (p + 1) xs parts k z is
+idle plan p (x ∷ xs) (component ∷ components) (suc k) z is = idle plan (p + 1) xs components k z is
 
-start-closed : {K : Type 0} (plan : Plan) (parts : List K) → IsClosed (start_of plan parts)
-start-closed plan parts p x there = subst IsThoughtStage (sym (idle plan 0 plan.processes parts p x there)) tt
+start-closed : {K : Type 0} (plan : Plan) (components : List K) → IsClosed (start_of plan components)
+start-closed plan components p x there = subst IsThoughtStage (sym (idle plan 0 plan.processes components p x there)) tt
 
 -- so doing them all changes nothing
 works-none : {K : Type 0} (next : K → Held → Answer → Outcome K → Type 0) (s : State K) (works : List ℕ) (t : State K) → IsClosed s → WorksLead next s works t → t ≡ s
@@ -44,8 +44,8 @@ works-none next s (p ∷ ps) t closed lead =
     let work = lead.1 in
     absurd (subst IsThoughtStage work.kept.told (closed p work.before work.kept.there))
 
-pub settled-start : {K : Type 0} (next : K → Held → Answer → Outcome K → Type 0) (plan : Plan) (parts : List K) (t : State K) → SettlesAll next (start_of plan parts) t → t ≡ start_of plan parts
-settled-start next plan parts t all = works-none next (start_of plan parts) all.works t (start-closed plan parts) all.lead
+pub settled-start : {K : Type 0} (next : K → Held → Answer → Outcome K → Type 0) (plan : Plan) (components : List K) (t : State K) → SettlesAll next (start_of plan components) t → t ≡ start_of plan components
+settled-start next plan components t all = works-none next (start_of plan components) all.works t (start-closed plan components) all.lead
 
 -- a schedule keeps the number of processes
 settle-count : {K : Type 0} (next : K → Held → Answer → Outcome K → Type 0) (s : State K) (p : ℕ) (s' : State K) → Settles next s p s' → length s'.kept.processes ≡ length s.kept.processes
@@ -70,18 +70,18 @@ bodies-count net s stands =
     sym (length-map net.bodies shown_body) ∙ ap (λ shows. length shows.bodies) stands ∙ length-shown s.past.dropped 0 s.kept.processes
 
 -- at the start no turn was made
-none-made : {K : Type 0} (plan : Plan) (dropped : ℕ → List ℕ) (p : ℕ) (xs : List PlanProcess) (parts : List K) (bodies : List (BodyValue K))
-    → map shown_body bodies ≡ bodies_from dropped p (processes_at_start plan p xs parts) → sum_by (λ b. b.process.turns) bodies ≡ 0
-none-made plan dropped p [] parts [] is = refl
-none-made plan dropped p [] parts (b ∷ bodies) is = absurd cc
+none-made : {K : Type 0} (plan : Plan) (dropped : ℕ → List ℕ) (p : ℕ) (xs : List PlanProcess) (components : List K) (bodies : List (BodyValue K))
+    → map shown_body bodies ≡ bodies_from dropped p (processes_at_start plan p xs components) → sum_by (λ b. b.process.turns) bodies ≡ 0
+none-made plan dropped p [] components [] is = refl
+none-made plan dropped p [] components (b ∷ bodies) is = absurd cc
 none-made plan dropped p (x ∷ xs) [] [] is = refl
 none-made plan dropped p (x ∷ xs) [] (b ∷ bodies) is = absurd cc
-none-made plan dropped p (x ∷ xs) (part ∷ parts) [] is = absurd cc
-none-made plan dropped p (x ∷ xs) (part ∷ parts) (b ∷ bodies) is =
-    let head : shown_body b ≡ show_body dropped p (process_at_start plan p x part) = cc in
-    let tail : map shown_body bodies ≡ bodies_from dropped (p + 1) (processes_at_start plan (p + 1) xs parts) = cc in
+none-made plan dropped p (x ∷ xs) (component ∷ components) [] is = absurd cc
+none-made plan dropped p (x ∷ xs) (component ∷ components) (b ∷ bodies) is =
+    let head : shown_body b ≡ show_body dropped p (process_at_start plan p x component) = cc in
+    let tail : map shown_body bodies ≡ bodies_from dropped (p + 1) (processes_at_start plan (p + 1) xs components) = cc in
     let turns : b.process.turns ≡ 0 = ap (λ (v : BodyShown _). v.process.turns) head in
-    let rest : sum_by (λ b. b.process.turns) bodies ≡ 0 = none-made plan dropped (p + 1) xs parts bodies tail in
+    let rest : sum_by (λ b. b.process.turns) bodies ≡ 0 = none-made plan dropped (p + 1) xs components bodies tail in
     let sum : sum_by (λ b. b.process.turns) (b ∷ bodies) ≡ b.process.turns + sum_by (λ b. b.process.turns) bodies = sum_by-cons (λ b. b.process.turns) b bodies in
     omega (arith, sum, turns, rest)
 
@@ -94,16 +94,16 @@ same-place (x ∷ xs) (z ∷ ys) zero y same is = (x, refl)
 same-place (x ∷ xs) (z ∷ ys) (suc k) y same is = same-place xs ys k y (omega arith) is
 
 -- what the bodies of a net remember beside nothing are all turns that were made in it
-pub all-logged : {K : Type 0} (plan : Plan) (parts : List K) (old : NetValue K) (log : List Logged) (new : NetValue K) (last : State K)
-    → StandsForOpen (shown_net old) (start_of plan parts)
+pub all-logged : {K : Type 0} (plan : Plan) (components : List K) (old : NetValue K) (log : List Logged) (new : NetValue K) (last : State K)
+    → StandsForOpen (shown_net old) (start_of plan components)
     → ((p : ℕ) (b : BodyValue K) → slice_get old.bodies p ≡ Some b → (b.stamps ≡ []) × (b.levels ≡ []))
     → Remembers (turns_made old) old.bodies log new.bodies → turns_made new ≡ turns_made old + length log
-    → StandsForOpen (shown_net new) last → length last.kept.processes ≡ length (start_of plan parts).kept.processes → IsLogOf log new
-all-logged plan parts old log new last begins unmade remembers total stands count =
-    let none : turns_made old ≡ 0 = none-made plan (λ _. []) 0 plan.processes parts old.bodies (ap (λ shows. shows.bodies) begins) in
+    → StandsForOpen (shown_net new) last → length last.kept.processes ≡ length (start_of plan components).kept.processes → IsLogOf log new
+all-logged plan components old log new last begins unmade remembers total stands count =
+    let none : turns_made old ≡ 0 = none-made plan (λ _. []) 0 plan.processes components old.bodies (ap (λ shows. shows.bodies) begins) in
     record {
-      parts = λ p b' there.
-          let same : length old.bodies ≡ length new.bodies = bodies-count old (start_of plan parts) begins ∙ sym count ∙ sym (bodies-count new last stands) in
+      logs = λ p b' there.
+          let same : length old.bodies ≡ length new.bodies = bodies-count old (start_of plan components) begins ∙ sym count ∙ sym (bodies-count new last stands) in
           let b = same-place old.bodies new.bodies p b' same there in
           let empty = unmade p b.0 b.1 in
           let both = remembers p b.0 b' b.1 there in (
@@ -114,36 +114,36 @@ all-logged plan parts old log new last begins unmade remembers total stands coun
     }
 
 -- the start has as many processes as the plan
-start-count : {K : Type 0} (plan : Plan) (p : ℕ) (xs : List PlanProcess) (parts : List K) → length xs ≡ length parts → length (processes_at_start plan p xs parts) ≡ length xs
-start-count plan p [] parts same = refl
+start-count : {K : Type 0} (plan : Plan) (p : ℕ) (xs : List PlanProcess) (components : List K) → length xs ≡ length components → length (processes_at_start plan p xs components) ≡ length xs
+start-count plan p [] components same = refl
 start-count plan p (x ∷ xs) [] same = absurd (omega (arith, same))
-start-count plan p (x ∷ xs) (part ∷ parts) same = omega (arith, start-count plan (p + 1) xs parts (omega (arith, same)))
+start-count plan p (x ∷ xs) (component ∷ components) same = omega (arith, start-count plan (p + 1) xs components (omega (arith, same)))
 
 module _ {K : Type 0} (shape_of : K → Shape) (uses : K → ℕ → Bool) (ready : K → Held → Answer → Type 0) (next : K → Held → Answer → Outcome K → Type 0) where
   pub round-is-run : KeepsPrefixes shape_of uses ready next → RoundRobinLeads next → RoundsAreRuns shape_of uses ready next
-  round-is-run keeps leads plan parts start net turns seen well begins goes names_turns names_seen =
+  round-is-run keeps leads plan components start net turns seen well begins goes names_turns names_seen =
       let log = goes.0 in
       let by = goes.2 in
-      let states = by.states (start_of plan parts) (Fit-start shape_of uses ready plan parts well) begins.stands in
+      let states = by.states (start_of plan components) (Fit-start shape_of uses ready plan components well) begins.stands in
       let last = states.0 in
-      let settled : states.1.0 ≡ start_of plan parts = settled-start next plan parts states.1.0 states.1.1 in
-      let robin : RoundRobin next (start_of plan parts) (journal_of log) last = subst (λ t. RoundRobin next t (journal_of log) last) settled states.1.2 in
-      let schedule : Leads next (start_of plan parts) (journal_of log) last = leads (start_of plan parts) (journal_of log) last robin in
-      let count = schedule-count next (start_of plan parts) (journal_of log).turns (journal_of log).seen last schedule in
-      let logged : IsLogOf log net = all-logged plan parts start log net last begins.stands begins.unmade by.remembers goes.1 states.3 count in
+      let settled : states.1.0 ≡ start_of plan components = settled-start next plan components states.1.0 states.1.1 in
+      let robin : RoundRobin next (start_of plan components) (journal_of log) last = subst (λ t. RoundRobin next t (journal_of log) last) settled states.1.2 in
+      let schedule : Leads next (start_of plan components) (journal_of log) last = leads (start_of plan components) (journal_of log) last robin in
+      let count = schedule-count next (start_of plan components) (journal_of log).turns (journal_of log).seen last schedule in
+      let logged : IsLogOf log net = all-logged plan components start log net last begins.stands begins.unmade by.remembers goes.1 states.3 count in
       let turns_are : turns ≡ (journal_of log).turns = names_turns log logged in
       let seen_are : seen ≡ (journal_of log).seen = names_seen log logged in
       let journal : Journal = record { turns = turns; seen = seen } in
       let same : journal_of log ≡ journal = rw (turns_are, seen_are) refl in
-      let whole : Leads next (start_of plan parts) journal last = subst (λ j. Leads next (start_of plan parts) j last) same schedule in
+      let whole : Leads next (start_of plan components) journal last = subst (λ j. Leads next (start_of plan components) j last) same schedule in
       record {
         last = last;
         run = record {
-          schedule = record { leads = whole; prefixes = λ front mid prefix. keeps plan parts journal front last mid well prefix };
-          robin = subst (λ j. RoundRobin next (start_of plan parts) j last) same robin;
+          schedule = record { leads = whole; prefixes = λ front mid prefix. keeps plan components journal front last mid well prefix };
+          robin = subst (λ j. RoundRobin next (start_of plan components) j last) same robin;
           quiet = states.1.3;
         };
         stands = states.3;
         fit = states.2;
-        count = count ∙ start-count plan 0 plan.processes parts (sym well.one_each);
+        count = count ∙ start-count plan 0 plan.processes components (sym well.one_each);
       }

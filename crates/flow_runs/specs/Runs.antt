@@ -22,21 +22,21 @@ use Rattle.flow_journal.specs.Journals.{NamesTurns, NamesSeen}
 
 -- The journal is a schedule from the start of the plan with these components, which leads to this last state; after each of its prefixes each packet is
 -- in one place and each connection is in order. (So it is of every run, whoever makes its turns.)
-pub record IsScheduled {K : Type 0} (next : K → Held → Answer → Outcome K → Type 0) (plan : Plan) (parts : List K) (journal : Journal) (last : State K) : Type 0 where
-  pub leads : Leads next (start_of plan parts) journal last
-  pub prefixes : (front : Journal) (mid : State K) → Prefix next (start_of plan parts) journal last front mid → OnePlace mid × InOrder mid
+pub record IsScheduled {K : Type 0} (next : K → Held → Answer → Outcome K → Type 0) (plan : Plan) (components : List K) (journal : Journal) (last : State K) : Type 0 where
+  pub leads : Leads next (start_of plan components) journal last
+  pub prefixes : (front : Journal) (mid : State K) → Prefix next (start_of plan components) journal last front mid → OnePlace mid × InOrder mid
 
 -- A run on one thread to its end: its journal is a schedule, it is the round robin, and after it no process can go on. (Turns of several workers are a
 -- schedule and no round robin, and what is made again from a part of a journal needn't end quiet.)
-pub record IsRun {K : Type 0} (next : K → Held → Answer → Outcome K → Type 0) (plan : Plan) (parts : List K) (journal : Journal) (last : State K) : Type 0 where
-  pub schedule : IsScheduled next plan parts journal last
-  pub robin : RoundRobin next (start_of plan parts) journal last
+pub record IsRun {K : Type 0} (next : K → Held → Answer → Outcome K → Type 0) (plan : Plan) (components : List K) (journal : Journal) (last : State K) : Type 0 where
+  pub schedule : IsScheduled next plan components journal last
+  pub robin : RoundRobin next (start_of plan components) journal last
   pub quiet : Quiet last
 
 -- The net has come out of such a run: it stands for the last state, in which each component still fits its process.
-pub record ComesOfRun {K : Type 0} (shape_of : K → Shape) (uses : K → ℕ → Bool) (ready : K → Held → Answer → Type 0) (next : K → Held → Answer → Outcome K → Type 0) (plan : Plan) (parts : List K) (journal : Journal) (net : NetValue K) : Type 0 where
+pub record ComesOfRun {K : Type 0} (shape_of : K → Shape) (uses : K → ℕ → Bool) (ready : K → Held → Answer → Type 0) (next : K → Held → Answer → Outcome K → Type 0) (plan : Plan) (components : List K) (journal : Journal) (net : NetValue K) : Type 0 where
   pub last : State K
-  pub run : IsRun next plan parts journal last
+  pub run : IsRun next plan components journal last
   pub stands : StandsForOpen (shown_net net) last
   pub fit : Fit shape_of uses ready last
   pub count : length last.kept.processes ≡ length plan.processes
@@ -44,10 +44,10 @@ pub record ComesOfRun {K : Type 0} (shape_of : K → Shape) (uses : K → ℕ �
 -- A net that started from a plan and went round until it was quiet has come out of a run, whose journal its turns and numbers are.
 abbrev pub RoundsAreRuns : {K : Type 0} → (K → Shape) → (K → ℕ → Bool) → (K → Held → Answer → Type 0) → (K → Held → Answer → Outcome K → Type 0) → Type 0
 RoundsAreRuns {K} shape_of uses ready next =
-    (plan : Plan) (parts : List K) (start net : NetValue K) (turns seen : List ℕ)
-    → StartsWell shape_of uses ready plan parts
-    → StartsNet plan parts start
+    (plan : Plan) (components : List K) (start net : NetValue K) (turns seen : List ℕ)
+    → StartsWell shape_of uses ready plan components
+    → StartsNet plan components start
     → Goes shape_of uses ready (round_robin next) start (turns_made start) net (turns_made net)
     → NamesTurns net turns
     → NamesSeen net seen
-    → ComesOfRun shape_of uses ready next plan parts (record { turns = turns; seen = seen }) net
+    → ComesOfRun shape_of uses ready next plan components (record { turns = turns; seen = seen }) net

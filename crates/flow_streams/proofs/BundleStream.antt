@@ -20,7 +20,7 @@ use Rattle.flow_component.proofs.Wished.{port_of, id_in}
 use Rattle.flow_streams.specs.Bundle.{items, deeper, begins, gathers, ends_bundle, bundles, BundleNext, BundleReady, HoldsTwo}
 use Rattle.flow_streams.specs.BundleLaws.{renewed, two-gone, two-gathered}
 use Rattle.flow_streams.specs.declared.bundle.Bundle.{Bundle}
-use Rattle.flow_streams.specs.declared.bundle.Bundle.TheVariants as parts
+use Rattle.flow_streams.specs.declared.bundle.Bundle.TheVariants as components
 use Rattle.flow_streams.specs.Bundled.{Outside, Inside, with_item, around_after, leaves_with, bundled}
 use Rattle.flow_streams.specs.Meanings.{BundleMeaning}
 
@@ -74,9 +74,9 @@ abbrev Rests : Poise Bundle → Type 0
 Rests p = (p.wish ≡ receive_first) ⊎ (p.wish ≡ wishes.Deactivate)
 
 abbrev Stands : Poise Bundle → Phase → Type 0
-Stands p Out = (p.part ≡ parts.Outside) × Rests p × (p.held.packets ≡ [])
-Stands p (In id bundle depth) = (p.part ≡ parts.Inside id depth) × Rests p × (p.held.packets ≡ bundle ∷ [])
-Stands p (Passing t) = (p.part ≡ parts.Outside) × (p.wish ≡ send_first (id_of t)) × (p.held.packets ≡ t ∷ [])
+Stands p Out = (p.component ≡ components.Outside) × Rests p × (p.held.packets ≡ [])
+Stands p (In id bundle depth) = (p.component ≡ components.Inside id depth) × Rests p × (p.held.packets ≡ bundle ∷ [])
+Stands p (Passing t) = (p.component ≡ components.Outside) × (p.wish ≡ send_first (id_of t)) × (p.held.packets ≡ t ∷ [])
 
 abbrev Leads : Phase → List Happening → Type 0
 Leads Out es = sent 0 es ≡ bundled Outside (got 0 es)
@@ -96,54 +96,54 @@ rests-not p port id (inr a) b = let h : wishes.Send (record { 0 = port }) id ≡
 
 -- A packet comes
 
-passes : (es : List Happening) (m q : Poise Bundle) (t : Tree) (held : Held) → held.packets ≡ t ∷ [] → Wishes m.part m.held m.wish ≡ Wishes parts.Outside held (send_first (id_of t)) → Runs BundleReady BundleNext m es q → Rec es q
+passes : (es : List Happening) (m q : Poise Bundle) (t : Tree) (held : Held) → held.packets ≡ t ∷ [] → Wishes m.component m.held m.wish ≡ Wishes components.Outside held (send_first (id_of t)) → Runs BundleReady BundleNext m es q → Rec es q
     → sent 0 es ≡ content t ∷ bundled Outside (got 0 es)
 passes es m q t held alone comes r rec =
-    let part : m.part ≡ parts.Outside = cc in
+    let component : m.component ≡ components.Outside = cc in
     let hands : m.held ≡ held = cc in
     let wish : m.wish ≡ send_first (id_of t) = cc in
-    rec m (Passing t) (part, wish, ap (λ (h : Held). h.packets) hands ∙ alone) r
+    rec m (Passing t) (component, wish, ap (λ (h : Held). h.packets) hands ∙ alone) r
 
-comes-out : (es : List Happening) (m q : Poise Bundle) (t : Tree) (held : Held) (h : HoldsOnly held (id_of t)) (kind : Kind) → held.packets ≡ t ∷ [] → Wishes m.part m.held m.wish ≡ bundles parts.Outside held (id_of t) kind → Runs BundleReady BundleNext m es q → Rec es q
+comes-out : (es : List Happening) (m q : Poise Bundle) (t : Tree) (held : Held) (h : HoldsOnly held (id_of t)) (kind : Kind) → held.packets ≡ t ∷ [] → Wishes m.component m.held m.wish ≡ bundles components.Outside held (id_of t) kind → Runs BundleReady BundleNext m es q → Rec es q
     → text_at held.packets (id_of t) ≡ text_of (content t) → sent 0 es ≡ leaves_with Outside (content t) kind ++ bundled (around_after Outside (content t) kind) (got 0 es)
 comes-out es m q t held h Normal alone comes r rec text = passes es m q t held alone comes r rec
 comes-out es m q t held h Close alone comes r rec text = passes es m q t held alone comes r rec
 comes-out es m q t held h Open alone comes r rec text =
     let new = text_at held.packets (id_of t) in
-    let c : Wishes m.part m.held m.wish ≡ Wishes (parts.Inside (next_id held) 1) (without_packet (with_made held Normal new) (id_of t)) receive_first = comes in
-    let part : m.part ≡ parts.Inside (next_id held) 1 = cc in
+    let c : Wishes m.component m.held m.wish ≡ Wishes (components.Inside (next_id held) 1) (without_packet (with_made held Normal new) (id_of t)) receive_first = comes in
+    let component : m.component ≡ components.Inside (next_id held) 1 = cc in
     let hands : m.held ≡ without_packet (with_made held Normal new) (id_of t) = cc in
     let wish : m.wish ≡ receive_first = cc in
     let one : m.held.packets ≡ packet_of (next_id held) Normal new [] ∷ [] = ap (λ (x : Held). x.packets) hands ∙ renewed held (id_of t) Normal new h in
-    rec m (In (next_id held) (packet_of (next_id held) Normal new []) 1) (part, inl wish, one) r ∙ ap (λ (s : List ℕ). bundled (Inside (packet_of 0 Normal s []) 1) (got 0 es)) text
+    rec m (In (next_id held) (packet_of (next_id held) Normal new []) 1) (component, inl wish, one) r ∙ ap (λ (s : List ℕ). bundled (Inside (packet_of 0 Normal s []) 1) (got 0 es)) text
 
 gathers-in : (es : List Happening) (m q : Poise Bundle) (id depth depth' : ℕ) (u t : Tree) (held : Held) (h : HoldsTwo held id (id_of t)) (b : Bool) → h.first ≡ u → h.second ≡ t
-    → Wishes m.part m.held m.wish ≡ (if b then Fails (parts.Inside id depth) held TreeDepth else Wishes (parts.Inside id depth') (record held { packets = attached held.packets id items (id_of t) }) receive_first) → Runs BundleReady BundleNext m es q → Rec es q
+    → Wishes m.component m.held m.wish ≡ (if b then Fails (components.Inside id depth) held TreeDepth else Wishes (components.Inside id depth') (record held { packets = attached held.packets id items (id_of t) }) receive_first) → Runs BundleReady BundleNext m es q → Rec es q
     → sent 0 es ≡ bundled (Inside (with_item (content u) (content t)) depth') (got 0 es)
 gathers-in es m q id depth depth' u t held h true first second comes r rec = absurd (cc)
 gathers-in es m q id depth depth' u t held h false first second comes r rec =
-    let part : m.part ≡ parts.Inside id depth' = cc in
+    let component : m.component ≡ components.Inside id depth' = cc in
     let hands : m.held ≡ record held { packets = attached held.packets id items (id_of t) } = cc in
     let wish : m.wish ≡ receive_first = cc in
     let one : m.held.packets ≡ with_item u t ∷ [] = ap (λ (x : Held). x.packets) hands ∙ two-gathered held id (id_of t) h ∙ (λ i. with_item (first i) (second i) ∷ []) in
-    rec m (In id (with_item u t) depth') (part, inl wish, one) r ∙ ap (λ (x : Tree). bundled (Inside x depth') (got 0 es)) (item-content u t)
+    rec m (In id (with_item u t) depth') (component, inl wish, one) r ∙ ap (λ (x : Tree). bundled (Inside x depth') (got 0 es)) (item-content u t)
 
-ends-in : (es : List Happening) (m q : Poise Bundle) (id : ℕ) (u t : Tree) (held : Held) (h : HoldsTwo held id (id_of t)) → h.first ≡ u → Wishes m.part m.held m.wish ≡ ends_bundle held id (id_of t) → Runs BundleReady BundleNext m es q → Rec es q
+ends-in : (es : List Happening) (m q : Poise Bundle) (id : ℕ) (u t : Tree) (held : Held) (h : HoldsTwo held id (id_of t)) → h.first ≡ u → Wishes m.component m.held m.wish ≡ ends_bundle held id (id_of t) → Runs BundleReady BundleNext m es q → Rec es q
     → sent 0 es ≡ content u ∷ bundled Outside (got 0 es)
 ends-in es m q id u t held h first comes r rec =
-    let part : m.part ≡ parts.Outside = cc in
+    let component : m.component ≡ components.Outside = cc in
     let hands : m.held ≡ without_packet held (id_of t) = cc in
     let wish : m.wish ≡ send_first id = cc in
     let named : id ≡ id_of u = sym h.first_named ∙ ap id_of first in
-    rec m (Passing u) (part, wish ∙ ap send_first named, ap (λ (x : Held). x.packets) hands ∙ two-gone held id (id_of t) h ∙ ap (λ (x : Tree). x ∷ []) first) r
+    rec m (Passing u) (component, wish ∙ ap send_first named, ap (λ (x : Held). x.packets) hands ∙ two-gone held id (id_of t) h ∙ ap (λ (x : Tree). x ∷ []) first) r
 
-comes-in : (es : List Happening) (m q : Poise Bundle) (id depth : ℕ) (u t : Tree) (held : Held) (h : HoldsTwo held id (id_of t)) (kind : Kind) → h.first ≡ u → h.second ≡ t → Wishes m.part m.held m.wish ≡ bundles (parts.Inside id depth) held (id_of t) kind
+comes-in : (es : List Happening) (m q : Poise Bundle) (id depth : ℕ) (u t : Tree) (held : Held) (h : HoldsTwo held id (id_of t)) (kind : Kind) → h.first ≡ u → h.second ≡ t → Wishes m.component m.held m.wish ≡ bundles (components.Inside id depth) held (id_of t) kind
     → Runs BundleReady BundleNext m es q → Rec es q → sent 0 es ≡ leaves_with (Inside (content u) depth) (content t) kind ++ bundled (around_after (Inside (content u) depth) (content t) kind) (got 0 es)
 comes-in es m q id depth u t held h Normal first second comes r rec = gathers-in es m q id depth depth u t held h (height_at held.packets (id_of t) == 16) first second comes r rec
 comes-in es m q id depth u t held h Open first second comes r rec = gathers-in es m q id depth (deeper depth) u t held h (height_at held.packets (id_of t) == 16) first second comes r rec
 comes-in es m q id depth u t held h Close first second comes r rec = by (nat_lt 1 depth) comes
   where
-    by : (b : Bool) → Wishes m.part m.held m.wish ≡ (if b then gathers (parts.Inside id depth) held id (id_of t) (depth - 1) else ends_bundle held id (id_of t))
+    by : (b : Bool) → Wishes m.component m.held m.wish ≡ (if b then gathers (components.Inside id depth) held id (id_of t) (depth - 1) else ends_bundle held id (id_of t))
         → sent 0 es ≡ (if b then [] else content u ∷ []) ++ bundled (if b then Inside (with_item (content u) (content t)) (depth - 1) else Outside) (got 0 es)
     by true c = gathers-in es m q id depth (depth - 1) u t held h (height_at held.packets (id_of t) == 16) first second c r rec
     by false c = ends-in es m q id u t held h first c r rec
@@ -156,51 +156,51 @@ Step p e m = Steps BundleReady BundleNext p e m
 
 step : (es : List Happening) (p m q : Poise Bundle) (e : Happening) (phase : Phase) → Stands p phase → Step p e m → Runs BundleReady BundleNext m es q → Rec es q → Leads phase (e ∷ es)
 step es p m q Started Out st s r rec =
-    let c : Wishes m.part m.held m.wish ≡ Wishes p.part s.held receive_first = s.comes_to in
-    let part : m.part ≡ p.part = cc in
+    let c : Wishes m.component m.held m.wish ≡ Wishes p.component s.held receive_first = s.comes_to in
+    let component : m.component ≡ p.component = cc in
     let hands : m.held ≡ s.held = cc in
     let wish : m.wish ≡ receive_first = cc in
-    rec m Out (part ∙ st.0, inl wish, ap (λ (x : Held). x.packets) (hands ∙ s.grants.1) ∙ st.2) r
+    rec m Out (component ∙ st.0, inl wish, ap (λ (x : Held). x.packets) (hands ∙ s.grants.1) ∙ st.2) r
 step es p m q (Received port t) Out st s r rec =
     let port_is = rests-port p port st.1 s.grants.0 in
     let z : nat_eq 0 port ≡ true = grind (arith, nat_tests) in
-    let h : HoldsOnly s.held (id_of t) = subst (λ (part : Bundle). Rattle.flow_streams.specs.Bundle.HasCome part s.held (id_of t)) st.0 s.is_ready in
+    let h : HoldsOnly s.held (id_of t) = subst (λ (component : Bundle). Rattle.flow_streams.specs.Bundle.HasCome component s.held (id_of t)) st.0 s.is_ready in
     let same : t ≡ h.packet = HoldsOnly-end s.held p.held.packets t (Comes-packets p.held t s.held s.grants.1) h in
     let alone : s.held.packets ≡ t ∷ [] = h.holds ∙ ap (λ (x : Tree). x ∷ []) (sym same) in
     let kind : kind_at s.held.packets (id_of t) ≡ kind_of (content t) = HoldsOnly-kind s.held (id_of t) h ∙ ap kind_of (sym same) ∙ sym (content-kind t) in
     let text : text_at s.held.packets (id_of t) ≡ text_of (content t) = HoldsOnly-text s.held (id_of t) h ∙ ap text_of (sym same) ∙ sym (content-text t) in
-    let c : Wishes m.part m.held m.wish ≡ bundles parts.Outside s.held (id_of t) (kind_of (content t)) = s.comes_to ∙ (λ i. bundles (st.0 i) s.held (id_of t) (kind i)) in
+    let c : Wishes m.component m.held m.wish ≡ bundles components.Outside s.held (id_of t) (kind_of (content t)) = s.comes_to ∙ (λ i. bundles (st.0 i) s.held (id_of t) (kind i)) in
     rw z (comes-out es m q t s.held h (kind_of (content t)) alone c r rec text)
 step es p m q (Ended port) Out st s r rec =
-    let c : Wishes m.part m.held m.wish ≡ Wishes p.part s.held wishes.Deactivate = s.comes_to in
-    let part : m.part ≡ p.part = cc in
+    let c : Wishes m.component m.held m.wish ≡ Wishes p.component s.held wishes.Deactivate = s.comes_to in
+    let component : m.component ≡ p.component = cc in
     let hands : m.held ≡ s.held = cc in
     let wish : m.wish ≡ wishes.Deactivate = cc in
-    rec m Out (part ∙ st.0, inr wish, ap (λ (x : Held). x.packets) (hands ∙ s.grants.1) ∙ st.2) r
+    rec m Out (component ∙ st.0, inr wish, ap (λ (x : Held). x.packets) (hands ∙ s.grants.1) ∙ st.2) r
 step es p m q (Sent port t) Out st s r rec = absurd (rests-not p port (id_of t) st.1 s.grants.0)
 step es p m q (Learned port level) Out st s r rec = absurd s.is_ready
 step es p m q Started (In id u depth) st s r rec =
-    let c : Wishes m.part m.held m.wish ≡ Wishes p.part s.held receive_first = s.comes_to in
-    let part : m.part ≡ p.part = cc in
+    let c : Wishes m.component m.held m.wish ≡ Wishes p.component s.held receive_first = s.comes_to in
+    let component : m.component ≡ p.component = cc in
     let hands : m.held ≡ s.held = cc in
     let wish : m.wish ≡ receive_first = cc in
-    rec m (In id u depth) (part ∙ st.0, inl wish, ap (λ (x : Held). x.packets) (hands ∙ s.grants.1) ∙ st.2) r
+    rec m (In id u depth) (component ∙ st.0, inl wish, ap (λ (x : Held). x.packets) (hands ∙ s.grants.1) ∙ st.2) r
 step es p m q (Received port t) (In id u depth) st s r rec =
     let port_is = rests-port p port st.1 s.grants.0 in
     let z : nat_eq 0 port ≡ true = grind (arith, nat_tests) in
-    let h : HoldsTwo s.held id (id_of t) = subst (λ (part : Bundle). Rattle.flow_streams.specs.Bundle.HasCome part s.held (id_of t)) st.0 s.is_ready in
+    let h : HoldsTwo s.held id (id_of t) = subst (λ (component : Bundle). Rattle.flow_streams.specs.Bundle.HasCome component s.held (id_of t)) st.0 s.is_ready in
     let both : s.held.packets ≡ u ∷ t ∷ [] = Comes-packets p.held t s.held s.grants.1 ∙ ap (λ ts. ts ++ t ∷ []) st.2 in
     let are = two-are s.held u t id h both in
     let kind : kind_at s.held.packets (id_of t) ≡ kind_of (content t) =
     (λ i. kind_at (both i) (id_of t)) ∙ ap Rattle.flow_packet.specs.Hands.kind_in (Rattle.flow_streams.specs.BundleLaws.second-found u t (λ e. h.apart (sym h.first_named ∙ ap id_of are.0 ∙ e))) ∙ sym (content-kind t) in
-    let c : Wishes m.part m.held m.wish ≡ bundles (parts.Inside id depth) s.held (id_of t) (kind_of (content t)) = s.comes_to ∙ (λ i. bundles (st.0 i) s.held (id_of t) (kind i)) in
+    let c : Wishes m.component m.held m.wish ≡ bundles (components.Inside id depth) s.held (id_of t) (kind_of (content t)) = s.comes_to ∙ (λ i. bundles (st.0 i) s.held (id_of t) (kind i)) in
     rw z (comes-in es m q id depth u t s.held h (kind_of (content t)) are.0 are.1 c r rec)
 step es p m q (Ended port) (In id u depth) st s r rec =
-    let c : Wishes m.part m.held m.wish ≡ Wishes p.part s.held wishes.Deactivate = s.comes_to in
-    let part : m.part ≡ p.part = cc in
+    let c : Wishes m.component m.held m.wish ≡ Wishes p.component s.held wishes.Deactivate = s.comes_to in
+    let component : m.component ≡ p.component = cc in
     let hands : m.held ≡ s.held = cc in
     let wish : m.wish ≡ wishes.Deactivate = cc in
-    rec m (In id u depth) (part ∙ st.0, inr wish, ap (λ (x : Held). x.packets) (hands ∙ s.grants.1) ∙ st.2) r
+    rec m (In id u depth) (component ∙ st.0, inr wish, ap (λ (x : Held). x.packets) (hands ∙ s.grants.1) ∙ st.2) r
 step es p m q (Sent port t) (In id u depth) st s r rec = absurd (rests-not p port (id_of t) st.1 s.grants.0)
 step es p m q (Learned port level) (In id u depth) st s r rec = absurd s.is_ready
 step es p m q Started (Passing u) st s r rec = absurd (let h : wishes.Deactivate ≡ send_first (id_of u) = sym s.grants.0 ∙ st.1 in cc)
@@ -214,12 +214,12 @@ step es p m q (Sent port t) (Passing u) st s r rec =
     let z : nat_eq 0 port ≡ true = grind (arith, nat_tests) in
     let found : Some t ≡ Some u = sym s.grants.1 ∙ ap (packet_at p.held.packets) id_is ∙ one-alone p.held.packets u st.2 in
     let same : t ≡ u = cc in
-    let c : Wishes m.part m.held m.wish ≡ Wishes p.part s.held receive_first = s.comes_to in
-    let part : m.part ≡ p.part = cc in
+    let c : Wishes m.component m.held m.wish ≡ Wishes p.component s.held receive_first = s.comes_to in
+    let component : m.component ≡ p.component = cc in
     let hands : m.held ≡ s.held = cc in
     let wish : m.wish ≡ receive_first = cc in
     let gone : m.held.packets ≡ [] = ap (λ (x : Held). x.packets) (hands ∙ s.grants.2) ∙ (λ i. without (st.2 i) (id_is i)) ∙ Rattle.flow_component.proofs.Streams.gone-alone (u ∷ []) u refl in
-    let l = rec m Out (part ∙ st.0, inl wish, gone) r in
+    let l = rec m Out (component ∙ st.0, inl wish, gone) r in
     rw z (λ i. content (same i) ∷ l i)
 
 ends : (p q : Poise Bundle) (phase : Phase) → Stands p phase → q ≡ p → q.wish ≡ wishes.Deactivate → Leads phase []
@@ -232,4 +232,4 @@ bundle_run [] q d p phase st r = ends p q phase st r d
 bundle_run (e ∷ es) q d p phase st r = step es p r.0 q e phase st r.1 r.2 (bundle_run es q d)
 
 pub bundle_meaning : BundleMeaning
-bundle_meaning told run = bundle_run told run.last run.idle (fresh parts.Outside run.maker) Out (refl, inr refl, refl) run.runs
+bundle_meaning told run = bundle_run told run.last run.idle (fresh components.Outside run.maker) Out (refl, inr refl, refl) run.runs

@@ -76,11 +76,11 @@ abbrev nobody : ℕ → Type 0
 nobody f = ⊥
 
 abbrev Stands : List ℕ → ℕ → List Happening → Poise CollateState → Phase → Type 0
-Stands fields n before p (Fills st e) = (p.wish ≡ receive_from e) × (p.part ≡ state_of fields n st (Filling e)) × (p.held.packets ≡ st.packets) × Based n st × (e < n) × Rest n before st.owners (λ f. e ≤ f) × ((f : ℕ) → e ≤ f → NotIn f st.owners) × (st.opened ≡ false)
-Stands fields n before p (Receives st e) = (p.wish ≡ receive_from e) × (p.part ≡ state_of fields n st (Refilling e)) × (p.held.packets ≡ st.packets) × Based n st × (e < n) × Rest n before st.owners (λ f. f ≡ e) × NotIn e st.owners × (st.opened ≡ true)
-Stands fields n before p (Passes st e t) = Sending p t st.packets × (p.part ≡ state_of fields n st (Refilling e)) × Based n st × (e < n) × Rest n before st.owners (λ f. f ≡ e) × NotIn e st.owners × (st.opened ≡ true)
-Stands fields n before p (Turns st c o i b) = Sending p b st.packets × (p.part ≡ state_of fields n st (Turning c o i)) × Based n st × (i < length st.owners) × Rest n before st.owners nobody × (st.opened ≡ true)
-Stands fields n before p (Leaves st c b) = Sending p b st.packets × (p.part ≡ state_of fields n st (Leaving c)) × Based n st × (st.owners ≡ []) × Rest n before st.owners nobody
+Stands fields n before p (Fills st e) = (p.wish ≡ receive_from e) × (p.component ≡ state_of fields n st (Filling e)) × (p.held.packets ≡ st.packets) × Based n st × (e < n) × Rest n before st.owners (λ f. e ≤ f) × ((f : ℕ) → e ≤ f → NotIn f st.owners) × (st.opened ≡ false)
+Stands fields n before p (Receives st e) = (p.wish ≡ receive_from e) × (p.component ≡ state_of fields n st (Refilling e)) × (p.held.packets ≡ st.packets) × Based n st × (e < n) × Rest n before st.owners (λ f. f ≡ e) × NotIn e st.owners × (st.opened ≡ true)
+Stands fields n before p (Passes st e t) = Sending p t st.packets × (p.component ≡ state_of fields n st (Refilling e)) × Based n st × (e < n) × Rest n before st.owners (λ f. f ≡ e) × NotIn e st.owners × (st.opened ≡ true)
+Stands fields n before p (Turns st c o i b) = Sending p b st.packets × (p.component ≡ state_of fields n st (Turning c o i)) × Based n st × (i < length st.owners) × Rest n before st.owners nobody × (st.opened ≡ true)
+Stands fields n before p (Leaves st c b) = Sending p b st.packets × (p.component ≡ state_of fields n st (Leaving c)) × Based n st × (st.owners ≡ []) × Rest n before st.owners nobody
 Stands fields n before p Over = (p.wish ≡ wishes.Deactivate) × (before ≢ []) × ((f : ℕ) → f < n → HeardEnd f before)
 
 abbrev streams : Store → List Happening → ℕ → List Tree
@@ -120,7 +120,7 @@ Rec fields n es q = (before : List Happening) (p : Poise CollateState) (phase : 
 
 -- A poise that comes of an outcome.
 abbrev Comes_of : Poise CollateState → Outcome CollateState → Type 0
-Comes_of m outcome = Wishes m.part m.held m.wish ≡ outcome
+Comes_of m outcome = Wishes m.component m.held m.wish ≡ outcome
 
 -- What a run makes that goes on from a choice, with nothing awaited.
 abbrev From : ℕ → List Happening → Store → List Tree → List Happening → Type 0
@@ -249,7 +249,7 @@ module _ (fields : List ℕ) (n : ℕ) (some : 1 ≤ length fields) (es : List H
         let st = store owners h opened last in
         let e = slice_index owners i in
         let t = packet_there h.packets i in
-        let part : m.part ≡ state_of fields n (removed st i) (Refilling e) = cc in
+        let component : m.component ≡ state_of fields n (removed st i) (Refilling e) = cc in
         let held : m.held ≡ h = cc in
         let wish : m.wish ≡ send_first (id_of t) = cc in
         let lt : i < length h.packets = (let x = b.each in omega arith) in
@@ -263,7 +263,7 @@ module _ (fields : List ℕ) (n : ℕ) (some : 1 ≤ length fields) (es : List H
         let based : Based n (removed st i) = record { each = (let x = b.each in omega arith); distinct = Distinct-remove owners i b.distinct; inputs = inputs-remove n owners i b.inputs } in
         let makes = rec before m (Passes (removed st i) e t) (
           sending,
-          part,
+          component,
           based,
           inputs-at n owners i b.inputs l,
           (λ f lf nf other. r f lf (NotIn-left f owners i l nf (λ x. other (sym x))) (λ x. x)),
@@ -276,10 +276,10 @@ module _ (fields : List ℕ) (n : ℕ) (some : 1 ≤ length fields) (es : List H
         → From n before (store owners h opened last) (packet_of 0 kind text [] ∷ closes c ++ (opens fields o last ++ rest_due fields n (store owners h opened last) i es)) es
     bracket-sent c o i kind text is l r op =
         let st = store owners h opened last in
-        let part : m.part ≡ state_of fields n st (Turning c o i) = cc in
+        let component : m.component ≡ state_of fields n st (Turning c o i) = cc in
         let held : m.held ≡ with_made h kind text = cc in
         let wish : m.wish ≡ send_first (next_id h) = cc in
-        rec before m (Turns st c o i (packet_of (next_id h) kind text [])) (made kind text held wish, part, b, l, r, op) run w
+        rec before m (Turns st c o i (packet_of (next_id h) kind text [])) (made kind text held wish, component, b, l, r, op) run w
 
     turns-made : (c o i : ℕ) → Comes_of m (turns (state_of fields n (store owners h opened last) place) h c o i) → i < length owners → Rest n before owners nobody → opened ≡ true
         → From n before (store owners h opened last) (closes c ++ (opens fields o last ++ rest_due fields n (store owners h opened last) i es)) es
@@ -306,10 +306,10 @@ module _ (fields : List ℕ) (n : ℕ) (some : 1 ≤ length fields) (es : List H
     leaves-made (suc c) is none r begun =
         let st = store owners h opened last in
         let is' : Comes_of m (sends_bracket (state_of fields n st place) h (Leaving c) Close []) = is ∙ leaves-close (state_of fields n st place) h c in
-        let part : m.part ≡ state_of fields n st (Leaving c) = cc in
+        let component : m.component ≡ state_of fields n st (Leaving c) = cc in
         let held : m.held ≡ with_made h Close [] = cc in
         let wish : m.wish ≡ send_first (next_id h) = cc in
-        rec before m (Leaves st c (packet_of (next_id h) Close [] [])) (made Close [] held wish, part, b, none, r) run w
+        rec before m (Leaves st c (packet_of (next_id h) Close [] [])) (made Close [] held wish, component, b, none, r) run w
 
   module _ (owners : List ℕ) (opened : Bool) (last : List ℕ) (place : CollatePlace) (b : Based n (store owners h opened last)) where
     turned-to : (i levels : ℕ) → Comes_of m (turns_to (state_of fields n (store owners h opened last) place) h i levels) → i < length owners → Rest n before owners nobody
@@ -394,10 +394,10 @@ module _ (fields : List ℕ) (n : ℕ) (some : 1 ≤ length fields) (es : List H
     filled true t is r later begun =
         let st = store owners h opened last in
         let l : e + 1 < n = grind (arith, nat_tests) in
-        let part : m.part ≡ state_of fields n st (Filling (e + 1)) = cc in
+        let component : m.component ≡ state_of fields n st (Filling (e + 1)) = cc in
         let held : m.held ≡ h = cc in
         let wish : m.wish ≡ receive_from (e + 1) = cc in
-        rec before m (Fills st (e + 1)) (wish, part, ap (λ (u : Held). u.packets) held, b, l, r, later, op) run w
+        rec before m (Fills st (e + 1)) (wish, component, ap (λ (u : Held). u.packets) held, b, l, r, later, op) run w
     filled false t is r later begun =
         let l : n ≤ e + 1 = grind (arith, nat_tests) in
         let made = chosen-made owners opened last (Filling e) b (first_of (full fields) owners h.packets) refl is (λ f k nf other. r f k nf (λ u. omega arith)) begun in
@@ -561,10 +561,10 @@ module _ (fields : List ℕ) (n : ℕ) (some : 1 ≤ length fields) (es before :
       let ev = Sent port u in
       let one = is-sent p t st.packets port u h k.0 s.grants.0 s.grants.1 s.grants.2 in
       let comes : Comes_of m (Wishes (state_of fields n st (Refilling e)) h (receive_from e)) = s.comes_to ∙ ap (λ (x : CollateState). sent_on x h x.place) k.1 in
-      let part : m.part ≡ state_of fields n st (Refilling e) = cc in
+      let component : m.component ≡ state_of fields n st (Refilling e) = cc in
       let held : m.held ≡ h = cc in
       let wish : m.wish ≡ receive_from e = cc in
-      let r = rec (before ++ ev ∷ []) m (Receives st e) (wish, part, ap (λ (x : Held). x.packets) held ∙ one.left, k.2, k.3, (λ f l out other. heard-later f before ev (k.4 f l out other)), k.5, k.6) run w in
+      let r = rec (before ++ ev ∷ []) m (Receives st e) (wish, component, ap (λ (x : Held). x.packets) held ∙ one.left, k.2, k.3, (λ f l out other. heard-later f before ev (k.4 f l out other)), k.5, k.6) run w in
       record {
         all = sent-here port u t es (bracketed fields (Some st.last) (merged fields n st es)) one.first one.same r.all;
         none = r.none;
@@ -655,14 +655,14 @@ empty_store = record { owners = []; packets = []; opened = false; last = [] }
 first-steps : (fields : List ℕ) (n : ℕ) → 1 ≤ length fields → 1 ≤ n → (e : Happening) (es : List Happening) (p m q : Poise CollateState) → p ≡ fresh (fresh_collate fields n) p.held.maker → Step p e m → Run m es q → q.wish ≡ wishes.Deactivate → Wakes n [] (e ∷ es)
     → (sent 0 (e ∷ es) ≡ collation fields (listed 0 n (λ i. got i (e ∷ es)))) × (starts (e ∷ es) ≤ 1) × (e ∷ es ≢ [] → (i : ℕ) → i < n → HeardEnd i (e ∷ es))
 first-steps fields n some one Started es p m q is s run d w =
-    let comes : Comes_of m (Wishes (fresh_collate fields n) s.held (receive_from 0)) = s.comes_to ∙ ap (λ (u : Poise CollateState). Wishes u.part s.held (receive_from (element_of u.part.place))) is in
-    let part : m.part ≡ fresh_collate fields n = cc in
+    let comes : Comes_of m (Wishes (fresh_collate fields n) s.held (receive_from 0)) = s.comes_to ∙ ap (λ (u : Poise CollateState). Wishes u.component s.held (receive_from (element_of u.component.place))) is in
+    let component : m.component ≡ fresh_collate fields n = cc in
     let held : m.held ≡ s.held = cc in
     let wish : m.wish ≡ receive_from 0 = cc in
     let packets : m.held.packets ≡ [] = ap (λ (h : Held). h.packets) (held ∙ s.grants.1) ∙ ap (λ (u : Poise CollateState). u.held.packets) is in
     let r = collate_run fields n some es q d (Started ∷ []) m (Fills empty_store 0) (
       wish,
-      part,
+      component,
       packets,
       record { each = refl; distinct = tt; inputs = tt },
       one,

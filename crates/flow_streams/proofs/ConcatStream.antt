@@ -50,8 +50,8 @@ abbrev at_input : ℕ → ℕ → ConcatState
 at_input k r = record { count = k + r + 1; at = k }
 
 abbrev Stands : ℕ → ℕ → List Happening → Poise ConcatState → Phase → Type 0
-Stands k r before p Receiving = (p.wish ≡ receive_at k) × (p.part ≡ at_input k r) × ((i : ℕ) → i < k → HeardEnd i before)
-Stands k r before p (Passing t) = (p.wish ≡ send_first (id_of t)) × (p.part ≡ at_input k r) × (p.held.packets ≡ t ∷ []) × ((i : ℕ) → i < k → HeardEnd i before)
+Stands k r before p Receiving = (p.wish ≡ receive_at k) × (p.component ≡ at_input k r) × ((i : ℕ) → i < k → HeardEnd i before)
+Stands k r before p (Passing t) = (p.wish ≡ send_first (id_of t)) × (p.component ≡ at_input k r) × (p.held.packets ≡ t ∷ []) × ((i : ℕ) → i < k → HeardEnd i before)
 Stands k r before p Over = (p.wish ≡ wishes.Deactivate) × (before ≢ []) × ((i : ℕ) → i < k + r + 1 → HeardEnd i before)
 
 record Makes (k r : ℕ) (owed : List Tree) (es : List Happening) : Type 0 where
@@ -72,15 +72,15 @@ abbrev Rec : ℕ → List Happening → Poise ConcatState → Type 0
 Rec n es q = (k r : ℕ) → n ≡ k + r + 1 → (before : List Happening) (p : Poise ConcatState) (phase : Phase) → Stands k r before p phase → Runs ConcatReady ConcatNext p es q → Wakes n before es → Leads k r phase es
 
 -- the end of an input
-after-end : (n k r : ℕ) → n ≡ k + r + 1 → (es before : List Happening) (p m q : Poise ConcatState) (held : Held) (b : Bool) → nat_lt (k + 1) (k + r + 1) ≡ b → ((i : ℕ) → i < k → HeardEnd i before) → Wishes m.part m.held m.wish ≡ ends b (at_input k r) held
+after-end : (n k r : ℕ) → n ≡ k + r + 1 → (es before : List Happening) (p m q : Poise ConcatState) (held : Held) (b : Bool) → nat_lt (k + 1) (k + r + 1) ≡ b → ((i : ℕ) → i < k → HeardEnd i before) → Wishes m.component m.held m.wish ≡ ends b (at_input k r) held
     → Runs ConcatReady ConcatNext m es q → Wakes n (before ++ Ended k ∷ []) es → Rec n es q → Makes k r [] (Ended k ∷ es)
 after-end n k zero c es before p m q held true t heard comes r w rec = absurd (let l : k + 1 < k + 0 + 1 = grind (arith, nat_tests) in omega arith)
 after-end n k (suc r') c es before p m q held true t heard comes r w rec =
     let c' : n ≡ k + 1 + r' + 1 = omega arith in
     let same : k + suc r' + 1 ≡ k + 1 + r' + 1 = omega arith in
-    let part : m.part ≡ record { count = k + suc r' + 1; at = k + 1 } = cc in
+    let component : m.component ≡ record { count = k + suc r' + 1; at = k + 1 } = cc in
     let wish : m.wish ≡ receive_at (k + 1) = cc in
-    let made : Makes (k + 1) r' [] es = rec (k + 1) r' c' (before ++ Ended k ∷ []) m Receiving (wish, part ∙ (λ i. record { count = same i; at = k + 1 }), λ i l. heard-upto i l) r w in
+    let made : Makes (k + 1) r' [] es = rec (k + 1) r' c' (before ++ Ended k ∷ []) m Receiving (wish, component ∙ (λ i. record { count = same i; at = k + 1 }), λ i l. heard-upto i l) r w in
     record {
       all = made.all ∙ (λ i. sym (made.none k (omega arith)) i ++ sym (got_from-ended (k + 1) (suc r') k es) i);
       none = λ i l. made.none i (omega arith);
@@ -133,11 +133,11 @@ step n k r c es before p m q (Received port t) Receiving st s run w rec =
     let one = s.is_ready.1 in
     let same : t ≡ one.packet = HoldsOnly-end s.held p.held.packets t (Comes-packets p.held t s.held s.grants.1) one in
     let alone : s.held.packets ≡ t ∷ [] = one.holds ∙ ap (λ (u : Tree). u ∷ []) (sym same) in
-    let comes : Wishes m.part m.held m.wish ≡ Wishes p.part s.held (send_first (id_of t)) = s.comes_to in
-    let part : m.part ≡ p.part = cc in
+    let comes : Wishes m.component m.held m.wish ≡ Wishes p.component s.held (send_first (id_of t)) = s.comes_to in
+    let component : m.component ≡ p.component = cc in
     let hands : m.held ≡ s.held = cc in
     let wish : m.wish ≡ send_first (id_of t) = cc in
-    let made : Makes k r (content t ∷ []) es = rec k r c (before ++ Received port t ∷ []) m (Passing t) (wish, part ∙ st.1, ap (λ (h : Held). h.packets) hands ∙ alone, λ i l. heard-later i before (Received port t) (st.2 i l)) run w.1 in
+    let made : Makes k r (content t ∷ []) es = rec k r c (before ++ Received port t ∷ []) m (Passing t) (wish, component ∙ st.1, ap (λ (h : Held). h.packets) hands ∙ alone, λ i l. heard-later i before (Received port t) (st.2 i l)) run w.1 in
     record {
       all = made.all ∙ rw z (ap (λ ts. content t ∷ got k es ++ ts) (sym (got_from-skip (k + 1) r port t es (omega arith))));
       none = λ i l. got-skip i port t es (λ e. omega arith) ∙ made.none i l;
@@ -147,7 +147,7 @@ step n k r c es before p m q (Received port t) Receiving st s run w rec =
 step n k r c es before p m q (Ended port) Receiving st s run w rec =
     let h : wishes.Receive (record { 0 = port }) ≡ receive_at k = sym s.grants.0 ∙ st.0 in
     let port_is : port ≡ k = ap port_of h in
-    let comes : Wishes m.part m.held m.wish ≡ ends (nat_lt (k + 1) (k + r + 1)) (at_input k r) s.held = s.comes_to ∙ ap (λ (state : ConcatState). ends (nat_lt (state.at + 1) state.count) state s.held) st.1 in
+    let comes : Wishes m.component m.held m.wish ≡ ends (nat_lt (k + 1) (k + r + 1)) (at_input k r) s.held = s.comes_to ∙ ap (λ (state : ConcatState). ends (nat_lt (state.at + 1) state.count) state s.held) st.1 in
     let w' : Wakes n (before ++ Ended k ∷ []) es = subst (λ (i : ℕ). Wakes n (before ++ Ended i ∷ []) es) port_is w.1 in
     subst (λ (i : ℕ). Makes k r [] (Ended i ∷ es)) (sym port_is) (after-end n k r c es before p m q s.held (nat_lt (k + 1) (k + r + 1)) refl st.2 comes run w' rec)
 step n k r c es before p m q (Sent port t) Receiving st s run w rec = absurd (let h : wishes.Send (record { 0 = port }) (id_of t) ≡ receive_at k = sym s.grants.0 ∙ st.0 in cc)
@@ -162,10 +162,10 @@ step n k r c es before p m q (Sent port t) (Passing u) st s run w rec =
     let z : nat_eq 0 port ≡ true = grind (arith, nat_tests) in
     let found : Some t ≡ Some u = sym s.grants.1 ∙ ap (packet_at p.held.packets) id_is ∙ one-alone p.held.packets u st.2 in
     let same : t ≡ u = cc in
-    let comes : Wishes m.part m.held m.wish ≡ Wishes (at_input k r) s.held (receive_at k) = s.comes_to ∙ ap (λ (state : ConcatState). Wishes state s.held (receive_at state.at)) st.1 in
-    let part : m.part ≡ at_input k r = cc in
+    let comes : Wishes m.component m.held m.wish ≡ Wishes (at_input k r) s.held (receive_at k) = s.comes_to ∙ ap (λ (state : ConcatState). Wishes state s.held (receive_at state.at)) st.1 in
+    let component : m.component ≡ at_input k r = cc in
     let wish : m.wish ≡ receive_at k = cc in
-    let made : Makes k r [] es = rec k r c (before ++ Sent port t ∷ []) m Receiving (wish, part, λ i l. heard-later i before (Sent port t) (st.3 i l)) run w.1 in
+    let made : Makes k r [] es = rec k r c (before ++ Sent port t ∷ []) m Receiving (wish, component, λ i l. heard-later i before (Sent port t) (st.3 i l)) run w.1 in
     record {
       all = rw z (λ i. content (same i) ∷ (made.all ∙ sym (got_from-sent k (suc r) port t es)) i);
       none = λ i l. made.none i l;
@@ -192,11 +192,11 @@ concat_run n (e ∷ es) q d k r c before p phase st run w = step n k r c es befo
 begun : (n : ℕ) (e : Happening) (es : List Happening) (p m q : Poise ConcatState) → p ≡ fresh (fresh_concat (n + 1)) p.held.maker → Step p e m → Runs ConcatReady ConcatNext m es q → q.wish ≡ wishes.Deactivate → Wakes (n + 1) [] (e ∷ es)
     → (sent 0 (e ∷ es) ≡ got_from 0 (n + 1) (e ∷ es)) × (starts (e ∷ es) ≤ 1) × (e ∷ es ≢ [] → (i : ℕ) → i ≤ n → HeardEnd i (e ∷ es))
 begun n Started es p m q is s r d w =
-    let comes : Wishes m.part m.held m.wish ≡ Wishes (fresh_concat (n + 1)) s.held (receive_at 0) = s.comes_to ∙ ap (λ (u : Poise ConcatState). Wishes u.part s.held (receive_at u.part.at)) is in
-    let part : m.part ≡ fresh_concat (n + 1) = cc in
+    let comes : Wishes m.component m.held m.wish ≡ Wishes (fresh_concat (n + 1)) s.held (receive_at 0) = s.comes_to ∙ ap (λ (u : Poise ConcatState). Wishes u.component s.held (receive_at u.component.at)) is in
+    let component : m.component ≡ fresh_concat (n + 1) = cc in
     let wish : m.wish ≡ receive_at 0 = cc in
     let c : n + 1 ≡ 0 + n + 1 = omega arith in
-    let made : Makes 0 n [] es = concat_run (n + 1) es q d 0 n c (Started ∷ []) m Receiving (wish, part ∙ (λ i. record { count = c i; at = 0 }), λ i l. absurd (omega arith)) r w.1 in
+    let made : Makes 0 n [] es = concat_run (n + 1) es q d 0 n c (Started ∷ []) m Receiving (wish, component ∙ (λ i. record { count = c i; at = 0 }), λ i l. absurd (omega arith)) r w.1 in
     let one : suc n ≡ n + 1 = omega arith in (
       made.all ∙ ap (λ (j : ℕ). got_from 0 j es) one ∙ sym (got_from-started 0 (n + 1) es),
       (let o = made.once in omega arith),

@@ -38,14 +38,14 @@ module _ (n o : ℕ) where
   owes held place wishes.Deactivate = []
 
   abbrev owes_after : Outcome CopyState → List Tree
-  owes_after (Wishes part held wish) = owes held part.place wish
-  owes_after (Fails part held cause) = []
+  owes_after (Wishes component held wish) = owes held component.place wish
+  owes_after (Fails component held cause) = []
 
   abbrev owed : Poise CopyState → List Tree
-  owed p = owes p.held p.part.place p.wish
+  owed p = owes p.held p.component.place p.wish
 
   abbrev Good : Poise CopyState → Type 0
-  Good p = (p.part.count ≡ n) × IsAllowed (record { inputs = 1; outputs = n }) (λ port. nat_lt port n) p.held p.wish
+  Good p = (p.component.count ≡ n) × IsAllowed (record { inputs = 1; outputs = n }) (λ port. nat_lt port n) p.held p.wish
 
   -- the packet is to be sent to the outputs from this one on
   copied : (state : CopyState) (held : Held) (id output : ℕ) (h : HoldsOnly held id) → state.count ≡ n → o < n → output < n
@@ -101,8 +101,8 @@ module _ (n o : ℕ) where
 
   stays : (p : Poise CopyState) (e : Happening) (q : Poise CopyState) → Good p → Steps CopyReady CopyNext p e q → Good q
   stays p e q g s =
-      let lawful = copy_obeys p.part s.held (answer_of e) (Wishes q.part q.held q.wish) s.is_ready s.comes_to in
-      let count : q.part.count ≡ p.part.count = ap (λ (out : Outcome CopyState). (Rattle.flow_component.specs.Laws.part_after out).count) s.comes_to ∙ next-count p.part s.held (answer_of e) in
+      let lawful = copy_obeys p.component s.held (answer_of e) (Wishes q.component q.held q.wish) s.is_ready s.comes_to in
+      let count : q.component.count ≡ p.component.count = ap (λ (out : Outcome CopyState). (Rattle.flow_component.specs.Laws.component_after out).count) s.comes_to ∙ next-count p.component s.held (answer_of e) in
       (count ∙ g.0, subst (λ (k : ℕ). IsAllowed (record { inputs = 1; outputs = k }) (λ port. nat_lt port k) q.held q.wish) g.0 lawful.1)
 
   step : (p : Poise CopyState) (e : Happening) (q : Poise CopyState) → o < n → Good p → Steps CopyReady CopyNext p e q → owed p ++ flat_map shared (content_got 0 e) ≡ content_sent o e ++ owed q
@@ -117,15 +117,15 @@ module _ (n o : ℕ) where
       let e : t ≡ h.packet = HoldsOnly-end s.held p.held.packets t (Comes-packets p.held t s.held s.grants.1) h in
       let some : 0 < n = omega (arith, below) in
       let first : nat_le 0 o ≡ true = grind (arith, nat_tests) in
-      let b : owed q ≡ shared (content t) = ap owes_after s.comes_to ∙ copied p.part s.held (id_of t) 0 h g.0 below some ∙ (rw (first, ← e) refl) in
+      let b : owed q ≡ shared (content t) = ap owes_after s.comes_to ∙ copied p.component s.held (id_of t) 0 h g.0 below some ∙ (rw (first, ← e) refl) in
       rw (a, b, z) (append-nil _)
   step p (Ended port) q below g s =
       let a : owed p ≡ [] = rw s.grants.0 refl in
       let b : owed q ≡ [] = ap owes_after s.comes_to in
       rw (a, b) refl
   step p (Sent port t) q below g s =
-      let a : owed p ≡ content_sent o (Sent port t) ++ left (without_packet p.held (id_of t)) p.part.place = rw (s.grants.0, s.grants.1) refl in
-      let b : owed q ≡ left (without_packet p.held (id_of t)) p.part.place = ap owes_after s.comes_to ∙ gone-on p.part s.held p.part.place s.is_ready.1 g.0 below ∙ ap (λ (h : Held). left h p.part.place) s.grants.2 in
+      let a : owed p ≡ content_sent o (Sent port t) ++ left (without_packet p.held (id_of t)) p.component.place = rw (s.grants.0, s.grants.1) refl in
+      let b : owed q ≡ left (without_packet p.held (id_of t)) p.component.place = ap owes_after s.comes_to ∙ gone-on p.component s.held p.component.place s.is_ready.1 g.0 below ∙ ap (λ (h : Held). left h p.component.place) s.grants.2 in
       rw (a, b) (append-nil _)
   step p (Learned port level) q below g s = absurd s.is_ready
 

@@ -58,20 +58,20 @@ record Has (p : Poise LoadState) (t : Tree) : Type 0 where
   holds : p.held.packets ≡ t ∷ []
 
 abbrev Stands : ℕ → Poise LoadState → Phase → Type 0
-Stands n p Resting = (p.part.count ≡ n) × ((p.wish ≡ receive_first) ⊎ (p.wish ≡ wishes.Deactivate))
-Stands n p (Weighing t) = (p.part.count ≡ n) × Has p t × ((output : ℕ) × (p.wish ≡ level_at output)) × (p.part.depth ≡ depth_after (kind_of (content t)) 0)
-Stands n p (Passing t) = (p.part.count ≡ n) × Has p t × (p.wish ≡ send_at p.part.chosen (id_of t)) × (p.part.chosen < n)
+Stands n p Resting = (p.component.count ≡ n) × ((p.wish ≡ receive_first) ⊎ (p.wish ≡ wishes.Deactivate))
+Stands n p (Weighing t) = (p.component.count ≡ n) × Has p t × ((output : ℕ) × (p.wish ≡ level_at output)) × (p.component.depth ≡ depth_after (kind_of (content t)) 0)
+Stands n p (Passing t) = (p.component.count ≡ n) × Has p t × (p.wish ≡ send_at p.component.chosen (id_of t)) × (p.component.chosen < n)
 
 abbrev contents : List Routed → List Tree
 contents routes = map (λ routed. routed.content) routes
 
 -- what is to come is a split of what is in the hands and of what is got
 abbrev Leads : ℕ → Poise LoadState → Phase → List Happening → Type 0
-Leads n p Resting es = (contents (routes_of es) ≡ got 0 es) × AreWithin n (routes_of es) × StaysWhole p.part.depth p.part.chosen (routes_of es)
+Leads n p Resting es = (contents (routes_of es) ≡ got 0 es) × AreWithin n (routes_of es) × StaysWhole p.component.depth p.component.chosen (routes_of es)
 Leads n p (Weighing t) es = (contents (routes_of es) ≡ content t ∷ got 0 es) × AreWithin n (routes_of es) × ((before : ℕ) → StaysWhole 0 before (routes_of es))
 Leads n p (Passing t) es =
     (contents (routes_of es) ≡ content t ∷ got 0 es) × AreWithin n (routes_of es)
-    × ((depth before : ℕ) → p.part.depth ≡ depth_after (kind_of (content t)) depth → (depth ≡ 0) ⊎ (p.part.chosen ≡ before) → StaysWhole depth before (routes_of es))
+    × ((depth before : ℕ) → p.component.depth ≡ depth_after (kind_of (content t)) depth → (depth ≡ 0) ⊎ (p.component.chosen ≡ before) → StaysWhole depth before (routes_of es))
 
 abbrev Step : Poise LoadState → Happening → Poise LoadState → Type 0
 Step p e m = Steps LoadReady LoadNext p e m
@@ -81,57 +81,57 @@ abbrev Rec : ℕ → List Happening → Poise LoadState → Type 0
 Rec n es q = (p : Poise LoadState) (phase : Phase) → Stands n p phase → Runs LoadReady LoadNext p es q → Leads n p phase es
 
 -- it rests as before
-same-rest : (n : ℕ) (es : List Happening) (p m q : Poise LoadState) → p.part.count ≡ n → m.part ≡ p.part → (m.wish ≡ receive_first) ⊎ (m.wish ≡ wishes.Deactivate) → Runs LoadReady LoadNext m es q → Rec n es q → Leads n p Resting es
-same-rest n es p m q count part wish r rec =
-    let l = rec m Resting (ap (λ (s : LoadState). s.count) part ∙ count, wish) r in
-    (l.0, l.1, subst (λ (s : LoadState). StaysWhole s.depth s.chosen (routes_of es)) part l.2)
+same-rest : (n : ℕ) (es : List Happening) (p m q : Poise LoadState) → p.component.count ≡ n → m.component ≡ p.component → (m.wish ≡ receive_first) ⊎ (m.wish ≡ wishes.Deactivate) → Runs LoadReady LoadNext m es q → Rec n es q → Leads n p Resting es
+same-rest n es p m q count component wish r rec =
+    let l = rec m Resting (ap (λ (s : LoadState). s.count) component ∙ count, wish) r in
+    (l.0, l.1, subst (λ (s : LoadState). StaysWhole s.depth s.chosen (routes_of es)) component l.2)
 
 -- a packet came outside of all brackets, or inside
-comes-on : (n : ℕ) (es : List Happening) (p m q : Poise LoadState) (t : Tree) (held : Held) (kind : Kind) (depth : ℕ) → p.part.count ≡ n → p.part.chosen < n → held.packets ≡ t ∷ [] → kind ≡ kind_of (content t) → p.part.depth ≡ depth
-    → Wishes m.part m.held m.wish ≡ comes_at (record p.part { depth = depth_after kind p.part.depth }) held (id_of t) depth → Runs LoadReady LoadNext m es q → Rec n es q
-    → (contents (routes_of es) ≡ content t ∷ got 0 es) × AreWithin n (routes_of es) × StaysWhole p.part.depth p.part.chosen (routes_of es)
+comes-on : (n : ℕ) (es : List Happening) (p m q : Poise LoadState) (t : Tree) (held : Held) (kind : Kind) (depth : ℕ) → p.component.count ≡ n → p.component.chosen < n → held.packets ≡ t ∷ [] → kind ≡ kind_of (content t) → p.component.depth ≡ depth
+    → Wishes m.component m.held m.wish ≡ comes_at (record p.component { depth = depth_after kind p.component.depth }) held (id_of t) depth → Runs LoadReady LoadNext m es q → Rec n es q
+    → (contents (routes_of es) ≡ content t ∷ got 0 es) × AreWithin n (routes_of es) × StaysWhole p.component.depth p.component.chosen (routes_of es)
 comes-on n es p m q t held kind zero count below alone k d comes r rec =
-    let part : m.part ≡ record p.part { depth = depth_after kind p.part.depth; place = Asking (id_of t) 0 no_level } = cc in
+    let component : m.component ≡ record p.component { depth = depth_after kind p.component.depth; place = Asking (id_of t) 0 no_level } = cc in
     let hands : m.held ≡ held = cc in
     let wish : m.wish ≡ level_at 0 = cc in
     let has : Has m t = record { holds = ap (λ (h : Held). h.packets) hands ∙ alone } in
-    let deep : m.part.depth ≡ depth_after (kind_of (content t)) 0 = ap (λ (s : LoadState). s.depth) part ∙ (λ i. depth_after (k i) (d i)) in
-    let l = rec m (Weighing t) (ap (λ (s : LoadState). s.count) part ∙ count, has, (0, wish), deep) r in
-    (l.0, l.1, subst (λ (z : ℕ). StaysWhole z p.part.chosen (routes_of es)) (sym d) (l.2 p.part.chosen))
+    let deep : m.component.depth ≡ depth_after (kind_of (content t)) 0 = ap (λ (s : LoadState). s.depth) component ∙ (λ i. depth_after (k i) (d i)) in
+    let l = rec m (Weighing t) (ap (λ (s : LoadState). s.count) component ∙ count, has, (0, wish), deep) r in
+    (l.0, l.1, subst (λ (z : ℕ). StaysWhole z p.component.chosen (routes_of es)) (sym d) (l.2 p.component.chosen))
 comes-on n es p m q t held kind (suc outer) count below alone k d comes r rec =
-    let part : m.part ≡ record p.part { depth = depth_after kind p.part.depth } = cc in
+    let component : m.component ≡ record p.component { depth = depth_after kind p.component.depth } = cc in
     let hands : m.held ≡ held = cc in
-    let wish : m.wish ≡ send_at p.part.chosen (id_of t) = cc in
+    let wish : m.wish ≡ send_at p.component.chosen (id_of t) = cc in
     let has : Has m t = record { holds = ap (λ (h : Held). h.packets) hands ∙ alone } in
-    let same : m.part.chosen ≡ p.part.chosen = ap (λ (s : LoadState). s.chosen) part in
-    let deep : m.part.depth ≡ depth_after (kind_of (content t)) p.part.depth = ap (λ (s : LoadState). s.depth) part ∙ ap (λ (c : Kind). depth_after c p.part.depth) k in
-    let l = rec m (Passing t) (ap (λ (s : LoadState). s.count) part ∙ count, has, wish ∙ ap (λ (c : ℕ). send_at c (id_of t)) (sym same), subst (λ (c : ℕ). c < n) (sym same) below) r in
-    (l.0, l.1, l.2 p.part.depth p.part.chosen deep (inr same))
+    let same : m.component.chosen ≡ p.component.chosen = ap (λ (s : LoadState). s.chosen) component in
+    let deep : m.component.depth ≡ depth_after (kind_of (content t)) p.component.depth = ap (λ (s : LoadState). s.depth) component ∙ ap (λ (c : Kind). depth_after c p.component.depth) k in
+    let l = rec m (Passing t) (ap (λ (s : LoadState). s.count) component ∙ count, has, wish ∙ ap (λ (c : ℕ). send_at c (id_of t)) (sym same), subst (λ (c : ℕ). c < n) (sym same) below) r in
+    (l.0, l.1, l.2 p.component.depth p.component.chosen deep (inr same))
 
 -- the next output is asked, or the packet is sent to the chosen one
 asks-more : (n : ℕ) (es : List Happening) (m q : Poise LoadState) (t : Tree) (state : LoadState) (held : Held) (output least : ℕ) (b : Bool) → state.count ≡ n → state.chosen < n → held.packets ≡ t ∷ [] → state.depth ≡ depth_after (kind_of (content t)) 0
-    → Wishes m.part m.held m.wish ≡ (if b then Wishes (record state { place = Asking (id_of t) (output + 1) least }) held (level_at (output + 1)) else Wishes (record state { place = Waiting }) held (send_at state.chosen (id_of t)))
+    → Wishes m.component m.held m.wish ≡ (if b then Wishes (record state { place = Asking (id_of t) (output + 1) least }) held (level_at (output + 1)) else Wishes (record state { place = Waiting }) held (send_at state.chosen (id_of t)))
     → Runs LoadReady LoadNext m es q → Rec n es q
     → (contents (routes_of es) ≡ content t ∷ got 0 es) × AreWithin n (routes_of es) × ((before : ℕ) → StaysWhole 0 before (routes_of es))
 asks-more n es m q t state held output least true count below alone d comes r rec =
-    let part : m.part ≡ record state { place = Asking (id_of t) (output + 1) least } = cc in
+    let component : m.component ≡ record state { place = Asking (id_of t) (output + 1) least } = cc in
     let hands : m.held ≡ held = cc in
     let wish : m.wish ≡ level_at (output + 1) = cc in
     let has : Has m t = record { holds = ap (λ (h : Held). h.packets) hands ∙ alone } in
-    rec m (Weighing t) (ap (λ (s : LoadState). s.count) part ∙ count, has, (output + 1, wish), ap (λ (s : LoadState). s.depth) part ∙ d) r
+    rec m (Weighing t) (ap (λ (s : LoadState). s.count) component ∙ count, has, (output + 1, wish), ap (λ (s : LoadState). s.depth) component ∙ d) r
 asks-more n es m q t state held output least false count below alone d comes r rec =
-    let part : m.part ≡ record state { place = Waiting } = cc in
+    let component : m.component ≡ record state { place = Waiting } = cc in
     let hands : m.held ≡ held = cc in
     let wish : m.wish ≡ send_at state.chosen (id_of t) = cc in
     let has : Has m t = record { holds = ap (λ (h : Held). h.packets) hands ∙ alone } in
-    let same : m.part.chosen ≡ state.chosen = ap (λ (s : LoadState). s.chosen) part in
-    let l = rec m (Passing t) (ap (λ (s : LoadState). s.count) part ∙ count, has, wish ∙ ap (λ (c : ℕ). send_at c (id_of t)) (sym same), subst (λ (c : ℕ). c < n) (sym same) below) r in
-    (l.0, l.1, λ before. l.2 0 before (ap (λ (s : LoadState). s.depth) part ∙ d) (inl refl))
+    let same : m.component.chosen ≡ state.chosen = ap (λ (s : LoadState). s.chosen) component in
+    let l = rec m (Passing t) (ap (λ (s : LoadState). s.count) component ∙ count, has, wish ∙ ap (λ (c : ℕ). send_at c (id_of t)) (sym same), subst (λ (c : ℕ). c < n) (sym same) below) r in
+    (l.0, l.1, λ before. l.2 0 before (ap (λ (s : LoadState). s.depth) component ∙ d) (inl refl))
 
 -- a level was learned
 weighs-on : (n : ℕ) (es : List Happening) (m q : Poise LoadState) (t : Tree) (state : LoadState) (held : Held) (output least level : ℕ) (b : Bool) → state.count ≡ n → state.chosen < n → output < n → held.packets ≡ t ∷ []
     → state.depth ≡ depth_after (kind_of (content t)) 0
-    → Wishes m.part m.held m.wish ≡ (if b then asks_on (record state { chosen = output }) held (id_of t) output level else asks_on state held (id_of t) output least) → Runs LoadReady LoadNext m es q → Rec n es q
+    → Wishes m.component m.held m.wish ≡ (if b then asks_on (record state { chosen = output }) held (id_of t) output level else asks_on state held (id_of t) output least) → Runs LoadReady LoadNext m es q → Rec n es q
     → (contents (routes_of es) ≡ content t ∷ got 0 es) × AreWithin n (routes_of es) × ((before : ℕ) → StaysWhole 0 before (routes_of es))
 weighs-on n es m q t state held output least level true count below within alone d comes r rec =
     asks-more n es m q t (record state { chosen = output }) held output level (nat_lt (output + 1) state.count) count within alone d comes r rec
@@ -139,7 +139,7 @@ weighs-on n es m q t state held output least level false count below within alon
     asks-more n es m q t state held output least (nat_lt (output + 1) state.count) count below alone d comes r rec
 
 learns-on : (n : ℕ) (es : List Happening) (m q : Poise LoadState) (t : Tree) (state : LoadState) (held : Held) (place : LoadPlace) (level : ℕ) → state.count ≡ n → state.chosen < n → Rattle.flow_streams.specs.LoadBalance.IsAsking state held place
-    → held.packets ≡ t ∷ [] → state.depth ≡ depth_after (kind_of (content t)) 0 → Wishes m.part m.held m.wish ≡ learns state held place level → Runs LoadReady LoadNext m es q → Rec n es q
+    → held.packets ≡ t ∷ [] → state.depth ≡ depth_after (kind_of (content t)) 0 → Wishes m.component m.held m.wish ≡ learns state held place level → Runs LoadReady LoadNext m es q → Rec n es q
     → (contents (routes_of es) ≡ content t ∷ got 0 es) × AreWithin n (routes_of es) × ((before : ℕ) → StaysWhole 0 before (routes_of es))
 learns-on n es m q t state held Waiting level count below asking alone d comes r rec = absurd asking
 learns-on n es m q t state held (Asking id output least) level count below asking alone d comes r rec =
@@ -163,9 +163,9 @@ rests-port w port (inr a) b = absurd (let h : wishes.Receive (record { 0 = port 
 
 step : (n : ℕ) (es : List Happening) (p m q : Poise LoadState) (e : Happening) (phase : Phase) → Stands n p phase → Step p e m → Runs LoadReady LoadNext m es q → Rec n es q → Leads n p phase (e ∷ es)
 step n es p m q Started Resting st s r rec =
-    let part : m.part ≡ p.part = (let c : Wishes m.part m.held m.wish ≡ Wishes p.part s.held receive_first = s.comes_to in cc) in
-    let wish : m.wish ≡ receive_first = (let c : Wishes m.part m.held m.wish ≡ Wishes p.part s.held receive_first = s.comes_to in cc) in
-    same-rest n es p m q st.0 part (inl wish) r rec
+    let component : m.component ≡ p.component = (let c : Wishes m.component m.held m.wish ≡ Wishes p.component s.held receive_first = s.comes_to in cc) in
+    let wish : m.wish ≡ receive_first = (let c : Wishes m.component m.held m.wish ≡ Wishes p.component s.held receive_first = s.comes_to in cc) in
+    same-rest n es p m q st.0 component (inl wish) r rec
 step n es p m q (Received port t) Resting st s r rec =
     let port_is : port ≡ 0 = rests-port p.wish port st.1 s.grants.0 in
     let z : nat_eq 0 port ≡ true = grind (arith, nat_tests) in
@@ -173,12 +173,12 @@ step n es p m q (Received port t) Resting st s r rec =
     let same : t ≡ one.packet = HoldsOnly-end s.held p.held.packets t (Comes-packets p.held t s.held s.grants.1) one in
     let alone : s.held.packets ≡ t ∷ [] = one.holds ∙ ap (λ (u : Tree). u ∷ []) (sym same) in
     let kind : kind_at s.held.packets (id_of t) ≡ kind_of (content t) = HoldsOnly-kind s.held (id_of t) one ∙ ap kind_of (sym same) ∙ sym (content-kind t) in
-    let l = comes-on n es p m q t s.held (kind_at s.held.packets (id_of t)) p.part.depth st.0 (subst (λ (k : ℕ). p.part.chosen < k) st.0 s.is_ready.0) alone kind refl s.comes_to r rec in
+    let l = comes-on n es p m q t s.held (kind_at s.held.packets (id_of t)) p.component.depth st.0 (subst (λ (k : ℕ). p.component.chosen < k) st.0 s.is_ready.0) alone kind refl s.comes_to r rec in
     (rw z l.0, l.1, l.2)
 step n es p m q (Ended port) Resting st s r rec =
-    let part : m.part ≡ p.part = (let c : Wishes m.part m.held m.wish ≡ Wishes p.part s.held wishes.Deactivate = s.comes_to in cc) in
-    let wish : m.wish ≡ wishes.Deactivate = (let c : Wishes m.part m.held m.wish ≡ Wishes p.part s.held wishes.Deactivate = s.comes_to in cc) in
-    same-rest n es p m q st.0 part (inr wish) r rec
+    let component : m.component ≡ p.component = (let c : Wishes m.component m.held m.wish ≡ Wishes p.component s.held wishes.Deactivate = s.comes_to in cc) in
+    let wish : m.wish ≡ wishes.Deactivate = (let c : Wishes m.component m.held m.wish ≡ Wishes p.component s.held wishes.Deactivate = s.comes_to in cc) in
+    same-rest n es p m q st.0 component (inr wish) r rec
 step n es p m q (Sent port t) Resting st s r rec = absurd (rests p.wish st.1 (record { 0 = port }) (id_of t) s.grants.0)
 step n es p m q (Learned port level) Resting st s r rec = absurd (rests-level p.wish st.1 (record { 0 = port }) s.grants.0)
 step n es p m q Started (Weighing u) st s r rec = absurd (let h : wishes.Deactivate ≡ level_at st.2.0 = sym s.grants.0 ∙ st.2.1 in cc)
@@ -187,35 +187,35 @@ step n es p m q (Ended port) (Weighing u) st s r rec = absurd (let h : wishes.Re
 step n es p m q (Sent port t) (Weighing u) st s r rec = absurd (let h : wishes.Send (record { 0 = port }) (id_of t) ≡ level_at st.2.0 = sym s.grants.0 ∙ st.2.1 in cc)
 step n es p m q (Learned port level) (Weighing u) st s r rec =
     let alone : s.held.packets ≡ u ∷ [] = ap (λ (h : Held). h.packets) s.grants.1 ∙ st.1.holds in
-    learns-on n es m q u p.part s.held p.part.place level st.0 (subst (λ (k : ℕ). p.part.chosen < k) st.0 s.is_ready.0) s.is_ready.1 alone st.3 s.comes_to r rec
-step n es p m q Started (Passing u) st s r rec = absurd (let h : wishes.Deactivate ≡ send_at p.part.chosen (id_of u) = sym s.grants.0 ∙ st.2 in cc)
-step n es p m q (Received port t) (Passing u) st s r rec = absurd (let h : wishes.Receive (record { 0 = port }) ≡ send_at p.part.chosen (id_of u) = sym s.grants.0 ∙ st.2 in cc)
-step n es p m q (Ended port) (Passing u) st s r rec = absurd (let h : wishes.Receive (record { 0 = port }) ≡ send_at p.part.chosen (id_of u) = sym s.grants.0 ∙ st.2 in cc)
-step n es p m q (Learned port level) (Passing u) st s r rec = absurd (let h : wishes.Level (record { 0 = port }) ≡ send_at p.part.chosen (id_of u) = sym s.grants.0 ∙ st.2 in cc)
+    learns-on n es m q u p.component s.held p.component.place level st.0 (subst (λ (k : ℕ). p.component.chosen < k) st.0 s.is_ready.0) s.is_ready.1 alone st.3 s.comes_to r rec
+step n es p m q Started (Passing u) st s r rec = absurd (let h : wishes.Deactivate ≡ send_at p.component.chosen (id_of u) = sym s.grants.0 ∙ st.2 in cc)
+step n es p m q (Received port t) (Passing u) st s r rec = absurd (let h : wishes.Receive (record { 0 = port }) ≡ send_at p.component.chosen (id_of u) = sym s.grants.0 ∙ st.2 in cc)
+step n es p m q (Ended port) (Passing u) st s r rec = absurd (let h : wishes.Receive (record { 0 = port }) ≡ send_at p.component.chosen (id_of u) = sym s.grants.0 ∙ st.2 in cc)
+step n es p m q (Learned port level) (Passing u) st s r rec = absurd (let h : wishes.Level (record { 0 = port }) ≡ send_at p.component.chosen (id_of u) = sym s.grants.0 ∙ st.2 in cc)
 step n es p m q (Sent port t) (Passing u) st s r rec =
-    let h : wishes.Send (record { 0 = port }) (id_of t) ≡ send_at p.part.chosen (id_of u) = sym s.grants.0 ∙ st.2 in
-    let port_is : port ≡ p.part.chosen = ap port_of h in
+    let h : wishes.Send (record { 0 = port }) (id_of t) ≡ send_at p.component.chosen (id_of u) = sym s.grants.0 ∙ st.2 in
+    let port_is : port ≡ p.component.chosen = ap port_of h in
     let id_is : id_of t ≡ id_of u = ap id_in h in
     let found : Some t ≡ Some u = sym s.grants.1 ∙ ap (packet_at p.held.packets) id_is ∙ Rattle.flow_component.proofs.Streams.one-alone p.held.packets u st.1.holds in
     let same : t ≡ u = cc in
-    let c : Wishes m.part m.held m.wish ≡ Wishes p.part s.held receive_first = s.comes_to in
-    let part : m.part ≡ p.part = cc in
+    let c : Wishes m.component m.held m.wish ≡ Wishes p.component s.held receive_first = s.comes_to in
+    let component : m.component ≡ p.component = cc in
     let wish : m.wish ≡ receive_first = cc in
-    let l = rec m Resting (ap (λ (k : LoadState). k.count) part ∙ st.0, inl wish) r in
-    let whole : StaysWhole p.part.depth p.part.chosen (routes_of es) = subst (λ (k : LoadState). StaysWhole k.depth k.chosen (routes_of es)) part l.2 in (
+    let l = rec m Resting (ap (λ (k : LoadState). k.count) component ∙ st.0, inl wish) r in
+    let whole : StaysWhole p.component.depth p.component.chosen (routes_of es) = subst (λ (k : LoadState). StaysWhole k.depth k.chosen (routes_of es)) component l.2 in (
       (λ i. content (same i) ∷ l.0 i),
       (subst (λ (k : ℕ). k < n) (sym port_is) st.3, l.1),
       λ depth before d w. (
         elim w as (λ _. (depth ≡ 0) ⊎ (port ≡ before)) [ inl none ↦ inl none | inr at ↦ inr (port_is ∙ at) ],
         subst (λ (k : ℕ). StaysWhole (depth_after (kind_of (content t)) depth) k (routes_of es)) (sym port_is)
-            (subst (λ (k : ℕ). StaysWhole k p.part.chosen (routes_of es)) (d ∙ ap (λ (x : Tree). depth_after (kind_of (content x)) depth) (sym same)) whole),
+            (subst (λ (k : ℕ). StaysWhole k p.component.chosen (routes_of es)) (d ∙ ap (λ (x : Tree). depth_after (kind_of (content x)) depth) (sym same)) whole),
       ),
     )
 
 ends : (n : ℕ) (p q : Poise LoadState) (phase : Phase) → Stands n p phase → q ≡ p → q.wish ≡ wishes.Deactivate → Leads n p phase []
 ends n p q Resting st r d = (refl, tt, tt)
 ends n p q (Weighing u) st r d = absurd (let h : level_at st.2.0 ≡ wishes.Deactivate = sym st.2.1 ∙ ap (λ (k : Poise LoadState). k.wish) (sym r) ∙ d in cc)
-ends n p q (Passing u) st r d = absurd (let h : send_at p.part.chosen (id_of u) ≡ wishes.Deactivate = sym st.2 ∙ ap (λ (k : Poise LoadState). k.wish) (sym r) ∙ d in cc)
+ends n p q (Passing u) st r d = absurd (let h : send_at p.component.chosen (id_of u) ≡ wishes.Deactivate = sym st.2 ∙ ap (λ (k : Poise LoadState). k.wish) (sym r) ∙ d in cc)
 
 load_run : (n : ℕ) (es : List Happening) (q : Poise LoadState) → q.wish ≡ wishes.Deactivate → Rec n es q
 load_run n [] q d p phase st r = ends n p q phase st r d

@@ -38,14 +38,14 @@ module _ {K : Type 0} where
 
   step : (p : Poise K) (e : Happening) (q : Poise K) → Good p → Step p e q → Next p e q
   step p Started q g s =
-      let c : Wishes q.part q.held q.wish ≡ Wishes p.part s.held receive_first = s.comes_to in
+      let c : Wishes q.component q.held q.wish ≡ Wishes p.component s.held receive_first = s.comes_to in
       let held : q.held ≡ s.held = cc in
       let wish : q.wish ≡ receive_first = cc in
       let old : p.held.packets ≡ [] = rw s.grants.0 at g.1 in
       let none : q.held.packets ≡ [] = ap (λ (h : Held). h.packets) (held ∙ s.grants.1) ∙ old in
       (rw wish none, rw (old, none) refl)
   step p (Received port t) q g s =
-      let c : Wishes q.part q.held q.wish ≡ Wishes p.part s.held (send_first (id_of t)) = s.comes_to in
+      let c : Wishes q.component q.held q.wish ≡ Wishes p.component s.held (send_first (id_of t)) = s.comes_to in
       let held : q.held ≡ s.held = cc in
       let wish : q.wish ≡ send_first (id_of t) = cc in
       let l : port < 1 = rw s.grants.0 at g.0 in
@@ -54,14 +54,14 @@ module _ {K : Type 0} where
       let alone : q.held.packets ≡ t ∷ [] = ap (λ (h : Held). h.packets) held ∙ Comes-packets p.held t s.held s.grants.1 ∙ ap (λ ts. ts ++ t ∷ []) old in
       (rw wish (t, alone, refl), rw (old, alone, z) refl)
   step p (Ended port) q g s =
-      let c : Wishes q.part q.held q.wish ≡ Wishes p.part s.held wishes.Deactivate = s.comes_to in
+      let c : Wishes q.component q.held q.wish ≡ Wishes p.component s.held wishes.Deactivate = s.comes_to in
       let held : q.held ≡ s.held = cc in
       let wish : q.wish ≡ wishes.Deactivate = cc in
       let old : p.held.packets ≡ [] = rw s.grants.0 at g.1 in
       let none : q.held.packets ≡ [] = ap (λ (h : Held). h.packets) (held ∙ s.grants.1) ∙ old in
       (rw wish none, rw (old, none) refl)
   step p (Sent port t) q g s =
-      let c : Wishes q.part q.held q.wish ≡ Wishes p.part s.held receive_first = s.comes_to in
+      let c : Wishes q.component q.held q.wish ≡ Wishes p.component s.held receive_first = s.comes_to in
       let held : q.held ≡ s.held = cc in
       let wish : q.wish ≡ receive_first = cc in
       let z : nat_eq 0 port ≡ true = port_zero port (rw s.grants.0 at g.0).0 in
@@ -77,8 +77,8 @@ module _ {K : Type 0} where
   kept p e q g s = (stays-allowed (λ (_ : K). IsAtHand) PassthruNext one_to_one uses_first passthru_obeys p e q s, (step p e q g s).0)
 
   pub passthru_meaning : PassthruMeaning K
-  passthru_meaning part told run =
-      let p = fresh part run.maker in
+  passthru_meaning component told run =
+      let p = fresh component run.maker in
       let e = owed-run (λ (_ : K). IsAtHand) PassthruNext Good (λ t. t ∷ []) owed (λ p e q g s. (kept p e q g s, (step p e q g s).1)) p told run.last (tt, refl) run.runs in
       let g = good-run (λ (_ : K). IsAtHand) PassthruNext Good kept p told run.last (tt, refl) run.runs in
       let none : run.last.held.packets ≡ [] = rw run.idle at g.1 in

@@ -65,11 +65,11 @@ abbrev at : Bool → SelectPlace → SelectState
 at rejects place = record { rejects = rejects; place = place }
 
 abbrev Stands : Bool → Poise SelectState → Phase → Type 0
-Stands r p Resting = (p.wish ≡ wishes.Deactivate) × (p.part ≡ at r places.Waiting)
-Stands r p Keying = (p.wish ≡ wishes.Receive key_port) × (p.part ≡ at r places.Waiting)
-Stands r p (Selecting None) = (p.wish ≡ wishes.Receive in_port) × (p.part ≡ at r places.Unkeyed)
-Stands r p (Selecting (Some k)) = (p.wish ≡ wishes.Receive in_port) × (p.part ≡ at r (places.Keyed (id_of k))) × (p.held.packets ≡ k ∷ [])
-Stands r p (Passing port t) = (p.wish ≡ wishes.Send (record { 0 = port }) (id_of t)) × (p.part ≡ at r places.Passing) × (p.held.packets ≡ t ∷ [])
+Stands r p Resting = (p.wish ≡ wishes.Deactivate) × (p.component ≡ at r places.Waiting)
+Stands r p Keying = (p.wish ≡ wishes.Receive key_port) × (p.component ≡ at r places.Waiting)
+Stands r p (Selecting None) = (p.wish ≡ wishes.Receive in_port) × (p.component ≡ at r places.Unkeyed)
+Stands r p (Selecting (Some k)) = (p.wish ≡ wishes.Receive in_port) × (p.component ≡ at r (places.Keyed (id_of k))) × (p.held.packets ≡ k ∷ [])
+Stands r p (Passing port t) = (p.wish ≡ wishes.Send (record { 0 = port }) (id_of t)) × (p.component ≡ at r places.Passing) × (p.held.packets ≡ t ∷ [])
 
 -- what the rest of a run is
 abbrev Rest : Bool → Phase → List Happening → Type 0
@@ -85,27 +85,27 @@ abbrev Rec : Bool → List Happening → Poise SelectState → Type 0
 Rec r es q = (p : Poise SelectState) (phase : Phase) → Stands r p phase → Runs SelectReady SelectNext p es q → Rest r phase es
 
 -- a packet is rejected
-rejecting : (r : Bool) (place : SelectPlace) (es : List Happening) (m q : Poise SelectState) (held : Held) (t : Tree) → held.packets ≡ t ∷ [] → Wishes m.part m.held m.wish ≡ rejects_packet (at r place) held (id_of t) → Runs SelectReady SelectNext m es q → Rec r es q
+rejecting : (r : Bool) (place : SelectPlace) (es : List Happening) (m q : Poise SelectState) (held : Held) (t : Tree) → held.packets ≡ t ∷ [] → Wishes m.component m.held m.wish ≡ rejects_packet (at r place) held (id_of t) → Runs SelectReady SelectNext m es q → Rec r es q
     → (rounds : List Round) × (es ≡ leaves r false t ++ told_by r rounds)
 rejecting true place es m q held t alone comes run rec =
-    let part : m.part ≡ at true places.Passing = cc in
+    let component : m.component ≡ at true places.Passing = cc in
     let hands : m.held ≡ held = cc in
     let wish : m.wish ≡ wishes.Send rejected_port (id_of t) = cc in
-    rec m (Passing 1 t) (wish, part, ap (λ (h : Held). h.packets) hands ∙ alone) run
+    rec m (Passing 1 t) (wish, component, ap (λ (h : Held). h.packets) hands ∙ alone) run
 rejecting false place es m q held t alone comes run rec =
-    let part : m.part ≡ at false places.Waiting = cc in
+    let component : m.component ≡ at false places.Waiting = cc in
     let wish : m.wish ≡ wishes.Deactivate = cc in
-    rec m Resting (wish, part) run
+    rec m Resting (wish, component) run
 
 -- it is accepted or rejected
 judging : (r b : Bool) (place : SelectPlace) (es : List Happening) (m q : Poise SelectState) (held : Held) (key : ℕ) (t : Tree) → (without_packet held key).packets ≡ t ∷ []
-    → Wishes m.part m.held m.wish ≡ (if b then Wishes (at r places.Passing) (without_packet held key) (wishes.Send accepted_port (id_of t)) else rejects_packet (at r place) (without_packet held key) (id_of t))
+    → Wishes m.component m.held m.wish ≡ (if b then Wishes (at r places.Passing) (without_packet held key) (wishes.Send accepted_port (id_of t)) else rejects_packet (at r place) (without_packet held key) (id_of t))
     → Runs SelectReady SelectNext m es q → Rec r es q → (rounds : List Round) × (es ≡ leaves r b t ++ told_by r rounds)
 judging r true place es m q held key t alone comes run rec =
-    let part : m.part ≡ at r places.Passing = cc in
+    let component : m.component ≡ at r places.Passing = cc in
     let hands : m.held ≡ without_packet held key = cc in
     let wish : m.wish ≡ wishes.Send accepted_port (id_of t) = cc in
-    rec m (Passing 0 t) (wish, part, ap (λ (h : Held). h.packets) hands ∙ alone) run
+    rec m (Passing 0 t) (wish, component, ap (λ (h : Held). h.packets) hands ∙ alone) run
 judging r false place es m q held key t alone comes run rec = rejecting r place es m q (without_packet held key) t alone comes run rec
 
 -- the texts of two packets in the hands
@@ -123,25 +123,25 @@ takes r None es p m q t port Normal st s kind run rec =
     let ready : SelectReady (at r places.Unkeyed) s.held (answers.Got (id_of t)) = subst (λ (state : SelectState). SelectReady state s.held (answers.Got (id_of t))) st.1 s.is_ready in
     let same : t ≡ ready.packet = HoldsOnly-end s.held p.held.packets t (Comes-packets p.held t s.held s.grants.1) ready in
     let alone : s.held.packets ≡ t ∷ [] = ready.holds ∙ ap (λ (u : Tree). u ∷ []) (sym same) in
-    let comes : Wishes m.part m.held m.wish ≡ comes_as (at r places.Unkeyed) s.held (id_of t) Normal = s.comes_to ∙ (λ i. comes_as (st.1 i) s.held (id_of t) (kind i)) in
+    let comes : Wishes m.component m.held m.wish ≡ comes_as (at r places.Unkeyed) s.held (id_of t) Normal = s.comes_to ∙ (λ i. comes_as (st.1 i) s.held (id_of t) (kind i)) in
     rejecting r places.Unkeyed es m q s.held t alone comes run rec
 takes r (Some k) es p m q t port Normal st s kind run rec =
     let ready : SelectReady (at r (places.Keyed (id_of k))) s.held (answers.Got (id_of t)) = subst (λ (state : SelectState). SelectReady state s.held (answers.Got (id_of t))) st.1 s.is_ready in
     let two : s.held.packets ≡ k ∷ t ∷ [] = Comes-packets p.held t s.held s.grants.1 ∙ ap (λ (ts : List Tree). ts ++ t ∷ []) st.2 in
     let gone : (without_packet s.held (id_of k)).packets ≡ t ∷ [] = ap (λ (ts : List Tree). without ts (id_of k)) two ∙ first-gone k t in
-    let comes : Wishes m.part m.held m.wish ≡ selects (at r (places.Keyed (id_of k))) s.held (id_of k) (id_of t) = s.comes_to ∙ (λ i. comes_as (st.1 i) s.held (id_of t) (kind i)) in
+    let comes : Wishes m.component m.held m.wish ≡ selects (at r (places.Keyed (id_of k))) s.held (id_of k) (id_of t) = s.comes_to ∙ (λ i. comes_as (st.1 i) s.held (id_of t) (kind i)) in
     judging r (accepts k t) (places.Keyed (id_of k)) es m q s.held (id_of k) t gone
     (comes
     ∙ ap (λ (b : Bool). if b then Wishes (at r places.Passing) (without_packet s.held (id_of k)) (wishes.Send accepted_port (id_of t)) else rejects_packet (at r (places.Keyed (id_of k))) (without_packet s.held (id_of k)) (id_of t))
     (two-texts s.held k t two ready.apart)) run rec
 takes r None es p m q t port Open st s kind run rec =
-    absurd (let c : Wishes m.part m.held m.wish ≡ comes_as (at r places.Unkeyed) s.held (id_of t) Open = s.comes_to ∙ (λ i. comes_as (st.1 i) s.held (id_of t) (kind i)) in cc)
+    absurd (let c : Wishes m.component m.held m.wish ≡ comes_as (at r places.Unkeyed) s.held (id_of t) Open = s.comes_to ∙ (λ i. comes_as (st.1 i) s.held (id_of t) (kind i)) in cc)
 takes r None es p m q t port Close st s kind run rec =
-    absurd (let c : Wishes m.part m.held m.wish ≡ comes_as (at r places.Unkeyed) s.held (id_of t) Close = s.comes_to ∙ (λ i. comes_as (st.1 i) s.held (id_of t) (kind i)) in cc)
+    absurd (let c : Wishes m.component m.held m.wish ≡ comes_as (at r places.Unkeyed) s.held (id_of t) Close = s.comes_to ∙ (λ i. comes_as (st.1 i) s.held (id_of t) (kind i)) in cc)
 takes r (Some k) es p m q t port Open st s kind run rec =
-    absurd (let c : Wishes m.part m.held m.wish ≡ comes_as (at r (places.Keyed (id_of k))) s.held (id_of t) Open = s.comes_to ∙ (λ i. comes_as (st.1 i) s.held (id_of t) (kind i)) in cc)
+    absurd (let c : Wishes m.component m.held m.wish ≡ comes_as (at r (places.Keyed (id_of k))) s.held (id_of t) Open = s.comes_to ∙ (λ i. comes_as (st.1 i) s.held (id_of t) (kind i)) in cc)
 takes r (Some k) es p m q t port Close st s kind run rec =
-    absurd (let c : Wishes m.part m.held m.wish ≡ comes_as (at r (places.Keyed (id_of k))) s.held (id_of t) Close = s.comes_to ∙ (λ i. comes_as (st.1 i) s.held (id_of t) (kind i)) in cc)
+    absurd (let c : Wishes m.component m.held m.wish ≡ comes_as (at r (places.Keyed (id_of k))) s.held (id_of t) Close = s.comes_to ∙ (λ i. comes_as (st.1 i) s.held (id_of t) (kind i)) in cc)
 
 -- a key came
 keys : (r : Bool) (es : List Happening) (p m q : Poise SelectState) (t : Tree) (port : ℕ) (kind : Kind) → Stands r p Keying → (s : Step p (Received port t) m) → kind_at s.held.packets (id_of t) ≡ kind → Runs SelectReady SelectNext m es q → Rec r es q → Rest r (Selecting (Some t)) es
@@ -149,26 +149,26 @@ keys r es p m q t port Normal st s kind run rec =
     let ready : SelectReady (at r places.Waiting) s.held (answers.Got (id_of t)) = subst (λ (state : SelectState). SelectReady state s.held (answers.Got (id_of t))) st.1 s.is_ready in
     let same : t ≡ ready.packet = HoldsOnly-end s.held p.held.packets t (Comes-packets p.held t s.held s.grants.1) ready in
     let alone : s.held.packets ≡ t ∷ [] = ready.holds ∙ ap (λ (u : Tree). u ∷ []) (sym same) in
-    let comes : Wishes m.part m.held m.wish ≡ comes_as (at r places.Waiting) s.held (id_of t) Normal = s.comes_to ∙ (λ i. comes_as (st.1 i) s.held (id_of t) (kind i)) in
-    let part : m.part ≡ at r (places.Keyed (id_of t)) = cc in
+    let comes : Wishes m.component m.held m.wish ≡ comes_as (at r places.Waiting) s.held (id_of t) Normal = s.comes_to ∙ (λ i. comes_as (st.1 i) s.held (id_of t) (kind i)) in
+    let component : m.component ≡ at r (places.Keyed (id_of t)) = cc in
     let hands : m.held ≡ s.held = cc in
     let wish : m.wish ≡ wishes.Receive in_port = cc in
-    rec m (Selecting (Some t)) (wish, part, ap (λ (h : Held). h.packets) hands ∙ alone) run
-keys r es p m q t port Open st s kind run rec = absurd (let c : Wishes m.part m.held m.wish ≡ comes_as (at r places.Waiting) s.held (id_of t) Open = s.comes_to ∙ (λ i. comes_as (st.1 i) s.held (id_of t) (kind i)) in cc)
-keys r es p m q t port Close st s kind run rec = absurd (let c : Wishes m.part m.held m.wish ≡ comes_as (at r places.Waiting) s.held (id_of t) Close = s.comes_to ∙ (λ i. comes_as (st.1 i) s.held (id_of t) (kind i)) in cc)
+    rec m (Selecting (Some t)) (wish, component, ap (λ (h : Held). h.packets) hands ∙ alone) run
+keys r es p m q t port Open st s kind run rec = absurd (let c : Wishes m.component m.held m.wish ≡ comes_as (at r places.Waiting) s.held (id_of t) Open = s.comes_to ∙ (λ i. comes_as (st.1 i) s.held (id_of t) (kind i)) in cc)
+keys r es p m q t port Close st s kind run rec = absurd (let c : Wishes m.component m.held m.wish ≡ comes_as (at r places.Waiting) s.held (id_of t) Close = s.comes_to ∙ (λ i. comes_as (st.1 i) s.held (id_of t) (kind i)) in cc)
 
 -- nothing came to be selected
 over : (r : Bool) (key : Option Tree) (es : List Happening) (p m q : Poise SelectState) (port : ℕ) → Stands r p (Selecting key) → Step p (Ended port) m → Runs SelectReady SelectNext m es q → Rec r es q → Rest r Resting es
 over r None es p m q port st s run rec =
-    let comes : Wishes m.part m.held m.wish ≡ select_next (at r places.Unkeyed) s.held answers.End = s.comes_to ∙ ap (λ (state : SelectState). select_next state s.held answers.End) st.1 in
-    let part : m.part ≡ at r places.Waiting = cc in
+    let comes : Wishes m.component m.held m.wish ≡ select_next (at r places.Unkeyed) s.held answers.End = s.comes_to ∙ ap (λ (state : SelectState). select_next state s.held answers.End) st.1 in
+    let component : m.component ≡ at r places.Waiting = cc in
     let wish : m.wish ≡ wishes.Deactivate = cc in
-    rec m Resting (wish, part) run
+    rec m Resting (wish, component) run
 over r (Some k) es p m q port st s run rec =
-    let comes : Wishes m.part m.held m.wish ≡ select_next (at r (places.Keyed (id_of k))) s.held answers.End = s.comes_to ∙ ap (λ (state : SelectState). select_next state s.held answers.End) st.1 in
-    let part : m.part ≡ at r places.Waiting = cc in
+    let comes : Wishes m.component m.held m.wish ≡ select_next (at r (places.Keyed (id_of k))) s.held answers.End = s.comes_to ∙ ap (λ (state : SelectState). select_next state s.held answers.End) st.1 in
+    let component : m.component ≡ at r places.Waiting = cc in
     let wish : m.wish ≡ wishes.Deactivate = cc in
-    rec m Resting (wish, part) run
+    rec m Resting (wish, component) run
 
 -- it waits for a packet to be selected
 waits : (r : Bool) (key : Option Tree) (p : Poise SelectState) → Stands r p (Selecting key) → p.wish ≡ wishes.Receive in_port
@@ -177,10 +177,10 @@ waits r (Some k) p st = st.0
 
 step : (r : Bool) (es : List Happening) (p m q : Poise SelectState) (e : Happening) (phase : Phase) → Stands r p phase → Step p e m → Runs SelectReady SelectNext m es q → Rec r es q → Rest r phase (e ∷ es)
 step r es p m q Started Resting st s run rec =
-    let comes : Wishes m.part m.held m.wish ≡ select_next (at r places.Waiting) s.held answers.Start = s.comes_to ∙ ap (λ (state : SelectState). select_next state s.held answers.Start) st.1 in
-    let part : m.part ≡ at r places.Waiting = cc in
+    let comes : Wishes m.component m.held m.wish ≡ select_next (at r places.Waiting) s.held answers.Start = s.comes_to ∙ ap (λ (state : SelectState). select_next state s.held answers.Start) st.1 in
+    let component : m.component ≡ at r places.Waiting = cc in
     let wish : m.wish ≡ wishes.Receive key_port = cc in
-    let rest : Rest r Keying es = rec m Keying (wish, part) run in
+    let rest : Rest r Keying es = rec m Keying (wish, component) run in
     (Of rest.0 rest.1 ∷ rest.2, ap (λ (l : List Happening). Started ∷ l) rest.3)
 step r es p m q (Received port t) Resting st s run rec = absurd (let h : wishes.Receive (record { 0 = port }) ≡ wishes.Deactivate = sym s.grants.0 ∙ st.0 in cc)
 step r es p m q (Ended port) Resting st s run rec = absurd (let h : wishes.Receive (record { 0 = port }) ≡ wishes.Deactivate = sym s.grants.0 ∙ st.0 in cc)
@@ -193,10 +193,10 @@ step r es p m q (Received port t) Keying st s run rec =
     (Some t, rest.0, rest.1, λ i. Received (port_is i) t ∷ rest.2 i)
 step r es p m q (Ended port) Keying st s run rec =
     let port_is : port ≡ 0 = ap port_of (sym s.grants.0 ∙ st.0) in
-    let comes : Wishes m.part m.held m.wish ≡ select_next (at r places.Waiting) s.held answers.End = s.comes_to ∙ ap (λ (state : SelectState). select_next state s.held answers.End) st.1 in
-    let part : m.part ≡ at r places.Unkeyed = cc in
+    let comes : Wishes m.component m.held m.wish ≡ select_next (at r places.Waiting) s.held answers.End = s.comes_to ∙ ap (λ (state : SelectState). select_next state s.held answers.End) st.1 in
+    let component : m.component ≡ at r places.Unkeyed = cc in
     let wish : m.wish ≡ wishes.Receive in_port = cc in
-    let rest : Rest r (Selecting None) es = rec m (Selecting None) (wish, part) run in
+    let rest : Rest r (Selecting None) es = rec m (Selecting None) (wish, component) run in
     (None, rest.0, rest.1, λ i. Ended (port_is i) ∷ rest.2 i)
 step r es p m q (Sent port t) Keying st s run rec = absurd (let h : wishes.Send (record { 0 = port }) (id_of t) ≡ wishes.Receive key_port = sym s.grants.0 ∙ st.0 in cc)
 step r es p m q (Learned port level) Keying st s run rec = absurd s.is_ready
@@ -220,10 +220,10 @@ step r es p m q (Sent port t) (Passing o u) st s run rec =
     let id_is : id_of t ≡ id_of u = ap id_in h in
     let found : Some t ≡ Some u = sym s.grants.1 ∙ ap (packet_at p.held.packets) id_is ∙ one-alone p.held.packets u st.2 in
     let same : t ≡ u = cc in
-    let comes : Wishes m.part m.held m.wish ≡ select_next (at r places.Passing) s.held answers.Sent = s.comes_to ∙ ap (λ (state : SelectState). select_next state s.held answers.Sent) st.1 in
-    let part : m.part ≡ at r places.Waiting = cc in
+    let comes : Wishes m.component m.held m.wish ≡ select_next (at r places.Passing) s.held answers.Sent = s.comes_to ∙ ap (λ (state : SelectState). select_next state s.held answers.Sent) st.1 in
+    let component : m.component ≡ at r places.Waiting = cc in
     let wish : m.wish ≡ wishes.Deactivate = cc in
-    let rest : Rest r Resting es = rec m Resting (wish, part) run in
+    let rest : Rest r Resting es = rec m Resting (wish, component) run in
     (rest.0, λ i. Sent (port_is i) (same i) ∷ rest.1 i)
 step r es p m q (Learned port level) (Passing o u) st s run rec = absurd s.is_ready
 

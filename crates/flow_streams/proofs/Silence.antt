@@ -15,7 +15,7 @@ use Rattle.flow_streams.specs.Hoard.{HoardNext}
 use Rattle.flow_streams.specs.HoardLaws.{hoard_obeys}
 use Rattle.flow_streams.specs.Meanings.{DiscardMeaning, HoardMeaning}
 
-module _ {K : Type 0} (ready : K → Held → Answer → Type 0) (next : K → Held → Answer → Outcome K → Type 0) (shape : Shape) (obeys : (part : K) (held : Held) (answer : Answer) (outcome : Outcome K) → ready part held answer → next part held answer outcome → Obeys shape uses_none held outcome) where
+module _ {K : Type 0} (ready : K → Held → Answer → Type 0) (next : K → Held → Answer → Outcome K → Type 0) (shape : Shape) (obeys : (component : K) (held : Held) (answer : Answer) (outcome : Outcome K) → ready component held answer → next component held answer outcome → Obeys shape uses_none held outcome) where
   pub silent : (p : Poise K) (es : List Happening) (q : Poise K) → IsAllowed shape uses_none p.held p.wish → Runs ready next p es q → (port : ℕ) → sent port es ≡ []
   silent p [] q g r port = refl
   silent p (Started ∷ es) q g r port = silent r.0 es q (stays-allowed ready next shape uses_none obeys p Started r.0 r.1) r.2 port
@@ -25,7 +25,7 @@ module _ {K : Type 0} (ready : K → Held → Answer → Type 0) (next : K → H
   silent p (Learned o n ∷ es) q g r port = silent r.0 es q (stays-allowed ready next shape uses_none obeys p (Learned o n) r.0 r.1) r.2 port
 
 pub discard_meaning : {K : Type 0} → DiscardMeaning K
-discard_meaning {K} part told run port = silent (λ (_ : K). IsAtHand) DiscardNext one_to_none discard_obeys (fresh part run.maker) told run.last tt run.runs port
+discard_meaning {K} component told run port = silent (λ (_ : K). IsAtHand) DiscardNext one_to_none discard_obeys (fresh component run.maker) told run.last tt run.runs port
 
 pub hoard_meaning : {K : Type 0} → HoardMeaning K
-hoard_meaning {K} part told run port = silent (λ (_ : K). IsAtHand) HoardNext one_to_none hoard_obeys (fresh part run.maker) told run.last tt run.runs port
+hoard_meaning {K} component told run port = silent (λ (_ : K). IsAtHand) HoardNext one_to_none hoard_obeys (fresh component run.maker) told run.last tt run.runs port

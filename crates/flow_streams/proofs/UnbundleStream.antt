@@ -92,17 +92,17 @@ left held Waiting = []
 left held (Unpacking id) = map content (members (chains_in (packet_at held.packets id)) items) ++ closing ∷ []
 
 abbrev owes : Held → Unbundle → Wish → List Tree
-owes held part (wishes.Receive port) = []
-owes held part (wishes.Send port id) = contents_in (packet_at held.packets id) ++ left (without_packet held id) part
-owes held part (wishes.Level port) = []
-owes held part wishes.Deactivate = []
+owes held component (wishes.Receive port) = []
+owes held component (wishes.Send port id) = contents_in (packet_at held.packets id) ++ left (without_packet held id) component
+owes held component (wishes.Level port) = []
+owes held component wishes.Deactivate = []
 
 abbrev owes_after : Outcome Unbundle → List Tree
-owes_after (Wishes part held wish) = owes held part wish
-owes_after (Fails part held cause) = []
+owes_after (Wishes component held wish) = owes held component wish
+owes_after (Fails component held cause) = []
 
 abbrev owed : Poise Unbundle → List Tree
-owed p = owes p.held p.part p.wish
+owed p = owes p.held p.component p.wish
 
 alone-found : (held : Held) (id : ℕ) (h : HoldsOnly held id) → packet_at (h.packet ∷ []) id ≡ Some h.packet
 alone-found held id h = let i : nat_eq (id_of h.packet) id ≡ true = rw h.named (same_id id) in rw i refl
@@ -147,7 +147,7 @@ after-unpacking held id h sound = by (chain_of_root held.packets id items) (sym 
         let m = members-some (chains_of h.packet) items child children c in
         rw (found, gone, i, kept, f, m) refl
 
-after-going : (held : Held) (part : Unbundle) → IsReadyOn held part → owes_after (goes_on held part) ≡ left held part
+after-going : (held : Held) (component : Unbundle) → IsReadyOn held component → owes_after (goes_on held component) ≡ left held component
 after-going held Waiting r = refl
 after-going held (Unpacking id) r = after-unpacking held id r.0 r.1
 
@@ -170,8 +170,8 @@ step p (Ended port) q g s =
     rw (a, b) refl
 step p (Sent port t) q g s =
     let z : nat_eq 0 port ≡ true = port_zero port (rw s.grants.0 at g).0 in
-    let a : owed p ≡ content t ∷ left (without_packet p.held (id_of t)) p.part = rw (s.grants.0, s.grants.1) refl in
-    let b : owed q ≡ left (without_packet p.held (id_of t)) p.part = ap owes_after s.comes_to ∙ after-going s.held p.part s.is_ready ∙ ap (λ (h : Held). left h p.part) s.grants.2 in
+    let a : owed p ≡ content t ∷ left (without_packet p.held (id_of t)) p.component = rw (s.grants.0, s.grants.1) refl in
+    let b : owed q ≡ left (without_packet p.held (id_of t)) p.component = ap owes_after s.comes_to ∙ after-going s.held p.component s.is_ready ∙ ap (λ (h : Held). left h p.component) s.grants.2 in
     rw (a, b, z) (append-nil _)
 step p (Learned port level) q g s = absurd s.is_ready
 

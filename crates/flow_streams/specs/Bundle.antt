@@ -29,8 +29,8 @@ begins held id = Wishes (Inside (next_id held) 1) (without_packet (with_made hel
 
 -- A packet goes to the end of the bundle's chain, unless it is too high.
 abbrev pub gathers : Bundle → Held → ℕ → ℕ → ℕ → Outcome Bundle
-gathers part held bundle id depth =
-    if height_at held.packets id == 16 then Fails part held TreeDepth else Wishes (Inside bundle depth) (record held { packets = attached held.packets bundle items id }) receive_first
+gathers component held bundle id depth =
+    if height_at held.packets id == 16 then Fails component held TreeDepth else Wishes (Inside bundle depth) (record held { packets = attached held.packets bundle items id }) receive_first
 
 -- The matching Close is dropped, and the bundle is sent.
 abbrev pub ends_bundle : Held → ℕ → ℕ → Outcome Bundle
@@ -45,16 +45,17 @@ bundles (Inside bundle depth) held id Normal = gathers (Inside bundle depth) hel
 bundles (Inside bundle depth) held id Open = gathers (Inside bundle depth) held bundle id (deeper depth)
 bundles (Inside bundle depth) held id Close = if nat_lt 1 depth then gathers (Inside bundle depth) held bundle id (depth - 1) else ends_bundle held bundle id
 
+-- The rule, by what it is told.
 abbrev pub bundle_next : Bundle → Held → Answer → Outcome Bundle
-bundle_next part held answers.Start = Wishes part held receive_first
-bundle_next part held (answers.Got id) = bundles part held id (kind_at held.packets id)
-bundle_next part held answers.End = Wishes part held Deactivate
-bundle_next part held answers.Sent = Wishes part held receive_first
-bundle_next part held (answers.Level n) = Wishes part held Deactivate
+bundle_next component held answers.Start = Wishes component held receive_first
+bundle_next component held (answers.Got id) = bundles component held id (kind_at held.packets id)
+bundle_next component held answers.End = Wishes component held Deactivate
+bundle_next component held answers.Sent = Wishes component held receive_first
+bundle_next component held (answers.Level n) = Wishes component held Deactivate
 
 -- It comes to this alone.
 abbrev pub BundleNext : Bundle → Held → Answer → Outcome Bundle → Type 0
-BundleNext part held answer outcome = outcome ≡ bundle_next part held answer
+BundleNext component held answer outcome = outcome ≡ bundle_next component held answer
 
 -- The hands hold the packets with these two ids, in this order, and the next id is another than the first.
 pub record HoldsTwo (held : Held) (one two : ℕ) : Type 0 where
@@ -71,13 +72,15 @@ abbrev pub IsBetween : Bundle → Held → Type 0
 IsBetween Outside held = held.packets ≡ []
 IsBetween (Inside bundle depth) held = HoldsOnly held bundle
 
+-- It holds the packet that came, and the bundle where one is open.
 abbrev pub HasCome : Bundle → Held → ℕ → Type 0
 HasCome Outside held id = HoldsOnly held id
 HasCome (Inside bundle depth) held id = HoldsTwo held bundle id
 
+-- What it can be told.
 abbrev pub BundleReady : Bundle → Held → Answer → Type 0
-BundleReady part held answers.Start = IsBetween part held
-BundleReady part held (answers.Got id) = HasCome part held id
-BundleReady part held answers.End = IsBetween part held
-BundleReady part held answers.Sent = IsBetween part held
-BundleReady part held (answers.Level n) = ⊥
+BundleReady component held answers.Start = IsBetween component held
+BundleReady component held (answers.Got id) = HasCome component held id
+BundleReady component held answers.End = IsBetween component held
+BundleReady component held answers.Sent = IsBetween component held
+BundleReady component held (answers.Level n) = ⊥

@@ -80,16 +80,16 @@ came-two held new t bundle h e s =
       older = λ x. Sound-new new s (subst (λ (k : ℕ). IsAtRoot new.packets k) x root);
     }
 
-came : (part : Bundle) (held : Held) (t : Tree) → IsBetween part held → Sound (with_packet held t) → HasCome part (with_packet held t) (id_of t)
+came : (component : Bundle) (held : Held) (t : Tree) → IsBetween component held → Sound (with_packet held t) → HasCome component (with_packet held t) (id_of t)
 came Outside held t e s = HoldsOnly-came held t e s
 came (Inside bundle depth) held t h s = came-two held (with_packet held t) t bundle h refl s
 
-came_made : (part : Bundle) (held : Held) (text : List ℕ) → IsBetween part held → Sound (with_made held Normal text) → HasCome part (with_made held Normal text) (next_id held)
+came_made : (component : Bundle) (held : Held) (text : List ℕ) → IsBetween component held → Sound (with_made held Normal text) → HasCome component (with_made held Normal text) (next_id held)
 came_made Outside held text e s = HoldsOnly-made_alone held Normal text e s
 came_made (Inside bundle depth) held text h s = came-two held (with_made held Normal text) (packet_of (next_id held) Normal text []) bundle h refl s
 
-receives : (old held : Held) (part : Bundle) → ComesBy old held → IsBetween part held → Lawful old (Wishes part held receive_first)
-receives old held part w b = ((w, omega arith), ((λ s. b), (λ t s. came part held t b s), (λ text s. came_made part held text b s)))
+receives : (old held : Held) (component : Bundle) → ComesBy old held → IsBetween component held → Lawful old (Wishes component held receive_first)
+receives old held component w b = ((w, omega arith), ((λ s. b), (λ t s. came component held t b s), (λ text s. came_made component held text b s)))
 
 sends : (held : Held) (id : ℕ) → HoldsOnly held id → Lawful held (Wishes Outside held (send_first id))
 sends held id h = ((comes_same held, (refl, HoldsOnly-root held id h)), λ s. HoldsOnly-without held id h)
@@ -104,12 +104,12 @@ began held id h =
     receives held new (Inside (next_id held) 1) (comes_renewed held Normal text id (omega (arith, ap length h.holds)) (HoldsOnly-root held id h))
     (record { packet = packet_of (next_id held) Normal text []; holds = renewed held id Normal text h; named = refl; older = λ e. omega arith })
 
-gathers-lawful : (part : Bundle) (held : Held) (bundle id depth : ℕ) → HoldsTwo held bundle id → Lawful held (gathers part held bundle id depth)
-gathers-lawful part held bundle id depth h =
+gathers-lawful : (component : Bundle) (held : Held) (bundle id depth : ℕ) → HoldsTwo held bundle id → Lawful held (gathers component held bundle id depth)
+gathers-lawful component held bundle id depth h =
     let new : Held = record held { packets = attached held.packets bundle items id } in
     let by : ComesBy held new = record { edits = Attaches bundle items id ∷ []; follow = ((one-root held bundle id h, two-root held bundle id h, h.apart), refl); one_make = omega arith } in
     let only : HoldsOnly new bundle = record { packet = with_chains h.first (attach_to (chains_of h.first) items h.second); holds = two-gathered held bundle id h; named = h.first_named; older = h.older } in
-    elim (height_at held.packets id == 16) as (λ b. Lawful held (if b then Fails part held TreeDepth else Wishes (Inside bundle depth) (record held { packets = attached held.packets bundle items id }) receive_first)) [
+    elim (height_at held.packets id == 16) as (λ b. Lawful held (if b then Fails component held TreeDepth else Wishes (Inside bundle depth) (record held { packets = attached held.packets bundle items id }) receive_first)) [
       | true ↦ ((comes_same held, tt), tt)
       | false ↦ receives held new (Inside bundle depth) by only
     ]
@@ -120,7 +120,7 @@ ended held bundle id h =
     let only : HoldsOnly new bundle = record { packet = h.first; holds = two-gone held bundle id h; named = h.first_named; older = h.older } in
     ((comes_dropped held id (two-root held bundle id h), (refl, HoldsOnly-root new bundle only)), λ s. HoldsOnly-without new bundle only)
 
-bundled : (part : Bundle) (held : Held) (id : ℕ) (kind : Kind) → HasCome part held id → Lawful held (bundles part held id kind)
+bundled : (component : Bundle) (held : Held) (id : ℕ) (kind : Kind) → HasCome component held id → Lawful held (bundles component held id kind)
 bundled Outside held id Normal h = sends held id h
 bundled Outside held id Open h = began held id h
 bundled Outside held id Close h = sends held id h
@@ -132,18 +132,18 @@ bundled (Inside bundle depth) held id Close h =
       | false ↦ ended held bundle id h
     ]
 
-lawful : (part : Bundle) (held : Held) (answer : Answer) → BundleReady part held answer → Lawful held (bundle_next part held answer)
-lawful part held answers.Start r = receives held held part (comes_same held) r
-lawful part held (answers.Got id) r = bundled part held id (kind_at held.packets id) r
-lawful part held answers.End r = ((comes_same held, tt), λ s. r)
-lawful part held answers.Sent r = receives held held part (comes_same held) r
-lawful part held (answers.Level n) r = absurd r
+lawful : (component : Bundle) (held : Held) (answer : Answer) → BundleReady component held answer → Lawful held (bundle_next component held answer)
+lawful component held answers.Start r = receives held held component (comes_same held) r
+lawful component held (answers.Got id) r = bundled component held id (kind_at held.packets id) r
+lawful component held answers.End r = ((comes_same held, tt), λ s. r)
+lawful component held answers.Sent r = receives held held component (comes_same held) r
+lawful component held (answers.Level n) r = absurd r
 
-pub bundle_obeys : (part : Bundle) (held : Held) (answer : Answer) (outcome : Outcome Bundle) → BundleReady part held answer → BundleNext part held answer outcome → Obeys one_to_one uses_first held outcome
-bundle_obeys part held answer outcome r is = subst (Obeys one_to_one uses_first held) (sym is) (lawful part held answer r).0
+pub bundle_obeys : (component : Bundle) (held : Held) (answer : Answer) (outcome : Outcome Bundle) → BundleReady component held answer → BundleNext component held answer outcome → Obeys one_to_one uses_first held outcome
+bundle_obeys component held answer outcome r is = subst (Obeys one_to_one uses_first held) (sym is) (lawful component held answer r).0
 
-pub bundle_stays_ready : (part : Bundle) (held : Held) (answer : Answer) (outcome : Outcome Bundle) → BundleReady part held answer → BundleNext part held answer outcome → StaysReady BundleReady outcome
-bundle_stays_ready part held answer outcome r is = subst (StaysReady BundleReady) (sym is) (lawful part held answer r).1
+pub bundle_stays_ready : (component : Bundle) (held : Held) (answer : Answer) (outcome : Outcome Bundle) → BundleReady component held answer → BundleNext component held answer outcome → StaysReady BundleReady outcome
+bundle_stays_ready component held answer outcome r is = subst (StaysReady BundleReady) (sym is) (lawful component held answer r).1
 
-pub bundle_steady : (part : Bundle) (held : Held) (answer : Answer) (outcome : Outcome Bundle) → BundleNext part held answer outcome → IsSteady (λ _. one_to_one) (λ _. uses_first) part outcome
-bundle_steady part held answer outcome is = record { shape = refl; outputs = refl }
+pub bundle_steady : (component : Bundle) (held : Held) (answer : Answer) (outcome : Outcome Bundle) → BundleNext component held answer outcome → IsSteady (λ _. one_to_one) (λ _. uses_first) component outcome
+bundle_steady component held answer outcome is = record { shape = refl; outputs = refl }

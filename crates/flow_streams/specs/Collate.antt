@@ -19,6 +19,7 @@ use Rattle.flow_streams.specs.declared.collate.CollatePlace.TheVariants.{Filling
 use Rattle.flow_streams.specs.CollateState.{CollateState}
 use Rattle.flow_streams.specs.Collation.{width, key, packet_there, first_of, levels_that_differ}
 
+-- The wish to receive from an element.
 abbrev pub receive_from : ℕ → Wish
 receive_from element = Receive (record { 0 = element })
 
@@ -68,6 +69,7 @@ abbrev pub leaves : CollateState → Held → ℕ → Outcome CollateState
 leaves state held closes =
     if closes == 0 then Wishes (record state { opened = false; place = Filling 0 }) held Deactivate else sends_bracket state held (Leaving (closes - 1)) Close []
 
+-- What it does once the least packet is found: it closes what is open, or turns to that packet.
 abbrev pub chosen : CollateState → Held → Option ℕ → Outcome CollateState
 chosen state held None = leaves state held (closing state (length state.fields))
 chosen state held (Some place) = turns_to state held place (opening state (packet_there held.packets place))
@@ -96,6 +98,7 @@ sent_on state held (Refilling e) = Wishes state held (receive_from e)
 sent_on state held (Turning closes opens place) = turns state held closes opens place
 sent_on state held (Leaving closes) = leaves state held closes
 
+-- The rule, by what it is told.
 abbrev pub collate_next : CollateState → Held → Answer → Outcome CollateState
 collate_next state held answers.Start = Wishes state held (receive_from (element_of state.place))
 collate_next state held (answers.Got id) = comes state held (kind_at held.packets id)

@@ -12,7 +12,7 @@ use Rattle.flow_packet.specs.Held.{Held, Sound, next_id, with_made, with_packet,
 use Rattle.flow_component.specs.declared.Answer.{Answer}
 use Rattle.flow_component.specs.declared.Answer.TheVariants as answers
 use Rattle.flow_component.specs.declared.Wish.TheVariants.{Deactivate}
-use Rattle.flow_component.specs.Laws.{Outcome, Wishes, Obeys, StaysReady, IsSteady, part_after}
+use Rattle.flow_component.specs.Laws.{Outcome, Wishes, Obeys, StaysReady, IsSteady, component_after}
 use Rattle.flow_component.specs.Ports.{uses_first}
 use Rattle.flow_component.proofs.Roots.{same_id, IsAtRoot-last, IsAtRoot-made}
 use Rattle.flow_component.proofs.Comings.{comes_same, comes_made}
@@ -233,7 +233,7 @@ collate_stays_ready state held answer outcome r is = subst (StaysReady CollateRe
 
 -- the number of inputs never changes
 abbrev Elements : ℕ → Outcome CollateState → Type 0
-Elements n outcome = (part_after outcome).elements ≡ n
+Elements n outcome = (component_after outcome).elements ≡ n
 
 turns-elements : (state : CollateState) (held : Held) (closes opens i : ℕ) → Elements state.elements (turns state held closes opens i)
 turns-elements state held closes opens i =
@@ -291,4 +291,4 @@ next-elements state held (answers.Level n) = refl
 
 pub collate_steady : (state : CollateState) (held : Held) (answer : Answer) (outcome : Outcome CollateState) → CollateNext state held answer outcome → IsSteady collate_shape (λ _. uses_first) state outcome
 collate_steady state held answer outcome is =
-    record { shape = ap (λ n. record { inputs = n; outputs = 1 }) (ap (λ (o : Outcome CollateState). (part_after o).elements) is ∙ next-elements state held answer); outputs = refl }
+    record { shape = ap (λ n. record { inputs = n; outputs = 1 }) (ap (λ (o : Outcome CollateState). (component_after o).elements) is ∙ next-elements state held answer); outputs = refl }

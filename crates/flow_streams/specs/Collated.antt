@@ -15,6 +15,7 @@ abbrev pub merged_before : ℕ → Tree → (List Tree → List Tree) → List T
 merged_before bytes x rest [] = x ∷ rest []
 merged_before bytes x rest (y ∷ ys) = if has_less bytes y x then y ∷ merged_before bytes x rest ys else x ∷ rest (y ∷ ys)
 
+-- Two sorted lists as one; of equal keys those of the first list come first.
 abbrev pub merge : ℕ → List Tree → List Tree → List Tree
 merge bytes [] ys = ys
 merge bytes (x ∷ xs) ys = merged_before bytes x (merge bytes xs) ys

@@ -18,9 +18,11 @@ key bytes packet = take bytes (text_of packet)
 abbrev pub goes_before : ℕ → ℕ → Tree → ℕ → Tree → Bool
 goes_before bytes e t f u = is_lt (ordering_then (slice_cmp nat_cmp (key bytes t) (key bytes u)) (nat_cmp e f))
 
+-- A packet that stands where a list has none.
 abbrev pub blank : Tree
 blank = packet_of 0 Normal [] []
 
+-- The packet at a place.
 abbrev pub packet_there : List Tree → ℕ → Tree
 packet_there packets place = get_or packets place blank
 
@@ -41,5 +43,6 @@ levels_from before [] old new = 0
 levels_from before (field ∷ fields) old new =
     if bytes_eq (take (before + field) old) (take (before + field) new) then levels_from (before + field) fields old new else length (field ∷ fields)
 
+-- How many levels there are at which two keys differ, from the lowest one on.
 abbrev pub levels_that_differ : List ℕ → List ℕ → List ℕ → ℕ
 levels_that_differ fields old new = levels_from 0 fields old new

@@ -15,6 +15,7 @@ pub record ConcatState : Type 0 where
   pub count : ℕ
   pub at : ℕ
 
+-- The wish to receive from an element.
 abbrev pub receive_at : ℕ → Wish
 receive_at port = Receive (record { 0 = port })
 
@@ -23,6 +24,7 @@ abbrev pub ends : Bool → ConcatState → Held → Outcome ConcatState
 ends true state held = Wishes (record state { at = state.at + 1 }) held (receive_at (state.at + 1))
 ends false state held = Wishes state held Deactivate
 
+-- The rule: everything from one element, and then from the next.
 abbrev pub concat_next : ConcatState → Held → Answer → Outcome ConcatState
 concat_next state held answers.Start = Wishes state held (receive_at state.at)
 concat_next state held (answers.Got id) = Wishes state held (send_first id)
@@ -30,6 +32,7 @@ concat_next state held answers.End = ends (nat_lt (state.at + 1) state.count) st
 concat_next state held answers.Sent = Wishes state held (receive_at state.at)
 concat_next state held (answers.Level n) = Wishes state held Deactivate
 
+-- The rule as a relation.
 abbrev pub ConcatNext : ConcatState → Held → Answer → Outcome ConcatState → Type 0
 ConcatNext state held answer outcome = outcome ≡ concat_next state held answer
 

@@ -5,7 +5,7 @@ use Rattle.flow_packet.specs.declared.packet.Kind.TheVariants.{Normal}
 use Rattle.flow_packet.specs.Held.{Held}
 use Rattle.flow_component.specs.declared.Answer.{Answer}
 use Rattle.flow_component.specs.declared.Answer.TheVariants as answers
-use Rattle.flow_component.specs.Laws.{Outcome, Wishes, Obeys, StaysReady, IsSteady, part_after}
+use Rattle.flow_component.specs.Laws.{Outcome, Wishes, Obeys, StaysReady, IsSteady, component_after}
 use Rattle.flow_component.specs.Ports.{uses_first}
 use Rattle.flow_component.proofs.Comings.{comes_same}
 use Rattle.flow_component.proofs.Lone.{HoldsOnly-without, HoldsOnly-root, HoldsOnly-came, HoldsOnly-made_alone}
@@ -28,11 +28,11 @@ lawful state held answers.End r = ended state held (nat_lt (state.at + 1) state.
 lawful state held answers.Sent r = receives state held r.0 r.1
 lawful state held (answers.Level n) r = absurd r
 
-ends-count : (state : ConcatState) (held : Held) (b : Bool) → (part_after (ends b state held)).count ≡ state.count
+ends-count : (state : ConcatState) (held : Held) (b : Bool) → (component_after (ends b state held)).count ≡ state.count
 ends-count state held true = refl
 ends-count state held false = refl
 
-next-count : (state : ConcatState) (held : Held) (answer : Answer) → (part_after (concat_next state held answer)).count ≡ state.count
+next-count : (state : ConcatState) (held : Held) (answer : Answer) → (component_after (concat_next state held answer)).count ≡ state.count
 next-count state held answers.Start = refl
 next-count state held (answers.Got id) = refl
 next-count state held answers.End = ends-count state held (nat_lt (state.at + 1) state.count)
@@ -46,4 +46,4 @@ pub concat_stays_ready : (state : ConcatState) (held : Held) (answer : Answer) (
 concat_stays_ready state held answer outcome r is = subst (StaysReady ConcatReady) (sym is) (lawful state held answer r).1
 
 pub concat_steady : (state : ConcatState) (held : Held) (answer : Answer) (outcome : Outcome ConcatState) → ConcatNext state held answer outcome → IsSteady concat_shape (λ _. uses_first) state outcome
-concat_steady state held answer outcome is = record { shape = ap (λ (n : ℕ). record { inputs = n; outputs = 1 }) (ap (λ (o : Outcome ConcatState). (part_after o).count) is ∙ next-count state held answer); outputs = refl }
+concat_steady state held answer outcome is = record { shape = ap (λ (n : ℕ). record { inputs = n; outputs = 1 }) (ap (λ (o : Outcome ConcatState). (component_after o).count) is ∙ next-count state held answer); outputs = refl }

@@ -18,6 +18,7 @@ pub record CopyState : Type 0 where
   pub count : ℕ
   pub place : CopyPlace
 
+-- The wish to send to an output.
 abbrev pub send_at : ℕ → ℕ → Wish
 send_at output id = Send (record { 0 = output }) id
 
@@ -32,6 +33,7 @@ abbrev pub goes_on : CopyState → Held → CopyPlace → Outcome CopyState
 goes_on state held Waiting = Wishes state held receive_first
 goes_on state held (Copying id output) = copies state held id output
 
+-- The rule, by what it is told.
 abbrev pub copy_next : CopyState → Held → Answer → Outcome CopyState
 copy_next state held answers.Start = Wishes state held receive_first
 copy_next state held (answers.Got id) = copies state held id 0
@@ -43,6 +45,7 @@ copy_next state held (answers.Level n) = Wishes state held Deactivate
 abbrev pub CopyNext : CopyState → Held → Answer → Outcome CopyState → Type 0
 CopyNext state held answer outcome = outcome ≡ copy_next state held answer
 
+-- One input, and the outputs that it was made for.
 abbrev pub copy_shape : CopyState → Shape
 copy_shape state = record { inputs = 1; outputs = state.count }
 
@@ -55,6 +58,7 @@ abbrev pub IsReadyOn : CopyState → Held → CopyPlace → Type 0
 IsReadyOn state held Waiting = held.packets ≡ []
 IsReadyOn state held (Copying id output) = HoldsOnly held id × (output < state.count)
 
+-- What it can be told.
 abbrev pub CopyReady : CopyState → Held → Answer → Type 0
 CopyReady state held answers.Start = (1 ≤ state.count) × (state.place ≡ Waiting) × (held.packets ≡ [])
 CopyReady state held (answers.Got id) = (1 ≤ state.count) × (state.place ≡ Waiting) × HoldsOnly held id

@@ -6,7 +6,7 @@ use Rattle.flow_packet.specs.Hands.{kind_at, text_at}
 use Rattle.flow_packet.specs.Held.{Held, next_id, with_made}
 use Rattle.flow_component.specs.declared.Answer.{Answer}
 use Rattle.flow_component.specs.declared.Answer.TheVariants as answers
-use Rattle.flow_component.specs.Laws.{Outcome, Wishes, Obeys, StaysReady, IsSteady, part_after}
+use Rattle.flow_component.specs.Laws.{Outcome, Wishes, Obeys, StaysReady, IsSteady, component_after}
 use Rattle.flow_component.specs.Ports.{receive_first}
 use Rattle.flow_component.specs.Alone.{HoldsOnly}
 use Rattle.flow_component.proofs.Roots.{IsAtRoot-made}
@@ -45,16 +45,16 @@ lawful state held answers.End r = ((comes_same held, tt), λ s. r)
 lawful state held answers.Sent r = went_on state held state.place refl r.0 r.1
 lawful state held (answers.Level n) r = absurd r
 
-copies-count : (state : CopyState) (held : Held) (id output : ℕ) → (part_after (copies state held id output)).count ≡ state.count
+copies-count : (state : CopyState) (held : Held) (id output : ℕ) → (component_after (copies state held id output)).count ≡ state.count
 copies-count state held id output =
-    elim (nat_lt (output + 1) state.count) as (λ b. (part_after (if b then Wishes (record state { place = Copying id (output + 1) }) (with_made held (kind_at held.packets id) (text_at held.packets id)) (send_at output (next_id held)) else Wishes (record state { place = Waiting }) held (send_at output id))).count ≡ state.count) [ true ↦ refl | false ↦ refl ]
+    elim (nat_lt (output + 1) state.count) as (λ b. (component_after (if b then Wishes (record state { place = Copying id (output + 1) }) (with_made held (kind_at held.packets id) (text_at held.packets id)) (send_at output (next_id held)) else Wishes (record state { place = Waiting }) held (send_at output id))).count ≡ state.count) [ true ↦ refl | false ↦ refl ]
 
-on-count : (state : CopyState) (held : Held) (place : CopyPlace) → (part_after (goes_on state held place)).count ≡ state.count
+on-count : (state : CopyState) (held : Held) (place : CopyPlace) → (component_after (goes_on state held place)).count ≡ state.count
 on-count state held Waiting = refl
 on-count state held (Copying id output) = copies-count state held id output
 
 -- how many outputs there are stays
-pub next-count : (state : CopyState) (held : Held) (answer : Answer) → (part_after (copy_next state held answer)).count ≡ state.count
+pub next-count : (state : CopyState) (held : Held) (answer : Answer) → (component_after (copy_next state held answer)).count ≡ state.count
 next-count state held answers.Start = refl
 next-count state held (answers.Got id) = copies-count state held id 0
 next-count state held answers.End = refl
@@ -69,6 +69,6 @@ copy_stays_ready state held answer outcome r is = subst (StaysReady CopyReady) (
 
 pub copy_steady : (state : CopyState) (held : Held) (answer : Answer) (outcome : Outcome CopyState) → CopyNext state held answer outcome → IsSteady copy_shape copy_uses state outcome
 copy_steady state held answer outcome is =
-    let e = ap (λ (o : Outcome CopyState). (part_after o).count) is ∙ next-count state held answer in
+    let e = ap (λ (o : Outcome CopyState). (component_after o).count) is ∙ next-count state held answer in
     let used : ℕ → ℕ → Bool = λ n port. nat_lt port n in
     record { shape = ap (λ (n : ℕ). record { inputs = 1; outputs = n }) e; outputs = ap used e }

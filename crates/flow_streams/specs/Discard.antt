@@ -9,12 +9,12 @@ use Rattle.flow_component.specs.Ports.{receive_first}
 
 -- It receives; it drops what it got, and receives again; at the end it deactivates.
 abbrev pub discards : {K : Type 0} → K → Held → Answer → Outcome K
-discards part held answers.Start = Wishes part held receive_first
-discards part held (answers.Got id) = Wishes part (without_packet held id) receive_first
-discards part held answers.End = Wishes part held Deactivate
-discards part held answers.Sent = Wishes part held receive_first
-discards part held (answers.Level n) = Wishes part held Deactivate
+discards component held answers.Start = Wishes component held receive_first
+discards component held (answers.Got id) = Wishes component (without_packet held id) receive_first
+discards component held answers.End = Wishes component held Deactivate
+discards component held answers.Sent = Wishes component held receive_first
+discards component held (answers.Level n) = Wishes component held Deactivate
 
 -- It comes to this alone.
 abbrev pub DiscardNext : {K : Type 0} → K → Held → Answer → Outcome K → Type 0
-DiscardNext part held answer outcome = outcome ≡ discards part held answer
+DiscardNext component held answer outcome = outcome ≡ discards component held answer

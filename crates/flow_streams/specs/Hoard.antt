@@ -18,4 +18,4 @@ hoards (answers.Level n) = Deactivate
 
 -- It comes to this alone, and leaves the hands as they are.
 abbrev pub HoardNext : {K : Type 0} → K → Held → Answer → Outcome K → Type 0
-HoardNext part held answer outcome = outcome ≡ Wishes part held (hoards answer)
+HoardNext component held answer outcome = outcome ≡ Wishes component held (hoards answer)

@@ -24,11 +24,11 @@ after held answers.End = at_hand_idle held
 after held answers.Sent = at_hand_received held first_port
 after held (answers.Level n) = at_hand_idle held
 
-pub hoard_obeys : {K : Type 0} (part : K) (held : Held) (answer : Answer) (outcome : Outcome K) → IsAtHand held answer → HoardNext part held answer outcome → Obeys one_to_none uses_none held outcome
-hoard_obeys part held answer outcome r is = subst (Obeys one_to_none uses_none held) (sym is) (comes_same held, allowed held answer r)
+pub hoard_obeys : {K : Type 0} (component : K) (held : Held) (answer : Answer) (outcome : Outcome K) → IsAtHand held answer → HoardNext component held answer outcome → Obeys one_to_none uses_none held outcome
+hoard_obeys component held answer outcome r is = subst (Obeys one_to_none uses_none held) (sym is) (comes_same held, allowed held answer r)
 
-pub hoard_stays_ready : {K : Type 0} (part : K) (held : Held) (answer : Answer) (outcome : Outcome K) → IsAtHand held answer → HoardNext part held answer outcome → StaysReady (λ (_ : K). IsAtHand) outcome
-hoard_stays_ready {K} part held answer outcome r is = subst (StaysReady (λ (_ : K). IsAtHand)) (sym is) (after held answer)
+pub hoard_stays_ready : {K : Type 0} (component : K) (held : Held) (answer : Answer) (outcome : Outcome K) → IsAtHand held answer → HoardNext component held answer outcome → StaysReady (λ (_ : K). IsAtHand) outcome
+hoard_stays_ready {K} component held answer outcome r is = subst (StaysReady (λ (_ : K). IsAtHand)) (sym is) (after held answer)
 
-pub hoard_steady : {K : Type 0} (part : K) (held : Held) (answer : Answer) (outcome : Outcome K) → HoardNext part held answer outcome → IsSteady (λ _. one_to_none) (λ _. uses_none) part outcome
-hoard_steady part held answer outcome is = subst (IsSteady (λ _. one_to_none) (λ _. uses_none) part) (sym is) (record { shape = refl; outputs = refl })
+pub hoard_steady : {K : Type 0} (component : K) (held : Held) (answer : Answer) (outcome : Outcome K) → HoardNext component held answer outcome → IsSteady (λ _. one_to_none) (λ _. uses_none) component outcome
+hoard_steady component held answer outcome is = subst (IsSteady (λ _. one_to_none) (λ _. uses_none) component) (sym is) (record { shape = refl; outputs = refl })

@@ -22,9 +22,11 @@ pub record LoadState : Type 0 where
   pub chosen : ℕ
   pub place : LoadPlace
 
+-- The wish to send to an output.
 abbrev pub send_at : ℕ → ℕ → Wish
 send_at output id = Send (record { 0 = output }) id
 
+-- The wish to learn how full an output is.
 abbrev pub level_at : ℕ → Wish
 level_at output = Level (record { 0 = output })
 
@@ -43,6 +45,7 @@ abbrev pub comes_at : LoadState → Held → ℕ → ℕ → Outcome LoadState
 comes_at state held id zero = Wishes (record state { place = Asking id 0 no_level }) held (level_at 0)
 comes_at state held id (suc outer) = Wishes state held (send_at state.chosen id)
 
+-- What comes of a packet, by its kind.
 abbrev pub comes : LoadState → Held → ℕ → Kind → Outcome LoadState
 comes state held id kind = comes_at (record state { depth = depth_after kind state.depth }) held id state.depth
 
@@ -58,10 +61,12 @@ weighs state held id output least level =
     if nat_lt level least then asks_on (record state { chosen = output }) held id output level
     else asks_on state held id output least
 
+-- What comes of a level.
 abbrev pub learns : LoadState → Held → LoadPlace → ℕ → Outcome LoadState
 learns state held Waiting level = Wishes state held Deactivate
 learns state held (Asking id output least) level = weighs state held id output least level
 
+-- The rule, by what it is told.
 abbrev pub load_next : LoadState → Held → Answer → Outcome LoadState
 load_next state held answers.Start = Wishes state held receive_first
 load_next state held (answers.Got id) = comes state held id (kind_at held.packets id)
@@ -73,6 +78,7 @@ load_next state held (answers.Level level) = learns state held state.place level
 abbrev pub LoadNext : LoadState → Held → Answer → Outcome LoadState → Type 0
 LoadNext state held answer outcome = outcome ≡ load_next state held answer
 
+-- One input, and the outputs that it was made for.
 abbrev pub load_shape : LoadState → Shape
 load_shape state = record { inputs = 1; outputs = state.count }
 

@@ -6,7 +6,7 @@ use Rattle.flow_packet.specs.Hands.{kind_at}
 use Rattle.flow_packet.specs.Held.{Held}
 use Rattle.flow_component.specs.declared.Answer.{Answer}
 use Rattle.flow_component.specs.declared.Answer.TheVariants as answers
-use Rattle.flow_component.specs.Laws.{Outcome, Wishes, Obeys, StaysReady, IsSteady, part_after}
+use Rattle.flow_component.specs.Laws.{Outcome, Wishes, Obeys, StaysReady, IsSteady, component_after}
 use Rattle.flow_component.specs.Ports.{receive_first}
 use Rattle.flow_component.specs.Alone.{HoldsOnly}
 use Rattle.flow_component.proofs.Comings.{comes_same}
@@ -56,27 +56,27 @@ lawful state held answers.End r = ((comes_same held, tt), λ s. r)
 lawful state held answers.Sent r = idle state held r.0 r.1 r.2
 lawful state held (answers.Level level) r = learned state held state.place level r.0 r.1
 
-asked-count : (state : LoadState) (held : Held) (id output least : ℕ) → (part_after (asks_on state held id output least)).count ≡ state.count
+asked-count : (state : LoadState) (held : Held) (id output least : ℕ) → (component_after (asks_on state held id output least)).count ≡ state.count
 asked-count state held id output least =
-    elim (nat_lt (output + 1) state.count) as (λ b. (part_after (if b then Wishes (record state { place = Asking id (output + 1) least }) held (level_at (output + 1)) else Wishes (record state { place = Waiting }) held (send_at state.chosen id))).count ≡ state.count) [
+    elim (nat_lt (output + 1) state.count) as (λ b. (component_after (if b then Wishes (record state { place = Asking id (output + 1) least }) held (level_at (output + 1)) else Wishes (record state { place = Waiting }) held (send_at state.chosen id))).count ≡ state.count) [
       | true ↦ refl
       | false ↦ refl
     ]
 
-learned-count : (state : LoadState) (held : Held) (place : LoadPlace) (level : ℕ) → (part_after (learns state held place level)).count ≡ state.count
+learned-count : (state : LoadState) (held : Held) (place : LoadPlace) (level : ℕ) → (component_after (learns state held place level)).count ≡ state.count
 learned-count state held Waiting level = refl
 learned-count state held (Asking id output least) level =
-    elim (nat_lt level least) as (λ b. (part_after (if b then asks_on (record state { chosen = output }) held id output level else asks_on state held id output least)).count ≡ state.count) [
+    elim (nat_lt level least) as (λ b. (component_after (if b then asks_on (record state { chosen = output }) held id output level else asks_on state held id output least)).count ≡ state.count) [
       | true ↦ asked-count (record state { chosen = output }) held id output level
       | false ↦ asked-count state held id output least
     ]
 
-came-count : (state : LoadState) (held : Held) (id depth : ℕ) → (part_after (comes_at state held id depth)).count ≡ state.count
+came-count : (state : LoadState) (held : Held) (id depth : ℕ) → (component_after (comes_at state held id depth)).count ≡ state.count
 came-count state held id zero = refl
 came-count state held id (suc outer) = refl
 
 -- how many outputs there are stays
-pub next-count : (state : LoadState) (held : Held) (answer : Answer) → (part_after (load_next state held answer)).count ≡ state.count
+pub next-count : (state : LoadState) (held : Held) (answer : Answer) → (component_after (load_next state held answer)).count ≡ state.count
 next-count state held answers.Start = refl
 next-count state held (answers.Got id) = came-count (record state { depth = depth_after (kind_at held.packets id) state.depth }) held id state.depth
 next-count state held answers.End = refl
@@ -91,6 +91,6 @@ load_stays_ready state held answer outcome r is = subst (StaysReady LoadReady) (
 
 pub load_steady : (state : LoadState) (held : Held) (answer : Answer) (outcome : Outcome LoadState) → LoadNext state held answer outcome → IsSteady load_shape load_uses state outcome
 load_steady state held answer outcome is =
-    let e = ap (λ (o : Outcome LoadState). (part_after o).count) is ∙ next-count state held answer in
+    let e = ap (λ (o : Outcome LoadState). (component_after o).count) is ∙ next-count state held answer in
     let used : ℕ → ℕ → Bool = λ n port. nat_lt port n in
     record { shape = ap (λ (n : ℕ). record { inputs = 1; outputs = n }) e; outputs = ap used e }

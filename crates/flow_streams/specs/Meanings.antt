@@ -30,7 +30,7 @@ use Rattle.flow_streams.specs.Selected.{IsSelected}
 
 -- A Passthru sends what it gets.
 abbrev pub PassthruMeaning : Type 0 → Type 0
-PassthruMeaning K = (part : K) (told : List Happening) → EndedRun (λ (_ : K). IsAtHand) PassthruNext part told → sent 0 told ≡ got 0 told
+PassthruMeaning K = (component : K) (told : List Happening) → EndedRun (λ (_ : K). IsAtHand) PassthruNext component told → sent 0 told ≡ got 0 told
 
 -- A Copy at its start.
 abbrev pub fresh_copy : ℕ → CopyState
@@ -75,10 +75,11 @@ CollateMeaning = (fields : List ℕ) (n : ℕ) (told : List Happening) → 1 ≤
 
 -- A Discard sends nothing, and neither does a Hoard.
 abbrev pub DiscardMeaning : Type 0 → Type 0
-DiscardMeaning K = (part : K) (told : List Happening) → EndedRun (λ (_ : K). IsAtHand) DiscardNext part told → (port : ℕ) → sent port told ≡ []
+DiscardMeaning K = (component : K) (told : List Happening) → EndedRun (λ (_ : K). IsAtHand) DiscardNext component told → (port : ℕ) → sent port told ≡ []
 
+-- A Hoard sends nothing, over whole runs.
 abbrev pub HoardMeaning : Type 0 → Type 0
-HoardMeaning K = (part : K) (told : List Happening) → EndedRun (λ (_ : K). IsAtHand) HoardNext part told → (port : ℕ) → sent port told ≡ []
+HoardMeaning K = (component : K) (told : List Happening) → EndedRun (λ (_ : K). IsAtHand) HoardNext component told → (port : ℕ) → sent port told ≡ []
 
 -- An Unbundle sends what it gets, with each packet that has a chain of items replaced by a substream of them.
 abbrev pub UnbundleMeaning : Type 0

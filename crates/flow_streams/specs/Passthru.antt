@@ -1,4 +1,4 @@
--- The component that passes every packet on. It has no state of its own, so its meaning is that of any such part.
+-- The component that passes every packet on. It has no state of its own, so its meaning is that of any such component.
 use Rattle.std.specs.Prelude.{◌≡◌}
 use Rattle.flow_packet.specs.Held.{Held}
 use Rattle.flow_component.specs.declared.Answer.{Answer}
@@ -18,4 +18,4 @@ passes (answers.Level n) = Deactivate
 
 -- It comes to this alone, and leaves the hands as they are.
 abbrev pub PassthruNext : {K : Type 0} → K → Held → Answer → Outcome K → Type 0
-PassthruNext part held answer outcome = outcome ≡ Wishes part held (passes answer)
+PassthruNext component held answer outcome = outcome ≡ Wishes component held (passes answer)

@@ -24,11 +24,11 @@ after held answers.End = at_hand_idle held
 after held answers.Sent = at_hand_received held first_port
 after held (answers.Level n) = at_hand_idle held
 
-pub passthru_obeys : {K : Type 0} (part : K) (held : Held) (answer : Answer) (outcome : Outcome K) → IsAtHand held answer → PassthruNext part held answer outcome → Obeys one_to_one uses_first held outcome
-passthru_obeys part held answer outcome r is = subst (Obeys one_to_one uses_first held) (sym is) (comes_same held, allowed held answer r)
+pub passthru_obeys : {K : Type 0} (component : K) (held : Held) (answer : Answer) (outcome : Outcome K) → IsAtHand held answer → PassthruNext component held answer outcome → Obeys one_to_one uses_first held outcome
+passthru_obeys component held answer outcome r is = subst (Obeys one_to_one uses_first held) (sym is) (comes_same held, allowed held answer r)
 
-pub passthru_stays_ready : {K : Type 0} (part : K) (held : Held) (answer : Answer) (outcome : Outcome K) → IsAtHand held answer → PassthruNext part held answer outcome → StaysReady (λ (_ : K). IsAtHand) outcome
-passthru_stays_ready {K} part held answer outcome r is = subst (StaysReady (λ (_ : K). IsAtHand)) (sym is) (after held answer)
+pub passthru_stays_ready : {K : Type 0} (component : K) (held : Held) (answer : Answer) (outcome : Outcome K) → IsAtHand held answer → PassthruNext component held answer outcome → StaysReady (λ (_ : K). IsAtHand) outcome
+passthru_stays_ready {K} component held answer outcome r is = subst (StaysReady (λ (_ : K). IsAtHand)) (sym is) (after held answer)
 
-pub passthru_steady : {K : Type 0} (part : K) (held : Held) (answer : Answer) (outcome : Outcome K) → PassthruNext part held answer outcome → IsSteady (λ _. one_to_one) (λ _. uses_first) part outcome
-passthru_steady part held answer outcome is = record { shape = refl; outputs = refl }
+pub passthru_steady : {K : Type 0} (component : K) (held : Held) (answer : Answer) (outcome : Outcome K) → PassthruNext component held answer outcome → IsSteady (λ _. one_to_one) (λ _. uses_first) component outcome
+passthru_steady component held answer outcome is = record { shape = refl; outputs = refl }

@@ -26,6 +26,7 @@ pub record SelectState : Type 0 where
 abbrev pub key_port : Port
 key_port = record { 0 = 0 }
 
+-- The input of the packets.
 abbrev pub in_port : Port
 in_port = record { 0 = 1 }
 
@@ -33,9 +34,11 @@ in_port = record { 0 = 1 }
 abbrev pub accepted_port : Port
 accepted_port = record { 0 = 0 }
 
+-- The output of those that were rejected.
 abbrev pub rejected_port : Port
 rejected_port = record { 0 = 1 }
 
+-- The same component at another place of its rule.
 abbrev pub at_place : SelectState → SelectPlace → SelectState
 at_place state place = record state { place = place }
 
@@ -77,6 +80,7 @@ hears_end state held (Keyed key) = Wishes (at_place state Waiting) (without_pack
 hears_end state held Unkeyed = Wishes (at_place state Waiting) held Deactivate
 hears_end state held Passing = Wishes state held Deactivate
 
+-- The rule, by what it is told.
 abbrev pub select_next : SelectState → Held → Answer → Outcome SelectState
 select_next state held answers.Start = Wishes state held (Receive key_port)
 select_next state held (answers.Got id) = comes_as state held id (kind_at held.packets id)
@@ -110,6 +114,7 @@ HasCome held id (Keyed key) = HoldsTwo held key id
 HasCome held id Unkeyed = HoldsOnly held id
 HasCome held id Passing = ⊥
 
+-- What it can be told.
 abbrev pub SelectReady : SelectState → Held → Answer → Type 0
 SelectReady state held answers.Start = (state.place ≡ Waiting) × (held.packets ≡ [])
 SelectReady state held (answers.Got id) = HasCome held id state.place

@@ -10,7 +10,7 @@ use Rattle.flow_packet.specs.Held.{Held, Sound, next_id, with_packet, with_made,
 use Rattle.flow_component.specs.declared.Answer.{Answer}
 use Rattle.flow_component.specs.declared.Answer.TheVariants as answers
 use Rattle.flow_component.specs.declared.Wish.TheVariants.{Receive, Send, Deactivate}
-use Rattle.flow_component.specs.Laws.{Outcome, Wishes, Obeys, StaysReady, IsSteady, part_after}
+use Rattle.flow_component.specs.Laws.{Outcome, Wishes, Obeys, StaysReady, IsSteady, component_after}
 use Rattle.flow_component.proofs.Roots.{same_id}
 use Rattle.flow_component.proofs.Comings.{comes_same, comes_dropped}
 use Rattle.flow_component.proofs.Lone.{HoldsOnly-without, HoldsOnly-root, HoldsOnly-came, HoldsOnly-made_alone}
@@ -109,32 +109,32 @@ lawful state held answers.End r = ended state held state.place r
 lawful state held answers.Sent r = ((comes_same held, tt), λ s. (refl, r.1))
 lawful state held (answers.Level level) r = absurd r
 
-rejected-rejects : (state : SelectState) (held : Held) (id : ℕ) → (part_after (rejects_packet state held id)).rejects ≡ state.rejects
+rejected-rejects : (state : SelectState) (held : Held) (id : ℕ) → (component_after (rejects_packet state held id)).rejects ≡ state.rejects
 rejected-rejects state held id =
-    elim state.rejects as (λ b. (part_after (if b then Wishes (at_place state Passing) held (Send rejected_port id) else Wishes (at_place state Waiting) (without_packet held id) Deactivate)).rejects ≡ state.rejects) [ true ↦ refl | false ↦ refl ]
+    elim state.rejects as (λ b. (component_after (if b then Wishes (at_place state Passing) held (Send rejected_port id) else Wishes (at_place state Waiting) (without_packet held id) Deactivate)).rejects ≡ state.rejects) [ true ↦ refl | false ↦ refl ]
 
-taken-rejects : (state : SelectState) (held : Held) (id : ℕ) (place : SelectPlace) → (part_after (comes state held id place)).rejects ≡ state.rejects
+taken-rejects : (state : SelectState) (held : Held) (id : ℕ) (place : SelectPlace) → (component_after (comes state held id place)).rejects ≡ state.rejects
 taken-rejects state held id Waiting = refl
 taken-rejects state held id (Keyed key) =
-    elim (starts_with nat_eq (text_at held.packets id) (text_at held.packets key)) as (λ b. (part_after (if b then Wishes (at_place state Passing) (without_packet held key) (Send accepted_port id) else rejects_packet state (without_packet held key) id)).rejects ≡ state.rejects) [
+    elim (starts_with nat_eq (text_at held.packets id) (text_at held.packets key)) as (λ b. (component_after (if b then Wishes (at_place state Passing) (without_packet held key) (Send accepted_port id) else rejects_packet state (without_packet held key) id)).rejects ≡ state.rejects) [
       | true ↦ refl
       | false ↦ rejected-rejects state (without_packet held key) id
     ]
 taken-rejects state held id Unkeyed = rejected-rejects state held id
 taken-rejects state held id Passing = refl
 
-as-rejects : (state : SelectState) (held : Held) (id : ℕ) (kind : Kind) → (part_after (comes_as state held id kind)).rejects ≡ state.rejects
+as-rejects : (state : SelectState) (held : Held) (id : ℕ) (kind : Kind) → (component_after (comes_as state held id kind)).rejects ≡ state.rejects
 as-rejects state held id Normal = taken-rejects state held id state.place
 as-rejects state held id Open = refl
 as-rejects state held id Close = refl
 
-ended-rejects : (state : SelectState) (held : Held) (place : SelectPlace) → (part_after (hears_end state held place)).rejects ≡ state.rejects
+ended-rejects : (state : SelectState) (held : Held) (place : SelectPlace) → (component_after (hears_end state held place)).rejects ≡ state.rejects
 ended-rejects state held Waiting = refl
 ended-rejects state held (Keyed key) = refl
 ended-rejects state held Unkeyed = refl
 ended-rejects state held Passing = refl
 
-next-rejects : (state : SelectState) (held : Held) (answer : Answer) → (part_after (select_next state held answer)).rejects ≡ state.rejects
+next-rejects : (state : SelectState) (held : Held) (answer : Answer) → (component_after (select_next state held answer)).rejects ≡ state.rejects
 next-rejects state held answers.Start = refl
 next-rejects state held (answers.Got id) = as-rejects state held id (kind_at held.packets id)
 next-rejects state held answers.End = ended-rejects state held state.place
@@ -149,5 +149,5 @@ select_stays_ready state held answer outcome r is = subst (StaysReady SelectRead
 
 pub select_steady : (state : SelectState) (held : Held) (answer : Answer) (outcome : Outcome SelectState) → SelectNext state held answer outcome → IsSteady (λ _. select_shape) select_uses state outcome
 select_steady state held answer outcome is =
-    let e = ap (λ (o : Outcome SelectState). (part_after o).rejects) is ∙ next-rejects state held answer in
+    let e = ap (λ (o : Outcome SelectState). (component_after o).rejects) is ∙ next-rejects state held answer in
     record { shape = refl; outputs = ap used e }

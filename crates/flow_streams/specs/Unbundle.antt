@@ -29,29 +29,32 @@ abbrev pub goes_on : Held → Unbundle → Outcome Unbundle
 goes_on held Waiting = Wishes Waiting held receive_first
 goes_on held (Unpacking id) = unpacks held id (chain_of_root held.packets id items)
 
+-- The rule, by what it is told.
 abbrev pub unbundle_next : Unbundle → Held → Answer → Outcome Unbundle
-unbundle_next part held answers.Start = Wishes Waiting held receive_first
-unbundle_next part held (answers.Got id) = opens_up held id (chain_of_root held.packets id items)
-unbundle_next part held answers.End = Wishes Waiting held Deactivate
-unbundle_next part held answers.Sent = goes_on held part
-unbundle_next part held (answers.Level n) = Wishes Waiting held Deactivate
+unbundle_next component held answers.Start = Wishes Waiting held receive_first
+unbundle_next component held (answers.Got id) = opens_up held id (chain_of_root held.packets id items)
+unbundle_next component held answers.End = Wishes Waiting held Deactivate
+unbundle_next component held answers.Sent = goes_on held component
+unbundle_next component held (answers.Level n) = Wishes Waiting held Deactivate
 
 -- It comes to this alone.
 abbrev pub UnbundleNext : Unbundle → Held → Answer → Outcome Unbundle → Type 0
-UnbundleNext part held answer outcome = outcome ≡ unbundle_next part held answer
+UnbundleNext component held answer outcome = outcome ≡ unbundle_next component held answer
 
 -- Between packets the hands are empty, and a packet that is unpacked is alone in them.
 abbrev pub IsReadyOn : Held → Unbundle → Type 0
 IsReadyOn held Waiting = held.packets ≡ []
 IsReadyOn held (Unpacking id) = HoldsOnly held id × Sound held
 
+-- It unpacks no bundle.
 abbrev pub IsWaiting : Unbundle → Type 0
 IsWaiting Waiting = Unit {0}
 IsWaiting (Unpacking id) = ⊥
 
+-- What it can be told.
 abbrev pub UnbundleReady : Unbundle → Held → Answer → Type 0
-UnbundleReady part held answers.Start = IsWaiting part × (held.packets ≡ [])
-UnbundleReady part held (answers.Got id) = IsWaiting part × HoldsOnly held id
-UnbundleReady part held answers.End = IsWaiting part × (held.packets ≡ [])
-UnbundleReady part held answers.Sent = IsReadyOn held part
-UnbundleReady part held (answers.Level n) = ⊥
+UnbundleReady component held answers.Start = IsWaiting component × (held.packets ≡ [])
+UnbundleReady component held (answers.Got id) = IsWaiting component × HoldsOnly held id
+UnbundleReady component held answers.End = IsWaiting component × (held.packets ≡ [])
+UnbundleReady component held answers.Sent = IsReadyOn held component
+UnbundleReady component held (answers.Level n) = ⊥

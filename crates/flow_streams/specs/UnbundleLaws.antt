@@ -46,7 +46,7 @@ ids-parts t = ap ids (sym (with_chains-same t)) ∙ ap (λ (ns : List ℕ). id_o
 pub child-apart : (held : Held) (t child : Tree) (children : List Tree) → Sound held → held.packets ≡ t ∷ [] → chain_at (chains_of t) items ≡ child ∷ children → id_of t ≡ id_of child → ⊥
 child-apart held t child children s e chain same =
     let once : times (id_of child) (all_ids (t ∷ [])) ≤ 1 = subst (λ (ts : List Tree). times (id_of child) (all_ids ts) ≤ 1) e (s.once (id_of child)) in
-    let parts : times (id_of child) (all_ids (t ∷ [])) ≡ times (id_of child) ((id_of t ∷ chain_ids (chains_of t)) ++ []) = ap (λ (ns : List ℕ). times (id_of child) (ns ++ [])) (ids-parts t) in
+    let all : times (id_of child) (all_ids (t ∷ [])) ≡ times (id_of child) ((id_of t ∷ chain_ids (chains_of t)) ++ []) = ap (λ (ns : List ℕ). times (id_of child) (ns ++ [])) (ids-parts t) in
     let h = eq-eqb (id_of t) (id_of child) same in
     let more : times (id_of child) ((id_of t ∷ chain_ids (chains_of t)) ++ []) ≡ 1 + (times (id_of child) (chain_ids (chains_of t)) + 0) = rw h (omega (arith, times-append (id_of child) (chain_ids (chains_of t)) [])) in
     omega (arith, child-times (chains_of t) items child children chain)
@@ -100,22 +100,22 @@ unpacked held id (child ∷ children) is h sound =
     let left = without_packet new (id_of child) in
     ((by, (refl, IsAtRoot-last (detached held.packets id items) child)), λ s. (record { packet = t; holds = gone; named = h.named; older = λ e. Sound-older left t s gone (h.named ∙ e) }, s))
 
-went_on : (held : Held) (part : Unbundle) → IsReadyOn held part → Lawful held (goes_on held part)
+went_on : (held : Held) (component : Unbundle) → IsReadyOn held component → Lawful held (goes_on held component)
 went_on held Waiting r = idle held r
 went_on held (Unpacking id) r = unpacked held id (chain_of_root held.packets id items) refl r.0 r.1
 
-lawful : (part : Unbundle) (held : Held) (answer : Answer) → UnbundleReady part held answer → Lawful held (unbundle_next part held answer)
-lawful part held answers.Start r = idle held r.1
-lawful part held (answers.Got id) r = opened held id (chain_of_root held.packets id items) r.1
-lawful part held answers.End r = ((comes_same held, tt), λ s. (tt, r.1))
-lawful part held answers.Sent r = went_on held part r
-lawful part held (answers.Level n) r = absurd r
+lawful : (component : Unbundle) (held : Held) (answer : Answer) → UnbundleReady component held answer → Lawful held (unbundle_next component held answer)
+lawful component held answers.Start r = idle held r.1
+lawful component held (answers.Got id) r = opened held id (chain_of_root held.packets id items) r.1
+lawful component held answers.End r = ((comes_same held, tt), λ s. (tt, r.1))
+lawful component held answers.Sent r = went_on held component r
+lawful component held (answers.Level n) r = absurd r
 
-pub unbundle_obeys : (part : Unbundle) (held : Held) (answer : Answer) (outcome : Outcome Unbundle) → UnbundleReady part held answer → UnbundleNext part held answer outcome → Obeys one_to_one uses_first held outcome
-unbundle_obeys part held answer outcome r is = subst (Obeys one_to_one uses_first held) (sym is) (lawful part held answer r).0
+pub unbundle_obeys : (component : Unbundle) (held : Held) (answer : Answer) (outcome : Outcome Unbundle) → UnbundleReady component held answer → UnbundleNext component held answer outcome → Obeys one_to_one uses_first held outcome
+unbundle_obeys component held answer outcome r is = subst (Obeys one_to_one uses_first held) (sym is) (lawful component held answer r).0
 
-pub unbundle_stays_ready : (part : Unbundle) (held : Held) (answer : Answer) (outcome : Outcome Unbundle) → UnbundleReady part held answer → UnbundleNext part held answer outcome → StaysReady UnbundleReady outcome
-unbundle_stays_ready part held answer outcome r is = subst (StaysReady UnbundleReady) (sym is) (lawful part held answer r).1
+pub unbundle_stays_ready : (component : Unbundle) (held : Held) (answer : Answer) (outcome : Outcome Unbundle) → UnbundleReady component held answer → UnbundleNext component held answer outcome → StaysReady UnbundleReady outcome
+unbundle_stays_ready component held answer outcome r is = subst (StaysReady UnbundleReady) (sym is) (lawful component held answer r).1
 
-pub unbundle_steady : (part : Unbundle) (held : Held) (answer : Answer) (outcome : Outcome Unbundle) → UnbundleNext part held answer outcome → IsSteady (λ _. one_to_one) (λ _. uses_first) part outcome
-unbundle_steady part held answer outcome is = record { shape = refl; outputs = refl }
+pub unbundle_steady : (component : Unbundle) (held : Held) (answer : Answer) (outcome : Outcome Unbundle) → UnbundleNext component held answer outcome → IsSteady (λ _. one_to_one) (λ _. uses_first) component outcome
+unbundle_steady component held answer outcome is = record { shape = refl; outputs = refl }

@@ -55,7 +55,7 @@ impl Bundle {
         depth: u32,
     ) -> Result<Wish, Stop>
         requires two { HoldsTwo (held_of hands.old) bundle packet }
-        ensures { Resumes (λ part held _ outcome. outcome ≡ gathers part held bundle packet depth) self.old hands.old Answer.Sent result self.new hands.new }
+        ensures { Resumes (λ component held _ outcome. outcome ≡ gathers component held bundle packet depth) self.old hands.old Answer.Sent result self.new hands.new }
     {
         match hands.attach(bundle, ITEMS, packet) {
             Ok(()) => {
@@ -98,7 +98,7 @@ impl Component for Bundle {
 
     ghost steady = { bundle_steady };
 
-    ghost has_outcome = { λ part held answer _. (bundle_next part held answer, refl) };
+    ghost has_outcome = { λ component held answer _. (bundle_next component held answer, refl) };
 
     fn shape(&self) -> Shape {
         Shape {

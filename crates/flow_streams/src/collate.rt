@@ -8,8 +8,8 @@ ghost use Rattle.flow_component.specs.Resumes.{Resumes};
 ghost use Rattle.flow_streams.specs.CollateState.{CollateState};
 ghost use Rattle.flow_streams.specs.Collation.{width, goes_before, first_of, or_later, levels_that_differ, packet_there};
 
-use flow_limits::{ELEMENT_LIMIT, HANDS_LIMIT, TEXT_LIMIT};
 use flow_component::{Answer, Component, Fail, Port, Shape, Stop, Wish};
+use flow_limits::{ELEMENT_LIMIT, HANDS_LIMIT, TEXT_LIMIT};
 use flow_packet::{Hands, HandsStop, Kind, Packet, PacketId};
 use std::alloc::AllocError;
 use std::cmp::Ordering;
@@ -441,7 +441,7 @@ impl Component for Collate {
 
     ghost steady = { collate_steady };
 
-    ghost has_outcome = { λ part held answer _. (collate_next part held answer, refl) };
+    ghost has_outcome = { λ component held answer _. (collate_next component held answer, refl) };
 
     fn shape(&self) -> Shape {
         Shape {

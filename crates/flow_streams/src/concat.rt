@@ -3,8 +3,8 @@
 ghost use Rattle.std.specs.Prelude.{◌≡◌, ◌≤◌};
 ghost use Rattle.flow_streams.specs.Concat.{ConcatState};
 
-use flow_limits::ELEMENT_LIMIT;
 use flow_component::{Answer, Component, Port, Shape, Stop, Wish};
+use flow_limits::ELEMENT_LIMIT;
 use flow_packet::Hands;
 use std::marker::Model;
 
@@ -57,7 +57,7 @@ impl Component for Concat {
 
     ghost steady = { concat_steady };
 
-    ghost has_outcome = { λ part held answer _. (concat_next part held answer, refl) };
+    ghost has_outcome = { λ component held answer _. (concat_next component held answer, refl) };
 
     fn shape(&self) -> Shape {
         Shape {

@@ -6,8 +6,8 @@ ghost use Rattle.flow_component.specs.Alone.{HoldsOnly};
 ghost use Rattle.flow_component.specs.Resumes.{Resumes};
 ghost use Rattle.flow_streams.specs.Copy.{CopyState};
 
-use flow_limits::ELEMENT_LIMIT;
 use flow_component::{Answer, Component, Port, Shape, Stop, Wish};
+use flow_limits::ELEMENT_LIMIT;
 use flow_packet::{Hands, PacketId};
 use std::marker::Model;
 
@@ -107,7 +107,7 @@ impl Component for Copy {
 
     ghost steady = { copy_steady };
 
-    ghost has_outcome = { λ part held answer _. (copy_next part held answer, refl) };
+    ghost has_outcome = { λ component held answer _. (copy_next component held answer, refl) };
 
     fn shape(&self) -> Shape {
         Shape {

@@ -35,7 +35,7 @@ impl Component for Discard {
 
     ghost steady = { discard_steady };
 
-    ghost has_outcome = { λ part held answer _. (discards part held answer, refl) };
+    ghost has_outcome = { λ component held answer _. (discards component held answer, refl) };
 
     fn shape(&self) -> Shape {
         Shape {

@@ -36,7 +36,7 @@ impl Component for Hoard {
 
     ghost steady = { hoard_steady };
 
-    ghost has_outcome = { λ part held answer _. (Wishes part held (hoards answer), refl) };
+    ghost has_outcome = { λ component held answer _. (Wishes component held (hoards answer), refl) };
 
     fn shape(&self) -> Shape {
         Shape {

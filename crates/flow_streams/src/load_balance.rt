@@ -7,8 +7,8 @@ ghost use Rattle.flow_component.specs.Alone.{HoldsOnly};
 ghost use Rattle.flow_component.specs.Resumes.{Resumes};
 ghost use Rattle.flow_streams.specs.LoadBalance.{LoadState, no_level};
 
-use flow_limits::ELEMENT_LIMIT;
 use flow_component::{Answer, Component, Port, Shape, Stop, Wish};
+use flow_limits::ELEMENT_LIMIT;
 use flow_packet::{Hands, Kind, PacketId};
 use std::marker::Model;
 
@@ -147,7 +147,7 @@ impl Component for LoadBalance {
 
     ghost steady = { load_steady };
 
-    ghost has_outcome = { λ part held answer _. (load_next part held answer, refl) };
+    ghost has_outcome = { λ component held answer _. (load_next component held answer, refl) };
 
     fn shape(&self) -> Shape {
         Shape {

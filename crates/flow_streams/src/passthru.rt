@@ -36,7 +36,7 @@ impl Component for Passthru {
 
     ghost steady = { passthru_steady };
 
-    ghost has_outcome = { λ part held answer _. (Wishes part held (passes answer), refl) };
+    ghost has_outcome = { λ component held answer _. (Wishes component held (passes answer), refl) };
 
     fn shape(&self) -> Shape {
         Shape {

@@ -174,7 +174,7 @@ impl Component for Select {
 
     ghost steady = { select_steady };
 
-    ghost has_outcome = { λ part held answer _. (select_next part held answer, refl) };
+    ghost has_outcome = { λ component held answer _. (select_next component held answer, refl) };
 
     fn shape(&self) -> Shape {
         Shape {

@@ -77,7 +77,7 @@ impl Unbundle {
     fn go_on(&mut self, hands: &mut Hands) -> Result<Wish, Stop>
         requires ready { IsReadyOn (held_of hands.old) self.old }
         requires room { hands.old.made < 4294967295 }
-        ensures { Resumes (λ part held _ outcome. outcome ≡ goes_on held part) self.old hands.old Answer.Sent result self.new hands.new }
+        ensures { Resumes (λ component held _ outcome. outcome ≡ goes_on held component) self.old hands.old Answer.Sent result self.new hands.new }
     {
         let place = *self;
         match place {
@@ -107,7 +107,7 @@ impl Component for Unbundle {
 
     ghost steady = { unbundle_steady };
 
-    ghost has_outcome = { λ part held answer _. (unbundle_next part held answer, refl) };
+    ghost has_outcome = { λ component held answer _. (unbundle_next component held answer, refl) };
 
     fn shape(&self) -> Shape {
         Shape {

@@ -14,6 +14,7 @@ Named = Name × List ℕ
 abbrev pub Stored : Type 0
 Stored = String Global × Vec ℕ Global
 
+-- A stored file as its name and its bytes.
 abbrev pub named : Stored → Named
 named file = (string_bytes file.0, file.1.items)
 
@@ -61,6 +62,7 @@ pub record IsWritableAt (files : List Stored) (room place : ℕ) : Type 0 where
   pub first : IsFirst (map named files) (string_bytes file.0) place
   pub roomy : room ≤ vec_capacity file.1
 
+-- The file that was created can take a byte more, or none was created.
 abbrev pub IsWritable : List Stored → ℕ → Option ℕ → Type 0
 IsWritable files room None = ⊤
 IsWritable files room (Some place) = IsWritableAt files room place

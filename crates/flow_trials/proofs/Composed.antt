@@ -11,7 +11,7 @@ use Rattle.flow_parts.specs.Meanings.{rendered_all, words_of, fresh_fill}
 use Rattle.flow_parts.specs.declared.words.Words.TheVariants as words_parts
 use Rattle.flow_parts.proofs.OneFilling.{one_filling}
 use Rattle.flow_catalogue.specs.declared.standard.Std.{Std}
-use Rattle.flow_catalogue.specs.declared.standard.Std.TheVariants as parts
+use Rattle.flow_catalogue.specs.declared.standard.Std.TheVariants as components
 use Rattle.flow_catalogue.specs.declared.table.StdKind.TheVariants as kinds
 use Rattle.flow_catalogue.specs.Kinds.{name_of}
 use Rattle.flow_catalogue.specs.Std.{written_of}
@@ -20,10 +20,10 @@ use Rattle.flow_model.proofs.Lists.{map-found}
 use Rattle.flow_meanings.specs.Means.{Means}
 use Rattle.flow_meanings.specs.Composition.{Sending, activated, inputs_of, arriving, leaving, Composes}
 use Rattle.flow_meanings.specs.Chains.{LeadsTo, IsTelegram}
-use Rattle.flow_meanings.specs.Outcomes.{ArePartsOf, IsPartOf, MergesAndBalancesNothing}
-use Rattle.flow_meanings.proofs.Every.{parts-first}
+use Rattle.flow_meanings.specs.Outcomes.{AreComponentsOf, IsComponentOf, MergesAndBalancesNothing}
+use Rattle.flow_meanings.proofs.Every.{components-first}
 use Rattle.flow_meanings.proofs.Chaining.{unmerged-plan, telegram-means}
-use Rattle.flow_trials.specs.Telegram.{telegram, telegram_input, telegram_parts, telegram_on, telegram_wrote, texts_from, sent_by, link}
+use Rattle.flow_trials.specs.Telegram.{telegram, telegram_input, telegram_components, telegram_on, telegram_wrote, texts_from, sent_by, link}
 
 -- what holds of each of four elements holds of every element
 at_four : {X : Type 0} → (P : ℕ → X → Type 0) (a b c d : X) → P 0 a → P 1 b → P 2 c → P 3 d → (k : ℕ) (x : X) → slice_get (a ∷ b ∷ c ∷ d ∷ []) k ≡ Some x → P k x
@@ -47,14 +47,14 @@ process_at (suc p) (x ∷ xs) = process_at p xs
 abbrev process : ℕ → Process
 process p = process_at p telegram.processes
 
-pub are-parts : ArePartsOf telegram telegram_parts
-are-parts p part at =
-    at_four (λ q k. IsPartOf telegram q k) (parts.ReadLines telegram_input) (parts.Words words_parts.Waiting) (parts.Fill (fresh_fill 12)) (parts.WriteLines [])
+pub are-components : AreComponentsOf telegram telegram_components
+are-components p component at =
+    at_four (λ q k. IsComponentOf telegram q k) (components.ReadLines telegram_input) (components.Words words_parts.Waiting) (components.Fill (fresh_fill 12)) (components.WriteLines [])
     (record { process = process 0; there = refl; file = codes "To be or not to be\nthat is the question\n"; made = record { kind = kinds.ReadLines; named = refl; is = refl } })
     (record { process = process 1; there = refl; file = []; made = record { kind = kinds.Words; named = refl; is = refl } })
     (record { process = process 2; there = refl; file = []; made = record { kind = kinds.Fill; named = refl; is = refl } })
     (record { process = process 3; there = refl; file = []; made = record { kind = kinds.WriteLines; named = refl; is = refl } })
-    p part at
+    p component at
 
 -- each packet is from the one sender of its connection
 own-sender : (c k : ℕ) (sending : Sending) → sends_at telegram c 0 ≡ Some c → slice_get (telegram_on c) k ≡ Some sending → sends_at telegram sending.sender.process sending.sender.output ≡ Some c
@@ -84,27 +84,27 @@ filling = last_part (packets_from 1) telegram_lines (refl, (refl, (refl, (refl, 
 
 -- what the composition says of a process
 abbrev IsComposed : ℕ → Process → Std → Type 0
-IsComposed p x part =
-    Means part (telegram_wrote p) (λ i. arriving telegram_on (activated part telegram_on (inputs_of telegram p x)) (input_at telegram p x i)) (λ o. leaving telegram_on (record { process = p; output = o }) (sends_at telegram p o))
+IsComposed p x component =
+    Means component (telegram_wrote p) (λ i. arriving telegram_on (activated component telegram_on (inputs_of telegram p x)) (input_at telegram p x i)) (λ o. leaving telegram_on (record { process = p; output = o }) (sends_at telegram p o))
 
-each : (p : ℕ) (x : Process) (part : Std) → slice_get telegram.processes p ≡ Some x → slice_get telegram_parts p ≡ Some part → IsComposed p x part
-each p x part there here =
-    at_four (λ q y. (k : Std) → slice_get telegram_parts q ≡ Some k → IsComposed q y k) (process 0) (process 1) (process 2) (process 3)
-    (λ k at. subst (IsComposed 0 (process 0)) (let e : parts.ReadLines telegram_input ≡ k = cc in e) refl)
-    (λ k at. subst (IsComposed 1 (process 1)) (let e : parts.Words words_parts.Waiting ≡ k = cc in e) refl)
-    (λ k at. subst (IsComposed 2 (process 2)) (let e : parts.Fill (fresh_fill 12) ≡ k = cc in e) filling)
-    (λ k at. subst (IsComposed 3 (process 3)) (let e : parts.WriteLines [] ≡ k = cc in e) refl)
-    p x there part here
+each : (p : ℕ) (x : Process) (component : Std) → slice_get telegram.processes p ≡ Some x → slice_get telegram_components p ≡ Some component → IsComposed p x component
+each p x component there here =
+    at_four (λ q y. (k : Std) → slice_get telegram_components q ≡ Some k → IsComposed q y k) (process 0) (process 1) (process 2) (process 3)
+    (λ k at. subst (IsComposed 0 (process 0)) (let e : components.ReadLines telegram_input ≡ k = cc in e) refl)
+    (λ k at. subst (IsComposed 1 (process 1)) (let e : components.Words words_parts.Waiting ≡ k = cc in e) refl)
+    (λ k at. subst (IsComposed 2 (process 2)) (let e : components.Fill (fresh_fill 12) ≡ k = cc in e) filling)
+    (λ k at. subst (IsComposed 3 (process 3)) (let e : components.WriteLines [] ≡ k = cc in e) refl)
+    p x there component here
 
-others : (p : ℕ) (part : Std) → slice_get telegram_parts p ≡ Some part → written_of part ≡ None → telegram_wrote p ≡ []
-others zero part at none = refl
-others (suc zero) part at none = refl
-others (suc (suc zero)) part at none = refl
-others (suc (suc (suc zero))) part at none = absurd (let e : parts.WriteLines [] ≡ part = cc in let h : Some [] ≡ None = ap written_of e ∙ none in cc)
-others (suc (suc (suc (suc p)))) part at none = refl
+others : (p : ℕ) (component : Std) → slice_get telegram_components p ≡ Some component → written_of component ≡ None → telegram_wrote p ≡ []
+others zero component at none = refl
+others (suc zero) component at none = refl
+others (suc (suc zero)) component at none = refl
+others (suc (suc (suc zero))) component at none = absurd (let e : components.WriteLines [] ≡ component = cc in let h : Some [] ≡ None = ap written_of e ∙ none in cc)
+others (suc (suc (suc (suc p)))) component at none = refl
 
-pub composed : (m : Composes telegram telegram_parts telegram_wrote) × (m.on ≡ telegram_on)
-composed = (record { one_each = refl; first = parts-first telegram telegram_parts are-parts; on = telegram_on; senders = senders; each = each; others = others }, refl)
+pub composed : (m : Composes telegram telegram_components telegram_wrote) × (m.on ≡ telegram_on)
+composed = (record { one_each = refl; first = components-first telegram telegram_components are-components; on = telegram_on; senders = senders; each = each; others = others }, refl)
 
 -- There is no other file
 
@@ -117,7 +117,7 @@ no-merge = record {
 leads : (p q c : ℕ) → sends_at telegram p 0 ≡ Some c → Rattle.flow_model.specs.Plans.receives_at telegram q 0 ≡ Some c → LeadsTo telegram p q
 leads p q c sends receives = record { connection = c; sends = sends; alone = λ r o is. unmerged-plan telegram no-merge c r o p 0 is sends; receives = receives }
 
-is-telegram : IsTelegram telegram telegram_parts 0 1 2 3 (texts_from 0) 12
+is-telegram : IsTelegram telegram telegram_components 0 1 2 3 (texts_from 0) 12
 is-telegram = record {
   reader = record { process = process 0; there = refl; here = refl };
   splitter = record { process = process 1; there = refl; here = refl };
@@ -128,8 +128,8 @@ is-telegram = record {
   to_writer = leads 2 3 2 refl refl;
 }
 
-pub only : (wrote : ℕ → List ℕ) → Composes telegram telegram_parts wrote → wrote 3 ≡ telegram_wrote 3
+pub only : (wrote : ℕ → List ℕ) → Composes telegram telegram_components wrote → wrote 3 ≡ telegram_wrote 3
 only wrote m =
-    let a = telegram-means telegram telegram_parts wrote 0 1 2 3 (texts_from 0) 12 m is-telegram in
-    let b = telegram-means telegram telegram_parts telegram_wrote 0 1 2 3 (texts_from 0) 12 composed.0 is-telegram in
+    let a = telegram-means telegram telegram_components wrote 0 1 2 3 (texts_from 0) 12 m is-telegram in
+    let b = telegram-means telegram telegram_components telegram_wrote 0 1 2 3 (texts_from 0) 12 composed.0 is-telegram in
     a.2 ∙ ap rendered_all (one_filling 12 (flat_map words_of (map text_packet (texts_from 0))) a.0 b.0 a.1 b.1) ∙ sym b.2

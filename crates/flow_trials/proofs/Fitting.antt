@@ -1,41 +1,41 @@
--- The parts of a plan over the standard kinds fit its processes.
+-- The components of a plan over the standard kinds fit its processes.
 use Rattle.std.proofs.Common.{◌≡◌, ℕ, zero, suc, ◌<◌, List, [], ◌∷◌, ◌++◌, map, length, Some, refl, sym, ◌∙◌, subst, slice_get, arith, nat_lt}
 use Rattle.std.specs.Prelude.{◌≢◌, IsTrue, codes}
 use Rattle.std.proofs.lemmas.Bool.Decides.{nat_tests}
 use Rattle.std.proofs.lemmas.List.{length-map}
 use Rattle.flow_plan.specs.declared.plan.Process.{Process}
 use Rattle.flow_plan.specs.Network.{Network}
-use Rattle.flow_ready.specs.Ready.{PartFits, PartsFit}
+use Rattle.flow_ready.specs.Ready.{ComponentFits, ComponentsFit}
 use Rattle.flow_ready.proofs.Lookups.{map-there}
 use Rattle.flow_catalogue.specs.declared.standard.Std.{Std}
 use Rattle.flow_catalogue.specs.declared.table.StdKind.TheVariants as kinds
 use Rattle.flow_catalogue.specs.declared.table.StdKind.{StdKind}
 use Rattle.flow_catalogue.specs.Kinds.{name_of}
 use Rattle.flow_catalogue.specs.Std.{std_shape, std_uses, StdReady}
-use Rattle.flow_catalogue.specs.Processes.{IsMade, Fits, first_part, given}
+use Rattle.flow_catalogue.specs.Processes.{IsMade, Fits, first_component, given}
 use Rattle.flow_trials.specs.declared.asker.Asker.{Asker}
 use Rattle.flow_trials.specs.Asker.{shape_asked, uses_asked, AlwaysReady}
 use Rattle.flow_trials.specs.Askers.{asker_of, IsAllConnected}
-use Rattle.flow_trials.specs.Networks.{ArePartsOn, HasPart}
+use Rattle.flow_trials.specs.Networks.{AreComponentsOn, HasComponent}
 
 -- the bytes are of no matter to a process that reads none
-pub made-anywhere : (bytes : List ℕ) (plan : Network) (p : ℕ) (process : Process) (part : Std) → process.kind ≢ codes "ReadLines" → IsMade plan p process [] part → IsMade plan p process bytes part
-made-anywhere bytes plan p process part other made = record { kind = made.kind; named = made.named; is = made.is ∙ same made.kind made.named }
+pub made-anywhere : (bytes : List ℕ) (plan : Network) (p : ℕ) (process : Process) (component : Std) → process.kind ≢ codes "ReadLines" → IsMade plan p process [] component → IsMade plan p process bytes component
+made-anywhere bytes plan p process component other made = record { kind = made.kind; named = made.named; is = made.is ∙ same made.kind made.named }
   where
-    same : (kind : StdKind) → process.kind ≡ name_of kind → first_part kind (given plan p process) [] ≡ first_part kind (given plan p process) bytes
+    same : (kind : StdKind) → process.kind ≡ name_of kind → first_component kind (given plan p process) [] ≡ first_component kind (given plan p process) bytes
     same kinds.ReadLines named = absurd (other named)
     same kind named = refl
 
 pub writes-not-reads : (process : Process) → process.kind ≡ codes "WriteLines" → process.kind ≢ codes "ReadLines"
 writes-not-reads process writes reads = (let bad : codes "WriteLines" ≡ codes "ReadLines" = sym writes ∙ reads in cc)
 
-pub parts-fit : (bytes : List ℕ) (plan : Network) (parts : List Std) → ArePartsOn bytes plan parts → PartsFit std_shape std_uses StdReady plan parts
-parts-fit bytes plan parts are = record {
+pub components-fit : (bytes : List ℕ) (plan : Network) (components : List Std) → AreComponentsOn bytes plan components → ComponentsFit std_shape std_uses StdReady plan components
+components-fit bytes plan components are = record {
   one_each = are.count;
-  fit = λ p process part there at.
-      let has : HasPart bytes plan p part = are.each p part at in
+  fit = λ p process component there at.
+      let has : HasComponent bytes plan p component = are.each p component at in
       let same : has.process ≡ process = (let h = has.there in cc) in
-      let fits = subst (λ (x : Process). Fits plan p x part) same has.is.fits in
+      let fits = subst (λ (x : Process). Fits plan p x component) same has.is.fits in
       record {
         inputs = fits.inputs;
         outputs = fits.outputs;
@@ -47,16 +47,16 @@ parts-fit bytes plan parts are = record {
 below : (a b : ℕ) → IsTrue (nat_lt a b) → a < b
 below a b is = grind (arith, nat_tests)
 
-pub askers-fit : (plan : Network) → IsAllConnected plan → PartsFit shape_asked uses_asked AlwaysReady plan (map asker_of plan.processes)
+pub askers-fit : (plan : Network) → IsAllConnected plan → ComponentsFit shape_asked uses_asked AlwaysReady plan (map asker_of plan.processes)
 askers-fit plan connected = record {
   one_each = length-map plan.processes asker_of;
-  fit = λ p process part there at.
-      let is : part ≡ asker_of process = mapped plan.processes p process part there at in
-      subst (λ (a : Asker). PartFits shape_asked uses_asked AlwaysReady plan p process a) (sym is)
+  fit = λ p process component there at.
+      let is : component ≡ asker_of process = mapped plan.processes p process component there at in
+      subst (λ (a : Asker). ComponentFits shape_asked uses_asked AlwaysReady plan p process a) (sym is)
       (record { inputs = refl; outputs = refl; used = λ o uses. connected p o (process, there, below o process.outputs uses); can_start = λ held none. tt });
 } where
-  mapped : (xs : List Process) (k : ℕ) (x : Process) (part : Asker) → slice_get xs k ≡ Some x → slice_get (map asker_of xs) k ≡ Some part → part ≡ asker_of x
-  mapped xs k x part there at = let found = map-there asker_of xs k x there in cc
+  mapped : (xs : List Process) (k : ℕ) (x : Process) (component : Asker) → slice_get xs k ≡ Some x → slice_get (map asker_of xs) k ≡ Some component → component ≡ asker_of x
+  mapped xs k x component there at = let found = map-there asker_of xs k x there in cc
 
 -- what holds of each element holds of each one with a last one
 pub pushed : {X : Type 0} (P : ℕ → X → Type 0) (xs : List X) (x : X) → ((k : ℕ) (y : X) → slice_get xs k ≡ Some y → P k y) → P (length xs) x → (k : ℕ) (y : X) → slice_get (xs ++ x ∷ []) k ≡ Some y → P k y

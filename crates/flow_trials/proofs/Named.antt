@@ -12,7 +12,7 @@ use Rattle.flow_flat.specs.Told.{HasShortTexts, IsDraft, empty}
 use Rattle.flow_flat.proofs.Outcomes.{told_is_said}
 use Rattle.flow_catalogue.specs.declared.table.StdKind.TheVariants as kinds
 use Rattle.flow_catalogue.specs.Kinds.{spec_of, std_kinds}
-use Rattle.flow_trials.specs.Telegram.{telegram, telegram_part}
+use Rattle.flow_trials.specs.Telegram.{telegram, telegram_component}
 
 -- The draft with its four processes.
 abbrev named : Draft
@@ -91,14 +91,14 @@ out_name = (omega arith, omega arith, IsUtf8-from_ascii (codes "out.txt") out_as
 twelve : IsNumberWithin 1 1048576 (codes "12")
 twelve = (((omega arith, (omega arith, (omega arith, tt))), λ h. absurd (omega (arith, h))), omega arith, omega arith)
 
-drafted : IsDraft std_kinds telegram_part (Ok with_output)
+drafted : IsDraft std_kinds telegram_component (Ok with_output)
 drafted = (
   Ok with_input,
   (at 0, refl, in_name, refl),
   (Ok with_lines, refl, (Ok with_words, refl, (Ok with_size, (at 4, refl, twelve, refl), (Ok with_telegram, refl, (Ok with_output, (at 7, refl, out_name, refl), refl))))),
 )
 
-short : HasShortTexts telegram_part
+short : HasShortTexts telegram_component
 short zero d below = omega arith
 short (suc zero) d below = tt
 short (suc (suc zero)) d below = tt
@@ -107,5 +107,5 @@ short (suc (suc (suc (suc zero)))) d below = tt
 short (suc (suc (suc (suc (suc zero))))) d below = omega arith
 short (suc (suc (suc (suc (suc (suc k)))))) d below = absurd (omega (arith, below))
 
-pub planned : ComesTo std_kinds telegram_part (Ok telegram)
-planned = told_is_said std_kinds telegram_part (Ok telegram) refl short (Ok with_output, drafted, refl)
+pub planned : ComesTo std_kinds telegram_component (Ok telegram)
+planned = told_is_said std_kinds telegram_component (Ok telegram) refl short (Ok with_output, drafted, refl)

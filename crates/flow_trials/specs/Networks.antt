@@ -1,4 +1,4 @@
--- The networks that texts spell, and how they start with standard parts.
+-- The networks that texts spell, and how they start with standard components.
 use Rattle.std.specs.Prelude.{◌≡◌, ℕ, List, length, Ok, Some, slice_get}
 use Rattle.flow_plan.specs.declared.plan.Process.{Process}
 use Rattle.flow_plan.specs.Network.{Network}
@@ -17,26 +17,26 @@ pub record IsPlanOf (text : List ℕ) (plan : Network) : Type 0 where
   pub spelled : Spells text value
   pub comes : TextComesTo std_kinds value (Ok plan)
 
--- The part is the process's own in its first state, on these bytes where it reads a file.
-pub record IsPartOn (bytes : List ℕ) (plan : Network) (p : ℕ) (process : Process) (part : Std) : Type 0 where
-  pub made : IsMade plan p process bytes part
-  pub fits : Fits plan p process part
+-- The component is the process's own in its first state, on these bytes where it reads a file.
+pub record IsComponentOn (bytes : List ℕ) (plan : Network) (p : ℕ) (process : Process) (component : Std) : Type 0 where
+  pub made : IsMade plan p process bytes component
+  pub fits : Fits plan p process component
 
--- The part is that of process p of the plan.
-pub record HasPart (bytes : List ℕ) (plan : Network) (p : ℕ) (part : Std) : Type 0 where
+-- The component is that of process p of the plan.
+pub record HasComponent (bytes : List ℕ) (plan : Network) (p : ℕ) (component : Std) : Type 0 where
   pub process : Process
   pub there : slice_get plan.processes p ≡ Some process
-  pub is : IsPartOn bytes plan p process part
+  pub is : IsComponentOn bytes plan p process component
 
--- The parts are those of the plan's processes, in order, each reader on the same bytes.
-pub record ArePartsOn (bytes : List ℕ) (plan : Network) (parts : List Std) : Type 0 where
-  pub count : length parts ≡ length plan.processes
-  pub each : (p : ℕ) (part : Std) → slice_get parts p ≡ Some part → HasPart bytes plan p part
+-- The components are those of the plan's processes, in order, each reader on the same bytes.
+pub record AreComponentsOn (bytes : List ℕ) (plan : Network) (components : List Std) : Type 0 where
+  pub count : length components ≡ length plan.processes
+  pub each : (p : ℕ) (component : Std) → slice_get components p ≡ Some component → HasComponent bytes plan p component
 
 -- The net is the network of this text at its start, each reader on the same bytes.
 pub record HasStarted (text bytes : List ℕ) (net : NetValue Std) : Type 0 where
   pub plan : Network
-  pub parts : List Std
+  pub components : List Std
   pub is_plan : IsPlanOf text plan
-  pub are_parts : ArePartsOn bytes plan parts
-  pub starts : StartsNet plan parts net
+  pub are_components : AreComponentsOn bytes plan components
+  pub starts : StartsNet plan components net

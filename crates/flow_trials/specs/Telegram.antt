@@ -16,17 +16,17 @@ use Rattle.flow_parts.specs.declared.words.Words.TheVariants as words_parts
 use Rattle.flow_parts.specs.Meanings.{fresh_fill}
 use Rattle.flow_catalogue.specs.Kinds.{std_kinds}
 use Rattle.flow_catalogue.specs.declared.standard.Std.{Std}
-use Rattle.flow_catalogue.specs.declared.standard.Std.TheVariants as parts
+use Rattle.flow_catalogue.specs.declared.standard.Std.TheVariants as components
 use Rattle.flow_meanings.specs.Composition.{Sending, Composes}
-use Rattle.flow_meanings.specs.Outcomes.{ArePartsOf}
+use Rattle.flow_meanings.specs.Outcomes.{AreComponentsOf}
 
 -- A port that is named without an element.
 abbrev pub port_named : List ℕ → PortRef
 port_named name = record { name = name; element = None }
 
 -- What the network file says: a reader, a Words, a Fill for lines of 12 bytes, and a writer, with a connection of capacity 20 between the two in the middle.
-abbrev pub telegram_part : NetPart
-telegram_part = record {
+abbrev pub telegram_component : NetPart
+telegram_component = record {
   processes = (codes "Read", codes "ReadLines") ∷ (codes "Words", codes "Words") ∷ (codes "Fill", codes "Fill") ∷ (codes "Write", codes "WriteLines") ∷ [];
   statements =
       Initial (codes "in.txt") (codes "Read") (port_named (codes "FILE"))
@@ -69,8 +69,8 @@ abbrev pub telegram_input : List (List ℕ)
 telegram_input = lines (codes "To be or not to be\nthat is the question\n")
 
 -- Its components: the reader has these lines.
-abbrev pub telegram_parts : List Std
-telegram_parts = parts.ReadLines telegram_input ∷ parts.Words words_parts.Waiting ∷ parts.Fill (fresh_fill 12) ∷ parts.WriteLines [] ∷ []
+abbrev pub telegram_components : List Std
+telegram_components = components.ReadLines telegram_input ∷ components.Words words_parts.Waiting ∷ components.Fill (fresh_fill 12) ∷ components.WriteLines [] ∷ []
 
 -- What is on the connections, by process that sends: the lines of the input, their words, and the lines of the telegram.
 abbrev pub texts_from : ℕ → List (List ℕ)
@@ -97,8 +97,8 @@ telegram_wrote (suc (suc (suc (suc p)))) = []
 -- The network is the plan of that text; the components are those of its processes on that input; they have a composition, with these packets on the connections, in
 -- which the writer has that file; and in each composition it has that file.
 pub record TelegramComposes : Type 0 where
-  pub planned : ComesTo std_kinds telegram_part (Ok telegram)
-  pub are_parts : ArePartsOf telegram telegram_parts
-  pub composes : Composes telegram telegram_parts telegram_wrote
+  pub planned : ComesTo std_kinds telegram_component (Ok telegram)
+  pub are_components : AreComponentsOf telegram telegram_components
+  pub composes : Composes telegram telegram_components telegram_wrote
   pub streams : composes.on ≡ telegram_on
-  pub only : (wrote : ℕ → List ℕ) → Composes telegram telegram_parts wrote → wrote 3 ≡ codes "To be or not\nto be that\nis the\nquestion\n"
+  pub only : (wrote : ℕ → List ℕ) → Composes telegram telegram_components wrote → wrote 3 ≡ codes "To be or not\nto be that\nis the\nquestion\n"

@@ -28,7 +28,7 @@ impl Component for Asker {
 
     ghost steady = { asker_steady };
 
-    ghost has_outcome = { λ part held answer _. (Wishes part held (asks part.shape answer), refl) };
+    ghost has_outcome = { λ component held answer _. (Wishes component held (asks component.shape answer), refl) };
 
     fn shape(&self) -> Shape {
         self.shape

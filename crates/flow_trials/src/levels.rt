@@ -12,8 +12,8 @@ const NET: &[u8] =
 /// The network at its start. Its connections take 10 packets each.
 fn started(alloc: Global) -> Result<Net<Asker>, Fail> {
     let plan = plan_of_text(alloc, NET)?;
-    let parts = askers(alloc, &plan)?;
-    Ok(Net::start(alloc, &plan, parts)?)
+    let components = askers(alloc, &plan)?;
+    Ok(Net::start(alloc, &plan, components)?)
 }
 
 /// The next turn of a process, after its work.

@@ -16,5 +16,5 @@ mod telegram;
 
 pub use asker::Asker;
 pub use network::{TrialStop, plan_of_text};
-pub use starting::{askers, standard_parts, started};
+pub use starting::{askers, standard_components, started};
 pub use telegram::the_telegram_composes;

@@ -9,7 +9,7 @@ ghost use Rattle.flow_catalogue.specs.Processes.{IsStandard};
 ghost use Rattle.flow_catalogue.specs.Std.{std_shape, std_uses, StdReady};
 ghost use Rattle.flow_trials.specs.Asker.{shape_asked, uses_asked, AlwaysReady};
 ghost use Rattle.flow_trials.specs.Askers.{asker_of, IsAllConnected};
-ghost use Rattle.flow_trials.specs.Networks.{ArePartsOn, HasPart, HasStarted, IsPlanOf};
+ghost use Rattle.flow_trials.specs.Networks.{AreComponentsOn, HasComponent, HasStarted, IsPlanOf};
 
 use crate::asker::Asker;
 use crate::network::{TrialStop, plan_of_text};
@@ -23,19 +23,19 @@ use flow_ready::a_valid_plan_is_ready;
 use std::alloc::{AllocError, Global};
 
 /// The components of these processes.
-fn parts_of(alloc: Global, processes: &[Process]) -> Result<Vec<Asker>, AllocError>
-    ensures { IfOk result (λ parts. parts.items ≡ map asker_of processes.now) }
+fn components_of(alloc: Global, processes: &[Process]) -> Result<Vec<Asker>, AllocError>
+    ensures { IfOk result (λ components. components.items ≡ map asker_of processes.now) }
 {
-    let mut parts = Vec::new(alloc);
+    let mut components = Vec::new(alloc);
     for process in processes {
-        parts.push(Asker {
+        components.push(Asker {
             shape: Shape {
                 inputs: process.inputs,
                 outputs: process.outputs,
             },
         })?;
     }
-    Ok(parts)
+    Ok(components)
 }
 
 // Whether the outputs of a process, from number 0 on, are all connected.
@@ -65,19 +65,24 @@ fn all_connected(plan: &Plan) -> bool
 
 /// A component of the shape that it needs for each process of a plan. A plan with an output that is left open is refused.
 pub fn askers(alloc: Global, plan: &Plan) -> Result<Vec<Asker>, TrialStop>
-    ensures { IfOk result (λ parts. StartsWell shape_asked uses_asked AlwaysReady plan.now parts.items) }
+    ensures { IfOk result (λ components. StartsWell shape_asked uses_asked AlwaysReady plan.now components.items) }
 {
     a_valid_plan_is_ready::<Asker>();
     if !all_connected(plan) {
         return Err(TrialStop::Refused);
     }
-    Ok(parts_of(alloc, plan.processes())?)
+    Ok(components_of(alloc, plan.processes())?)
 }
 
 /// The component of a process, on these bytes where it reads a file.
-fn standard_part(alloc: Global, plan: &Plan, process: u32, bytes: &[u8]) -> Result<Std, AllocError>
+fn standard_component(
+    alloc: Global,
+    plan: &Plan,
+    process: u32,
+    bytes: &[u8],
+) -> Result<Std, AllocError>
     requires { IsStandard plan.now process }
-    ensures { IfOk result (HasPart bytes.now plan.now process) }
+    ensures { IfOk result (HasComponent bytes.now plan.now process) }
 {
     match file_of(plan, process) {
         Some(FileUse::Read(_)) => make(alloc, plan, process, bytes.to_vec(alloc)?),
@@ -87,18 +92,18 @@ fn standard_part(alloc: Global, plan: &Plan, process: u32, bytes: &[u8]) -> Resu
 }
 
 /// The standard components of a plan, each reader on the same bytes.
-pub fn standard_parts(alloc: Global, plan: &Plan, bytes: &[u8]) -> Result<Vec<Std>, AllocError>
+pub fn standard_components(alloc: Global, plan: &Plan, bytes: &[u8]) -> Result<Vec<Std>, AllocError>
     requires { IsOver std_kinds plan.now }
-    ensures parts { IfOk result (λ parts. ArePartsOn bytes.now plan.now parts.items) }
-    ensures well { IfOk result (λ parts. StartsWell std_shape std_uses StdReady plan.now parts.items) }
+    ensures components { IfOk result (λ components. AreComponentsOn bytes.now plan.now components.items) }
+    ensures well { IfOk result (λ components. StartsWell std_shape std_uses StdReady plan.now components.items) }
 {
     a_plan_over_the_table_is_standard();
     a_valid_plan_is_ready::<Std>();
-    let mut parts = Vec::new(alloc);
+    let mut components = Vec::new(alloc);
     for process in 0..plan.processes().len() {
-        parts.push(standard_part(alloc, plan, process as u32, bytes)?)?;
+        components.push(standard_component(alloc, plan, process as u32, bytes)?)?;
     }
-    Ok(parts)
+    Ok(components)
 }
 
 /// The network of a text at its start, with standard components, each reader on the same bytes.
@@ -108,6 +113,6 @@ pub fn started(alloc: Global, text: &[u8], bytes: &[u8]) -> Result<Net<Std>, Tri
     ensures refused { result ≡ Err TrialStop.Refused → (plan : Network) → IsPlanOf text.now plan → ⊥ }
 {
     let plan = plan_of_text(alloc, text)?;
-    let parts = standard_parts(alloc, &plan, bytes)?;
-    Ok(Net::start(alloc, &plan, parts)?)
+    let components = standard_components(alloc, &plan, bytes)?;
+    Ok(Net::start(alloc, &plan, components)?)
 }

@@ -11,10 +11,10 @@ use Rattle.flow_model.specs.States.{Process, State}
 use Rattle.flow_model.specs.Plans.{start_of, process_at_start, FitsProcess, StartsWell}
 use Rattle.flow_model.proofs.Replay.{run, run-leads}
 use Rattle.flow_catalogue.specs.declared.standard.Std.{Std}
-use Rattle.flow_catalogue.specs.declared.standard.Std.TheVariants as parts
+use Rattle.flow_catalogue.specs.declared.standard.Std.TheVariants as components
 use Rattle.flow_catalogue.specs.Std.{std_shape, std_uses, StdReady, std_next}
 use Rattle.flow_witness.specs.Chain.{reader_of, writer_of}
-use Rattle.flow_witness.specs.Ends.{merge, merge_parts, first_then, MergesTo, IsMerge}
+use Rattle.flow_witness.specs.Ends.{merge, merge_components, first_then, MergesTo, IsMerge}
 use Rattle.flow_witness.proofs.Wired.{at_one, at_two, at_three, only_first, no_initial, the_one, same_place, s0, s1, senders_differ}
 use Rattle.flow_witness.proofs.Starting.{sends_first}
 use Rattle.flow_witness.proofs.Round.{at}
@@ -69,28 +69,28 @@ wired = record {
 }
 
 abbrev start : State Std
-start = start_of merge merge_parts
+start = start_of merge merge_components
 
 abbrev x0 : Process Std
-x0 = process_at_start merge 0 q0 (parts.ReadLines ((97 ∷ []) ∷ []))
+x0 = process_at_start merge 0 q0 (components.ReadLines ((97 ∷ []) ∷ []))
 
 abbrev x1 : Process Std
-x1 = process_at_start merge 1 q1 (parts.ReadLines ((98 ∷ []) ∷ []))
+x1 = process_at_start merge 1 q1 (components.ReadLines ((98 ∷ []) ∷ []))
 
 abbrev x2 : Process Std
-x2 = process_at_start merge 2 q2 (parts.WriteLines [])
+x2 = process_at_start merge 2 q2 (components.WriteLines [])
 
-fits0 : FitsProcess std_shape std_uses StdReady x0.part x0
+fits0 : FitsProcess std_shape std_uses StdReady x0.component x0
 fits0 = record { inputs = refl; outputs = refl; used = sends_first x0 refl; can_start = λ held empty. empty }
 
-fits1 : FitsProcess std_shape std_uses StdReady x1.part x1
+fits1 : FitsProcess std_shape std_uses StdReady x1.component x1
 fits1 = record { inputs = refl; outputs = refl; used = sends_first x1 refl; can_start = λ held empty. empty }
 
-fits2 : FitsProcess std_shape std_uses StdReady x2.part x2
+fits2 : FitsProcess std_shape std_uses StdReady x2.component x2
 fits2 = record { inputs = refl; outputs = refl; used = λ port uses. absurd (let bad : false ≡ true = uses in cc); can_start = λ held empty. tt }
 
-starts : StartsWell std_shape std_uses StdReady merge merge_parts
-starts = record { wired = wired; one_each = refl; fit = λ p x there. at_three (λ k y. FitsProcess std_shape std_uses StdReady y.part y) x0 x1 x2 fits0 fits1 fits2 p x there }
+starts : StartsWell std_shape std_uses StdReady merge merge_components
+starts = record { wired = wired; one_each = refl; fit = λ p x there. at_three (λ k y. FitsProcess std_shape std_uses StdReady y.component y) x0 x1 x2 fits0 fits1 fits2 p x there }
 
 abbrev or_start : Option (State Std) → State Std
 or_start (Some s) = s

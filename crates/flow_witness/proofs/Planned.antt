@@ -11,7 +11,7 @@ use Rattle.flow_flat.specs.Told.{HasShortTexts, IsDraft, empty}
 use Rattle.flow_flat.proofs.Outcomes.{told_is_said}
 use Rattle.flow_catalogue.specs.declared.table.StdKind.TheVariants as kinds
 use Rattle.flow_catalogue.specs.Kinds.{spec_of, std_kinds}
-use Rattle.flow_witness.specs.FirstRun.{first_network, first_part}
+use Rattle.flow_witness.specs.FirstRun.{first_network, first_component}
 
 -- The draft with its three processes.
 abbrev named : Draft
@@ -81,15 +81,15 @@ out_bytes (suc (suc (suc (suc (suc (suc (suc k))))))) d below is = absurd (omega
 out_name : IsFileName (codes "out.txt")
 out_name = (omega arith, omega arith, IsUtf8-from_ascii (codes "out.txt") out_ascii, out_bytes)
 
-drafted : IsDraft std_kinds first_part (Ok with_output)
+drafted : IsDraft std_kinds first_component (Ok with_output)
 drafted = (Ok with_input, (at 0, refl, in_name, refl), (Ok with_first, refl, (Ok with_second, refl, (Ok with_output, (at 4, refl, out_name, refl), refl))))
 
-short : HasShortTexts first_part
+short : HasShortTexts first_component
 short zero d below = omega arith
 short (suc zero) d below = tt
 short (suc (suc zero)) d below = tt
 short (suc (suc (suc zero))) d below = omega arith
 short (suc (suc (suc (suc k)))) d below = absurd (omega (arith, below))
 
-pub planned : ComesTo std_kinds first_part (Ok first_network)
-planned = told_is_said std_kinds first_part (Ok first_network) refl short (Ok with_output, drafted, refl)
+pub planned : ComesTo std_kinds first_component (Ok first_network)
+planned = told_is_said std_kinds first_component (Ok first_network) refl short (Ok with_output, drafted, refl)

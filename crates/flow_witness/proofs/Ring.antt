@@ -14,11 +14,11 @@ use Rattle.flow_model.specs.Events.{event_of}
 use Rattle.flow_model.specs.Verdicts.{IsDeadlock}
 use Rattle.flow_model.specs.Plans.{start_of, process_at_start, FitsProcess, StartsWell}
 use Rattle.flow_catalogue.specs.declared.standard.Std.{Std}
-use Rattle.flow_catalogue.specs.declared.standard.Std.TheVariants as parts
+use Rattle.flow_catalogue.specs.declared.standard.Std.TheVariants as components
 use Rattle.flow_catalogue.specs.Std.{std_shape, std_uses, StdReady}
 use Rattle.flow_witness.specs.Chain.{pass_of, link_of}
 use Rattle.flow_witness.specs.FirstRun.{passing}
-use Rattle.flow_witness.specs.Ends.{ring, ring_parts, IsStuck}
+use Rattle.flow_witness.specs.Ends.{ring, ring_components, IsStuck}
 use Rattle.flow_witness.proofs.Wired.{at_one, at_two, only_first, no_initial, the_one, same_place, s0, s1, senders_differ}
 use Rattle.flow_witness.proofs.Starting.{sends_first}
 
@@ -71,22 +71,22 @@ wired = record {
 }
 
 abbrev s : State Std
-s = start_of ring ring_parts
+s = start_of ring ring_components
 
 abbrev x0 : Process Std
-x0 = process_at_start ring 0 q0 (parts.Passthru passing)
+x0 = process_at_start ring 0 q0 (components.Passthru passing)
 
 abbrev x1 : Process Std
-x1 = process_at_start ring 1 q1 (parts.Passthru passing)
+x1 = process_at_start ring 1 q1 (components.Passthru passing)
 
-fits0 : FitsProcess std_shape std_uses StdReady x0.part x0
+fits0 : FitsProcess std_shape std_uses StdReady x0.component x0
 fits0 = record { inputs = refl; outputs = refl; used = sends_first x0 refl; can_start = λ held empty. tt }
 
-fits1 : FitsProcess std_shape std_uses StdReady x1.part x1
+fits1 : FitsProcess std_shape std_uses StdReady x1.component x1
 fits1 = record { inputs = refl; outputs = refl; used = sends_first x1 refl; can_start = λ held empty. tt }
 
-starts : StartsWell std_shape std_uses StdReady ring ring_parts
-starts = record { wired = wired; one_each = refl; fit = λ p x there. at_two (λ k y. FitsProcess std_shape std_uses StdReady y.part y) x0 x1 fits0 fits1 p x there }
+starts : StartsWell std_shape std_uses StdReady ring ring_components
+starts = record { wired = wired; one_each = refl; fit = λ p x there. at_two (λ k y. FitsProcess std_shape std_uses StdReady y.component y) x0 x1 fits0 fits1 p x there }
 
 deadlock : IsDeadlock s
 deadlock = (

@@ -12,7 +12,7 @@ use Rattle.flow_model.specs.Verdicts.{HasNoTurn, IsFinished}
 use Rattle.flow_model.specs.Robin.{IsExact, TurnsOf, Pass, RoundRobin}
 use Rattle.flow_model.proofs.Replay.{Graph, run, step, step-is}
 use Rattle.flow_catalogue.specs.declared.standard.Std.{Std}
-use Rattle.flow_catalogue.specs.declared.standard.Std.TheVariants as parts
+use Rattle.flow_catalogue.specs.declared.standard.Std.TheVariants as components
 use Rattle.flow_catalogue.specs.Std.{std_next}
 use Rattle.flow_witness.proofs.Wired.{at_three}
 use Rattle.flow_witness.specs.FirstRun.{first_start, first_journal, passing}
@@ -91,7 +91,7 @@ turns_only turns = record { turns = turns; seen = [] }
 
 abbrev process_of : Option (Process Std) → Process Std
 process_of (Some x) = x
-process_of None = record { stage = stages.Idle; has_run = false; part = parts.Passthru passing; held = record { maker = 0; made = 0; packets = [] }; fresh = []; depths = []; turns = 0; inputs = []; outputs = [] }
+process_of None = record { stage = stages.Idle; has_run = false; component = components.Passthru passing; held = record { maker = 0; made = 0; packets = [] }; fresh = []; depths = []; turns = 0; inputs = []; outputs = [] }
 
 abbrev pub at : State Std → ℕ → Process Std
 at s p = process_of (slice_get s.kept.processes p)
@@ -126,7 +126,7 @@ no_pass = (
 )
 
 pub is_round : RoundRobin (Graph std_next) s0 first_journal s3
-is_round = record { passes = first_journal ∷ []; parts = refl; go = ((λ h. cc), (s3, one_pass, refl)); last = no_pass }
+is_round = record { passes = first_journal ∷ []; whole = refl; go = ((λ h. cc), (s3, one_pass, refl)); last = no_pass }
 
 -- every process has ended
 pub all_ended : IsFinished s3

@@ -14,7 +14,7 @@ use Rattle.flow_model.specs.Schedules.{Journal, Leads}
 use Rattle.flow_model.specs.Verdicts.{IsFinished, IsFailed, IsDeadlock}
 use Rattle.flow_model.specs.Plans.{start_of, StartsWell}
 use Rattle.flow_catalogue.specs.declared.standard.Std.{Std}
-use Rattle.flow_catalogue.specs.declared.standard.Std.TheVariants as parts
+use Rattle.flow_catalogue.specs.declared.standard.Std.TheVariants as components
 use Rattle.flow_catalogue.specs.Std.{std_shape, std_uses, StdReady, StdNext}
 use Rattle.flow_witness.specs.Chain.{plain_row, reader_of, pass_of, writer_of, link_of}
 use Rattle.flow_witness.specs.FirstRun.{passing}
@@ -37,32 +37,32 @@ ring = record {
   tables = pass_ports ∷ pass_ports ∷ [];
 }
 
-abbrev pub ring_parts : List Std
-ring_parts = parts.Passthru passing ∷ parts.Passthru passing ∷ []
+abbrev pub ring_components : List Std
+ring_components = components.Passthru passing ∷ components.Passthru passing ∷ []
 
 -- The ring starts well, and is a deadlock from the first on: each of the two waits for the other.
 pub record IsStuck : Type 0 where
-  pub starts : StartsWell std_shape std_uses StdReady ring ring_parts
-  pub deadlock : IsDeadlock (start_of ring ring_parts)
+  pub starts : StartsWell std_shape std_uses StdReady ring ring_components
+  pub deadlock : IsDeadlock (start_of ring ring_components)
 
 -- A component without ports that fails whatever it is told.
 abbrev pub Faulty : Type 0
 Faulty = Unit {0}
 
 abbrev pub faulty_shape : Faulty → Shape
-faulty_shape part = record { inputs = 0; outputs = 0 }
+faulty_shape component = record { inputs = 0; outputs = 0 }
 
 abbrev pub faulty_uses : Faulty → ℕ → Bool
-faulty_uses part = uses_none
+faulty_uses component = uses_none
 
 abbrev pub FaultyReady : Faulty → Held → Answer → Type 0
-FaultyReady part held answer = Unit {0}
+FaultyReady component held answer = Unit {0}
 
 abbrev pub faulty_next : Faulty → Held → Answer → Outcome Faulty
-faulty_next part held answer = Fails part held fails.HandsLimit
+faulty_next component held answer = Fails component held fails.HandsLimit
 
 abbrev pub FaultyNext : Faulty → Held → Answer → Outcome Faulty → Type 0
-FaultyNext part held answer outcome = outcome ≡ faulty_next part held answer
+FaultyNext component held answer outcome = outcome ≡ faulty_next component held answer
 
 -- A network of one such process.
 abbrev pub alone : Network
@@ -72,14 +72,14 @@ alone = record {
   tables = record { inputs = []; outputs = [] } ∷ [];
 }
 
-abbrev pub alone_parts : List Faulty
-alone_parts = tt ∷ []
+abbrev pub alone_components : List Faulty
+alone_components = tt ∷ []
 
 -- It starts well, and its one turn leads to a state in which it has failed and nothing goes on.
 pub record IsFailure : Type 0 where
-  pub starts : StartsWell faulty_shape faulty_uses FaultyReady alone alone_parts
+  pub starts : StartsWell faulty_shape faulty_uses FaultyReady alone alone_components
   pub last : State Faulty
-  pub leads : Leads FaultyNext (start_of alone alone_parts) (record { turns = 0 ∷ []; seen = [] }) last
+  pub leads : Leads FaultyNext (start_of alone alone_components) (record { turns = 0 ∷ []; seen = [] }) last
   pub failed : IsFailed last
 
 -- Two readers that send to one connection, and a writer that receives from it.
@@ -91,8 +91,8 @@ merge = record {
 }
 
 -- One has the line a, the other the line b.
-abbrev pub merge_parts : List Std
-merge_parts = parts.ReadLines ((97 ∷ []) ∷ []) ∷ parts.ReadLines ((98 ∷ []) ∷ []) ∷ parts.WriteLines [] ∷ []
+abbrev pub merge_components : List Std
+merge_components = components.ReadLines ((97 ∷ []) ∷ []) ∷ components.ReadLines ((98 ∷ []) ∷ []) ∷ components.WriteLines [] ∷ []
 
 -- Turns of one reader, turns of the other, and turns of the writer.
 abbrev pub first_then : ℕ → ℕ → Journal
@@ -101,14 +101,14 @@ first_then p q = record { turns = (replicate 5 p ++ replicate 5 q) ++ replicate 
 -- A schedule with this journal leads to an end in which every process has ended, and the writer has these bytes.
 pub record MergesTo (journal : Journal) (bytes : List ℕ) : Type 0 where
   pub last : State Std
-  pub leads : Leads StdNext (start_of merge merge_parts) journal last
+  pub leads : Leads StdNext (start_of merge merge_components) journal last
   pub finished : IsFinished last
   pub writer : Process Std
   pub there : slice_get last.kept.processes 2 ≡ Some writer
-  pub written : writer.part ≡ parts.WriteLines bytes
+  pub written : writer.component ≡ components.WriteLines bytes
 
 -- The merge starts well, and finishes with either line first: which one is up to the schedule.
 pub record IsMerge : Type 0 where
-  pub starts : StartsWell std_shape std_uses StdReady merge merge_parts
+  pub starts : StartsWell std_shape std_uses StdReady merge merge_components
   pub one : MergesTo (first_then 0 1) (97 ∷ 10 ∷ 98 ∷ 10 ∷ [])
   pub other : MergesTo (first_then 1 0) (98 ∷ 10 ∷ 97 ∷ 10 ∷ [])

@@ -9,7 +9,7 @@ use Rattle.flow_catalogue.specs.Kinds.{std_kinds}
 use Rattle.flow_witness.specs.Chain.{chain_of}
 use Rattle.flow_streams.specs.declared.passthru.Passthru.{Passthru}
 use Rattle.flow_catalogue.specs.declared.standard.Std.{Std}
-use Rattle.flow_catalogue.specs.declared.standard.Std.TheVariants as parts
+use Rattle.flow_catalogue.specs.declared.standard.Std.TheVariants as components
 use Rattle.flow_catalogue.specs.Std.{std_shape, std_uses, StdReady, StdNext}
 use Rattle.flow_model.specs.States.{Process, State}
 use Rattle.flow_model.specs.Schedules.{Journal}
@@ -27,8 +27,8 @@ abbrev pub port_named : List ℕ → PortRef
 port_named name = record { name = name; element = None }
 
 -- What a network file says of it: three processes with their kinds, two files and two connections.
-abbrev pub first_part : NetPart
-first_part = record {
+abbrev pub first_component : NetPart
+first_component = record {
   processes = (codes "Read", codes "ReadLines") ∷ (codes "Pass", codes "Passthru") ∷ (codes "Write", codes "WriteLines") ∷ [];
   statements =
       Initial (codes "in.txt") (codes "Read") (port_named (codes "FILE"))
@@ -43,12 +43,12 @@ abbrev pub passing : Passthru
 passing = record {}
 
 -- The components: the reader has the one line x.
-abbrev pub first_parts : List Std
-first_parts = parts.ReadLines ((120 ∷ []) ∷ []) ∷ parts.Passthru passing ∷ parts.WriteLines [] ∷ []
+abbrev pub first_components : List Std
+first_components = components.ReadLines ((120 ∷ []) ∷ []) ∷ components.Passthru passing ∷ components.WriteLines [] ∷ []
 
 -- The start.
 abbrev pub first_start : State Std
-first_start = start_of first_network first_parts
+first_start = start_of first_network first_components
 
 -- Five turns of the reader, seven of the process that passes on, five of the writer.
 abbrev pub first_journal : Journal
@@ -57,12 +57,12 @@ first_journal = record { turns = (replicate 5 0 ++ replicate 7 1) ++ replicate 5
 -- The network is the plan of that part; the plan with these components starts well; the journal is its round robin, after which every process has ended, no packet is left, and the writer has
 -- the line and a line feed.
 pub record IsFirstRun : Type 0 where
-  pub planned : ComesTo std_kinds first_part (Ok first_network)
-  pub starts : StartsWell std_shape std_uses StdReady first_network first_parts
+  pub planned : ComesTo std_kinds first_component (Ok first_network)
+  pub starts : StartsWell std_shape std_uses StdReady first_network first_components
   pub last : State Std
   pub round : RoundRobin StdNext first_start first_journal last
   pub finished : IsFinished last
   pub empty : places last ≡ []
   pub writer : Process Std
   pub there : slice_get last.kept.processes 2 ≡ Some writer
-  pub written : writer.part ≡ parts.WriteLines (120 ∷ 10 ∷ [])
+  pub written : writer.component ≡ components.WriteLines (120 ∷ 10 ∷ [])

@@ -9,8 +9,8 @@ abbrev pub Mute : Type 0
 Mute = Unit {0}
 
 abbrev pub NoOutcome : Mute → Held → Answer → Outcome Mute → Type 0
-NoOutcome part held answer outcome = ⊥
+NoOutcome component held answer outcome = ⊥
 
 -- Whatever it claims to be ready for, it can't start and keep the law that a component comes to some outcome where it is ready.
 abbrev pub MuteIsRefused : Type 0
-MuteIsRefused = (claims : Held → Answer → Bool) → ((part : Mute) (held : Held) (answer : Answer) → IsTrue (claims held answer) → HasOutcome NoOutcome part held answer) → CanStart (λ held answer. IsTrue (claims held answer)) → ⊥
+MuteIsRefused = (claims : Held → Answer → Bool) → ((component : Mute) (held : Held) (answer : Answer) → IsTrue (claims held answer) → HasOutcome NoOutcome component held answer) → CanStart (λ held answer. IsTrue (claims held answer)) → ⊥

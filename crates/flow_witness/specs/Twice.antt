@@ -13,21 +13,21 @@ Twice = Option ℕ
 
 -- What it comes to: it sends what it got, sends the same packet again, and only then receives the next.
 abbrev pub sends_twice : Twice → Held → Answer → Outcome Twice
-sends_twice part held answers.Start = Wishes None held receive_first
-sends_twice part held (answers.Got id) = Wishes (Some id) held (send_first id)
+sends_twice component held answers.Start = Wishes None held receive_first
+sends_twice component held (answers.Got id) = Wishes (Some id) held (send_first id)
 sends_twice (Some id) held answers.Sent = Wishes None held (send_first id)
 sends_twice None held answers.Sent = Wishes None held receive_first
-sends_twice part held answers.End = Wishes None held Deactivate
-sends_twice part held (answers.Level n) = Wishes None held Deactivate
+sends_twice component held answers.End = Wishes None held Deactivate
+sends_twice component held (answers.Level n) = Wishes None held Deactivate
 
 -- It is ready where it claims to be.
 abbrev pub IsReady : (Twice → Held → Answer → Bool) → Twice → Held → Answer → Type 0
-IsReady claims part held answer = IsTrue (claims part held answer)
+IsReady claims component held answer = IsTrue (claims component held answer)
 
 -- The laws that a component keeps of its outcomes, with what it claims to be ready for.
 pub record KeepsLaws (claims : Twice → Held → Answer → Bool) : Type 0 where
-  pub obeys : (part : Twice) (held : Held) (answer : Answer) (outcome : Outcome Twice) → IsReady claims part held answer → outcome ≡ sends_twice part held answer → Obeys one_to_one uses_first held outcome
-  pub stays_ready : (part : Twice) (held : Held) (answer : Answer) (outcome : Outcome Twice) → IsReady claims part held answer → outcome ≡ sends_twice part held answer → StaysReady (IsReady claims) outcome
+  pub obeys : (component : Twice) (held : Held) (answer : Answer) (outcome : Outcome Twice) → IsReady claims component held answer → outcome ≡ sends_twice component held answer → Obeys one_to_one uses_first held outcome
+  pub stays_ready : (component : Twice) (held : Held) (answer : Answer) (outcome : Outcome Twice) → IsReady claims component held answer → outcome ≡ sends_twice component held answer → StaysReady (IsReady claims) outcome
 
 -- Whatever it claims to be ready for, it can't start and keep the laws.
 abbrev pub TwiceIsRefused : Type 0

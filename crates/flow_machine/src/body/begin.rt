@@ -23,13 +23,13 @@ impl<K: Component> Body<K> {
         process: u32,
         receiving: &[Option<u32>],
         sending: &[Option<u32>],
-        part: K,
+        component: K,
     ) -> Result<Body<K>, AllocError>
         requires in_range { process < length plan.now.processes }
         requires receiving { IfSome (slice_get plan.now.processes process) (λ x. receiving.now ≡ map (receives_at plan.now process) (range_with_len 0 x.inputs)) }
         requires sending { IfSome (slice_get plan.now.processes process) (λ x. sending.now ≡ map (sends_at plan.now process) (range_with_len 0 x.outputs)) }
-        requires well { (x : NetProcess) → slice_get plan.now.processes process ≡ Some x → x.outputs < 2 ^ 32 → StandsWell K.shape_of K.uses K.ready (process_at_start plan.now process x part) }
-        ensures { IfOk result (λ body. (x : NetProcess) → slice_get plan.now.processes process ≡ Some x → StartsBody (process_at_start plan.now process x part) body) }
+        requires well { (x : NetProcess) → slice_get plan.now.processes process ≡ Some x → x.outputs < 2 ^ 32 → StandsWell K.shape_of K.uses K.ready (process_at_start plan.now process x component) }
+        ensures { IfOk result (λ body. (x : NetProcess) → slice_get plan.now.processes process ≡ Some x → StartsBody (process_at_start plan.now process x component) body) }
     {
         let entry = &plan.processes()[process as usize];
         let fresh = vec![in alloc; false; places(entry.inputs)]?;
@@ -40,7 +40,7 @@ impl<K: Component> Body<K> {
             number: process,
             stage: Stage::Idle,
             has_run: false,
-            part,
+            component,
             hands: Hands::new(alloc, process),
             inlets,
             fresh,

@@ -12,8 +12,8 @@ use super::Body;
 use crate::answers::Effect;
 use crate::inlet::{Inlet, freshen};
 use crate::outlets::outlet_count;
-use flow_limits::TURN_LIMIT;
 use flow_component::{Answer, Component, Fail, Port, Wish};
+use flow_limits::TURN_LIMIT;
 use flow_model::Stage;
 use flow_packet::{Kind, Packet};
 

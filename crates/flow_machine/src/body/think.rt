@@ -10,8 +10,8 @@ ghost use Rattle.flow_machine.specs.Thoughts.{Thinks, KeepsTurns, HasRoom, Worke
 use super::Body;
 use crate::answers::Thought;
 use crate::inlet::{is_fresh, next_text};
-use flow_limits::HANDS_LIMIT;
 use flow_component::{Answer, Component, Fail, Gate, Stop, Wish};
+use flow_limits::HANDS_LIMIT;
 use flow_model::Stage;
 use flow_packet::{Hands, Kind};
 use std::alloc::AllocError;
@@ -88,7 +88,7 @@ impl<K: Component> Body<K> {
         ensures unchanged { OnFalse result (SameBody self.old self.new × HasNotFailed self.new.process.stage) }
         ensures keeps { KeepsTurns self.old self.new }
     {
-        match self.part.resume(&mut self.hands, answer) {
+        match self.component.resume(&mut self.hands, answer) {
             Ok(wish) => {
                 self.stage = judged_stage(&self.depths, &self.hands, wish);
                 true

@@ -8,8 +8,8 @@ use super::Net;
 use crate::body::Body;
 use crate::channel::Channel;
 use crate::wires::{receiving, sending};
-use flow_limits::{CONNECTION_LIMIT, SENDER_LIMIT};
 use flow_component::Component;
+use flow_limits::{CONNECTION_LIMIT, SENDER_LIMIT};
 use flow_net::{Connection, Plan};
 use std::alloc::{AllocError, Global};
 
@@ -56,21 +56,21 @@ fn channels_of(alloc: Global, connections: &[Connection]) -> Result<Vec<Channel>
 fn bodies_of<K: Component>(
     alloc: Global,
     plan: &Plan,
-    parts: Vec<K>,
+    components: Vec<K>,
 ) -> Result<Vec<Body<K>>, AllocError>
-    requires well { StartsWell K.shape_of K.uses K.ready plan.now parts.items }
+    requires well { StartsWell K.shape_of K.uses K.ready plan.now components.items }
     requires few { length plan.now.connections ≤ CONNECTION_LIMIT }
-    ensures { IfOk result (λ bodies. StartsBodies plan.now parts.items bodies.items) }
+    ensures { IfOk result (λ bodies. StartsBodies plan.now components.items bodies.items) }
 {
     let receiving = receiving(alloc, plan)?;
     let sending = sending(alloc, plan)?;
-    let mut parts = parts;
+    let mut components = components;
     let mut bodies = Vec::with_capacity(alloc, plan.processes().len())?;
     for process in 0..plan.processes().len() as u32 {
-        let part = parts.remove(0);
+        let component = components.remove(0);
         let inputs = receiving[process as usize].as_slice();
         let outputs = sending[process as usize].as_slice();
-        let Ok(body) = Body::begin(alloc, plan, process, inputs, outputs, part) else {
+        let Ok(body) = Body::begin(alloc, plan, process, inputs, outputs, component) else {
             discard_bodies(bodies);
             return Err(AllocError);
         };
@@ -86,13 +86,13 @@ fn bodies_of<K: Component>(
 impl<K: Component> Net<K> {
     /// A network of a plan with these components, one for each process. All processes are idle and set, nothing was made or put, and each connection has
     /// the places of its capacity.
-    pub fn start(alloc: Global, plan: &Plan, parts: Vec<K>) -> Result<Net<K>, AllocError>
-        requires well { StartsWell K.shape_of K.uses K.ready plan.now parts.items }
+    pub fn start(alloc: Global, plan: &Plan, components: Vec<K>) -> Result<Net<K>, AllocError>
+        requires well { StartsWell K.shape_of K.uses K.ready plan.now components.items }
         requires few { length plan.now.connections ≤ CONNECTION_LIMIT }
-        ensures { IfOk result (λ net. StartsNet plan.now parts.items net) }
+        ensures { IfOk result (λ net. StartsNet plan.now components.items net) }
     {
         let channels = channels_of(alloc, plan.connections())?;
-        match bodies_of(alloc, plan, parts) {
+        match bodies_of(alloc, plan, components) {
             Ok(bodies) => Ok(Net { bodies, channels }),
             Err(stop) => {
                 discard_channels(channels);

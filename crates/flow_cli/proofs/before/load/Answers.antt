@@ -1,4 +1,4 @@
-use Rattle.flow_cli.specs.declared.parts.TheConstants.{FILE_LIMIT}
+use Rattle.flow_cli.specs.declared.components.TheConstants.{FILE_LIMIT}
 use Rattle.flow_cli.proofs.Parting.{read-stopped}
 use Rattle.flow_cli.proofs.Befores.{file-stopped}
 use Rattle.flow_cli.proofs.before.load.Goals as goal

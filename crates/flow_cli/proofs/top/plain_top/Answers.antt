@@ -5,7 +5,7 @@ use Rattle.flow_cli.specs.Meant.{LeavesMeaning}
 use Rattle.flow_cli.specs.Top.{Performs, IsCaused, ComesToEnd, IsComplete, call_of}
 use Rattle.flow_cli.specs.declared.run.Done.{Done}
 use Rattle.flow_cli.specs.declared.status.Status.TheVariants.{Finished}
-use Rattle.flow_cli.specs.declared.parts.TheConstants.{FILE_LIMIT}
+use Rattle.flow_cli.specs.declared.components.TheConstants.{FILE_LIMIT}
 use Rattle.flow_cli.proofs.Befores.{so_far}
 use Rattle.flow_cli.proofs.Tops.{stopped, stop-not-over, stop-not-running, stop-complete, ran-caused, ran-well, ran-not-running, ran-complete, check-caused, check-well, check-not-running, check-complete}
 use Rattle.flow_cli.proofs.Meaning.{meant, finished-over}

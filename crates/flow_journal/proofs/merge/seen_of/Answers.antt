@@ -37,7 +37,7 @@ take_numbers-requires g c =
     let q : ℕ = get_or c.args.turns.now c.loop-stamp.stamp 0 in
     let inside : q < length c.loop-stamp.places.items = omega (arith, process, below, c.loop-stamp.invariant.0) in
     let place : c.index_mut-place.result.now ≡ get_or c.loop-stamp.places.items q 0 = c.index_mut-place.ensures.value ∙ get_or_default c.loop-stamp.places.items q c.index_mut-place.result.now 0 inside in
-    let levels : c.levels-levels.result.now ≡ levels_of q 0 log = c.levels-levels.ensures ∙ (is.parts c.from.result c.body.result.now c.body.ensures).1 ∙ ap (λ (p : ℕ). levels_of p 0 log) c.from.ensures in
+    let levels : c.levels-levels.result.now ≡ levels_of q 0 log = c.levels-levels.ensures ∙ (is.logs c.from.result c.body.result.now c.body.ensures).1 ∙ ap (λ (p : ℕ). levels_of p 0 log) c.from.ensures in
     let left = (c.loop-stamp.invariant.1 log is).1 q (omega (arith, process, below)) in
     omega (arith, place, left.0, ap length levels)
 
@@ -52,7 +52,7 @@ loop-stamp-preserved g c = (
       let below = process-below c.args.net.now log is (sym c.turns_made-made.ensures.stamps ∙ c.turns_made-made.ensures.turns) c.loop-stamp.stamp within in
       let inside : q < length c.loop-stamp.places.items = omega (arith, process, below, c.loop-stamp.invariant.0) in
       let place : c.index_mut-place.result.now ≡ get_or c.loop-stamp.places.items q 0 = c.index_mut-place.ensures.value ∙ get_or_default c.loop-stamp.places.items q c.index_mut-place.result.now 0 inside in
-      let levels : c.levels-levels.result.now ≡ levels_of q 0 log = c.levels-levels.ensures ∙ (is.parts c.from.result c.body.result.now c.body.ensures).1 ∙ ap (λ (p : ℕ). levels_of p 0 log) c.from.ensures in
+      let levels : c.levels-levels.result.now ≡ levels_of q 0 log = c.levels-levels.ensures ∙ (is.logs c.from.result c.body.result.now c.body.ensures).1 ∙ ap (λ (p : ℕ). levels_of p 0 log) c.from.ensures in
       let before = c.loop-stamp.invariant.1 log is in
       let left = before.1 q (omega (arith, process, below)) in
       let taken = c.in_ok-place.ensures in

@@ -4,6 +4,6 @@ use Rattle.flow_model.proofs.Judging.{one-verdict}
 use Rattle.flow_model.proofs.laws.every_schedule_ends_in_one_verdict.Goals as goal
 
 pub returns : goal.returns
-returns g c = λ plan parts journal s well leads.
+returns g c = λ plan components journal s well leads.
     one-verdict g.K.Component.shape_of g.K.Component.uses g.K.Component.ready s
-    (Fit-leads g.K.Component.shape_of g.K.Component.uses g.K.Component.ready g.K.Component.next g.met.K.Component.obeys g.met.K.Component.stays_ready g.met.K.Component.steady (start_of plan parts) journal s (Fit-start g.K.Component.shape_of g.K.Component.uses g.K.Component.ready plan parts well) leads)
+    (Fit-leads g.K.Component.shape_of g.K.Component.uses g.K.Component.ready g.K.Component.next g.met.K.Component.obeys g.met.K.Component.stays_ready g.met.K.Component.steady (start_of plan components) journal s (Fit-start g.K.Component.shape_of g.K.Component.uses g.K.Component.ready plan components well) leads)

@@ -3,5 +3,5 @@ use Rattle.flow_model.proofs.Fits.{Fit-start, Fit-leads}
 use Rattle.flow_model.proofs.laws.every_schedule_keeps_the_hands_limit.Goals as goal
 
 pub returns : goal.returns
-returns g c = λ plan parts journal s well leads.
-    (Fit-leads g.K.Component.shape_of g.K.Component.uses g.K.Component.ready g.K.Component.next g.met.K.Component.obeys g.met.K.Component.stays_ready g.met.K.Component.steady (start_of plan parts) journal s (Fit-start g.K.Component.shape_of g.K.Component.uses g.K.Component.ready plan parts well) leads).few
+returns g c = λ plan components journal s well leads.
+    (Fit-leads g.K.Component.shape_of g.K.Component.uses g.K.Component.ready g.K.Component.next g.met.K.Component.obeys g.met.K.Component.stays_ready g.met.K.Component.steady (start_of plan components) journal s (Fit-start g.K.Component.shape_of g.K.Component.uses g.K.Component.ready plan components well) leads).few

@@ -11,4 +11,4 @@ returns c =
     let plan = c.args.plan.now in
     let of = c.processes.ensures in
     let well = c.a_valid_plan_is_ready.ensures.starts plan (map asker_of plan.processes) of.valid (askers-fit plan (c.all_connected.ensures c.if-not-all_connected.false)) in
-    subst (λ (items : List Asker). StartsWell shape_asked uses_asked AlwaysReady plan items) (sym (c.in_ok-parts_of.ensures ∙ ap (map asker_of) of.processes)) well
+    subst (λ (items : List Asker). StartsWell shape_asked uses_asked AlwaysReady plan items) (sym (c.in_ok-components_of.ensures ∙ ap (map asker_of) of.processes)) well

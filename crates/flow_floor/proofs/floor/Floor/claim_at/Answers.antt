@@ -12,7 +12,7 @@ pub compare_exchange-found-requires : goal.compare_exchange-found-requires
 compare_exchange-found-requires g c = let q = c.requires.worker in let f = c.args.self.now in (
   q.calm.table,
   omega (arith, f.words, c.requires.range),
-  claims g.K.Component.shape_of g.K.Component.uses g.K.Component.ready g.K.Component.next g.met.K.Component.obeys g.met.K.Component.stays_ready g.met.K.Component.steady f.table.shared.key.value _ _ _ _ _ (c.requires.spot ∙ sym f.channels) (omega (arith, f.bodies, c.requires.range)) q.held q.calm.part,
+  claims g.K.Component.shape_of g.K.Component.uses g.K.Component.ready g.K.Component.next g.met.K.Component.obeys g.met.K.Component.stays_ready g.met.K.Component.steady f.table.shared.key.value _ _ _ _ _ (c.requires.spot ∙ sym f.channels) (omega (arith, f.bodies, c.requires.range)) q.held q.calm.share,
 )
 
 pub exchange-old-requires : goal.exchange-old-requires
@@ -29,7 +29,7 @@ returns g c = let q = c.requires.worker in let e = c.compare_exchange-found.ensu
     let me1 : c.exchange-old.new.seat.me.1 ≡ (c.args.process, slot.Vacant) ∷ [] = ap (λ m. m.1) x.3 ∙ ap (λ cs. (c.args.process, slot.Vacant) ∷ rest cs) (ap (λ m. m.1) t.3) ∙ ap (λ cs. (c.args.process, slot.Vacant) ∷ cs) q.slots in (
       refl,
       record {
-        calm = record { table = x.0 ∙ e.0 ∙ q.calm.table; part = subst (λ n. 0 < n) (sym (ap (λ v. v.parts) me0)) q.calm.part; grab = ap (λ v. v.grab) me0 ∙ q.calm.grab; noted = ap (λ v. v.noted) me0 ∙ q.calm.noted; spare = ap (λ v. v.spare) me0 ∙ q.calm.spare };
+        calm = record { table = x.0 ∙ e.0 ∙ q.calm.table; share = subst (λ n. 0 < n) (sym (ap (λ v. v.shares) me0)) q.calm.share; grab = ap (λ v. v.grab) me0 ∙ q.calm.grab; noted = ap (λ v. v.noted) me0 ∙ q.calm.noted; spare = ap (λ v. v.spare) me0 ∙ q.calm.spare };
         below = c.requires.range;
         agrees = record { base = b; held = ap (λ v. v.held) me0; rests = rests-same g.K.Component.next b c.in-Body.body body_is; whole = subst (λ z. z.leaving ≡ None) body_is t.1 };
         slots = me1;

@@ -16,7 +16,7 @@ pub join-requires-clause-other : goal.join-requires-clause-other
 join-requires-clause-other g c = (both g (goal.at.join-requires-clause-other g c).In-Some).0
 
 pub loop-worker-preserved : goal.loop-worker-preserved
-loop-worker-preserved g c = let e = c.join.ensures in crew-pair c.args.self.now.table.shared.table_id c.pop.new.self.items c.in-Some.worker c.loop-worker.first c.join.new.worker e.idle (ap (λ v. v.parts) e.both)
+loop-worker-preserved g c = let e = c.join.ensures in crew-pair c.args.self.now.table.shared.table_id c.pop.new.self.items c.in-Some.worker c.loop-worker.first c.join.new.worker e.idle (ap (λ v. v.shares) e.both)
     (subst (λ xs. IsCrew c.args.self.now.table.shared.table_id (xs ++ c.loop-worker.first ∷ [])) c.in-Some.ensures.items c.loop-worker.invariant)
 
 pub returns : goal.returns

@@ -19,7 +19,7 @@ pub returns-then-word-ge-HELD : goal.returns-then-word-ge-HELD
 returns-then-word-ge-HELD g c = let q = c.requires.held in let e = c.fetch_or-word.ensures in let high = c.if-word-ge-HELD.true in let m = e.2.1 high in let v = ap (λ x. x.0) m in (
   high,
   record {
-    calm = record { table = e.0 ∙ q.calm.table; part = subst (λ n. 0 < n) (sym (ap (λ x. x.parts) v)) q.calm.part; grab = ap (λ x. x.grab) v ∙ q.calm.grab; noted = ap (λ x. x.noted) v ∙ q.calm.noted; spare = ap (λ x. x.spare) v ∙ q.calm.spare };
+    calm = record { table = e.0 ∙ q.calm.table; share = subst (λ n. 0 < n) (sym (ap (λ x. x.shares) v)) q.calm.share; grab = ap (λ x. x.grab) v ∙ q.calm.grab; noted = ap (λ x. x.noted) v ∙ q.calm.noted; spare = ap (λ x. x.spare) v ∙ q.calm.spare };
     below = q.below;
     agrees = record { base = q.agrees.base; held = ap (λ x. x.held) v ∙ q.agrees.held; rests = q.agrees.rests; whole = q.agrees.whole };
     slots = ap (λ x. x.1) m ∙ q.slots;
@@ -45,7 +45,7 @@ returns g c = let q = c.requires.held in let e = c.fetch_or-word.ensures in let 
     let senders : senders_in r ≡ c.in-Channel.channel.open_senders = t.2 ∙ ap (λ z. z.open_senders) k_is in (
       record {
         table = x.0 ∙ e.0 ∙ q.calm.table;
-        part = subst (λ n. 0 < n) (sym (ap (λ v. v.parts) me0)) q.calm.part;
+        share = subst (λ n. 0 < n) (sym (ap (λ v. v.shares) me0)) q.calm.share;
         noted = ap (λ v. v.noted) me0 ∙ q.calm.noted;
         spare = ap (λ v. v.spare) me0 ∙ q.calm.spare;
         below = q.below;

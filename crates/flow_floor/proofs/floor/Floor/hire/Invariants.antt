@@ -5,9 +5,9 @@ use Rattle.flow_floor.proofs.floor.Floor.hire.Given as goal
 abbrev pub invariant-loop-i : goal.invariant-loop-i
 invariant-loop-i g l = record {
   first : IsIdle l.self.table.shared.table_id l.first;
-  left : (view l.first).parts + l._i ≡ 33;
+  left : (view l.first).shares + l._i ≡ 33;
   idle : All (IsIdle l.self.table.shared.table_id) l.crew.items;
-  parts : sum_by (λ w. w.seat.me.0.parts) l.crew.items + 1 ≡ l._i;
+  shares : sum_by (λ w. w.seat.me.0.shares) l.crew.items + 1 ≡ l._i;
   long : length l.crew.items + 1 ≡ l._i;
   room : vec_capacity l.crew ≡ vec_capacity l.fn.crew;
 }

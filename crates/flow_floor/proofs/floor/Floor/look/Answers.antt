@@ -8,7 +8,7 @@ load-requires g c = let f = c.args.self.now in let q = c.requires.held in
 
 pub returns-clause-held : goal.returns-clause-held
 returns-clause-held g c = let q = c.requires.held in let e = c.load.ensures in let v = ap (λ m. m.0) e.2 in record {
-  calm = record { table = e.0 ∙ q.calm.table; part = subst (λ n. 0 < n) (sym (ap (λ x. x.parts) v)) q.calm.part; grab = ap (λ x. x.grab) v ∙ q.calm.grab; noted = ap (λ x. x.noted) v ∙ q.calm.noted; spare = ap (λ x. x.spare) v ∙ q.calm.spare };
+  calm = record { table = e.0 ∙ q.calm.table; share = subst (λ n. 0 < n) (sym (ap (λ x. x.shares) v)) q.calm.share; grab = ap (λ x. x.grab) v ∙ q.calm.grab; noted = ap (λ x. x.noted) v ∙ q.calm.noted; spare = ap (λ x. x.spare) v ∙ q.calm.spare };
   below = q.below;
   agrees = record { base = q.agrees.base; held = ap (λ x. x.held) v ∙ q.agrees.held; rests = q.agrees.rests; whole = q.agrees.whole };
   slots = ap (λ m. m.1) e.2 ∙ q.slots;

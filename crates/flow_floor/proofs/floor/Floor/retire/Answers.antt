@@ -9,5 +9,5 @@ swap-requires g c = let f = c.args.self.now in let q = c.requires in let x = c.e
     let carried = ap (λ m. m.1) now ∙ ap (λ cs. (h.process, slot.Body h.body) ∷ rest cs) q.slots in (
       x.0 ∙ q.calm.table,
       omega (arith, f.words, q.below),
-      retires g.K.Component.shape_of g.K.Component.uses g.K.Component.ready g.K.Component.next g.met.K.Component.obeys g.met.K.Component.stays_ready g.met.K.Component.steady f.table.shared.key.value _ h.process _ _ q.agrees.base h.body _ (ap (λ y. y.held) v ∙ q.agrees.held) q.agrees.rests (ap (λ y. y.grab) v ∙ q.calm.grab) (ap (λ y. y.noted) v ∙ q.calm.noted) (ap (λ y. y.spare) v ∙ q.calm.spare) (subst (λ n. 0 < n) (sym (ap (λ y. y.parts) v)) q.calm.part) carried,
+      retires g.K.Component.shape_of g.K.Component.uses g.K.Component.ready g.K.Component.next g.met.K.Component.obeys g.met.K.Component.stays_ready g.met.K.Component.steady f.table.shared.key.value _ h.process _ _ q.agrees.base h.body _ (ap (λ y. y.held) v ∙ q.agrees.held) q.agrees.rests (ap (λ y. y.grab) v ∙ q.calm.grab) (ap (λ y. y.noted) v ∙ q.calm.noted) (ap (λ y. y.spare) v ∙ q.calm.spare) (subst (λ n. 0 < n) (sym (ap (λ y. y.shares) v)) q.calm.share) carried,
     )

@@ -49,7 +49,7 @@ returns-in-Wishing g c = λ x' there'.
     let depths = c.in_ok-depths.ensures.items_if_clones_equal (λ y e. e) ∙ ap (λ n. replicate n 0) c.places-2.ensures.is in
     let prepared = c.in-Wishing.ensures.prepares in
     let keeps = c.in-Wishing.ensures.keeps in
-    let starts : StartsBody (process_at_start c.args.plan.now c.args.process x c.args.part) c.prepare.new.self = record {
+    let starts : StartsBody (process_at_start c.args.plan.now c.args.process x c.args.component) c.prepare.new.self = record {
       process = rw prepared.0.process (rw (inputs, outputs, fresh, depths, c.new.ensures, c.new-2.ensures.len) refl);
       dropped = rw prepared.0.dropped (rw c.new.ensures refl);
       leaving = keeps.leaving;
@@ -59,4 +59,4 @@ returns-in-Wishing g c = λ x' there'.
     } in
     let h : Some x ≡ Some x' = sym there ∙ there' in
     let same : x ≡ x' = cc in
-    subst (λ (q : NetProcess). StartsBody (process_at_start c.args.plan.now c.args.process q c.args.part) c.prepare.new.self) same starts
+    subst (λ (q : NetProcess). StartsBody (process_at_start c.args.plan.now c.args.process q c.args.component) c.prepare.new.self) same starts

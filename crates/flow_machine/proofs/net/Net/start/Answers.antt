@@ -12,9 +12,9 @@ channels_of-requires g c = λ n x is.
 pub invariant_of-result : goal.invariant_of-result
 invariant_of-result g c =
     let channels : c.in_ok-channels.channels.items ≡ map channel_begun c.args.plan.now.connections = c.in_ok-channels.ensures ∙ ap (map channel_begun) c.connections.ensures in
-    rw channels (fit-start g.K.Component.shape_of g.K.Component.uses g.K.Component.ready c.args.plan.now c.args.parts.items c.in-Ok.bodies.items c.requires.well c.in-Ok.ensures)
+    rw channels (fit-start g.K.Component.shape_of g.K.Component.uses g.K.Component.ready c.args.plan.now c.args.components.items c.in-Ok.bodies.items c.requires.well c.in-Ok.ensures)
 
 pub returns-in-Ok : goal.returns-in-Ok
 returns-in-Ok g c =
     let channels : c.in_ok-channels.channels.items ≡ map channel_begun c.args.plan.now.connections = c.in_ok-channels.ensures ∙ ap (map channel_begun) c.connections.ensures in
-    rw channels (starts-net g.K.Component.shape_of g.K.Component.uses g.K.Component.ready c.args.plan.now c.args.parts.items c.in-Ok.bodies.items c.requires.well c.in-Ok.ensures)
+    rw channels (starts-net g.K.Component.shape_of g.K.Component.uses g.K.Component.ready c.args.plan.now c.args.components.items c.in-Ok.bodies.items c.requires.well c.in-Ok.ensures)

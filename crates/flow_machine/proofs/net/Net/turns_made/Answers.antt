@@ -10,4 +10,4 @@ pub returns-clause-few : goal.returns-clause-few
 returns-clause-few g c = rw (c.count_turns.ensures.turns, c.deref.ensures.value) (turns-most g.K.Component.shape_of g.K.Component.uses g.K.Component.ready (record { bodies = c.self.inside.bodies.items; channels = c.self.inside.channels.items }) c.self.invariant)
 
 pub returns-clause-log : goal.returns-clause-log
-returns-clause-log g c = subst HasLog c.self.view_is (c.self.invariant.log, record { parts = c.self.invariant.logs; total = c.self.invariant.total })
+returns-clause-log g c = subst HasLog c.self.view_is (c.self.invariant.log, record { logs = c.self.invariant.logs; total = c.self.invariant.total })

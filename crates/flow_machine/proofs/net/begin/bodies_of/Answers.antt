@@ -11,15 +11,15 @@ use Rattle.flow_machine.proofs.net.begin.bodies_of.Goals as goal
 pub overflow_cast-process-end : goal.overflow_cast-process-end
 overflow_cast-process-end g c = omega (arith, ap (λ (ps : List NetProcess). length ps) c.processes-2.ensures.processes, c.requires.well.wired.few_processes)
 
-pub remove-part-requires : goal.remove-part-requires
-remove-part-requires g c =
+pub remove-component-requires : goal.remove-component-requires
+remove-component-requires g c =
     omega (
       arith,
       c.loop-process-test.true,
       ap (λ (ps : List NetProcess). length ps) c.processes-2.ensures.processes,
       c.requires.well.one_each,
       ap (λ (ps : List g.row.K.Denot). length ps) c.loop-process.invariant.rest,
-      length-drop c.loop-process.process c.args.parts.items,
+      length-drop c.loop-process.process c.args.components.items,
     )
 
 pub index-requires : goal.index-requires
@@ -51,35 +51,35 @@ pub begin-requires-clause-well : goal.begin-requires-clause-well
 begin-requires-clause-well g c = λ x there small.
     let plan = c.args.plan.now in
     let p : ℕ = c.loop-process.process in
-    let within : p < length c.args.parts.items = omega (arith, c.loop-process-test.true, ap (λ (ps : List NetProcess). length ps) c.processes-2.ensures.processes, c.requires.well.one_each) in
-    let part = element-there c.args.parts.items p within in
-    let same : c.remove-part.result ≡ part.0 = first-of c.args.parts.items c.loop-process.parts.items p c.remove-part.result part.0 c.loop-process.invariant.rest part.1 c.remove-part.ensures.value in
-    stands-start g.K.Component.shape_of g.K.Component.uses g.K.Component.ready plan c.args.parts.items p x c.remove-part.result c.requires.well there
-    (part.1 ∙ ap (λ (z : g.row.K.Denot). Some z) (sym same)) small
+    let within : p < length c.args.components.items = omega (arith, c.loop-process-test.true, ap (λ (ps : List NetProcess). length ps) c.processes-2.ensures.processes, c.requires.well.one_each) in
+    let component = element-there c.args.components.items p within in
+    let same : c.remove-component.result ≡ component.0 = first-of c.args.components.items c.loop-process.components.items p c.remove-component.result component.0 c.loop-process.invariant.rest component.1 c.remove-component.ensures.value in
+    stands-start g.K.Component.shape_of g.K.Component.uses g.K.Component.ready plan c.args.components.items p x c.remove-component.result c.requires.well there
+    (component.1 ∙ ap (λ (z : g.row.K.Denot). Some z) (sym same)) small
 
 pub loop-process-init : goal.loop-process-init
 loop-process-init g c = record {
   rest = refl;
   count = ap (λ (bs : List (BodyValue g.row.K.Denot)). length bs) c.in_ok-bodies.ensures.items;
-  each = λ p q part b is at here. absurd (nothing-there p b (sym (ap (λ (bs : List (BodyValue g.row.K.Denot)). slice_get bs p) c.in_ok-bodies.ensures.items) ∙ here));
+  each = λ p q component b is at here. absurd (nothing-there p b (sym (ap (λ (bs : List (BodyValue g.row.K.Denot)). slice_get bs p) c.in_ok-bodies.ensures.items) ∙ here));
 }
 
 pub loop-process-preserved : goal.loop-process-preserved
 loop-process-preserved g c = record {
-  rest = c.remove-part.ensures.items ∙ rest-drops c.args.parts.items c.loop-process.parts.items c.loop-process.process c.loop-process.invariant.rest;
+  rest = c.remove-component.ensures.items ∙ rest-drops c.args.components.items c.loop-process.components.items c.loop-process.process c.loop-process.invariant.rest;
   count = omega (arith, ap (λ (bs : List (BodyValue g.row.K.Denot)). length bs) c.in_default-push.ensures.items, length-append c.loop-process.bodies.items (c.in-Ok.body ∷ []), c.loop-process.invariant.count);
-  each = λ p q part b is at here. (
+  each = λ p q component b is at here. (
       elim (last-or c.loop-process.bodies.items c.in-Ok.body p b (sym (ap (λ (bs : List (BodyValue g.row.K.Denot)). slice_get bs p) c.in_default-push.ensures.items) ∙ here)) [
-        | inl old ↦ c.loop-process.invariant.each p q part b is at old
+        | inl old ↦ c.loop-process.invariant.each p q component b is at old
         | inr new ↦ (
             let place : c.loop-process.process ≡ p = sym c.loop-process.invariant.count ∙ sym new.0 in
             let within : c.loop-process.process < length c.args.plan.now.processes = omega (arith, c.loop-process-test.true, ap (λ (ps : List NetProcess). length ps) c.processes-2.ensures.processes) in
             let x = element-there c.args.plan.now.processes c.loop-process.process within in
             let spec_there : Some x.0 ≡ Some q = sym x.1 ∙ ap (λ (n : ℕ). slice_get c.args.plan.now.processes n) place ∙ is in
             let spec : x.0 ≡ q = some-same x.0 q spec_there in
-            let part_there : slice_get c.args.parts.items c.loop-process.process ≡ Some part = ap (λ (n : ℕ). slice_get c.args.parts.items n) place ∙ at in
-            let same : c.remove-part.result ≡ part = first-of c.args.parts.items c.loop-process.parts.items c.loop-process.process c.remove-part.result part c.loop-process.invariant.rest part_there c.remove-part.ensures.value in
-            starts-same c.args.plan.now c.loop-process.process p x.0 q c.remove-part.result part c.in-Ok.body b place spec same new.1 (c.in-Ok.ensures x.0 x.1))
+            let component_there : slice_get c.args.components.items c.loop-process.process ≡ Some component = ap (λ (n : ℕ). slice_get c.args.components.items n) place ∙ at in
+            let same : c.remove-component.result ≡ component = first-of c.args.components.items c.loop-process.components.items c.loop-process.process c.remove-component.result component c.loop-process.invariant.rest component_there c.remove-component.ensures.value in
+            starts-same c.args.plan.now c.loop-process.process p x.0 q c.remove-component.result component c.in-Ok.body b place spec same new.1 (c.in-Ok.ensures x.0 x.1))
       ]);
 }
 

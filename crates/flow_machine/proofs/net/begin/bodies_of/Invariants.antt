@@ -7,7 +7,7 @@ use Rattle.flow_machine.proofs.net.begin.bodies_of.Given as goal
 
 abbrev pub invariant-loop-process : goal.invariant-loop-process
 invariant-loop-process g l = record {
-  rest : l.parts.items ≡ drop l.process l.fn.parts.items;
+  rest : l.components.items ≡ drop l.process l.fn.components.items;
   count : length l.bodies.items ≡ l.process;
-  each : (p : ℕ) (q : PlanProcess) (part : g.row.K.Denot) (b : BodyValue g.row.K.Denot) → slice_get l.plan.processes p ≡ Some q → slice_get l.fn.parts.items p ≡ Some part → slice_get l.bodies.items p ≡ Some b → StartsBody (process_at_start l.plan p q part) b;
+  each : (p : ℕ) (q : PlanProcess) (component : g.row.K.Denot) (b : BodyValue g.row.K.Denot) → slice_get l.plan.processes p ≡ Some q → slice_get l.fn.components.items p ≡ Some component → slice_get l.bodies.items p ≡ Some b → StartsBody (process_at_start l.plan p q component) b;
 }

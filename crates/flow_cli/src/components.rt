@@ -1,0 +1,57 @@
+//! The components of a plan's processes, each reader on what its file holds.
+ghost use Rattle.std.specs.Prelude.{◌≡◌};
+ghost use Rattle.flow_cli.specs.Components.{ReadsComponent, ReadsComponents};
+ghost use Rattle.flow_cli.specs.Networks.{IsStandardPlan};
+ghost use Rattle.flow_catalogue.specs.Processes.{IsStandard};
+
+use crate::step::read_file;
+use crate::stop::{Stop, read_stop};
+use flow_catalogue::{FileUse, Std, a_plan_over_the_table_is_standard, file_of, make};
+use flow_net::Plan;
+use flow_text::Shelf;
+use std::alloc::Global;
+
+/// A network file and each input file has at most so many bytes. The limit is this project's own.
+pub const FILE_LIMIT: u64 = 16_777_216;
+
+/// Reads the files of the plan's readers in the order of the processes, and makes the component of each process.
+pub fn read_components<F: Shelf>(
+    alloc: Global,
+    shelf: &mut F,
+    plan: &Plan,
+) -> Result<Vec<Std>, Stop>
+    requires { IsStandardPlan plan.now }
+    ensures { ReadsComponents (F.outside shelf.old) (F.outside shelf.new) plan.now result FILE_LIMIT }
+{
+    a_plan_over_the_table_is_standard();
+    let mut components = Vec::new(alloc);
+    for process in 0..plan.processes().len() {
+        let component = match read_component(alloc, shelf, plan, process as u32) {
+            Ok(component) => component,
+            Err(stop) => return Err(stop),
+        };
+        if components.push(component).is_err() {
+            return Err(Stop::NoMemory);
+        }
+    }
+    Ok(components)
+}
+
+// The component of one process.
+fn read_component<F: Shelf>(
+    alloc: Global,
+    shelf: &mut F,
+    plan: &Plan,
+    process: u32,
+) -> Result<Std, Stop>
+    requires { IsStandard plan.now process }
+    ensures { ReadsComponent (F.outside shelf.old) (F.outside shelf.new) plan.now process result FILE_LIMIT }
+{
+    match file_of(plan, process) {
+        Some(FileUse::Read(name)) => match read_file(alloc, shelf, name, FILE_LIMIT) {
+            Ok(bytes) => Ok(make(alloc, plan, process, bytes)?),
+            Err(stop) => Err(read_stop(alloc, stop, name)),
+        },
+        _ => Ok(make(alloc, plan, process, Vec::new(alloc))?),
+    }
+}
