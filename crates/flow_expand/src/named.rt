@@ -1,9 +1,8 @@
 //! Looking up what the parts of a text name.
-ghost use Rattle.std.specs.Prelude.{◌≡◌, List, Some, None, MatchOption, IfOk, [], is_some, position};
+ghost use Rattle.std.specs.Prelude.{◌≡◌, Some, None, MatchOption, is_some, position};
 ghost use Rattle.std.specs.Str.{bytes_eq};
 ghost use Rattle.std.specs.List.{list_any};
 ghost use Rattle.std.specs.Option.{option_map};
-ghost use Rattle.flow_net.specs.Calls.{kind_named};
 ghost use Rattle.flow_flat.specs.Subnets.{subnet_called, stands_for, outer_port};
 ghost use Rattle.flow_expand.specs.Places.{subnet_place, process_place};
 
@@ -11,7 +10,6 @@ use crate::indexed::Indexed;
 use flow_items::Text;
 use flow_net::{KindSpec, PortRef};
 use flow_parse::{NetPart, Statement};
-use std::alloc::{AllocError, Global};
 
 /// The place of the subnet of a name among the subnets of a text.
 pub fn subnet_named(text: &Indexed<'_>, name: &[u8]) -> Option<usize>

@@ -1,16 +1,15 @@
 //! The plan of a text.
-ghost use Rattle.std.specs.Prelude.{◌≡◌, List, [], Ok, Err, IsTrue, IfOk, IfErr, Result};
-ghost use Rattle.std.specs.List.{cons_option, filter_map, flat_map};
+ghost use Rattle.std.specs.Prelude.{◌≡◌, Ok, Err, IsTrue, IfOk, IfErr, Result};
+ghost use Rattle.std.specs.List.{flat_map};
 ghost use Rattle.flow_net.specs.Kinds.{is_table};
 ghost use Rattle.flow_plan.specs.Network.{Network};
 ghost use Rattle.flow_net.specs.Over.{IsOver};
 ghost use Rattle.flow_parse.specs.Values.{IsNetText};
 ghost use Rattle.flow_flat.specs.declared.fault.ExpandFault.{ExpandFault};
-ghost use Rattle.flow_flat.specs.Firsts.{AllPass, FirstFails};
-ghost use Rattle.flow_flat.specs.Texts.{RecursionPasses, deep_instances, TextComesTo};
-ghost use Rattle.flow_flat.specs.Told.{HasShortTexts, after_processes, AfterMeant};
+ghost use Rattle.flow_flat.specs.Texts.{TextComesTo};
+ghost use Rattle.flow_flat.specs.Told.{HasShortTexts, AfterMeant};
 ghost use Rattle.flow_expand.specs.Outcomes.{Gives, Leaves, IfFault};
-ghost use Rattle.flow_expand.specs.Tells.{main_meant, own_meant, own_process, HasShortSubnets, Names, Ends, Told};
+ghost use Rattle.flow_expand.specs.Tells.{main_meant, own_meant, HasShortSubnets, Ends, Told};
 
 use crate::indexed::Indexed;
 use crate::instances::instances;
@@ -23,7 +22,7 @@ use flow_flat::ExpandFault;
 use flow_items::Text;
 use flow_net::{KindSpec, Plan, PlanBuilder};
 use flow_parse::NetText;
-use std::alloc::{AllocError, Global};
+use std::alloc::Global;
 
 // Tells a builder the statements of main.
 fn put_main(alloc: Global, text: &Indexed<'_>, builder: &mut PlanBuilder) -> Result<(), ExpandStop>

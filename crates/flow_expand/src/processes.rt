@@ -1,5 +1,5 @@
 //! Naming the processes of a text to a builder.
-ghost use Rattle.std.specs.Prelude.{◌≡◌, List, Ok, Err, IfOk, Result};
+ghost use Rattle.std.specs.Prelude.{◌≡◌, Ok, Err, IfOk, Result};
 ghost use Rattle.std.specs.List.{filter_map, flat_map};
 ghost use Rattle.flow_flat.specs.Told.{after_processes};
 ghost use Rattle.flow_expand.specs.Tells.{own_meant, own_process, Names};
