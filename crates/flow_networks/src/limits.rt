@@ -1,0 +1,27 @@
+//! The limits as the documents tell them. Code and definitions both cite the constants, so no contract refuses another number.
+use flow_cli::FILE_LIMIT;
+use flow_limits::{
+    CAPACITY_LIMIT, CAPACITY_SUM_LIMIT, CONNECTION_LIMIT, ELEMENT_LIMIT, HANDS_LIMIT, PORT_LIMIT,
+    PROCESS_LIMIT, SENDER_LIMIT, STATEMENT_LIMIT, SUBNET_PROCESS_LIMIT, TEXT_LIMIT, TURN_LIMIT,
+};
+
+#[test]
+fn the_limits_are_those_that_are_told(rt: HostRuntime) {
+    for (limit, told) in [
+        (PROCESS_LIMIT, 128),
+        (CONNECTION_LIMIT, 512),
+        (ELEMENT_LIMIT, 512),
+        (PORT_LIMIT, 4_096),
+        (CAPACITY_LIMIT as usize, 1_024),
+        (CAPACITY_SUM_LIMIT as usize, 65_536),
+        (SENDER_LIMIT, 65_535),
+        (TEXT_LIMIT, 1_048_576),
+        (HANDS_LIMIT, 4_096),
+        (TURN_LIMIT, 8_388_608),
+        (STATEMENT_LIMIT, 4_096),
+        (SUBNET_PROCESS_LIMIT, 512),
+        (FILE_LIMIT as usize, 16_777_216),
+    ] {
+        assert_eq!(rt; limit, told);
+    }
+}
