@@ -42,24 +42,28 @@ pairs-one kinds i c ps m found = record {
 not_open : (kinds : List Kind) (i c : ℕ) (kind : Kind) → slice_get kinds i ≡ Some kind → (kind ≡ Open → ⊥) → Matches kinds i c → ⊥
 not_open kinds i c kind e other m = let same : Some kind ≡ Some Open = sym e ∙ m.opens in other (cc)
 
+-- What is found behind a Normal packet is what is found from it on.
 pub step-normal : (kinds : List Kind) (i : ℕ) (cs : List ℕ) (ps : List (ℕ × ℕ)) → slice_get kinds i ≡ Some Normal → Scanned kinds (i + 1) cs ps → Scanned kinds i cs ps
 step-normal kinds i cs ps e s = record {
   free = free-normal kinds i (reverse cs) e s.free;
   found = pairs-none kinds i (reverse ps) (λ c. not_open kinds i c Normal e (λ n. cc)) s.found;
 }
 
+-- A Close packet that is met from behind is one more close that waits for its Open.
 pub step-close : (kinds : List Kind) (i : ℕ) (cs : List ℕ) (ps : List (ℕ × ℕ)) → slice_get kinds i ≡ Some Close → Scanned kinds (i + 1) cs ps → Scanned kinds i (cs ++ i ∷ []) ps
 step-close kinds i cs ps e s = record {
   free = rw (reverse-append cs (i ∷ [])) (free-close kinds i (reverse cs) e s.free);
   found = pairs-none kinds i (reverse ps) (λ c. not_open kinds i c Close e (λ n. cc)) s.found;
 }
 
+-- An Open packet without a close that waits opens no substream.
 pub step-open : (kinds : List Kind) (i : ℕ) (ps : List (ℕ × ℕ)) → slice_get kinds i ≡ Some Open → Scanned kinds (i + 1) [] ps → Scanned kinds i [] ps
 step-open kinds i ps e s = record {
   free = free-open kinds i e s.free;
   found = pairs-none kinds i (reverse ps) (λ c. no_close kinds i c s.free) s.found;
 }
 
+-- An Open packet takes the nearest close that waits: the two are a pair.
 pub step-pair : (kinds : List Kind) (i c : ℕ) (cs : List ℕ) (ps : List (ℕ × ℕ)) → slice_get kinds i ≡ Some Open → Scanned kinds (i + 1) (cs ++ c ∷ []) ps → Scanned kinds i cs (ps ++ (i, c) ∷ [])
 step-pair kinds i c cs ps e s =
     let free : AreFree kinds (i + 1) (c ∷ reverse cs) = subst (AreFree kinds (i + 1)) (reverse-append cs (c ∷ [])) s.free in

@@ -8,11 +8,13 @@ use Rattle.flow_packet.specs.declared.packet.Kind.TheVariants.{Normal, Open, Clo
 use Rattle.flow_bracket.specs.Substreams.{is_open, is_close, opens_before, closes_before, AtMostAsMany, AsMany, Matches, Overcloses}
 use Rattle.flow_bracket.specs.Scans.{IsFree, AreFree}
 
+-- What is found at a place shows that the place lies within the list.
 pub there : {X : Type 0} (xs : List X) (i : ℕ) (x : X) → slice_get xs i ≡ Some x → i < length xs
 there [] i x e = cc
 there (y ∷ ys) zero x e = omega arith
 there (y ∷ ys) (suc i) x e = omega (arith, there ys i x e)
 
+-- A place within a list holds what is read there.
 pub stands : {X : Type 0} (xs : List X) (i : ℕ) (d x : X) → i < length xs → get_or xs i d ≡ x → slice_get xs i ≡ Some x
 stands [] i d x h e = absurd (omega arith)
 stands (y ∷ ys) zero d x h e = ap (λ z. Some z) e
@@ -23,6 +25,7 @@ at [] i x d e = cc
 at (y ∷ ys) zero x d e = cc
 at (y ∷ ys) (suc i) x d e = at ys i x d e
 
+-- A place from i on is i or lies behind it.
 pub here_or_behind : (i k : ℕ) → i ≤ k → (k ≡ i) ⊎ (i + 1 ≤ k)
 here_or_behind i k h = elim (nat_lt i k) as (λ b. nat_lt i k ≡ b → (k ≡ i) ⊎ (i + 1 ≤ k)) [ true ↦ λ e. inr (grind (arith, nat_tests)) | false ↦ λ e. inl (grind (arith, nat_tests)) ] refl
 
@@ -74,6 +77,7 @@ at_most-back kinds i opens k a h f = elim (here_or_behind i k h) [
   | inr l ↦ (let more = f l in let o = a.more_opens in let c = a.more_closes in omega arith)
 ]
 
+-- The closes that wait behind a Normal packet wait from it on.
 pub free-normal : (kinds : List Kind) (i : ℕ) (cs : List ℕ) → slice_get kinds i ≡ Some Normal → AreFree kinds (i + 1) cs → AreFree kinds i cs
 free-normal kinds i [] e free = λ k l m. at_most-back kinds i 0 k (adds kinds i Normal e) l (λ h. free k h m)
 free-normal kinds i (c ∷ cs) e free =
@@ -87,6 +91,7 @@ free-normal kinds i (c ∷ cs) e free =
       free.1,
     )
 
+-- A Close packet waits, before those that wait behind it.
 pub free-close : (kinds : List Kind) (i : ℕ) (cs : List ℕ) → slice_get kinds i ≡ Some Close → AreFree kinds (i + 1) cs → AreFree kinds i (i ∷ cs)
 free-close kinds i cs e free = (record { order = omega arith; closes = e; inside = λ k l m. at_most-same kinds i k (omega arith); even = omega arith }, free)
 
@@ -135,6 +140,7 @@ matches-free kinds i c e free = record {
 too_many : (kinds : List Kind) (i c : ℕ) → Matches kinds i c → AtMostAsMany kinds (i + 1) (c + 1) → ⊥
 too_many kinds i c m more = let b = adds kinds c Close m.closes in let even = m.even in let p = b.more_opens in let q = b.more_closes in omega arith
 
+-- An Open packet is matched by one Close packet at most.
 pub one_close : (kinds : List Kind) (i c d : ℕ) → Matches kinds i c → Matches kinds i d → c ≡ d
 one_close kinds i c d m n =
     let a : c < d → ⊥ = λ l. too_many kinds i c m (n.inside (c + 1) (omega (arith, m.order)) (omega arith)) in
@@ -144,11 +150,13 @@ one_close kinds i c d m n =
       | false ↦ λ e. elim (nat_lt d c) as (λ x. nat_lt d c ≡ x → c ≡ d) [ true ↦ λ f. absurd (b (grind (arith, nat_tests))) | false ↦ λ f. grind (arith, nat_tests) ] refl
     ] refl
 
+-- Where no close waits behind it, an Open packet is matched by none.
 pub no_close : (kinds : List Kind) (i c : ℕ) → AreFree kinds (i + 1) [] → Matches kinds i c → ⊥
 no_close kinds i c free m =
     let here = there kinds c Close m.closes in
     too_many kinds i c m (free (c + 1) (omega (arith, m.order)) (omega arith))
 
+-- A close that still waits at the beginning of the list is one too many.
 pub overcloses : (kinds : List Kind) (c : ℕ) → IsFree kinds 0 c → Overcloses kinds
 overcloses kinds c free =
     let here = there kinds c Close free.closes in

@@ -24,6 +24,7 @@ any-there {A} test (x ∷ xs) is = by (test x) refl is (any-there test xs)
     by true t is rest = record { place = 0; element = x; here = refl; passes = t }
     by false t is rest = let r = rest is in record { place = suc r.place; element = r.element; here = r.here; passes = r.passes }
 
+-- An output that is connected is a sender of some connection.
 pub connected-sends : (n : Network) (p o : ℕ) → is_connected n p o ≡ true → HasSender n p o
 connected-sends n p o is =
     let c = any-there (has_sender p o) n.connections is in

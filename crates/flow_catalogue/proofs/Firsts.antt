@@ -58,6 +58,7 @@ select-used network p has zero used = has
 select-used network p has (suc zero) used = connected-sends network p 1 used
 select-used network p has (suc (suc o)) used = absurd (other-than o 0 1 (omega arith) (omega arith) (is_connected network p 1) used)
 
+-- The components that a plan begins with fit its processes.
 pub first-fits : FirstFits
 first-fits n p x kinds.ReadLines file is = record { inputs = sym is.inputs; outputs = sym is.outputs; uses = first-used n p (is.needed 0 refl); starts = λ held none. none }
 first-fits n p x kinds.WriteLines file is = record { inputs = sym is.inputs; outputs = sym is.outputs; uses = none-used n p; starts = λ held none. tt }

@@ -121,6 +121,7 @@ of-kind n p x std valid there t inputs outputs named plain =
       });
     }
 
+-- A plan over the table of the standard kinds is a standard plan.
 pub over-standard : OverIsStandard
 over-standard plan valid over p lt =
     let at = there-at plan.processes p lt in

@@ -21,11 +21,13 @@ table_at (y ∷ ys) (t ∷ ts) zero x laid there =
     (t, refl, laid.0 ∙ ap (λ (z : Process). z.inputs) same, laid.1 ∙ ap (λ (z : Process). z.outputs) same)
 table_at (y ∷ ys) (t ∷ ts) (suc p) x laid there = table_at ys ts p x laid.2 there
 
+-- Each process of a valid plan has a table.
 pub has-table : (n : Network) (p : ℕ) (x : Process) → IsValid n → slice_get n.processes p ≡ Some x → HasTable n p x
 has-table n p x valid there =
     let t = table_at n.processes n.tables p x valid.laid_out there in
     record { table = t.0; here = t.1; inputs = t.2; outputs = t.3 }
 
+-- There is a process at each place within the list.
 pub there-at : (xs : List Process) (p : ℕ) → p < length xs → (x : Process) × (slice_get xs p ≡ Some x)
 there-at [] p lt = absurd (omega arith)
 there-at (x ∷ xs) zero lt = (x, refl)
@@ -48,6 +50,7 @@ only-option (a ∷ b ∷ more) k text there zeros one =
     let bad = one 0 1 a.1 b.1 at_first at_second in
     absurd (omega (arith, bad))
 
+-- Options of which none stands at any place are none.
 pub no-option : (options : List (ℕ × List ℕ)) → ((j i : ℕ) (t : List ℕ) → slice_get options j ≡ Some (i, t) → ⊥) → options ≡ []
 no-option [] none = refl
 no-option (a ∷ more) none = absurd (none 0 a.0 a.1 refl)

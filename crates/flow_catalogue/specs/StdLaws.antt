@@ -38,12 +38,15 @@ steady (Stands K kind within component) held answer keeps =
       outputs = ap std_uses after ∙ ap uses_standing (keeps (component_after o)) ∙ kept.outputs;
     }
 
+-- What it does keeps what the hands ask of every component.
 pub std_obeys : (component : Std) (held : Held) (answer : Answer) (outcome : Outcome Std) → StdReady component held answer → StdNext component held answer outcome → Obeys (std_shape component) (std_uses component) held outcome
 std_obeys component held answer outcome r is = subst (Obeys (std_shape component) (std_uses component) held) (sym is) (obeys (standing component) held answer r)
 
+-- Whatever it may be told next, it is ready for it.
 pub std_stays_ready : (component : Std) (held : Held) (answer : Answer) (outcome : Outcome Std) → StdReady component held answer → StdNext component held answer outcome → StaysReady StdReady outcome
 std_stays_ready component held answer outcome r is = subst (StaysReady StdReady) (sym is) (stays (standing component) held answer (keeps-kind component) r)
 
+-- Its shape, and the ports that it uses, never change.
 pub std_steady : (component : Std) (held : Held) (answer : Answer) (outcome : Outcome Std) → StdNext component held answer outcome → IsSteady std_shape std_uses component outcome
 std_steady component held answer outcome is =
     let kept = steady (standing component) held answer (keeps-kind component) in

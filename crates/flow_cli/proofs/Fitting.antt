@@ -8,6 +8,7 @@ use Rattle.flow_catalogue.specs.Std.{std_shape, std_uses, StdReady}
 use Rattle.flow_catalogue.specs.Processes.{Fits}
 use Rattle.flow_cli.specs.Components.{IsComponent, AreComponents, HasComponents}
 
+-- Components that were made for a plan fit its processes.
 pub components-fit : (plan : Network) (components : List Std) → HasComponents plan components → ComponentsFit std_shape std_uses StdReady plan components
 components-fit plan components has = record {
   one_each = are.count;

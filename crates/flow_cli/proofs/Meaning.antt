@@ -39,6 +39,7 @@ finished-of s Running is e = absurd e
 are-first : (plan : Network) (given : List (List ℕ)) (ks : List Std) → AreComponents plan given ks → AreFirst ks
 are-first plan given ks are p component at = let is = are.each p component at in made-first plan p is.2.process is.0 component is.2.made
 
+-- A status of a finished run is that of a run that is over.
 pub finished-over : (status : Status) → IsFinishedStatus status → IsOver status
 finished-over statuses.Finished is = is
 finished-over statuses.FinishedLeft is = is

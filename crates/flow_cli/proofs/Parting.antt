@@ -48,6 +48,7 @@ pub record SoFar (old new : Outside) (plan : Network) (limit k : ℕ) (component
   pub count : length components ≡ k
   pub each : (p : ℕ) (component : Std) → slice_get components p ≡ Some component → (bytes : List ℕ) × (slice_get given p ≡ Some bytes) × IsComponent plan p bytes component
 
+-- Before anything was read, nothing was.
 pub nothing-so-far : (old : Outside) (plan : Network) (limit : ℕ) → SoFar old old plan limit 0 []
 nothing-so-far old plan limit = record {
   given = [];
@@ -124,6 +125,7 @@ next old mid plan limit k components s process name there reads = record {
   were_read = s.were_read;
 }
 
+-- Reading that stops at a component stops there, behind those that were read.
 pub stop-so-far : (old mid new : Outside) (plan : Network) (limit k : ℕ) (components : List Std) (stop : Stop) → SoFar old mid plan limit k components → ReadsComponent mid new plan k (Err stop) limit
     → ReadsComponents old new plan (Err stop) limit
 stop-so-far old mid new plan limit k components NoMemory s r = MayRead-trans old mid new (may-read old mid (map whole (inputs_of plan.processes s.given)) s.reads) r

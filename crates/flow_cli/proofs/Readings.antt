@@ -15,6 +15,7 @@ OnlyReads-trans a b c xs ys p q =
     ∙ ap (λ (o : Outside). record o { open_name = c.open_name; left = c.left; opened = o.opened ++ ys }) p
     ∙ ap (λ l. record a { open_name = c.open_name; left = c.left; opened = l }) (append_assoc a.opened xs ys)
 
+-- A file that fails to be read fails so behind others that were read.
 pub FailsToRead-after : (a b c : Outside) (xs ys : List Logged) (name : Name) → OnlyReads a b xs → FailsToRead b c ys name → FailsToRead a c (xs ++ ys) name
 FailsToRead-after a b c xs ys name p q = record {
   state = q.state
@@ -23,6 +24,7 @@ FailsToRead-after a b c xs ys name p q = record {
   rose = subst (λ (n : ℕ). Rose n c.read_faults) (ap (λ (o : Outside). o.read_faults) p) q.rose;
 }
 
+-- Reading keeps all contents.
 pub OnlyReads-files : (a b : Outside) (xs : List Logged) → OnlyReads a b xs → b.files ≡ a.files
 OnlyReads-files a b xs p = ap (λ (o : Outside). o.files) p
 
@@ -32,6 +34,7 @@ are-read-append told limit [] ys p q at file there = q at file there
 are-read-append told limit (x ∷ xs) ys p q zero file there = p zero file there
 are-read-append told limit (x ∷ xs) ys p q (suc at) file there = are-read-append told limit xs ys (λ k. p (suc k)) q at file there
 
+-- Of no files nothing was read.
 pub none-read : (told : Option Files) (limit : ℕ) → AreRead told limit []
 none-read told limit at file there = absurd cc
 
@@ -44,6 +47,7 @@ pub inputs-none : (ps : List Process) → inputs_of ps [] ≡ []
 inputs-none [] = refl
 inputs-none (p ∷ ps) = refl
 
+-- One more process adds its input to the inputs.
 pub inputs-more : (ps : List Process) (given : List (List ℕ)) (process : Process) (bytes : List ℕ) → slice_get ps (length given) ≡ Some process
     → inputs_of ps (given ++ bytes ∷ []) ≡ inputs_of ps given ++ input_of process bytes
 inputs-more [] given process bytes there = absurd cc
@@ -53,11 +57,13 @@ inputs-more (p ∷ ps) [] process bytes there =
 inputs-more (p ∷ ps) (g ∷ gs) process bytes there =
     ap (λ l. input_of p g ++ l) (inputs-more ps gs process bytes there) ∙ sym (append_assoc (input_of p g) (inputs_of ps gs) (input_of process bytes))
 
+-- What stands in a list stands there when one more is pushed.
 pub get-more : {X : Type 0} (xs : List X) (x y : X) (p : ℕ) → slice_get xs p ≡ Some y → slice_get (xs ++ x ∷ []) p ≡ Some y
 get-more [] x y p there = absurd cc
 get-more (z ∷ zs) x y zero there = there
 get-more (z ∷ zs) x y (suc p) there = get-more zs x y p there
 
+-- What is pushed stands at the end.
 pub get-last : {X : Type 0} (xs : List X) (x : X) → slice_get (xs ++ x ∷ []) (length xs) ≡ Some x
 get-last [] x = refl
 get-last (z ∷ zs) x = get-last zs x

@@ -63,17 +63,20 @@ fit-failed-write old new n t f c files name e same rose = record {
   rose = rose;
 }
 
+-- A step that only reads may be a step of reading.
 pub may-read : (old new : Outside) (files : List Logged) → OnlyReads old new files → MayRead old new
 may-read old new files p = p
     ∙ ap (λ x. record old { open_name = new.open_name; left = new.left; opened = x }) (sym (ap (λ (o : Outside). o.opened) p))
     ∙ ap (λ x. record old { open_name = new.open_name; left = new.left; opened = new.opened; read_faults = x }) (sym (ap (λ (o : Outside). o.read_faults) p))
     ∙ ap (λ x. record old { open_name = new.open_name; left = new.left; opened = new.opened; read_faults = new.read_faults; last_read_fault = x }) (sym (ap (λ (o : Outside). o.last_read_fault) p))
 
+-- So may one that fails to read.
 pub may-fail-to-read : (old new : Outside) (files : List Logged) (name : Name) → FailsToRead old new files name → MayRead old new
 may-fail-to-read old new files name f = f.state
     ∙ ap (λ x. record old { open_name = new.open_name; left = new.left; opened = x; read_faults = new.read_faults; last_read_fault = Some name }) (sym (ap (λ (o : Outside). o.opened) f.state))
     ∙ ap (λ x. record old { open_name = new.open_name; left = new.left; opened = new.opened; read_faults = new.read_faults; last_read_fault = x }) (sym (ap (λ (o : Outside). o.last_read_fault) f.state))
 
+-- Two steps of reading are one.
 pub MayRead-trans : (a b c : Outside) → MayRead a b → MayRead b c → MayRead a c
 MayRead-trans a b c p q = q
     ∙ ap (λ (o : Outside). record o { open_name = c.open_name; left = c.left; opened = c.opened; read_faults = c.read_faults; last_read_fault = c.last_read_fault }) p
@@ -135,6 +138,7 @@ pub unopened : (old new : Outside) (name : Name) (limit : ℕ) → new ≡ after
 unopened old new name limit is rose =
     ([], inl refl, fit-failed-read old new old.open_name old.left old.opened [] name is (sym (append-nil old.opened)) rose)
 
+-- What didn't change wasn't read.
 pub no-reads : (old new : Outside) → new ≡ old → OnlyReads old new []
 no-reads old new is = fit-reads old new old.open_name old.left old.opened [] is (sym (append-nil old.opened))
 
@@ -145,6 +149,7 @@ created (Some files) name bytes = ap Some (again files name bytes) where
   again : (files : Files) (name : Name) (bytes : List ℕ) → appended_to (Some name) bytes (replaced name [] files) ≡ replaced name bytes files
   again files name bytes = ap (λ held. appended_at held name bytes (replaced name [] files)) (replaced-same files name []) ∙ replaced-replaced files name [] bytes
 
+-- What didn't change wasn't written.
 pub no-writes : (old new : Outside) → new ≡ old → OnlyWrites old new []
 no-writes old new is = fit-writes old new old.created_name old.taken old.files old.created [] is (sym (append-nil old.created))
 

@@ -75,10 +75,12 @@ by-status : (po pn : Outside) (text : List ℕ) (own status : Status) (P : Statu
 by-status po pn text own status P (inl p) not_own never is = not_own (subst P p.0 is)
 by-status po pn text own status P (inr p) not_own never is = never (subst P p.0 is)
 
+-- A call that was stopped doesn't end with a status of a run.
 pub stop-not-over : (po pn : Outside) (stop : Stop) (status : Status) → PrintsStop po pn stop status → IsOver status → ⊥
 stop-not-over po pn stop status (inl p) over = by-status po pn (text_of stop) (status_of stop) status IsOver p (not-over stop) (λ x. x) over
 stop-not-over po pn stop status (inr p) over = by-status po pn (text_of NoMemory) statuses.NoMemory status IsOver p (λ x. x) (λ x. x) over
 
+-- Nor with that of a net that still runs.
 pub stop-not-running : (po pn : Outside) (stop : Stop) (status : Status) → PrintsStop po pn stop status → status ≢ statuses.Running
 stop-not-running po pn stop status (inl p) is = by-status po pn (text_of stop) (status_of stop) status (λ s. s ≡ statuses.Running) p (not-running stop) (λ x. cc) is
 stop-not-running po pn stop status (inr p) is = by-status po pn (text_of NoMemory) statuses.NoMemory status (λ s. s ≡ statuses.Running) p (λ x. cc) (λ x. cc) is
@@ -147,6 +149,7 @@ own-or-memory po pn stop status (inl (inr p)) is quiet = absurd (quiet p.1.1.ros
 own-or-memory po pn stop status (inr (inl p)) is quiet = p.0
 own-or-memory po pn stop status (inr (inr p)) is quiet = absurd (quiet p.1.1.rose)
 
+-- What a stopped call says of its cause is complete.
 pub stop-complete : (words : List (String Global)) (o n po pn : Outside) (journal : Journal) (status : Status) (limit : ℕ) (stop : Stop)
     → HasCause (so_far words o n journal) limit stop → PrintsStop po pn stop status → IsComplete (call_of words o n po pn journal status) limit
 stop-complete words o n po pn journal status limit stop cause prints quiet = go o.files refl where

@@ -20,22 +20,26 @@ more_at [] at d files lt = absurd (omega arith)
 more_at (o ∷ os) zero d files lt = refl
 more_at (o ∷ os) (suc at) d files lt = more_at os at d (replaced o.0 o.1 files) (omega arith)
 
+-- After no files the contents are as they were.
 pub after_none : (outputs : List Filled) (told : Option Files) → told ≡ after_some outputs 0 told
 after_none outputs None = refl
 after_none outputs (Some files) = refl
 
+-- After one file more its name has its bytes, and all others what they had.
 pub after_more : (outputs : List Filled) (at : ℕ) (d : Filled) (told : Option Files) → at < length outputs → d ≡ get_or outputs at d
     → option_map (replaced d.0 d.1) (after_some outputs at told) ≡ after_some outputs (suc at) told
 after_more outputs at d None lt is = refl
 after_more outputs at d (Some files) lt is =
     ap Some (ap (λ o. replaced o.0 o.1 (replaced_all (take at outputs) files)) is ∙ sym (more_at outputs at d files lt))
 
+-- One file more is one more that was written whole.
 pub whole_more : (outputs : List Filled) (at : ℕ) (d : Filled) → at < length outputs → d ≡ get_or outputs at d
     → map whole (take at outputs) ++ whole d ∷ [] ≡ map whole (take (suc at) outputs)
 whole_more [] at d lt is = absurd (omega arith)
 whole_more (o ∷ os) zero d lt is = ap (λ f. whole f ∷ []) is
 whole_more (o ∷ os) (suc at) d lt is = ap (λ l. whole o ∷ l) (whole_more os at d (omega arith) is)
 
+-- Two steps of writing are one, and their files stand one behind the other.
 pub OnlyWrites-trans : (a b c : Outside) (xs ys : List Logged) → OnlyWrites a b xs → OnlyWrites b c ys → OnlyWrites a c (xs ++ ys)
 OnlyWrites-trans a b c xs ys p q =
     q

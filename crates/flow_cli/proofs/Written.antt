@@ -49,6 +49,7 @@ pub no-output : (wrote : ℕ → List ℕ) (k : ℕ) (found : Option Process) �
 no-output wrote k None h = tt
 no-output wrote k (Some p) h = ap (λ names. map (λ (name : Name). (name, wrote k)) names) h
 
+-- What a writer wrote is the one output of its process.
 pub one-output : (wrote : ℕ → List ℕ) (k : ℕ) (found : Option Process) (name bytes : List ℕ) → bytes ≡ wrote k
     → IfSome found (λ p. written_by p ≡ name ∷ []) → IfSome found (λ p. outputs_at wrote k p ≡ (name, bytes) ∷ [])
 one-output wrote k None name bytes is h = tt

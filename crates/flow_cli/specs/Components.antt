@@ -22,6 +22,7 @@ first_option (option ∷ more) = option.1 ∷ []
 abbrev pub read_by : Process → List Name
 read_by process = if bytes_eq process.kind (codes "ReadLines") then first_option process.options else []
 
+-- The name of the file that a process writes, where it writes one.
 abbrev pub written_by : Process → List Name
 written_by process = if bytes_eq process.kind (codes "WriteLines") then first_option process.options else []
 

@@ -89,6 +89,7 @@ pub record Call : Type 0 where
   pub out_after : Outside
   pub status : Status
 
+-- A call of the top: its words, the shelf before and after, the output before and after, the journal, the status.
 abbrev pub call_of : List (String Global) → Outside → Outside → Outside → Outside → Journal → Status → Call
 call_of words shelf shelf_after out out_after journal status = record {
   work = record { words = words; before = shelf; after = shelf_after; journal = journal };

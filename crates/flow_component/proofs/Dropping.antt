@@ -58,9 +58,11 @@ making h kind text spare = record h { made = h.made + 1; packets = h.packets ++ 
 abbrev pub dropping : Holding → ℕ → ℕ → Holding
 dropping h id spare = record h { packets = without h.packets id; dropped = min (h.dropped + length (ids_at h.packets id)) 18446744073709551615; spare = spare }
 
+-- Making a packet drops none.
 pub dropped-making : (h : Holding) (kind : Kind) (text : List ℕ) (spare : ℕ) → h.dropped ≡ dropped_after h (making h kind text spare)
 dropped-making h kind text spare = sym (none_dropped h (making h kind text spare) (omega (arith, length-push h.packets (packet_of (new_id h) kind text []))))
 
+-- Dropping a packet counts all packets of its tree.
 pub dropped-dropping : (h : Holding) (id spare : ℕ) → IsAtRoot h.packets id → (dropping h id spare).dropped ≡ dropped_after h (dropping h id spare)
 dropped-dropping h id spare at =
     sym (some_dropped h (dropping h id spare) (length (ids_at h.packets id)) (omega (arith, length-without h.packets id)) (some_ids (packet_at h.packets id) at))

@@ -11,15 +11,18 @@ use Rattle.flow_component.specs.Laws.{Outcome, Wishes, Fails, Obeys, StaysReady,
 use Rattle.flow_component.specs.Resumes.{Resumes}
 use Rattle.flow_component.specs.Outcomes.{outcome_as}
 
+-- An outcome keeps the rules of the hands when its component is seen as a member of a larger type.
 pub Obeys-as : {K L : Type 0} (f : K → L) (shape : Shape) (uses : ℕ → Bool) (held : Held) (own : Outcome K) → Obeys shape uses held own → Obeys shape uses held (outcome_as f own)
 Obeys-as f shape uses held (Wishes component new wish) o = o
 Obeys-as f shape uses held (Fails component new cause) o = o
 
+-- So does what holds of the component's next answer.
 pub StaysReady-as : {K L : Type 0} (f : K → L) (own : K → Held → Answer → Type 0) (all : L → Held → Answer → Type 0) → ((component : K) (held : Held) (wish : Wish) → ReadyAfter (own component) held wish → ReadyAfter (all (f component)) held wish)
     → (outcome : Outcome K) → StaysReady own outcome → StaysReady all (outcome_as f outcome)
 StaysReady-as f own all up (Wishes component held wish) r = up component held wish r
 StaysReady-as f own all up (Fails component held cause) r = tt
 
+-- The component after such an outcome is the member of the component after its own.
 pub component_after-as : {K L : Type 0} (f : K → L) (own : Outcome K) → component_after (outcome_as f own) ≡ f (component_after own)
 component_after-as f (Wishes component held wish) = refl
 component_after-as f (Fails component held cause) = refl

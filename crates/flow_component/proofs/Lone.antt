@@ -8,18 +8,23 @@ use Rattle.flow_packet.specs.Held.{Held, Sound, next_id, with_packet, without_pa
 use Rattle.flow_component.specs.Alone.{HoldsOnly}
 use Rattle.flow_component.proofs.Roots.{same_id, other_id}
 
+-- Hands that hold one packet alone are empty without it.
 pub HoldsOnly-without : (held : Held) (id : ℕ) → HoldsOnly held id → without held.packets id ≡ []
 HoldsOnly-without held id h = let e = eq-eqb (id_of h.packet) id h.named in rw (h.holds, e) refl
 
+-- The packet that is held alone is the one with its id.
 pub HoldsOnly-packet_at : (held : Held) (id : ℕ) (h : HoldsOnly held id) → packet_at held.packets id ≡ Some h.packet
 HoldsOnly-packet_at held id h = let e = eq-eqb (id_of h.packet) id h.named in rw (h.holds, e) refl
 
+-- The packet that is held alone is at the root.
 pub HoldsOnly-root : (held : Held) (id : ℕ) → HoldsOnly held id → IsAtRoot held.packets id
 HoldsOnly-root held id h = rw (HoldsOnly-packet_at held id h) refl
 
+-- Its text is the one that the hands have at its id.
 pub HoldsOnly-text : (held : Held) (id : ℕ) (h : HoldsOnly held id) → text_at held.packets id ≡ text_of h.packet
 HoldsOnly-text held id h = rw (HoldsOnly-packet_at held id h) refl
 
+-- Its kind is the one that the hands have at its id.
 pub HoldsOnly-kind : (held : Held) (id : ℕ) (h : HoldsOnly held id) → kind_at held.packets id ≡ kind_of h.packet
 HoldsOnly-kind held id h = rw (HoldsOnly-packet_at held id h) refl
 

@@ -6,9 +6,11 @@ use Rattle.flow_packet.specs.Tree.{Tree, id_of, packet_of}
 use Rattle.flow_packet.specs.Hands.{IsAtRoot, packet_at, without, has_id}
 use Rattle.flow_packet.specs.Held.{Held, next_id, with_made}
 
+-- A number equals itself, as the program compares.
 pub same_id : (n : ℕ) → nat_eq n n ≡ true
 same_id n = eq-eqb n n refl
 
+-- Different numbers don't, as the program compares.
 pub other_id : (m n : ℕ) → (m ≡ n → ⊥) → nat_eq m n ≡ false
 other_id m n h = grind (arith, nat_tests)
 

@@ -8,13 +8,16 @@ use Rattle.flow_packet.specs.Hands.{without, packet_at, IsAtRoot, has_id}
 use Rattle.flow_packet.specs.Held.{Held, Sound, next_id, with_made}
 use Rattle.flow_component.proofs.Roots.{same_id}
 
+-- An id stands in two lists together as often as in each.
 pub times-append : (id : ℕ) (xs ys : List ℕ) → times id (xs ++ ys) ≡ times id xs + times id ys
 times-append id [] ys = omega arith
 times-append id (x ∷ xs) ys = omega (arith, times-append id xs ys)
 
+-- A packet's own id stands in its tree.
 pub times-own : (t : Tree) → 0 < times (id_of t) (all_ids (t ∷ []))
 times-own (node id kind text cs) = let s = same_id id in rw s (omega arith)
 
+-- An id stands in a list of trees as often as in the first and in the rest.
 pub times-split : (id : ℕ) (t : Tree) (ts : List Tree) → times id (all_ids (t ∷ ts)) ≡ times id (all_ids (t ∷ [])) + times id (all_ids ts)
 times-split id t ts = omega (arith, times-append id (Rattle.flow_packet.specs.Tree.ids t) (all_ids ts), times-append id (Rattle.flow_packet.specs.Tree.ids t) [])
 

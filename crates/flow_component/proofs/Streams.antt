@@ -13,6 +13,7 @@ use Rattle.flow_component.specs.Happenings.{Happening, answer_of}
 use Rattle.flow_component.specs.Runs.{Poise, Steps, Runs, Comes, from_connection, from_text, content_got, content_sent, got, sent, text_packet}
 use Rattle.flow_component.proofs.Roots.{same_id}
 
+-- Making lists of each member and joining them goes member by member.
 pub flat_map-append : {X A : Type 0} (f : X → List A) (xs ys : List X) → flat_map f (xs ++ ys) ≡ flat_map f xs ++ flat_map f ys
 flat_map-append f [] ys = refl
 flat_map-append f (x ∷ xs) ys = ap (λ zs. f x ++ zs) (flat_map-append f xs ys) ∙ sym (append_assoc (f x) (flat_map f xs) (flat_map f ys))
@@ -61,6 +62,7 @@ pub Runs-more : {K : Type 0} (ready : K → Held → Answer → Type 0) (next : 
 Runs-more ready next p [] m e q r s = (q, subst (λ (u : Poise _). Steps ready next u e q) r s, refl)
 Runs-more ready next p (f ∷ es) m e q r s = (r.0, r.1, Runs-more ready next r.0 es m e q r.2 s)
 
+-- One more happening adds at its end what it got at the port.
 pub got-more : (port : ℕ) (es : List Happening) (e : Happening) → got port (es ++ e ∷ []) ≡ got port es ++ content_got port e
 got-more port es e = flat_map-append (content_got port) es (e ∷ []) ∙ ap (λ ts. got port es ++ ts) (append-nil (content_got port e))
 
@@ -77,6 +79,7 @@ made_at held text e = let s = same_id (next_id held) in rw (e, s) refl
 pub port_zero : (port : ℕ) → IsTrue (port == 0) → nat_eq 0 port ≡ true
 port_zero port is = let h : nat_eq port 0 ≡ true = is in grind (arith, nat_tests)
 
+-- The only port below one is port 0.
 pub port_below_one : (port : ℕ) → port < 1 → nat_eq 0 port ≡ true
 port_below_one port l = grind (arith, nat_tests)
 
@@ -84,21 +87,27 @@ port_below_one port l = grind (arith, nat_tests)
 pub one-alone : (ts : List Tree) (t : Tree) → ts ≡ t ∷ [] → packet_at ts (id_of t) ≡ Some t
 one-alone ts t e = let s = same_id (id_of t) in rw (e, s) refl
 
+-- Hands that hold one packet have its kind at its id.
 pub kind-alone : (ts : List Tree) (t : Tree) → ts ≡ t ∷ [] → kind_at ts (id_of t) ≡ kind_of t
 kind-alone ts t e = ap kind_in (one-alone ts t e)
 
+-- Hands that hold one packet have its text at its id.
 pub text-alone : (ts : List Tree) (t : Tree) → ts ≡ t ∷ [] → text_at ts (id_of t) ≡ text_of t
 text-alone ts t e = ap text_in (one-alone ts t e)
 
+-- Hands that hold one packet are empty without it.
 pub gone-alone : (ts : List Tree) (t : Tree) → ts ≡ t ∷ [] → without ts (id_of t) ≡ []
 gone-alone ts t e = let s = same_id (id_of t) in rw (e, s) refl
 
+-- A packet and its content have one kind.
 pub content-kind : (t : Tree) → kind_of (content t) ≡ kind_of t
 content-kind (node id kind text cs) = refl
 
+-- A packet and its content have one text.
 pub content-text : (t : Tree) → text_of (content t) ≡ text_of t
 content-text (node id kind text cs) = refl
 
+-- A list of one-member lists joins to the list itself.
 pub flat_map-single : {A : Type 0} (xs : List A) → flat_map (λ x. x ∷ []) xs ≡ xs
 flat_map-single [] = refl
 flat_map-single (x ∷ xs) = ap (λ ys. x ∷ ys) (flat_map-single xs)

@@ -18,6 +18,7 @@ pub all_append : {X : Type 0} (P : X → Type 0) (xs ys : List X) → AllByRecur
 all_append P [] ys p q = q
 all_append P (x ∷ xs) ys p q = (p.0, all_append P xs ys p.1 q)
 
+-- What holds of all members, with what follows from it for each, holds so too.
 pub all_also : {X : Type 0} (P Q : X → Type 0) (xs : List X) → ((x : X) → P x → Q x) → AllByRecursion P xs → AllByRecursion Q xs
 all_also P Q [] also p = tt
 all_also P Q (x ∷ xs) also p = (also x p.0, all_also P Q xs also p.1)
@@ -39,6 +40,7 @@ pub record Fails (xs : List Instance) (name : List ℕ) : Type 0 where
   pub again : list_any (bytes_eq one.kind) one.inside ≡ true
   pub named : one.kind ≡ name
 
+-- A subnet that fails among the first fails among all.
 pub fails_left : (xs ys : List Instance) (name : List ℕ) → Fails xs name → Fails (xs ++ ys) name
 fails_left xs ys name f = record {
   before = f.before;
@@ -50,6 +52,7 @@ fails_left xs ys name f = record {
   named = f.named;
 }
 
+-- A subnet that fails behind some that pass is the first that fails among all.
 pub fails_right : (xs ys : List Instance) (name : List ℕ) → AllByRecursion Passes xs → Fails ys name → Fails (xs ++ ys) name
 fails_right xs ys name all f = record {
   before = xs ++ f.before;

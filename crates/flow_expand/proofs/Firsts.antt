@@ -8,6 +8,7 @@ use Rattle.flow_net.proofs.Wiring.{slice_get-push_cases}
 use Rattle.flow_plan.proofs.PortNames.{slice_get-right}
 use Rattle.flow_flat.specs.Firsts.{AllPass, FirstFails}
 
+-- Of no members each passes.
 pub all_none : {X F : Type 0} (Test : List X → X → Result (Unit {0}) F → Type 0) → AllPass Test []
 all_none Test k x is = absurd (cc)
 

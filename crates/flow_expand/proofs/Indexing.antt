@@ -23,6 +23,7 @@ module _ (rows : List (List ℕ × NetPart)) (i : ℕ) (row : List ℕ × NetPar
   old_name None there some name = absurd cc
   old_name (Some j) there some name = one_name_again key (take i rows) row old j before (ap old (sym named) ∙ there) name ∙ ap (position (λ (s : List ℕ × NetPart). bytes_eq s.0 name)) (take_more rows i row below here)
 
+-- What isn't there is `None`.
 pub is_none : (o : Option ℕ) → is_some o ≡ false → o ≡ None
 is_none None e = refl
 is_none (Some n) e = absurd cc

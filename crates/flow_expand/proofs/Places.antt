@@ -53,6 +53,7 @@ module _ (text : NetText) (name : List ℕ) where
   pub at_some : (part : NetPart) (i : ℕ) (x : List ℕ × List ℕ) → process_place part name ≡ Some i → slice_get part.processes i ≡ Some x → subnet_at text part name ≡ subnet_called text x.1
   at_some part i x is at = ap (option_and_then (λ (x : List ℕ × List ℕ). subnet_called text x.1)) (find_some (λ (x : List ℕ × List ℕ). bytes_eq x.0 name) part.processes i is ∙ at)
 
+-- Some member passes exactly where a search finds one.
 pub any_find : {X : Type 0} (p : X → Bool) (xs : List X) → list_any p xs ≡ is_some (find p xs)
 any_find p [] = refl
 any_find {X} p (x ∷ xs) = by (p x) (any_find p xs) where
@@ -75,6 +76,7 @@ cut {X} xs i x below is = drop_more xs i x below ∙ ap (λ (y : X). y ∷ drop 
 pub again_here : (before : List Statement) (s : Statement) (ss : List Statement) → list_any (is_given_by s) before ≡ true → given_again before (s ∷ ss) ≡ Some (outer_name s)
 again_here before s ss is = ap (λ (b : Bool). cond b (Some (outer_name s)) (given_again (before ++ s ∷ []) ss)) is
 
+-- A port that isn't given by a statement is given again only by one behind it.
 pub again_later : (before : List Statement) (s : Statement) (ss : List Statement) → list_any (is_given_by s) before ≡ false → given_again before (s ∷ ss) ≡ given_again (before ++ s ∷ []) ss
 again_later before s ss is = ap (λ (b : Bool). cond b (Some (outer_name s)) (given_again (before ++ s ∷ []) ss)) is
 
@@ -84,6 +86,7 @@ called_read text name items i d same is =
     let there = position-Some (λ (s : List ℕ × NetPart). bytes_eq s.0 name) text.subnets i d is in
     called_some text name i (get_or items i d) is (subst (λ (l : List (List ℕ × NetPart)). slice_get text.subnets i ≡ Some (get_or l i d)) (sym same) (slice_get-get_or text.subnets i d there.0))
 
+-- The subnet of a process that was found is the one that its kind names.
 pub at_read : (text : NetText) (part : NetPart) (name : List ℕ) (items : List (List ℕ × List ℕ)) (i : ℕ) (d : List ℕ × List ℕ) → items ≡ part.processes → process_place part name ≡ Some i → subnet_at text part name ≡ subnet_called text (get_or items i d).1
 at_read text part name items i d same is =
     let there = position-Some (λ (x : List ℕ × List ℕ). bytes_eq x.0 name) part.processes i d is in
@@ -105,6 +108,7 @@ by_subnet text n prefix input name port o = elim o [
 meant_by : (text : NetText) (n : ℕ) (prefix : List ℕ) (part : NetPart) (input : Bool) (name : List ℕ) (port : PortRef) → meant text (suc n) prefix part input name port ≡ by_subnet text n prefix input name port (subnet_at text part name)
 meant_by text n prefix part input name port = refl
 
+-- A port of a process that is a subnet means what the outer port of the subnet means inside, one level deeper.
 pub meant_inside : (text : NetText) (levels : ℕ) (prefix : List ℕ) (part inner : NetPart) (input : Bool) (name : List ℕ) (port : PortRef) (p : List ℕ × PortRef) → 0 < levels → subnet_at text part name ≡ Some inner → outer_port inner input port ≡ Some p
     → meant text levels prefix part input name port ≡ meant text (levels - 1) (within prefix name) inner input p.0 p.1
 meant_inside text zero prefix part inner input name port p some at stands = absurd (omega arith)
@@ -129,9 +133,11 @@ means_too a b (Ok p) same is = same ∙ is
 means_too a b (Err (Fault fault)) same is = same ∙ is
 means_too a b (Err NoMemory) same is = tt
 
+-- One member more is taken.
 pub take_more : {X : Type 0} (xs : List X) (i : ℕ) (x : X) → i < length xs → x ≡ get_or xs i x → take i xs ++ x ∷ [] ≡ take (i + 1) xs
 take_more {X} xs i x below is = ap (λ (y : X). take i xs ++ y ∷ []) is ∙ sym (more xs i x below)
 
+-- Bytes that the program finds equal are equal.
 pub bytes_same : (a b : List ℕ) → bytes_eq a b ≡ true → a ≡ b
 bytes_same a b is = by (bytes_eq a b) refl is where
   by : (v : Bool) → bytes_eq a b ≡ v → v ≡ true → a ≡ b
@@ -143,6 +149,7 @@ pub record Found (text : NetText) (name : List ℕ) (s : ℕ) : Type 0 where
   pub called : subnet_called text name ≡ Some (part_at text (Some s))
   pub named : name_at text (Some s) ≡ name
 
+-- A subnet's place that was found is its place.
 pub found : (text : NetText) (name : List ℕ) (s : ℕ) → subnet_place text name ≡ Some s → Found text name s
 found text name s is =
     let d : List ℕ × NetPart = ([], text.main) in

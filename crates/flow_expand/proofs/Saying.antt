@@ -115,6 +115,7 @@ short_all : (ss : List Statement) → AllByRecursion IsStatement ss → All IsSh
 short_all [] is = All-nil IsShort
 short_all (s ∷ ss) is = All-cons IsShort s ss (short_one s is.0) (short_all ss is.1)
 
+-- The texts of the main part of a value are within their limit.
 pub short_main : (text : NetText) → IsNetText text → HasShortTexts text.main
 short_main text valid = short_all text.main.statements valid.main.said
 
@@ -125,6 +126,7 @@ short_found (s ∷ ss) name part all is = by (λ there. short_found ss name part
   by more true is = let same : s.1 ≡ part = cc in subst HasShortTexts same (short_all s.1.statements all.0.1.said)
   by more false is = more is
 
+-- So are those of its subnets.
 pub short_subnets : (text : NetText) → IsNetText text → HasShortSubnets text
 short_subnets text valid name part is = short_found text.subnets name part valid.subnets is
 

@@ -10,6 +10,7 @@ use Rattle.flow_flat.specs.Subnets.{Instance, subnet_called, within, instances}
 use Rattle.flow_expand.specs.declared.way.Frame.{Frame}
 use Rattle.flow_expand.specs.Ways.{part_at, name_at, inside_of, entry, rest}
 
+-- A list from a place on begins with the member at that place.
 pub drop_at : {X : Type 0} (xs : List X) (i : ℕ) (x : X) → slice_get xs i ≡ Some x → drop i xs ≡ x ∷ drop (i + 1) xs
 drop_at {X} xs i x is = drop_more xs i x (slice_get_within xs i x is) ∙ ap (λ (y : X). y ∷ drop (i + 1) xs) (get_or_from_slice_get xs i x x is)
 
@@ -25,6 +26,7 @@ next_inside text f g (h ∷ fs) same = ap (λ (s : Option ℕ). name_at text s �
 abbrev pub after : Frame → Frame
 after f = record { subnet = f.subnet; prefix = f.prefix; next = f.next + 1 }
 
+-- The subnet that a process stands for, where it is met on the way.
 abbrev pub instance_of : NetText → Frame → List Frame → List ℕ × List ℕ → Instance
 instance_of text f fs x = record { name = f.prefix ++ x.0; kind = x.1; inside = inside_of text (f ∷ fs) }
 

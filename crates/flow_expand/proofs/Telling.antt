@@ -35,6 +35,7 @@ meant_append (Ok s ∷ xs) ys start mid outcome first then_on = (first.0, first.
   by (Ok d) there more = more d there
   by (Err fault) there more = absurd (cc)
 
+-- Statements that stop with a fault stop with it, whatever comes behind them.
 pub meant_stops : (xs ys : List (Result Statement ExpandFault)) (start : Draft) (fault : ExpandFault) → AfterMeant start xs (Err fault) → AfterMeant start (xs ++ ys) (Err fault)
 meant_stops [] ys start fault first = absurd (cc)
 meant_stops (Err other ∷ xs) ys start fault first = first
@@ -55,18 +56,22 @@ TellsOne old new s (Ok u) = AfterStatement old s (Ok new)
 TellsOne old new s (Err (plans.Fault fault)) = AfterStatement old s (Err fault)
 TellsOne old new s (Err plans.NoMemory) = Unit {0}
 
+-- A statement that the builder refuses ends the telling with its fault.
 pub one_stops : (old new : Draft) (o : Option (Result Statement ExpandFault)) (s : Statement) (stop : PlanStop) → o ≡ Some (Ok s) → IsShort s → TellsOne old new s (Err stop) → Leaves (Err (stop_of stop)) new (λ outcome. AfterMeant old (cons_option o []) outcome)
 one_stops old new o s (plans.Fault fault) is short tells = subst (λ (p : Option (Result Statement ExpandFault)). AfterMeant old (cons_option p []) (Err (faults.Plan fault))) (sym is) (Err fault, short, tells, refl)
 one_stops old new o s plans.NoMemory is short tells = tt
 
+-- A statement that the builder takes is one statement told.
 pub one_taken : (old new : Draft) (o : Option (Result Statement ExpandFault)) (s : Statement) → o ≡ Some (Ok s) → IsShort s → AfterStatement old s (Ok new) → AfterMeant old (cons_option o []) (Ok new)
 one_taken old new o s is short tells = subst (λ (p : Option (Result Statement ExpandFault)). AfterMeant old (cons_option p []) (Ok new)) (sym is) (Ok new, short, tells, refl)
 
+-- Telling the builder of a connection does what the statement says.
 pub connect_tells : (old new : Draft) (from to : List ℕ) (out into : PortRef) (capacity : Option ℕ) (result : Result (Unit {0}) PlanStop) → Becomes (after_connect old from out capacity to into) result old new → TellsOne old new (Connect from out capacity to into) result
 connect_tells old new from to out into capacity (Ok u) is = is
 connect_tells old new from to out into capacity (Err (plans.Fault fault)) is = is.0
 connect_tells old new from to out into capacity (Err plans.NoMemory) is = tt
 
+-- Telling the builder of an initial text does what the statement says.
 pub initial_tells : (old new : Draft) (text to : List ℕ) (into : PortRef) (result : Result (Unit {0}) PlanStop) → AfterInitial old text to into result new → TellsOne old new (Initial text to into) result
 initial_tells old new text to into (Ok u) is = is
 initial_tells old new text to into (Err (plans.Fault fault)) is = (is.0, refl)
@@ -78,6 +83,7 @@ connect_is a b capacity from to out into first second =
     ap (λ (r : Result (List ℕ × PortRef) ExpandFault). let o : Option (Result Statement ExpandFault) = Some (connect_meant capacity r b) in o) first
     ∙ ap (λ (r : Result (List ℕ × PortRef) ExpandFault). let o : Option (Result Statement ExpandFault) = Some (connect_meant capacity (Ok (from, out)) r) in o) second
 
+-- An initial text means one at the port that its port means.
 pub initial_is : (a : Result (List ℕ × PortRef) ExpandFault) (text to : List ℕ) (into : PortRef) → a ≡ Ok (to, into) → ◌≡◌ {A = Option (Result Statement ExpandFault)} (Some (initial_meant text a)) (Some (Ok (Initial text to into)))
 initial_is a text to into is = ap (λ (r : Result (List ℕ × PortRef) ExpandFault). let o : Option (Result Statement ExpandFault) = Some (initial_meant text r) in o) is
 

@@ -28,6 +28,7 @@ use Rattle.flow_expand.proofs.Firsts.{all_none, all_push, first_here}
 use Rattle.flow_expand.proofs.Places.{any_find, called_none, found}
 use Rattle.flow_expand.proofs.Steps.{inside_count, rest_end, rest_next, rest_plain, rest_subnet, instance_of}
 
+-- Reversed, what was last comes first.
 pub reverse_push : {X : Type 0} (xs : List X) (x : X) → reverse (xs ++ x ∷ []) ≡ x ∷ reverse xs
 reverse_push xs x = reverse-append xs (x ∷ [])
 

@@ -250,6 +250,7 @@ pending (New ∷ ms) (x ∷ xs) = (length x.1.processes + 2) + pending ms xs
 pending (Open ∷ ms) (x ∷ xs) = pending ms xs
 pending (Done ∷ ms) (x ∷ xs) = pending ms xs
 
+-- How many steps the subnets on the way still take at most.
 abbrev pub left : NetText → List Spot → ℕ
 left text [] = 0
 left text (f ∷ fs) = (length (part_at text f.subnet).processes - f.next + 1) + left text fs

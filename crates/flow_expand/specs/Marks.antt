@@ -17,6 +17,8 @@ LeadsOn text marks x = (subnet_place text x.1 ≡ None) ⊎ ((s : ℕ) × (subne
 abbrev pub IsNext : NetText → List Mark → Spot → ℕ → Mark → Type 0
 IsNext text marks spot s mark = (x : List ℕ × List ℕ) × (slice_get (part_at text spot.subnet).processes spot.next ≡ Some x) × (subnet_place text x.1 ≡ Some s) × (slice_get marks s ≡ Some mark)
 
+-- What is seen where the next process of a subnet is looked at: there is none left; it is no subnet, or one that was seen through; it is one to go
+-- into; or it closes a circle.
 abbrev pub Looks : NetText → List Mark → Spot → Look → Type 0
 Looks text marks spot Ended = length (part_at text spot.subnet).processes ≤ spot.next
 Looks text marks spot Passed = (x : List ℕ × List ℕ) × (slice_get (part_at text spot.subnet).processes spot.next ≡ Some x) × LeadsOn text marks x

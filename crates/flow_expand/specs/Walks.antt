@@ -49,11 +49,13 @@ next_frame f = record { subnet = f.subnet; prefix = f.prefix; next = f.next + 1 
 abbrev pub child_frame : Frame → List ℕ → ℕ → Frame
 child_frame f name s = record { subnet = Some s; prefix = within f.prefix name; next = 0 }
 
+-- The answer is the fault of nesting too deep, at this name.
 abbrev pub IsTooDeep : List ℕ → Result (Unit {0}) ExpandStop → Type 0
 IsTooDeep name (Ok _) = ⊥
 IsTooDeep name (Err (Fault fault)) = fault ≡ faults.Depth name
 IsTooDeep name (Err NoMemory) = Unit {0}
 
+-- What holds where the step was done.
 abbrev pub IfPut : Result (Unit {0}) ExpandStop → Type 0 → Type 0
 IfPut (Ok _) P = P
 IfPut (Err stop) P = Unit {0}
@@ -69,6 +71,7 @@ abbrev pub PutsIf : Bool → List ℕ → Result (Unit {0}) ExpandStop → Type 
 PutsIf true name result P = IsTooDeep name result
 PutsIf false name result P = P
 
+-- The next process of a subnet is written out: itself, or where it is a subnet, what it stands for.
 abbrev pub PutsNext : NetText → List KindSpec → Frame → List ℕ × List ℕ → Counts → Counts → List (List ℕ × List ℕ) → List (List ℕ × List ℕ) → List Frame → List Frame → Result (Unit {0}) ExpandStop → Type 0
 PutsNext text kinds f x old new list list2 way way2 result = PutsIf (nat_le 9 (length way)) (f.prefix ++ x.0) result (PutsAt text kinds f x old new list list2 way way2 result (subnet_place text x.1))
 

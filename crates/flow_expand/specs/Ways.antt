@@ -12,6 +12,7 @@ abbrev pub part_at : NetText → Option ℕ → NetPart
 part_at text None = text.main
 part_at text (Some s) = option_map_or (λ (x : List ℕ × NetPart). x.1) (slice_get text.subnets s) text.main
 
+-- The name of the subnet at a place, and of the main part where there is none.
 abbrev pub name_at : NetText → Option ℕ → List ℕ
 name_at text None = []
 name_at text (Some s) = option_map_or (λ (x : List ℕ × NetPart). x.0) (slice_get text.subnets s) []

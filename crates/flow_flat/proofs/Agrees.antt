@@ -40,6 +40,7 @@ pub record Agrees (table : List KindSpec) (ps : List (List ℕ × List ℕ)) (at
   pub texts : (p : ℕ) (begun : Begun) → slice_get draft.processes p ≡ Some begun → begun.texts ≡ texts_at at given p
   pub there : (k : ℕ) (t : End × List ℕ) → slice_get given k ≡ Some t → IsSome (binding_at draft.ports t.0)
 
+-- Where some member passes, one at some place does.
 pub any_at : {X : Type 0} (p : X → Bool) (xs : List X) → list_any p xs ≡ true → (k : ℕ) × (x : X) × (slice_get xs k ≡ Some x) × (p x ≡ true)
 any_at p [] is = absurd (false≢true is)
 any_at {X} p (y ∷ ys) is = by (p y) refl (λ rest. any_at p ys rest) is where
@@ -55,27 +56,33 @@ any_of p (y ∷ ys) (suc k) x is passes = by (p y) (any_of p ys k x is passes) w
   by true rest = refl
   by false rest = rest
 
+-- An element receives exactly where some connection leads to it.
 pub receives_has : (js : List Join) (x : End) → receives js x ≡ has (intos js) x
 receives_has [] x = refl
 receives_has (j ∷ js) x = ap (λ b. same_element j.into x || b) (receives_has js x)
 
+-- The input of connection c is the c-th receiver.
 pub into_receiver : (js : List Join) (c : ℕ) (x : End) → into_of (links_of js) c ≡ Some x → slice_get (receivers js) c ≡ Some x
 into_receiver js c x is =
     let found = map_some (λ (l : Link). l.into) (slice_get (links_of js) c) x is in
     let at = map_some (link_to js) (slice_get (receivers js) c) found.0 (sym (slice_get-map (link_to js) (receivers js) c) ∙ found.1) in
     at.1 ∙ ap Some (ap (λ (l : Link). l.into) at.2 ∙ found.2)
 
+-- The c-th receiver is the input of connection c.
 pub receiver_into : (js : List Join) (c : ℕ) (x : End) → slice_get (receivers js) c ≡ Some x → into_of (links_of js) c ≡ Some x
 receiver_into js c x is = ap (option_map (λ (l : Link). l.into)) (slice_get-map (link_to js) (receivers js) c ∙ ap (option_map (link_to js)) is)
 
+-- The input of a connection receives.
 pub received_from : (js : List Join) (c : ℕ) (x : End) → into_of (links_of js) c ≡ Some x → receives js x ≡ true
 received_from js c x is = receives_has js x ∙ firsts_come (intos js) x c (into_receiver js c x is)
 
+-- An input that receives has a connection.
 pub received_to : (js : List Join) (x : End) → receives js x ≡ true → (c : ℕ) × (into_of (links_of js) c ≡ Some x)
 received_to js x is =
     let found = firsts_have (intos js) x (sym (receives_has js x) ∙ is) in
     (found.0, receiver_into js found.0 x found.1)
 
+-- A sender of a connection sends.
 pub sent_from : (js : List Join) (c k : ℕ) (x : End) → sender_at (links_of js) c k ≡ Some x → sends js x ≡ true
 sent_from js c k x is =
     let found = then_some (λ (l : Link). slice_get l.senders k) (slice_get (links_of js) c) x is in
@@ -84,6 +91,7 @@ sent_from js c k x is =
     let one = filter_comes (λ (j : Join). same_element j.into at.0) js k sender.0 sender.1 in
     any_of (λ (j : Join). same_element j.out x) js one.0 sender.0 one.1 (ap (λ (e : End). same_element e x) sender.2 ∙ same_element_refl x)
 
+-- An output that sends is a sender of some connection.
 pub sent_to : (js : List Join) (x : End) → sends js x ≡ true → (c : ℕ) × (k : ℕ) × (sender_at (links_of js) c k ≡ Some x)
 sent_to js x is =
     let found = any_at (λ (j : Join). same_element j.out x) js is in
@@ -101,6 +109,7 @@ pub is_true_or_false : (b : Bool) → (b ≡ true) ⊎ (b ≡ false)
 is_true_or_false true = inl refl
 is_true_or_false false = inr refl
 
+-- A port belongs to the same process with its bindings and without.
 pub owner_is : (ports : List Port) (end : End) → process_at ports end ≡ owner (map bare ports) end
 owner_is ports end = by (slice_get ports end.port) ∙ ap (λ (o : Option PortAt). option_map_or (λ (port : PortAt). port.process) o 0) (sym (slice_get-map bare ports end.port))
   where
@@ -123,6 +132,7 @@ port_there draft sound end there = by (slice_get draft.ports end.port) refl ther
   by None is there = absurd (false≢true there)
   by (Some port) is there = (sound.ports end.port port is).process
 
+-- An element that has a text is the end of a text of the draft.
 pub text_to : (table : List KindSpec) (ps : List (List ℕ × List ℕ)) (at : List PortAt) (joins : List Join) (given : List (End × List ℕ)) (draft : Draft) → Agrees table ps at joins given draft
     → (end : End) → IsSome (binding_at draft.ports end) → has_text given end ≡ true → (p : ℕ) × (k : ℕ) × (text : List ℕ) × (text_at draft.processes p k ≡ Some (end, text))
 text_to table ps at joins given draft agrees end there is =

@@ -94,6 +94,7 @@ dec_plain text = dec_and (dec_and (dec_le 1 (length text)) (dec_digits text)) (d
 dec_number : (least most : ℕ) (text : List ℕ) → Dec (IsNumberWithin least most text)
 dec_number least most text = dec_and3 (dec_plain text) (dec_le least (number_of text)) (dec_le (number_of text) most)
 
+-- Whether a text is of a class can be decided.
 pub dec_class : (class : PortClass) (text : List ℕ) → Dec (IsOfClass class text)
 dec_class Stream text = inl tt
 dec_class (Number least most) text = dec_number least most text

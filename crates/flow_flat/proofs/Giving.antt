@@ -59,6 +59,7 @@ fits_back ports at g text same fits = by (slice_get ports g) (subst (λ (o : Opt
     by None fits = absurd fits
     by (Some port) fits = fits
 
+-- A text that passes its test has an input to go to.
 pub text_test_end : (ps : List (List ℕ × List ℕ)) (at : List PortAt) (joins : List Join) (given : List (End × List ℕ)) (to : List ℕ) (into : PortRef) (input : End) → text_test ps at joins given to into ≡ Ok input → text_end ps at to into ≡ Ok input
 text_test_end ps at joins given to into input is =
     let end = bind_ok (text_end ps at to into) (λ input. refused_if (receives joins input || has_text given input) (PortTaken to into) >>= λ free. Ok input) input is in

@@ -29,6 +29,7 @@ use Rattle.flow_flat.proofs.Links.{firsts_come, link_to, links_of, intos, not_am
 use Rattle.flow_flat.proofs.Lookups.{bare, stream_is}
 use Rattle.flow_flat.proofs.Agrees.{Agrees, receives_has, into_receiver, receiver_into, received_from, received_to, sent_from, sent_to, text_from, text_to}
 
+-- Binding a port doesn't change the ports without their bindings.
 pub bare_bound : (ports : List Port) (g e : ℕ) (b : Binding) → map bare (bound ports (record { port = g; element = e }) b) ≡ map bare ports
 bare_bound [] g e b = refl
 bare_bound (port ∷ ports) zero e b = refl

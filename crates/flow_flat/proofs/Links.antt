@@ -15,11 +15,13 @@ use Rattle.flow_net.proofs.Wiring.{same_end}
 use Rattle.flow_flat.specs.Names.{Join}
 use Rattle.flow_flat.specs.Plans.{same_element, firsts, joins_into, receivers, capacity_given}
 
+-- Elements that the program finds equal are equal.
 pub same_element_is : (a b : End) → same_element a b ≡ true → a ≡ b
 same_element_is a b is =
     let both = and_true (a.port == b.port) (a.element == b.element) is in
     same_end a b (eqb_true a.port b.port both.0) (eqb_true a.element b.element both.1)
 
+-- An element equals itself, as the program compares.
 pub same_element_refl : (a : End) → same_element a a ≡ true
 same_element_refl a = rw (eqb_refl a.port, eqb_refl a.element) refl
 
@@ -77,6 +79,7 @@ filter_keeps {X} p (y ∷ ys) (suc k) x passes is = by (p y) (filter_keeps p ys 
   by true rest = (suc rest.0, rest.1)
   by false rest = rest
 
+-- A member that passed a filter was there, and passes its test.
 pub filter_comes : {X : Type 0} (p : X → Bool) (xs : List X) (k : ℕ) (x : X) → slice_get (filter p xs) k ≡ Some x → (j : ℕ) × (slice_get xs j ≡ Some x) × (p x ≡ true)
 filter_comes p [] k x is = absurd (cc)
 filter_comes {X} p (y ∷ ys) k x is = by (p y) refl k is (λ i there. filter_comes p ys i x there) where
@@ -85,6 +88,7 @@ filter_comes {X} p (y ∷ ys) k x is = by (p y) refl k is (λ i there. filter_co
   by true test (suc k) is more = let found = more k is in (suc found.0, found.1, found.2)
   by false test k is more = let found = more k is in (suc found.0, found.1, found.2)
 
+-- An element of a list is among its first mentions.
 pub firsts_have : (es : List End) (x : End) → has es x ≡ true → (c : ℕ) × (slice_get (firsts es) c ≡ Some x)
 firsts_have [] x is = absurd (false≢true is)
 firsts_have (e ∷ es) x is = by (same_element e x) refl (λ there. firsts_have es x there) is where
@@ -95,6 +99,7 @@ firsts_have (e ∷ es) x is = by (same_element e x) refl (λ there. firsts_have 
       let kept = filter_keeps (λ (y : End). not (same_element e y)) (firsts es) found.0 x (ap not same) found.1 in
       (suc kept.0, kept.1)
 
+-- A first mention is an element of the list.
 pub firsts_come : (es : List End) (x : End) (c : ℕ) → slice_get (firsts es) c ≡ Some x → has es x ≡ true
 firsts_come [] x c is = absurd (cc)
 firsts_come (e ∷ es) x zero is =
@@ -143,6 +148,7 @@ link_more js j =
     ∙ ap (λ (c : Option ℕ). let link : Link = record { into = j.into; capacity = c; senders = map (λ (i : Join). i.out) (joins_into js j.into ++ j ∷ []) } in link) (capacity_push (joins_into js j.into) j)
     ∙ ap (λ (l : List End). let link : Link = record { into = j.into; capacity = first_given (capacity_given (joins_into js j.into)) j.capacity; senders = l } in link) (map-append (λ (i : Join). i.out) (joins_into js j.into) (j ∷ []))
 
+-- Two functions that agree on all members of a list map it to the same list.
 pub map_same : {X Y : Type 0} (f g : X → Y) (xs : List X) → ((k : ℕ) (x : X) → slice_get xs k ≡ Some x → f x ≡ g x) → map f xs ≡ map g xs
 map_same f g [] each = refl
 map_same f g (x ∷ xs) each = ap (λ y. y ∷ map f xs) (each 0 x refl) ∙ ap (λ ys. g x ∷ ys) (map_same f g xs (λ k y is. each (suc k) y is))
@@ -162,6 +168,7 @@ intos joins = map (λ (j : Join). j.into) joins
 pub receivers_push : (js : List Join) (j : Join) → receivers (js ++ j ∷ []) ≡ (if has (intos js) j.into then receivers js else receivers js ++ j.into ∷ [])
 receivers_push js j = ap firsts (map-append (λ (i : Join). i.into) js (j ∷ [])) ∙ firsts_push (intos js) j.into
 
+-- An element to which no connection leads has no joins.
 pub not_among : (js : List Join) (x : End) → has (intos js) x ≡ false → joins_into js x ≡ []
 not_among [] x none = refl
 not_among (j ∷ js) x none = by (same_element j.into x) refl none (λ rest. not_among js x rest) where

@@ -31,9 +31,11 @@ place_map : {X Y : Type 0} (p : Y → Bool) (f : X → Y) (xs : List X) → posi
 place_map p f [] = refl
 place_map p f (x ∷ xs) = ap (λ (n : ℕ). if not (p (f x)) then 1 + n else 0) (place_map p f xs)
 
+-- A search in a mapped list is a search for what is mapped to it.
 pub position_map : {X Y : Type 0} (p : Y → Bool) (f : X → Y) (xs : List X) → position p (map f xs) ≡ position (λ x. p (f x)) xs
 position_map p f xs = ap (λ (n : ℕ). if nat_lt n (length (map f xs)) then Some n else None) (place_map p f xs) ∙ ap (λ (n : ℕ). if nat_lt (position_or_len (λ x. p (f x)) xs) n then Some (position_or_len (λ x. p (f x)) xs) else None) (length-map xs f)
 
+-- A process is found by its name in the draft where it is in the text.
 pub process_is : (processes : List Begun) (name : List ℕ) → process_named processes name ≡ process_called (map called processes) name
 process_is processes name = sym (position_map (λ (x : List ℕ × List ℕ). bytes_eq x.0 name) called processes)
 
@@ -84,6 +86,7 @@ input_is processes ports to into = rw (← process_is processes to) (by (process
     by None = refl
     by (Some r) = ap (λ (o : Option End). ok_or o (PortUnknown to into)) (end_is ports r true into)
 
+-- An element is a stream with its bindings and without.
 pub stream_is : (ports : List Port) (end : End) → is_stream_at ports end ≡ is_stream_end (map bare ports) end
 stream_is ports end = by (slice_get ports end.port) ∙ ap (λ (o : Option PortAt). option_map_or (λ (port : PortAt). is_stream port.spec.class) o false) (sym (slice_get-map bare ports end.port))
   where

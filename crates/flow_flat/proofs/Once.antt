@@ -18,6 +18,7 @@ use Rattle.flow_flat.specs.Faults.HasFault.{of_process, of_statement, of_port, o
 abbrev pub IsTest : {X F : Type 0} → (List X → X → Result (Unit {0}) F → Type 0) → Type 0
 IsTest {X} {F} Test = (before : List X) (x : X) (a b : Result (Unit {0}) F) → Test before x a → Test before x b → a ≡ b
 
+-- The first of the first are the first.
 pub take_take : {X : Type 0} (xs : List X) (j n : ℕ) → j ≤ n → take j (take n xs) ≡ take j xs
 take_take xs zero n few = refl
 take_take xs (suc j) zero few = absurd (omega arith)
@@ -33,6 +34,7 @@ take_at (y ∷ xs) (suc n) (suc k) x below is = take_at xs n k x (omega arith) i
 order : (p q : ℕ) → p ≢ q → (p < q) ⊎ (q < p)
 order p q ne = grind arith
 
+-- Not all pass where a first one fails.
 pub not_both : {X F : Type 0} (Test : List X → X → Result (Unit {0}) F → Type 0) (xs : List X) (fault : F) → IsTest Test → AllPass Test xs → FirstFails Test xs fault → ⊥
 not_both {X} {F} Test xs fault test all first =
     let same : ◌≡◌ {A = Result (Unit {0}) F} (Ok tt) (Err fault) = test (take first.place xs) first.one (Ok tt) (Err fault) (all first.place first.one first.here) first.fails in
@@ -45,6 +47,7 @@ not_before {X} {F} Test xs f g test a b below =
     let same : ◌≡◌ {A = Result (Unit {0}) F} (Ok tt) (Err f) = test (take a.place xs) a.one (Ok tt) (Err f) passed a.fails in
     cc
 
+-- The first failure is one.
 pub first_once : {X F : Type 0} (Test : List X → X → Result (Unit {0}) F → Type 0) (xs : List X) (f g : F) → IsTest Test → FirstFails Test xs f → FirstFails Test xs g → f ≡ g
 first_once {X} {F} Test xs f g test a b = by (same_or_not a.place b.place) where
   at : a.place ≡ b.place → f ≡ g
@@ -77,6 +80,7 @@ text_once ps at joins texts text to into (Err f) (Err g) (inl p) (inr q) = absur
 text_once ps at joins texts text to into (Err f) (Err g) (inr p) (inl q) = absurd (cc (q, p.2))
 text_once ps at joins texts text to into (Err f) (Err g) (inr p) (inr q) = ap Err (p.0 ∙ sym q.0)
 
+-- The test of a statement has one answer.
 pub statement_once : (ps : List (List ℕ × List ℕ)) (at : List PortAt) → IsTest (StatementTest ps at)
 statement_once ps at before (Connect from out capacity to into) a b p q = sym p ∙ q
 statement_once ps at before (Initial text to into) a b p q = text_once ps at _ _ text to into a b p q

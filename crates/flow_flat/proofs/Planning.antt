@@ -26,6 +26,7 @@ use Rattle.flow_flat.proofs.Lookups.{bare, called}
 use Rattle.flow_flat.proofs.Agrees.{Agrees, owner, texts_at}
 use Rattle.flow_flat.proofs.Sizing.{view}
 
+-- A sum over a mapped list is the sum of what is mapped.
 pub sum_map : {X Y : Type 0} (f : Y → ℕ) (g : X → Y) (xs : List X) → sum_by f (map g xs) ≡ sum_by (λ x. f (g x)) xs
 sum_map f g [] = refl
 sum_map f g (x ∷ xs) = sum_by-cons f (g x) (map g xs) ∙ ap (λ n. f (g x) + n) (sum_map f g xs) ∙ sym (sum_by-cons (λ y. f (g y)) x xs)

@@ -54,6 +54,7 @@ in_order text (suc n) prefix inside part =
     one name kind None rest = refl
     one name kind (Some inner) rest = rest inner
 
+-- All statements of a text are those of its main part and then those of its subnets, in the order in which they are met.
 pub all_in_order : (text : NetText) → all_statements text ≡ filter_map (statement_meant text [] text.main) text.main.statements ++ flat_map (own_statements text) (all_instances text)
 all_in_order text = in_order text 10 [] [] text.main
 

@@ -56,6 +56,7 @@ drafted kinds text = by (after_processes (empty kinds) text.processes) where
   by (Ok named) = statements_told text.statements named
   by (Err fault) = (Err fault, refl)
 
+-- What a flat text comes to, as it is told to the builder, is what it is said to come to directly.
 pub said_is_told : (kinds : List KindSpec) (text : NetPart) (outcome : Result Network PlanFault) → IsTrue (is_table kinds) → HasShortTexts text → ComesTo kinds text outcome → IsFlat kinds text outcome
 said_is_told kinds text outcome table short comes =
     let draft = drafted kinds text in

@@ -24,6 +24,7 @@ abbrev pub as_text : Result Network PlanFault → Result Network ExpandFault
 as_text (Ok plan) = Ok plan
 as_text (Err fault) = Err (faults.Plan fault)
 
+-- A statement that means itself.
 abbrev pub meant_well : Statement → Result Statement ExpandFault
 meant_well s = Ok s
 

@@ -56,6 +56,7 @@ led : (plan : Plan) (ks : List Std) (wrote : ℕ → List ℕ) (m : Composes pla
 led plan ks wrote m p q n x l =
     ap (λ (found : Option ℕ). arriving m.on n (connected_or (text_at x.initials 0) found)) l.receives ∙ sym (own-stream plan ks wrote m p 0 l.connection l.sends l.alone)
 
+-- The Telegram network writes the words of its input, filled into lines.
 pub telegram-means : TelegramMeans
 telegram-means plan ks wrote a b c d lines size m is =
     let read = m.each a is.reader.process (components.ReadLines lines) is.reader.there is.reader.here in
@@ -164,12 +165,14 @@ module _ (plan : Plan) (ks : List Std) (wrote other : ℕ → List ℕ) (well : 
       by None is rest = ap (λ (k : ℕ). replicate k (text_packet (text_at x.initials i))) (same-times fuel q x component less rest)
       by (Some c) is rest = same-on fuel q i c less is rest (m.on c) (n.on c) refl refl
 
+-- Where no connection has two senders, there is one outcome.
 pub one-outcome : OneOutcome
 one-outcome plan ks wrote other well settled unmerged order m n p bytes runs =
     let a = m.each p runs.process (components.WriteLines bytes) runs.there runs.here in
     let b = n.each p runs.process (components.WriteLines bytes) runs.there runs.here in
     a ∙ ap rendered_all (same-input plan ks wrote other well settled unmerged order m n (suc (order.rank p)) p runs.process (components.WriteLines bytes) 0 (omega arith)) ∙ sym b
 
+-- Two compositions of such a network have the same files.
 pub same-files : SameFiles
 same-files plan ks journal other s t well first settled unmerged leads finished leads' finished' p bytes runs =
     let order = finished-leads_on std_shape std_uses StdReady StdNext plan ks journal s well leads finished in
@@ -194,6 +197,7 @@ among plan p o c sends =
     let who = both-true p at.1.process o at.1.output at.3 in
     (x, at.0, at.1, get-there plan.connections c no_connection pos.0, at.2, sym who.0, sym who.1)
 
+-- A plan that merges and balances nothing has no connection with two senders.
 pub unmerged-plan : (plan : Plan) → MergesAndBalancesNothing plan → IsUnmerged plan
 unmerged-plan plan none c p o q r one two =
     let a = among plan p o c one in
@@ -203,6 +207,7 @@ unmerged-plan plan none c p o q r one two =
     let sender : a.2 ≡ b.2 = only-one a.0.senders a.1 b.1 a.2 b.2 (none.one_sender c a.0 a.3) a.4 there in
     (sym a.5 ∙ ap (λ (s : Sender). s.process) sender ∙ b.5, sym a.6 ∙ ap (λ (s : Sender). s.output) sender ∙ b.6)
 
+-- So two compositions of such a plan have the same files.
 pub plan-same-files : PlanSameFiles
 plan-same-files plan ks journal other s t none well are leads finished leads' finished' p bytes runs =
     same-files plan ks journal other s t well (components-first plan ks are) (λ q component at. (let is = are q component at in made-settled plan q is.process is.file component (none.no_balance q is.process is.there) is.made)) (unmerged-plan plan none)

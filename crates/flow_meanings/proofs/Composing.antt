@@ -99,9 +99,11 @@ module _ (plan : Plan) (components : List Std) (journal : Journal) (s : State St
       subst (λ (b : ℕ → List Tree). P (λ i. contents (got_at s.past p i)) b) (λ j o. sym (sent-contents s.past p o) j)
       (subst (λ (a : ℕ → List Tree). P a (λ o. sent o (s.past.told p))) (λ j i. sym (got-contents s.past p i) j) m)
 
+-- In a finished run every process sent what its kind makes of what it got.
 pub keeps-meanings : KeepsMeanings
 keeps-meanings plan components journal s well leads p component x at first there ended = means plan components journal s well leads p component x at first there ended
 
+-- The process at each place of the start is that of the plan.
 pub start-there : {K : Type 0} (plan : Plan) (p : ℕ) (xs : List PlanProcess) (ks : List K) (k : ℕ) (x : PlanProcess) (component : K) → slice_get xs k ≡ Some x → slice_get ks k ≡ Some component
     → slice_get (processes_at_start plan p xs ks) k ≡ Some (process_at_start plan (p + k) x component)
 start-there plan p [] ks k x component at here = absurd (cc)
@@ -120,6 +122,7 @@ range-at f k zero i l = absurd (omega arith)
 range-at f k (suc n) zero l = ap (λ (m : ℕ). Some (f m)) (let e : k ≡ k + zero = omega arith in e)
 range-at f k (suc n) (suc i) l = range-at f (k + 1) n i (omega arith) ∙ ap (λ (m : ℕ). Some (f m)) (let e : k + 1 + i ≡ k + suc i = omega arith in e)
 
+-- There are as many values as ports.
 pub length-ports : {A : Type 0} (f : ℕ → A) (k n : ℕ) → length (map f (range_with_len k n)) ≡ n
 length-ports f k zero = refl
 length-ports f k (suc n) = omega (arith, length-ports f (k + 1) n)
@@ -160,6 +163,7 @@ comings on k told (Text text ∷ inputs) same =
     let later : map (coming on) inputs ≡ came (k + 1) told inputs = comings on (k + 1) told inputs (λ i d at. same (suc i) d at ∙ ap (λ (j : ℕ). length (got j told)) (let e : k + suc i ≡ k + 1 + i = omega arith in e)) in
     ap (λ ns. None ∷ ns) later
 
+-- A finished run composes.
 pub finished-composes : FinishedComposes
 finished-composes plan components journal s well first leads finished = record {
   one_each = well.one_each;

@@ -38,9 +38,11 @@ map-flat : {A B C : Type 0} (g : B → C) (f : A → List B) (k : A → List C) 
 map-flat g f k same [] = refl
 map-flat g f k same (x ∷ xs) = Rattle.std.proofs.lemmas.List.map-append g (f x) (flat_map f xs) ∙ (λ i. same x i ++ map-flat g f k same xs i)
 
+-- What a process got at an input, without ids, is what its component was told there.
 pub got-contents : (past : Past) (p port : ℕ) → contents (got_at past p port) ≡ got port (past.told p)
 got-contents past p port = map-flat (λ (e : Entry). e.content) (got_by port) (content_got port) (got-step port) (past.told p)
 
+-- What a process sent at an output, without ids, is what its component was told that was sent there.
 pub sent-contents : (past : Past) (p port : ℕ) → contents (sent_at past p port) ≡ sent port (past.told p)
 sent-contents past p port = map-flat (λ (e : Entry). e.content) (sent_by port) (content_sent port) (sent-step port) (past.told p)
 
@@ -48,13 +50,16 @@ sent-contents past p port = map-flat (λ (e : Entry). e.content) (sent_by port) 
 abbrev pub sending_of : Put → Sending
 sending_of put = record { sender = put.sender; content = put.entry.content }
 
+-- What was put on a connection, each packet with its sender.
 abbrev pub put_on : State Std → ℕ → List Sending
 put_on s c = map sending_of (s.past.put c)
 
+-- The packets that were put on a connection, without ids and senders, are the contents of what was put.
 pub all-contents : (puts : List Put) → map (λ (sending : Sending). sending.content) (map sending_of puts) ≡ contents (entries puts)
 all-contents [] = refl
 all-contents (put ∷ puts) = ap (λ ts. put.entry.content ∷ ts) (all-contents puts)
 
+-- The same of one sender's packets.
 pub own-contents : (sender : Sender) (puts : List Put) → map (λ (sending : Sending). sending.content) (filter (λ (sending : Sending). is_sender sending.sender sender) (map sending_of puts)) ≡ contents (entries_by sender puts)
 own-contents sender [] = refl
 own-contents sender (put ∷ puts) = by (is_sender put.sender sender) (own-contents sender puts)

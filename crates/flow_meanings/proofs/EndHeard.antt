@@ -113,6 +113,7 @@ module _ {K : Type 0} (ready : K → Held → Answer → Type 0) (next : K → H
 abbrev Never : {K : Type 0} → K → Type 0
 Never component = ⊥
 
+-- A WriteLines that has run and ended has heard the end of its input.
 pub write_lines-hears : (bytes : List ℕ) (told : List Happening) → EndedRun (λ (_ : List ℕ). IsAtHand) WriteLinesNext bytes told → told ≢ [] → HeardEnd 0 told
 write_lines-hears bytes told run some =
     end-heard (λ (_ : List ℕ). IsAtHand) WriteLinesNext (λ _. one_to_none) (λ _. uses_none) (λ _. refl) write_lines_obeys Never
@@ -121,6 +122,7 @@ write_lines-hears bytes told run some =
     (λ p port t q s l. elim l [ inl d ↦ (let c : Wishes q.component q.held q.wish ≡ Wishes p.component s.held receive_first = s.comes_to in cc) | inr n ↦ n ])
     (λ p port level q s l. s.is_ready) bytes told run (λ n. n) some
 
+-- So has a Passthru.
 pub passthru-hears : {K : Type 0} (component : K) (told : List Happening) → EndedRun (λ (_ : K). IsAtHand) PassthruNext component told → told ≢ [] → HeardEnd 0 told
 passthru-hears {K} component told run some =
     end-heard (λ (_ : K). IsAtHand) PassthruNext (λ _. one_to_one) (λ _. uses_first) (λ _. refl) passthru_obeys Never
@@ -138,6 +140,7 @@ discard-hears {K} component told run some =
     (λ p port t q s l. elim l [ inl d ↦ (let c : Wishes q.component q.held q.wish ≡ Wishes p.component s.held receive_first = s.comes_to in cc) | inr n ↦ n ])
     (λ p port level q s l. s.is_ready) component told run (λ n. n) some
 
+-- So has a Hoard.
 pub hoard-hears : {K : Type 0} (component : K) (told : List Happening) → EndedRun (λ (_ : K). IsAtHand) HoardNext component told → told ≢ [] → HeardEnd 0 told
 hoard-hears {K} component told run some =
     end-heard (λ (_ : K). IsAtHand) HoardNext (λ _. one_to_none) (λ _. uses_none) (λ _. refl) hoard_obeys Never
@@ -167,6 +170,7 @@ words-goes : (held : Held) (component : Words) → GoesOn (goes_on held componen
 words-goes held words_parts.Waiting = λ d. cc
 words-goes held (words_parts.Splitting id taken) = words-piece held id (text_at held.packets id) taken
 
+-- So has a Words.
 pub words-hears : (component : Words) (told : List Happening) → EndedRun WordsReady WordsNext component told → told ≢ [] → HeardEnd 0 told
 words-hears component told run some =
     end-heard WordsReady WordsNext (λ _. one_to_one) (λ _. uses_first) (λ _. refl) words_obeys Never
@@ -184,6 +188,7 @@ brackets-take component held id Normal = brackets-turn component held id (text_a
 brackets-take component held id Open = λ d. cc
 brackets-take component held id Close = λ d. cc
 
+-- So has a Brackets.
 pub brackets-hears : {K : Type 0} (component : K) (told : List Happening) → EndedRun BracketsReady BracketsNext component told → told ≢ [] → HeardEnd 0 told
 brackets-hears {K} component told run some =
     end-heard {K = K} BracketsReady BracketsNext (λ _. one_to_one) (λ _. uses_first) (λ _. refl) brackets_obeys Never
@@ -238,6 +243,7 @@ fill-goes state held places.Waiting w = λ h. elim h [ inl d ↦ absurd (cc) | i
 fill-goes state held (places.Passing id) w = λ h. elim h [ inl d ↦ absurd (cc) | inr l ↦ absurd (let k : places.Waiting ≡ places.Leaving = l in cc) ]
 fill-goes state held places.Leaving w = λ h. w
 
+-- So has a Fill.
 pub fill-hears : (size : ℕ) (told : List Happening) → EndedRun FillReady FillNext (fresh_fill size) told → told ≢ [] → HeardEnd 0 told
 fill-hears size told run some =
     end-heard FillReady FillNext (λ _. one_to_one) (λ _. uses_first) (λ _. refl) fill_obeys IsLeaving
@@ -259,6 +265,7 @@ copy-on : (state : CopyState) (held : Held) (place : CopyPlace) → GoesOn (copy
 copy-on state held copy_places.Waiting = λ d. cc
 copy-on state held (copy_places.Copying id output) = copy-goes state held id output
 
+-- So has a Copy.
 pub copy-hears : (component : CopyState) (told : List Happening) → EndedRun CopyReady CopyNext component told → told ≢ [] → HeardEnd 0 told
 copy-hears component told run some =
     end-heard CopyReady CopyNext copy_shape copy_uses (λ _. refl) copy_obeys Never
@@ -287,6 +294,7 @@ count-on false state held is = λ h. elim h [ inl d ↦ absurd (cc) | inr l ↦ 
 not-telling : (state : CountState) → state.leaving ≡ false → IsTelling state → ⊥
 not-telling state f l = let h : false ≡ true = sym f ∙ l in cc
 
+-- So has a Count.
 pub count-hears : (connected : Bool) (told : List Happening) → EndedRun CountReady CountNext (fresh_count connected) told → told ≢ [] → HeardEnd 0 told
 count-hears connected told run some =
     end-heard CountReady CountNext (λ _. count_shape) count_uses (λ _. refl) count_obeys IsTelling
@@ -319,6 +327,7 @@ load-comes : (state : LoadState) (held : Held) (id depth : ℕ) → GoesOn (load
 load-comes state held id zero = λ d. cc
 load-comes state held id (suc outer) = λ d. cc
 
+-- So has a LoadBalance.
 pub load-hears : (component : LoadState) (told : List Happening) → EndedRun LoadReady LoadNext component told → told ≢ [] → HeardEnd 0 told
 load-hears component told run some =
     end-heard LoadReady LoadNext load_shape load_uses (λ _. refl) load_obeys Never
@@ -349,6 +358,7 @@ bundle-takes (bundle_parts.Inside id depth) held packet Close = by (nat_lt 1 dep
     by true = bundle-gathers (bundle_parts.Inside id depth) held id packet (depth - 1)
     by false = λ d. cc
 
+-- So has a Bundle.
 pub bundle-hears : (component : Bundle) (told : List Happening) → EndedRun BundleReady BundleNext component told → told ≢ [] → HeardEnd 0 told
 bundle-hears component told run some =
     end-heard BundleReady BundleNext (λ _. one_to_one) (λ _. uses_first) (λ _. refl) bundle_obeys Never
@@ -371,6 +381,7 @@ unbundle-on : (held : Held) (component : Unbundle) → GoesOn (unbundle.goes_on 
 unbundle-on held unbundle_parts.Waiting = λ d. cc
 unbundle-on held (unbundle_parts.Unpacking id) = unbundle-unpacks held id (chain_of_root held.packets id items)
 
+-- So has an Unbundle.
 pub unbundle-hears : (component : Unbundle) (told : List Happening) → EndedRun UnbundleReady UnbundleNext component told → told ≢ [] → HeardEnd 0 told
 unbundle-hears component told run some =
     end-heard UnbundleReady UnbundleNext (λ _. one_to_one) (λ _. uses_first) (λ _. refl) unbundle_obeys Never

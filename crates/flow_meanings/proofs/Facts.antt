@@ -16,6 +16,7 @@ pub record Same (component : Std) (w w' : List ℕ) (x x' y y' : ℕ → List Tr
   pub outputs : (o : ℕ) → IsTrue (std_uses component o) → y o ≡ y' o
   pub silent : (o : ℕ) → y o ≡ [] → y' o ≡ []
 
+-- What the laws about networks need of a component, whatever its kind.
 pub record Facts (component : Std) : Type 0 where
   -- one that has ended has its meaning
   pub means : (p : ℕ) (told : List Happening) (x : Process Std) → IsFirst component → Over component p told x → Means component (bytes_of x.component) (λ i. got i told) (λ o. sent o told)

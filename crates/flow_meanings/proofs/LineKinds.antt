@@ -38,6 +38,7 @@ use Rattle.flow_meanings.proofs.Facts.{Facts}
 read_lines-own : (left : List (List ℕ)) (p : ℕ) (told : List Happening) (x : Process Std) → Over (components.ReadLines left) p told x → Own components.ReadLines ReadLinesReady (λ left held answer outcome. outcome ≡ reads held left) left told x
 read_lines-own left p told x over = own components.ReadLines ReadLinesReady (λ left held answer. reads held left) (λ component held answer r. r) (λ component held answer. refl) left p told x over
 
+-- The facts of ReadLines.
 pub read_lines-facts : (left : List (List ℕ)) → Facts (components.ReadLines left)
 read_lines-facts left = record {
   means = λ p told x first over. read_lines_meaning left told (read_lines-own left p told x over).run (over.run.has_run (none-alone x over.fits) over.ended);
@@ -54,6 +55,7 @@ read_lines-facts left = record {
 write_lines-own : (bytes : List ℕ) (p : ℕ) (told : List Happening) (x : Process Std) → Over (components.WriteLines bytes) p told x → Own components.WriteLines (λ (_ : List ℕ). IsAtHand) (λ component held answer outcome. outcome ≡ writes component held answer) bytes told x
 write_lines-own bytes p told x over = own components.WriteLines (λ (_ : List ℕ). IsAtHand) writes (λ component held answer r. r) (λ component held answer. refl) bytes p told x over
 
+-- The facts of WriteLines.
 pub write_lines-facts : (bytes : List ℕ) → Facts (components.WriteLines bytes)
 write_lines-facts bytes = record {
   means = λ p told x first over. (let o = write_lines-own bytes p told x over in ap bytes_of o.is ∙ write_lines_meaning bytes told o.run ∙ ap (λ (bs : List ℕ). bs ++ rendered_all (got 0 told)) first);
@@ -71,6 +73,7 @@ by-one f x x' y y' ins m n (suc o) l = absurd (omega arith)
 words-own : (component : Words) (p : ℕ) (told : List Happening) (x : Process Std) → Over (components.Words component) p told x → Own components.Words WordsReady WordsNext component told x
 words-own component p told x over = own components.Words WordsReady words_next (λ component held answer r. r) (λ component held answer. refl) component p told x over
 
+-- The facts of Words.
 pub words-facts : (component : Words) → Facts (components.Words component)
 words-facts component = record {
   means = λ p told x first over. words_meaning told (subst (λ (w : Words). EndedRun WordsReady WordsNext w told) first (words-own component p told x over).run);
@@ -86,6 +89,7 @@ fill-own state p told x over = own components.Fill FillReady fill_next (λ compo
 fill-run : (state : FillState) (size : ℕ) (p : ℕ) (told : List Happening) (x : Process Std) → state ≡ fresh_fill size → Over (components.Fill state) p told x → EndedRun FillReady FillNext (fresh_fill size) told
 fill-run state size p told x first over = subst (λ (w : FillState). EndedRun FillReady FillNext w told) first (fill-own state p told x over).run
 
+-- The facts of Fill.
 pub fill-facts : (state : FillState) → Facts (components.Fill state)
 fill-facts state = record {
   means = λ p told x first over.
@@ -103,6 +107,7 @@ fill-facts state = record {
 brackets-own : (component : Brackets) (p : ℕ) (told : List Happening) (x : Process Std) → Over (components.Brackets component) p told x → Own components.Brackets BracketsReady (λ component held answer outcome. outcome ≡ brackets_next component held answer) component told x
 brackets-own component p told x over = own components.Brackets BracketsReady brackets_next (λ component held answer r. r) (λ component held answer. refl) component p told x over
 
+-- The facts of Brackets.
 pub brackets-facts : (component : Brackets) → Facts (components.Brackets component)
 brackets-facts component = record {
   means = λ p told x first over. brackets_meaning component told (brackets-own component p told x over).run;
@@ -152,6 +157,7 @@ passed-same : (connected : Bool) (x x' y y' n n' : List Tree) → IsCounted conn
 passed-same true x x' y y' n n' m k e = m.passed refl ∙ e ∙ sym (k.passed refl)
 passed-same false x x' y y' n n' m k e = m.silent refl ∙ sym (k.silent refl)
 
+-- The facts of Count.
 pub count-facts : (state : CountState) → Facts (components.Count state)
 count-facts state = record {
   means = λ p told x first over.

@@ -40,6 +40,7 @@ pub record Own {K : Type 0} (f : K → Std) (own-ready : K → Held → Answer �
   pub run : EndedRun own-ready own-next component told
   pub is : x.component ≡ f run.last.component
 
+-- What the standard component of a kind was told is a run of the kind's own component.
 pub own : {K : Type 0} (f : K → Std) (own-ready : K → Held → Answer → Type 0) (own-next : K → Held → Answer → Outcome K)
     → ((component : K) (held : Held) (answer : Answer) → StdReady (f component) held answer → own-ready component held answer) → ((component : K) (held : Held) (answer : Answer) → std_next (f component) held answer ≡ outcome_as f (own-next component held answer))
     → (component : K) (p : ℕ) (told : List Happening) (x : Process Std) → Over (f component) p told x → Own f own-ready (λ component held answer outcome. outcome ≡ own-next component held answer) component told x
@@ -66,9 +67,11 @@ begins-run component p (Ended i ∷ es) q r some = absurd (let h : wishes.Deacti
 begins-run component p (Sent o t ∷ es) q r some = absurd (let h : wishes.Deactivate ≡ wishes.Send (record { 0 = o }) (id_of t) = r.1.grants.0 in cc)
 begins-run component p (Learned o n ∷ es) q r some = absurd (let h : wishes.Deactivate ≡ wishes.Level (record { 0 = o }) = r.1.grants.0 in cc)
 
+-- A process that was told something and ended was told to start first.
 pub ended-begins : (component : Std) (p : ℕ) (told : List Happening) (x : Process Std) → HasRun StdReady StdNext component p told x → x.stage ≡ stages.Ended → told ≢ [] → Begins told
 ended-begins component p told x run ended some = begins-run component p told (poise x wishes.Deactivate) (subst (Follows StdReady StdNext (fresh component p) told x) ended run.follows) some
 
+-- What begins with a start has one.
 pub begins-starts : (told : List Happening) → Begins told → 0 < starts told
 begins-starts told b = subst (λ (es : List Happening). 0 < starts es) (sym b.is) (omega arith)
 
@@ -137,6 +140,7 @@ once-got told port text b few gives heard =
     let later : HeardEnd port b.later = elim heard' [ inl h ↦ absurd h | inr h ↦ h ] in
     ap (got port) is ∙ until-start port text true b.later (subst (GivesText port text false) is gives) none (λ _. later)
 
+-- A process that is started once gets each initial text once.
 pub texts-once : (component : Std) (p : ℕ) (told : List Happening) (x : Process Std) → Over component p told x → told ≢ [] → starts told ≤ 1 → ((i : ℕ) → i < length x.inputs → HeardEnd i told) → GotTexts true told x
 texts-once component p told x over some few heard i text at =
     let within : i < length x.inputs = Rattle.std.proofs.lemmas.Option.slice_get_within x.inputs i (Text text) at in
@@ -149,6 +153,7 @@ no-inputs : (inputs : List Input) → 0 ≡ length inputs → list_any is_connec
 no-inputs [] is = refl
 no-inputs (i ∷ inputs) is = absurd (omega arith)
 
+-- A process without inputs has no connected one.
 pub none-alone : {K : Type 0} (x : Process K) → 0 ≡ length x.inputs → NoneConnected x
 none-alone x is = no-inputs x.inputs is
 

@@ -112,6 +112,7 @@ module _ (state : SelectState) (p : ℕ) (told : List Happening) (x : Process St
       let times : starts told ≡ activations false (greatest (came 0 told x.inputs)) = counted inputs.keys inputs.packets inputs.are some ∙ ap (λ (is : List Input). activations false (greatest (came 0 told is))) (sym inputs.are) in
       (select_takes_texts state.rejects told run i text l (over.run.texts i text at)).0 ∙ ap (λ (n : ℕ). replicate n (text_packet text)) times
 
+-- The facts of Select.
 pub select-facts : (state : SelectState) → Facts (components.Select state)
 select-facts state = record {
   means = λ p told x first over. selects state p told x first over;

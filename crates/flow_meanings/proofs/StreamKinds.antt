@@ -48,6 +48,7 @@ use Rattle.flow_meanings.proofs.LineKinds.{by-one}
 passthru-own : (component : Passthru) (p : ℕ) (told : List Happening) (x : Process Std) → Over (components.Passthru component) p told x → Own components.Passthru (λ (_ : Passthru). IsAtHand) PassthruNext component told x
 passthru-own component p told x over = own components.Passthru (λ (_ : Passthru). IsAtHand) (λ component held answer. Wishes component held (passes answer)) (λ component held answer r. r) (λ component held answer. refl) component p told x over
 
+-- The facts of Passthru.
 pub passthru-facts : (component : Passthru) → Facts (components.Passthru component)
 passthru-facts component = record {
   means = λ p told x first over. passthru_meaning component told (passthru-own component p told x over).run;
@@ -63,6 +64,7 @@ below-true a b l = grind (arith, nat_tests)
 copy-own : (state : CopyState) (p : ℕ) (told : List Happening) (x : Process Std) → Over (components.Copy state) p told x → Own components.Copy CopyReady CopyNext state told x
 copy-own state p told x over = own components.Copy CopyReady copy_next (λ component held answer r. r) (λ component held answer. refl) state p told x over
 
+-- The facts of Copy.
 pub copy-facts : (state : CopyState) → Facts (components.Copy state)
 copy-facts state = record {
   means = λ p told x first over o below. copy_meaning state.count told (subst (λ (w : CopyState). EndedRun CopyReady CopyNext w told) first (copy-own state p told x over).run) o below;
@@ -114,6 +116,7 @@ concat-over state p told x first over =
     let ready : (state.at < state.count) × ([] ≡ []) = over.can_start (empty p) refl in
     concats state.count state told refl first (omega (arith, ready.0)) (concat-own state p told x over).run (subst (λ (k : ℕ). Wakes k [] told) (sym over.fits) over.run.wakes)
 
+-- The facts of Concat.
 pub concat-facts : (state : ConcatState) → Facts (components.Concat state)
 concat-facts state = record {
   means = λ p told x first over. (concat-over state p told x first over).joins;
@@ -143,6 +146,7 @@ collate-over state p told x first over =
     collate_meaning state.fields state.elements told first.0 some (subst (λ (w : CollateState). EndedRun CollateReady CollateNext w told) first.1 (collate-own state p told x over).run)
     (subst (λ (k : ℕ). Wakes k [] told) (sym over.fits) over.run.wakes)
 
+-- The facts of Collate.
 pub collate-facts : (state : CollateState) → Facts (components.Collate state)
 collate-facts state = record {
   means = λ p told x first over. (collate-over state p told x first over).0;
@@ -159,6 +163,7 @@ collate-facts state = record {
 discard-own : (component : Discard) (p : ℕ) (told : List Happening) (x : Process Std) → Over (components.Discard component) p told x → Own components.Discard (λ (_ : Discard). IsAtHand) DiscardNext component told x
 discard-own component p told x over = own components.Discard (λ (_ : Discard). IsAtHand) discards (λ component held answer r. r) (λ component held answer. refl) component p told x over
 
+-- The facts of Discard.
 pub discard-facts : (component : Discard) → Facts (components.Discard component)
 discard-facts component = record {
   means = λ p told x first over. tt;
@@ -171,6 +176,7 @@ discard-facts component = record {
 hoard-own : (component : Hoard) (p : ℕ) (told : List Happening) (x : Process Std) → Over (components.Hoard component) p told x → Own components.Hoard (λ (_ : Hoard). IsAtHand) HoardNext component told x
 hoard-own component p told x over = own components.Hoard (λ (_ : Hoard). IsAtHand) (λ component held answer. Wishes component held (hoards answer)) (λ component held answer r. r) (λ component held answer. refl) component p told x over
 
+-- The facts of Hoard.
 pub hoard-facts : (component : Hoard) → Facts (components.Hoard component)
 hoard-facts component = record {
   means = λ p told x first over. tt;
@@ -183,6 +189,7 @@ hoard-facts component = record {
 bundle-own : (component : Bundle) (p : ℕ) (told : List Happening) (x : Process Std) → Over (components.Bundle component) p told x → Own components.Bundle BundleReady BundleNext component told x
 bundle-own component p told x over = own components.Bundle BundleReady bundle_next (λ component held answer r. r) (λ component held answer. refl) component p told x over
 
+-- The facts of Bundle.
 pub bundle-facts : (component : Bundle) → Facts (components.Bundle component)
 bundle-facts component = record {
   means = λ p told x first over. bundle_meaning told (subst (λ (w : Bundle). EndedRun BundleReady BundleNext w told) first (bundle-own component p told x over).run);
@@ -195,6 +202,7 @@ bundle-facts component = record {
 unbundle-own : (component : Unbundle) (p : ℕ) (told : List Happening) (x : Process Std) → Over (components.Unbundle component) p told x → Own components.Unbundle UnbundleReady UnbundleNext component told x
 unbundle-own component p told x over = own components.Unbundle UnbundleReady unbundle_next (λ component held answer r. r) (λ component held answer. refl) component p told x over
 
+-- The facts of Unbundle.
 pub unbundle-facts : (component : Unbundle) → Facts (components.Unbundle component)
 unbundle-facts component = record {
   means = λ p told x first over. unbundle_meaning told (subst (λ (w : Unbundle). EndedRun UnbundleReady UnbundleNext w told) first (unbundle-own component p told x over).run);
@@ -207,6 +215,7 @@ unbundle-facts component = record {
 load-own : (state : LoadState) (p : ℕ) (told : List Happening) (x : Process Std) → Over (components.LoadBalance state) p told x → Own components.LoadBalance LoadReady LoadNext state told x
 load-own state p told x over = own components.LoadBalance LoadReady load_next (λ component held answer r. r) (λ component held answer. refl) state p told x over
 
+-- The facts of LoadBalance.
 pub load-facts : (state : LoadState) → Facts (components.LoadBalance state)
 load-facts state = record {
   means = λ p told x first over. load_meaning state.count told (subst (λ (w : LoadState). EndedRun LoadReady LoadNext w told) first (load-own state p told x over).run);

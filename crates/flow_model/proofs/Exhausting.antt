@@ -155,9 +155,11 @@ not-true false is = refl
 start-alone : {K : Type 0} (ls : List Look) (x : Process K) → NoneConnected x → can_start ls x ≡ not x.has_run
 start-alone ls x none = let a = none-holds ls x.inputs none in rw (a, none) refl
 
+-- A process without connections starts only if it hasn't run.
 pub starts-first : {K : Type 0} (channels : List Channel) (x : Process K) (n : ℕ) → NoneConnected x → event_of channels x n ≡ Some Starts → x.has_run ≡ false
 starts-first channels x n none is = not-true x.has_run (sym (start-alone (looks channels) x none) ∙ starts-can channels x n is)
 
+-- A process without connections finishes without a start only if it has run.
 pub finishes-later : {K : Type 0} (channels : List Channel) (x : Process K) (n : ℕ) → NoneConnected x → event_of channels x n ≡ Some Finishes → x.has_run ≡ true
 finishes-later channels x n none is = not-false x.has_run (sym (start-alone (looks channels) x none) ∙ finishes-cannot channels x n is)
 
@@ -183,6 +185,7 @@ pub record FirstInput (channels : List Channel) (inputs : List Input) : Type 0 w
 one-later : (channels : List Channel) (i : Input) (inputs : List Input) → FirstInput channels inputs → FirstInput channels (i ∷ inputs)
 one-later channels i inputs f = record { port = suc f.port; within = (let h = f.within in omega arith); connection = f.connection; input = f.input; some = f.some }
 
+-- Where some connected input holds a packet, there is a first one.
 pub first-input : (channels : List Channel) (inputs : List Input) → list_any (has_packet (looks channels)) inputs ≡ true → FirstInput channels inputs
 first-input channels [] is = absurd (cc)
 first-input channels (From c ∷ inputs) is = by (passes holds_packet (slice_get (looks channels) c)) refl (first-input channels inputs) is
@@ -208,14 +211,17 @@ fresh-set (f ∷ fresh) zero (suc port) is = is
 fresh-set (f ∷ fresh) (suc at) zero is = is
 fresh-set (f ∷ fresh) (suc at) (suc port) is = fresh-set fresh at port is
 
+-- An initial text that was taken leaves the others fresh.
 pub fresh-other : (fresh : List Bool) (at port : ℕ) → port ≢ at → unwrap_or (slice_get fresh port) false ≡ true → unwrap_or (slice_get (slice_set fresh at false) port) false ≡ true
 fresh-other fresh at port other is = ap (λ o. unwrap_or o false) (slice_get-set_other fresh at port false other) ∙ is
 
+-- An initial text that was taken isn't fresh.
 pub fresh-gone : (fresh : List Bool) (at : ℕ) → unwrap_or (slice_get (slice_set fresh at false) at) false ≡ false
 fresh-gone [] at = refl
 fresh-gone (f ∷ fresh) zero = refl
 fresh-gone (f ∷ fresh) (suc at) = fresh-gone fresh at
 
+-- What is fresh at another port doesn't change.
 pub fresh-apart : (fresh : List Bool) (at port : ℕ) → port ≢ at → unwrap_or (slice_get (slice_set fresh at false) port) false ≡ unwrap_or (slice_get fresh port) false
 fresh-apart fresh at port other = ap (λ o. unwrap_or o false) (slice_get-set_other fresh at port false other)
 

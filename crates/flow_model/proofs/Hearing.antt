@@ -16,6 +16,7 @@ abbrev pub HasGot : ℕ → List Happening → Type 0
 HasGot port [] = ⊥
 HasGot port (h ∷ hs) = IsGot port h ⊎ HasGot port hs
 
+-- An end that was heard by now was heard before, or is heard now.
 pub heard-more : (port : ℕ) (es : List Happening) (e : Happening) → HeardEnd port (es ++ e ∷ []) → HeardEnd port es ⊎ IsEnd port e
 heard-more port [] e (inl h) = inr h
 heard-more port [] e (inr h) = absurd h
@@ -79,6 +80,7 @@ pub record Brings (waits among : ℕ → Type 0) (later : List Happening) : Type
   pub first : BringsFirst port later
   pub got_or_waits : HasGot port later ⊎ waits port
 
+-- Behind each start among the happenings, one of the ports that wait for it brings something.
 abbrev pub StartsKeep : (ℕ → Type 0) → (ℕ → Type 0) → List Happening → Type 0
 StartsKeep waits among [] = Unit {0}
 StartsKeep waits among (Started ∷ later) = Brings waits among later × StartsKeep waits among later
@@ -87,6 +89,7 @@ StartsKeep waits among (Ended input ∷ later) = StartsKeep waits among later
 StartsKeep waits among (Sent output packet ∷ later) = StartsKeep waits among later
 StartsKeep waits among (Learned output level ∷ later) = StartsKeep waits among later
 
+-- Where each start keeps what waits, it brings what is among the ports.
 pub starts-kept : (waits among : ℕ → Type 0) (es : List Happening) → StartsKeep waits among es → StartsBring among es
 starts-kept waits among [] k = tt
 starts-kept waits among (Started ∷ es) k = ((k.0.port, k.0.within, k.0.first), starts-kept waits among es k.1)
@@ -152,6 +155,7 @@ fresh_after port fresh (Ended input ∷ later) = fresh_after port fresh later
 fresh_after port fresh (Sent output packet ∷ later) = fresh_after port fresh later
 fresh_after port fresh (Learned output level ∷ later) = fresh_after port fresh later
 
+-- One more happening changes whether an initial text is fresh as it alone would.
 pub fresh-more : (port : ℕ) (fresh : Bool) (es : List Happening) (e : Happening) → fresh_after port fresh (es ++ e ∷ []) ≡ fresh_after port (fresh_after port fresh es) (e ∷ [])
 fresh-more port fresh [] e = refl
 fresh-more port fresh (Started ∷ es) e = fresh-more port true es e
@@ -178,6 +182,7 @@ starts-count (Ended p ∷ es) e = starts-count es e
 starts-count (Sent p t ∷ es) e = starts-count es e
 starts-count (Learned p n ∷ es) e = starts-count es e
 
+-- A process that was told something first was told to start.
 pub never-told : (hs : List Happening) → starts hs ≡ 0 → (hs ≢ [] → 1 ≤ starts hs) → hs ≡ []
 never-told [] none some = refl
 never-told (h ∷ hs) none some = absurd (let l = some (λ e. cc) in omega arith)

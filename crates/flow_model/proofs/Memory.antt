@@ -14,6 +14,7 @@ pub record Memory : Type 0 where
   pub got : ℕ → ℕ → List Entry
   pub put : ℕ → List Put
 
+-- What of the past is remembered by numbers alone.
 abbrev pub memory_of : Past → Memory
 memory_of past = record { sent = sent_at past; got = got_at past; put = past.put }
 

@@ -121,6 +121,7 @@ nested-judged y (wishes.Send port id) = by (packet_at y.held.packets id) refl
 nested-judged y (wishes.Level port) = tt
 nested-judged y wishes.Deactivate = tt
 
+-- A process that wishes to send after its work sends no Close packet without an open bracket.
 pub nested-worked : {K : Type 0} (x : Process K) (outcome : Outcome K) → IsNested (worked x outcome) (worked x outcome).stage
 nested-worked x (Wishes component held wish) = nested-judged (worked x (Wishes component held wish)) wish
 nested-worked x (Fails component held cause) = tt

@@ -36,6 +36,7 @@ limit-cond : (n : ℕ) (b : Bool) (stage : Stage) → (n == TURN_LIMIT) ≡ b �
 limit-cond n true stage t most one = omega arith
 limit-cond n false stage t most one = let below : n < TURN_LIMIT = less_or n TURN_LIMIT t most in omega (arith, below, one)
 
+-- A stage that isn't over has at most one turn reserved.
 pub least_left-most : (stage : Stage) → least_left stage ≤ 1
 least_left-most stages.Ended = omega arith
 least_left-most (stages.Failed cause) = omega arith
@@ -44,6 +45,7 @@ least_left-most stages.Idle = omega arith
 least_left-most (stages.Wishing wish) = omega arith
 least_left-most (stages.Closing i) = omega arith
 
+-- A stage owes one work at most.
 pub owed-most : (stage : Stage) → owed stage ≤ 1
 owed-most stages.Ended = omega arith
 owed-most (stages.Failed cause) = omega arith
@@ -69,6 +71,7 @@ left-event channels x n stages.Idle e is = (refl, refl)
 left-event channels x n (stages.Wishing wish) e is = (refl, refl)
 left-event channels x n (stages.Closing i) e is = (refl, refl)
 
+-- A turn counts as one.
 pub turns-after : {K : Type 0} (x : Process K) (e : Event) → (process_after x e).turns ≡ x.turns + 1
 turns-after x Starts = refl
 turns-after x Finishes = refl
@@ -91,6 +94,7 @@ maker-after x (Learns port level) = refl
 maker-after x Sleeps = refl
 maker-after x (Closes output c) = refl
 
+-- A turn leaves the component as it was.
 pub component-after : {K : Type 0} (x : Process K) (e : Event) → (process_after x e).component ≡ x.component
 component-after x Starts = refl
 component-after x Finishes = refl
@@ -215,6 +219,7 @@ maker-comes : (old new : Held) → Keeps old new ⊎ MakesOne old new → (new.m
 maker-comes old new (inl keeps) = (keeps.maker, omega (arith, keeps.made))
 maker-comes old new (inr one) = (one.maker, omega (arith, one.made))
 
+-- What the hands hold after an outcome comes from what they held and what was made.
 pub comes-of : {K : Type 0} (shape : Shape) (uses : ℕ → Bool) (old : Held) (outcome : Outcome K) → Obeys shape uses old outcome → ComesBy old (held_after outcome)
 comes-of shape uses old (Wishes component held wish) obeys = obeys.0
 comes-of shape uses old (Fails component held cause) obeys = obeys.0

@@ -642,6 +642,7 @@ none-fresh zero port = refl
 none-fresh (suc n) zero = refl
 none-fresh (suc n) (suc port) = none-fresh n port
 
+-- At the start nothing was told, so all that was told is a run of each component.
 pub AllTell-start : {K : Type 0} (ready : K → Held → Answer → Type 0) (next : K → Held → Answer → Outcome K → Type 0) (plan : Plan) (components : List K) → AllTell ready next components (start_of plan components)
 AllTell-start {K} ready next plan components p x is = record {
   follows = λ component at. (let r = begins plan 0 plan.processes components p x component is at in
@@ -688,6 +689,7 @@ module _ {K : Type 0} (ready : K → Held → Answer → Type 0) (next : K → H
   pub AllTell-leads : (s : State K) (journal : Journal) (s' : State K) → Valid ready s → AllTell ready next components s → Leads next s journal s' → AllTell ready next components s'
   AllTell-leads s journal s' valid all leads = AllTell-leads_by s journal.turns journal.seen s' valid all leads
 
+-- A process with a turn left has made fewer than the limit.
 pub turns-most : {K : Type 0} (x : Process K) → x.turns + least_left x.stage ≤ TURN_LIMIT → x.turns ≤ TURN_LIMIT
 turns-most x most = omega (arith, most)
 

@@ -7,11 +7,13 @@ use Rattle.flow_net.specs.declared.draft.Binding.{Binding}
 use Rattle.flow_net.specs.Drafts.{binding_at, bound}
 use Rattle.flow_net.proofs.Places.{slice_get-set_is, slice_get-set_other}
 
+-- A port that was bound has its new binding.
 pub binding_at-bound_same : (ports : List Port) (p e : ℕ) (b : Binding) → IsSome (binding_at ports (record { port = p; element = e })) → binding_at (bound ports (record { port = p; element = e }) b) (record { port = p; element = e }) ≡ Some b
 binding_at-bound_same [] p e b there = absurd (false≢true there)
 binding_at-bound_same (port ∷ ports) zero e b there = slice_get-set_is port.elements e b there
 binding_at-bound_same (port ∷ ports) (suc p) e b there = binding_at-bound_same ports p e b there
 
+-- Every other port keeps its binding.
 pub binding_at-bound_other : (ports : List Port) (p e q f : ℕ) (b : Binding) → (p ≡ q → e ≢ f) → binding_at (bound ports (record { port = p; element = e }) b) (record { port = q; element = f }) ≡ binding_at ports (record { port = q; element = f })
 binding_at-bound_other [] p e q f b ne = refl
 binding_at-bound_other (port ∷ ports) zero e zero f b ne = slice_get-set_other port.elements e f b (λ k. ne refl (sym k))

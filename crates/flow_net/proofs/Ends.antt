@@ -21,24 +21,29 @@ use Rattle.flow_net.specs.Calls.{process_at, room_of, end_at, end_named, end_of_
 use Rattle.flow_net.specs.Sound.{IsPort, is_input_at}
 use Rattle.flow_net.proofs.Steps.{map_some, then_some}
 
+-- Two steps are done only where the first is and then the second.
 pub bind_ok : {A B : Type 0} (r : Result A PlanFault) (f : A → Result B PlanFault) (y : B) → (r >>= f) ≡ Ok y → (x : A) × (r ≡ Ok x) × (f x ≡ Ok y)
 bind_ok (Ok x) f y is = (x, refl, is)
 bind_ok (Err e) f y is = absurd (cc)
 
+-- What wasn't refused didn't meet the refusal's condition.
 pub refused_ok : (b : Bool) (fault : PlanFault) (u : Unit {0}) → refused_if b fault ≡ Ok u → b ≡ false
 refused_ok true fault u is = absurd (cc)
 refused_ok false fault u is = refl
 
+-- Both parts of a conjunction hold.
 pub and_true : (a b : Bool) → (a && b) ≡ true → (a ≡ true) × (b ≡ true)
 and_true true b is = (refl, is)
 and_true false b is = absurd (false≢true is)
 
+-- Two answers that agree are the same.
 pub same_true : (a b : Bool) → same a b ≡ true → a ≡ b
 same_true true true is = refl
 same_true false false is = refl
 same_true true false is = absurd (false≢true is)
 same_true false true is = absurd (false≢true is)
 
+-- Numbers that the program finds equal are equal.
 pub eqb_true : (m n : ℕ) → (m == n) ≡ true → m ≡ n
 eqb_true m n is = grind (arith, nat_tests)
 
@@ -63,6 +68,7 @@ pub record IsThere (ports : List Port) (process : ℕ) (input : Bool) (end : End
   pub side : is_input_at ports end ≡ Some input
   pub owner : process_at ports end ≡ process
 
+-- A port that was found by its name is there, on the asked side of the asked process.
 pub IsThere-named : (ports : List Port) (n process : ℕ) (input : Bool) (port : PortRef) (end : End) → ((g : ℕ) (p : Port) → slice_get ports g ≡ Some p → IsPort n p) → end_named ports process input port ≡ Some end → IsThere ports process input end
 IsThere-named ports n process input port end all is =
     let place = then_some (end_at ports port.element) (port_named ports process input port.name) end is in
@@ -83,6 +89,7 @@ IsThere-named ports n process input port end all is =
           owner = ap (λ (o : Option Port). option_map_or (λ (q : Port). q.process) o 0) here ∙ eqb_true p.process process sided.0;
         })
 
+-- What was found instead of a fault was there.
 pub ok_or_ok : {A : Type 0} (o : Option A) (fault : PlanFault) (x : A) → ok_or o fault ≡ Ok x → o ≡ Some x
 ok_or_ok None fault x is = absurd (cc)
 ok_or_ok (Some y) fault x is = let inner : y ≡ x = cc in ap Some inner
@@ -94,6 +101,7 @@ pub record AreThere (ports : List Port) (ends : End × End) : Type 0 where
   pub output : IsThere ports sender false ends.0
   pub input : IsThere ports receiver true ends.1
 
+-- Both ends of a connection that could be named are there.
 pub AreThere-ends : (processes : List Begun) (ports : List Port) (n : ℕ) (from : List ℕ) (out : PortRef) (to : List ℕ) (into : PortRef) (ends : End × End) → ((g : ℕ) (p : Port) → slice_get ports g ≡ Some p → IsPort n p) → ends_of processes ports from out to into ≡ Ok ends → AreThere ports ends
 AreThere-ends processes ports n from out to into ends all is =
     let sender = bind_ok (process_of_name processes from) _ ends is in
@@ -117,6 +125,7 @@ pub record MayJoin (ports : List Port) (links : List Link) (capacity : Option �
   pub ungiven : has_text (binding_at ports input) ≡ false
   pub room : is_full links (link_into ports input) ≡ false
 
+-- What isn't false is true.
 pub if_true : (b : Bool) → (if b then false else true) ≡ false → b ≡ true
 if_true true is = refl
 if_true false is = absurd (false≢true (sym is))
@@ -128,6 +137,7 @@ allowed_ok (Some m) u is n some =
     let number : m ≡ n = cc in
     subst (λ (k : ℕ). (1 ≤ k) × (k ≤ 1024)) number (grind (arith, nat_tests, both.0), grind (arith, nat_tests, both.1))
 
+-- Where no refusal was met, the two ports may be joined.
 pub MayJoin-ok : (ports : List Port) (links : List Link) (from : List ℕ) (out : PortRef) (to : List ℕ) (into : PortRef) (capacity : Option ℕ) (output input : End) (u : Unit {0}) → may_join ports links from out to into capacity output input ≡ Ok u → MayJoin ports links capacity output input
 MayJoin-ok ports links from out to into capacity output input u is =
     let stream = bind_ok (refused_if (if is_stream_at ports input then false else true) _) _ u is in
@@ -154,6 +164,7 @@ free_at ports end there free = by (binding_at ports end) there free
     by (Some (Sends c k)) there free = absurd (false≢true (sym free))
     by (Some (Given k)) there free = absurd (false≢true (sym free))
 
+-- The connection that was found at an input is the one that the input receives from.
 pub link_into-bound : (ports : List Port) (end : End) (c : ℕ) → link_into ports end ≡ Some c → binding_at ports end ≡ Some (Receives c)
 link_into-bound ports end c is = by (binding_at ports end) is
   where

@@ -10,6 +10,7 @@ use Rattle.flow_net.specs.Drafts.{is_side}
 use Rattle.flow_net.specs.Finishes.{size_of, count_of, counted, total_of, row_of, rows_of, table_of, process_of}
 use Rattle.flow_plan.proofs.PortNames.{length_elements_of}
 
+-- A row has as many elements as its port.
 pub row-count : (port : Port) → length (elements_of (row_of port)) ≡ count_of port
 row-count port = length_elements_of (row_of port) ∙ by (is_stream port.spec.class) port.spec.array (size_of port.elements)
   where
@@ -26,6 +27,7 @@ length-rows_of (port ∷ ports) p s = by (is_side p s port) (length-rows_of port
     by true rest = omega (arith, rest, row-count port, length-append (elements_of (row_of port)) (ports_of (rows_of ports p s)))
     by false rest = omega (arith, rest)
 
+-- The processes of a plan are laid out by their tables.
 pub LaidOut-plan : (ports : List Port) (processes : List Begun) → LaidOut (map (process_of ports) processes) (map (table_of ports) processes)
 LaidOut-plan ports [] = tt
 LaidOut-plan ports (begun ∷ processes) = (length-rows_of ports begun.number true, length-rows_of ports begun.number false, LaidOut-plan ports processes)

@@ -20,6 +20,7 @@ apart ports here end b free is ne same =
     let both : Some b ≡ Some Free = sym is ∙ ap (binding_at ports) same ∙ free in
     ne (cc)
 
+-- A connection that is opened at a free input keeps ports and connections in agreement.
 pub IsListed-opened : (ports after : List Port) (processes : List Begun) (links linked : List Link) (n : ℕ) (into : End) → IsListed ports processes links → binding_at ports into ≡ Some Free → Rebound ports after into (Receives n) → SameOutline ports after → OpensOne links linked n into → IsListed after processes linked
 IsListed-opened ports after processes links linked n into listed free bound outlined opens = record {
   receives = receives;
@@ -62,6 +63,7 @@ IsListed-opened ports after processes links linked n into listed free bound outl
         ap (λ p. option_map (λ (text : End × List ℕ). text.0) (text_at processes p k)) (process_at-same ports after end outlined)
         ∙ listed.has end k (sym (bound.others end (not_into end (Given k) h (λ e. cc))) ∙ h)
 
+-- A sender that is added at a free output keeps ports and connections in agreement.
 pub IsListed-sent : (ports after : List Port) (processes : List Begun) (links linked : List Link) (n k : ℕ) (out : End) → IsListed ports processes links → binding_at ports out ≡ Some Free → Rebound ports after out (Sends n k) → SameOutline ports after → SendsOne links linked n k out → IsListed after processes linked
 IsListed-sent ports after processes links linked n k out listed free bound outlined sends_one = record {
   receives = λ end c h. sends_one.same c ∙ listed.receives end c (sym (bound.others end (not_out end (Receives c) h (λ e. cc))) ∙ h);
@@ -104,6 +106,7 @@ IsListed-sent ports after processes links linked n k out listed free bound outli
             let binding : Sends n k ≡ Sends c j = cc (new.0, new.1) in
             ap (binding_at after) (sym new.2) ∙ bound.at ∙ ap Some binding
 
+-- A text that is given to a free input keeps ports and texts in agreement.
 pub IsListed-given : (ports after : List Port) (processes texted : List Begun) (links : List Link) (p k : ℕ) (input : End) (text : List ℕ) → IsListed ports processes links → binding_at ports input ≡ Some Free → process_at ports input ≡ p → Rebound ports after input (Given k) → SameOutline ports after → GivesOne processes texted p k input text → IsListed after texted links
 IsListed-given ports after processes texted links p k input text listed free owner bound outlined gives = record {
   receives = λ end c h. listed.receives end c (sym (bound.others end (not_input end (Receives c) h (λ e. cc))) ∙ h);
@@ -149,6 +152,7 @@ IsListed-given ports after processes texted links p k input text listed free own
             let same : input ≡ end = ap (λ (x : End × List ℕ). x.0) new.2 in
             (ap (binding_at after) (sym same) ∙ bound.at ∙ ap (λ m. Some (Given m)) (sym new.1), process_at-same ports after end outlined ∙ ap (process_at ports) (sym same) ∙ owner ∙ sym new.0)
 
+-- Opening a connection at an input keeps every receiver an input.
 pub IsSided-opened : (ports after : List Port) (processes : List Begun) (links linked : List Link) (n : ℕ) (into : End) → IsSided ports processes links → is_input_at ports into ≡ Some true → is_stream_at ports into ≡ true → SameOutline ports after → OpensOne links linked n into → IsSided after processes linked
 IsSided-opened ports after processes links linked n into sided side stream outlined opens = record {
   into = at;
@@ -168,6 +172,7 @@ IsSided-opened ports after processes links linked n into sided side stream outli
         by (inr new) =
             (is_input_at-same ports after end outlined ∙ ap (is_input_at ports) (sym new.1) ∙ side, is_stream_at-same ports after end outlined ∙ ap (is_stream_at ports) (sym new.1) ∙ stream)
 
+-- Adding a sender at an output keeps every sender an output.
 pub IsSided-sent : (ports after : List Port) (processes : List Begun) (links linked : List Link) (n k : ℕ) (out : End) → IsSided ports processes links → is_input_at ports out ≡ Some false → SameOutline ports after → SendsOne links linked n k out → IsSided after processes linked
 IsSided-sent ports after processes links linked n k out sided side outlined sends_one = record {
   into = λ c end h.
@@ -186,6 +191,7 @@ IsSided-sent ports after processes links linked n k out sided side outlined send
         by (inl old) = sided.sender c j end old
         by (inr new) = ap (is_input_at ports) (sym new.2) ∙ side
 
+-- Giving a text that fits an input keeps every text at an input that it fits.
 pub IsSided-given : (ports after : List Port) (processes texted : List Begun) (links : List Link) (p k : ℕ) (input : End) (text : List ℕ) → IsSided ports processes links → is_input_at ports input ≡ Some true → FitsPort (slice_get ports input.port) text → length text ≤ 1048576 → SameOutline ports after → GivesOne processes texted p k input text → IsSided after texted links
 IsSided-given ports after processes texted links p k input text sided side fits short outlined gives = record {
   into = λ c end h.

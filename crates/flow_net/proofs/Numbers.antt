@@ -9,6 +9,7 @@ use Rattle.flow_net.specs.declared.draft.Port.{Port}
 abbrev pub number_at : (Port → ℕ) → List Port → ℕ → ℕ → ℕ
 number_at count ports g e = sum_by count (take g ports) + e
 
+-- The number of an element is below the number of all elements.
 pub number-within : (count : Port → ℕ) (ports : List Port) (g e : ℕ) (port : Port) → slice_get ports g ≡ Some port → e < count port → number_at count ports g e < sum_by count ports
 number-within count [] g e port here within = absurd (cc)
 number-within count (p ∷ ports) zero e port here within =
@@ -17,6 +18,7 @@ number-within count (p ∷ ports) zero e port here within =
     omega (arith, sum_by-cons count p ports)
 number-within count (p ∷ ports) (suc g) e port here within = omega (arith, number-within count ports g e port here within, sum_by-cons count p ports, sum_by-cons count p (take g ports))
 
+-- Two elements with one number are the same.
 pub number-same : (count : Port → ℕ) (ports : List Port) (g e h f : ℕ) (port other : Port) → slice_get ports g ≡ Some port → slice_get ports h ≡ Some other → e < count port → f < count other → number_at count ports g e ≡ number_at count ports h f → (g ≡ h) × (e ≡ f)
 number-same count [] g e h f port other here there low high same = absurd (cc)
 number-same count (p ∷ ports) zero e zero f port other here there low high same = (refl, omega arith)
@@ -41,6 +43,7 @@ pub record Numbered (count : Port → ℕ) (ports : List Port) (i : ℕ) : Type 
   pub within : element < count port
   pub number : number_at count ports place element ≡ i
 
+-- Each number below that of all elements is some element's.
 pub number-each : (count : Port → ℕ) (ports : List Port) (i : ℕ) → i < sum_by count ports → Numbered count ports i
 number-each count [] i within = absurd (omega arith)
 number-each count (p ∷ ports) i within = by (cases_lt i (count p)) (λ past. number-each count ports (i - count p) (omega (arith, past, sum_by-cons count p ports)))

@@ -27,6 +27,7 @@ pub record FromOption (ports : List Port) (texts : List (End × List ℕ)) (i : 
   pub option : is_stream_at ports end ≡ false
   pub at : place_at ports end ≡ i
 
+-- Each option of a process comes from a text that was given to one of its ports.
 pub option_from : (ports : List Port) (texts : List (End × List ℕ)) (m i : ℕ) (text : List ℕ) → slice_get (options_of ports texts) m ≡ Some (i, text) → FromOption ports texts i text
 option_from ports [] m i text here = absurd (cc)
 option_from ports (x ∷ xs) m i text here = by (is_stream_at ports x.0) refl m here (λ k at. option_from ports xs k i text at)

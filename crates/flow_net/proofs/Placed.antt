@@ -15,6 +15,7 @@ use Rattle.flow_net.specs.Sound.{IsSound, IsPort, IsLink, IsPlaced, into_of, sen
 use Rattle.flow_net.specs.Finishes.{size_of, count_of, capacity_of}
 use Rattle.flow_net.proofs.Steps.{map_some, then_some}
 
+-- A port has at most as many bound elements as it has elements.
 pub size_of-within : (xs : List Binding) → size_of xs ≤ length xs
 size_of-within [] = omega arith
 size_of-within (x ∷ xs) = by (size_of xs) (is_free x) (size_of-within xs)
@@ -38,6 +39,7 @@ count_of-few port few = by (is_stream port.spec.class) port.spec.array
 pub elements-few : (n : ℕ) (ports : List Port) → ((g : ℕ) (p : Port) → slice_get ports g ≡ Some p → IsPort n p) → (g : ℕ) (p : Port) → slice_get ports g ≡ Some p → length p.elements ≤ 512
 elements-few n ports all g p is = omega (arith, (all g p is).room, room_of-few p.spec.array)
 
+-- No port has more elements than the limit.
 pub counts-few : (n : ℕ) (ports : List Port) (counts : List ℕ) → ((g : ℕ) (p : Port) → slice_get ports g ≡ Some p → IsPort n p) → counts ≡ map count_of ports → (g m : ℕ) → slice_get counts g ≡ Some m → m ≤ 512
 counts-few n ports counts all are g m is =
     let found = map_some count_of (slice_get ports g) m (sym (slice_get-map count_of ports g) ∙ ap (λ (xs : List ℕ). slice_get xs g) (sym are) ∙ is) in
@@ -52,6 +54,7 @@ IsPlaced-bound n ports end b all is =
       element = omega (arith, within, elements-few n ports all end.port found.0 found.1);
     }
 
+-- The capacity of a connection is at least one and at most the limit.
 pub capacity_of-small : (link : Link) → IsLink link → (1 ≤ capacity_of link) × (capacity_of link ≤ 1024)
 capacity_of-small link is = by link.capacity is.capacity
   where
@@ -63,8 +66,10 @@ capacity_of-small link is = by link.capacity is.capacity
 pub into-placed : (draft : Draft) → IsSound draft → (c : ℕ) (end : End) → into_of draft.links c ≡ Some end → IsPlaced draft.ports end
 into-placed draft sound c end is = IsPlaced-bound (length draft.processes) draft.ports end (Receives c) sound.ports (sound.listed.received end c is)
 
+-- Each sender of a connection of a sound draft is a port of it.
 pub sender-placed : (draft : Draft) → IsSound draft → (c k : ℕ) (end : End) → sender_at draft.links c k ≡ Some end → IsPlaced draft.ports end
 sender-placed draft sound c k end is = IsPlaced-bound (length draft.processes) draft.ports end (Sends c k) sound.ports (sound.listed.sent end c k is)
 
+-- Each text of a sound draft is given to a port of it.
 pub text-placed : (draft : Draft) → IsSound draft → (p k : ℕ) (end : End) (text : List ℕ) → text_at draft.processes p k ≡ Some (end, text) → IsPlaced draft.ports end
 text-placed draft sound p k end text is = IsPlaced-bound (length draft.processes) draft.ports end (Given k) sound.ports (sound.listed.given p k end text is).0

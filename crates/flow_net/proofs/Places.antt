@@ -5,6 +5,7 @@ use Rattle.std.proofs.lemmas.Bool.{false≢true}
 use Rattle.std.proofs.lemmas.Bool.Decides.{nat_tests}
 use Rattle.flow_net.specs.Drafts.{updated}
 
+-- Two numbers are the same or not.
 pub same_or_not : (a b : ℕ) → (a ≡ b) ⊎ (a ≢ b)
 same_or_not a b = by (nat_eq a b) refl
   where
@@ -18,11 +19,13 @@ slice_set-updated f [] i d y is = refl
 slice_set-updated f (x ∷ xs) zero d y is = ap (λ z. z ∷ xs) is
 slice_set-updated f (x ∷ xs) (suc i) d y is = ap (λ zs. x ∷ zs) (slice_set-updated f xs i d y is)
 
+-- A member that was updated is its update.
 pub slice_get-updated_same : {A : Type 0} (f : A → A) (xs : List A) (i : ℕ) → slice_get (updated f xs i) i ≡ option_map f (slice_get xs i)
 slice_get-updated_same f [] i = refl
 slice_get-updated_same f (x ∷ xs) zero = refl
 slice_get-updated_same f (x ∷ xs) (suc i) = slice_get-updated_same f xs i
 
+-- All other members stay as they were.
 pub slice_get-updated_other : {A : Type 0} (f : A → A) (xs : List A) (i k : ℕ) → k ≢ i → slice_get (updated f xs i) k ≡ slice_get xs k
 slice_get-updated_other f [] i k ne = refl
 slice_get-updated_other f (x ∷ xs) zero zero ne = absurd (ne refl)
@@ -30,16 +33,19 @@ slice_get-updated_other f (x ∷ xs) zero (suc k) ne = refl
 slice_get-updated_other f (x ∷ xs) (suc i) zero ne = refl
 slice_get-updated_other f (x ∷ xs) (suc i) (suc k) ne = slice_get-updated_other f xs i k (λ e. ne (ap suc e))
 
+-- An update keeps the length.
 pub length-updated : {A : Type 0} (f : A → A) (xs : List A) (i : ℕ) → length (updated f xs i) ≡ length xs
 length-updated f [] i = refl
 length-updated f (x ∷ xs) zero = refl
 length-updated f (x ∷ xs) (suc i) = ap suc (length-updated f xs i)
 
+-- What is set at a place that is there stands there.
 pub slice_get-set_is : {A : Type 0} (xs : List A) (i : ℕ) (y : A) → IsSome (slice_get xs i) → slice_get (slice_set xs i y) i ≡ Some y
 slice_get-set_is [] i y there = absurd (false≢true there)
 slice_get-set_is (x ∷ xs) zero y there = refl
 slice_get-set_is (x ∷ xs) (suc i) y there = slice_get-set_is xs i y there
 
+-- All other places keep what they have.
 pub slice_get-set_other : {A : Type 0} (xs : List A) (i k : ℕ) (y : A) → k ≢ i → slice_get (slice_set xs i y) k ≡ slice_get xs k
 slice_get-set_other [] i k y ne = refl
 slice_get-set_other (z ∷ xs) zero zero y ne = absurd (ne refl)

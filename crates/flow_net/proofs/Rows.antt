@@ -33,6 +33,7 @@ pub record FromPort (ports : List Port) (p : ℕ) (s : Bool) (i : ℕ) (row : Po
   pub is : row_of port ≡ row
   pub place : sum_by (on_side p s) (take number ports) ≡ i
 
+-- Each row of a process's table comes from one of its ports.
 pub row_from : (ports : List Port) (p : ℕ) (s : Bool) (i : ℕ) (row : PortRow) → slice_get (rows_of ports p s) i ≡ Some row → FromPort ports p s i row
 row_from [] p s i row here = absurd (cc)
 row_from (port ∷ ports) p s i row here = by (is_side p s port) refl i here (λ k at. row_from ports p s k row at)

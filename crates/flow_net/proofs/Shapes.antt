@@ -31,6 +31,7 @@ before-bound (port ∷ ports) (suc g) e b zero p s = refl
 before-bound (port ∷ ports) zero e b (suc k) p s = refl
 before-bound (port ∷ ports) (suc g) e b (suc k) p s = omega (arith, before-bound ports g e b k p s, sum_by-cons (on_side p s) port (take k (bound ports (record { port = g; element = e }) b)), sum_by-cons (on_side p s) port (take k ports))
 
+-- Binding a port keeps the ports of each process those of its kind.
 pub IsShaped-bound : (kinds : List KindSpec) (processes : List Begun) (ports : List Port) (end : End) (b : Binding) → IsShaped kinds processes ports → IsShaped kinds processes (bound ports end b)
 IsShaped-bound kinds processes ports end b shaped = record { each = each; places = places }
   where
@@ -52,6 +53,7 @@ IsShaped-bound kinds processes ports end b shaped = record { each = each; places
         let moved : port.place ≡ sum_by (on_side port.process port.input) (take g ports) = subst (λ (q : Port). q.place ≡ sum_by (on_side q.process q.input) (take g ports)) old.2 (shaped.places g old.0 old.1) in
         moved ∙ sym (before-bound ports end.port end.element b g port.process port.input)
 
+-- Joining two ports keeps the ports of each process those of its kind.
 pub IsShaped-joined : (kinds : List KindSpec) (processes : List Begun) (ports : List Port) (links : List Link) (out into : End) (link : Option ℕ) → IsShaped kinds processes ports → IsShaped kinds processes (joined_ports ports links out into link)
 IsShaped-joined kinds processes ports links out into None shaped = IsShaped-bound kinds processes _ out _ (IsShaped-bound kinds processes ports into _ shaped)
 IsShaped-joined kinds processes ports links out into (Some c) shaped = IsShaped-bound kinds processes ports out _ shaped

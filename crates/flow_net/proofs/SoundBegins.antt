@@ -206,6 +206,7 @@ pub record KindFor (kinds : List KindSpec) (processes : List Begun) (name : List
   pub here : slice_get kinds place ≡ Some kind
   pub room : length processes < 128
 
+-- A kind that was found is one of the table, under a name that is free.
 pub KindFor-ok : (kinds : List KindSpec) (processes : List Begun) (name wanted : List ℕ) (kind : KindSpec) → kind_for kinds processes name wanted ≡ Ok kind → KindFor kinds processes name kind
 KindFor-ok kinds processes name wanted kind is =
     let new = bind_ok (refused_if (is_some (process_named processes name)) _) _ kind is in
@@ -224,6 +225,7 @@ KindFor-ok kinds processes name wanted kind is =
       room = grind (arith, nat_tests, test);
     }
 
+-- A process that is begun keeps a draft sound.
 pub IsSound-begun : (draft : Draft) (name wanted : List ℕ) (kind : KindSpec) → IsSound draft → kind_for draft.kinds draft.processes name wanted ≡ Ok kind → IsSound (with_process draft name kind)
 IsSound-begun draft name wanted kind sound ok = record {
   kinds = sound.kinds;

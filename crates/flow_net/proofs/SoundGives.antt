@@ -27,6 +27,7 @@ pub record IsOpen (ports : List Port) (input : End) : Type 0 where
   pub there : IsThere ports receiver true input
   pub free : binding_at ports input ≡ Some Free
 
+-- An input that was found for a text is free.
 pub IsOpen-for : (processes : List Begun) (ports : List Port) (n : ℕ) (to : List ℕ) (into : PortRef) (input : End) → ((g : ℕ) (p : Port) → slice_get ports g ≡ Some p → IsPort n p) → input_for processes ports to into ≡ Ok input → IsOpen ports input
 IsOpen-for processes ports n to into input all is =
     let receiver = bind_ok (process_of_name processes to) _ input is in
@@ -41,6 +42,7 @@ IsOpen-for processes ports n to into input all is =
       free = free_at ports end.0 there.bound (refused_ok _ _ unbound.0 unbound.1);
     })
 
+-- There is a member at each place within a list.
 pub some_at : {X : Type 0} (xs : List X) (i : ℕ) → i < length xs → (x : X) × (slice_get xs i ≡ Some x)
 some_at [] i within = absurd (omega arith)
 some_at (x ∷ xs) zero within = (x, refl)
@@ -52,6 +54,7 @@ process_at-within ports n end all is =
     let found = then_some (λ (p : Port). slice_get p.elements end.element) (slice_get ports end.port) Free is in
     subst (λ (m : ℕ). m < n) (sym (ap (λ (o : Option Port). option_map_or (λ (p : Port). p.process) o 0) found.1)) (all end.port found.0 found.1).process
 
+-- A text that is given keeps a draft sound.
 pub IsSound-given : (draft : Draft) (text to : List ℕ) (into : PortRef) (input : End) → IsSound draft → input_for draft.processes draft.ports to into ≡ Ok input → FitsPort (slice_get draft.ports input.port) text → length text ≤ 1048576 → IsSound (given draft input text)
 IsSound-given draft text to into input sound ok fits short = record {
   kinds = sound.kinds;

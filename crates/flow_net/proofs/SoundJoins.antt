@@ -192,6 +192,7 @@ module _ (ports : List Port) (processes : List Begun) (links : List Link) (n : �
       by None is room = Joins-new is room
       by (Some c) is room = Joins-old c is room
 
+-- A connection that may be made keeps a draft sound.
 pub IsSound-joined : (draft : Draft) (from : List ℕ) (out : PortRef) (to : List ℕ) (into : PortRef) (capacity : Option ℕ) (output input : End) (u : Unit {0}) → IsSound draft → ends_of draft.processes draft.ports from out to into ≡ Ok (output, input) → may_join draft.ports draft.links from out to into capacity output input ≡ Ok u → IsSound (joined draft output input capacity)
 IsSound-joined draft from out to into capacity output input u sound ends may =
     let there = AreThere-ends draft.processes draft.ports (length draft.processes) from out to into (output, input) sound.ports ends in

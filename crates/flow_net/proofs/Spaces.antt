@@ -26,12 +26,14 @@ at_none : (test : Bool) (n : ℕ) → cond test (Some n) None ≡ None → test 
 at_none true n e = cc
 at_none false n e = refl
 
+-- A text with a separator splits into what is before the first, and the pieces of what is behind it.
 pub split_some : (w : List ℕ) (end : ℕ) → position ends w ≡ Some end → slice_split ends w ≡ take end w ∷ slice_split ends (drop (end + 1) w)
 split_some w end found =
     let at = at_some (ltb (position_or_len ends w) (length w)) (position_or_len ends w) end found in
     let within : position_or_len ends w < length w = grind (arith, nat_tests, at.0) in
     subst (λ (n : ℕ). slice_split ends w ≡ take n w ∷ slice_split ends (drop (n + 1) w)) at.1 (slice_split_first ends w 0 within)
 
+-- A text without a separator is one piece.
 pub split_none : (w : List ℕ) → position ends w ≡ None → slice_split ends w ≡ w ∷ []
 split_none w found =
     let at = at_none (ltb (position_or_len ends w) (length w)) (position_or_len ends w) found in

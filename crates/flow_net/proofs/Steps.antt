@@ -10,10 +10,12 @@ use Rattle.flow_net.specs.Sound.{into_of, sender_at, text_at}
 use Rattle.flow_net.proofs.Places.{same_or_not, slice_get-updated_same, slice_get-updated_other}
 use Rattle.flow_net.proofs.Wiring.{slice_get-append_keeps, slice_get-push_end, slice_get-push_cases}
 
+-- A mapped option has a value only where the option has.
 pub map_some : {A B : Type 0} (f : A → B) (o : Option A) (y : B) → option_map f o ≡ Some y → (x : A) × (o ≡ Some x) × (f x ≡ y)
 map_some f None y is = absurd (cc)
 map_some f (Some x) y is = (x, refl, cc)
 
+-- Two searches find something only where the first does and then the second.
 pub then_some : {A B : Type 0} (f : A → Option B) (o : Option A) (y : B) → option_and_then f o ≡ Some y → (x : A) × (o ≡ Some x) × (f x ≡ Some y)
 then_some f None y is = absurd (cc)
 then_some f (Some x) y is = (x, refl, is)
@@ -39,6 +41,7 @@ pub record GivesOne (processes after : List Begun) (p k : ℕ) (input : End) (te
   pub keeps : (q j : ℕ) (x : End × List ℕ) → text_at processes q j ≡ Some x → text_at after q j ≡ Some x
   pub cases : (q j : ℕ) (x : End × List ℕ) → text_at after q j ≡ Some x → (text_at processes q j ≡ Some x) ⊎ ((q ≡ p) × (j ≡ k) × ((input, text) ≡ x))
 
+-- A connection without senders that is put at the end is the one that is opened.
 pub OpensOne-push : (links : List Link) (link : Link) → link.senders ≡ [] → OpensOne links (links ++ link ∷ []) (length links) link.into
 OpensOne-push links link none = record {
   opened = ap (option_map (λ (l : Link). l.into)) (slice_get-push_end links link);
@@ -124,6 +127,7 @@ module _ {X Y : Type 0} (part : X → List Y) (grown : X → X) (y : Y) (grows :
       by (inl e) = last e (slice_get-push_cases (part x) y z j (at e))
       by (inr ne) = inl (ap (option_and_then (λ x. slice_get (part x) j)) (sym (slice_get-updated_other grown xs n c ne)) ∙ is)
 
+-- A connection with one more sender is the one that the sender is added to.
 pub SendsOne-updated : (links : List Link) (n : ℕ) (link : Link) (out : End) (capacity : Option ℕ) → slice_get links n ≡ Some link → SendsOne links (updated (with_sender out capacity) links n) n (length link.senders) out
 SendsOne-updated links n link out capacity here = record {
   same = same;
@@ -146,6 +150,7 @@ SendsOne-updated links n link out capacity here = record {
             ∙ into_same (slice_get links c)
         by (inr ne) = ap (option_map (λ (l : Link). l.into)) (slice_get-updated_other (with_sender out capacity) links n c ne)
 
+-- A process with one more text is the one that the text is given to.
 pub GivesOne-updated : (processes : List Begun) (p : ℕ) (begun : Begun) (input : End) (text : List ℕ) → slice_get processes p ≡ Some begun → GivesOne processes (updated (with_text input text) processes p) p (length begun.texts) input text
 GivesOne-updated processes p begun input text here = record {
   added = grown_added (λ (b : Begun). b.texts) (with_text input text) (input, text) (λ b. refl) processes p begun here;

@@ -11,9 +11,11 @@ use Rattle.flow_net.specs.Sound.{is_input_at}
 use Rattle.flow_net.proofs.Places.{same_or_not}
 use Rattle.flow_net.proofs.Bindings.{binding_at-bound_same, binding_at-bound_other}
 
+-- Two elements of one port and one place are the same.
 pub same_end : (e f : End) → e.port ≡ f.port → e.element ≡ f.element → e ≡ f
 same_end e f p q = ap (λ n. let end : End = record { port = n; element = e.element } in end) p ∙ ap (λ n. let end : End = record { port = f.port; element = n } in end) q
 
+-- Two elements are the same or not.
 pub same_end_or_not : (e f : End) → (e ≡ f) ⊎ (e ≢ f)
 same_end_or_not e f = by (same_or_not e.port f.port) (same_or_not e.element f.element)
   where
@@ -27,6 +29,7 @@ pub record Rebound (ports after : List Port) (end : End) (binding : Binding) : T
   pub at : binding_at after end ≡ Some binding
   pub others : (other : End) → other ≢ end → binding_at after other ≡ binding_at ports other
 
+-- Binding a port that is there changes its binding alone.
 pub Rebound-bound : (ports : List Port) (end : End) (binding : Binding) → IsSome (binding_at ports end) → Rebound ports (bound ports end binding) end binding
 Rebound-bound ports end binding there = record {
   at = binding_at-bound_same ports end.port end.element binding there;
@@ -41,6 +44,7 @@ outline port = record port { elements = [] }
 abbrev pub SameOutline : List Port → List Port → Type 0
 SameOutline ports after = (g : ℕ) → option_map outline (slice_get after g) ≡ option_map outline (slice_get ports g)
 
+-- Binding a port changes no port but for its bindings.
 pub SameOutline-bound : (ports : List Port) (end : End) (binding : Binding) → SameOutline ports (bound ports end binding)
 SameOutline-bound ports end binding = at ports end.port
   where
@@ -55,6 +59,7 @@ SameOutline-bound ports end binding = at ports end.port
 same_by_outline : {X : Type 0} (f : Option Port → X) → ((o : Option Port) → f (option_map outline o) ≡ f o) → (ports after : List Port) (g : ℕ) → SameOutline ports after → f (slice_get after g) ≡ f (slice_get ports g)
 same_by_outline f same ports after g outlined = sym (same (slice_get after g)) ∙ ap f (outlined g) ∙ same (slice_get ports g)
 
+-- Ports of one outline belong to the same processes.
 pub process_at-same : (ports after : List Port) (end : End) → SameOutline ports after → process_at after end ≡ process_at ports end
 process_at-same ports after end = same_by_outline (λ o. option_map_or (λ (port : Port). port.process) o 0) by ports after end.port
   where
@@ -62,6 +67,7 @@ process_at-same ports after end = same_by_outline (λ o. option_map_or (λ (port
     by None = refl
     by (Some port) = refl
 
+-- Ports of one outline are on the same sides.
 pub is_input_at-same : (ports after : List Port) (end : End) → SameOutline ports after → is_input_at after end ≡ is_input_at ports end
 is_input_at-same ports after end = same_by_outline (λ o. option_map (λ (port : Port). port.input) o) by ports after end.port
   where
@@ -69,6 +75,7 @@ is_input_at-same ports after end = same_by_outline (λ o. option_map (λ (port :
     by None = refl
     by (Some port) = refl
 
+-- Ports of one outline are streams alike.
 pub is_stream_at-same : (ports after : List Port) (end : End) → SameOutline ports after → is_stream_at after end ≡ is_stream_at ports end
 is_stream_at-same ports after end = same_by_outline is_stream_port by ports after end.port
   where
@@ -76,6 +83,7 @@ is_stream_at-same ports after end = same_by_outline is_stream_port by ports afte
     by None = refl
     by (Some port) = refl
 
+-- A text that fits a port fits it in each draft of the same outline.
 pub FitsPort-same : (ports after : List Port) (g : ℕ) (text : List ℕ) → SameOutline ports after → FitsPort (slice_get ports g) text → FitsPort (slice_get after g) text
 FitsPort-same ports after g text outlined = by (slice_get ports g) (slice_get after g) (outlined g)
   where
@@ -92,10 +100,12 @@ slice_get-append_keeps [] ys i x is = absurd (cc)
 slice_get-append_keeps (y ∷ xs) ys zero x is = is
 slice_get-append_keeps (y ∷ xs) ys (suc i) x is = slice_get-append_keeps xs ys i x is
 
+-- What is pushed stands at the end.
 pub slice_get-push_end : {X : Type 0} (xs : List X) (x : X) → slice_get (xs ++ x ∷ []) (length xs) ≡ Some x
 slice_get-push_end [] x = refl
 slice_get-push_end (y ∷ xs) x = slice_get-push_end xs x
 
+-- After a push each place has what it had, or is the last with what was pushed.
 pub slice_get-push_cases : {X : Type 0} (xs : List X) (x y : X) (i : ℕ) → slice_get (xs ++ x ∷ []) i ≡ Some y → (slice_get xs i ≡ Some y) ⊎ ((i ≡ length xs) × (x ≡ y))
 slice_get-push_cases [] x y zero is = inr (refl, cc)
 slice_get-push_cases [] x y (suc i) is = absurd (cc)

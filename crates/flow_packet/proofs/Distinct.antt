@@ -18,6 +18,7 @@ AreDistinct-added : (c : Chain) (cs : List Chain) (name : List ℕ) (t : Tree) (
 AreDistinct-added c cs name t true e none all more = (none, all)
 AreDistinct-added c cs name t false e none all more = (NoneNamed-attach_to c.0 cs name t e none, more)
 
+-- Chains have different names also after a packet was attached.
 pub AreDistinct-attach_to : (cs : List Chain) (name : List ℕ) (t : Tree) → AreDistinct cs → AreDistinct (attach_to cs name t)
 AreDistinct-attach_to [] name t all = (tt, tt)
 AreDistinct-attach_to (c ∷ cs) name t all = AreDistinct-added c cs name t (bytes_eq c.0 name) refl all.0 all.1 (AreDistinct-attach_to cs name t all.1)
@@ -38,6 +39,7 @@ AreDistinct-before : (c : Chain) (cs : List Chain) → NoneNamed c.0 cs → AreD
 AreDistinct-before (name, []) cs none all = all
 AreDistinct-before (name, t ∷ ts) cs none all = (none, all)
 
+-- Chains have different names also after a packet was detached.
 pub AreDistinct-detach_from : (cs : List Chain) (name : List ℕ) → AreDistinct cs → AreDistinct (detach_from cs name)
 AreDistinct-detach_from [] name all = tt
 AreDistinct-detach_from (c ∷ cs) name all =

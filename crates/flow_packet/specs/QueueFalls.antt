@@ -28,5 +28,6 @@ most_le-left (t ∷ ts) (suc taken) bare =
     let rest : All IsBare (take taken ts) = λ k d within. bare (suc k) d (omega arith) in
     omega (arith, first, most_le-left ts taken rest)
 
+-- The trees that a queue has still to spend weigh no more than the queue.
 pub most_le-weight-queue : (q : Inside) → IsQueue q → most (λ t. weight t + 1) q.packets.items ≤ weight_of_trees (to_trees (drop q.taken q.packets.items)) + 1
 most_le-weight-queue q h = most_le-left q.packets.items q.taken h.bare

@@ -47,6 +47,7 @@ parts_clean [] all = tt
 parts_clean (x ∷ []) all = elim (eqb (length x) 0) as (λ v. AllByRecursion Clean (cond v [] (x ∷ []))) [ true ↦ tt | false ↦ all ]
 parts_clean (x ∷ y ∷ more) all = (strip_clean x all.0, parts_clean (y ∷ more) all.1)
 
+-- A line has no line end in it.
 pub lines_clean : (bytes : List ℕ) → AllByRecursion Clean (lines bytes)
 lines_clean bytes = parts_clean (slice_split (λ b. eqb b 10) bytes) (split_clean bytes)
 

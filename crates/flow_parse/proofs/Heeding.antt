@@ -30,6 +30,7 @@ wrong_line old new n line reason false result e is if_headed otherwise = subst (
   of_unheaded None stands = (wrong reason, is, refl)
   of_unheaded (Some parts) stands = absurd (cc (stands.headed, e))
 
+-- A line that isn't a row stops the reading with its fault.
 pub stopped_line : (old new : Reader) (n : ℕ) (line : List ℕ) (stop : LineStop) (headed : Bool) (result : ParseStop) → old.headed ≡ headed → Tells line (Err stop) → StopsAs headed n stop result → Reads old n line new (Err result)
 stopped_line old new n line line_stops.NoMemory headed result e is gives = subst (λ (r : ParseStop). Reads old n line new (Err r)) (sym gives) tt
 stopped_line old new n line line_stops.Byte true result e is gives = wrong_line old new n line reasons.Byte true result e is (λ _. gives) (λ h. absurd cc)
@@ -39,6 +40,7 @@ stopped_line old new n line line_stops.Quote false result e is gives = wrong_lin
 stopped_line old new n line line_stops.Form true result e is gives = wrong_line old new n line reasons.Form true result e is (λ _. gives) (λ h. absurd cc)
 stopped_line old new n line line_stops.Form false result e is gives = wrong_line old new n line reasons.Form false result e is (λ h. absurd cc) (λ _. gives)
 
+-- A line that says something is read as heeding what it says.
 pub said_line : (old new : Reader) (n : ℕ) (line : List ℕ) (form : Form) (result : Result (Unit {0}) ParseStop) → LineIs line (says form) → Heeds old n form new result → Reads old n line new result
 said_line old new n line form (Ok u) is heeds = λ before stands. let h = heeds before stands in (says form, h.0, is, h.1, h.2)
 said_line old new n line form (Err (stops.Fault fault)) is heeds = λ before stands. (says form, is, heeds before stands)
@@ -69,6 +71,7 @@ after_none n End e = refl
 after_none n (InPort outer into to) e = refl
 after_none n (OutPort from out outer) e = refl
 
+-- Before the header anything else is the fault of a missing header.
 pub no_header : (old : Reader) (n : ℕ) (form : Form) → old.headed ≡ false → is_header form ≡ false → Heeds old n form old (Err (stops.Fault (record { line = n; reason = reasons.Header })))
 no_header old n form unheaded e = of_before where
   of_before : Heeds old n form old (Err (stops.Fault (record { line = n; reason = reasons.Header })))
@@ -85,6 +88,7 @@ after_header n End e = absurd cc
 after_header n (InPort outer into to) e = absurd cc
 after_header n (OutPort from out outer) e = absurd cc
 
+-- The header is heeded by noting that it was there.
 pub the_header : (old : Reader) (n : ℕ) (form : Form) → old.headed ≡ false → is_header form ≡ true → Heeds old n form (record old { headed = true }) (Ok tt)
 the_header old n form unheaded e = of_before where
   of_before : Heeds old n form (record old { headed = true }) (Ok tt)
@@ -95,11 +99,13 @@ the_header old n form unheaded e = of_before where
 abbrev pub ComesTo : Reader → ℕ → List (List ℕ) → Type 0
 ComesTo reader i lines = (before : Option Parts) × Stands reader before × ((outcome : Result NetText NetFault) → LeadsTo (i + 1) before (drop i lines) outcome → LeadsTo 1 None lines outcome)
 
+-- A line that was read is behind the reader, and what the lines come to is what the rest comes to.
 pub one_line_on : (old new : Reader) (i : ℕ) (line : List ℕ) (lines : List (List ℕ)) → drop i lines ≡ line ∷ drop (i + 1) lines → Reads old (i + 1) line new (Ok tt) → ComesTo old i lines → ComesTo new (i + 1) lines
 one_line_on old new i line lines cut reads there =
     let r = reads there.0 there.1 in
     (r.1, r.4, λ outcome rest. there.2 outcome (subst (λ (l : List (List ℕ)). LeadsTo (i + 1) there.0 l outcome) (sym cut) (r.0, r.2, rw r.3 rest)))
 
+-- A line that stops the reading is where the whole stops.
 pub stops_at : (old new : Reader) (i : ℕ) (line : List ℕ) (lines : List (List ℕ)) (stop : ParseStop) → drop i lines ≡ line ∷ drop (i + 1) lines → Reads old (i + 1) line new (Err stop) → ComesTo old i lines
     → Gives (Err stop) (λ outcome. LeadsTo 1 None lines outcome)
 stops_at old new i line lines (stops.Fault fault) cut reads there =

@@ -17,6 +17,7 @@ goes_on : (n : ℕ) (step : Result (Option Parts) NetFault) (more : List (List �
 goes_on n (Ok parts) more a b rest x y = rest parts x y
 goes_on n (Err fault) more a b rest x y = x ∙ sym y
 
+-- Lines lead to one outcome.
 pub one_outcome : (n : ℕ) (before : Option Parts) (lines : List (List ℕ)) (a b : Result NetText NetFault) → LeadsTo n before lines a → LeadsTo n before lines b → a ≡ b
 one_outcome n before [] a b x y = sym x ∙ y
 one_outcome n before (line ∷ more) a b x y =

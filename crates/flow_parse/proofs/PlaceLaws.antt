@@ -35,6 +35,7 @@ others : (key name : List ℕ) (old new : List (Vec ℕ × ℕ)) → KeepsOthers
 unfolding KeepsOthers
 others key name old new keeps differ = keeps (λ (k : Vec ℕ). is_eq (slice_cmp nat_cmp name k.items)) (λ x y. (eq_by_cmp_equiv nat_list_cmp_total).congr name x.items y.items) (λ k e. apart key name k.items differ e)
 
+-- A map in which a name was put finds it there, and all others where they were.
 pub put_place : (m n : BTreeMap (Vec ℕ) ℕ) (key : Vec ℕ) (place : ℕ) → Updates (λ (x y : Vec ℕ). slice_cmp nat_cmp x.items y.items) m n key (Some place)
     → (name : List ℕ) → place_in n name ≡ cond (bytes_eq key.items name) (Some place) (place_in m name)
 put_place m n key place h name = elim (bytes_eq key.items name) as (λ v. bytes_eq key.items name ≡ v → place_in n name ≡ cond v (Some place) (place_in m name)) [

@@ -82,6 +82,7 @@ decimal_word n fits = (λ e. let some = (decimal_is_IsNumeral n fits).0.0 in let
 
 -- words
 
+-- A name is a word.
 pub name_word : (name : List ℕ) → IsName name → IsWord name
 name_word name is = (λ e. let none : is_name [] ≡ true = subst (λ (n : List ℕ). is_name n ≡ true) e is.0 in absurd cc, is.1)
 
@@ -138,6 +139,7 @@ pub record Says (pieces : List (List Token)) (form : Form) : Type 0 where
   pub closed : Closed (joined pieces)
   pub is : LineIs (joined pieces) (says form)
 
+-- Pieces that are the row of a form say that form.
 pub says_form : (p : List Token) (more : List (List Token)) (form : Form) → Piece p → AllByRecursion Piece more → row_of form ≡ tokens_of (p ∷ more) → BeginsWell form → Says (p ∷ more) form
 says_form p more form is all row well = record { closed = pieces_closed p more is all; is = (tokens_of (p ∷ more), pieces_are_row p more is all, (row, well)) }
 
@@ -148,6 +150,7 @@ sender_row : (from : List ℕ) (out into : PortRef) (to : List ℕ) (capacity : 
     → (Word from ∷ []) ++ port (as_port out) ++ Arrow ∷ capacity ++ port (as_port into) ++ Word to ∷ [] ≡ Word from ∷ (port_piece out ++ (Arrow ∷ (capacity ++ (port_piece into ++ (Word to ∷ [])))))
 sender_row from out into to capacity = simp append_assoc
 
+-- A statement, as it is printed, says itself.
 pub statement_says : (s : Statement) → IsStatement s → Says (statement_pieces s) (said_by s)
 statement_says (Connect from out None to into) is =
     says_form (word from) (port_piece out ∷ (Arrow ∷ []) ∷ port_piece into ∷ word to ∷ []) (said_by (Connect from out None to into)) (word_piece from (name_word from is.0))
@@ -165,21 +168,25 @@ statement_says (OutPort from out outer) is =
     says_form (word (codes "outport")) (word from ∷ port_piece out ∷ (Arrow ∷ []) ∷ word outer ∷ []) (said_by (OutPort from out outer)) (word_piece (codes "outport") (λ e. cc, search rules))
     (word_piece from (name_word from is.0), (port_of out is.1, (arrow_piece, (word_piece outer (name_word outer is.2), tt)))) refl tt
 
+-- A process with its kind, as it is printed, says itself.
 pub process_says : (p : List ℕ × List ℕ) → IsName p.0 → IsName p.1 → Says ((Word p.0 ∷ Open ∷ Word p.1 ∷ Close ∷ []) ∷ []) (forms.Process p.0 p.1)
 process_says p name kind = says_form (Word p.0 ∷ Open ∷ Word p.1 ∷ Close ∷ []) [] (forms.Process p.0 p.1) (kinded_piece p.0 p.1 (name_word p.0 name) (name_word p.1 kind)) tt refl (name_free p.0 name)
 
+-- The names of a statement are names.
 pub statement_named : (s : Statement) → IsStatement s → is_named (said_by s) ≡ true
 statement_named (Connect from out capacity to into) is = rw (is.0.0, is.1.0.0, is.4.0.0, is.3.0) refl
 statement_named (Initial text to into) is = rw (is.2.0.0, is.1.0) refl
 statement_named (InPort outer to into) is = rw (is.0.0, is.2.0.0, is.1.0) refl
 statement_named (OutPort from out outer) is = rw (is.0.0, is.1.0.0, is.2.0) refl
 
+-- The numbers of a statement are within their limits.
 pub statement_numbered : (s : Statement) → IsStatement s → is_numbered (said_by s) ≡ true
 statement_numbered (Connect from out capacity to into) is = rw (element_numbered out.element is.1.1, capacity_numbered capacity is.2, element_numbered into.element is.4.1) refl
 statement_numbered (Initial text to into) is = element_numbered into.element is.2.1
 statement_numbered (InPort outer to into) is = element_numbered into.element is.2.1
 statement_numbered (OutPort from out outer) is = element_numbered out.element is.1.1
 
+-- The text of a statement is within its limit.
 pub statement_fits : (s : Statement) → IsStatement s → text_fits (said_by s) ≡ true
 statement_fits (Connect from out capacity to into) is = refl
 statement_fits (Initial text to into) is = le-leb (length text) 1048576 is.0.1
@@ -191,6 +198,7 @@ port_again p is = ap (build p.name) (element_again p.element is.1) where
   build : List ℕ → Option ℕ → PortRef
   build name element = record { name = name; element = element }
 
+-- What the line of a statement says is that statement.
 pub statement_again : (s : Statement) → IsStatement s → statements_of (said_by s) ≡ s ∷ []
 statement_again (Connect from out capacity to into) is =
     ap (λ (p : PortRef). Connect from p (option_and_then capacity_of (option_map decimal capacity)) to (port_ref (as_port into)) ∷ []) (port_again out is.1)
@@ -199,6 +207,7 @@ statement_again (Initial text to into) is = ap (λ (p : PortRef). Initial text t
 statement_again (InPort outer to into) is = ap (λ (p : PortRef). InPort outer to p ∷ []) (port_again into is.2)
 statement_again (OutPort from out outer) is = ap (λ (p : PortRef). OutPort from p outer ∷ []) (port_again out is.1)
 
+-- The line of a statement mentions the statement's processes, without kinds.
 pub statement_mentions : (s : Statement) → mentions_of (said_by s) ≡ map as_mention (names_of s)
 statement_mentions (Connect from out capacity to into) = refl
 statement_mentions (Initial text to into) = refl

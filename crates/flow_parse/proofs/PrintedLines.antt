@@ -39,6 +39,7 @@ stripped_same text c =
     let at : get_or text (length text - 1) 0 ≡ c.last = ap (λ (t : List ℕ). get_or t (length text - 1) 0) c.whole ∙ get_or_at c.front c.last [] 0 (length text - 1) (omega arith) in
     rw (at, ne_eqb c.last 13 c.stays) refl
 
+-- A closed line with its end before other text is the first of the lines.
 pub lines_first : (text rest : List ℕ) → Closed text → lines ((text ++ 10 ∷ []) ++ rest) ≡ text ∷ lines rest
 lines_first text rest c =
     let more = split_some rest in
@@ -49,6 +50,7 @@ all_append : (P : ℕ → Type 0) (xs ys : List ℕ) → AllByRecursion P xs →
 all_append P [] ys a b = b
 all_append P (x ∷ xs) ys a b = (a.0, all_append P xs ys a.1 b)
 
+-- A closed text behind bytes without a line end is closed.
 pub closed_behind : (xs ys : List ℕ) → AllByRecursion (λ b. b ≢ 10) xs → Closed ys → Closed (xs ++ ys)
 closed_behind xs ys all c = record {
   one_line = all_append (λ b. b ≢ 10) xs ys all c.one_line;
@@ -65,6 +67,7 @@ word_line : (word : List ℕ) → AllByRecursion (λ b. is_word_byte b ≡ true)
 word_line [] all = tt
 word_line (b ∷ bs) all = (not_word b 10 all.0 refl, word_line bs all.1)
 
+-- A word is a closed text.
 pub closed_word : (b : ℕ) (bs : List ℕ) → AllByRecursion (λ b. is_word_byte b ≡ true) (b ∷ bs) → Closed (b ∷ bs)
 closed_word b [] all = record { one_line = word_line (b ∷ []) all; front = []; last = b; whole = refl; stays = not_word b 13 all.0 refl }
 closed_word b (c ∷ cs) all = closed_behind (b ∷ []) (c ∷ cs) (not_word b 10 all.0 refl, tt) (closed_word c cs all.1)
@@ -76,5 +79,6 @@ doubled_line (b ∷ bs) all = elim (eqb b 39) as (λ v. AllByRecursion (λ b. b 
   | false ↦ (all.0, doubled_line bs all.1)
 ]
 
+-- A quoted text without line ends is a closed text.
 pub closed_quoted : (text : List ℕ) → AllByRecursion (λ b. b ≢ 10) text → Closed (39 ∷ doubled text ++ 39 ∷ [])
 closed_quoted text all = closed_behind (39 ∷ doubled text) (39 ∷ []) (λ e. omega arith, doubled_line text all) (record { one_line = (λ e. omega arith, tt); front = []; last = 39; whole = refl; stays = λ e. omega arith })

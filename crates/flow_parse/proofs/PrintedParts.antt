@@ -75,6 +75,7 @@ all_pass a b c d e g ea eb ec ed ee eg = rw (ea, eb, ec, ed, ee, eg) refl
 both_true : (a b : Bool) → a ≡ true → b ≡ true → (a && b) ≡ true
 both_true a b ea eb = rw (ea, eb) refl
 
+-- A line of a form that may stand there, within all limits, is refused for no reason.
 pub no_reason : (w : Where) (ls : Lines) (form : Form) → may_stand (at w ls) form ≡ true → is_named form ≡ true → is_numbered form ≡ true → kinds_agree (map (λ k. k.1) (mentions_in ls)) (mentions_of form) ≡ true
     → is_new_subnet (at w ls) form ≡ true → text_fits form ≡ true → (length (statements_in ls) + elsewhere w) + length (statements_of form) ≤ 4096 → reason_at (at w ls) form ≡ None
 no_reason w ls form stands named numbered agree new fits count =

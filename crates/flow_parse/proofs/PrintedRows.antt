@@ -68,6 +68,7 @@ pieces_row p (q ∷ more) is all =
 pub pieces_are_row : (p : List Token) (more : List (List Token)) → Piece p → AllByRecursion Piece more → IsRow (joined (p ∷ more)) (tokens_of (p ∷ more))
 pieces_are_row p more is all = ([], pieces_row p more is all, tt)
 
+-- Pieces of a line are, joined by spaces, a closed text.
 pub pieces_closed : (p : List Token) (more : List (List Token)) → Piece p → AllByRecursion Piece more → Closed (joined (p ∷ more))
 pieces_closed p [] is all = is.closed
 pieces_closed p (q ∷ more) is all = closed_behind (flat_map spelling p) (32 ∷ joined (q ∷ more)) is.closed.one_line (closed_behind (32 ∷ []) (joined (q ∷ more)) (λ e. omega arith, tt) (pieces_closed q more all.0 all.1))
@@ -90,6 +91,7 @@ closed_of_word (b ∷ bs) is = closed_word b bs is.1
 closed_mark : (bytes : List ℕ) (mark : ℕ) → AllByRecursion (λ b. b ≢ 10) bytes → mark ≢ 10 → mark ≢ 13 → Closed (bytes ++ mark ∷ [])
 closed_mark bytes mark all a b = closed_behind bytes (mark ∷ []) all (record { one_line = (a, tt); front = []; last = mark; whole = refl; stays = b })
 
+-- A word is a piece of a line.
 pub word_piece : (w : List ℕ) → IsWord w → Piece (Word w ∷ [])
 word_piece w is = record {
   first = Word w;
@@ -99,6 +101,7 @@ word_piece w is = record {
   closed = subst Closed (sym (append-nil w)) (closed_of_word w is);
 }
 
+-- An arrow is a piece of a line.
 pub arrow_piece : Piece (Arrow ∷ [])
 arrow_piece = record {
   first = Arrow;
@@ -108,6 +111,7 @@ arrow_piece = record {
   closed = record { one_line = (λ e. omega arith, (λ e. omega arith, tt)); front = 45 ∷ []; last = 62; whole = refl; stays = λ e. omega arith };
 }
 
+-- A quoted text without line ends is a piece of a line.
 pub quoted_piece : (text : List ℕ) → AllByRecursion (λ b. b ≢ 10) text → Piece (Quoted text ∷ [])
 quoted_piece text all = record {
   first = Quoted text;

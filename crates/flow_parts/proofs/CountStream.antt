@@ -225,6 +225,7 @@ begun c (Ended port) es p m q is s r d brings w few = absurd (let h : wishes.Rec
 begun c (Sent port t) es p m q is s r d brings w few = absurd (let h : wishes.Send (record { 0 = port }) (id_of t) ≡ wishes.Deactivate = sym s.grants.0 ∙ ap (λ (u : Poise CountState). u.wish) is in cc)
 begun c (Learned port level) es p m q is s r d brings w few = absurd s.is_ready
 
+-- Over a whole run it sends what its meaning makes of what it got.
 pub count_meaning : CountMeaning
 count_meaning c [] run brings w few = record { passed = λ e. refl; silent = λ e. refl; nothing = λ e. refl; counted = λ some. absurd (some refl) }
 count_meaning c (e ∷ es) run brings w few = begun c e es (fresh (fresh_count c) run.maker) run.runs.0 run.last refl run.runs.1 run.runs.2 run.idle brings w few

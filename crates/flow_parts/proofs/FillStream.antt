@@ -178,5 +178,6 @@ fill_run (Sent port t ∷ es) p q r l d a =
     rw (z, r.1.grants.0) (after-sent p.component p.held t p.component.place (got 0 es) (sent 0 es) r.1.grants.1 g)
 fill_run (Learned port level ∷ es) p q r l d a = absurd r.1.is_ready
 
+-- Over a whole run it sends what its meaning makes of what it got.
 pub fill_meaning : FillMeaning
 fill_meaning size told run l = Begun-filling size (got 0 told) (sent 0 told) (fill_run told (fresh (fresh_fill size) run.maker) run.last run.runs l run.idle tt refl)

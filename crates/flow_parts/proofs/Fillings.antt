@@ -23,6 +23,7 @@ pub data Begun (size : ℕ) (hand : Line) (x y : List Tree) : Type 0 where
   goes_on : (part : List Tree) (lines : List Line) (bracket : Tree) (x' y' : List Tree) → Opens size hand part lines → IsBracket bracket → Filling size x' y'
       → x ≡ part ++ bracket ∷ x' → y ≡ line_packets lines ++ bracket ∷ y' → Begun size hand x y
 
+-- What is made of a stream with an empty line in hand is a filling of it.
 pub Begun-filling : (size : ℕ) (x y : List Tree) → Begun size [] x y → Filling size x y
 Begun-filling size x y (ends lines o e) = rw e (last_part x lines o.normal o.filled)
 Begun-filling size x y (goes_on part lines bracket x' y' o b f e g) = rw (e, g) (part_and_bracket part lines bracket x' y' o.normal o.filled b f)
@@ -84,22 +85,27 @@ opens-none size (w ∷ ws) h = record {
   begins = ([], [], ap (λ (us : Line). us ∷ []) (sym (append-nil (w ∷ ws))));
 }
 
+-- At the end the line in hand is sent, if it isn't empty.
 pub Begun-end : (size : ℕ) (hand : Line) → IsHand size hand → Begun size hand [] (line_packets (rest_of hand))
 Begun-end size hand h = ends (rest_of hand) (opens-none size hand h) refl
 
+-- A bracket sends the line in hand, and then follows it.
 pub Begun-bracket : (size : ℕ) (hand : Line) (bracket : Tree) (x y : List Tree) → IsHand size hand → IsBracket bracket → Begun size [] x y → Begun size hand (bracket ∷ x) (line_packets (rest_of hand) ++ bracket ∷ y)
 Begun-bracket size hand bracket x y h b f = goes_on [] (rest_of hand) bracket x y (opens-none size hand h) b (Begun-filling size x y f) refl refl
 
+-- An empty word changes nothing.
 pub Begun-skip : (size : ℕ) (hand : Line) (t : Tree) (x y : List Tree) → IsNormal t → text_of t ≡ [] → Begun size hand x y → Begun size hand (t ∷ x) y
 Begun-skip size hand t x y n e (ends lines o f) = ends lines (opens-skip size hand t x lines n e o) f
 Begun-skip size hand t x y n e (goes_on part lines bracket x' y' o b f g h) =
     goes_on (t ∷ part) lines bracket x' y' (opens-skip size hand t part lines n e o) b f (ap (λ us. t ∷ us) g) h
 
+-- A word that is taken stands in the line in hand.
 pub Begun-take : (size : ℕ) (hand : Line) (t : Tree) (b : ℕ) (bs : List ℕ) (x y : List Tree) → IsNormal t → text_of t ≡ b ∷ bs → Begun size (hand ++ (b ∷ bs) ∷ []) x y → Begun size hand (t ∷ x) y
 Begun-take size hand t b bs x y n e (ends lines o f) = ends lines (opens-take size hand t x lines b bs n e o) f
 Begun-take size hand t b bs x y n e (goes_on part lines bracket x' y' o k f g h) =
     goes_on (t ∷ part) lines bracket x' y' (opens-take size hand t part lines b bs n e o) k f (ap (λ us. t ∷ us) g) h
 
+-- A word that doesn't fit sends the line in hand, and begins the next.
 pub Begun-break : (size : ℕ) (hand : Line) (t : Tree) (b : ℕ) (bs : List ℕ) (x y : List Tree) → IsNormal t → text_of t ≡ b ∷ bs → IsLine size hand
     → size < length (line_text hand) + 1 + length (b ∷ bs) → Begun size ((b ∷ bs) ∷ []) x y → Begun size hand (t ∷ x) (text_packet (line_text hand) ∷ y)
 Begun-break size hand t b bs x y n e l k (ends lines o f) = ends (hand ∷ lines) (opens-break size hand t x lines b bs n e l k o) (ap (λ us. text_packet (line_text hand) ∷ us) f)

@@ -55,6 +55,7 @@ lines-more : (xs : List ℕ) (n : ℕ) → n ≡ line_length xs → n < length x
 lines-more xs n e h =
     ap lines_of_parts (split-first xs) ∙ rw (← e, drop-cons xs n 0) (parts-more (take n xs) (drop (suc n) xs))
 
+-- A line that goes to the end of the bytes is the last, and ends there.
 pub line-last : (bytes : List ℕ) (from end : ℕ) → from < length bytes → end ≡ from + line_length (drop from bytes) → end ≡ length bytes → IsNextLine bytes from end end
 line-last bytes from end h e f =
     let l : length (drop from bytes) ≡ length bytes - from = grind (arith, common_steps) in
@@ -111,6 +112,7 @@ not_return bytes from end h l c g = elim (le-or-same from end l) [ inl m ↦ at_
         let P : List ℕ → Type 0 = λ l. get_or l (length l - 1) 0 ≡ 13 in
         none_return (subst P n g)
 
+-- A line with a carriage return before its end is cut before that.
 pub line-cut : (bytes : List ℕ) (from end : ℕ) → end ≡ from + line_length (drop from bytes) → end < length bytes → from < end → get_or bytes (end - 1) 0 ≡ 13 → IsNextLine bytes from (end - 1) (end + 1)
 line-cut bytes from end e h l c =
     let p = piece-length bytes from end h in
@@ -120,12 +122,15 @@ line-cut bytes from end e h l c =
     let t : take (length (take (end - from) (drop from bytes)) - 1) (take (end - from) (drop from bytes)) ≡ take (end - 1 - from) (drop from bytes) = rw (p, k) (take-take (end - 1 - from) (end - from) (drop from bytes) q) in
     line-more bytes from end (end - 1) e h (omega arith) (omega arith) (strip-yes (take (end - from) (drop from bytes)) g ∙ t)
 
+-- Any other line goes to its end.
 pub line-whole : (bytes : List ℕ) (from end : ℕ) → end ≡ from + line_length (drop from bytes) → end < length bytes → from ≤ end → (from < end → get_or bytes (end - 1) 0 ≡ 13 → ⊥) → IsNextLine bytes from end (end + 1)
 line-whole bytes from end e h l c =
     line-more bytes from end end e h l (omega arith) (strip-no (take (end - from) (drop from bytes)) (not_return bytes from end h l c))
 
+-- A line within the limit is made a packet, and sent.
 pub reads-made : (held : Held) (left : List (List ℕ)) (line : List ℕ) (rest : List (List ℕ)) → left ≡ line ∷ rest → (1048576 < length line → ⊥) → reads held left ≡ Wishes rest (with_made held Normal line) (send_first (next_id held))
 reads-made held left line rest e h = let t : nat_lt 1048576 (length line) ≡ false = grind (arith, nat_tests) in rw (e, t) refl
 
+-- A line beyond the limit is a failure, with its length.
 pub reads-long : (held : Held) (left : List (List ℕ)) (line : List ℕ) (rest : List (List ℕ)) → left ≡ line ∷ rest → 1048576 < length line → reads held left ≡ Fails left held (TextLimit (length line))
 reads-long held left line rest e h = let t : nat_lt 1048576 (length line) ≡ true = grind (arith, nat_tests) in rw (e, t) refl

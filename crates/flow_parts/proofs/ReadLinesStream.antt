@@ -82,6 +82,7 @@ spent : (es : List Happening) (p q : Poise Lines) → Good p → (p.wish ≡ wis
 spent [] p q g h r d = rw r (h (ap (λ (u : Poise Lines). u.wish) (sym r) ∙ d))
 spent (e ∷ es) p q g h r d = spent es r.0 q (allowed p e r.0 r.1) (step p e r.0 g r.1).1 r.2 d
 
+-- Over a whole run it sends what its meaning makes of what it got.
 pub read_lines_meaning : ReadLinesMeaning
 read_lines_meaning left [] run some = absurd (some refl)
 read_lines_meaning left (event ∷ events) run some =

@@ -89,6 +89,7 @@ words-some text taken h =
     let k : word_end text taken - word_start text taken ≡ run_length (drop (word_start text taken) text) = omega arith in
     sym (words-blanks xs) ∙ ap words start ∙ words-run (drop (word_start text taken) text) some ∙ rw (drop-drop, k) refl
 
+-- A text in which no word begins any more has no words left.
 pub words-none : (text : List ℕ) (taken : ℕ) → length text ≤ word_start text taken → words (drop taken text) ≡ []
 words-none text taken h =
     let xs = drop taken text in

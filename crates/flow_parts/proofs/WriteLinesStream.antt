@@ -64,5 +64,6 @@ wrote (e ∷ es) p q g r =
     rest ∙ ap (λ bs. bs ++ rendered_all (got 0 es)) s.1 ∙ append_assoc p.component (rendered_all (content_got 0 e)) (rendered_all (got 0 es))
     ∙ ap (λ bs. p.component ++ bs) (sym (flat_map-append (λ (packet : Tree). rendered (kind_of packet) (text_of packet)) (content_got 0 e) (got 0 es)))
 
+-- Over a whole run it sends what its meaning makes of what it got.
 pub write_lines_meaning : WriteLinesMeaning
 write_lines_meaning bytes told run = wrote told (fresh bytes run.maker) run.last (tt, refl) run.runs

@@ -59,12 +59,15 @@ next-connected state held answers.End = refl
 next-connected state held answers.Sent = went-connected state.leaving state held
 next-connected state held (answers.Level n) = refl
 
+-- What it does keeps what the hands ask of every component.
 pub count_obeys : (state : CountState) (held : Held) (answer : Answer) (outcome : Outcome CountState) → CountReady state held answer → CountNext state held answer outcome → Obeys count_shape (count_uses state) held outcome
 count_obeys state held answer outcome r is = subst (Obeys count_shape (count_uses state) held) (sym is) (lawful state held answer r).0
 
+-- Whatever it may be told next, it is ready for it.
 pub count_stays_ready : (state : CountState) (held : Held) (answer : Answer) (outcome : Outcome CountState) → CountReady state held answer → CountNext state held answer outcome → StaysReady CountReady outcome
 count_stays_ready state held answer outcome r is = subst (StaysReady CountReady) (sym is) (lawful state held answer r).1
 
+-- Its shape, and the ports that it uses, never change.
 pub count_steady : (state : CountState) (held : Held) (answer : Answer) (outcome : Outcome CountState) → CountNext state held answer outcome → IsSteady (λ _. count_shape) count_uses state outcome
 count_steady state held answer outcome is =
     let e = ap (λ (o : Outcome CountState). (component_after o).connected) is ∙ next-connected state held answer in

@@ -65,11 +65,14 @@ lawful state held answers.End r = end_came held state state.line r.0 r.1
 lawful state held answers.Sent r = went_on held state state.place refl r
 lawful state held (answers.Level n) r = absurd r
 
+-- What it does keeps what the hands ask of every component.
 pub fill_obeys : (state : FillState) (held : Held) (answer : Answer) (outcome : Outcome FillState) → FillReady state held answer → FillNext state held answer outcome → Obeys one_to_one uses_first held outcome
 fill_obeys state held answer outcome r is = subst (Obeys one_to_one uses_first held) (sym is) (lawful state held answer r).0
 
+-- Whatever it may be told next, it is ready for it.
 pub fill_stays_ready : (state : FillState) (held : Held) (answer : Answer) (outcome : Outcome FillState) → FillReady state held answer → FillNext state held answer outcome → StaysReady FillReady outcome
 fill_stays_ready state held answer outcome r is = subst (StaysReady FillReady) (sym is) (lawful state held answer r).1
 
+-- Its shape, and the ports that it uses, never change.
 pub fill_steady : (state : FillState) (held : Held) (answer : Answer) (outcome : Outcome FillState) → FillNext state held answer outcome → IsSteady (λ _. one_to_one) (λ _. uses_first) state outcome
 fill_steady state held answer outcome is = record { shape = refl; outputs = refl }

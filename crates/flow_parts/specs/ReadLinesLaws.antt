@@ -30,11 +30,14 @@ lawful left held answers.End r = absurd r
 lawful left held answers.Sent r = read held left r
 lawful left held (answers.Level n) r = absurd r
 
+-- What it does keeps what the hands ask of every component.
 pub read_lines_obeys : (left : List (List ℕ)) (held : Held) (answer : Answer) (outcome : Outcome (List (List ℕ))) → ReadLinesReady left held answer → ReadLinesNext left held answer outcome → Obeys none_to_one uses_first held outcome
 read_lines_obeys left held answer outcome r is = subst (Obeys none_to_one uses_first held) (sym is) (lawful left held answer r).0
 
+-- Whatever it may be told next, it is ready for it.
 pub read_lines_stays_ready : (left : List (List ℕ)) (held : Held) (answer : Answer) (outcome : Outcome (List (List ℕ))) → ReadLinesReady left held answer → ReadLinesNext left held answer outcome → StaysReady ReadLinesReady outcome
 read_lines_stays_ready left held answer outcome r is = subst (StaysReady ReadLinesReady) (sym is) (lawful left held answer r).1
 
+-- Its shape, and the ports that it uses, never change.
 pub read_lines_steady : (left : List (List ℕ)) (held : Held) (answer : Answer) (outcome : Outcome (List (List ℕ))) → ReadLinesNext left held answer outcome → IsSteady (λ _. none_to_one) (λ _. uses_first) left outcome
 read_lines_steady left held answer outcome is = record { shape = refl; outputs = refl }

@@ -85,11 +85,14 @@ lawful component held answers.End r = ((comes_same held, tt), λ s. (tt, r.1))
 lawful component held answers.Sent r = went_on held component r
 lawful component held (answers.Level n) r = absurd r
 
+-- What it does keeps what the hands ask of every component.
 pub words_obeys : (component : Words) (held : Held) (answer : Answer) (outcome : Outcome Words) → WordsReady component held answer → WordsNext component held answer outcome → Obeys one_to_one uses_first held outcome
 words_obeys component held answer outcome r is = subst (Obeys one_to_one uses_first held) (sym is) (lawful component held answer r).0
 
+-- Whatever it may be told next, it is ready for it.
 pub words_stays_ready : (component : Words) (held : Held) (answer : Answer) (outcome : Outcome Words) → WordsReady component held answer → WordsNext component held answer outcome → StaysReady WordsReady outcome
 words_stays_ready component held answer outcome r is = subst (StaysReady WordsReady) (sym is) (lawful component held answer r).1
 
+-- Its shape, and the ports that it uses, never change.
 pub words_steady : (component : Words) (held : Held) (answer : Answer) (outcome : Outcome Words) → WordsNext component held answer outcome → IsSteady (λ _. one_to_one) (λ _. uses_first) component outcome
 words_steady component held answer outcome is = record { shape = refl; outputs = refl }

@@ -24,11 +24,14 @@ stays bytes held answers.End = at_hand_idle held
 stays bytes held answers.Sent = at_hand_received held first_port
 stays bytes held (answers.Level n) = at_hand_idle held
 
+-- What it does keeps what the hands ask of every component.
 pub write_lines_obeys : (bytes : List ℕ) (held : Held) (answer : Answer) (outcome : Outcome (List ℕ)) → IsAtHand held answer → WriteLinesNext bytes held answer outcome → Obeys one_to_none uses_none held outcome
 write_lines_obeys bytes held answer outcome r is = subst (Obeys one_to_none uses_none held) (sym is) (obeys bytes held answer r)
 
+-- Whatever it may be told next, it is ready for it.
 pub write_lines_stays_ready : (bytes : List ℕ) (held : Held) (answer : Answer) (outcome : Outcome (List ℕ)) → IsAtHand held answer → WriteLinesNext bytes held answer outcome → StaysReady (λ (_ : List ℕ). IsAtHand) outcome
 write_lines_stays_ready bytes held answer outcome r is = subst (StaysReady (λ (_ : List ℕ). IsAtHand)) (sym is) (stays bytes held answer)
 
+-- Its shape, and the ports that it uses, never change.
 pub write_lines_steady : (bytes : List ℕ) (held : Held) (answer : Answer) (outcome : Outcome (List ℕ)) → WriteLinesNext bytes held answer outcome → IsSteady (λ _. one_to_none) (λ _. uses_none) bytes outcome
 write_lines_steady bytes held answer outcome is = record { shape = refl; outputs = refl }

@@ -14,6 +14,7 @@ use Rattle.flow_plan.specs.Network.{is_stream, elements_of, ports_of, spelled, s
 drop-more : {X : Type 0} (xs : List X) (i : ℕ) (d : X) → i < length xs → drop i xs ≡ get_or xs i d ∷ drop (i + 1) xs
 drop-more xs i d within = rw (add-one, drop-cons xs i d)
 
+-- A row of a table has no element where it isn't a stream, as many as it says where it is an array, and one otherwise.
 pub length_elements_of : (row : PortRow) → length (elements_of row) ≡ (if is_stream row.spec.class then (if row.spec.array then row.elements else 1) else 0)
 length_elements_of row = by (is_stream row.spec.class) row.spec.array
   where
@@ -41,11 +42,13 @@ elements_of-at row e within = by (is_stream row.spec.class) row.spec.array withi
         ap (λ n. slice_get ((let port : PortRef = record { name = row.spec.name; element = None } in port) ∷ []) n) (sym first)
     by false arrayed within = absurd (omega arith)
 
+-- A place of the left list is the same place of the two lists together.
 pub slice_get-left : {X : Type 0} (xs ys : List X) (i : ℕ) → i < length xs → slice_get (xs ++ ys) i ≡ slice_get xs i
 slice_get-left [] ys i within = absurd (omega arith)
 slice_get-left (x ∷ xs) ys zero within = refl
 slice_get-left (x ∷ xs) ys (suc i) within = slice_get-left xs ys i (omega arith)
 
+-- A place of the right list lies as much further on as the left one is long.
 pub slice_get-right : {X : Type 0} (xs ys : List X) (i j : ℕ) → i ≡ length xs + j → slice_get (xs ++ ys) i ≡ slice_get ys j
 slice_get-right [] ys i j is = ap (slice_get ys) (omega arith)
 slice_get-right (x ∷ xs) ys zero j is = absurd (omega arith)
@@ -64,6 +67,7 @@ pub ports_of-past : (rows : List PortRow) (i n m : ℕ) (d : PortRow) → i < le
 ports_of-past rows i n m d within is =
     ap (λ (ports : List PortRef). slice_get ports n) (ports_of-drop rows i d within) ∙ slice_get-right (elements_of (get_or rows i d)) (ports_of (drop (i + 1) rows)) n m is
 
+-- The rows from i on have the ports of row i and of those behind it.
 pub length-ports_of-drop : (rows : List PortRow) (i : ℕ) (d : PortRow) → i < length rows → length (ports_of (drop i rows)) ≡ length (elements_of (get_or rows i d)) + length (ports_of (drop (i + 1) rows))
 length-ports_of-drop rows i d within = ap length (ports_of-drop rows i d within) ∙ length-append (elements_of (get_or rows i d)) (ports_of (drop (i + 1) rows))
 
@@ -74,6 +78,7 @@ pub record Laid (tables : List PortTable) (p : ℕ) (process : Process) : Type 0
   pub inputs : length (ports_of table.inputs) ≡ process.inputs
   pub outputs : length (ports_of table.outputs) ≡ process.outputs
 
+-- Where all processes are laid out by their tables, each one is.
 pub LaidOut-at : (processes : List Process) (tables : List PortTable) (p : ℕ) (process : Process) → LaidOut processes tables → slice_get processes p ≡ Some process → Laid tables p process
 LaidOut-at [] [] p process laid here = absurd (cc)
 LaidOut-at [] (t ∷ ts) p process laid here = absurd laid

@@ -49,5 +49,6 @@ any-there p (y ∷ xs) (suc k) x there passes = or-right (p y) (list_any p xs) (
 pub numbers-same : (a b : ℕ) → a ≡ b → (a == b) ≡ true
 numbers-same a b same = grind (arith, nat_tests)
 
+-- Two equations are two comparisons that hold.
 pub both-same : (a b c d : ℕ) → a ≡ b → c ≡ d → ((a == b) && (c == d)) ≡ true
 both-same a b c d first second = and_from (a == b) (c == d) (numbers-same a b first) (numbers-same c d second)

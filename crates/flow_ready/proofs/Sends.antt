@@ -7,6 +7,7 @@ use Rattle.flow_model.specs.States.{is_sender}
 use Rattle.flow_model.specs.Plans.{comes_from, sends_at}
 use Rattle.flow_ready.proofs.Lookups.{position-there, any-there, both-same}
 
+-- An output that is a sender of some connection is found as one.
 pub sends-there : (n : Network) (p o : ℕ) → HasSender n p o → IsSome (sends_at n p o)
 sends-there n p o has =
     position-there (comes_from p o) n.connections has.number has.connection has.here

@@ -231,5 +231,6 @@ bundle_run : (es : List Happening) (q : Poise Bundle) → q.wish ≡ wishes.Deac
 bundle_run [] q d p phase st r = ends p q phase st r d
 bundle_run (e ∷ es) q d p phase st r = step es p r.0 q e phase st r.1 r.2 (bundle_run es q d)
 
+-- Over a whole run it sends what its meaning makes of what it got.
 pub bundle_meaning : BundleMeaning
 bundle_meaning told run = bundle_run told run.last run.idle (fresh components.Outside run.maker) Out (refl, inr refl, refl) run.runs

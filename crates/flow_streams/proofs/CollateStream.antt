@@ -676,6 +676,7 @@ first-steps fields n some one (Ended port) es p m q is s run d w = absurd (let h
 first-steps fields n some one (Sent port t) es p m q is s run d w = absurd (let h : wishes.Send (record { 0 = port }) (id_of t) ≡ wishes.Deactivate = sym s.grants.0 ∙ ap (λ (u : Poise CollateState). u.wish) is in cc)
 first-steps fields n some one (Learned port level) es p m q is s run d w = absurd s.is_ready
 
+-- Over a whole run it sends what its meaning makes of what it got.
 pub collate_meaning : CollateMeaning
 collate_meaning fields n [] some one run w = (sym (ap (bracketed fields None) (merge-none (full fields) (λ i. []) n 0 (λ f k l. refl))), omega arith, λ begun. absurd (begun refl))
 collate_meaning fields n (e ∷ es) some one run w = first-steps fields n some one e es (fresh (fresh_collate fields n) run.maker) run.runs.0 run.last refl run.runs.1 run.runs.2 run.idle w

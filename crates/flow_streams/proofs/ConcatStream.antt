@@ -207,6 +207,7 @@ begun n (Ended port) es p m q is s r d w = absurd (let h : wishes.Receive (recor
 begun n (Sent port t) es p m q is s r d w = absurd (let h : wishes.Send (record { 0 = port }) (id_of t) ≡ wishes.Deactivate = sym s.grants.0 ∙ ap (λ (u : Poise ConcatState). u.wish) is in cc)
 begun n (Learned port level) es p m q is s r d w = absurd s.is_ready
 
+-- Over a whole run it sends what its meaning makes of what it got.
 pub concat_meaning : ConcatMeaning
 concat_meaning n [] run w = (sym (got_from-none 0 (n + 1)), omega arith, λ some. absurd (some refl))
 concat_meaning n (e ∷ es) run w = begun n e es (fresh (fresh_concat (n + 1)) run.maker) run.runs.0 run.last refl run.runs.1 run.runs.2 run.idle w

@@ -133,6 +133,7 @@ map-single : (f : Tree → Tree) (xs : List Tree) → flat_map (λ t. f t ∷ []
 map-single f [] = refl
 map-single f (x ∷ xs) = ap (λ ys. f x ∷ ys) (map-single f xs)
 
+-- Over a whole run it sends what its meaning makes of what it got.
 pub copy_meaning : CopyMeaning
 copy_meaning n told run o below =
     let e = owed-to CopyReady CopyNext o (Good n o) (shared n o) (owed n o) (λ p e q g s. (stays n o p e q g s, step n o p e q below g s)) (fresh (fresh_copy n) run.maker) told run.last (refl, tt) run.runs in

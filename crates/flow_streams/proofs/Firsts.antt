@@ -23,6 +23,7 @@ moved (Some place) P Q f h = f place h
 pub within_before : (o : Option ℕ) (at n : ℕ) → 0 < at → IfSome o (λ place. place < n - (at - 1)) → IfSome o (λ place. at - 1 + place < n)
 within_before o at n l h = moved o (λ place. place < n - (at - 1)) (λ place. at - 1 + place < n) (λ place w. omega arith) h
 
+-- The first of the packets from one place earlier is the one there, or else the first behind it.
 pub one_before : (bytes : ℕ) (es : List ℕ) (ts : List Tree) (at : ℕ) (o : Option ℕ) → length es ≡ length ts → 0 < at → at ≤ length es → o ≡ first_of bytes (drop at es) (drop at ts)
     → or_later bytes (slice_index (drop (at - 1) es) 0) (packet_there (drop (at - 1) ts) 0) (drop 1 (drop (at - 1) es)) (drop 1 (drop (at - 1) ts)) o ≡ first_of bytes (drop (at - 1) es) (drop (at - 1) ts)
 one_before bytes es ts at o e l m is =
@@ -35,6 +36,7 @@ one_before bytes es ts at o e l m is =
     ap (or_later bytes (slice_index es' 0) (packet_there ts' 0) (drop 1 es') (drop 1 ts')) same
     ∙ sym (nonempty bytes es' ts' (length-drop (at - 1) es ∙ ap (λ n. n - (at - 1)) e ∙ sym (length-drop (at - 1) ts)) (omega (arith, length-drop (at - 1) es)))
 
+-- The place of the first packet lies among the places.
 pub one_within : (bytes : ℕ) (es : List ℕ) (ts : List Tree) (at : ℕ) (o : Option ℕ) (e : ℕ) (t : Tree) (us : List ℕ) (vs : List Tree) → 0 < at → at ≤ length es → IfSome o (λ place. at + place < length es)
     → IfSome (or_later bytes e t us vs o) (λ place. at - 1 + place < length es)
 one_within bytes es ts at o e t us vs l m w =

@@ -51,6 +51,7 @@ length-gathered h one two k =
 abbrev pub attaching : Holding → ℕ → ℕ → ℕ → Holding
 attaching h one two spare = record h { packets = attached h.packets one items two; spare = spare }
 
+-- Attaching a packet drops none.
 pub dropped-attaching : (h : Holding) (one two spare : ℕ) → HoldsTwo (held_of h) one two → h.dropped ≡ dropped_after h (attaching h one two spare)
 dropped-attaching h one two spare k = sym (none_dropped h (attaching h one two spare) (omega (arith, length-gathered (held_of h) one two k)))
 

@@ -15,6 +15,7 @@ sum-take fs j = sum_by-take-le (λ (x : ℕ). x) fs j
 sum-cons : (f : ℕ) (fs : List ℕ) → sum (f ∷ fs) ≡ f + sum fs
 sum-cons f fs = sum_by-cons (λ (x : ℕ). x) f fs
 
+-- How many bytes all fields together have.
 abbrev pub full : List ℕ → ℕ
 full fields = width fields (length fields)
 
@@ -58,6 +59,7 @@ no-level fields a c some z =
     let same : 0 + sum fields ≡ full fields = omega (arith, full-sum fields) in
     subst (λ (k : ℕ). take k a ≡ take k c) same (zero-from 0 fields a c some z)
 
+-- Which field a text opens is decided by its first bytes.
 pub opens-cut : (fields : List ℕ) (n : ℕ) (text : List ℕ) → opens fields n (take (full fields) text) ≡ opens fields n text
 opens-cut fields zero text = refl
 opens-cut fields (suc n) text =
@@ -70,5 +72,6 @@ bracketed-same fields a b [] e = refl
 bracketed-same fields a b (t ∷ ts) e =
     ap (λ (n : ℕ). (closes n ++ opens fields n (text_of t)) ++ t ∷ bracketed fields (Some (text_of t)) ts) (levels-same fields a b (text_of t) e)
 
+-- A text that was cut to its fields is cut already.
 pub cut-cut : (fields text : List ℕ) → take (full fields) (take (full fields) text) ≡ take (full fields) text
 cut-cut fields text = take-take (full fields) (full fields) text (omega arith)

@@ -221,6 +221,7 @@ load_run : (n : ℕ) (es : List Happening) (q : Poise LoadState) → q.wish ≡ 
 load_run n [] q d p phase st r = ends n p q phase st r d
 load_run n (e ∷ es) q d p phase st r = step n es p r.0 q e phase st r.1 r.2 (load_run n es q d)
 
+-- Over a whole run it sends what its meaning makes of what it got.
 pub load_meaning : LoadBalanceMeaning
 load_meaning n told run =
     let l = load_run n told run.last run.idle (fresh (fresh_load n) run.maker) Resting (refl, inr refl) run.runs in

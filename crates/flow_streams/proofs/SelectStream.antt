@@ -326,6 +326,7 @@ selection r (Of (Some k) None ∷ rounds) e0 e1 =
     (all.0 ∙ ap (accepted (content k ∷ got 0 es)) (sym g1), all.1 ∙ (λ i. if r then rejected (content k ∷ got 0 es) (sym g1 i) else []))
 selection r (Of None None ∷ rounds) e0 e1 = selection r rounds e0.1.1 e1.1.1
 
+-- Over a whole run it sends what its meaning makes of what it got.
 pub select_meaning : SelectMeaning
 select_meaning r told run e0 e1 =
     let rounds = in-rounds r told run in
@@ -380,6 +381,7 @@ takes-text r zero text rounds l g = zero-takes r text false rounds g
 takes-text r (suc zero) text rounds l g = one-takes r text false rounds g
 takes-text r (suc (suc port)) text rounds l g = absurd (omega arith)
 
+-- A text that each start gives anew is got once in each activation, and nothing behind an end.
 pub select_takes_texts : SelectTakesTexts
 select_takes_texts r told run port text l g =
     let rounds = in-rounds r told run in
@@ -477,6 +479,7 @@ activations r among (Of key packet ∷ rounds) brings last =
     ∙ highest (count_among among 0 told) (count_among among 0 es) (count_among among 1 told) (count_among among 1 es) (counted (among 0) (length (got 0 told)) (length (got 0 es)) (λ is. key-count r key packet es (last 0 is)))
     (counted (among 1) (length (got 1 told)) (length (got 1 es)) (λ is. packet-count r key packet es (last 1 is))) (brought r among key packet es brings.0.0 brings.0.1 brings.0.2)
 
+-- It is activated as often as packets come at the one of its inputs that has the most.
 pub select_starts : SelectStarts
 select_starts r told run among brings last =
     let rounds = in-rounds r told run in

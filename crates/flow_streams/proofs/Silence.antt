@@ -24,8 +24,10 @@ module _ {K : Type 0} (ready : K → Held → Answer → Type 0) (next : K → H
   silent p (Sent o t ∷ es) q g r port = absurd (let s = r.1 in let h = rw s.grants.0 at g in let no : Rattle.std.specs.Prelude.IsTrue Rattle.std.proofs.Common.false = h.0 in cc)
   silent p (Learned o n ∷ es) q g r port = silent r.0 es q (stays-allowed ready next shape uses_none obeys p (Learned o n) r.0 r.1) r.2 port
 
+-- Over a whole run it sends what its meaning makes of what it got.
 pub discard_meaning : {K : Type 0} → DiscardMeaning K
 discard_meaning {K} component told run port = silent (λ (_ : K). IsAtHand) DiscardNext one_to_none discard_obeys (fresh component run.maker) told run.last tt run.runs port
 
+-- Over a whole run it sends what its meaning makes of what it got.
 pub hoard_meaning : {K : Type 0} → HoardMeaning K
 hoard_meaning {K} component told run port = silent (λ (_ : K). IsAtHand) HoardNext one_to_none hoard_obeys (fresh component run.maker) told run.last tt run.runs port

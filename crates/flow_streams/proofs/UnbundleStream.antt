@@ -175,6 +175,7 @@ step p (Sent port t) q g s =
     rw (a, b, z) (append-nil _)
 step p (Learned port level) q g s = absurd s.is_ready
 
+-- Over a whole run it sends what its meaning makes of what it got.
 pub unbundle_meaning : UnbundleMeaning
 unbundle_meaning told run =
     let e = owed-run UnbundleReady UnbundleNext (λ p. IsAllowed one_to_one uses_first p.held p.wish) unbundled owed

@@ -33,9 +33,11 @@ two_ids held x y s e same =
 pub first-root : (x y : Tree) → IsAtRoot (x ∷ y ∷ []) (id_of x)
 first-root x y = let s = same_id (id_of x) in rw s refl
 
+-- Of two packets the second is found by its id.
 pub second-found : (x y : Tree) → (id_of x ≡ id_of y → ⊥) → packet_at (x ∷ y ∷ []) (id_of y) ≡ Some y
 second-found x y apart = let o = other_id (id_of x) (id_of y) apart in let s = same_id (id_of y) in rw (o, s) refl
 
+-- Of two packets the first is left without the second.
 pub second-gone : (x y : Tree) → (id_of x ≡ id_of y → ⊥) → without (x ∷ y ∷ []) (id_of y) ≡ x ∷ []
 second-gone x y apart = let o = other_id (id_of x) (id_of y) apart in let s = same_id (id_of y) in rw (o, s) refl
 
@@ -94,6 +96,7 @@ receives old held component w b = ((w, omega arith), ((λ s. b), (λ t s. came c
 sends : (held : Held) (id : ℕ) → HoldsOnly held id → Lawful held (Wishes Outside held (send_first id))
 sends held id h = ((comes_same held, (refl, HoldsOnly-root held id h)), λ s. HoldsOnly-without held id h)
 
+-- A packet that is made before the one alone is dropped is alone afterwards.
 pub renewed : (held : Held) (id : ℕ) (kind : Kind) (text : List ℕ) → HoldsOnly held id → (without_packet (with_made held kind text) id).packets ≡ packet_of (next_id held) kind text [] ∷ []
 renewed held id kind text h = let e = eq-eqb (id_of h.packet) id h.named in rw (h.holds, e) refl
 
@@ -139,11 +142,14 @@ lawful component held answers.End r = ((comes_same held, tt), λ s. r)
 lawful component held answers.Sent r = receives held held component (comes_same held) r
 lawful component held (answers.Level n) r = absurd r
 
+-- What it does keeps what the hands ask of every component.
 pub bundle_obeys : (component : Bundle) (held : Held) (answer : Answer) (outcome : Outcome Bundle) → BundleReady component held answer → BundleNext component held answer outcome → Obeys one_to_one uses_first held outcome
 bundle_obeys component held answer outcome r is = subst (Obeys one_to_one uses_first held) (sym is) (lawful component held answer r).0
 
+-- Whatever it may be told next, it is ready for it.
 pub bundle_stays_ready : (component : Bundle) (held : Held) (answer : Answer) (outcome : Outcome Bundle) → BundleReady component held answer → BundleNext component held answer outcome → StaysReady BundleReady outcome
 bundle_stays_ready component held answer outcome r is = subst (StaysReady BundleReady) (sym is) (lawful component held answer r).1
 
+-- Its shape, and the ports that it uses, never change.
 pub bundle_steady : (component : Bundle) (held : Held) (answer : Answer) (outcome : Outcome Bundle) → BundleNext component held answer outcome → IsSteady (λ _. one_to_one) (λ _. uses_first) component outcome
 bundle_steady component held answer outcome is = record { shape = refl; outputs = refl }

@@ -28,17 +28,20 @@ pub inputs-push : (n : ℕ) (es : List ℕ) (e : ℕ) → AreInputs n es → e <
 inputs-push n [] e a l = (l, tt)
 inputs-push n (f ∷ es) e a l = (a.0, inputs-push n es e a.1 l)
 
+-- Elements that are inputs stay so when one is removed.
 pub inputs-remove : (n : ℕ) (es : List ℕ) (i : ℕ) → AreInputs n es → AreInputs n (remove es i)
 inputs-remove n [] zero a = tt
 inputs-remove n [] (suc i) a = tt
 inputs-remove n (f ∷ es) zero a = a.1
 inputs-remove n (f ∷ es) (suc i) a = (a.0, inputs-remove n es i a.1)
 
+-- Each of the elements is an input.
 pub inputs-at : (n : ℕ) (es : List ℕ) (i : ℕ) → AreInputs n es → i < length es → slice_index es i < n
 inputs-at n [] i a l = absurd (omega arith)
 inputs-at n (f ∷ es) zero a l = a.0
 inputs-at n (f ∷ es) (suc i) a l = inputs-at n es i a.1 (omega arith)
 
+-- A list with one member removed is one shorter.
 pub length-remove : {X : Type 0} (es : List X) (i : ℕ) → i < length es → length (remove es i) + 1 ≡ length es
 length-remove [] i l = absurd (omega arith)
 length-remove (f ∷ es) zero l = omega arith
@@ -59,6 +62,7 @@ later-some : (bytes e : ℕ) (t : Tree) (es : List ℕ) (ts : List Tree) (o : Op
 later-some bytes e t es ts None h = cc
 later-some bytes e t es ts (Some place) h = elim (goes_before bytes (slice_index es place) (packet_there ts place) e t) as (λ b. (if b then Some (place + 1) else Some 0) ≡ None → ⊥) [ true ↦ (λ h. cc) | false ↦ (λ h. cc) ] h
 
+-- Where there is no first packet, no element has one.
 pub first-none : (bytes : ℕ) (es : List ℕ) (ts : List Tree) → length es ≡ length ts → first_of bytes es ts ≡ None → es ≡ []
 first-none bytes [] ts e h = refl
 first-none bytes (x ∷ es) [] e h = absurd (omega arith)
@@ -70,6 +74,7 @@ later-within bytes e t es ts (Some i) place n h w =
     let l : i < n = w i refl in
     elim (goes_before bytes (slice_index es i) (packet_there ts i) e t) as (λ b. (if b then Some (i + 1) else Some 0) ≡ Some place → place < n + 1) [ true ↦ (λ (h : Some (i + 1) ≡ Some place). let y : i + 1 ≡ place = cc in omega arith) | false ↦ (λ (h : Some 0 ≡ Some place). let y : 0 ≡ place = cc in omega arith) ] h
 
+-- The place of the first packet lies among the places.
 pub first-within : (bytes : ℕ) (es : List ℕ) (ts : List Tree) (place : ℕ) → first_of bytes es ts ≡ Some place → place < length es
 first-within bytes [] ts place h = absurd (let z : None ≡ Some place = h in cc)
 first-within bytes (x ∷ es) [] place h = absurd (let z : None ≡ Some place = h in cc)
@@ -225,9 +230,11 @@ lawful state held answers.End r = went_on state held r.0 r.2 (let l = receiving-
 lawful state held answers.Sent r = was_sent state held state.place refl r.0 r.1 r.2
 lawful state held (answers.Level n) r = absurd r
 
+-- What it does keeps what the hands ask of every component.
 pub collate_obeys : (state : CollateState) (held : Held) (answer : Answer) (outcome : Outcome CollateState) → CollateReady state held answer → CollateNext state held answer outcome → Obeys (collate_shape state) uses_first held outcome
 collate_obeys state held answer outcome r is = subst (Obeys (collate_shape state) uses_first held) (sym is) (lawful state held answer r).0
 
+-- Whatever it may be told next, it is ready for it.
 pub collate_stays_ready : (state : CollateState) (held : Held) (answer : Answer) (outcome : Outcome CollateState) → CollateReady state held answer → CollateNext state held answer outcome → StaysReady CollateReady outcome
 collate_stays_ready state held answer outcome r is = subst (StaysReady CollateReady) (sym is) (lawful state held answer r).1
 
@@ -289,6 +296,7 @@ next-elements state held answers.End = goes_on-elements state held state.place
 next-elements state held answers.Sent = sent_on-elements state held state.place
 next-elements state held (answers.Level n) = refl
 
+-- Its shape, and the ports that it uses, never change.
 pub collate_steady : (state : CollateState) (held : Held) (answer : Answer) (outcome : Outcome CollateState) → CollateNext state held answer outcome → IsSteady collate_shape (λ _. uses_first) state outcome
 collate_steady state held answer outcome is =
     record { shape = ap (λ n. record { inputs = n; outputs = 1 }) (ap (λ (o : Outcome CollateState). (component_after o).elements) is ∙ next-elements state held answer); outputs = refl }

@@ -39,11 +39,14 @@ next-count state held answers.End = ends-count state held (nat_lt (state.at + 1)
 next-count state held answers.Sent = refl
 next-count state held (answers.Level n) = refl
 
+-- What it does keeps what the hands ask of every component.
 pub concat_obeys : (state : ConcatState) (held : Held) (answer : Answer) (outcome : Outcome ConcatState) → ConcatReady state held answer → ConcatNext state held answer outcome → Obeys (concat_shape state) uses_first held outcome
 concat_obeys state held answer outcome r is = subst (Obeys (concat_shape state) uses_first held) (sym is) (lawful state held answer r).0
 
+-- Whatever it may be told next, it is ready for it.
 pub concat_stays_ready : (state : ConcatState) (held : Held) (answer : Answer) (outcome : Outcome ConcatState) → ConcatReady state held answer → ConcatNext state held answer outcome → StaysReady ConcatReady outcome
 concat_stays_ready state held answer outcome r is = subst (StaysReady ConcatReady) (sym is) (lawful state held answer r).1
 
+-- Its shape, and the ports that it uses, never change.
 pub concat_steady : (state : ConcatState) (held : Held) (answer : Answer) (outcome : Outcome ConcatState) → ConcatNext state held answer outcome → IsSteady concat_shape (λ _. uses_first) state outcome
 concat_steady state held answer outcome is = record { shape = ap (λ (n : ℕ). record { inputs = n; outputs = 1 }) (ap (λ (o : Outcome ConcatState). (component_after o).count) is ∙ next-count state held answer); outputs = refl }

@@ -61,12 +61,15 @@ next-count state held answers.End = refl
 next-count state held answers.Sent = on-count state held state.place
 next-count state held (answers.Level n) = refl
 
+-- What it does keeps what the hands ask of every component.
 pub copy_obeys : (state : CopyState) (held : Held) (answer : Answer) (outcome : Outcome CopyState) → CopyReady state held answer → CopyNext state held answer outcome → Obeys (copy_shape state) (copy_uses state) held outcome
 copy_obeys state held answer outcome r is = subst (Obeys (copy_shape state) (copy_uses state) held) (sym is) (lawful state held answer r).0
 
+-- Whatever it may be told next, it is ready for it.
 pub copy_stays_ready : (state : CopyState) (held : Held) (answer : Answer) (outcome : Outcome CopyState) → CopyReady state held answer → CopyNext state held answer outcome → StaysReady CopyReady outcome
 copy_stays_ready state held answer outcome r is = subst (StaysReady CopyReady) (sym is) (lawful state held answer r).1
 
+-- Its shape, and the ports that it uses, never change.
 pub copy_steady : (state : CopyState) (held : Held) (answer : Answer) (outcome : Outcome CopyState) → CopyNext state held answer outcome → IsSteady copy_shape copy_uses state outcome
 copy_steady state held answer outcome is =
     let e = ap (λ (o : Outcome CopyState). (component_after o).count) is ∙ next-count state held answer in

@@ -24,11 +24,14 @@ after held answers.End = at_hand_idle held
 after held answers.Sent = at_hand_received held first_port
 after held (answers.Level n) = at_hand_idle held
 
+-- What it does keeps what the hands ask of every component.
 pub hoard_obeys : {K : Type 0} (component : K) (held : Held) (answer : Answer) (outcome : Outcome K) → IsAtHand held answer → HoardNext component held answer outcome → Obeys one_to_none uses_none held outcome
 hoard_obeys component held answer outcome r is = subst (Obeys one_to_none uses_none held) (sym is) (comes_same held, allowed held answer r)
 
+-- Whatever it may be told next, it is ready for it.
 pub hoard_stays_ready : {K : Type 0} (component : K) (held : Held) (answer : Answer) (outcome : Outcome K) → IsAtHand held answer → HoardNext component held answer outcome → StaysReady (λ (_ : K). IsAtHand) outcome
 hoard_stays_ready {K} component held answer outcome r is = subst (StaysReady (λ (_ : K). IsAtHand)) (sym is) (after held answer)
 
+-- Its shape, and the ports that it uses, never change.
 pub hoard_steady : {K : Type 0} (component : K) (held : Held) (answer : Answer) (outcome : Outcome K) → HoardNext component held answer outcome → IsSteady (λ _. one_to_none) (λ _. uses_none) component outcome
 hoard_steady component held answer outcome is = subst (IsSteady (λ _. one_to_none) (λ _. uses_none) component) (sym is) (record { shape = refl; outputs = refl })

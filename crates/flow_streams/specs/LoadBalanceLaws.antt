@@ -83,12 +83,15 @@ next-count state held answers.End = refl
 next-count state held answers.Sent = refl
 next-count state held (answers.Level level) = learned-count state held state.place level
 
+-- What it does keeps what the hands ask of every component.
 pub load_obeys : (state : LoadState) (held : Held) (answer : Answer) (outcome : Outcome LoadState) → LoadReady state held answer → LoadNext state held answer outcome → Obeys (load_shape state) (load_uses state) held outcome
 load_obeys state held answer outcome r is = subst (Obeys (load_shape state) (load_uses state) held) (sym is) (lawful state held answer r).0
 
+-- Whatever it may be told next, it is ready for it.
 pub load_stays_ready : (state : LoadState) (held : Held) (answer : Answer) (outcome : Outcome LoadState) → LoadReady state held answer → LoadNext state held answer outcome → StaysReady LoadReady outcome
 load_stays_ready state held answer outcome r is = subst (StaysReady LoadReady) (sym is) (lawful state held answer r).1
 
+-- Its shape, and the ports that it uses, never change.
 pub load_steady : (state : LoadState) (held : Held) (answer : Answer) (outcome : Outcome LoadState) → LoadNext state held answer outcome → IsSteady load_shape load_uses state outcome
 load_steady state held answer outcome is =
     let e = ap (λ (o : Outcome LoadState). (component_after o).count) is ∙ next-count state held answer in

@@ -24,11 +24,14 @@ after held answers.End = at_hand_idle held
 after held answers.Sent = at_hand_received held first_port
 after held (answers.Level n) = at_hand_idle held
 
+-- What it does keeps what the hands ask of every component.
 pub passthru_obeys : {K : Type 0} (component : K) (held : Held) (answer : Answer) (outcome : Outcome K) → IsAtHand held answer → PassthruNext component held answer outcome → Obeys one_to_one uses_first held outcome
 passthru_obeys component held answer outcome r is = subst (Obeys one_to_one uses_first held) (sym is) (comes_same held, allowed held answer r)
 
+-- Whatever it may be told next, it is ready for it.
 pub passthru_stays_ready : {K : Type 0} (component : K) (held : Held) (answer : Answer) (outcome : Outcome K) → IsAtHand held answer → PassthruNext component held answer outcome → StaysReady (λ (_ : K). IsAtHand) outcome
 passthru_stays_ready {K} component held answer outcome r is = subst (StaysReady (λ (_ : K). IsAtHand)) (sym is) (after held answer)
 
+-- Its shape, and the ports that it uses, never change.
 pub passthru_steady : {K : Type 0} (component : K) (held : Held) (answer : Answer) (outcome : Outcome K) → PassthruNext component held answer outcome → IsSteady (λ _. one_to_one) (λ _. uses_first) component outcome
 passthru_steady component held answer outcome is = record { shape = refl; outputs = refl }

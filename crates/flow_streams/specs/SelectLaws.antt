@@ -141,12 +141,15 @@ next-rejects state held answers.End = ended-rejects state held state.place
 next-rejects state held answers.Sent = refl
 next-rejects state held (answers.Level level) = refl
 
+-- What it does keeps what the hands ask of every component.
 pub select_obeys : (state : SelectState) (held : Held) (answer : Answer) (outcome : Outcome SelectState) → SelectReady state held answer → SelectNext state held answer outcome → Obeys select_shape (select_uses state) held outcome
 select_obeys state held answer outcome r is = subst (Obeys select_shape (select_uses state) held) (sym is) (lawful state held answer r).0
 
+-- Whatever it may be told next, it is ready for it.
 pub select_stays_ready : (state : SelectState) (held : Held) (answer : Answer) (outcome : Outcome SelectState) → SelectReady state held answer → SelectNext state held answer outcome → StaysReady SelectReady outcome
 select_stays_ready state held answer outcome r is = subst (StaysReady SelectReady) (sym is) (lawful state held answer r).1
 
+-- Its shape, and the ports that it uses, never change.
 pub select_steady : (state : SelectState) (held : Held) (answer : Answer) (outcome : Outcome SelectState) → SelectNext state held answer outcome → IsSteady (λ _. select_shape) select_uses state outcome
 select_steady state held answer outcome is =
     let e = ap (λ (o : Outcome SelectState). (component_after o).rejects) is ∙ next-rejects state held answer in

@@ -54,9 +54,11 @@ child-apart held t child children s e chain same =
 pub detached-alone : (t : Tree) → detached (t ∷ []) (id_of t) items ≡ with_chains t (detach_from (chains_of t) items) ∷ []
 detached-alone t = let s = same_id (id_of t) in rw s refl
 
+-- The chain of a packet that is held alone is the packet's own.
 pub chain-alone : (held : Held) (id : ℕ) (h : HoldsOnly held id) → chain_of_root held.packets id items ≡ chain_at (chains_of h.packet) items
 chain-alone held id h = ap (λ o. chain_in o items) (HoldsOnly-packet_at held id h)
 
+-- Detaching from a packet that is held alone changes its chain.
 pub detached-only : (held : Held) (id : ℕ) (h : HoldsOnly held id) → detached held.packets id items ≡ with_chains h.packet (detach_from (chains_of h.packet) items) ∷ []
 detached-only held id h = (λ i. detached (h.holds i) (sym h.named i) items) ∙ detached-alone h.packet
 
@@ -111,11 +113,14 @@ lawful component held answers.End r = ((comes_same held, tt), λ s. (tt, r.1))
 lawful component held answers.Sent r = went_on held component r
 lawful component held (answers.Level n) r = absurd r
 
+-- What it does keeps what the hands ask of every component.
 pub unbundle_obeys : (component : Unbundle) (held : Held) (answer : Answer) (outcome : Outcome Unbundle) → UnbundleReady component held answer → UnbundleNext component held answer outcome → Obeys one_to_one uses_first held outcome
 unbundle_obeys component held answer outcome r is = subst (Obeys one_to_one uses_first held) (sym is) (lawful component held answer r).0
 
+-- Whatever it may be told next, it is ready for it.
 pub unbundle_stays_ready : (component : Unbundle) (held : Held) (answer : Answer) (outcome : Outcome Unbundle) → UnbundleReady component held answer → UnbundleNext component held answer outcome → StaysReady UnbundleReady outcome
 unbundle_stays_ready component held answer outcome r is = subst (StaysReady UnbundleReady) (sym is) (lawful component held answer r).1
 
+-- Its shape, and the ports that it uses, never change.
 pub unbundle_steady : (component : Unbundle) (held : Held) (answer : Answer) (outcome : Outcome Unbundle) → UnbundleNext component held answer outcome → IsSteady (λ _. one_to_one) (λ _. uses_first) component outcome
 unbundle_steady component held answer outcome is = record { shape = refl; outputs = refl }

@@ -16,10 +16,12 @@ or-again : (x a b : Bool) → ((x || a) || b) ≡ (x || (a || b))
 or-again true a b = refl
 or-again false a b = refl
 
+-- What is true is so with anything beside it.
 pub or-true : (x y : Bool) → x ≡ true → (x || y) ≡ true
 or-true true y is = refl
 or-true false y is = cc
 
+-- Beside what is false the other decides.
 pub or-left : (x y : Bool) → x ≡ false → (x || y) ≡ y
 or-left true y is = cc
 or-left false y is = refl

@@ -47,6 +47,7 @@ process_at (suc p) (x ∷ xs) = process_at p xs
 abbrev process : ℕ → Process
 process p = process_at p telegram.processes
 
+-- The components of the worked run are those of its processes.
 pub are-components : AreComponentsOf telegram telegram_components
 are-components p component at =
     at_four (λ q k. IsComponentOf telegram q k) (components.ReadLines telegram_input) (components.Words words_parts.Waiting) (components.Fill (fresh_fill 12)) (components.WriteLines [])
@@ -103,6 +104,7 @@ others (suc (suc zero)) component at none = refl
 others (suc (suc (suc zero))) component at none = absurd (let e : components.WriteLines [] ≡ component = cc in let h : Some [] ≡ None = ap written_of e ∙ none in cc)
 others (suc (suc (suc (suc p)))) component at none = refl
 
+-- The worked run composes, with these streams on its connections.
 pub composed : (m : Composes telegram telegram_components telegram_wrote) × (m.on ≡ telegram_on)
 composed = (record { one_each = refl; first = components-first telegram telegram_components are-components; on = telegram_on; senders = senders; each = each; others = others }, refl)
 
@@ -128,6 +130,7 @@ is-telegram = record {
   to_writer = leads 2 3 2 refl refl;
 }
 
+-- Its file is the only one that the composition allows.
 pub only : (wrote : ℕ → List ℕ) → Composes telegram telegram_components wrote → wrote 3 ≡ telegram_wrote 3
 only wrote m =
     let a = telegram-means telegram telegram_components wrote 0 1 2 3 (texts_from 0) 12 m is-telegram in

@@ -29,6 +29,7 @@ made-anywhere bytes plan p process component other made = record { kind = made.k
 pub writes-not-reads : (process : Process) → process.kind ≡ codes "WriteLines" → process.kind ≢ codes "ReadLines"
 writes-not-reads process writes reads = (let bad : codes "WriteLines" ≡ codes "ReadLines" = sym writes ∙ reads in cc)
 
+-- Standard components on a file fit the processes of their plan.
 pub components-fit : (bytes : List ℕ) (plan : Network) (components : List Std) → AreComponentsOn bytes plan components → ComponentsFit std_shape std_uses StdReady plan components
 components-fit bytes plan components are = record {
   one_each = are.count;
@@ -47,6 +48,7 @@ components-fit bytes plan components are = record {
 below : (a b : ℕ) → IsTrue (nat_lt a b) → a < b
 below a b is = grind (arith, nat_tests)
 
+-- Components that ask for levels fit every plan with all ports connected.
 pub askers-fit : (plan : Network) → IsAllConnected plan → ComponentsFit shape_asked uses_asked AlwaysReady plan (map asker_of plan.processes)
 askers-fit plan connected = record {
   one_each = length-map plan.processes asker_of;

@@ -107,5 +107,6 @@ short (suc (suc (suc (suc zero)))) d below = tt
 short (suc (suc (suc (suc (suc zero))))) d below = omega arith
 short (suc (suc (suc (suc (suc (suc k)))))) d below = absurd (omega (arith, below))
 
+-- The worked network comes to its plan.
 pub planned : ComesTo std_kinds telegram_component (Ok telegram)
 planned = told_is_said std_kinds telegram_component (Ok telegram) refl short (Ok with_output, drafted, refl)

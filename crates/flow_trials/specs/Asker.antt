@@ -13,6 +13,7 @@ use Rattle.flow_component.specs.Ports.{first_port}
 use Rattle.flow_component.proofs.Comings.{comes_same}
 use Rattle.flow_trials.specs.declared.asker.Asker.{Asker}
 
+-- It has as many inputs and outputs as it was made for.
 abbrev pub shape_asked : Asker → Shape
 shape_asked component = component.shape
 
@@ -20,6 +21,7 @@ shape_asked component = component.shape
 abbrev pub uses_asked : Asker → ℕ → Bool
 uses_asked component port = nat_lt port component.shape.outputs
 
+-- It may be told anything at any time.
 abbrev pub AlwaysReady : Asker → Held → Answer → Type 0
 AlwaysReady component held answer = Unit {0}
 
@@ -31,6 +33,7 @@ asks shape answers.End = wishes.Deactivate
 asks shape answers.Sent = wishes.Deactivate
 asks shape (answers.Level n) = wishes.Deactivate
 
+-- Its rule, as a relation.
 abbrev pub AskerNext : Asker → Held → Answer → Outcome Asker → Type 0
 AskerNext component held answer outcome = outcome ≡ Wishes component held (asks component.shape answer)
 
@@ -51,11 +54,14 @@ ready component held (wishes.Send port id) = λ sound. tt
 ready component held (wishes.Level port) = λ n below sound. tt
 ready component held wishes.Deactivate = λ sound. tt
 
+-- Its rule keeps what the hands ask of every component.
 pub asker_obeys : (component : Asker) (held : Held) (answer : Answer) (outcome : Outcome Asker) → AlwaysReady component held answer → AskerNext component held answer outcome → Obeys (shape_asked component) (uses_asked component) held outcome
 asker_obeys component held answer outcome r is = subst (Obeys (shape_asked component) (uses_asked component) held) (sym is) (comes_same held, allowed component held answer)
 
+-- It stays ready.
 pub asker_stays_ready : (component : Asker) (held : Held) (answer : Answer) (outcome : Outcome Asker) → AlwaysReady component held answer → AskerNext component held answer outcome → StaysReady AlwaysReady outcome
 asker_stays_ready component held answer outcome r is = subst (StaysReady AlwaysReady) (sym is) (ready component held (asks component.shape answer))
 
+-- Its shape and its ports never change.
 pub asker_steady : (component : Asker) (held : Held) (answer : Answer) (outcome : Outcome Asker) → AskerNext component held answer outcome → IsSteady shape_asked uses_asked component outcome
 asker_steady component held answer outcome is = subst (IsSteady shape_asked uses_asked component) (sym is) (record { shape = refl; outputs = refl })

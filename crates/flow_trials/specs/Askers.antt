@@ -5,6 +5,7 @@ use Rattle.flow_plan.specs.Network.{Network, HasOutput}
 use Rattle.flow_plan.specs.Valid.{HasSender}
 use Rattle.flow_trials.specs.declared.asker.Asker.{Asker}
 
+-- The component that asks for levels, for a process of a plan.
 abbrev pub asker_of : Process → Asker
 asker_of process = record { shape = record { inputs = process.inputs; outputs = process.outputs } }
 

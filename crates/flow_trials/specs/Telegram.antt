@@ -83,6 +83,7 @@ texts_from (suc (suc (suc p))) = []
 abbrev pub sent_by : ℕ → List ℕ → Sending
 sent_by p text = record { sender = record { process = p; output = 0 }; content = text_packet text }
 
+-- What goes over each connection.
 abbrev pub telegram_on : ℕ → List Sending
 telegram_on c = map (sent_by c) (texts_from c)
 

@@ -60,5 +60,6 @@ failed = (
   (0, y0, fails.HandsLimit, refl, refl),
 )
 
+-- The run ends with a failed process.
 pub failure : IsFailure
 failure = record { starts = starts; last = s1; leads = run-leads faulty_next (start_of alone alone_components) (0 ∷ []) [] s1 refl; failed = failed }

@@ -122,5 +122,6 @@ other = record {
   written = refl;
 }
 
+-- Two senders come together on one connection, in an order that is one of several.
 pub merges : IsMerge
 merges = record { starts = starts; one = one; other = other }

@@ -91,5 +91,6 @@ short (suc (suc zero)) d below = tt
 short (suc (suc (suc zero))) d below = omega arith
 short (suc (suc (suc (suc k)))) d below = absurd (omega (arith, below))
 
+-- The first network comes to its plan.
 pub planned : ComesTo std_kinds first_component (Ok first_network)
 planned = told_is_said std_kinds first_component (Ok first_network) refl short (Ok with_output, drafted, refl)

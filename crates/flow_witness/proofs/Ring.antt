@@ -98,5 +98,6 @@ deadlock = (
   λ all. (let h = all 0 x0 refl in cc),
 )
 
+-- The ring is a deadlock: each of its processes waits for the other.
 pub stuck : IsStuck
 stuck = record { starts = starts; deadlock = deadlock }

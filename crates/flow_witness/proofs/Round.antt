@@ -83,6 +83,7 @@ s1 = or_start (run std_next s0 (replicate 5 0) [])
 abbrev s2 : State Std
 s2 = or_start (run std_next s1 (replicate 7 1) [])
 
+-- The state at the end.
 abbrev pub s3 : State Std
 s3 = or_start (run std_next s2 (replicate 5 2) [])
 
@@ -93,6 +94,7 @@ abbrev process_of : Option (Process Std) → Process Std
 process_of (Some x) = x
 process_of None = record { stage = stages.Idle; has_run = false; component = components.Passthru passing; held = record { maker = 0; made = 0; packets = [] }; fresh = []; depths = []; turns = 0; inputs = []; outputs = [] }
 
+-- A process of a state.
 abbrev pub at : State Std → ℕ → Process Std
 at s p = process_of (slice_get s.kept.processes p)
 
@@ -125,6 +127,7 @@ no_pass = (
   ((refl, refl), ended s3.kept 2 (at s3 2) refl refl),
 )
 
+-- The journal is the round robin.
 pub is_round : RoundRobin (Graph std_next) s0 first_journal s3
 is_round = record { passes = first_journal ∷ []; whole = refl; go = ((λ h. cc), (s3, one_pass, refl)); last = no_pass }
 

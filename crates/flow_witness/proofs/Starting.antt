@@ -21,6 +21,7 @@ passer = process_at_start first_network 1 (pass_of (codes "Pass")) (components.P
 abbrev writer : Process Std
 writer = process_at_start first_network 2 (writer_of (codes "Write") (codes "out.txt")) (components.WriteLines [])
 
+-- A process whose only output has a connection has one at every port that it uses.
 pub sends_first : (x : Process Std) → IsSome (output_at x 0) → (port : ℕ) → IsTrue (uses_first port) → IsSome (output_at x port)
 sends_first x is port uses =
     let h : (port == 0) ≡ true = uses in
@@ -36,6 +37,7 @@ passer_fits = record { inputs = refl; outputs = refl; used = sends_first passer 
 writer_fits : FitsProcess std_shape std_uses StdReady writer.component writer
 writer_fits = record { inputs = refl; outputs = refl; used = λ port uses. absurd (let bad : false ≡ true = uses in cc); can_start = λ held empty. tt }
 
+-- The network may start with these components.
 pub starts : StartsWell std_shape std_uses StdReady first_network first_components
 starts = record {
   wired = chain-wired (codes "Read") (codes "in.txt") (codes "Pass") (codes "Write") (codes "out.txt");

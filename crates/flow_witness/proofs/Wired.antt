@@ -16,10 +16,12 @@ pub at_one : {X : Type 0} → (P : ℕ → X → Type 0) (a : X) → P 0 a → (
 at_one P a pa zero x h = subst (λ y. P 0 y) (some_is a x h) pa
 at_one P a pa (suc k) x h = absurd (let bad : None ≡ Some x = h in cc)
 
+-- What holds of both members holds at every place of a list of two.
 pub at_two : {X : Type 0} → (P : ℕ → X → Type 0) (a b : X) → P 0 a → P 1 b → (k : ℕ) (x : X) → slice_get (a ∷ b ∷ []) k ≡ Some x → P k x
 at_two P a b pa pb zero x h = subst (λ y. P 0 y) (some_is a x h) pa
 at_two P a b pa pb (suc k) x h = at_one (λ i y. P (suc i) y) b pb k x h
 
+-- What holds of three members holds at every place of a list of three.
 pub at_three : {X : Type 0} → (P : ℕ → X → Type 0) (a b c : X) → P 0 a → P 1 b → P 2 c → (k : ℕ) (x : X) → slice_get (a ∷ b ∷ c ∷ []) k ≡ Some x → P k x
 at_three P a b c pa pb pc zero x h = subst (λ y. P 0 y) (some_is a x h) pa
 at_three P a b c pa pb pc (suc k) x h = at_two (λ i y. P (suc i) y) b c pb pc k x h
@@ -30,9 +32,11 @@ c0 = link_of 0 1
 abbrev c1 : Connection
 c1 = link_of 1 2
 
+-- The output that is sender of connection 0.
 abbrev pub s0 : Sender
 s0 = record { process = 0; output = 0 }
 
+-- The output that is sender of connection 1.
 abbrev pub s1 : Sender
 s1 = record { process = 1; output = 0 }
 
@@ -40,20 +44,25 @@ s1 = record { process = 1; output = 0 }
 pub none_there : {X Y : Type 0} → (k : ℕ) (x : X) → slice_get [] k ≡ Some x → Y
 none_there k x h = absurd (let bad : None ≡ Some x = h in cc)
 
+-- Nothing stands in an empty list, so anything follows from what stands there.
 pub no_initial : {X : Type 0} → (k : ℕ) (x : ℕ × List ℕ) → slice_get [] k ≡ Some x → X
 no_initial k x h = absurd (let bad : None ≡ Some x = h in cc)
 
+-- The two senders differ.
 pub senders_differ : s0 ≡ s1 → ⊥
 senders_differ h = let e : s0.process ≡ s1.process = ap (λ s. s.process) h in absurd (omega arith)
 
+-- What holds of number 0 holds of every number below one.
 pub only_first : (j : ℕ) (P : ℕ → Type 0) → j < 1 → P 0 → P j
 only_first zero P below first = first
 only_first (suc j) P below first = absurd (omega arith)
 
+-- A list of one sender has that one alone.
 pub the_one : (a s : Sender) (k : ℕ) → slice_get (a ∷ []) k ≡ Some s → a ≡ s
 the_one a s zero h = some_is a s h
 the_one a s (suc k) h = absurd (let bad : None ≡ Some s = h in cc)
 
+-- A list of one sender has it at one place.
 pub same_place : (a s : Sender) (k l : ℕ) → slice_get (a ∷ []) k ≡ Some s → slice_get (a ∷ []) l ≡ Some s → k ≡ l
 same_place a s zero zero h g = refl
 same_place a s zero (suc l) h g = absurd (let bad : None ≡ Some s = g in cc)

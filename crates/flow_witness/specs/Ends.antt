@@ -37,6 +37,7 @@ ring = record {
   tables = pass_ports ∷ pass_ports ∷ [];
 }
 
+-- The components of the ring.
 abbrev pub ring_components : List Std
 ring_components = components.Passthru passing ∷ components.Passthru passing ∷ []
 
@@ -49,15 +50,19 @@ pub record IsStuck : Type 0 where
 abbrev pub Faulty : Type 0
 Faulty = Unit {0}
 
+-- It has no ports.
 abbrev pub faulty_shape : Faulty → Shape
 faulty_shape component = record { inputs = 0; outputs = 0 }
 
+-- It uses no port.
 abbrev pub faulty_uses : Faulty → ℕ → Bool
 faulty_uses component = uses_none
 
+-- It may be told anything at any time.
 abbrev pub FaultyReady : Faulty → Held → Answer → Type 0
 FaultyReady component held answer = Unit {0}
 
+-- It fails as soon as it is started.
 abbrev pub faulty_next : Faulty → Held → Answer → Outcome Faulty
 faulty_next component held answer = Fails component held fails.HandsLimit
 
@@ -72,6 +77,7 @@ alone = record {
   tables = record { inputs = []; outputs = [] } ∷ [];
 }
 
+-- That one component.
 abbrev pub alone_components : List Faulty
 alone_components = tt ∷ []
 
