@@ -1,4 +1,5 @@
 -- The faults of a whole draft are those of the text that it agrees with.
+use Rattle.flow_limits.specs.declared.TheConstants.{CAPACITY_SUM_LIMIT}
 use Rattle.std.proofs.Common.{◌≡◌, ℕ, ◌+◌, ◌<◌, ◌≤◌, Bool, true, false, List, [], ◌∷◌, map, length, take, zero, suc, Option, Some, None, Ok, Err, refl, ap, sym, subst, ◌∙◌, slice_get, arith}
 use Rattle.std.specs.Prelude.{◌==◌, not, nat_le, if◌then◌else◌, position}
 use Rattle.std.specs.List.{range_with_len, sum_by}
@@ -162,8 +163,8 @@ module _ (table : List KindSpec) (ps : List (List ℕ × List ℕ)) (at : List P
   pub sum_alike : (ports : List Sized) → sum_fault draft.links ≡ sum_test (map (connection_of ports joins) (receivers joins))
   sum_alike ports =
       ap sum_fault agrees.links
-      ∙ ap (λ (n : ℕ). refused_if (if nat_le n 65536 then false else true) (TooMany many.CapacitySum)) (sum_map capacity_of (link_to joins) (receivers joins) ∙ sym (sum_map (λ (c : Connection). c.capacity) (connection_of ports joins) (receivers joins)))
-      ∙ ap (λ (b : Bool). refused_if b (TooMany many.CapacitySum)) (negated (nat_le (sum_by (λ (c : Connection). c.capacity) (map (connection_of ports joins) (receivers joins))) 65536))
+      ∙ ap (λ (n : ℕ). refused_if (if nat_le n CAPACITY_SUM_LIMIT then false else true) (TooMany many.CapacitySum)) (sum_map capacity_of (link_to joins) (receivers joins) ∙ sym (sum_map (λ (c : Connection). c.capacity) (connection_of ports joins) (receivers joins)))
+      ∙ ap (λ (b : Bool). refused_if b (TooMany many.CapacitySum)) (negated (nat_le (sum_by (λ (c : Connection). c.capacity) (map (connection_of ports joins) (receivers joins))) CAPACITY_SUM_LIMIT))
     where
       negated : (b : Bool) → (if b then false else true) ≡ not b
       negated true = refl

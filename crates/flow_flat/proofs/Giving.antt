@@ -1,4 +1,5 @@
 -- The next text: a draft that agrees with a text takes it where the text does, and agrees with it afterwards.
+use Rattle.flow_limits.specs.declared.TheConstants.{TEXT_LIMIT}
 use Rattle.std.proofs.Common.{◌≡◌, ◌≢◌, ℕ, Bool, true, false, List, [], ◌∷◌, ◌++◌, map, length, zero, suc, ◌≤◌, Option, Some, None, Ok, Err, IsSome, refl, ap, sym, subst, ◌∙◌, ◌⊎◌, inl, inr, slice_get}
 use Rattle.std.specs.Prelude.{◌==◌, ◌||◌, if◌then◌else◌}
 use Rattle.std.specs.Option.{option_map}
@@ -110,7 +111,7 @@ module _ (table : List KindSpec) (ps : List (List ℕ × List ℕ)) (at : List P
   refuses text to into fault (inr unfit) = inr (unfit.0, unfit.1.0, sym (text_alike to into) ∙ unfit.1.1, λ fits. unfit.1.2 (fits_back draft.ports at unfit.1.0.port text agrees.ports fits))
 
   -- The draft with one more text agrees with the text with one more text.
-  pub agrees_given : (text to : List ℕ) (into : PortRef) (input : End) → length text ≤ 1048576 → input_for draft.processes draft.ports to into ≡ Ok input → FitsPort (slice_get draft.ports input.port) text
+  pub agrees_given : (text to : List ℕ) (into : PortRef) (input : End) → length text ≤ TEXT_LIMIT → input_for draft.processes draft.ports to into ≡ Ok input → FitsPort (slice_get draft.ports input.port) text
       → Agrees table ps at joins (given ++ (input, text) ∷ []) (gives draft input text)
   agrees_given text to into input short is fits = record {
     sound = IsSound-given draft text to into input agrees.sound is fits short;

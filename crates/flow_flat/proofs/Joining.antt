@@ -1,4 +1,5 @@
 -- The next connect statement: a draft that agrees with a text refuses it for what the text says, and agrees with it afterwards.
+use Rattle.flow_limits.specs.declared.TheConstants.{CONNECTION_LIMIT, SENDER_LIMIT}
 use Rattle.std.proofs.Common.{◌≡◌, ◌≢◌, ℕ, Bool, true, false, List, [], ◌∷◌, ◌++◌, map, length, zero, suc, Option, Some, None, Ok, IsSome, refl, ap, sym, subst, ◌∙◌, slice_get}
 use Rattle.std.specs.Prelude.{◌||◌, nat_le, not, if◌then◌else◌, is_some}
 use Rattle.std.specs.Option.{option_and_then, option_map}
@@ -206,13 +207,13 @@ module _ (table : List KindSpec) (ps : List (List ℕ × List ℕ)) (at : List P
 
       full_is : (o : Option ℕ) → link_into draft.ports ends.1 ≡ o → is_full_link draft.links o ≡ is_full joins ends.1
       full_is None none =
-          ap (λ (l : List Link). nat_le 512 (length l)) agrees.links ∙ ap (λ (n : ℕ). nat_le 512 n) (length-map (receivers joins) (link_to joins))
-          ∙ ap (λ (b : Bool). if b then nat_le 65535 (length (joins_into joins ends.1)) else nat_le 512 (length (receivers joins))) (sym (unlinked ends.1 none))
+          ap (λ (l : List Link). nat_le CONNECTION_LIMIT (length l)) agrees.links ∙ ap (λ (n : ℕ). nat_le CONNECTION_LIMIT n) (length-map (receivers joins) (link_to joins))
+          ∙ ap (λ (b : Bool). if b then nat_le SENDER_LIMIT (length (joins_into joins ends.1)) else nat_le CONNECTION_LIMIT (length (receivers joins))) (sym (unlinked ends.1 none))
       full_is (Some c) some =
           ap (λ (l : List Link). has_all_senders (slice_get l c)) agrees.links
           ∙ ap has_all_senders (slice_get-map (link_to joins) (receivers joins) c ∙ ap (option_map (link_to joins)) (linked_at ends.1 c some))
-          ∙ ap (λ (n : ℕ). nat_le 65535 n) (length-map (joins_into joins ends.1) (λ (j : Join). j.out))
-          ∙ ap (λ (b : Bool). if b then nat_le 65535 (length (joins_into joins ends.1)) else nat_le 512 (length (receivers joins))) (sym (receives_has joins ends.1 ∙ firsts_come (intos joins) ends.1 c (linked_at ends.1 c some)))
+          ∙ ap (λ (n : ℕ). nat_le SENDER_LIMIT n) (length-map (joins_into joins ends.1) (λ (j : Join). j.out))
+          ∙ ap (λ (b : Bool). if b then nat_le SENDER_LIMIT (length (joins_into joins ends.1)) else nat_le CONNECTION_LIMIT (length (receivers joins))) (sym (receives_has joins ends.1 ∙ firsts_come (intos joins) ends.1 c (linked_at ends.1 c some)))
 
   -- The draft with one more connection agrees with the text with one more connect statement.
   pub agrees_joined : (from : List ℕ) (out : PortRef) (capacity : Option ℕ) (to : List ℕ) (into : PortRef) (ends : End × End) (u : Unit {0}) → ends_of draft.processes draft.ports from out to into ≡ Ok ends

@@ -1,4 +1,5 @@
 -- Statements one after the other: a draft refuses the first that the text refuses, for the same, and agrees with the text after all of them.
+use Rattle.flow_limits.specs.declared.TheConstants.{TEXT_LIMIT}
 use Rattle.std.proofs.Common.{◌≡◌, ℕ, ◌≤◌, List, [], ◌∷◌, ◌++◌, map, length, take, zero, suc, Option, Some, None, Ok, Err, refl, ap, sym, subst, ◌∙◌, slice_get}
 use Rattle.std.proofs.Common.{append_assoc}
 use Rattle.std.specs.Prelude.{MatchResult}
@@ -85,7 +86,7 @@ module _ (table : List KindSpec) (ps : List (List ℕ × List ℕ)) (at : List P
         by (Ok ends) is = inner ends (may_join draft.ports draft.links from out to into capacity ends.0 ends.1) is
         by (Err f) is = let same : f ≡ fault = cc in ap Err same
 
-    initial_steps : (text to : List ℕ) (into : PortRef) (next : Draft) → length text ≤ 1048576 → AfterText draft text to into (Ok next)
+    initial_steps : (text to : List ℕ) (into : PortRef) (next : Draft) → length text ≤ TEXT_LIMIT → AfterText draft text to into (Ok next)
         → StatementTest ps at before (Initial text to into) (Ok tt) × Follows table ps at (before ++ Initial text to into ∷ []) next
     initial_steps text to into next short is =
         let taken = takes table ps at (joins_of ps at before) (texts_of ps at before) draft follows text to into is.0 is.1 is.2 in

@@ -1,5 +1,5 @@
 -- What a flat text is refused for.
-use Rattle.flow_limits.specs.declared.TheConstants.{CONNECTION_LIMIT, PROCESS_LIMIT, SENDER_LIMIT}
+use Rattle.flow_limits.specs.declared.TheConstants.{CAPACITY_SUM_LIMIT, CONNECTION_LIMIT, PROCESS_LIMIT, SENDER_LIMIT}
 use Rattle.std.specs.Prelude.{◌≡◌, ◌⊎◌, ℕ, ◌==◌, ◌||◌, nat_le, not, if◌then◌else◌, Bool, false, List, [], length, Option, Some, None, Ok, Err, is_some, slice_get, position}
 use Rattle.std.specs.Option.{option_map_or}
 use Rattle.std.specs.declared.result.Result.{Result}
@@ -107,7 +107,7 @@ port_test processes ends before port =
 
 -- The capacities of all connections come to 65,536 at most.
 abbrev pub sum_test : List Connection → Result (Unit {0}) PlanFault
-sum_test connections = refused_if (not (nat_le (sum_by (λ (c : Connection). c.capacity) connections) 65536)) (TooMany many.CapacitySum)
+sum_test connections = refused_if (not (nat_le (sum_by (λ (c : Connection). c.capacity) connections) CAPACITY_SUM_LIMIT)) (TooMany many.CapacitySum)
 
 -- What is looked at of a flat text: its processes one by one, its statements, its ports, and the sum.
 abbrev pub ProcessPasses : List KindSpec → List (List ℕ × List ℕ) → List ℕ × List ℕ → Result (Unit {0}) PlanFault → Type 0

@@ -64,7 +64,7 @@ first-first kinds.Select given file = refl
 pub made-first : (plan : Network) (p : ℕ) (process : Process) (file : List ℕ) (component : Std) → IsMade plan p process file component → IsFirst component
 made-first plan p process file component made = subst IsFirst (sym made.is) (first-first made.kind (given plan p process) file)
 
--- Components are made as they begin.
+-- The components of a plan are in their first states also as their meanings have it.
 pub components-first : ComponentsAreFirst
 components-first plan ks are p component at = let is = are p component at in made-first plan p is.process is.file component is.made
 
@@ -73,7 +73,7 @@ first-settled : (kind : StdKind) (given : Given) (file : List ℕ) → name_of k
 first-settled kinds.LoadBalance given file other = absurd (other refl)
 first-settled kind given file other = refl
 
--- A component of any kind but LoadBalance is settled.
+-- What a component of any kind but LoadBalance sends follows from what it gets.
 pub made-settled : (plan : Network) (p : ℕ) (process : Process) (file : List ℕ) (component : Std) → process.kind ≢ name_of kinds.LoadBalance → IsMade plan p process file component → is_settled component ≡ true
 made-settled plan p process file component other made =
     subst (λ (k : Std). is_settled k ≡ true) (sym made.is) (first-settled made.kind (given plan p process) file (λ same. other (made.named ∙ same)))

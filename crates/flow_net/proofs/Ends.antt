@@ -1,4 +1,5 @@
 -- What is known of an element that was found by its name, and of two that may be joined.
+use Rattle.flow_limits.specs.declared.TheConstants.{CAPACITY_LIMIT, ELEMENT_LIMIT}
 use Rattle.std.proofs.Common.{◌≡◌, ℕ, ◌<◌, ◌≤◌, List, [], ◌∷◌, Option, Some, None, Ok, Err, Bool, true, false, refl, ap, sym, ◌∙◌, subst, zero, suc, IsSome, slice_get, get_or, length, arith}
 use Rattle.std.specs.Prelude.{◌&&◌, ◌==◌, nat_le, if◌then◌else◌}
 use Rattle.std.specs.declared.result.Result.{Result}
@@ -56,7 +57,7 @@ element_within : (array : Bool) (element : Option ℕ) (e : ℕ) → element_nam
 element_within true None e is = let zero_is : 0 ≡ e = cc in omega arith
 element_within true (Some n) e is = by (nat_le n 511) refl is
   where
-    by : (b : Bool) → nat_le n 511 ≡ b → (if b then Some n else None) ≡ Some e → e < 512
+    by : (b : Bool) → nat_le n 511 ≡ b → (if b then Some n else None) ≡ Some e → e < ELEMENT_LIMIT
     by true test is = let same_number : n ≡ e = cc in grind (arith, nat_tests)
     by false test is = absurd (cc)
 element_within false None e is = let zero_is : 0 ≡ e = cc in omega arith
@@ -120,7 +121,7 @@ AreThere-ends processes ports n from out to into ends all is =
 -- What holds of two ends that may be joined.
 pub record MayJoin (ports : List Port) (links : List Link) (capacity : Option ℕ) (output input : End) : Type 0 where
   pub stream : is_stream_at ports input ≡ true
-  pub allowed : (n : ℕ) → capacity ≡ Some n → (1 ≤ n) × (n ≤ 1024)
+  pub allowed : (n : ℕ) → capacity ≡ Some n → (1 ≤ n) × (n ≤ CAPACITY_LIMIT)
   pub free : is_taken (binding_at ports output) ≡ false
   pub ungiven : has_text (binding_at ports input) ≡ false
   pub room : is_full links (link_into ports input) ≡ false
@@ -130,12 +131,12 @@ pub if_true : (b : Bool) → (if b then false else true) ≡ false → b ≡ tru
 if_true true is = refl
 if_true false is = absurd (false≢true (sym is))
 
-allowed_ok : (capacity : Option ℕ) (u : Unit {0}) → allowed_capacity capacity ≡ Ok u → (n : ℕ) → capacity ≡ Some n → (1 ≤ n) × (n ≤ 1024)
+allowed_ok : (capacity : Option ℕ) (u : Unit {0}) → allowed_capacity capacity ≡ Ok u → (n : ℕ) → capacity ≡ Some n → (1 ≤ n) × (n ≤ CAPACITY_LIMIT)
 allowed_ok None u is n some = absurd (cc)
 allowed_ok (Some m) u is n some =
-    let both = and_true (nat_le 1 m) (nat_le m 1024) (if_true (nat_le 1 m && nat_le m 1024) (refused_ok _ _ u is)) in
+    let both = and_true (nat_le 1 m) (nat_le m CAPACITY_LIMIT) (if_true (nat_le 1 m && nat_le m CAPACITY_LIMIT) (refused_ok _ _ u is)) in
     let number : m ≡ n = cc in
-    subst (λ (k : ℕ). (1 ≤ k) × (k ≤ 1024)) number (grind (arith, nat_tests, both.0), grind (arith, nat_tests, both.1))
+    subst (λ (k : ℕ). (1 ≤ k) × (k ≤ CAPACITY_LIMIT)) number (grind (arith, nat_tests, both.0), grind (arith, nat_tests, both.1))
 
 -- Where no refusal was met, the two ports may be joined.
 pub MayJoin-ok : (ports : List Port) (links : List Link) (from : List ℕ) (out : PortRef) (to : List ℕ) (into : PortRef) (capacity : Option ℕ) (output input : End) (u : Unit {0}) → may_join ports links from out to into capacity output input ≡ Ok u → MayJoin ports links capacity output input

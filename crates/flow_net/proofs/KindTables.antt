@@ -1,4 +1,5 @@
 -- What a table of kinds says of each, and the draft that holds nothing.
+use Rattle.flow_limits.specs.declared.TheConstants.{PORT_LIMIT}
 use Rattle.std.proofs.Common.{◌≡◌, ℕ, List, [], ◌∷◌, Option, Some, None, Bool, true, false, ap, sym, subst, refl, ◌∙◌, zero, suc, slice_get, length, arith}
 use Rattle.std.specs.Prelude.{nat_le, not, if◌then◌else◌}
 use Rattle.std.specs.List.{list_all}
@@ -31,7 +32,7 @@ IsKind-passed kind is =
     let parts = and_true _ _ is in
     let needed = and_true (list_all is_input kind.inputs) (list_all is_needed_array kind.outputs) parts.0 in
     let rest = and_true _ _ parts.1 in
-    let few = and_true (nat_le (length kind.inputs) 4096) (nat_le (length kind.outputs) 4096) rest.0 in
+    let few = and_true (nat_le (length kind.inputs) PORT_LIMIT) (nat_le (length kind.outputs) PORT_LIMIT) rest.0 in
     record {
       inputs_needed = λ i spec here. (and_true _ _ (all_pass is_input kind.inputs needed.0 i spec here)).0;
       single_options = λ i spec here option. single-option spec (and_true _ _ (all_pass is_input kind.inputs needed.0 i spec here)).1 option;

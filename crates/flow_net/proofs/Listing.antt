@@ -1,4 +1,5 @@
 -- Bindings still agree with the lists after each step.
+use Rattle.flow_limits.specs.declared.TheConstants.{TEXT_LIMIT}
 use Rattle.std.proofs.Common.{◌≡◌, ◌≢◌, ℕ, ◌≤◌, List, Some, true, false, ap, sym, ◌∙◌, subst, inl, inr, ◌⊎◌, slice_get, length}
 use Rattle.std.specs.Option.{option_map}
 use Rattle.flow_net.specs.declared.draft.End.{End}
@@ -192,7 +193,7 @@ IsSided-sent ports after processes links linked n k out sided side outlined send
         by (inr new) = ap (is_input_at ports) (sym new.2) ∙ side
 
 -- Giving a text that fits an input keeps every text at an input that it fits.
-pub IsSided-given : (ports after : List Port) (processes texted : List Begun) (links : List Link) (p k : ℕ) (input : End) (text : List ℕ) → IsSided ports processes links → is_input_at ports input ≡ Some true → FitsPort (slice_get ports input.port) text → length text ≤ 1048576 → SameOutline ports after → GivesOne processes texted p k input text → IsSided after texted links
+pub IsSided-given : (ports after : List Port) (processes texted : List Begun) (links : List Link) (p k : ℕ) (input : End) (text : List ℕ) → IsSided ports processes links → is_input_at ports input ≡ Some true → FitsPort (slice_get ports input.port) text → length text ≤ TEXT_LIMIT → SameOutline ports after → GivesOne processes texted p k input text → IsSided after texted links
 IsSided-given ports after processes texted links p k input text sided side fits short outlined gives = record {
   into = λ c end h.
       let was = sided.into c end h in
@@ -201,10 +202,10 @@ IsSided-given ports after processes texted links p k input text sided side fits 
   text = at;
 }
   where
-    at : (q j : ℕ) (end : End) (t : List ℕ) → text_at texted q j ≡ Some (end, t) → (is_input_at after end ≡ Some true) × FitsPort (slice_get after end.port) t × (length t ≤ 1048576)
+    at : (q j : ℕ) (end : End) (t : List ℕ) → text_at texted q j ≡ Some (end, t) → (is_input_at after end ≡ Some true) × FitsPort (slice_get after end.port) t × (length t ≤ TEXT_LIMIT)
     at q j end t h = by (gives.cases q j (end, t) h)
       where
-        by : (text_at processes q j ≡ Some (end, t)) ⊎ ((q ≡ p) × (j ≡ k) × (◌≡◌ {A = End × List ℕ} (input, text) (end, t))) → (is_input_at after end ≡ Some true) × FitsPort (slice_get after end.port) t × (length t ≤ 1048576)
+        by : (text_at processes q j ≡ Some (end, t)) ⊎ ((q ≡ p) × (j ≡ k) × (◌≡◌ {A = End × List ℕ} (input, text) (end, t))) → (is_input_at after end ≡ Some true) × FitsPort (slice_get after end.port) t × (length t ≤ TEXT_LIMIT)
         by (inl old) =
             let was = sided.text q j end t old in
             (is_input_at-same ports after end outlined ∙ was.0, FitsPort-same ports after end.port t outlined was.1, was.2)
@@ -213,5 +214,5 @@ IsSided-given ports after processes texted links p k input text sided side fits 
             let words : text ≡ t = ap (λ (x : End × List ℕ). x.1) new.2 in (
               is_input_at-same ports after end outlined ∙ ap (is_input_at ports) (sym e) ∙ side,
               FitsPort-same ports after end.port t outlined (subst (λ (x : End × List ℕ). FitsPort (slice_get ports x.0.port) x.1) new.2 fits),
-              subst (λ (words : List ℕ). length words ≤ 1048576) words short,
+              subst (λ (words : List ℕ). length words ≤ TEXT_LIMIT) words short,
             )

@@ -1,4 +1,5 @@
 -- The elements of a draft stand in its ports, which have few.
+use Rattle.flow_limits.specs.declared.TheConstants.{CAPACITY_LIMIT, ELEMENT_LIMIT}
 use Rattle.std.proofs.Common.{◌≡◌, ℕ, ◌+◌, ◌<◌, ◌≤◌, List, [], ◌∷◌, Option, Some, None, Bool, true, false, map, refl, ap, sym, ◌∙◌, subst, slice_get, length, arith}
 use Rattle.std.specs.Prelude.{◌==◌, if◌then◌else◌, unwrap_or}
 use Rattle.std.proofs.lemmas.Bool.Decides.{nat_tests}
@@ -24,26 +25,26 @@ size_of-within (x ∷ xs) = by (size_of xs) (is_free x) (size_of-within xs)
     by n true le = grind (arith, nat_tests, le)
     by n false le = grind (arith, nat_tests, le)
 
-pub room_of-few : (array : Bool) → room_of array ≤ 512
+pub room_of-few : (array : Bool) → room_of array ≤ ELEMENT_LIMIT
 room_of-few true = omega arith
 room_of-few false = omega arith
 
-pub count_of-few : (port : Port) → length port.elements ≤ 512 → count_of port ≤ 512
+pub count_of-few : (port : Port) → length port.elements ≤ ELEMENT_LIMIT → count_of port ≤ ELEMENT_LIMIT
 count_of-few port few = by (is_stream port.spec.class) port.spec.array
   where
-    by : (stream array : Bool) → (if stream then (if array then size_of port.elements else 1) else 0) ≤ 512
+    by : (stream array : Bool) → (if stream then (if array then size_of port.elements else 1) else 0) ≤ ELEMENT_LIMIT
     by true true = omega (arith, size_of-within port.elements, few)
     by true false = omega arith
     by false array = omega arith
 
-pub elements-few : (n : ℕ) (ports : List Port) → ((g : ℕ) (p : Port) → slice_get ports g ≡ Some p → IsPort n p) → (g : ℕ) (p : Port) → slice_get ports g ≡ Some p → length p.elements ≤ 512
+pub elements-few : (n : ℕ) (ports : List Port) → ((g : ℕ) (p : Port) → slice_get ports g ≡ Some p → IsPort n p) → (g : ℕ) (p : Port) → slice_get ports g ≡ Some p → length p.elements ≤ ELEMENT_LIMIT
 elements-few n ports all g p is = omega (arith, (all g p is).room, room_of-few p.spec.array)
 
 -- No port has more elements than the limit.
-pub counts-few : (n : ℕ) (ports : List Port) (counts : List ℕ) → ((g : ℕ) (p : Port) → slice_get ports g ≡ Some p → IsPort n p) → counts ≡ map count_of ports → (g m : ℕ) → slice_get counts g ≡ Some m → m ≤ 512
+pub counts-few : (n : ℕ) (ports : List Port) (counts : List ℕ) → ((g : ℕ) (p : Port) → slice_get ports g ≡ Some p → IsPort n p) → counts ≡ map count_of ports → (g m : ℕ) → slice_get counts g ≡ Some m → m ≤ ELEMENT_LIMIT
 counts-few n ports counts all are g m is =
     let found = map_some count_of (slice_get ports g) m (sym (slice_get-map count_of ports g) ∙ ap (λ (xs : List ℕ). slice_get xs g) (sym are) ∙ is) in
-    subst (λ (k : ℕ). k ≤ 512) found.2 (count_of-few found.0 (elements-few n ports all g found.0 found.1))
+    subst (λ (k : ℕ). k ≤ ELEMENT_LIMIT) found.2 (count_of-few found.0 (elements-few n ports all g found.0 found.1))
 
 pub IsPlaced-bound : (n : ℕ) (ports : List Port) (end : End) (b : Binding) → ((g : ℕ) (p : Port) → slice_get ports g ≡ Some p → IsPort n p) → binding_at ports end ≡ Some b → IsPlaced ports end
 IsPlaced-bound n ports end b all is =
@@ -55,10 +56,10 @@ IsPlaced-bound n ports end b all is =
     }
 
 -- The capacity of a connection is at least one and at most the limit.
-pub capacity_of-small : (link : Link) → IsLink link → (1 ≤ capacity_of link) × (capacity_of link ≤ 1024)
+pub capacity_of-small : (link : Link) → IsLink link → (1 ≤ capacity_of link) × (capacity_of link ≤ CAPACITY_LIMIT)
 capacity_of-small link is = by link.capacity is.capacity
   where
-    by : (o : Option ℕ) → ((n : ℕ) → o ≡ Some n → (1 ≤ n) × (n ≤ 1024)) → (1 ≤ unwrap_or o 10) × (unwrap_or o 10 ≤ 1024)
+    by : (o : Option ℕ) → ((n : ℕ) → o ≡ Some n → (1 ≤ n) × (n ≤ CAPACITY_LIMIT)) → (1 ≤ unwrap_or o 10) × (unwrap_or o 10 ≤ CAPACITY_LIMIT)
     by None bounds = (omega arith, omega arith)
     by (Some n) bounds = bounds n refl
 

@@ -1,4 +1,5 @@
 -- The options and the rows of the plan of a sound draft without a fault.
+use Rattle.flow_limits.specs.declared.TheConstants.{TEXT_LIMIT}
 use Rattle.std.proofs.Common.{◌≡◌, ℕ, ◌<◌, ◌≤◌, List, Option, Some, Ok, Bool, true, false, map, ap, sym, ◌∙◌, subst, slice_get, length, take, arith}
 use Rattle.std.specs.Prelude.{◌==◌, ◌&&◌, if◌then◌else◌}
 use Rattle.std.specs.Option.{option_map, option_map_or, option_and_then}
@@ -41,7 +42,7 @@ record AtOption (draft : Draft) (p i k : ℕ) (end : End) (text : List ℕ) : Ty
   pub row : slice_get (rows_of draft.ports p true) i ≡ Some (row_of port)
   pub bound : binding_at draft.ports end ≡ Some (Given k)
   pub class : IsOfClass port.spec.class text
-  pub short : length text ≤ 1048576
+  pub short : length text ≤ TEXT_LIMIT
 
 AtOption-text : (draft : Draft) → IsSound draft → (p i k : ℕ) (end : End) (text : List ℕ) → text_at draft.processes p k ≡ Some (end, text) → is_stream_at draft.ports end ≡ false → place_at draft.ports end ≡ i → AtOption draft p i k end text
 AtOption-text draft sound p i k end text is option at = record {
@@ -60,7 +61,7 @@ AtOption-text draft sound p i k end text is option at = record {
     given : (binding_at draft.ports end ≡ Some (Given k)) × (process_at draft.ports end ≡ p)
     given = sound.listed.given p k end text is
 
-    sided : (is_input_at draft.ports end ≡ Some true) × FitsPort (slice_get draft.ports end.port) text × (length text ≤ 1048576)
+    sided : (is_input_at draft.ports end ≡ Some true) × FitsPort (slice_get draft.ports end.port) text × (length text ≤ TEXT_LIMIT)
     sided = sound.sided.text p k end text is
 
     found : (q : Port) × (slice_get draft.ports end.port ≡ Some q) × (slice_get q.elements end.element ≡ Some (Given k))

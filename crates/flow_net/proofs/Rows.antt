@@ -1,4 +1,5 @@
 -- The rows of a plan's tables and the ports of a draft that they stand for.
+use Rattle.flow_limits.specs.declared.TheConstants.{ELEMENT_LIMIT}
 use Rattle.std.proofs.Common.{◌≡◌, ℕ, ◌+◌, ◌≤◌, List, [], ◌∷◌, Some, Ok, Bool, true, false, map, refl, ap, sym, ◌∙◌, zero, suc, slice_get, length, take, arith}
 use Rattle.std.specs.Prelude.{◌==◌, if◌then◌else◌, position}
 use Rattle.std.specs.List.{sum_by}
@@ -97,10 +98,10 @@ needed_size name port needed none = by (size_of port.elements == 0) refl none
 pub IsRow-of : (n : ℕ) (name : List ℕ) (port : Port) → IsPort n port → port_fault name port ≡ Ok tt → IsRow (row_of port)
 IsRow-of n name port is_port none = record { array = array; single = single }
   where
-    array : port.spec.array ≡ true → (1 ≤ elements_in port) × (elements_in port ≤ 512)
+    array : port.spec.array ≡ true → (1 ≤ elements_in port) × (elements_in port ≤ ELEMENT_LIMIT)
     array is =
         let count : elements_in port ≡ size_of port.elements = ap (λ (b : Bool). if b then size_of port.elements else 1) is in
-        let room : length port.elements ≡ 512 = is_port.room ∙ ap room_of is in
+        let room : length port.elements ≡ ELEMENT_LIMIT = is_port.room ∙ ap room_of is in
         let some : 1 ≤ size_of port.elements = needed_size name port (is_port.array is) none in
         (omega (arith, count, some), omega (arith, count, room, size_of-within port.elements))
 

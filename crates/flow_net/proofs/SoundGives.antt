@@ -1,4 +1,5 @@
 -- A draft stays sound when an input is given a text.
+use Rattle.flow_limits.specs.declared.TheConstants.{TEXT_LIMIT}
 use Rattle.std.proofs.Common.{◌≡◌, ◌≢◌, ℕ, ◌<◌, ◌≤◌, List, [], ◌∷◌, Option, Some, Ok, Err, true, refl, ap, sym, ◌∙◌, subst, zero, suc, inl, inr, ◌⊎◌, slice_get, length, arith}
 use Rattle.std.specs.Option.{option_map, option_map_or}
 use Rattle.flow_net.specs.declared.draft.End.{End}
@@ -55,7 +56,7 @@ process_at-within ports n end all is =
     subst (λ (m : ℕ). m < n) (sym (ap (λ (o : Option Port). option_map_or (λ (p : Port). p.process) o 0) found.1)) (all end.port found.0 found.1).process
 
 -- A text that is given keeps a draft sound.
-pub IsSound-given : (draft : Draft) (text to : List ℕ) (into : PortRef) (input : End) → IsSound draft → input_for draft.processes draft.ports to into ≡ Ok input → FitsPort (slice_get draft.ports input.port) text → length text ≤ 1048576 → IsSound (given draft input text)
+pub IsSound-given : (draft : Draft) (text to : List ℕ) (into : PortRef) (input : End) → IsSound draft → input_for draft.processes draft.ports to into ≡ Ok input → FitsPort (slice_get draft.ports input.port) text → length text ≤ TEXT_LIMIT → IsSound (given draft input text)
 IsSound-given draft text to into input sound ok fits short = record {
   kinds = sound.kinds;
   few_processes = omega (arith, count, sound.few_processes);

@@ -1,4 +1,5 @@
 -- A draft stays sound when an output is joined to an input.
+use Rattle.flow_limits.specs.declared.TheConstants.{CAPACITY_LIMIT, CONNECTION_LIMIT, SENDER_LIMIT}
 use Rattle.std.proofs.Common.{◌≡◌, ◌≢◌, ℕ, ◌<◌, ◌≤◌, List, [], ◌∷◌, ◌++◌, Option, Some, None, Ok, true, false, refl, ap, sym, ◌∙◌, subst, inl, inr, ◌⊎◌, IsSome, slice_get, slice_set, length, arith, length-append}
 use Rattle.std.specs.Prelude.{nat_le}
 use Rattle.std.specs.Option.{option_map}
@@ -48,7 +49,7 @@ IsPort-bound n ports end b all g p is = by (same_or_not g end.port)
         })
     by (inr ne) = all g p (sym (slice_get-updated_other (λ (port : Port). record port { elements = slice_set port.elements end.element b }) ports end.port g ne) ∙ is)
 
-first_given_allowed : (before now : Option ℕ) → ((n : ℕ) → before ≡ Some n → (1 ≤ n) × (n ≤ 1024)) → ((n : ℕ) → now ≡ Some n → (1 ≤ n) × (n ≤ 1024)) → (n : ℕ) → first_given before now ≡ Some n → (1 ≤ n) × (n ≤ 1024)
+first_given_allowed : (before now : Option ℕ) → ((n : ℕ) → before ≡ Some n → (1 ≤ n) × (n ≤ CAPACITY_LIMIT)) → ((n : ℕ) → now ≡ Some n → (1 ≤ n) × (n ≤ CAPACITY_LIMIT)) → (n : ℕ) → first_given before now ≡ Some n → (1 ≤ n) × (n ≤ CAPACITY_LIMIT)
 first_given_allowed (Some m) now before after n is = before n is
 first_given_allowed None now before after n is = after n is
 
@@ -56,7 +57,7 @@ first_given-none : (now : Option ℕ) → first_given None now ≡ now
 first_given-none now = refl
 
 -- connections are connections after one more sender of one that isn't full
-pub IsLink-updated : (links : List Link) (n : ℕ) (link : Link) (out : End) (capacity : Option ℕ) → ((c : ℕ) (l : Link) → slice_get links c ≡ Some l → IsLink l) → slice_get links n ≡ Some link → length link.senders < 65535 → ((m : ℕ) → capacity ≡ Some m → (1 ≤ m) × (m ≤ 1024)) → (c : ℕ) (l : Link) → slice_get (updated (with_sender out capacity) links n) c ≡ Some l → IsLink l
+pub IsLink-updated : (links : List Link) (n : ℕ) (link : Link) (out : End) (capacity : Option ℕ) → ((c : ℕ) (l : Link) → slice_get links c ≡ Some l → IsLink l) → slice_get links n ≡ Some link → length link.senders < SENDER_LIMIT → ((m : ℕ) → capacity ≡ Some m → (1 ≤ m) × (m ≤ CAPACITY_LIMIT)) → (c : ℕ) (l : Link) → slice_get (updated (with_sender out capacity) links n) c ≡ Some l → IsLink l
 IsLink-updated links n link out capacity all here room allowed c l is = by (same_or_not c n)
   where
     by : (c ≡ n) ⊎ (c ≢ n) → IsLink l
@@ -81,7 +82,7 @@ IsLink-push links link all new c l is = by (slice_get-push_cases links link l c 
 -- What a join leaves, whichever way it went.
 pub record Joins (ports : List Port) (processes : List Begun) (n : ℕ) (after : List Port) (linked : List Link) : Type 0 where
   pub count : length after ≡ length ports
-  pub few : length linked ≤ 512
+  pub few : length linked ≤ CONNECTION_LIMIT
   pub each_port : (g : ℕ) (p : Port) → slice_get after g ≡ Some p → IsPort n p
   pub each_link : (c : ℕ) (l : Link) → slice_get linked c ≡ Some l → IsLink l
   pub listed : IsListed after processes linked
@@ -90,7 +91,7 @@ pub record Joins (ports : List Port) (processes : List Begun) (n : ℕ) (after :
 module _ (ports : List Port) (processes : List Begun) (links : List Link) (n : ℕ) (out into : End) (capacity : Option ℕ)
     (each_port : (g : ℕ) (p : Port) → slice_get ports g ≡ Some p → IsPort n p)
     (each_link : (c : ℕ) (l : Link) → slice_get links c ≡ Some l → IsLink l)
-    (few : length links ≤ 512)
+    (few : length links ≤ CONNECTION_LIMIT)
     (listed : IsListed ports processes links)
     (sided : IsSided ports processes links)
     (there : AreThere ports (out, into))
@@ -117,7 +118,7 @@ module _ (ports : List Port) (processes : List Begun) (links : List Link) (n : �
       whole : Link
       whole = record { into = into; capacity = capacity; senders = out ∷ [] }
 
-      space : length links < 512
+      space : length links < CONNECTION_LIMIT
       space = grind (arith, nat_tests, room)
 
       opened_ports : List Port
@@ -173,10 +174,10 @@ module _ (ports : List Port) (processes : List Begun) (links : List Link) (n : �
       here : slice_get links c ≡ Some link
       here = found.1
 
-      full : nat_le 65535 (length link.senders) ≡ false
+      full : nat_le SENDER_LIMIT (length link.senders) ≡ false
       full = ap has_all_senders (sym here) ∙ room
 
-      space : length link.senders < 65535
+      space : length link.senders < SENDER_LIMIT
       space = grind (arith, nat_tests, full)
 
       after : List Port

@@ -1,4 +1,5 @@
 -- The plan of a sound draft without a fault is valid.
+use Rattle.flow_limits.specs.declared.TheConstants.{CAPACITY_LIMIT, CAPACITY_SUM_LIMIT, SENDER_LIMIT, TEXT_LIMIT}
 use Rattle.std.proofs.Common.{◌≡◌, ℕ, ◌+◌, ◌-◌, ◌<◌, ◌≤◌, List, [], ◌∷◌, Option, Some, Ok, Bool, true, false, map, refl, ap, sym, ◌∙◌, subst, zero, suc, inl, inr, ◌⊎◌, slice_get, length, take, arith}
 use Rattle.std.specs.Prelude.{◌==◌, nat_le, if◌then◌else◌}
 use Rattle.std.specs.declared.result.Result.{Result}
@@ -440,24 +441,24 @@ module _ (draft : Draft) (sound : IsSound draft) (u : Unit {0}) (whole : draft_f
           let side : is_input_at draft.ports has_text.0.0 ≡ Some true = (sound.sided.text _ k has_text.0.0 has_text.0.1 has_text.1).0 in
           absurd (some_apart (sym side ∙ ap (is_input_at draft.ports) has_text.2 ∙ input))
 
-  capacities : (c : ℕ) (x : Connection) → slice_get network.connections c ≡ Some x → (1 ≤ x.capacity) × (x.capacity ≤ 1024)
+  capacities : (c : ℕ) (x : Connection) → slice_get network.connections c ≡ Some x → (1 ≤ x.capacity) × (x.capacity ≤ CAPACITY_LIMIT)
   capacities c x here =
       let found = connection_at_plan c x here in
-      subst (λ (z : Connection). (1 ≤ z.capacity) × (z.capacity ≤ 1024)) found.2 (capacity_of-small found.0 (sound.links c found.0 found.1))
+      subst (λ (z : Connection). (1 ≤ z.capacity) × (z.capacity ≤ CAPACITY_LIMIT)) found.2 (capacity_of-small found.0 (sound.links c found.0 found.1))
 
-  few_senders : (c : ℕ) (x : Connection) → slice_get network.connections c ≡ Some x → length x.senders ≤ 65535
+  few_senders : (c : ℕ) (x : Connection) → slice_get network.connections c ≡ Some x → length x.senders ≤ SENDER_LIMIT
   few_senders c x here =
       let found = connection_at_plan c x here in
-      let few : length (map (sender_of draft.ports) found.0.senders) ≤ 65535 = omega (arith, length-map found.0.senders (sender_of draft.ports), (sound.links c found.0 found.1).senders) in
-      subst (λ (z : Connection). length z.senders ≤ 65535) found.2 few
+      let few : length (map (sender_of draft.ports) found.0.senders) ≤ SENDER_LIMIT = omega (arith, length-map found.0.senders (sender_of draft.ports), (sound.links c found.0 found.1).senders) in
+      subst (λ (z : Connection). length z.senders ≤ SENDER_LIMIT) found.2 few
 
-  capacity_sum : sum_by (λ (x : Connection). x.capacity) network.connections ≤ 65536
+  capacity_sum : sum_by (λ (x : Connection). x.capacity) network.connections ≤ CAPACITY_SUM_LIMIT
   capacity_sum =
-      let test : nat_le (sum_by capacity_of draft.links) 65536 ≡ true = if_true _ (refused_ok _ _ u ports_whole.2) in
-      let few : sum_by capacity_of draft.links ≤ 65536 = grind (arith, nat_tests, test) in
+      let test : nat_le (sum_by capacity_of draft.links) CAPACITY_SUM_LIMIT ≡ true = if_true _ (refused_ok _ _ u ports_whole.2) in
+      let few : sum_by capacity_of draft.links ≤ CAPACITY_SUM_LIMIT = grind (arith, nat_tests, test) in
       omega (arith, few, sum_by_map (λ (x : Connection). x.capacity) (connection_of draft.ports) draft.links)
 
-  short : (p k i : ℕ) (x : Process) (text : List ℕ) → slice_get network.processes p ≡ Some x → slice_get x.initials k ≡ Some (i, text) → length text ≤ 1048576
+  short : (p k i : ℕ) (x : Process) (text : List ℕ) → slice_get network.processes p ≡ Some x → slice_get x.initials k ≡ Some (i, text) → length text ≤ TEXT_LIMIT
   short p k i x text here given =
       let from = text_at_plan p k i x text here given in
       (sound.sided.text p from.2.place from.2.end text (text_here p from.2.place from.0 (from.2.end, text) from.1 from.2.here)).2

@@ -1,4 +1,5 @@
 -- The value of a part's lines is that of a part.
+use Rattle.flow_limits.specs.declared.TheConstants.{CAPACITY_LIMIT, TEXT_LIMIT}
 use Rattle.std.proofs.Common.{◌≡◌, ℕ, Bool, true, false, cond, leb, List, [], ◌∷◌, ◌++◌, length, map, Option, Some, None, refl, ap, ◌∙◌}
 use Rattle.std.specs.Prelude.{◌&&◌, ◌||◌, is_some, unwrap_or, option_and_then}
 use Rattle.std.specs.Str.{bytes_eq}
@@ -54,10 +55,10 @@ form_statements (Connection from out capacity into to) s =
     let a = both (mention_is_named from && port_is_named out && port_is_named into) (mention_is_named to) s.named in
     let b = both (mention_is_named from && port_is_named out) (port_is_named into) a.0 in
     let c = both (mention_is_named from) (port_is_named out) b.0 in
-    ((mention_name from c.0 s.worded.0, port_fine out c.1 s.worded.1, number_if_any 1 1024 capacity, mention_name to a.1 s.worded.3, port_fine into b.1 s.worded.2), tt)
+    ((mention_name from c.0 s.worded.0, port_fine out c.1 s.worded.1, number_if_any 1 CAPACITY_LIMIT capacity, mention_name to a.1 s.worded.3, port_fine into b.1 s.worded.2), tt)
 form_statements (Initial text into to) s =
     let a = both (port_is_named into) (mention_is_named to) s.named in
-    (((s.worded.0, leb-true (length text) 1048576 s.fits), mention_name to a.1 s.worded.2, port_fine into a.0 s.worded.1), tt)
+    (((s.worded.0, leb-true (length text) TEXT_LIMIT s.fits), mention_name to a.1 s.worded.2, port_fine into a.0 s.worded.1), tt)
 form_statements (Subnet name) s = tt
 form_statements End s = tt
 form_statements (InPort outer into to) s =

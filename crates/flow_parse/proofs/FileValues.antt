@@ -1,4 +1,5 @@
 -- Each value that a file spells is a valid one.
+use Rattle.flow_limits.specs.declared.TheConstants.{STATEMENT_LIMIT}
 use Rattle.std.proofs.Common.{◌≡◌, ℕ, ◌+◌, ◌≤◌, Bool, true, false, leb, List, [], ◌∷◌, ◌++◌, length, length-append, map, Option, Some, None, Result, Ok, Err, refl, sym, ap, subst, ◌∙◌, arith}
 use Rattle.std.specs.Prelude.{◌&&◌, ◌||◌, not, is_some, is_none, MatchResult, IfOk}
 use Rattle.std.specs.Str.{bytes_eq}
@@ -48,7 +49,7 @@ pub record SoundParts (parts : Parts) : Type 0 where
   pub subnets : AllByRecursion SoundSubnet parts.subnets
   pub differ : Differ (map (λ s. s.0) parts.subnets)
   pub opened : SoundOpen parts.subnets parts.open_part
-  pub count : statement_count parts ≤ 4096
+  pub count : statement_count parts ≤ STATEMENT_LIMIT
 
 no_first : (a b c d e g : Bool) (r1 r2 r3 r4 r5 r6 : Reason) → first_failing ((a, r1) ∷ (b, r2) ∷ (c, r3) ∷ (d, r4) ∷ (e, r5) ∷ (g, r6) ∷ []) ≡ None → (a ≡ true) × (b ≡ true) × (c ≡ true) × (d ≡ true) × (e ≡ true) × (g ≡ true)
 no_first true true true true true true r1 r2 r3 r4 r5 r6 none = (refl, refl, refl, refl, refl, refl)
@@ -71,13 +72,13 @@ record Passed (parts : Parts) (form : Form) : Type 0 where
   named : is_named form ≡ true
   new : is_new_subnet parts form ≡ true
   fits : text_fits form ≡ true
-  count : statement_count parts + length (statements_of form) ≤ 4096
+  count : statement_count parts + length (statements_of form) ≤ STATEMENT_LIMIT
 
 passed : (n : ℕ) (parts : Parts) (form : Form) → fault_at n parts form ≡ None → Passed parts form
 passed n parts form none =
     let r = no_first (may_stand parts form) (is_named form) (is_numbered form) (kinds_agree (map (λ (k : ℕ × Mention). k.1) (mentions_in (lines_now parts))) (mentions_of form)) (is_new_subnet parts form) (is_within_limits parts form) _ _ _ _ _ _ (no_reason n parts form none) in
-    let l = both (text_fits form) (leb (statement_count parts + length (statements_of form)) 4096) r.5 in
-    record { stands = r.0; named = r.1; new = r.4; fits = l.0; count = leb-true (statement_count parts + length (statements_of form)) 4096 l.1 }
+    let l = both (text_fits form) (leb (statement_count parts + length (statements_of form)) STATEMENT_LIMIT) r.5 in
+    record { stands = r.0; named = r.1; new = r.4; fits = l.0; count = leb-true (statement_count parts + length (statements_of form)) STATEMENT_LIMIT l.1 }
 
 push : {X : Type 0} (P : X → Type 0) (xs : List X) (x : X) → AllByRecursion P xs → P x → AllByRecursion P (xs ++ x ∷ [])
 push P [] x all p = (p, tt)
@@ -87,7 +88,7 @@ longer : (ls : Lines) (n : ℕ) (form : Form) → length (statements_in (ls ++ (
 longer ls n form = ap length (statements_push ls n form) ∙ length-append (statements_in ls) (statements_of form)
 
 -- One more line of its part.
-put_sound : (parts : Parts) (n : ℕ) (form : Form) → SoundParts parts → Sound form → statement_count parts + length (statements_of form) ≤ 4096 → (is_none parts.open_part ≡ true → AllByRecursion IsInner (statements_of form)) → SoundParts (put_into parts parts.open_part (n, form))
+put_sound : (parts : Parts) (n : ℕ) (form : Form) → SoundParts parts → Sound form → statement_count parts + length (statements_of form) ≤ STATEMENT_LIMIT → (is_none parts.open_part ≡ true → AllByRecursion IsInner (statements_of form)) → SoundParts (put_into parts parts.open_part (n, form))
 put_sound parts n form s sound count inner = by_open parts.open_part refl where
   by_open : (o : Option Open) → parts.open_part ≡ o → SoundParts (put_into parts o (n, form))
   by_open None e =

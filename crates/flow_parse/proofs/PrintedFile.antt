@@ -1,4 +1,5 @@
 -- The canonical text of a valid value spells it.
+use Rattle.flow_limits.specs.declared.TheConstants.{STATEMENT_LIMIT}
 use Rattle.std.proofs.Common.{◌≡◌, ℕ, ◌+◌, ◌≤◌, Bool, false, List, [], ◌∷◌, ◌++◌, length, map, Some, None, Result, Ok, refl, sym, ap, subst, ◌∙◌, append_assoc, rules, arith}
 use Rattle.std.specs.Prelude.{◌||◌, not, codes}
 use Rattle.std.specs.Str.{bytes_eq}
@@ -75,17 +76,17 @@ sum_push : (before : List (List ℕ × NetPart)) (s : List ℕ × NetPart) → s
 sum_push before s = sum_by_push (λ (t : List ℕ × NetPart). length t.1.statements) before s
 
 -- A subnet's line has no fault where its name is new.
-subnet_fault : (done : List (List ℕ × Lines)) (n : ℕ) (name : List ℕ) → IsName name → list_any (λ (s : List ℕ × Lines). bytes_eq s.0 name) done ≡ false → ended_count done ≤ 4096 → fault_at n (at (in_main done) []) (forms.Subnet name) ≡ None
+subnet_fault : (done : List (List ℕ × Lines)) (n : ℕ) (name : List ℕ) → IsName name → list_any (λ (s : List ℕ × Lines). bytes_eq s.0 name) done ≡ false → ended_count done ≤ STATEMENT_LIMIT → fault_at n (at (in_main done) []) (forms.Subnet name) ≡ None
 subnet_fault done n name is new count =
     let none : reason_at (at (in_main done) []) (forms.Subnet name) ≡ None = no_reason (in_main done) [] (forms.Subnet name) refl is.0 refl refl (ap not new) refl (omega arith) in rw none refl
 
-end_fault : (done : List (List ℕ × Lines)) (n m : ℕ) (name : List ℕ) (ls : Lines) (part : NetPart) → Gives ls part → length (statements_in ls) + ended_count done ≤ 4096 → fault_at m (at (in_subnet done n name) ls) forms.End ≡ None
+end_fault : (done : List (List ℕ × Lines)) (n m : ℕ) (name : List ℕ) (ls : Lines) (part : NetPart) → Gives ls part → length (statements_in ls) + ended_count done ≤ STATEMENT_LIMIT → fault_at m (at (in_subnet done n name) ls) forms.End ≡ None
 end_fault done n m name ls part gives count =
     let none : reason_at (at (in_subnet done n name) ls) forms.End ≡ None = no_reason (in_subnet done n name) ls forms.End refl refl refl refl refl refl (omega arith) in rw (none, gives.kinded) refl
 
 -- The lines of subnets, read one after another.
 subnets_read : (ss : List (List ℕ × NetPart)) (n : ℕ) (done : List (List ℕ × Lines)) (before all : List (List ℕ × NetPart)) (rest : List ℕ) (outcome : Result NetText NetFault)
-    → values_of done ≡ before → before ++ ss ≡ all → AllByRecursion (λ (s : List ℕ × NetPart). IsName s.0 × IsNetPart s.1) ss → NewNames before ss → Differ (map (λ s. s.0) ss) → said_in before + said_in ss ≤ 4096
+    → values_of done ≡ before → before ++ ss ≡ all → AllByRecursion (λ (s : List ℕ × NetPart). IsName s.0 × IsNetPart s.1) ss → NewNames before ss → Differ (map (λ s. s.0) ss) → said_in before + said_in ss ≤ STATEMENT_LIMIT
     → ((m : ℕ) (later : List (List ℕ × Lines)) → values_of later ≡ all → LeadsTo m (Some (at (in_main later) [])) (lines rest) outcome)
     → LeadsTo n (Some (at (in_main done) [])) (lines (flat_map subnet_lines ss ++ rest)) outcome
 subnets_read [] n done before all rest outcome same whole are new differ count go = go n done (same ∙ sym (append-nil before) ∙ whole)
@@ -97,7 +98,7 @@ subnets_read (s ∷ ss) n done before all rest outcome same whole are new differ
     let tail : List ℕ = line ((Word (codes "end") ∷ []) ∷ []) ++ more in
     let text : (flat_map subnet_lines (s ∷ ss)) ++ rest ≡ line (subnet_pieces_of s.0) ++ (part_lines s.1 ++ tail) = regroup (line (subnet_pieces_of s.0)) (part_lines s.1) (line ((Word (codes "end") ∷ []) ∷ [])) (flat_map subnet_lines ss) rest in
     let total : said_in (s ∷ ss) ≡ length s.1.statements + said_in ss = sum_by-cons (λ (t : List ℕ × NetPart). length t.1.statements) s ss in
-    let within : length s.1.statements + ended_count done ≤ 4096 = omega (arith, total, so_far, count) in
+    let within : length s.1.statements + ended_count done ≤ STATEMENT_LIMIT = omega (arith, total, so_far, count) in
     let behind : (m : ℕ) (ls : Lines) → Gives ls s.1 → LeadsTo m (Some (at inner ls)) (lines tail) outcome = λ m ls gives.
     let said : length (statements_in ls) ≡ length s.1.statements = ap (λ (p : NetPart). length p.statements) gives.value in
     let pushed : values_of (done ++ (s.0, ls) ∷ []) ≡ before ++ s ∷ [] = map-append (λ (d : List ℕ × Lines). (d.0, value_of d.1)) done ((s.0, ls) ∷ []) ∙ ap (λ (l : List (List ℕ × NetPart)). l ++ (s.0, value_of ls) ∷ []) same ∙ ap (λ (p : NetPart). before ++ (s.0, p) ∷ []) gives.value in

@@ -1,4 +1,5 @@
 -- The form that the line of a process or a statement says.
+use Rattle.flow_limits.specs.declared.TheConstants.{CAPACITY_LIMIT, TEXT_LIMIT}
 use Rattle.std.proofs.Common.{◌≡◌, ℕ, ◌+◌, ◌%◌, ◌^◌, ◌<◌, ◌≤◌, Bool, true, false, cond, eqb, leb, List, [], ◌∷◌, ◌++◌, length, get_or, map, Option, Some, None, refl, ap, subst, ◌∙◌, ◌⊎◌, inl, inr, append_assoc, eq-eqb, leb-true, leb-false, eqb-true, rules, arith}
 use Rattle.std.specs.Prelude.{◌&&◌, ◌||◌, not, is_some, codes, option_map, option_and_then}
 use Rattle.std.specs.Fmt.{decimal}
@@ -105,17 +106,17 @@ element_again : (e : Option ℕ) → IsWithin 0 511 e → option_and_then elemen
 element_again None within = refl
 element_again (Some n) within = number_again 0 511 n within.0 within.1 (omega arith)
 
-capacity_again : (e : Option ℕ) → IsWithin 1 1024 e → option_and_then capacity_of (option_map decimal e) ≡ e
+capacity_again : (e : Option ℕ) → IsWithin 1 CAPACITY_LIMIT e → option_and_then capacity_of (option_map decimal e) ≡ e
 capacity_again None within = refl
-capacity_again (Some n) within = number_again 1 1024 n within.0 within.1 (omega arith)
+capacity_again (Some n) within = number_again 1 CAPACITY_LIMIT n within.0 within.1 (omega arith)
 
 element_numbered : (e : Option ℕ) → IsWithin 0 511 e → or_none (λ w. is_some (element_of w)) (option_map decimal e) ≡ true
 element_numbered None within = refl
 element_numbered (Some n) within = ap is_some (number_again 0 511 n within.0 within.1 (omega arith))
 
-capacity_numbered : (e : Option ℕ) → IsWithin 1 1024 e → or_none (λ w. is_some (capacity_of w)) (option_map decimal e) ≡ true
+capacity_numbered : (e : Option ℕ) → IsWithin 1 CAPACITY_LIMIT e → or_none (λ w. is_some (capacity_of w)) (option_map decimal e) ≡ true
 capacity_numbered None within = refl
-capacity_numbered (Some n) within = ap is_some (number_again 1 1024 n within.0 within.1 (omega arith))
+capacity_numbered (Some n) within = ap is_some (number_again 1 CAPACITY_LIMIT n within.0 within.1 (omega arith))
 
 -- forms
 
@@ -189,7 +190,7 @@ statement_numbered (OutPort from out outer) is = element_numbered out.element is
 -- The text of a statement is within its limit.
 pub statement_fits : (s : Statement) → IsStatement s → text_fits (said_by s) ≡ true
 statement_fits (Connect from out capacity to into) is = refl
-statement_fits (Initial text to into) is = le-leb (length text) 1048576 is.0.1
+statement_fits (Initial text to into) is = le-leb (length text) TEXT_LIMIT is.0.1
 statement_fits (InPort outer to into) is = refl
 statement_fits (OutPort from out outer) is = refl
 

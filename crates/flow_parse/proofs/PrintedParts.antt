@@ -1,4 +1,5 @@
 -- The lines of a part's canonical text, read one after another.
+use Rattle.flow_limits.specs.declared.TheConstants.{STATEMENT_LIMIT}
 use Rattle.std.proofs.Common.{◌≡◌, ℕ, ◌+◌, ◌≤◌, Bool, true, false, leb, List, [], ◌∷◌, ◌++◌, length, length-append, map, Option, Some, None, Result, refl, sym, ap, subst, ◌∙◌, append_assoc, arith}
 use Rattle.std.specs.Prelude.{◌&&◌, ◌||◌, unwrap_or, option_and_then}
 use Rattle.std.specs.Str.{bytes_eq}
@@ -77,13 +78,13 @@ both_true a b ea eb = rw (ea, eb) refl
 
 -- A line of a form that may stand there, within all limits, is refused for no reason.
 pub no_reason : (w : Where) (ls : Lines) (form : Form) → may_stand (at w ls) form ≡ true → is_named form ≡ true → is_numbered form ≡ true → kinds_agree (map (λ k. k.1) (mentions_in ls)) (mentions_of form) ≡ true
-    → is_new_subnet (at w ls) form ≡ true → text_fits form ≡ true → (length (statements_in ls) + elsewhere w) + length (statements_of form) ≤ 4096 → reason_at (at w ls) form ≡ None
+    → is_new_subnet (at w ls) form ≡ true → text_fits form ≡ true → (length (statements_in ls) + elsewhere w) + length (statements_of form) ≤ STATEMENT_LIMIT → reason_at (at w ls) form ≡ None
 no_reason w ls form stands named numbered agree new fits count =
     let there : kinds_agree (map (λ (k : ℕ × Mention). k.1) (mentions_in (lines_now (at w ls)))) (mentions_of form) ≡ true = ap (λ (l : Lines). kinds_agree (map (λ (k : ℕ × Mention). k.1) (mentions_in l)) (mentions_of form)) (lines_at w ls) ∙ agree in
     let c = count_at w ls in
-    let within : leb (statement_count (at w ls) + length (statements_of form)) 4096 ≡ true = le-leb (statement_count (at w ls) + length (statements_of form)) 4096 (omega (arith, c, count)) in
-    all_pass (may_stand (at w ls) form) (is_named form) (is_numbered form) (kinds_agree (map (λ (k : ℕ × Mention). k.1) (mentions_in (lines_now (at w ls)))) (mentions_of form)) (is_new_subnet (at w ls) form) (text_fits form && leb (statement_count (at w ls) + length (statements_of form)) 4096)
-    stands named numbered there new (both_true (text_fits form) (leb (statement_count (at w ls) + length (statements_of form)) 4096) fits within)
+    let within : leb (statement_count (at w ls) + length (statements_of form)) STATEMENT_LIMIT ≡ true = le-leb (statement_count (at w ls) + length (statements_of form)) STATEMENT_LIMIT (omega (arith, c, count)) in
+    all_pass (may_stand (at w ls) form) (is_named form) (is_numbered form) (kinds_agree (map (λ (k : ℕ × Mention). k.1) (mentions_in (lines_now (at w ls)))) (mentions_of form)) (is_new_subnet (at w ls) form) (text_fits form && leb (statement_count (at w ls) + length (statements_of form)) STATEMENT_LIMIT)
+    stands named numbered there new (both_true (text_fits form) (leb (statement_count (at w ls) + length (statements_of form)) STATEMENT_LIMIT) fits within)
 
 -- One line on, where the line has no fault.
 pub one_line : (n : ℕ) (parts next : Parts) (pieces : List (List Token)) (form : Form) (rest : List ℕ) (outcome : Result NetText NetFault) → Says pieces form → fault_at n parts form ≡ None → with_line parts n form ≡ next
@@ -155,7 +156,7 @@ put_process (in_subnet done m name) ls n p = refl
 
 -- The lines of processes, read one after another.
 pub processes_read : (ps : List (List ℕ × List ℕ)) (w : Where) (n : ℕ) (ls : Lines) (table : List Known) (done all : List (List ℕ × List ℕ)) (rest : List ℕ) (outcome : Result NetText NetFault)
-    → Made ls table [] → IsTable table done → done ++ ps ≡ all → Fresh table ps → Differ (map (λ p. p.0) ps) → AllByRecursion (λ (p : List ℕ × List ℕ). IsName p.0 × IsName p.1) ps → elsewhere w ≤ 4096
+    → Made ls table [] → IsTable table done → done ++ ps ≡ all → Fresh table ps → Differ (map (λ p. p.0) ps) → AllByRecursion (λ (p : List ℕ × List ℕ). IsName p.0 × IsName p.1) ps → elsewhere w ≤ STATEMENT_LIMIT
     → ((m : ℕ) (later : Lines) (made : List Known) → Made later made [] → IsTable made all → LeadsTo m (Some (at w later)) (lines rest) outcome)
     → LeadsTo n (Some (at w ls)) (lines (flat_map process_line ps ++ rest)) outcome
 processes_read [] w n ls table done all rest outcome made is whole fresh differ named count go = go n ls table made (subst (λ (l : List (List ℕ × List ℕ)). IsTable table l) (sym (append-nil done) ∙ whole) is)
@@ -214,7 +215,7 @@ statement_fault n parts (OutPort from out outer) none = rw none refl
 
 -- The lines of statements, read one after another.
 pub statements_read : (ss : List Statement) (w : Where) (n : ℕ) (ls : Lines) (table : List Known) (processes : List (List ℕ × List ℕ)) (done all : List Statement) (rest : List ℕ) (outcome : Result NetText NetFault)
-    → Made ls table done → IsTable table processes → done ++ ss ≡ all → AllByRecursion IsStatement ss → AllByRecursion (NamesKnown processes) ss → AllByRecursion (MayStand w) ss → length all + elsewhere w ≤ 4096
+    → Made ls table done → IsTable table processes → done ++ ss ≡ all → AllByRecursion IsStatement ss → AllByRecursion (NamesKnown processes) ss → AllByRecursion (MayStand w) ss → length all + elsewhere w ≤ STATEMENT_LIMIT
     → ((m : ℕ) (later : Lines) → Made later table all → LeadsTo m (Some (at w later)) (lines rest) outcome)
     → LeadsTo n (Some (at w ls)) (lines (flat_map statement_line ss ++ rest)) outcome
 statements_read [] w n ls table processes done all rest outcome made is whole said known stand count go = go n ls (subst (λ (l : List Statement). Made ls table l) (sym (append-nil done) ∙ whole) made)
@@ -226,7 +227,7 @@ statements_read (s ∷ ss) w n ls table processes done all rest outcome made is 
     let long : length all ≡ length done + length (s ∷ ss) = ap length (sym whole) ∙ length-append done (s ∷ ss) in
     let so_far : length (statements_in ls) ≡ length done = ap length made.statements in
     let one : length (statements_of form) ≡ 1 = ap length again in
-    let within : (length (statements_in ls) + elsewhere w) + length (statements_of form) ≤ 4096 = omega (arith, long, so_far, one, count) in
+    let within : (length (statements_in ls) + elsewhere w) + length (statements_of form) ≤ STATEMENT_LIMIT = omega (arith, long, so_far, one, count) in
     let none : reason_at (at w ls) form ≡ None = no_reason w ls form (statement_stands w ls s stand.0) (statement_named s said.0) (statement_numbered s said.0) more.0 (statement_new w ls s) (statement_fits s said.0) within in
     let made_one : Made (ls ++ (n, form) ∷ []) table (done ++ s ∷ []) = subst (λ (l : List Statement). Made (ls ++ (n, form) ∷ []) table (done ++ l)) again more.1 in
     let later = statements_read ss w (n + 1) (ls ++ (n, form) ∷ []) table processes (done ++ s ∷ []) all rest outcome made_one is (append_assoc done (s ∷ []) ss ∙ whole) said.1 known.1 stand.1 count go in
@@ -249,7 +250,7 @@ gives ls table part made is =
     record { value = ap (λ (p : List (List ℕ × List ℕ)). build p (statements_in ls)) left ∙ ap (build part.processes) made.statements; kinded = ap kindless_line made.known ∙ table_kinded table part.processes is }
 
 -- The lines of a part, read one after another.
-pub part_read : (part : NetPart) (w : Where) (n : ℕ) (rest : List ℕ) (outcome : Result NetText NetFault) → IsNetPart part → AllByRecursion (MayStand w) part.statements → length part.statements + elsewhere w ≤ 4096
+pub part_read : (part : NetPart) (w : Where) (n : ℕ) (rest : List ℕ) (outcome : Result NetText NetFault) → IsNetPart part → AllByRecursion (MayStand w) part.statements → length part.statements + elsewhere w ≤ STATEMENT_LIMIT
     → ((m : ℕ) (later : Lines) → Gives later part → LeadsTo m (Some (at w later)) (lines rest) outcome) → LeadsTo n (Some (at w [])) (lines (part_lines part ++ rest)) outcome
 part_read part w n rest outcome is stand count go =
     subst (λ (l : List ℕ). LeadsTo n (Some (at w [])) (lines l) outcome) (sym (append_assoc (flat_map process_line part.processes) (flat_map statement_line part.statements) rest))

@@ -1,4 +1,5 @@
 -- What Count makes of its stream.
+use Rattle.flow_limits.specs.declared.TheConstants.{TURN_LIMIT}
 use Rattle.std.proofs.Common.{◌≡◌, ◌≢◌, ℕ, ◌+◌, ◌<◌, ◌≤◌, Bool, true, false, List, [], ◌∷◌, ◌++◌, length, refl, sym, ap, ◌∙◌, subst, arith, nat_eq, inl, inr, Some, cond}
 use Rattle.std.proofs.lemmas.Bool.Decides.{nat_tests}
 use Rattle.std.specs.Fmt.{decimal}
@@ -67,17 +68,17 @@ Leads c n (Passing t) es = Makes c n (content t ∷ []) es
 Leads c n (Leaving id) es = (got 0 es ≡ []) × (sent 0 es ≡ []) × (sent 1 es ≡ text_packet (decimal n) ∷ [])
 Leads c n Over es = es ≡ []
 
-counted-one : (kind : Kind) (n : ℕ) → n < 8388608 → one_more kind n ≡ n + normal_one kind
+counted-one : (kind : Kind) (n : ℕ) → n < TURN_LIMIT → one_more kind n ≡ n + normal_one kind
 counted-one Normal n l = omega arith
 counted-one Open n l = omega arith
 counted-one Close n l = omega arith
 
 abbrev Rec : Bool → List Happening → Poise CountState → Type 0
-Rec c es q = (n : ℕ) (before : List Happening) (p : Poise CountState) (phase : Phase) → Stands c n before p phase → Runs CountReady CountNext p es q → Wakes 1 before es → n + length es ≤ 8388608 → Leads c n phase es
+Rec c es q = (n : ℕ) (before : List Happening) (p : Poise CountState) (phase : Phase) → Stands c n before p phase → Runs CountReady CountNext p es q → Wakes 1 before es → n + length es ≤ TURN_LIMIT → Leads c n phase es
 
 -- a packet came
 takes : (c : Bool) (n : ℕ) (es : List Happening) (before : List Happening) (port : ℕ) (t : Tree) (held : Held) (m q : Poise CountState) (kind : Kind) → nat_eq 0 port ≡ true → held.packets ≡ t ∷ [] → kind ≡ kind_of (content t)
-    → Wishes m.component m.held m.wish ≡ passes_on c (at_number c (one_more kind n) false) held (id_of t) → Runs CountReady CountNext m es q → Wakes 1 (before ++ Received port t ∷ []) es → n + (length es + 1) ≤ 8388608 → Rec c es q
+    → Wishes m.component m.held m.wish ≡ passes_on c (at_number c (one_more kind n) false) held (id_of t) → Runs CountReady CountNext m es q → Wakes 1 (before ++ Received port t ∷ []) es → n + (length es + 1) ≤ TURN_LIMIT → Rec c es q
     → Makes c n [] (Received port t ∷ es)
 takes true n es before port t held m q kind z alone k comes r w few rec =
     let component : m.component ≡ at_number true (one_more kind n) false = cc in
@@ -120,7 +121,7 @@ takes false n es before port t held m q kind z alone k comes r w few rec =
 abbrev Step : Poise CountState → Happening → Poise CountState → Type 0
 Step p e m = Steps CountReady CountNext p e m
 
-step : (c : Bool) (n : ℕ) (es before : List Happening) (p m q : Poise CountState) (e : Happening) (phase : Phase) → Stands c n before p phase → Step p e m → Runs CountReady CountNext m es q → Wakes 1 before (e ∷ es) → n + length (e ∷ es) ≤ 8388608 → Rec c es q
+step : (c : Bool) (n : ℕ) (es before : List Happening) (p m q : Poise CountState) (e : Happening) (phase : Phase) → Stands c n before p phase → Step p e m → Runs CountReady CountNext m es q → Wakes 1 before (e ∷ es) → n + length (e ∷ es) ≤ TURN_LIMIT → Rec c es q
     → Leads c n phase (e ∷ es)
 step c n es before p m q Started Receiving st s r w few rec = absurd (let h : wishes.Deactivate ≡ receive_first = sym s.grants.0 ∙ st.0 in cc)
 step c n es before p m q (Received port t) Receiving st s r w few rec =
@@ -207,7 +208,7 @@ count_run c [] q d n before p phase st r w few = ends c n before p q phase st r 
 count_run c (e ∷ es) q d n before p phase st r w few = step c n es before p r.0 q e phase st r.1 r.2 w few (count_run c es q d)
 
 begun : (c : Bool) (e : Happening) (es : List Happening) (p m q : Poise CountState) → p ≡ fresh (fresh_count c) p.held.maker → Step p e m → Runs CountReady CountNext m es q → q.wish ≡ wishes.Deactivate → Rattle.flow_component.specs.Runs.StartsBring (λ port. port ≡ 0) (e ∷ es) → Wakes 1 [] (e ∷ es)
-    → length (e ∷ es) ≤ 8388608 → IsCounted c (got 0 (e ∷ es)) (sent 0 (e ∷ es)) (sent 1 (e ∷ es))
+    → length (e ∷ es) ≤ TURN_LIMIT → IsCounted c (got 0 (e ∷ es)) (sent 0 (e ∷ es)) (sent 1 (e ∷ es))
 begun c Started es p m q is s r d brings w few =
     let comes : Wishes m.component m.held m.wish ≡ Wishes (fresh_count c) s.held receive_first = s.comes_to ∙ ap (λ (u : Poise CountState). Wishes u.component s.held receive_first) is in
     let component : m.component ≡ fresh_count c = cc in

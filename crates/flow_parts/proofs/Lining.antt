@@ -1,4 +1,5 @@
 -- How the lines of a file begin.
+use Rattle.flow_limits.specs.declared.TheConstants.{TEXT_LIMIT}
 use Rattle.std.proofs.Common.{◌≡◌, ℕ, ◌+◌, ◌-◌, ◌<◌, ◌≤◌, suc, Bool, true, false, List, [], ◌∷◌, length, get_or, take, drop, sym, ap, ◌∙◌, refl, subst, arith, cond, drop-cons, add-one, nat_eq, nat_lt, ◌⊎◌, inl, inr}
 use Rattle.std.proofs.lemmas.List.{drop-drop, nil_from_length, get_or-take, get_or-drop, length-take-le, length-drop, take-take}
 use Rattle.std.proofs.lemmas.Grind.{common_steps}
@@ -128,9 +129,9 @@ line-whole bytes from end e h l c =
     line-more bytes from end end e h l (omega arith) (strip-no (take (end - from) (drop from bytes)) (not_return bytes from end h l c))
 
 -- A line within the limit is made a packet, and sent.
-pub reads-made : (held : Held) (left : List (List ℕ)) (line : List ℕ) (rest : List (List ℕ)) → left ≡ line ∷ rest → (1048576 < length line → ⊥) → reads held left ≡ Wishes rest (with_made held Normal line) (send_first (next_id held))
-reads-made held left line rest e h = let t : nat_lt 1048576 (length line) ≡ false = grind (arith, nat_tests) in rw (e, t) refl
+pub reads-made : (held : Held) (left : List (List ℕ)) (line : List ℕ) (rest : List (List ℕ)) → left ≡ line ∷ rest → (TEXT_LIMIT < length line → ⊥) → reads held left ≡ Wishes rest (with_made held Normal line) (send_first (next_id held))
+reads-made held left line rest e h = let t : nat_lt TEXT_LIMIT (length line) ≡ false = grind (arith, nat_tests) in rw (e, t) refl
 
 -- A line beyond the limit is a failure, with its length.
-pub reads-long : (held : Held) (left : List (List ℕ)) (line : List ℕ) (rest : List (List ℕ)) → left ≡ line ∷ rest → 1048576 < length line → reads held left ≡ Fails left held (TextLimit (length line))
-reads-long held left line rest e h = let t : nat_lt 1048576 (length line) ≡ true = grind (arith, nat_tests) in rw (e, t) refl
+pub reads-long : (held : Held) (left : List (List ℕ)) (line : List ℕ) (rest : List (List ℕ)) → left ≡ line ∷ rest → TEXT_LIMIT < length line → reads held left ≡ Fails left held (TextLimit (length line))
+reads-long held left line rest e h = let t : nat_lt TEXT_LIMIT (length line) ≡ true = grind (arith, nat_tests) in rw (e, t) refl

@@ -1,4 +1,5 @@
 -- What ReadLines sends is the lines that were left.
+use Rattle.flow_limits.specs.declared.TheConstants.{TEXT_LIMIT}
 use Rattle.std.proofs.Common.{◌≡◌, ℕ, true, false, List, [], ◌∷◌, ◌++◌, map, length, refl, sym, ap, ◌∙◌, subst, append-nil, nat_eq, nat_lt, if◌then◌else◌}
 use Rattle.std.specs.List.{flat_map}
 use Rattle.flow_packet.specs.Tree.{Tree}
@@ -38,7 +39,7 @@ IsSpent (Fails left held cause) = Unit {0}
 after-reading : (held : Held) (left : Lines) → held.packets ≡ [] → (owes_after (reads held left) ≡ map text_packet left) × IsSpent (reads held left)
 after-reading held [] e = (refl, λ d. refl)
 after-reading held (line ∷ left) e =
-    elim (nat_lt 1048576 (length line)) as (λ b. (owes_after (if b then Fails (line ∷ left) held (TextLimit (length line)) else Wishes left (with_made held Normal line) (send_first (next_id held))) ≡ map text_packet (line ∷ left))
+    elim (nat_lt TEXT_LIMIT (length line)) as (λ b. (owes_after (if b then Fails (line ∷ left) held (TextLimit (length line)) else Wishes left (with_made held Normal line) (send_first (next_id held))) ≡ map text_packet (line ∷ left))
     × IsSpent (if b then Fails (line ∷ left) held (TextLimit (length line)) else Wishes left (with_made held Normal line) (send_first (next_id held)))) [
       | true ↦ (refl, tt)
       | false ↦ (ap (λ us. us ++ map text_packet left) (made_at held line e), λ d. cc)

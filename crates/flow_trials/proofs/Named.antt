@@ -1,4 +1,5 @@
 -- The Telegram's network is the plan of its text: what the calls of a builder make of it, one after another.
+use Rattle.flow_limits.specs.declared.TheConstants.{TEXT_LIMIT}
 use Rattle.std.proofs.Common.{◌≡◌, ℕ, zero, suc, ◌<◌, Some, None, Ok, get_or, refl, arith}
 use Rattle.std.specs.Prelude.{codes}
 use Rattle.std.specs.List.{slice_index}
@@ -88,7 +89,7 @@ out_bytes (suc (suc (suc (suc (suc (suc (suc k))))))) d below is = absurd (omega
 out_name : IsFileName (codes "out.txt")
 out_name = (omega arith, omega arith, IsUtf8-from_ascii (codes "out.txt") out_ascii, out_bytes)
 
-twelve : IsNumberWithin 1 1048576 (codes "12")
+twelve : IsNumberWithin 1 TEXT_LIMIT (codes "12")
 twelve = (((omega arith, (omega arith, (omega arith, tt))), λ h. absurd (omega (arith, h))), omega arith, omega arith)
 
 drafted : IsDraft std_kinds telegram_component (Ok with_output)

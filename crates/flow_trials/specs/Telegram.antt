@@ -1,5 +1,6 @@
 -- The Telegram Problem of Naur and Morrison as a composition, with the values of one worked run: the network that its file stands for, its components, the packets
 -- on its connections, and the file that it means.
+use Rattle.flow_limits.specs.declared.TheConstants.{TEXT_LIMIT}
 use Rattle.std.specs.Prelude.{◌≡◌, ℕ, zero, suc, true, false, List, [], ◌∷◌, map, codes, Some, None, Ok}
 use Rattle.std.specs.Str.Lines.{lines}
 use Rattle.flow_component.specs.Runs.{text_packet}
@@ -59,7 +60,7 @@ telegram = record {
   tables =
       record { inputs = plain_row (codes "FILE") File ∷ []; outputs = plain_row (codes "OUT") Stream ∷ [] }
       ∷ record { inputs = plain_row (codes "IN") Stream ∷ []; outputs = plain_row (codes "OUT") Stream ∷ [] }
-      ∷ record { inputs = plain_row (codes "SIZE") (Number 1 1048576) ∷ plain_row (codes "IN") Stream ∷ []; outputs = plain_row (codes "OUT") Stream ∷ [] }
+      ∷ record { inputs = plain_row (codes "SIZE") (Number 1 TEXT_LIMIT) ∷ plain_row (codes "IN") Stream ∷ []; outputs = plain_row (codes "OUT") Stream ∷ [] }
       ∷ record { inputs = plain_row (codes "FILE") File ∷ plain_row (codes "IN") Stream ∷ []; outputs = [] }
       ∷ [];
 }

@@ -1,4 +1,5 @@
 -- A component that fails at its start ends its network as failed.
+use Rattle.flow_limits.specs.declared.TheConstants.{TEXT_LIMIT}
 use Rattle.std.proofs.Common.{◌≡◌, ◌<◌, ◌≤◌, ◌⊎◌, Option, length, [], ◌∷◌, refl, arith, Some, None, slice_get, false, true}
 use Rattle.std.specs.Prelude.{codes}
 use Rattle.flow_component.specs.declared.Answer.{Answer}
@@ -27,7 +28,7 @@ wired = record {
   one_sender = λ c d k l x y s h. none_there c x h;
   each_input = λ p i input. at_one (λ k q. i < q.inputs → HasConnection alone p i ⊎ HasText alone p i) q0 (λ below. absurd (omega arith)) p input.0 input.1 input.2;
   not_both = λ p i connection has. none_there connection.number connection.connection connection.here;
-  short = λ p k i q text h. at_one (λ p q. slice_get q.initials k ≡ Some (i, text) → length text ≤ 1048576) q0 (no_initial k (i, text)) p q h;
+  short = λ p k i q text h. at_one (λ p q. slice_get q.initials k ≡ Some (i, text) → length text ≤ TEXT_LIMIT) q0 (no_initial k (i, text)) p q h;
   capacities = λ c x h. none_there c x h;
   few_senders = λ c x h. none_there c x h;
 }

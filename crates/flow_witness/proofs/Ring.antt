@@ -1,4 +1,5 @@
 -- The ring starts well and is a deadlock.
+use Rattle.flow_limits.specs.declared.TheConstants.{CAPACITY_LIMIT, SENDER_LIMIT, TEXT_LIMIT}
 use Rattle.std.proofs.Common.{◌≡◌, ℕ, ◌<◌, ◌≤◌, length, refl, sym, ◌∙◌, arith, inl, Some, None, slice_get}
 use Rattle.std.specs.Prelude.{codes}
 use Rattle.flow_component.specs.declared.Answer.{Answer}
@@ -65,9 +66,9 @@ wired = record {
   each_input = λ p i input. inl (has_connection p i input.0 input.1 input.2);
   not_both = λ p i connection has. at_two (λ p q. slice_get q.initials has.place ≡ Some (i, has.text) → ⊥) q0 q1
       (no_initial has.place (i, has.text)) (no_initial has.place (i, has.text)) p has.process has.here has.given;
-  short = λ p k i q text h. at_two (λ p q. slice_get q.initials k ≡ Some (i, text) → length text ≤ 1048576) q0 q1 (no_initial k (i, text)) (no_initial k (i, text)) p q h;
-  capacities = at_two (λ c x. (1 ≤ x.capacity) × (x.capacity ≤ 1024)) c0 c1 (omega arith, omega arith) (omega arith, omega arith);
-  few_senders = at_two (λ c x. length x.senders ≤ 65535) c0 c1 (omega arith) (omega arith);
+  short = λ p k i q text h. at_two (λ p q. slice_get q.initials k ≡ Some (i, text) → length text ≤ TEXT_LIMIT) q0 q1 (no_initial k (i, text)) (no_initial k (i, text)) p q h;
+  capacities = at_two (λ c x. (1 ≤ x.capacity) × (x.capacity ≤ CAPACITY_LIMIT)) c0 c1 (omega arith, omega arith) (omega arith, omega arith);
+  few_senders = at_two (λ c x. length x.senders ≤ SENDER_LIMIT) c0 c1 (omega arith) (omega arith);
 }
 
 abbrev s : State Std

@@ -1,4 +1,5 @@
 -- The chain is wired, whatever its names and files are.
+use Rattle.flow_limits.specs.declared.TheConstants.{CAPACITY_LIMIT, SENDER_LIMIT, TEXT_LIMIT}
 use Rattle.std.proofs.Common.{◌≡◌, ℕ, zero, suc, ◌<◌, ◌≤◌, List, [], ◌∷◌, length, refl, sym, ◌∙◌, ap, subst, arith, inl}
 use Rattle.std.specs.Prelude.{Some, None, slice_get}
 use Rattle.flow_plan.specs.declared.plan.Sender.{Sender}
@@ -113,8 +114,8 @@ module _ (reader from pass writer to : List ℕ) where
     each_input = λ p i input. inl (has_connection p i input.0 input.1 input.2);
     not_both = λ p i connection has. at_three (λ p q. slice_get q.initials has.place ≡ Some (i, has.text) → ⊥) q0 q1 q2
         (no_initial has.place (i, has.text)) (no_initial has.place (i, has.text)) (no_initial has.place (i, has.text)) p has.process has.here has.given;
-    short = λ p k i q text h. at_three (λ p q. slice_get q.initials k ≡ Some (i, text) → length text ≤ 1048576) q0 q1 q2
+    short = λ p k i q text h. at_three (λ p q. slice_get q.initials k ≡ Some (i, text) → length text ≤ TEXT_LIMIT) q0 q1 q2
         (no_initial k (i, text)) (no_initial k (i, text)) (no_initial k (i, text)) p q h;
-    capacities = at_two (λ c x. (1 ≤ x.capacity) × (x.capacity ≤ 1024)) c0 c1 (omega arith, omega arith) (omega arith, omega arith);
-    few_senders = at_two (λ c x. length x.senders ≤ 65535) c0 c1 (omega arith) (omega arith);
+    capacities = at_two (λ c x. (1 ≤ x.capacity) × (x.capacity ≤ CAPACITY_LIMIT)) c0 c1 (omega arith, omega arith) (omega arith, omega arith);
+    few_senders = at_two (λ c x. length x.senders ≤ SENDER_LIMIT) c0 c1 (omega arith) (omega arith);
   }

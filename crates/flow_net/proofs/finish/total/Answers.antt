@@ -1,3 +1,4 @@
+use Rattle.flow_limits.specs.declared.TheConstants.{ELEMENT_LIMIT}
 use Rattle.std.proofs.Common.{◌≡◌, ◌≤◌, ◌<◌, ◌∙◌, Some, ap, arith, get_or, length, slice_get}
 use Rattle.std.proofs.lemmas.List.{length-map}
 use Rattle.std.proofs.lemmas.List.Sums.{sum_by_more}
@@ -16,5 +17,5 @@ loop-g-preserved c =
     let counts = c.args.counts.now in
     let long : length counts ≡ length ports = ap length c.requires.counts ∙ length-map ports count_of in
     let here : slice_get counts g ≡ Some (get_or counts g 0) = slice_get-get_or counts g 0 (omega arith) in
-    let small : get_or counts g 0 ≤ 512 = c.requires.few g (get_or counts g 0) here in
+    let small : get_or counts g 0 ≤ ELEMENT_LIMIT = c.requires.few g (get_or counts g 0) here in
     (omega (arith, more, same, c.loop-g.invariant.0, c.counted-sum.ensures.counted), omega (arith, small, c.loop-g.invariant.1, c.counted-sum.ensures.few))
