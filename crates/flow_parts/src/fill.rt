@@ -1,6 +1,6 @@
 //! The component that fills lines with words.
 
-ghost use Rattle.std.specs.Prelude.{◌≡◌, ℕ, ◌+◌, ◌<◌, ◌≤◌, length, OnOk, OnErr, []};
+ghost use Rattle.std.specs.Prelude.{◌≡◌, ℕ, ◌+◌, ◌<◌, ◌≤◌, length, IfOk, OnOk, OnErr, []};
 ghost use Rattle.flow_packet.specs.Hands.{IsAtRoot, text_at};
 ghost use Rattle.flow_packet.specs.Held.{Held, held_of, without_packet};
 ghost use Rattle.flow_component.specs.Resumes.{Resumes};
@@ -14,6 +14,9 @@ use flow_packet::{Hands, Kind, PacketId};
 use std::alloc::{AllocError, Global};
 use std::marker::Model;
 use std::mem;
+
+/// A line of so many bytes at most is begun with room for the whole, so that it isn't moved while it grows.
+const LINE_ROOM: usize = 128;
 
 /// What a Fill does once its line was sent.
 #[derive(Clone, Copy, Debug, PartialEq, Eq)]
@@ -59,6 +62,15 @@ fn append(line: &mut Vec<u8>, word: &[u8]) -> Result<(), AllocError>
     Ok(())
 }
 
+// A line that begins with this word.
+fn begun_line(alloc: Global, word: &[u8], size: u32) -> Result<Vec<u8>, AllocError>
+    ensures { IfOk result (λ line. line.items ≡ word.now) }
+{
+    let mut line = Vec::with_capacity(alloc, LINE_ROOM.min(size as usize))?;
+    line.extend_from_slice(word)?;
+    Ok(line)
+}
+
 impl Fill {
     ghost use Rattle.flow_parts.specs.Fill.{word_comes, bracket_comes, end_comes, goes_on, IsReadyOn};
 
@@ -92,7 +104,7 @@ impl Fill {
             hands.drop_packet(packet);
             return Ok(Wish::Receive(Port(0)));
         }
-        let Ok(word) = Vec::from_slice(*self.line.allocator(), text) else {
+        let Ok(word) = begun_line(*self.line.allocator(), text, self.size) else {
             return Err(Stop::NoMemory);
         };
         hands.drop_packet(packet);
@@ -181,6 +193,7 @@ impl Component for Fill {
         }
     }
 
+    #[inline(never)]
     fn resume(&mut self, hands: &mut Hands, answer: Answer) -> Result<Wish, Stop> {
         match answer {
             Answer::Start => Ok(Wish::Receive(Port(0))),

@@ -131,6 +131,7 @@ impl Component for ReadLines {
         }
     }
 
+    #[inline(never)]
     fn resume(&mut self, hands: &mut Hands, answer: Answer) -> Result<Wish, Stop> {
         match answer {
             Answer::Start => self.read(hands),

@@ -107,6 +107,7 @@ impl Component for Bundle {
         }
     }
 
+    #[inline(never)]
     fn resume(&mut self, hands: &mut Hands, answer: Answer) -> Result<Wish, Stop> {
         let place = *self;
         match answer {

@@ -450,6 +450,7 @@ impl Component for Collate {
         }
     }
 
+    #[inline(never)]
     fn resume(&mut self, hands: &mut Hands, answer: Answer) -> Result<Wish, Stop> {
         match answer {
             Answer::Start => Ok(Wish::Receive(Port(self.element()))),

@@ -44,6 +44,7 @@ impl Component for Discard {
         }
     }
 
+    #[inline(never)]
     fn resume(&mut self, hands: &mut Hands, answer: Answer) -> Result<Wish, Stop> {
         match answer {
             Answer::Start => Ok(Wish::Receive(Port(0))),

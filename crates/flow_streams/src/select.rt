@@ -183,6 +183,7 @@ impl Component for Select {
         }
     }
 
+    #[inline(never)]
     fn resume(&mut self, hands: &mut Hands, answer: Answer) -> Result<Wish, Stop> {
         match answer {
             Answer::Start => Ok(Wish::Receive(KEY)),

@@ -116,6 +116,7 @@ impl Component for Unbundle {
         }
     }
 
+    #[inline(never)]
     fn resume(&mut self, hands: &mut Hands, answer: Answer) -> Result<Wish, Stop> {
         match answer {
             Answer::Start => {

@@ -64,6 +64,7 @@ impl<K: Component> Body<K> {
     }
 
     /// Takes the room of the next turn, if there is to be one.
+    #[inline(always)]
     pub(crate) fn prepare(&mut self) -> Thought
         requires whole { self.old.leaving ≡ None }
         requires thought { IsThoughtStage self.old.process.stage }
@@ -102,6 +103,7 @@ impl<K: Component> Body<K> {
     }
 
     /// Takes the room of the next turn.
+    #[inline(always)]
     fn make_room(&mut self) -> Result<(), AllocError>
         requires { self.old.leaving ≡ None }
         ensures same { SameBody self.old self.new }
