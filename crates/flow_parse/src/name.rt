@@ -1,14 +1,13 @@
 //! Names and numbers.
-ghost use Rattle.std.specs.Prelude.{◌≡◌, ◌≤◌, ◌<◌, ◌^◌, true};
-ghost use Rattle.std.specs.Str.{all_ascii_digits};
-ghost use Rattle.std.specs.Str.Parse.{digits_value};
+ghost use Rattle.std.specs.Prelude.{◌≡◌};
 ghost use Rattle.flow_parse.specs.Forms.{is_reserved};
-ghost use Rattle.flow_parse.specs.Names.{is_name, begins_with_letter, begins_with_zero, is_decimal, number_in, capacity_of, element_of, mention_is_named, port_is_named, is_named, port_is_numbered, is_numbered};
+ghost use Rattle.flow_parse.specs.Names.{is_name, begins_with_letter, number_in, capacity_of, element_of, mention_is_named, port_is_named, is_named, port_is_numbered, is_numbered};
 
 use crate::form::{Form, Mention, Port};
 use crate::same::is;
 use flow_items::Text;
 use flow_limits::CAPACITY_LIMIT;
+use flow_text::decimal;
 
 pub const MOST_NAME: usize = 64;
 
@@ -27,15 +26,6 @@ fn letter_first(word: &[u8]) -> bool
 {
     match word.first() {
         Some(first) => first.is_ascii_alphabetic(),
-        None => false,
-    }
-}
-
-fn zero_first(word: &[u8]) -> bool
-    ensures { result ≡ begins_with_zero word.now }
-{
-    match word.first() {
-        Some(first) => *first == b'0',
         None => false,
     }
 }
@@ -90,23 +80,12 @@ pub fn named(form: &Form) -> bool
 
 /// The number from `least` to `most` that the word spells.
 fn number(word: &[u8], least: u32, most: u32) -> Option<u32>
-    requires { most < 2 ^ 24 }
     ensures { result ≡ number_in least most word.now }
 {
-    if word.is_empty() || (zero_first(word) && word.len() != 1) {
-        return None;
+    match decimal(word, u64::from(least), u64::from(most)) {
+        Some(number) => Some(number as u32),
+        None => None,
     }
-    let mut number = 0u32;
-    'digits: for b in word {
-        if !b.is_ascii_digit() {
-            return None;
-        }
-        number = number * 10 + u32::from(*b - b'0');
-        if number > most {
-            return None;
-        }
-    }
-    if number < least { None } else { Some(number) }
 }
 
 pub fn capacity(word: &Text) -> Option<u32>

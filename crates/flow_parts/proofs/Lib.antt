@@ -1,5 +1,5 @@
 pub mod Wording
-pub mod Lining
+pub mod LongLines
 pub mod ReadLinesStream
 pub mod WriteLinesStream
 pub mod Fillings

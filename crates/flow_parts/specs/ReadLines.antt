@@ -1,7 +1,6 @@
 -- The component that sends the lines of a file. Its state is the lines that are left.
 use Rattle.flow_limits.specs.declared.TheConstants.{TEXT_LIMIT}
-use Rattle.std.specs.Prelude.{◌≡◌, ℕ, suc, ◌≤◌, ◌==◌, List, [], ◌∷◌, length, drop, slice_range, nat_lt, if◌then◌else◌}
-use Rattle.std.specs.Str.Lines.{lines}
+use Rattle.std.specs.Prelude.{◌≡◌, ℕ, List, [], ◌∷◌, length, nat_lt, if◌then◌else◌}
 use Rattle.flow_packet.specs.declared.packet.Kind.TheVariants.{Normal}
 use Rattle.flow_packet.specs.Held.{Held, next_id, with_made}
 use Rattle.flow_component.specs.declared.Answer.{Answer}
@@ -10,18 +9,6 @@ use Rattle.flow_component.specs.declared.Wish.TheVariants.{Deactivate}
 use Rattle.flow_component.specs.declared.Fail.TheVariants.{TextLimit}
 use Rattle.flow_component.specs.Laws.{Outcome, Wishes, Fails}
 use Rattle.flow_component.specs.Ports.{send_first}
-
--- How many bytes stand before the first line feed.
-abbrev pub line_length : List ℕ → ℕ
-line_length [] = 0
-line_length (b ∷ bs) = if b == 10 then 0 else suc (line_length bs)
-
--- The lines from a place on are the piece from there to end, and then those from next on.
-pub record IsNextLine (bytes : List ℕ) (from end next : ℕ) : Type 0 where
-  pub order : from ≤ end
-  pub within : end ≤ length bytes
-  pub in_file : next ≤ length bytes
-  pub first : lines (drop from bytes) ≡ slice_range bytes from end ∷ lines (drop next bytes)
 
 -- It makes a Normal packet of the next line and sends it, and deactivates where there is no line. A line that is too long for a packet is a failure.
 abbrev pub reads : Held → List (List ℕ) → Outcome (List (List ℕ))

@@ -1,18 +1,17 @@
 //! The component that sends the lines of a file.
 
-ghost use Rattle.std.specs.Prelude.{◌≡◌, ◌+◌, ◌<◌, ◌≤◌, length, drop, IfNone, IfSome, []};
+ghost use Rattle.std.specs.Prelude.{◌≡◌, ◌<◌, []};
 ghost use Rattle.std.specs.Str.Lines.{lines};
 ghost use Rattle.flow_component.specs.Resumes.{Resumes};
-ghost use Rattle.flow_parts.specs.ReadLines.{line_length, IsNextLine};
 
 use flow_component::{Answer, Component, Fail, Port, Shape, Stop, Wish};
 use flow_packet::{Hands, HandsStop, Kind};
+use flow_text::next_line;
 use std::marker::Model;
 
 /// Makes a Normal packet of each line of its file, and sends it. In clauses it is the lines that are left.
 ///
-/// A line ends at a line feed, which isn't part of it, and neither is a carriage return directly before
-/// that. Bytes after the last line feed are a line where there are any.
+/// Where a line ends is told by `flow_text::next_line`.
 #[derive(Drop)]
 pub struct ReadLines {
     file: Vec<u8>,
@@ -28,38 +27,6 @@ impl Model for ReadLines {
     ghost view = { λ r. lines (drop r.taken r.file.items) };
 
     ghost invariant = { λ r. r.taken ≤ length r.file.items };
-}
-
-// The place of the next line feed, or the end.
-fn line_end(bytes: &[u8], from: usize) -> usize
-    requires { from ≤ length bytes.now }
-    ensures most { result ≤ length bytes.now }
-    ensures run { result ≡ from + line_length (drop from bytes.now) }
-{
-    let mut at = from;
-    while at < bytes.len() && bytes[at] != b'\n' {
-        at += 1;
-    }
-    at
-}
-
-// The end of the next line, and where the line after it begins.
-fn next_line(bytes: &[u8], from: usize) -> Option<(usize, usize)>
-    requires { from ≤ length bytes.now }
-    ensures none { IfNone result (lines (drop from bytes.now) ≡ []) }
-    ensures some { IfSome result (λ place. IsNextLine bytes.now from place.0 place.1) }
-{
-    if from == bytes.len() {
-        return None;
-    }
-    let end = line_end(bytes, from);
-    if end == bytes.len() {
-        return Some((end, end));
-    }
-    if from < end && bytes[end - 1] == b'\r' {
-        return Some((end - 1, end + 1));
-    }
-    Some((end, end + 1))
 }
 
 impl ReadLines {

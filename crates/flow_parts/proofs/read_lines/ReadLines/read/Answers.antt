@@ -5,8 +5,8 @@ use Rattle.std.specs.Str.Lines.{lines}
 use Rattle.flow_packet.specs.declared.packet.Kind.TheVariants.{Normal}
 use Rattle.flow_packet.specs.Held.{held_of}
 use Rattle.flow_component.proofs.Dropping.{making, dropped-making, dropped-same}
-use Rattle.flow_parts.specs.ReadLines.{IsNextLine}
-use Rattle.flow_parts.proofs.Lining.{reads-made, reads-long}
+use Rattle.flow_text.specs.Lines.{IsNextLine}
+use Rattle.flow_parts.proofs.LongLines.{reads-made, reads-long}
 use Rattle.flow_parts.proofs.read_lines.ReadLines.read.Goals as goal
 
 pub returns-in-Ok : goal.returns-in-Ok

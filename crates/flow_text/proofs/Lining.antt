@@ -1,17 +1,11 @@
--- How the lines of a file begin.
-use Rattle.flow_limits.specs.declared.TheConstants.{TEXT_LIMIT}
+-- How the lines of a text begin.
 use Rattle.std.proofs.Common.{◌≡◌, ℕ, ◌+◌, ◌-◌, ◌<◌, ◌≤◌, suc, Bool, true, false, List, [], ◌∷◌, length, get_or, take, drop, sym, ap, ◌∙◌, refl, subst, arith, cond, drop-cons, add-one, nat_eq, nat_lt, ◌⊎◌, inl, inr}
 use Rattle.std.proofs.lemmas.List.{drop-drop, nil_from_length, get_or-take, get_or-drop, length-take-le, length-drop, take-take}
 use Rattle.std.proofs.lemmas.Grind.{common_steps}
 use Rattle.std.proofs.lemmas.Bool.Decides.{nat_tests}
 use Rattle.std.specs.List.{slice_split, onto_first}
 use Rattle.std.specs.Str.Lines.{lines, lines_of_parts, strip_carriage_return}
-use Rattle.flow_packet.specs.declared.packet.Kind.TheVariants.{Normal}
-use Rattle.flow_component.specs.declared.Fail.TheVariants.{TextLimit}
-use Rattle.flow_packet.specs.Held.{Held, next_id, with_made}
-use Rattle.flow_component.specs.Laws.{Wishes, Fails}
-use Rattle.flow_component.specs.Ports.{send_first}
-use Rattle.flow_parts.specs.ReadLines.{line_length, IsNextLine, reads}
+use Rattle.flow_text.specs.Lines.{line_length, IsNextLine}
 
 abbrev is_newline : ℕ → Bool
 is_newline b = nat_eq b 10
@@ -63,6 +57,7 @@ line-last bytes from end h e f =
     let n : end - from ≡ length (drop from bytes) = omega arith in
     record {
       order = omega arith;
+      further = omega arith;
       within = omega arith;
       in_file = omega arith;
       first = lines-last (drop from bytes) (omega arith) (omega arith) ∙ rw (take-whole (drop from bytes) (end - from) n, drop-whole bytes end f) refl;
@@ -76,6 +71,7 @@ line-more bytes from end cut e h a b s =
     let k : from + suc (end - from) ≡ end + 1 = omega arith in
     record {
       order = a;
+      further = omega arith;
       within = omega arith;
       in_file = omega arith;
       first = lines-more (drop from bytes) (end - from) n (omega arith) ∙ rw (s, drop-drop, k) refl;
@@ -127,11 +123,3 @@ line-cut bytes from end e h l c =
 pub line-whole : (bytes : List ℕ) (from end : ℕ) → end ≡ from + line_length (drop from bytes) → end < length bytes → from ≤ end → (from < end → get_or bytes (end - 1) 0 ≡ 13 → ⊥) → IsNextLine bytes from end (end + 1)
 line-whole bytes from end e h l c =
     line-more bytes from end end e h l (omega arith) (strip-no (take (end - from) (drop from bytes)) (not_return bytes from end h l c))
-
--- A line within the limit is made a packet, and sent.
-pub reads-made : (held : Held) (left : List (List ℕ)) (line : List ℕ) (rest : List (List ℕ)) → left ≡ line ∷ rest → (TEXT_LIMIT < length line → ⊥) → reads held left ≡ Wishes rest (with_made held Normal line) (send_first (next_id held))
-reads-made held left line rest e h = let t : nat_lt TEXT_LIMIT (length line) ≡ false = grind (arith, nat_tests) in rw (e, t) refl
-
--- A line beyond the limit is a failure, with its length.
-pub reads-long : (held : Held) (left : List (List ℕ)) (line : List ℕ) (rest : List (List ℕ)) → left ≡ line ∷ rest → TEXT_LIMIT < length line → reads held left ≡ Fails left held (TextLimit (length line))
-reads-long held left line rest e h = let t : nat_lt TEXT_LIMIT (length line) ≡ true = grind (arith, nat_tests) in rw (e, t) refl
