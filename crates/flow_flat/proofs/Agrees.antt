@@ -6,8 +6,8 @@ use Rattle.std.specs.Option.{option_and_then, option_map, option_map_or}
 use Rattle.std.proofs.lemmas.Bool.{false≢true}
 use Rattle.std.proofs.lemmas.Option.{slice_get-map}
 use Rattle.flow_net.specs.declared.draft.End.{End}
-use Rattle.flow_net.specs.declared.draft.Port.{Port}
-use Rattle.flow_net.specs.declared.draft.Begun.{Begun}
+use Rattle.flow_net.specs.declared.draft.DraftPort.{DraftPort}
+use Rattle.flow_net.specs.declared.draft.DraftProcess.{DraftProcess}
 use Rattle.flow_net.specs.declared.draft.Link.{Link}
 use Rattle.flow_plan.specs.declared.kind.KindSpec.{KindSpec}
 use Rattle.flow_net.specs.Drafts.{Draft, binding_at}
@@ -37,7 +37,7 @@ pub record Agrees (table : List KindSpec) (ps : List (List ℕ × List ℕ)) (at
   pub names : map called draft.processes ≡ ps
   pub ports : map bare draft.ports ≡ at
   pub links : draft.links ≡ links_of joins
-  pub texts : (p : ℕ) (begun : Begun) → slice_get draft.processes p ≡ Some begun → begun.texts ≡ texts_at at given p
+  pub texts : (p : ℕ) (begun : DraftProcess) → slice_get draft.processes p ≡ Some begun → begun.texts ≡ texts_at at given p
   pub there : (k : ℕ) (t : End × List ℕ) → slice_get given k ≡ Some t → IsSome (binding_at draft.ports t.0)
 
 -- Where some member passes, one at some place does.
@@ -110,10 +110,10 @@ is_true_or_false true = inl refl
 is_true_or_false false = inr refl
 
 -- A port belongs to the same process with its bindings and without.
-pub owner_is : (ports : List Port) (end : End) → process_at ports end ≡ owner (map bare ports) end
+pub owner_is : (ports : List DraftPort) (end : End) → process_at ports end ≡ owner (map bare ports) end
 owner_is ports end = by (slice_get ports end.port) ∙ ap (λ (o : Option PortAt). option_map_or (λ (port : PortAt). port.process) o 0) (sym (slice_get-map bare ports end.port))
   where
-    by : (o : Option Port) → option_map_or (λ (port : Port). port.process) o 0 ≡ option_map_or (λ (port : PortAt). port.process) (option_map bare o) 0
+    by : (o : Option DraftPort) → option_map_or (λ (port : DraftPort). port.process) o 0 ≡ option_map_or (λ (port : PortAt). port.process) (option_map bare o) 0
     by None = refl
     by (Some port) = refl
 
@@ -121,14 +121,14 @@ owner_is ports end = by (slice_get ports end.port) ∙ ap (λ (o : Option PortAt
 pub text_from : (table : List KindSpec) (ps : List (List ℕ × List ℕ)) (at : List PortAt) (joins : List Join) (given : List (End × List ℕ)) (draft : Draft) → Agrees table ps at joins given draft
     → (p k : ℕ) (x : End × List ℕ) → text_at draft.processes p k ≡ Some x → has_text given x.0 ≡ true
 text_from table ps at joins given draft agrees p k x is =
-    let found = then_some (λ (b : Begun). slice_get b.texts k) (slice_get draft.processes p) x is in
+    let found = then_some (λ (b : DraftProcess). slice_get b.texts k) (slice_get draft.processes p) x is in
     let there : slice_get (texts_at at given p) k ≡ Some x = ap (λ (l : List (End × List ℕ)). slice_get l k) (sym (agrees.texts p found.0 found.1)) ∙ found.2 in
     let one = filter_comes (λ (t : End × List ℕ). owner at t.0 == p) given k x there in
     any_of (λ (t : End × List ℕ). same_element t.0 x.0) given one.0 x one.1 (same_element_refl x.0)
 
 pub port_there : (draft : Draft) → IsSound draft → (end : End) → IsSome (binding_at draft.ports end) → process_at draft.ports end < length draft.processes
 port_there draft sound end there = by (slice_get draft.ports end.port) refl there where
-  by : (o : Option Port) → slice_get draft.ports end.port ≡ o → IsSome (option_and_then (λ (port : Port). slice_get port.elements end.element) o) → option_map_or (λ (port : Port). port.process) o 0 < length draft.processes
+  by : (o : Option DraftPort) → slice_get draft.ports end.port ≡ o → IsSome (option_and_then (λ (port : DraftPort). slice_get port.elements end.element) o) → option_map_or (λ (port : DraftPort). port.process) o 0 < length draft.processes
   by None is there = absurd (false≢true there)
   by (Some port) is there = (sound.ports end.port port is).process
 
@@ -146,7 +146,7 @@ text_to table ps at joins given draft agrees end there is =
       p,
       kept.0,
       found.1.1,
-      ap (option_and_then (λ (b : Begun). slice_get b.texts kept.0)) begun.1
+      ap (option_and_then (λ (b : DraftProcess). slice_get b.texts kept.0)) begun.1
           ∙ ap (λ (l : List (End × List ℕ)). slice_get l kept.0) (agrees.texts p begun.0 begun.1)
           ∙ kept.1 ∙ ap (λ (e : End). let x : Option (End × List ℕ) = Some (e, found.1.1) in x) same,
     )

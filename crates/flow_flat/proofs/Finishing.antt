@@ -9,9 +9,9 @@ use Rattle.std.proofs.lemmas.Bool.{false≢true}
 use Rattle.std.proofs.lemmas.List.{length-take-le}
 use Rattle.std.proofs.lemmas.Option.{slice_get-map, slice_get_within}
 use Rattle.flow_net.specs.declared.draft.Binding.{Binding}
-use Rattle.flow_net.specs.declared.draft.Begun.{Begun}
+use Rattle.flow_net.specs.declared.draft.DraftProcess.{DraftProcess}
 use Rattle.flow_net.specs.declared.draft.End.{End}
-use Rattle.flow_net.specs.declared.draft.Port.{Port}
+use Rattle.flow_net.specs.declared.draft.DraftPort.{DraftPort}
 use Rattle.flow_net.specs.declared.fault.Many.TheVariants as many
 use Rattle.flow_net.specs.declared.fault.PlanFault.{PlanFault}
 use Rattle.flow_net.specs.declared.fault.PlanFault.TheVariants.{PortMissing, TooMany}
@@ -45,21 +45,21 @@ flags f (x ∷ xs) (suc n) a few each =
 same_places : {X Y : Type 0} (p : X → Bool) (q : Y → Bool) (xs : List X) (ys : List Y) → map p xs ≡ map q ys → position p xs ≡ position q ys
 same_places p q xs ys same = sym (position_map (λ (b : Bool). b) p xs) ∙ ap (position (λ (b : Bool). b)) same ∙ position_map (λ (b : Bool). b) q ys
 
-name_is : (processes : List Begun) (p : ℕ) → name_of processes p ≡ option_map_or (λ (x : List ℕ × List ℕ). x.0) (slice_get (map called processes) p) []
+name_is : (processes : List DraftProcess) (p : ℕ) → name_of processes p ≡ option_map_or (λ (x : List ℕ × List ℕ). x.0) (slice_get (map called processes) p) []
 name_is processes p = by (slice_get processes p) ∙ ap (λ (o : Option (List ℕ × List ℕ)). option_map_or (λ (x : List ℕ × List ℕ). x.0) o []) (sym (slice_get-map called processes p)) where
-  by : (o : Option Begun) → option_map_or (λ (b : Begun). b.name) o [] ≡ option_map_or (λ (x : List ℕ × List ℕ). x.0) (option_map called o) []
+  by : (o : Option DraftProcess) → option_map_or (λ (b : DraftProcess). b.name) o [] ≡ option_map_or (λ (x : List ℕ × List ℕ). x.0) (option_map called o) []
   by None = refl
   by (Some b) = refl
 
 -- The first fault of a list of ports, with its place.
-pub record FaultAt (processes : List Begun) (ports : List Port) (fault : PlanFault) : Type 0 where
+pub record FaultAt (processes : List DraftProcess) (ports : List DraftPort) (fault : PlanFault) : Type 0 where
   pub place : ℕ
-  pub port : Port
+  pub port : DraftPort
   pub here : slice_get ports place ≡ Some port
   pub fails : port_fault (name_of processes port.process) port ≡ Err fault
-  pub before : (k : ℕ) (p : Port) → k < place → slice_get ports k ≡ Some p → port_fault (name_of processes p.process) p ≡ Ok tt
+  pub before : (k : ℕ) (p : DraftPort) → k < place → slice_get ports k ≡ Some p → port_fault (name_of processes p.process) p ≡ Ok tt
 
-fault_at : (processes : List Begun) (ports : List Port) (fault : PlanFault) → first_fault processes ports ≡ Err fault → FaultAt processes ports fault
+fault_at : (processes : List DraftProcess) (ports : List DraftPort) (fault : PlanFault) → first_fault processes ports ≡ Err fault → FaultAt processes ports fault
 fault_at processes [] fault is = absurd (cc)
 fault_at processes (p ∷ ports) fault is = by (port_fault (name_of processes p.process) p) refl is (λ rest. fault_at processes ports fault rest) where
   by : (r : Result (Unit {0}) PlanFault) → port_fault (name_of processes p.process) p ≡ r → (r >>= λ none. first_fault processes ports) ≡ Err fault → (first_fault processes ports ≡ Err fault → FaultAt processes ports fault) → FaultAt processes (p ∷ ports) fault
@@ -70,14 +70,14 @@ fault_at processes (p ∷ ports) fault is = by (port_fault (name_of processes p.
       let found = rest is in
       record { place = suc found.place; port = found.port; here = found.here; fails = found.fails; before = λ k q below there. earlier found k q below there }
     where
-      earlier : (found : FaultAt processes ports fault) (k : ℕ) (q : Port) → k < suc found.place → slice_get (p ∷ ports) k ≡ Some q → port_fault (name_of processes q.process) q ≡ Ok tt
+      earlier : (found : FaultAt processes ports fault) (k : ℕ) (q : DraftPort) → k < suc found.place → slice_get (p ∷ ports) k ≡ Some q → port_fault (name_of processes q.process) q ≡ Ok tt
       earlier found zero q below there =
           let same : p ≡ q = cc in
-          subst (λ (x : Port). port_fault (name_of processes x.process) x ≡ Ok tt) same first
+          subst (λ (x : DraftPort). port_fault (name_of processes x.process) x ≡ Ok tt) same first
       earlier found (suc k) q below there = found.before k q (omega arith) there
 
 module _ (table : List KindSpec) (ps : List (List ℕ × List ℕ)) (at : List PortAt) (joins : List Join) (given : List (End × List ℕ)) (draft : Draft) (agrees : Agrees table ps at joins given draft) where
-  free_is : (g : ℕ) (port : Port) → slice_get draft.ports g ≡ Some port → (k : ℕ) (b : Binding) → slice_get port.elements k ≡ Some b → is_free b ≡ not (is_named (ends_of joins given) (record { port = g; element = k }))
+  free_is : (g : ℕ) (port : DraftPort) → slice_get draft.ports g ≡ Some port → (k : ℕ) (b : Binding) → slice_get port.elements k ≡ Some b → is_free b ≡ not (is_named (ends_of joins given) (record { port = g; element = k }))
   free_is g port here k b is = by (is_free b) refl (is_named (ends_of joins given) (record { port = g; element = k })) refl where
     by : (f : Bool) → is_free b ≡ f → (n : Bool) → is_named (ends_of joins given) (record { port = g; element = k }) ≡ n → f ≡ not n
     by true free false named = refl
@@ -88,7 +88,7 @@ module _ (table : List KindSpec) (ps : List (List ℕ × List ℕ)) (at : List P
         absurd (false≢true (sym found.2 ∙ ap is_free (sym same) ∙ free))
     by false free false named = absurd (false≢true (sym named ∙ named_if_bound table ps at joins given draft agrees (record { port = g; element = k }) b (binding_is table ps at joins given draft agrees g k port here ∙ is) free))
 
-  gap_is : (g : ℕ) (port : Port) → slice_get draft.ports g ≡ Some port → position is_free (take (bound_size port.elements) port.elements) ≡ gap (ends_of joins given) g
+  gap_is : (g : ℕ) (port : DraftPort) → slice_get draft.ports g ≡ Some port → position is_free (take (bound_size port.elements) port.elements) ≡ gap (ends_of joins given) g
   gap_is g port here =
       same_places is_free (λ (e : ℕ). not (is_named (ends_of joins given) (record { port = g; element = e }))) (take (bound_size port.elements) port.elements) (range_with_len 0 (bound_size port.elements))
       (flags (λ (e : ℕ). not (is_named (ends_of joins given) (record { port = g; element = e }))) port.elements (bound_size port.elements) 0 (size_of-within port.elements)
@@ -99,7 +99,7 @@ module _ (table : List KindSpec) (ps : List (List ℕ × List ℕ)) (at : List P
       zero_add k = omega arith
 
   -- What is wrong with a port of the draft is what the text says.
-  pub port_alike : (g : ℕ) (port : Port) (before : List PortAt) → slice_get draft.ports g ≡ Some port → length before ≡ g → port_fault (name_of draft.processes port.process) port ≡ port_test ps (ends_of joins given) before (bare port)
+  pub port_alike : (g : ℕ) (port : DraftPort) (before : List PortAt) → slice_get draft.ports g ≡ Some port → length before ≡ g → port_fault (name_of draft.processes port.process) port ≡ port_test ps (ends_of joins given) before (bare port)
   port_alike g port before here count =
       ap (λ (n : List ℕ). port_fault n port) (name_is draft.processes port.process ∙ ap (λ (l : List (List ℕ × List ℕ)). option_map_or (λ (x : List ℕ × List ℕ). x.0) (slice_get l port.process) []) agrees.names)
       ∙ ap (λ (o : Option ℕ). if bound_size port.elements == 0 then refused_if port.spec.needed (PortMissing name port.spec.name) else gap_fault name port o) (gap_is g port here)
@@ -115,7 +115,7 @@ module _ (table : List KindSpec) (ps : List (List ℕ × List ℕ)) (at : List P
       gaps (Some e) = refl
 
   -- A port of the text is one of the draft.
-  port_of : (k : ℕ) (x : PortAt) → slice_get at k ≡ Some x → (port : Port) × (slice_get draft.ports k ≡ Some port) × (bare port ≡ x)
+  port_of : (k : ℕ) (x : PortAt) → slice_get at k ≡ Some x → (port : DraftPort) × (slice_get draft.ports k ≡ Some port) × (bare port ≡ x)
   port_of k x is = map_some bare (slice_get draft.ports k) x (sym (slice_get-map bare draft.ports k) ∙ ap (λ (l : List PortAt). slice_get l k) agrees.ports ∙ is)
 
   counted : (k : ℕ) (x : PortAt) (l : List PortAt) → slice_get l k ≡ Some x → length (take k l) ≡ k
@@ -143,7 +143,7 @@ module _ (table : List KindSpec) (ps : List (List ℕ × List ℕ)) (at : List P
       found : FaultAt draft.processes draft.ports fault
       found = fault_at draft.processes draft.ports fault is
 
-      at_place : (k : ℕ) (port : Port) → slice_get draft.ports k ≡ Some port → slice_get at k ≡ Some (bare port)
+      at_place : (k : ℕ) (port : DraftPort) → slice_get draft.ports k ≡ Some port → slice_get at k ≡ Some (bare port)
       at_place k port here = ap (λ (l : List PortAt). slice_get l k) (sym agrees.ports) ∙ slice_get-map bare draft.ports k ∙ ap (option_map bare) here
 
       taken : (l : List PortAt) (n k : ℕ) (x : PortAt) → slice_get (take n l) k ≡ Some x → (k < n) × (slice_get l k ≡ Some x)

@@ -9,8 +9,8 @@ use Rattle.std.proofs.lemmas.List.Elements.{filter-append}
 use Rattle.std.proofs.lemmas.Option.{slice_get-map}
 use Rattle.flow_net.specs.declared.draft.End.{End}
 use Rattle.flow_net.specs.declared.draft.Binding.TheVariants.{Given}
-use Rattle.flow_net.specs.declared.draft.Port.{Port}
-use Rattle.flow_net.specs.declared.draft.Begun.{Begun}
+use Rattle.flow_net.specs.declared.draft.DraftPort.{DraftPort}
+use Rattle.flow_net.specs.declared.draft.DraftProcess.{DraftProcess}
 use Rattle.flow_net.specs.declared.fault.PlanFault.{PlanFault}
 use Rattle.flow_net.specs.declared.fault.PlanFault.TheVariants.{PortTaken, BadOption}
 use Rattle.flow_plan.specs.declared.kind.KindSpec.{KindSpec}
@@ -35,7 +35,7 @@ pub reassociate : {A B C : Type 0} (m : Result A PlanFault) (f : A → Result B 
 reassociate (Ok a) f g = refl
 reassociate (Err fault) f g = refl
 
-called_updated : (f : Begun → Begun) → ((b : Begun) → called (f b) ≡ called b) → (bs : List Begun) (p : ℕ) → map called (updated f bs p) ≡ map called bs
+called_updated : (f : DraftProcess → DraftProcess) → ((b : DraftProcess) → called (f b) ≡ called b) → (bs : List DraftProcess) (p : ℕ) → map called (updated f bs p) ≡ map called bs
 called_updated f same [] p = refl
 called_updated f same (b ∷ bs) zero = ap (λ x. x ∷ map called bs) (same b)
 called_updated f same (b ∷ bs) (suc p) = ap (λ xs. called b ∷ xs) (called_updated f same bs p)
@@ -46,17 +46,17 @@ eqb_not m n ne = by (m == n) refl where
   by false is = refl
   by true is = absurd (ne (eqb_true m n is))
 
-fits_at : (ports : List Port) (at : List PortAt) (g : ℕ) (text : List ℕ) → map bare ports ≡ at → FitsPort (slice_get ports g) text → FitsAt (slice_get at g) text
+fits_at : (ports : List DraftPort) (at : List PortAt) (g : ℕ) (text : List ℕ) → map bare ports ≡ at → FitsPort (slice_get ports g) text → FitsAt (slice_get at g) text
 fits_at ports at g text same fits = subst (λ (l : List PortAt). FitsAt (slice_get l g) text) same (subst (λ (o : Option PortAt). FitsAt o text) (sym (slice_get-map bare ports g)) (by (slice_get ports g) fits))
   where
-    by : (o : Option Port) → FitsPort o text → FitsAt (option_map bare o) text
+    by : (o : Option DraftPort) → FitsPort o text → FitsAt (option_map bare o) text
     by None fits = absurd fits
     by (Some port) fits = fits
 
-fits_back : (ports : List Port) (at : List PortAt) (g : ℕ) (text : List ℕ) → map bare ports ≡ at → FitsAt (slice_get at g) text → FitsPort (slice_get ports g) text
+fits_back : (ports : List DraftPort) (at : List PortAt) (g : ℕ) (text : List ℕ) → map bare ports ≡ at → FitsAt (slice_get at g) text → FitsPort (slice_get ports g) text
 fits_back ports at g text same fits = by (slice_get ports g) (subst (λ (o : Option PortAt). FitsAt o text) (slice_get-map bare ports g) (subst (λ (l : List PortAt). FitsAt (slice_get l g) text) (sym same) fits))
   where
-    by : (o : Option Port) → FitsAt (option_map bare o) text → FitsPort o text
+    by : (o : Option DraftPort) → FitsAt (option_map bare o) text → FitsPort o text
     by None fits = absurd fits
     by (Some port) fits = fits
 
@@ -79,7 +79,7 @@ module _ (table : List KindSpec) (ps : List (List ℕ × List ℕ)) (at : List P
       ∙ by (process_of_name draft.processes to >>= λ receiver. end_of_port draft.ports receiver true to into) refl
       ∙ ap (λ (r : Result End PlanFault). r >>= λ input. refused_if (receives joins input || has_text given input) (PortTaken to into) >>= λ free. Ok input) (input_alike to into)
     where
-      taken : List Port → End → Result End PlanFault
+      taken : List DraftPort → End → Result End PlanFault
       taken ports input = refused_if (is_taken (binding_at ports input)) (PortTaken to into) >>= λ unbound. Ok input
 
       outer : (m : Result ℕ PlanFault) → ◌≡◌ {A = Result End PlanFault} (m >>= λ receiver. end_of_port draft.ports receiver true to into >>= λ input. refused_if (is_taken (binding_at draft.ports input)) (PortTaken to into) >>= λ unbound. Ok input)
@@ -138,18 +138,18 @@ module _ (table : List KindSpec) (ps : List (List ℕ × List ℕ)) (at : List P
       pushed : (p : ℕ) → texts_at at (given ++ (input, text) ∷ []) p ≡ texts_at at given p ++ (if owner at input == p then (input, text) ∷ [] else [])
       pushed p = filter-append (λ (t : End × List ℕ). owner at t.0 == p) given ((input, text) ∷ [])
 
-      mine : (p : ℕ) (begun : Begun) → p ≡ process_at draft.ports input → slice_get (updated (with_text input text) draft.processes (process_at draft.ports input)) p ≡ Some begun → begun.texts ≡ texts_at at (given ++ (input, text) ∷ []) p
+      mine : (p : ℕ) (begun : DraftProcess) → p ≡ process_at draft.ports input → slice_get (updated (with_text input text) draft.processes (process_at draft.ports input)) p ≡ Some begun → begun.texts ≡ texts_at at (given ++ (input, text) ∷ []) p
       mine p begun same here =
           let old = map_some (with_text input text) (slice_get draft.processes p) begun (sym (slice_get-updated_same (with_text input text) draft.processes p) ∙ ap (λ (q : ℕ). slice_get (updated (with_text input text) draft.processes q) p) same ∙ here) in
-          ap (λ (b : Begun). b.texts) (sym old.2) ∙ ap (λ (l : List (End × List ℕ)). l ++ (input, text) ∷ []) (agrees.texts p old.0 old.1)
+          ap (λ (b : DraftProcess). b.texts) (sym old.2) ∙ ap (λ (l : List (End × List ℕ)). l ++ (input, text) ∷ []) (agrees.texts p old.0 old.1)
           ∙ ap (λ (b : Bool). texts_at at given p ++ (if b then (input, text) ∷ [] else [])) (sym (ap (λ (n : ℕ). n == p) (owned ∙ sym same) ∙ eqb_refl p)) ∙ sym (pushed p)
 
-      other : (p : ℕ) (begun : Begun) → p ≢ process_at draft.ports input → slice_get (updated (with_text input text) draft.processes (process_at draft.ports input)) p ≡ Some begun → begun.texts ≡ texts_at at (given ++ (input, text) ∷ []) p
+      other : (p : ℕ) (begun : DraftProcess) → p ≢ process_at draft.ports input → slice_get (updated (with_text input text) draft.processes (process_at draft.ports input)) p ≡ Some begun → begun.texts ≡ texts_at at (given ++ (input, text) ∷ []) p
       other p begun ne here =
           agrees.texts p begun (sym (slice_get-updated_other (with_text input text) draft.processes (process_at draft.ports input) p ne) ∙ here)
           ∙ sym (append-nil (texts_at at given p)) ∙ ap (λ (b : Bool). texts_at at given p ++ (if b then (input, text) ∷ [] else [])) (sym (eqb_not (owner at input) p (λ e. ne (sym e ∙ owned)))) ∙ sym (pushed p)
 
-      texts : (p : ℕ) (begun : Begun) → slice_get (updated (with_text input text) draft.processes (process_at draft.ports input)) p ≡ Some begun → begun.texts ≡ texts_at at (given ++ (input, text) ∷ []) p
+      texts : (p : ℕ) (begun : DraftProcess) → slice_get (updated (with_text input text) draft.processes (process_at draft.ports input)) p ≡ Some begun → begun.texts ≡ texts_at at (given ++ (input, text) ∷ []) p
       texts p begun here = by (same_or_not p (process_at draft.ports input)) where
         by : (p ≡ process_at draft.ports input) ⊎ (p ≢ process_at draft.ports input) → begun.texts ≡ texts_at at (given ++ (input, text) ∷ []) p
         by (inl same) = mine p begun same here

@@ -10,7 +10,7 @@ use Rattle.std.proofs.lemmas.Option.{slice_get-map}
 use Rattle.flow_net.specs.declared.draft.End.{End}
 use Rattle.flow_net.specs.declared.draft.Binding.{Binding}
 use Rattle.flow_net.specs.declared.draft.Binding.TheVariants.{Free, Receives, Sends, Given}
-use Rattle.flow_net.specs.declared.draft.Port.{Port}
+use Rattle.flow_net.specs.declared.draft.DraftPort.{DraftPort}
 use Rattle.flow_net.specs.declared.draft.Link.{Link}
 use Rattle.flow_net.specs.declared.fault.Many.TheVariants as many
 use Rattle.flow_net.specs.declared.fault.PlanFault.{PlanFault}
@@ -31,16 +31,16 @@ use Rattle.flow_flat.proofs.Lookups.{bare, stream_is}
 use Rattle.flow_flat.proofs.Agrees.{Agrees, receives_has, into_receiver, receiver_into, received_from, received_to, sent_from, sent_to, text_from, text_to}
 
 -- Binding a port doesn't change the ports without their bindings.
-pub bare_bound : (ports : List Port) (g e : ℕ) (b : Binding) → map bare (bound ports (record { port = g; element = e }) b) ≡ map bare ports
+pub bare_bound : (ports : List DraftPort) (g e : ℕ) (b : Binding) → map bare (bound ports (record { port = g; element = e }) b) ≡ map bare ports
 bare_bound [] g e b = refl
 bare_bound (port ∷ ports) zero e b = refl
 bare_bound (port ∷ ports) (suc g) e b = ap (λ (l : List PortAt). bare port ∷ l) (bare_bound ports g e b)
 
-pub bare_joined : (ports : List Port) (links : List Link) (out into : End) (link : Option ℕ) → map bare (joined_ports ports links out into link) ≡ map bare ports
+pub bare_joined : (ports : List DraftPort) (links : List Link) (out into : End) (link : Option ℕ) → map bare (joined_ports ports links out into link) ≡ map bare ports
 bare_joined ports links out into None = bare_bound (bound ports into (Receives (length links))) out.port out.element (Sends (length links) 0) ∙ bare_bound ports into.port into.element (Receives (length links))
 bare_joined ports links out into (Some c) = bare_bound ports out.port out.element (Sends c (next_sender (slice_get links c)))
 
-pub joined_keeps : (ports : List Port) (links : List Link) (out into : End) (link : Option ℕ) (end : End) → IsSome (binding_at ports end) → IsSome (binding_at (joined_ports ports links out into link) end)
+pub joined_keeps : (ports : List DraftPort) (links : List Link) (out into : End) (link : Option ℕ) (end : End) → IsSome (binding_at ports end) → IsSome (binding_at (joined_ports ports links out into link) end)
 joined_keeps ports links out into None end there = bound-keeps (bound ports into (Receives (length links))) out end (Sends (length links) 0) (bound-keeps ports into end (Receives (length links)) there)
 joined_keeps ports links out into (Some c) end there = bound-keeps ports out end (Sends c (next_sender (slice_get links c))) there
 

@@ -8,8 +8,8 @@ use Rattle.std.specs.Str.{bytes_eq}
 use Rattle.std.proofs.lemmas.List.{length-map}
 use Rattle.std.proofs.lemmas.Option.{slice_get-map}
 use Rattle.flow_net.specs.declared.draft.End.{End}
-use Rattle.flow_net.specs.declared.draft.Port.{Port}
-use Rattle.flow_net.specs.declared.draft.Begun.{Begun}
+use Rattle.flow_net.specs.declared.draft.DraftPort.{DraftPort}
+use Rattle.flow_net.specs.declared.draft.DraftProcess.{DraftProcess}
 use Rattle.flow_net.specs.declared.fault.PlanFault.{PlanFault}
 use Rattle.flow_net.specs.declared.fault.PlanFault.TheVariants.{UnknownProcess, PortUnknown}
 use Rattle.flow_plan.specs.declared.kind.PortRef.{PortRef}
@@ -20,11 +20,11 @@ use Rattle.flow_flat.specs.Names.{PortAt, process_called, is_on, port_called, el
 use Rattle.flow_flat.specs.Faults.{is_stream_end}
 
 -- A port without what its elements are bound to.
-abbrev pub bare : Port → PortAt
+abbrev pub bare : DraftPort → PortAt
 bare port = record { process = port.process; input = port.input; place = port.place; spec = port.spec }
 
 -- A process as the text has it.
-abbrev pub called : Begun → List ℕ × List ℕ
+abbrev pub called : DraftProcess → List ℕ × List ℕ
 called begun = (begun.name, begun.kind)
 
 place_map : {X Y : Type 0} (p : Y → Bool) (f : X → Y) (xs : List X) → position_or_len p (map f xs) ≡ position_or_len (λ x. p (f x)) xs
@@ -36,21 +36,21 @@ pub position_map : {X Y : Type 0} (p : Y → Bool) (f : X → Y) (xs : List X) �
 position_map p f xs = ap (λ (n : ℕ). if nat_lt n (length (map f xs)) then Some n else None) (place_map p f xs) ∙ ap (λ (n : ℕ). if nat_lt (position_or_len (λ x. p (f x)) xs) n then Some (position_or_len (λ x. p (f x)) xs) else None) (length-map xs f)
 
 -- A process is found by its name in the draft where it is in the text.
-pub process_is : (processes : List Begun) (name : List ℕ) → process_named processes name ≡ process_called (map called processes) name
+pub process_is : (processes : List DraftProcess) (name : List ℕ) → process_named processes name ≡ process_called (map called processes) name
 process_is processes name = sym (position_map (λ (x : List ℕ × List ℕ). bytes_eq x.0 name) called processes)
 
-pub port_is : (ports : List Port) (p : ℕ) (input : Bool) (name : List ℕ) → port_named ports p input name ≡ port_called (map bare ports) p input name
+pub port_is : (ports : List DraftPort) (p : ℕ) (input : Bool) (name : List ℕ) → port_named ports p input name ≡ port_called (map bare ports) p input name
 port_is ports p input name = sym (position_map (λ (port : PortAt). is_on p input port && bytes_eq port.spec.name name) bare ports)
 
-element_is : (ports : List Port) (element : Option ℕ) (g : ℕ) → end_at ports element g ≡ element_at (map bare ports) element g
+element_is : (ports : List DraftPort) (element : Option ℕ) (g : ℕ) → end_at ports element g ≡ element_at (map bare ports) element g
 element_is ports element g = by (slice_get ports g) ∙ ap (option_and_then (λ (port : PortAt). option_map (λ e. let at : End = record { port = g; element = e } in at) (element_named port.spec.array element))) (sym (slice_get-map bare ports g))
   where
-    by : (o : Option Port) → option_and_then (λ (port : Port). option_map (λ e. let at : End = record { port = g; element = e } in at) (element_named port.spec.array element)) o
+    by : (o : Option DraftPort) → option_and_then (λ (port : DraftPort). option_map (λ e. let at : End = record { port = g; element = e } in at) (element_named port.spec.array element)) o
         ≡ option_and_then (λ (port : PortAt). option_map (λ e. let at : End = record { port = g; element = e } in at) (element_named port.spec.array element)) (option_map bare o)
     by None = refl
     by (Some port) = refl
 
-pub end_is : (ports : List Port) (p : ℕ) (input : Bool) (port : PortRef) → end_named ports p input port ≡ end_called (map bare ports) p input port
+pub end_is : (ports : List DraftPort) (p : ℕ) (input : Bool) (port : PortRef) → end_named ports p input port ≡ end_called (map bare ports) p input port
 end_is ports p input port = by (port_named ports p input port.name) ∙ ap (option_and_then (element_at (map bare ports) port.element)) (port_is ports p input port.name)
   where
     by : (o : Option ℕ) → option_and_then (end_at ports port.element) o ≡ option_and_then (element_at (map bare ports) port.element) o
@@ -58,7 +58,7 @@ end_is ports p input port = by (port_named ports p input port.name) ∙ ap (opti
     by (Some g) = element_is ports port.element g
 
 -- The ends of a connect statement.
-pub ends_are : (processes : List Begun) (ports : List Port) (from : List ℕ) (out : PortRef) (to : List ℕ) (into : PortRef)
+pub ends_are : (processes : List DraftProcess) (ports : List DraftPort) (from : List ℕ) (out : PortRef) (to : List ℕ) (into : PortRef)
     → ends_of processes ports from out to into ≡ join_ends (map called processes) (map bare ports) from out to into
 ends_are processes ports from out to into =
     rw (← process_is processes from, ← process_is processes to) (by (process_named processes from) (process_named processes to))
@@ -78,7 +78,7 @@ ends_are processes ports from out to into =
     by (Some s) (Some r) = inner s r
 
 -- The input that a text is for.
-pub input_is : (processes : List Begun) (ports : List Port) (to : List ℕ) (into : PortRef)
+pub input_is : (processes : List DraftProcess) (ports : List DraftPort) (to : List ℕ) (into : PortRef)
     → (process_of_name processes to >>= λ receiver. end_of_port ports receiver true to into) ≡ text_end (map called processes) (map bare ports) to into
 input_is processes ports to into = rw (← process_is processes to) (by (process_named processes to))
   where
@@ -87,9 +87,9 @@ input_is processes ports to into = rw (← process_is processes to) (by (process
     by (Some r) = ap (λ (o : Option End). ok_or o (PortUnknown to into)) (end_is ports r true into)
 
 -- An element is a stream with its bindings and without.
-pub stream_is : (ports : List Port) (end : End) → is_stream_at ports end ≡ is_stream_end (map bare ports) end
+pub stream_is : (ports : List DraftPort) (end : End) → is_stream_at ports end ≡ is_stream_end (map bare ports) end
 stream_is ports end = by (slice_get ports end.port) ∙ ap (λ (o : Option PortAt). option_map_or (λ (port : PortAt). is_stream port.spec.class) o false) (sym (slice_get-map bare ports end.port))
   where
-    by : (o : Option Port) → is_stream_port o ≡ option_map_or (λ (port : PortAt). is_stream port.spec.class) (option_map bare o) false
+    by : (o : Option DraftPort) → is_stream_port o ≡ option_map_or (λ (port : PortAt). is_stream port.spec.class) (option_map bare o) false
     by None = refl
     by (Some port) = refl

@@ -7,8 +7,8 @@ use Rattle.std.specs.declared.result.Result.{Result}
 use Rattle.std.specs.Str.{bytes_eq}
 use Rattle.std.proofs.lemmas.List.{append-nil, map-append, length-map}
 use Rattle.std.proofs.lemmas.Slice.Eq.{bytes_eq-Decides}
-use Rattle.flow_net.specs.declared.draft.Begun.{Begun}
-use Rattle.flow_net.specs.declared.draft.Port.{Port}
+use Rattle.flow_net.specs.declared.draft.DraftProcess.{DraftProcess}
+use Rattle.flow_net.specs.declared.draft.DraftPort.{DraftPort}
 use Rattle.flow_net.specs.declared.fault.Many.TheVariants as many
 use Rattle.flow_net.specs.declared.fault.PlanFault.{PlanFault}
 use Rattle.flow_net.specs.declared.fault.PlanFault.TheVariants.{SameName, UnknownKind, TooMany}
@@ -102,7 +102,7 @@ module _ (kinds : List KindSpec) where
           by : (b : Bool) → bytes_eq spec.name x.1 ≡ b → b ≡ true → spec.name ≡ x.1
           by b is true_is = grind (arith, bytes_eq-Decides, is, true_is)
 
-        fresh : List Port
+        fresh : List DraftPort
         fresh = fresh_ports n true 0 spec.inputs ++ fresh_ports n false 0 spec.outputs
 
         fresh_is : map bare fresh ≡ ports_of_kind n (Some spec)
@@ -118,11 +118,11 @@ module _ (kinds : List KindSpec) where
             zero_add : (m : ℕ) → m ≡ 0 + m
             zero_add m = omega arith
 
-        texts : (p : ℕ) (begun : Begun) → slice_get (draft.processes ++ begun_as n x.0 spec.name ∷ []) p ≡ Some begun → begun.texts ≡ []
+        texts : (p : ℕ) (begun : DraftProcess) → slice_get (draft.processes ++ begun_as n x.0 spec.name ∷ []) p ≡ Some begun → begun.texts ≡ []
         texts p begun here = by (slice_get-push_cases draft.processes (begun_as n x.0 spec.name) begun p here) where
           by : (slice_get draft.processes p ≡ Some begun) ⊎ ((p ≡ length draft.processes) × (begun_as n x.0 spec.name ≡ begun)) → begun.texts ≡ []
           by (inl old) = names.texts p begun old
-          by (inr new) = ap (λ (b : Begun). b.texts) (sym new.1)
+          by (inr new) = ap (λ (b : DraftProcess). b.texts) (sym new.1)
 
     pub name_steps : (next : Draft) → after_process draft x.0 x.1 ≡ Ok next → (process_test kinds before x ≡ Ok tt) × Names kinds (before ++ x ∷ []) next
     name_steps next is =

@@ -7,8 +7,8 @@ use Rattle.std.proofs.lemmas.List.Sums.{sum_by-cons}
 use Rattle.std.proofs.lemmas.Option.{slice_get-map}
 use Rattle.std.proofs.lemmas.List.{take-map}
 use Rattle.flow_net.specs.declared.draft.End.{End}
-use Rattle.flow_net.specs.declared.draft.Begun.{Begun}
-use Rattle.flow_net.specs.declared.draft.Port.{Port}
+use Rattle.flow_net.specs.declared.draft.DraftProcess.{DraftProcess}
+use Rattle.flow_net.specs.declared.draft.DraftPort.{DraftPort}
 use Rattle.flow_plan.specs.declared.kind.KindSpec.{KindSpec}
 use Rattle.flow_plan.specs.declared.plan.Sender.{Sender}
 use Rattle.flow_plan.specs.declared.plan.Process.{Process}
@@ -35,25 +35,25 @@ map_map : {X Y Z : Type 0} (f : Y → Z) (g : X → Y) (xs : List X) → map f (
 map_map f g [] = refl
 map_map f g (x ∷ xs) = ap (λ ys. f (g x) ∷ ys) (map_map f g xs)
 
-module _ (ports : List Port) where
-  looked : {X : Type 0} (f : Port → X) (h : Sized → X) (d : X) → ((port : Port) → f port ≡ h (view port)) → (g : ℕ) → option_map_or f (slice_get ports g) d ≡ option_map_or h (slice_get (map view ports) g) d
+module _ (ports : List DraftPort) where
+  looked : {X : Type 0} (f : DraftPort → X) (h : Sized → X) (d : X) → ((port : DraftPort) → f port ≡ h (view port)) → (g : ℕ) → option_map_or f (slice_get ports g) d ≡ option_map_or h (slice_get (map view ports) g) d
   looked {X} f h d same g = by (slice_get ports g) ∙ ap (λ (o : Option Sized). option_map_or h o d) (sym (slice_get-map view ports g)) where
-    by : (o : Option Port) → option_map_or f o d ≡ option_map_or h (option_map view o) d
+    by : (o : Option DraftPort) → option_map_or f o d ≡ option_map_or h (option_map view o) d
     by None = refl
     by (Some port) = same port
 
   pub process_view : (end : End) → process_of_end ports end ≡ process_at (map view ports) end
-  process_view end = looked (λ (p : Port). p.process) (λ (x : Sized). x.port.process) 0 (λ p. refl) end.port
+  process_view end = looked (λ (p : DraftPort). p.process) (λ (x : Sized). x.port.process) 0 (λ p. refl) end.port
 
   side_view : (end : End) → finishes.side_at ports end ≡ is_input (map view ports) end
-  side_view end = looked (λ (p : Port). p.input) (λ (x : Sized). x.port.input) false (λ p. refl) end.port
+  side_view end = looked (λ (p : DraftPort). p.input) (λ (x : Sized). x.port.input) false (λ p. refl) end.port
 
   place_view : (end : End) → finishes.place_at ports end ≡ place_at (map view ports) end
-  place_view end = looked (λ (p : Port). p.place) (λ (x : Sized). x.port.place) 0 (λ p. refl) end.port
+  place_view end = looked (λ (p : DraftPort). p.place) (λ (x : Sized). x.port.place) 0 (λ p. refl) end.port
 
   carries_view : (end : End) → is_stream_at ports end ≡ carries_at (map view ports) end
-  carries_view end = by (slice_get ports end.port) ∙ looked (λ (p : Port). is_stream p.spec.class) (λ (x : Sized). is_stream x.port.spec.class) false (λ p. refl) end.port where
-    by : (o : Option Port) → is_stream_port o ≡ option_map_or (λ (p : Port). is_stream p.spec.class) o false
+  carries_view end = by (slice_get ports end.port) ∙ looked (λ (p : DraftPort). is_stream p.spec.class) (λ (x : Sized). is_stream x.port.spec.class) false (λ p. refl) end.port where
+    by : (o : Option DraftPort) → is_stream_port o ≡ option_map_or (λ (p : DraftPort). is_stream p.spec.class) o false
     by None = refl
     by (Some port) = refl
 
@@ -87,7 +87,7 @@ module _ (ports : List Port) where
   -- The options and initial texts of a process.
   owner_view : (end : End) → owner (map bare ports) end ≡ process_at (map view ports) end
   owner_view end = by (slice_get ports end.port) (slice_get-map bare ports end.port) (slice_get-map view ports end.port) where
-    by : (o : Option Port) → {a : Option PortAt} → {b : Option Sized} → a ≡ option_map bare o → b ≡ option_map view o → option_map_or (λ (p : PortAt). p.process) a 0 ≡ option_map_or (λ (x : Sized). x.port.process) b 0
+    by : (o : Option DraftPort) → {a : Option PortAt} → {b : Option Sized} → a ≡ option_map bare o → b ≡ option_map view o → option_map_or (λ (p : PortAt). p.process) a 0 ≡ option_map_or (λ (x : Sized). x.port.process) b 0
     by None p q = ap (λ (a : Option PortAt). option_map_or (λ (p : PortAt). p.process) a 0) p ∙ sym (ap (λ (b : Option Sized). option_map_or (λ (x : Sized). x.port.process) b 0) q)
     by (Some port) p q = ap (λ (a : Option PortAt). option_map_or (λ (p : PortAt). p.process) a 0) p ∙ sym (ap (λ (b : Option Sized). option_map_or (λ (x : Sized). x.port.process) b 0) q)
 
@@ -126,7 +126,7 @@ module _ (ports : List Port) where
       ∙ ap (λ (n : ℕ). cons_option (if (process_at (map view ports) t.0 == p) && carries_at (map view ports) t.0 then Some (n, t.1) else None) (finishes.initials_of ports (texts_at (map bare ports) ts p))) (number_view t.0)
       ∙ ap (cons_option (initial_of (map view ports) p t)) (initials_view p ts)
 
-  process_is_view : (p : ℕ) (texts : List (End × List ℕ)) (b : Begun) → b.number ≡ p → b.texts ≡ texts_at (map bare ports) texts p → finishes.process_of ports b ≡ process_of (map view ports) texts p (called b)
+  process_is_view : (p : ℕ) (texts : List (End × List ℕ)) (b : DraftProcess) → b.number ≡ p → b.texts ≡ texts_at (map bare ports) texts p → finishes.process_of ports b ≡ process_of (map view ports) texts p (called b)
   process_is_view p texts b number held =
       ap (λ (l : List (End × List ℕ)). let x : Process = record { name = b.name; kind = b.kind; options = finishes.options_of ports l; initials = finishes.initials_of ports l; inputs = finishes.total_of ports b.number true; outputs = finishes.total_of ports b.number false } in x) held
       ∙ ap (λ (n : ℕ). let x : Process = record { name = b.name; kind = b.kind; options = finishes.options_of ports (texts_at (map bare ports) texts p); initials = finishes.initials_of ports (texts_at (map bare ports) texts p); inputs = finishes.total_of ports n true; outputs = finishes.total_of ports n false } in x) number
@@ -135,7 +135,7 @@ module _ (ports : List Port) where
       ∙ ap (λ (n : ℕ). let x : Process = record { name = b.name; kind = b.kind; options = filter_map (option_of (map view ports) p) texts; initials = filter_map (initial_of (map view ports) p) texts; inputs = n; outputs = finishes.total_of ports p false } in x) (total_view p true)
       ∙ ap (λ (n : ℕ). let x : Process = record { name = b.name; kind = b.kind; options = filter_map (option_of (map view ports) p) texts; initials = filter_map (initial_of (map view ports) p) texts; inputs = sum_by (numbers p true) (map view ports); outputs = n } in x) (total_view p false)
 
-  processes_view : (p : ℕ) (texts : List (End × List ℕ)) (bs : List Begun) → ((k : ℕ) (b : Begun) → slice_get bs k ≡ Some b → (b.number ≡ p + k) × (b.texts ≡ texts_at (map bare ports) texts (p + k)))
+  processes_view : (p : ℕ) (texts : List (End × List ℕ)) (bs : List DraftProcess) → ((k : ℕ) (b : DraftProcess) → slice_get bs k ≡ Some b → (b.number ≡ p + k) × (b.texts ≡ texts_at (map bare ports) texts (p + k)))
       → map (finishes.process_of ports) bs ≡ processes_from (map view ports) texts p (map called bs)
   processes_view p texts [] each = refl
   processes_view p texts (b ∷ bs) each =
@@ -146,7 +146,7 @@ module _ (ports : List Port) where
       shift : (k : ℕ) → p + suc k ≡ (p + 1) + k
       shift k = omega arith
 
-  rows_view : (p : ℕ) (input : Bool) (l : List Port) → finishes.rows_of l p input ≡ map (λ (x : Sized). let row : PortRow = record { spec = x.port.spec; elements = x.elements } in row) (filter (λ (x : Sized). is_on p input x.port) (map view l))
+  rows_view : (p : ℕ) (input : Bool) (l : List DraftPort) → finishes.rows_of l p input ≡ map (λ (x : Sized). let row : PortRow = record { spec = x.port.spec; elements = x.elements } in row) (filter (λ (x : Sized). is_on p input x.port) (map view l))
   rows_view p input [] = refl
   rows_view p input (x ∷ xs) = by (is_side p input x) (rows_view p input xs) where
     by : (b : Bool) → finishes.rows_of xs p input ≡ map (λ (x : Sized). let row : PortRow = record { spec = x.port.spec; elements = x.elements } in row) (filter (λ (x : Sized). is_on p input x.port) (map view xs))
@@ -155,7 +155,7 @@ module _ (ports : List Port) where
     by true rest = ap (λ (l : List PortRow). finishes.row_of x ∷ l) rest
     by false rest = rest
 
-  tables_view : (p : ℕ) (bs : List Begun) → ((k : ℕ) (b : Begun) → slice_get bs k ≡ Some b → b.number ≡ p + k) → map (finishes.table_of ports) bs ≡ tables_from (map view ports) p (map called bs)
+  tables_view : (p : ℕ) (bs : List DraftProcess) → ((k : ℕ) (b : DraftProcess) → slice_get bs k ≡ Some b → b.number ≡ p + k) → map (finishes.table_of ports) bs ≡ tables_from (map view ports) p (map called bs)
   tables_view p [] each = refl
   tables_view p (b ∷ bs) each =
       let number : b.number ≡ p = each 0 b refl ∙ omega arith in
@@ -179,5 +179,5 @@ plan_view table ps at joins given draft agrees =
     zero_add : (k : ℕ) → k ≡ 0 + k
     zero_add k = omega arith
 
-    each : (k : ℕ) (b : Begun) → slice_get draft.processes k ≡ Some b → (b.number ≡ 0 + k) × (b.texts ≡ texts_at (map bare draft.ports) given (0 + k))
+    each : (k : ℕ) (b : DraftProcess) → slice_get draft.processes k ≡ Some b → (b.number ≡ 0 + k) × (b.texts ≡ texts_at (map bare draft.ports) given (0 + k))
     each k b is = (agrees.sound.numbers k b is ∙ zero_add k, agrees.texts k b is ∙ ap (λ (l : List PortAt). texts_at l given k) (sym agrees.ports) ∙ ap (texts_at (map bare draft.ports) given) (zero_add k))

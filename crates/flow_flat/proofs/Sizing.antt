@@ -9,7 +9,7 @@ use Rattle.std.proofs.lemmas.List.Folds.{list_any-append}
 use Rattle.flow_net.specs.declared.draft.End.{End}
 use Rattle.flow_net.specs.declared.draft.Binding.{Binding}
 use Rattle.flow_net.specs.declared.draft.Binding.TheVariants.{Free, Receives, Sends, Given}
-use Rattle.flow_net.specs.declared.draft.Port.{Port}
+use Rattle.flow_net.specs.declared.draft.DraftPort.{DraftPort}
 use Rattle.flow_plan.specs.declared.kind.KindSpec.{KindSpec}
 use Rattle.flow_net.specs.Drafts.{Draft, binding_at, is_free}
 use Rattle.flow_net.specs.Finishes.{size_of as bound_size, elements_in}
@@ -155,11 +155,11 @@ module _ (table : List KindSpec) (ps : List (List ℕ × List ℕ)) (at : List P
     by (inr (inr texted)) = let found = text_bound table ps at joins given draft agrees end (there texted) texted in (Given found.0, found.1, refl)
 
   -- The binding of an element of a port that is there.
-  pub binding_is : (g e : ℕ) (port : Port) → slice_get draft.ports g ≡ Some port → binding_at draft.ports (record { port = g; element = e }) ≡ slice_get port.elements e
-  binding_is g e port here = ap (option_and_then (λ (p : Port). slice_get p.elements e)) here
+  pub binding_is : (g e : ℕ) (port : DraftPort) → slice_get draft.ports g ≡ Some port → binding_at draft.ports (record { port = g; element = e }) ≡ slice_get port.elements e
+  binding_is g e port here = ap (option_and_then (λ (p : DraftPort). slice_get p.elements e)) here
 
   -- The number of elements of a port is the same by what is bound and by what is named.
-  pub size_is : (g : ℕ) (port : Port) → slice_get draft.ports g ≡ Some port → bound_size port.elements ≡ size_of (ends_of joins given) g
+  pub size_is : (g : ℕ) (port : DraftPort) → slice_get draft.ports g ≡ Some port → bound_size port.elements ≡ size_of (ends_of joins given) g
   size_is g port here = by (bound_size port.elements) refl (size_of (ends_of joins given) g) refl where
     ends : List End
     ends = ends_of joins given
@@ -186,10 +186,10 @@ module _ (table : List KindSpec) (ps : List (List ℕ × List ℕ)) (at : List P
         omega (arith, one, two, p, q)
 
 -- A port as the text has it, with the number of its elements.
-abbrev pub view : Port → Sized
+abbrev pub view : DraftPort → Sized
 view port = record { port = bare port; elements = elements_in port }
 
-sized_is : (ends : List End) (g : ℕ) (ports : List Port) → ((k : ℕ) (port : Port) → slice_get ports k ≡ Some port → bound_size port.elements ≡ size_of ends (g + k)) → sized_from ends g (map bare ports) ≡ map view ports
+sized_is : (ends : List End) (g : ℕ) (ports : List DraftPort) → ((k : ℕ) (port : DraftPort) → slice_get ports k ≡ Some port → bound_size port.elements ≡ size_of ends (g + k)) → sized_from ends g (map bare ports) ≡ map view ports
 sized_is ends g [] each = refl
 sized_is ends g (port ∷ ports) each =
     let here : g + 0 ≡ g = omega arith in

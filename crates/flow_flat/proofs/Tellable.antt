@@ -3,7 +3,7 @@ use Rattle.std.proofs.Common.{◌≡◌, ℕ, List, [], ◌∷◌, Option, Some,
 use Rattle.std.specs.Prelude.{MatchResult, IsTrue}
 use Rattle.std.specs.declared.result.Result.{Result}
 use Rattle.flow_net.specs.declared.draft.End.{End}
-use Rattle.flow_net.specs.declared.draft.Port.{Port}
+use Rattle.flow_net.specs.declared.draft.DraftPort.{DraftPort}
 use Rattle.flow_net.specs.declared.fault.PlanFault.{PlanFault}
 use Rattle.flow_net.specs.declared.fault.PlanFault.TheVariants.{BadOption}
 use Rattle.flow_plan.specs.declared.kind.KindSpec.{KindSpec}
@@ -23,7 +23,7 @@ use Rattle.flow_flat.proofs.Decided.{Dec, dec_class}
 use Rattle.flow_flat.proofs.Once.{comes_once}
 use Rattle.flow_flat.proofs.Outcomes.{told_is_said}
 
-dec_port : (o : Option Port) (text : List ℕ) → Dec (FitsPort o text)
+dec_port : (o : Option DraftPort) (text : List ℕ) → Dec (FitsPort o text)
 dec_port None text = inr (λ none. none)
 dec_port (Some port) text = dec_class port.spec.class text
 

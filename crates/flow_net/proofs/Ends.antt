@@ -10,8 +10,8 @@ use Rattle.std.proofs.lemmas.Bool.Decides.{nat_tests}
 use Rattle.std.proofs.lemmas.List.Quantifiers.{position-Some}
 use Rattle.std.proofs.lemmas.Option.{get_or_from_slice_get}
 use Rattle.flow_net.specs.declared.draft.End.{End}
-use Rattle.flow_net.specs.declared.draft.Port.{Port}
-use Rattle.flow_net.specs.declared.draft.Begun.{Begun}
+use Rattle.flow_net.specs.declared.draft.DraftPort.{DraftPort}
+use Rattle.flow_net.specs.declared.draft.DraftProcess.{DraftProcess}
 use Rattle.flow_net.specs.declared.draft.Link.{Link}
 use Rattle.flow_net.specs.declared.draft.Binding.{Binding}
 use Rattle.flow_net.specs.declared.draft.Binding.TheVariants.{Free, Receives, Sends, Given}
@@ -64,30 +64,30 @@ element_within false None e is = let zero_is : 0 ≡ e = cc in omega arith
 element_within false (Some n) e is = absurd (cc)
 
 -- An element that a name led to.
-pub record IsThere (ports : List Port) (process : ℕ) (input : Bool) (end : End) : Type 0 where
+pub record IsThere (ports : List DraftPort) (process : ℕ) (input : Bool) (end : End) : Type 0 where
   pub bound : IsSome (binding_at ports end)
   pub side : is_input_at ports end ≡ Some input
   pub owner : process_at ports end ≡ process
 
 -- A port that was found by its name is there, on the asked side of the asked process.
-pub IsThere-named : (ports : List Port) (n process : ℕ) (input : Bool) (port : PortRef) (end : End) → ((g : ℕ) (p : Port) → slice_get ports g ≡ Some p → IsPort n p) → end_named ports process input port ≡ Some end → IsThere ports process input end
+pub IsThere-named : (ports : List DraftPort) (n process : ℕ) (input : Bool) (port : PortRef) (end : End) → ((g : ℕ) (p : DraftPort) → slice_get ports g ≡ Some p → IsPort n p) → end_named ports process input port ≡ Some end → IsThere ports process input end
 IsThere-named ports n process input port end all is =
     let place = then_some (end_at ports port.element) (port_named ports process input port.name) end is in
-    let found = then_some (λ (p : Port). option_map (λ e. let at : End = record { port = place.0; element = e } in at) (element_named p.spec.array port.element)) (slice_get ports place.0) end place.2 in
+    let found = then_some (λ (p : DraftPort). option_map (λ e. let at : End = record { port = place.0; element = e } in at) (element_named p.spec.array port.element)) (slice_get ports place.0) end place.2 in
     let element = map_some (λ e. let at : End = record { port = place.0; element = e } in at) (element_named found.0.spec.array port.element) end found.2 in
-    at place.0 found.0 element.0 found.1 element.1 element.2 (position-Some (λ (p : Port). is_side process input p && bytes_eq p.spec.name port.name) ports place.0 found.0 place.1).1
+    at place.0 found.0 element.0 found.1 element.1 element.2 (position-Some (λ (p : DraftPort). is_side process input p && bytes_eq p.spec.name port.name) ports place.0 found.0 place.1).1
   where
-    at : (g : ℕ) (p : Port) (e : ℕ) → slice_get ports g ≡ Some p → element_named p.spec.array port.element ≡ Some e → ◌≡◌ {A = End} (record { port = g; element = e }) end → (is_side process input (get_or ports g p) && bytes_eq (get_or ports g p).spec.name port.name) ≡ true → IsThere ports process input end
+    at : (g : ℕ) (p : DraftPort) (e : ℕ) → slice_get ports g ≡ Some p → element_named p.spec.array port.element ≡ Some e → ◌≡◌ {A = End} (record { port = g; element = e }) end → (is_side process input (get_or ports g p) && bytes_eq (get_or ports g p).spec.name port.name) ≡ true → IsThere ports process input end
     at g p e here named whole test =
         let here_is : get_or ports g p ≡ p = get_or_from_slice_get ports g p p here in
-        let passed : (is_side process input p && bytes_eq p.spec.name port.name) ≡ true = subst (λ (q : Port). (is_side process input q && bytes_eq q.spec.name port.name) ≡ true) here_is test in
+        let passed : (is_side process input p && bytes_eq p.spec.name port.name) ≡ true = subst (λ (q : DraftPort). (is_side process input q && bytes_eq q.spec.name port.name) ≡ true) here_is test in
         let sided = and_true (p.process == process) (same p.input input) (and_true (is_side process input p) (bytes_eq p.spec.name port.name) passed).0 in
         let within : e < length p.elements = subst (λ (k : ℕ). e < k) (sym ((all g p here).room)) (element_within p.spec.array port.element e named) in
         subst (IsThere ports process input) whole
         (record {
-          bound = subst (λ (o : Option Port). IsSome (option_and_then (λ (q : Port). slice_get q.elements e) o)) (sym here) (is_some_within p.elements e within);
-          side = ap (option_map (λ (q : Port). q.input)) here ∙ ap Some (same_true p.input input sided.1);
-          owner = ap (λ (o : Option Port). option_map_or (λ (q : Port). q.process) o 0) here ∙ eqb_true p.process process sided.0;
+          bound = subst (λ (o : Option DraftPort). IsSome (option_and_then (λ (q : DraftPort). slice_get q.elements e) o)) (sym here) (is_some_within p.elements e within);
+          side = ap (option_map (λ (q : DraftPort). q.input)) here ∙ ap Some (same_true p.input input sided.1);
+          owner = ap (λ (o : Option DraftPort). option_map_or (λ (q : DraftPort). q.process) o 0) here ∙ eqb_true p.process process sided.0;
         })
 
 -- What was found instead of a fault was there.
@@ -96,14 +96,14 @@ ok_or_ok None fault x is = absurd (cc)
 ok_or_ok (Some y) fault x is = let inner : y ≡ x = cc in ap Some inner
 
 -- Both ends of a connection are there.
-pub record AreThere (ports : List Port) (ends : End × End) : Type 0 where
+pub record AreThere (ports : List DraftPort) (ends : End × End) : Type 0 where
   pub sender : ℕ
   pub receiver : ℕ
   pub output : IsThere ports sender false ends.0
   pub input : IsThere ports receiver true ends.1
 
 -- Both ends of a connection that could be named are there.
-pub AreThere-ends : (processes : List Begun) (ports : List Port) (n : ℕ) (from : List ℕ) (out : PortRef) (to : List ℕ) (into : PortRef) (ends : End × End) → ((g : ℕ) (p : Port) → slice_get ports g ≡ Some p → IsPort n p) → ends_of processes ports from out to into ≡ Ok ends → AreThere ports ends
+pub AreThere-ends : (processes : List DraftProcess) (ports : List DraftPort) (n : ℕ) (from : List ℕ) (out : PortRef) (to : List ℕ) (into : PortRef) (ends : End × End) → ((g : ℕ) (p : DraftPort) → slice_get ports g ≡ Some p → IsPort n p) → ends_of processes ports from out to into ≡ Ok ends → AreThere ports ends
 AreThere-ends processes ports n from out to into ends all is =
     let sender = bind_ok (process_of_name processes from) _ ends is in
     let receiver = bind_ok (process_of_name processes to) _ ends sender.2 in
@@ -119,7 +119,7 @@ AreThere-ends processes ports n from out to into ends all is =
     })
 
 -- What holds of two ends that may be joined.
-pub record MayJoin (ports : List Port) (links : List Link) (capacity : Option ℕ) (output input : End) : Type 0 where
+pub record MayJoin (ports : List DraftPort) (links : List Link) (capacity : Option ℕ) (output input : End) : Type 0 where
   pub stream : is_stream_at ports input ≡ true
   pub allowed : (n : ℕ) → capacity ≡ Some n → (1 ≤ n) × (n ≤ CAPACITY_LIMIT)
   pub free : is_taken (binding_at ports output) ≡ false
@@ -139,7 +139,7 @@ allowed_ok (Some m) u is n some =
     subst (λ (k : ℕ). (1 ≤ k) × (k ≤ CAPACITY_LIMIT)) number (grind (arith, nat_tests, both.0), grind (arith, nat_tests, both.1))
 
 -- Where no refusal was met, the two ports may be joined.
-pub MayJoin-ok : (ports : List Port) (links : List Link) (from : List ℕ) (out : PortRef) (to : List ℕ) (into : PortRef) (capacity : Option ℕ) (output input : End) (u : Unit {0}) → may_join ports links from out to into capacity output input ≡ Ok u → MayJoin ports links capacity output input
+pub MayJoin-ok : (ports : List DraftPort) (links : List Link) (from : List ℕ) (out : PortRef) (to : List ℕ) (into : PortRef) (capacity : Option ℕ) (output input : End) (u : Unit {0}) → may_join ports links from out to into capacity output input ≡ Ok u → MayJoin ports links capacity output input
 MayJoin-ok ports links from out to into capacity output input u is =
     let stream = bind_ok (refused_if (if is_stream_at ports input then false else true) _) _ u is in
     let allowed = bind_ok (allowed_capacity capacity) _ u stream.2 in
@@ -155,7 +155,7 @@ MayJoin-ok ports links from out to into capacity output input u is =
     }
 
 -- an element that is there and is not taken is free
-pub free_at : (ports : List Port) (end : End) → IsSome (binding_at ports end) → is_taken (binding_at ports end) ≡ false → binding_at ports end ≡ Some Free
+pub free_at : (ports : List DraftPort) (end : End) → IsSome (binding_at ports end) → is_taken (binding_at ports end) ≡ false → binding_at ports end ≡ Some Free
 free_at ports end there free = by (binding_at ports end) there free
   where
     by : (o : Option Binding) → IsSome o → is_taken o ≡ false → o ≡ Some Free
@@ -166,7 +166,7 @@ free_at ports end there free = by (binding_at ports end) there free
     by (Some (Given k)) there free = absurd (false≢true (sym free))
 
 -- The connection that was found at an input is the one that the input receives from.
-pub link_into-bound : (ports : List Port) (end : End) (c : ℕ) → link_into ports end ≡ Some c → binding_at ports end ≡ Some (Receives c)
+pub link_into-bound : (ports : List DraftPort) (end : End) (c : ℕ) → link_into ports end ≡ Some c → binding_at ports end ≡ Some (Receives c)
 link_into-bound ports end c is = by (binding_at ports end) is
   where
     by : (o : Option Binding) → option_and_then receives o ≡ Some c → o ≡ Some (Receives c)
@@ -177,7 +177,7 @@ link_into-bound ports end c is = by (binding_at ports end) is
     by (Some (Given k)) is = absurd (cc)
 
 -- an element that has no connection, no text and sends nowhere is free
-pub unlinked_free : (ports : List Port) (end : End) → IsSome (binding_at ports end) → link_into ports end ≡ None → has_text (binding_at ports end) ≡ false → ((c k : ℕ) → binding_at ports end ≡ Some (Sends c k) → ⊥) → binding_at ports end ≡ Some Free
+pub unlinked_free : (ports : List DraftPort) (end : End) → IsSome (binding_at ports end) → link_into ports end ≡ None → has_text (binding_at ports end) ≡ false → ((c k : ℕ) → binding_at ports end ≡ Some (Sends c k) → ⊥) → binding_at ports end ≡ Some Free
 unlinked_free ports end there unlinked ungiven no_sender = by (binding_at ports end) refl there unlinked ungiven
   where
     by : (o : Option Binding) → binding_at ports end ≡ o → IsSome o → option_and_then receives o ≡ None → has_text o ≡ false → o ≡ Some Free

@@ -1,11 +1,11 @@
 -- The texts of a process, told apart by their ports.
 use Rattle.std.proofs.Common.{◌≡◌, ℕ, Bool, true, false, cond, List, [], ◌∷◌, ◌++◌, ap}
 use Rattle.flow_net.specs.declared.draft.End.{End}
-use Rattle.flow_net.specs.declared.draft.Port.{Port}
+use Rattle.flow_net.specs.declared.draft.DraftPort.{DraftPort}
 use Rattle.flow_net.specs.Drafts.{is_stream_at}
 use Rattle.flow_net.specs.Finishes.{place_at, number_of, options_of, initials_of}
 
-module _ (ports : List Port) (end : End) (text : List ℕ) where
+module _ (ports : List DraftPort) (end : End) (text : List ℕ) where
   -- One more text at a stream port.
   pub option_not : (xs : List (End × List ℕ)) → is_stream_at ports end ≡ true → options_of ports (xs ++ (end, text) ∷ []) ≡ options_of ports xs
   option_not [] is = ap (λ (b : Bool). cond b [] ((place_at ports end, text) ∷ [])) is

@@ -3,15 +3,15 @@ use Rattle.std.proofs.Common.{◌≡◌, ℕ, ◌+◌, List, [], ◌∷◌, Bool
 use Rattle.std.specs.Prelude.{if◌then◌else◌}
 use Rattle.std.specs.List.{sum_by}
 use Rattle.std.proofs.lemmas.List.Sums.{sum_by-cons}
-use Rattle.flow_net.specs.declared.draft.Port.{Port}
-use Rattle.flow_net.specs.declared.draft.Begun.{Begun}
+use Rattle.flow_net.specs.declared.draft.DraftPort.{DraftPort}
+use Rattle.flow_net.specs.declared.draft.DraftProcess.{DraftProcess}
 use Rattle.flow_plan.specs.Network.{is_stream, elements_of, ports_of, LaidOut}
 use Rattle.flow_net.specs.Drafts.{is_side}
 use Rattle.flow_net.specs.Finishes.{size_of, count_of, counted, total_of, row_of, rows_of, table_of, process_of}
 use Rattle.flow_plan.proofs.PortNames.{length_elements_of}
 
 -- A row has as many elements as its port.
-pub row-count : (port : Port) → length (elements_of (row_of port)) ≡ count_of port
+pub row-count : (port : DraftPort) → length (elements_of (row_of port)) ≡ count_of port
 row-count port = length_elements_of (row_of port) ∙ by (is_stream port.spec.class) port.spec.array (size_of port.elements)
   where
     by : (stream array : Bool) (n : ℕ) → (if stream then (if array then (if array then n else 1) else 1) else 0) ≡ (if stream then (if array then n else 1) else 0)
@@ -19,7 +19,7 @@ row-count port = length_elements_of (row_of port) ∙ by (is_stream port.spec.cl
     by true false n = refl
     by false array n = refl
 
-pub length-rows_of : (ports : List Port) (p : ℕ) (s : Bool) → length (ports_of (rows_of ports p s)) ≡ total_of ports p s
+pub length-rows_of : (ports : List DraftPort) (p : ℕ) (s : Bool) → length (ports_of (rows_of ports p s)) ≡ total_of ports p s
 length-rows_of [] p s = refl
 length-rows_of (port ∷ ports) p s = by (is_side p s port) (length-rows_of ports p s) ∙ sym (sum_by-cons (counted p s) port ports)
   where
@@ -28,6 +28,6 @@ length-rows_of (port ∷ ports) p s = by (is_side p s port) (length-rows_of port
     by false rest = omega (arith, rest)
 
 -- The processes of a plan are laid out by their tables.
-pub LaidOut-plan : (ports : List Port) (processes : List Begun) → LaidOut (map (process_of ports) processes) (map (table_of ports) processes)
+pub LaidOut-plan : (ports : List DraftPort) (processes : List DraftProcess) → LaidOut (map (process_of ports) processes) (map (table_of ports) processes)
 LaidOut-plan ports [] = tt
 LaidOut-plan ports (begun ∷ processes) = (length-rows_of ports begun.number true, length-rows_of ports begun.number false, LaidOut-plan ports processes)

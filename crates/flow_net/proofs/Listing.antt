@@ -3,8 +3,8 @@ use Rattle.flow_limits.specs.declared.TheConstants.{TEXT_LIMIT}
 use Rattle.std.proofs.Common.{◌≡◌, ◌≢◌, ℕ, ◌≤◌, List, Some, true, false, ap, sym, ◌∙◌, subst, inl, inr, ◌⊎◌, slice_get, length}
 use Rattle.std.specs.Option.{option_map}
 use Rattle.flow_net.specs.declared.draft.End.{End}
-use Rattle.flow_net.specs.declared.draft.Port.{Port}
-use Rattle.flow_net.specs.declared.draft.Begun.{Begun}
+use Rattle.flow_net.specs.declared.draft.DraftPort.{DraftPort}
+use Rattle.flow_net.specs.declared.draft.DraftProcess.{DraftProcess}
 use Rattle.flow_net.specs.declared.draft.Link.{Link}
 use Rattle.flow_net.specs.declared.draft.Binding.{Binding}
 use Rattle.flow_net.specs.declared.draft.Binding.TheVariants.{Free, Receives, Sends, Given}
@@ -16,13 +16,13 @@ use Rattle.flow_net.proofs.Wiring.{Rebound, SameOutline, same_end_or_not, proces
 use Rattle.flow_net.proofs.Steps.{OpensOne, SendsOne, GivesOne, map_some}
 
 -- what is bound to an element is no other element's, where this one is free
-apart : (ports : List Port) (here end : End) (b : Binding) → binding_at ports here ≡ Some Free → binding_at ports end ≡ Some b → b ≢ Free → end ≢ here
+apart : (ports : List DraftPort) (here end : End) (b : Binding) → binding_at ports here ≡ Some Free → binding_at ports end ≡ Some b → b ≢ Free → end ≢ here
 apart ports here end b free is ne same =
     let both : Some b ≡ Some Free = sym is ∙ ap (binding_at ports) same ∙ free in
     ne (cc)
 
 -- A connection that is opened at a free input keeps ports and connections in agreement.
-pub IsListed-opened : (ports after : List Port) (processes : List Begun) (links linked : List Link) (n : ℕ) (into : End) → IsListed ports processes links → binding_at ports into ≡ Some Free → Rebound ports after into (Receives n) → SameOutline ports after → OpensOne links linked n into → IsListed after processes linked
+pub IsListed-opened : (ports after : List DraftPort) (processes : List DraftProcess) (links linked : List Link) (n : ℕ) (into : End) → IsListed ports processes links → binding_at ports into ≡ Some Free → Rebound ports after into (Receives n) → SameOutline ports after → OpensOne links linked n into → IsListed after processes linked
 IsListed-opened ports after processes links linked n into listed free bound outlined opens = record {
   receives = receives;
   received = received;
@@ -65,7 +65,7 @@ IsListed-opened ports after processes links linked n into listed free bound outl
         ∙ listed.has end k (sym (bound.others end (not_into end (Given k) h (λ e. cc))) ∙ h)
 
 -- A sender that is added at a free output keeps ports and connections in agreement.
-pub IsListed-sent : (ports after : List Port) (processes : List Begun) (links linked : List Link) (n k : ℕ) (out : End) → IsListed ports processes links → binding_at ports out ≡ Some Free → Rebound ports after out (Sends n k) → SameOutline ports after → SendsOne links linked n k out → IsListed after processes linked
+pub IsListed-sent : (ports after : List DraftPort) (processes : List DraftProcess) (links linked : List Link) (n k : ℕ) (out : End) → IsListed ports processes links → binding_at ports out ≡ Some Free → Rebound ports after out (Sends n k) → SameOutline ports after → SendsOne links linked n k out → IsListed after processes linked
 IsListed-sent ports after processes links linked n k out listed free bound outlined sends_one = record {
   receives = λ end c h. sends_one.same c ∙ listed.receives end c (sym (bound.others end (not_out end (Receives c) h (λ e. cc))) ∙ h);
   received = λ end c h. kept end (Receives c) (listed.received end c (sym (sends_one.same c) ∙ h)) (λ e. cc);
@@ -108,7 +108,7 @@ IsListed-sent ports after processes links linked n k out listed free bound outli
             ap (binding_at after) (sym new.2) ∙ bound.at ∙ ap Some binding
 
 -- A text that is given to a free input keeps ports and texts in agreement.
-pub IsListed-given : (ports after : List Port) (processes texted : List Begun) (links : List Link) (p k : ℕ) (input : End) (text : List ℕ) → IsListed ports processes links → binding_at ports input ≡ Some Free → process_at ports input ≡ p → Rebound ports after input (Given k) → SameOutline ports after → GivesOne processes texted p k input text → IsListed after texted links
+pub IsListed-given : (ports after : List DraftPort) (processes texted : List DraftProcess) (links : List Link) (p k : ℕ) (input : End) (text : List ℕ) → IsListed ports processes links → binding_at ports input ≡ Some Free → process_at ports input ≡ p → Rebound ports after input (Given k) → SameOutline ports after → GivesOne processes texted p k input text → IsListed after texted links
 IsListed-given ports after processes texted links p k input text listed free owner bound outlined gives = record {
   receives = λ end c h. listed.receives end c (sym (bound.others end (not_input end (Receives c) h (λ e. cc))) ∙ h);
   received = λ end c h. kept end (Receives c) (listed.received end c h) (λ e. cc);
@@ -154,7 +154,7 @@ IsListed-given ports after processes texted links p k input text listed free own
             (ap (binding_at after) (sym same) ∙ bound.at ∙ ap (λ m. Some (Given m)) (sym new.1), process_at-same ports after end outlined ∙ ap (process_at ports) (sym same) ∙ owner ∙ sym new.0)
 
 -- Opening a connection at an input keeps every receiver an input.
-pub IsSided-opened : (ports after : List Port) (processes : List Begun) (links linked : List Link) (n : ℕ) (into : End) → IsSided ports processes links → is_input_at ports into ≡ Some true → is_stream_at ports into ≡ true → SameOutline ports after → OpensOne links linked n into → IsSided after processes linked
+pub IsSided-opened : (ports after : List DraftPort) (processes : List DraftProcess) (links linked : List Link) (n : ℕ) (into : End) → IsSided ports processes links → is_input_at ports into ≡ Some true → is_stream_at ports into ≡ true → SameOutline ports after → OpensOne links linked n into → IsSided after processes linked
 IsSided-opened ports after processes links linked n into sided side stream outlined opens = record {
   into = at;
   sender = λ c k end h. is_input_at-same ports after end outlined ∙ sided.sender c k end (opens.sent c k end h);
@@ -174,7 +174,7 @@ IsSided-opened ports after processes links linked n into sided side stream outli
             (is_input_at-same ports after end outlined ∙ ap (is_input_at ports) (sym new.1) ∙ side, is_stream_at-same ports after end outlined ∙ ap (is_stream_at ports) (sym new.1) ∙ stream)
 
 -- Adding a sender at an output keeps every sender an output.
-pub IsSided-sent : (ports after : List Port) (processes : List Begun) (links linked : List Link) (n k : ℕ) (out : End) → IsSided ports processes links → is_input_at ports out ≡ Some false → SameOutline ports after → SendsOne links linked n k out → IsSided after processes linked
+pub IsSided-sent : (ports after : List DraftPort) (processes : List DraftProcess) (links linked : List Link) (n k : ℕ) (out : End) → IsSided ports processes links → is_input_at ports out ≡ Some false → SameOutline ports after → SendsOne links linked n k out → IsSided after processes linked
 IsSided-sent ports after processes links linked n k out sided side outlined sends_one = record {
   into = λ c end h.
       let was = sided.into c end (sym (sends_one.same c) ∙ h) in
@@ -193,7 +193,7 @@ IsSided-sent ports after processes links linked n k out sided side outlined send
         by (inr new) = ap (is_input_at ports) (sym new.2) ∙ side
 
 -- Giving a text that fits an input keeps every text at an input that it fits.
-pub IsSided-given : (ports after : List Port) (processes texted : List Begun) (links : List Link) (p k : ℕ) (input : End) (text : List ℕ) → IsSided ports processes links → is_input_at ports input ≡ Some true → FitsPort (slice_get ports input.port) text → length text ≤ TEXT_LIMIT → SameOutline ports after → GivesOne processes texted p k input text → IsSided after texted links
+pub IsSided-given : (ports after : List DraftPort) (processes texted : List DraftProcess) (links : List Link) (p k : ℕ) (input : End) (text : List ℕ) → IsSided ports processes links → is_input_at ports input ≡ Some true → FitsPort (slice_get ports input.port) text → length text ≤ TEXT_LIMIT → SameOutline ports after → GivesOne processes texted p k input text → IsSided after texted links
 IsSided-given ports after processes texted links p k input text sided side fits short outlined gives = record {
   into = λ c end h.
       let was = sided.into c end h in

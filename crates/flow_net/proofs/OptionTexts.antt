@@ -2,12 +2,12 @@
 use Rattle.std.proofs.Common.{◌≡◌, ℕ, List, [], ◌∷◌, Option, Some, Bool, true, false, refl, ap, ◌∙◌, zero, suc, slice_get, arith}
 use Rattle.std.specs.Prelude.{if◌then◌else◌}
 use Rattle.flow_net.specs.declared.draft.End.{End}
-use Rattle.flow_net.specs.declared.draft.Port.{Port}
+use Rattle.flow_net.specs.declared.draft.DraftPort.{DraftPort}
 use Rattle.flow_net.specs.Drafts.{is_stream_at}
 use Rattle.flow_net.specs.Finishes.{place_at, options_of}
 
 -- a text at an option port is an option for the port's place
-pub option_there : (ports : List Port) (texts : List (End × List ℕ)) (k : ℕ) (end : End) (text : List ℕ) → slice_get texts k ≡ Some (end, text) → is_stream_at ports end ≡ false → (m : ℕ) × (slice_get (options_of ports texts) m ≡ Some (place_at ports end, text))
+pub option_there : (ports : List DraftPort) (texts : List (End × List ℕ)) (k : ℕ) (end : End) (text : List ℕ) → slice_get texts k ≡ Some (end, text) → is_stream_at ports end ≡ false → (m : ℕ) × (slice_get (options_of ports texts) m ≡ Some (place_at ports end, text))
 option_there ports [] k end text here option = absurd (cc)
 option_there ports (x ∷ xs) zero end text here option =
     let whole : ◌≡◌ {A = End × List ℕ} x (end, text) = cc in
@@ -20,7 +20,7 @@ option_there ports (x ∷ xs) (suc k) end text here option = by (is_stream_at po
     by false later = (suc later.0, later.1)
 
 -- An option is a text at an option port of its place.
-pub record FromOption (ports : List Port) (texts : List (End × List ℕ)) (i : ℕ) (text : List ℕ) : Type 0 where
+pub record FromOption (ports : List DraftPort) (texts : List (End × List ℕ)) (i : ℕ) (text : List ℕ) : Type 0 where
   pub place : ℕ
   pub end : End
   pub here : slice_get texts place ≡ Some (end, text)
@@ -28,7 +28,7 @@ pub record FromOption (ports : List Port) (texts : List (End × List ℕ)) (i : 
   pub at : place_at ports end ≡ i
 
 -- Each option of a process comes from a text that was given to one of its ports.
-pub option_from : (ports : List Port) (texts : List (End × List ℕ)) (m i : ℕ) (text : List ℕ) → slice_get (options_of ports texts) m ≡ Some (i, text) → FromOption ports texts i text
+pub option_from : (ports : List DraftPort) (texts : List (End × List ℕ)) (m i : ℕ) (text : List ℕ) → slice_get (options_of ports texts) m ≡ Some (i, text) → FromOption ports texts i text
 option_from ports [] m i text here = absurd (cc)
 option_from ports (x ∷ xs) m i text here = by (is_stream_at ports x.0) refl m here (λ k at. option_from ports xs k i text at)
   where
@@ -43,7 +43,7 @@ option_from ports (x ∷ xs) m i text here = by (is_stream_at ports x.0) refl m 
     by false test (suc k) here rest = later (rest k here)
 
 -- no two options are for one place, where no two texts are at option ports of the place
-pub option_once : (ports : List Port) (texts : List (End × List ℕ)) (i : ℕ) → ((k l : ℕ) (a b : End × List ℕ) → slice_get texts k ≡ Some a → slice_get texts l ≡ Some b → is_stream_at ports a.0 ≡ false → is_stream_at ports b.0 ≡ false → place_at ports a.0 ≡ i → place_at ports b.0 ≡ i → k ≡ l) → (m o : ℕ) (t u : List ℕ) → slice_get (options_of ports texts) m ≡ Some (i, t) → slice_get (options_of ports texts) o ≡ Some (i, u) → m ≡ o
+pub option_once : (ports : List DraftPort) (texts : List (End × List ℕ)) (i : ℕ) → ((k l : ℕ) (a b : End × List ℕ) → slice_get texts k ≡ Some a → slice_get texts l ≡ Some b → is_stream_at ports a.0 ≡ false → is_stream_at ports b.0 ≡ false → place_at ports a.0 ≡ i → place_at ports b.0 ≡ i → k ≡ l) → (m o : ℕ) (t u : List ℕ) → slice_get (options_of ports texts) m ≡ Some (i, t) → slice_get (options_of ports texts) o ≡ Some (i, u) → m ≡ o
 option_once ports [] i once m o t u here there = absurd (cc)
 option_once ports (x ∷ xs) i once m o t u here there = by (is_stream_at ports x.0) refl m o here there (λ p q a b. option_once ports xs i (λ k l v w h g s r n j. suc_same k l (once (suc k) (suc l) v w h g s r n j)) p q t u a b)
   where

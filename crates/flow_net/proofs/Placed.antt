@@ -5,7 +5,7 @@ use Rattle.std.specs.Prelude.{◌==◌, if◌then◌else◌, unwrap_or}
 use Rattle.std.proofs.lemmas.Bool.Decides.{nat_tests}
 use Rattle.std.proofs.lemmas.Option.{slice_get_within, slice_get-map}
 use Rattle.flow_net.specs.declared.draft.End.{End}
-use Rattle.flow_net.specs.declared.draft.Port.{Port}
+use Rattle.flow_net.specs.declared.draft.DraftPort.{DraftPort}
 use Rattle.flow_net.specs.declared.draft.Link.{Link}
 use Rattle.flow_net.specs.declared.draft.Binding.{Binding}
 use Rattle.flow_net.specs.declared.draft.Binding.TheVariants.{Receives, Sends, Given}
@@ -29,7 +29,7 @@ pub room_of-few : (array : Bool) → room_of array ≤ ELEMENT_LIMIT
 room_of-few true = omega arith
 room_of-few false = omega arith
 
-pub count_of-few : (port : Port) → length port.elements ≤ ELEMENT_LIMIT → count_of port ≤ ELEMENT_LIMIT
+pub count_of-few : (port : DraftPort) → length port.elements ≤ ELEMENT_LIMIT → count_of port ≤ ELEMENT_LIMIT
 count_of-few port few = by (is_stream port.spec.class) port.spec.array
   where
     by : (stream array : Bool) → (if stream then (if array then size_of port.elements else 1) else 0) ≤ ELEMENT_LIMIT
@@ -37,18 +37,18 @@ count_of-few port few = by (is_stream port.spec.class) port.spec.array
     by true false = omega arith
     by false array = omega arith
 
-pub elements-few : (n : ℕ) (ports : List Port) → ((g : ℕ) (p : Port) → slice_get ports g ≡ Some p → IsPort n p) → (g : ℕ) (p : Port) → slice_get ports g ≡ Some p → length p.elements ≤ ELEMENT_LIMIT
+pub elements-few : (n : ℕ) (ports : List DraftPort) → ((g : ℕ) (p : DraftPort) → slice_get ports g ≡ Some p → IsPort n p) → (g : ℕ) (p : DraftPort) → slice_get ports g ≡ Some p → length p.elements ≤ ELEMENT_LIMIT
 elements-few n ports all g p is = omega (arith, (all g p is).room, room_of-few p.spec.array)
 
 -- No port has more elements than the limit.
-pub counts-few : (n : ℕ) (ports : List Port) (counts : List ℕ) → ((g : ℕ) (p : Port) → slice_get ports g ≡ Some p → IsPort n p) → counts ≡ map count_of ports → (g m : ℕ) → slice_get counts g ≡ Some m → m ≤ ELEMENT_LIMIT
+pub counts-few : (n : ℕ) (ports : List DraftPort) (counts : List ℕ) → ((g : ℕ) (p : DraftPort) → slice_get ports g ≡ Some p → IsPort n p) → counts ≡ map count_of ports → (g m : ℕ) → slice_get counts g ≡ Some m → m ≤ ELEMENT_LIMIT
 counts-few n ports counts all are g m is =
     let found = map_some count_of (slice_get ports g) m (sym (slice_get-map count_of ports g) ∙ ap (λ (xs : List ℕ). slice_get xs g) (sym are) ∙ is) in
     subst (λ (k : ℕ). k ≤ ELEMENT_LIMIT) found.2 (count_of-few found.0 (elements-few n ports all g found.0 found.1))
 
-pub IsPlaced-bound : (n : ℕ) (ports : List Port) (end : End) (b : Binding) → ((g : ℕ) (p : Port) → slice_get ports g ≡ Some p → IsPort n p) → binding_at ports end ≡ Some b → IsPlaced ports end
+pub IsPlaced-bound : (n : ℕ) (ports : List DraftPort) (end : End) (b : Binding) → ((g : ℕ) (p : DraftPort) → slice_get ports g ≡ Some p → IsPort n p) → binding_at ports end ≡ Some b → IsPlaced ports end
 IsPlaced-bound n ports end b all is =
-    let found = then_some (λ (p : Port). slice_get p.elements end.element) (slice_get ports end.port) b is in
+    let found = then_some (λ (p : DraftPort). slice_get p.elements end.element) (slice_get ports end.port) b is in
     let within : end.element < length found.0.elements = slice_get_within found.0.elements end.element b found.2 in
     record {
       port = slice_get_within ports end.port found.0 found.1;

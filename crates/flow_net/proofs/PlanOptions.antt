@@ -7,8 +7,8 @@ use Rattle.std.specs.List.{sum_by}
 use Rattle.std.proofs.lemmas.Bool.{false≢true}
 use Rattle.std.proofs.lemmas.Option.{slice_get-map, slice_get_within}
 use Rattle.flow_net.specs.declared.draft.End.{End}
-use Rattle.flow_net.specs.declared.draft.Port.{Port}
-use Rattle.flow_net.specs.declared.draft.Begun.{Begun}
+use Rattle.flow_net.specs.declared.draft.DraftPort.{DraftPort}
+use Rattle.flow_net.specs.declared.draft.DraftProcess.{DraftProcess}
 use Rattle.flow_net.specs.declared.draft.Binding.{Binding}
 use Rattle.flow_net.specs.declared.draft.Binding.TheVariants.{Free, Receives, Sends, Given}
 use Rattle.flow_plan.specs.declared.plan.Process.{Process}
@@ -33,7 +33,7 @@ use Rattle.flow_net.proofs.OptionTexts.{option_there, option_from, option_once}
 
 -- A text at an option port of a process: the port stands at this place in the process's inputs, and the text is of its class.
 record AtOption (draft : Draft) (p i k : ℕ) (end : End) (text : List ℕ) : Type 0 where
-  pub port : Port
+  pub port : DraftPort
   pub here : slice_get draft.ports end.port ≡ Some port
   pub within : end.element < length port.elements
   pub side : is_side p true port ≡ true
@@ -54,7 +54,7 @@ AtOption-text draft sound p i k end text is option at = record {
   before = before;
   row = subst (λ (m : ℕ). slice_get (rows_of draft.ports p true) m ≡ Some (row_of port)) before (row_there draft.ports end.port p true port here side);
   bound = given.0;
-  class = subst (λ (o : Option Port). FitsPort o text) here sided.1;
+  class = subst (λ (o : Option DraftPort). FitsPort o text) here sided.1;
   short = sided.2;
 }
   where
@@ -64,21 +64,21 @@ AtOption-text draft sound p i k end text is option at = record {
     sided : (is_input_at draft.ports end ≡ Some true) × FitsPort (slice_get draft.ports end.port) text × (length text ≤ TEXT_LIMIT)
     sided = sound.sided.text p k end text is
 
-    found : (q : Port) × (slice_get draft.ports end.port ≡ Some q) × (slice_get q.elements end.element ≡ Some (Given k))
-    found = then_some (λ (q : Port). slice_get q.elements end.element) (slice_get draft.ports end.port) (Given k) given.0
+    found : (q : DraftPort) × (slice_get draft.ports end.port ≡ Some q) × (slice_get q.elements end.element ≡ Some (Given k))
+    found = then_some (λ (q : DraftPort). slice_get q.elements end.element) (slice_get draft.ports end.port) (Given k) given.0
 
-    port : Port
+    port : DraftPort
     port = found.0
 
     here : slice_get draft.ports end.port ≡ Some port
     here = found.1
 
     owner : port.process ≡ p
-    owner = sym (ap (λ (o : Option Port). option_map_or (λ (q : Port). q.process) o 0) here) ∙ given.1
+    owner = sym (ap (λ (o : Option DraftPort). option_map_or (λ (q : DraftPort). q.process) o 0) here) ∙ given.1
 
     input : port.input ≡ true
     input =
-        let both : Some port.input ≡ Some true = sym (ap (option_map (λ (q : Port). q.input)) here) ∙ sided.0 in
+        let both : Some port.input ≡ Some true = sym (ap (option_map (λ (q : DraftPort). q.input)) here) ∙ sided.0 in
         cc
 
     side : is_side p true port ≡ true
@@ -92,14 +92,14 @@ AtOption-text draft sound p i k end text is option at = record {
         ap (λ (m : ℕ). sum_by (on_side m true) (take end.port draft.ports)) (sym owner)
         ∙ ap (λ (b : Bool). sum_by (on_side port.process b) (take end.port draft.ports)) (sym input)
         ∙ sym (sound.shaped.places end.port port here)
-        ∙ sym (ap (λ (o : Option Port). option_map_or (λ (q : Port). q.place) o 0) here)
+        ∙ sym (ap (λ (o : Option DraftPort). option_map_or (λ (q : DraftPort). q.place) o 0) here)
         ∙ at
 
 module _ (draft : Draft) (sound : IsSound draft) (u : Unit {0}) (whole : first_fault draft.processes draft.ports ≡ Ok u) where
   network : Network
   network = plan_of draft
 
-  process_in_plan : (p : ℕ) (x : Process) → slice_get (map (process_of draft.ports) draft.processes) p ≡ Some x → (b : Begun) × (slice_get draft.processes p ≡ Some b) × (process_of draft.ports b ≡ x)
+  process_in_plan : (p : ℕ) (x : Process) → slice_get (map (process_of draft.ports) draft.processes) p ≡ Some x → (b : DraftProcess) × (slice_get draft.processes p ≡ Some b) × (process_of draft.ports b ≡ x)
   process_in_plan p x here = mapped (process_of draft.ports) draft.processes p x here
 
   -- a row of a table of the plan, as the draft has it
@@ -127,8 +127,8 @@ module _ (draft : Draft) (sound : IsSound draft) (u : Unit {0}) (whole : first_f
     outputs = λ p i table row here at. row_sized p false i row (row_from draft.ports p false i row (output_row p i table row here at));
   }
 
-  text_in_draft : (p k : ℕ) (b : Begun) (x : End × List ℕ) → slice_get draft.processes p ≡ Some b → slice_get b.texts k ≡ Some x → text_at draft.processes p k ≡ Some x
-  text_in_draft p k b x here is = ap (option_and_then (λ (c : Begun). slice_get c.texts k)) here ∙ is
+  text_in_draft : (p k : ℕ) (b : DraftProcess) (x : End × List ℕ) → slice_get draft.processes p ≡ Some b → slice_get b.texts k ≡ Some x → text_at draft.processes p k ≡ Some x
+  text_in_draft p k b x here is = ap (option_and_then (λ (c : DraftProcess). slice_get c.texts k)) here ∙ is
 
   fits : (p k i : ℕ) (x : Process) (text : List ℕ) → slice_get (map (process_of draft.ports) draft.processes) p ≡ Some x → slice_get x.options k ≡ Some (i, text) → FitsOption (plan_of draft) p i text
   fits p k i x text here given =
@@ -158,7 +158,7 @@ module _ (draft : Draft) (sound : IsSound draft) (u : Unit {0}) (whole : first_f
           let room : length at.port.elements ≡ 1 = is.room ∙ ap room_of (is.single at.option) in
           omega (arith, room, at.within)
 
-      once : (b : Begun) → slice_get draft.processes p ≡ Some b → (m o : ℕ) (a c : End × List ℕ) → slice_get b.texts m ≡ Some a → slice_get b.texts o ≡ Some c → is_stream_at draft.ports a.0 ≡ false → is_stream_at draft.ports c.0 ≡ false → place_at draft.ports a.0 ≡ i → place_at draft.ports c.0 ≡ i → m ≡ o
+      once : (b : DraftProcess) → slice_get draft.processes p ≡ Some b → (m o : ℕ) (a c : End × List ℕ) → slice_get b.texts m ≡ Some a → slice_get b.texts o ≡ Some c → is_stream_at draft.ports a.0 ≡ false → is_stream_at draft.ports c.0 ≡ false → place_at draft.ports a.0 ≡ i → place_at draft.ports c.0 ≡ i → m ≡ o
       once b begun m o a c at there option too_option place too_place =
           let first = AtOption-text draft sound p i m a.0 a.1 (text_in_draft p m b a begun at) option place in
           let second = AtOption-text draft sound p i o c.0 c.1 (text_in_draft p o b c begun there) too_option too_place in
@@ -191,20 +191,20 @@ module _ (draft : Draft) (sound : IsSound draft) (u : Unit {0}) (whole : first_f
       bound = each_bound (name_of draft.processes from.port.process) from.port 0 ((sound.ports from.number from.port from.here).input input) (no_fault draft.processes draft.ports u whole from.number from.port from.here) (omega (arith, some))
 
       binding : binding_at draft.ports (record { port = from.number; element = 0 }) ≡ Some bound.binding
-      binding = ap (option_and_then (λ (q : Port). slice_get q.elements 0)) from.here ∙ bound.here
+      binding = ap (option_and_then (λ (q : DraftPort). slice_get q.elements 0)) from.here ∙ bound.here
 
       owner : process_at draft.ports (record { port = from.number; element = 0 }) ≡ p
-      owner = ap (λ (o : Option Port). option_map_or (λ (q : Port). q.process) o 0) from.here ∙ eqb_true from.port.process p side.0
+      owner = ap (λ (o : Option DraftPort). option_map_or (λ (q : DraftPort). q.process) o 0) from.here ∙ eqb_true from.port.process p side.0
 
       is_input : is_input_at draft.ports (record { port = from.number; element = 0 }) ≡ Some true
-      is_input = ap (option_map (λ (q : Port). q.input)) from.here ∙ ap Some input
+      is_input = ap (option_map (λ (q : DraftPort). q.input)) from.here ∙ ap Some input
 
       option : is_stream_at draft.ports (record { port = from.number; element = 0 }) ≡ false
       option = ap is_stream_port from.here ∙ ap (λ (r : PortRow). is_stream r.spec.class) from.is ∙ port.option
 
       place : place_at draft.ports (record { port = from.number; element = 0 }) ≡ i
       place =
-          ap (λ (o : Option Port). option_map_or (λ (q : Port). q.place) o 0) from.here
+          ap (λ (o : Option DraftPort). option_map_or (λ (q : DraftPort). q.place) o 0) from.here
           ∙ sound.shaped.places from.number from.port from.here
           ∙ ap (λ (m : ℕ). sum_by (on_side m from.port.input) (take from.number draft.ports)) (eqb_true from.port.process p side.0)
           ∙ ap (λ (b : Bool). sum_by (on_side p b) (take from.number draft.ports)) input
@@ -219,7 +219,7 @@ module _ (draft : Draft) (sound : IsSound draft) (u : Unit {0}) (whole : first_f
       by (Sends c k) is taken = absurd (apart (sym (sound.sided.sender c k _ (sound.listed.sends _ c k is)) ∙ is_input))
       by (Given k) is taken =
           let has_text = map_some (λ (t : End × List ℕ). t.0) (text_at draft.processes (process_at draft.ports (record { port = from.number; element = 0 })) k) _ (sound.listed.has (record { port = from.number; element = 0 }) k is) in
-          let text = then_some (λ (b : Begun). slice_get b.texts k) (slice_get draft.processes (process_at draft.ports (record { port = from.number; element = 0 }))) has_text.0 has_text.1 in
+          let text = then_some (λ (b : DraftProcess). slice_get b.texts k) (slice_get draft.processes (process_at draft.ports (record { port = from.number; element = 0 }))) has_text.0 has_text.1 in
           let mine : slice_get draft.processes p ≡ Some text.0 = ap (slice_get draft.processes) (sym owner) ∙ text.1 in
           let there = option_there draft.ports text.0.texts k has_text.0.0 has_text.0.1 text.2 (ap (is_stream_at draft.ports) has_text.2 ∙ option) in
           record {

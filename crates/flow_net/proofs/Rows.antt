@@ -7,7 +7,7 @@ use Rattle.std.proofs.lemmas.Bool.{false≢true}
 use Rattle.std.proofs.lemmas.Bool.Decides.{nat_tests}
 use Rattle.std.proofs.lemmas.List.Sums.{sum_by-cons}
 use Rattle.std.proofs.lemmas.Option.{slice_get-map}
-use Rattle.flow_net.specs.declared.draft.Port.{Port}
+use Rattle.flow_net.specs.declared.draft.DraftPort.{DraftPort}
 use Rattle.flow_net.specs.declared.fault.PlanFault.TheVariants.{PortMissing}
 use Rattle.flow_plan.specs.declared.kind.PortSpec.{PortSpec}
 use Rattle.flow_plan.specs.declared.plan.PortRow.{PortRow}
@@ -26,16 +26,16 @@ pub mapped : {A B : Type 0} (f : A → B) (xs : List A) (i : ℕ) (y : B) → sl
 mapped f xs i y is = map_some f (slice_get xs i) y (sym (slice_get-map f xs i) ∙ is)
 
 -- A row is that of a port on this side of this process, at the port's place.
-pub record FromPort (ports : List Port) (p : ℕ) (s : Bool) (i : ℕ) (row : PortRow) : Type 0 where
+pub record FromPort (ports : List DraftPort) (p : ℕ) (s : Bool) (i : ℕ) (row : PortRow) : Type 0 where
   pub number : ℕ
-  pub port : Port
+  pub port : DraftPort
   pub here : slice_get ports number ≡ Some port
   pub side : is_side p s port ≡ true
   pub is : row_of port ≡ row
   pub place : sum_by (on_side p s) (take number ports) ≡ i
 
 -- Each row of a process's table comes from one of its ports.
-pub row_from : (ports : List Port) (p : ℕ) (s : Bool) (i : ℕ) (row : PortRow) → slice_get (rows_of ports p s) i ≡ Some row → FromPort ports p s i row
+pub row_from : (ports : List DraftPort) (p : ℕ) (s : Bool) (i : ℕ) (row : PortRow) → slice_get (rows_of ports p s) i ≡ Some row → FromPort ports p s i row
 row_from [] p s i row here = absurd (cc)
 row_from (port ∷ ports) p s i row here = by (is_side p s port) refl i here (λ k at. row_from ports p s k row at)
   where
@@ -59,12 +59,12 @@ row_from (port ∷ ports) p s i row here = by (is_side p s port) refl i here (λ
         later i i (omega (arith, none)) (rest i here)
 
 -- the row of a port stands at the number of the ports before it on its side
-pub row_there : (ports : List Port) (g p : ℕ) (s : Bool) (port : Port) → slice_get ports g ≡ Some port → is_side p s port ≡ true → slice_get (rows_of ports p s) (sum_by (on_side p s) (take g ports)) ≡ Some (row_of port)
+pub row_there : (ports : List DraftPort) (g p : ℕ) (s : Bool) (port : DraftPort) → slice_get ports g ≡ Some port → is_side p s port ≡ true → slice_get (rows_of ports p s) (sum_by (on_side p s) (take g ports)) ≡ Some (row_of port)
 row_there [] g p s port here side = absurd (cc)
 row_there (q ∷ ports) zero p s port here side =
     let same_port : q ≡ port = cc in
     let test : is_side p s q ≡ true = ap (is_side p s) same_port ∙ side in
-    ap (λ (b : Bool). slice_get (if b then row_of q ∷ rows_of ports p s else rows_of ports p s) 0) test ∙ ap (λ (r : Port). Some (row_of r)) same_port
+    ap (λ (b : Bool). slice_get (if b then row_of q ∷ rows_of ports p s else rows_of ports p s) 0) test ∙ ap (λ (r : DraftPort). Some (row_of r)) same_port
 row_there (q ∷ ports) (suc g) p s port here side = by (is_side p s q) refl (row_there ports g p s port here side)
   where
     by : (b : Bool) → is_side p s q ≡ b → slice_get (rows_of ports p s) (sum_by (on_side p s) (take g ports)) ≡ Some (row_of port) → slice_get (if b then row_of q ∷ rows_of ports p s else rows_of ports p s) (sum_by (on_side p s) (q ∷ take g ports)) ≡ Some (row_of port)
@@ -78,7 +78,7 @@ row_there (q ∷ ports) (suc g) p s port here side = by (is_side p s q) refl (ro
         ap (slice_get (rows_of ports p s)) next ∙ rest
 
 -- the entries of the rows are those of the ports
-pub entries-rows : (ports : List Port) (p : ℕ) (s : Bool) → entries (rows_of ports p s) ≡ entries_of ports p s
+pub entries-rows : (ports : List DraftPort) (p : ℕ) (s : Bool) → entries (rows_of ports p s) ≡ entries_of ports p s
 entries-rows [] p s = refl
 entries-rows (port ∷ ports) p s = by (is_side p s port) (entries-rows ports p s)
   where
@@ -87,7 +87,7 @@ entries-rows (port ∷ ports) p s = by (is_side p s port) (entries-rows ports p 
     by false rest = rest
 
 -- a needed port without fault has an element that is bound
-pub needed_size : (name : List ℕ) (port : Port) → port.spec.needed ≡ true → port_fault name port ≡ Ok tt → 1 ≤ size_of port.elements
+pub needed_size : (name : List ℕ) (port : DraftPort) → port.spec.needed ≡ true → port_fault name port ≡ Ok tt → 1 ≤ size_of port.elements
 needed_size name port needed none = by (size_of port.elements == 0) refl none
   where
     by : (b : Bool) → (size_of port.elements == 0) ≡ b → (if b then refused_if port.spec.needed (PortMissing name port.spec.name) else gap_fault name port (position is_free (take (size_of port.elements) port.elements))) ≡ Ok tt → 1 ≤ size_of port.elements
@@ -95,7 +95,7 @@ needed_size name port needed none = by (size_of port.elements == 0) refl none
     by false test is = grind (arith, nat_tests, test)
 
 -- the row of a port without fault has its elements
-pub IsRow-of : (n : ℕ) (name : List ℕ) (port : Port) → IsPort n port → port_fault name port ≡ Ok tt → IsRow (row_of port)
+pub IsRow-of : (n : ℕ) (name : List ℕ) (port : DraftPort) → IsPort n port → port_fault name port ≡ Ok tt → IsRow (row_of port)
 IsRow-of n name port is_port none = record { array = array; single = single }
   where
     array : port.spec.array ≡ true → (1 ≤ elements_in port) × (elements_in port ≤ ELEMENT_LIMIT)

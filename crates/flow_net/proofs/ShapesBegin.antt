@@ -5,8 +5,8 @@ use Rattle.std.specs.List.{sum_by}
 use Rattle.std.proofs.lemmas.List.{append-nil}
 use Rattle.std.proofs.lemmas.List.Sums.{sum_by-cons, sum_by-append}
 use Rattle.std.proofs.lemmas.Option.{slice_get_within}
-use Rattle.flow_net.specs.declared.draft.Port.{Port}
-use Rattle.flow_net.specs.declared.draft.Begun.{Begun}
+use Rattle.flow_net.specs.declared.draft.DraftPort.{DraftPort}
+use Rattle.flow_net.specs.declared.draft.DraftProcess.{DraftProcess}
 use Rattle.flow_plan.specs.declared.kind.KindSpec.{KindSpec}
 use Rattle.flow_plan.specs.declared.kind.PortSpec.{PortSpec}
 use Rattle.flow_net.specs.Drafts.{is_side, same}
@@ -28,7 +28,7 @@ at_append {X} (z ∷ xs) ys (suc i) x is = by (at_append xs ys i x is)
     by (inl old) = inl (old.0, ap (λ (zs : List X). z ∷ zs) old.1)
     by (inr new) = inr (new.0, new.1, ap (λ (zs : List X). z ∷ zs) new.2)
 
-entries-append : (xs ys : List Port) (p : ℕ) (s : Bool) → entries_of (xs ++ ys) p s ≡ entries_of xs p s ++ entries_of ys p s
+entries-append : (xs ys : List DraftPort) (p : ℕ) (s : Bool) → entries_of (xs ++ ys) p s ≡ entries_of xs p s ++ entries_of ys p s
 entries-append [] ys p s = refl
 entries-append (x ∷ xs) ys p s = by (is_side p s x) (entries-append xs ys p s)
   where
@@ -37,27 +37,27 @@ entries-append (x ∷ xs) ys p s = by (is_side p s x) (entries-append xs ys p s)
     by false rest = rest
 
 -- where no port is on a side, the side has no entry
-entries-none : (ports : List Port) (p : ℕ) (s : Bool) → ((g : ℕ) (port : Port) → slice_get ports g ≡ Some port → is_side p s port ≡ false) → entries_of ports p s ≡ []
+entries-none : (ports : List DraftPort) (p : ℕ) (s : Bool) → ((g : ℕ) (port : DraftPort) → slice_get ports g ≡ Some port → is_side p s port ≡ false) → entries_of ports p s ≡ []
 entries-none [] p s none = refl
 entries-none (x ∷ xs) p s none =
     ap (λ (b : Bool). if b then x.spec ∷ entries_of xs p s else entries_of xs p s) (none 0 x refl)
     ∙ entries-none xs p s (λ g port here. none (suc g) port here)
 
 -- and no port
-before-none : (ports : List Port) (p : ℕ) (s : Bool) → ((g : ℕ) (port : Port) → slice_get ports g ≡ Some port → is_side p s port ≡ false) → sum_by (on_side p s) ports ≡ 0
+before-none : (ports : List DraftPort) (p : ℕ) (s : Bool) → ((g : ℕ) (port : DraftPort) → slice_get ports g ≡ Some port → is_side p s port ≡ false) → sum_by (on_side p s) ports ≡ 0
 before-none [] p s none = refl
 before-none (x ∷ xs) p s none =
     let first : on_side p s x ≡ 0 = ap (λ (b : Bool). if b then 1 else 0) (none 0 x refl) in
     omega (arith, sum_by-cons (on_side p s) x xs, first, before-none xs p s (λ g port here. none (suc g) port here))
 
-other_process : (port : Port) (p : ℕ) (s : Bool) → port.process ≢ p → is_side p s port ≡ false
+other_process : (port : DraftPort) (p : ℕ) (s : Bool) → port.process ≢ p → is_side p s port ≡ false
 other_process port p s ne = by (port.process == p) refl
   where
     by : (b : Bool) → (port.process == p) ≡ b → (b && same port.input s) ≡ false
     by true test = absurd (ne (eqb_true port.process p test))
     by false test = refl
 
-other_side : (port : Port) (p : ℕ) (s t : Bool) → port.input ≡ s → same s t ≡ false → is_side p t port ≡ false
+other_side : (port : DraftPort) (p : ℕ) (s t : Bool) → port.input ≡ s → same s t ≡ false → is_side p t port ≡ false
 other_side port p s t is apart = by (port.process == p) (ap (λ (b : Bool). same b t) is ∙ apart)
   where
     by : (b : Bool) → same port.input t ≡ false → (b && same port.input t) ≡ false
@@ -80,28 +80,28 @@ entries-outputs p place (spec ∷ specs) =
     ∙ ap (λ (rest : List PortSpec). carries spec ∷ rest) (entries-outputs p (place + 1) specs)
 
 -- What is known of a new port beside its place.
-fresh_process : (p : ℕ) (s : Bool) (specs : List PortSpec) (k : ℕ) (port : Port) → slice_get (fresh_ports p s 0 specs) k ≡ Some port → (port.process ≡ p) × (port.input ≡ s)
+fresh_process : (p : ℕ) (s : Bool) (specs : List PortSpec) (k : ℕ) (port : DraftPort) → slice_get (fresh_ports p s 0 specs) k ≡ Some port → (port.process ≡ p) × (port.input ≡ s)
 fresh_process p s specs k port is =
     let fresh = fresh_ports-each p s 0 specs k port is in
-    (ap (λ (q : Port). q.process) (sym fresh.whole), ap (λ (q : Port). q.input) (sym fresh.whole))
+    (ap (λ (q : DraftPort). q.process) (sym fresh.whole), ap (λ (q : DraftPort). q.input) (sym fresh.whole))
 
 -- the place of a new port is the number of the new ports before it
-fresh_placed : (p : ℕ) (s : Bool) (start : ℕ) (specs : List PortSpec) (k : ℕ) (port : Port) → slice_get (fresh_ports p s start specs) k ≡ Some port → port.place ≡ start + sum_by (on_side p s) (take k (fresh_ports p s start specs))
+fresh_placed : (p : ℕ) (s : Bool) (start : ℕ) (specs : List PortSpec) (k : ℕ) (port : DraftPort) → slice_get (fresh_ports p s start specs) k ≡ Some port → port.place ≡ start + sum_by (on_side p s) (take k (fresh_ports p s start specs))
 fresh_placed p s start [] k port is = absurd (cc)
 fresh_placed p s start (spec ∷ specs) zero port is =
     let whole : fresh_port p s start spec ≡ port = cc in
-    let place : start ≡ port.place = ap (λ (q : Port). q.place) whole in
+    let place : start ≡ port.place = ap (λ (q : DraftPort). q.place) whole in
     omega (arith, place)
 fresh_placed p s start (spec ∷ specs) (suc k) port is =
     let one : on_side p s (fresh_port p s start spec) ≡ 1 = ap (λ (b : Bool). if b then 1 else 0) (side_fresh p s start spec) in
     omega (arith, one, fresh_placed p s (start + 1) specs k port is, sum_by-cons (on_side p s) (fresh_port p s start spec) (take k (fresh_ports p s (start + 1) specs)))
 
-module _ (kinds : List KindSpec) (processes : List Begun) (ports : List Port) (name : List ℕ) (place : ℕ) (kind : KindSpec)
+module _ (kinds : List KindSpec) (processes : List DraftProcess) (ports : List DraftPort) (name : List ℕ) (place : ℕ) (kind : KindSpec)
     (here : slice_get kinds place ≡ Some kind)
     (shaped : IsShaped kinds processes ports)
-    (old_process : (g : ℕ) (port : Port) → slice_get ports g ≡ Some port → port.process < length processes) where
+    (old_process : (g : ℕ) (port : DraftPort) → slice_get ports g ≡ Some port → port.process < length processes) where
   -- no new port is of another process
-  elsewhere : (p : ℕ) (s : Bool) → length processes ≢ p → (g : ℕ) (port : Port) → slice_get (fresh_ports (length processes) true 0 kind.inputs ++ fresh_ports (length processes) false 0 kind.outputs) g ≡ Some port → is_side p s port ≡ false
+  elsewhere : (p : ℕ) (s : Bool) → length processes ≢ p → (g : ℕ) (port : DraftPort) → slice_get (fresh_ports (length processes) true 0 kind.inputs ++ fresh_ports (length processes) false 0 kind.outputs) g ≡ Some port → is_side p s port ≡ false
   elsewhere p s ne g port is = other_process port p s (λ e. ne (sym owner ∙ e))
     where
       by : ((slice_get (fresh_ports (length processes) true 0 kind.inputs) g ≡ Some port) × (take g (fresh_ports (length processes) true 0 kind.inputs ++ fresh_ports (length processes) false 0 kind.outputs) ≡ take g (fresh_ports (length processes) true 0 kind.inputs))) ⊎ ((k : ℕ) × (slice_get (fresh_ports (length processes) false 0 kind.outputs) k ≡ Some port) × (take g (fresh_ports (length processes) true 0 kind.inputs ++ fresh_ports (length processes) false 0 kind.outputs) ≡ fresh_ports (length processes) true 0 kind.inputs ++ take k (fresh_ports (length processes) false 0 kind.outputs))) → port.process ≡ length processes
@@ -112,13 +112,13 @@ module _ (kinds : List KindSpec) (processes : List Begun) (ports : List Port) (n
       owner = by (at_append (fresh_ports (length processes) true 0 kind.inputs) (fresh_ports (length processes) false 0 kind.outputs) g port is)
 
   -- no old port is of the new process
-  not_old : (s : Bool) (g : ℕ) (port : Port) → slice_get ports g ≡ Some port → is_side (length processes) s port ≡ false
+  not_old : (s : Bool) (g : ℕ) (port : DraftPort) → slice_get ports g ≡ Some port → is_side (length processes) s port ≡ false
   not_old s g port is = other_process port (length processes) s (λ e. omega (arith, old_process g port is, e))
 
-  inputs_aside : (g : ℕ) (port : Port) → slice_get (fresh_ports (length processes) true 0 kind.inputs) g ≡ Some port → is_side (length processes) false port ≡ false
+  inputs_aside : (g : ℕ) (port : DraftPort) → slice_get (fresh_ports (length processes) true 0 kind.inputs) g ≡ Some port → is_side (length processes) false port ≡ false
   inputs_aside g port is = other_side port (length processes) true false (fresh_process (length processes) true kind.inputs g port is).1 refl
 
-  outputs_aside : (g : ℕ) (port : Port) → slice_get (fresh_ports (length processes) false 0 kind.outputs) g ≡ Some port → is_side (length processes) true port ≡ false
+  outputs_aside : (g : ℕ) (port : DraftPort) → slice_get (fresh_ports (length processes) false 0 kind.outputs) g ≡ Some port → is_side (length processes) true port ≡ false
   outputs_aside g port is = other_side port (length processes) false true (fresh_process (length processes) false kind.outputs g port is).1 refl
 
   kept : (p : ℕ) (s : Bool) → length processes ≢ p → entries_of (ports ++ (fresh_ports (length processes) true 0 kind.inputs ++ fresh_ports (length processes) false 0 kind.outputs)) p s ≡ entries_of ports p s
@@ -147,7 +147,7 @@ module _ (kinds : List KindSpec) (processes : List Begun) (ports : List Port) (n
       ∙ ap (λ (first : List PortSpec). first ++ entries_of (fresh_ports (length processes) false 0 kind.outputs) (length processes) false) (entries-none _ (length processes) false inputs_aside)
       ∙ entries-outputs (length processes) 0 kind.outputs
 
-  each : (p : ℕ) (begun : Begun) → slice_get (processes ++ begun_as (length processes) name kind.name ∷ []) p ≡ Some begun → HasKindPorts kinds (ports ++ (fresh_ports (length processes) true 0 kind.inputs ++ fresh_ports (length processes) false 0 kind.outputs)) p begun.kind
+  each : (p : ℕ) (begun : DraftProcess) → slice_get (processes ++ begun_as (length processes) name kind.name ∷ []) p ≡ Some begun → HasKindPorts kinds (ports ++ (fresh_ports (length processes) true 0 kind.inputs ++ fresh_ports (length processes) false 0 kind.outputs)) p begun.kind
   each p begun is = by (slice_get-push_cases processes (begun_as (length processes) name kind.name) begun p is)
     where
       by : (slice_get processes p ≡ Some begun) ⊎ ((p ≡ length processes) × (begun_as (length processes) name kind.name ≡ begun)) → HasKindPorts kinds (ports ++ (fresh_ports (length processes) true 0 kind.inputs ++ fresh_ports (length processes) false 0 kind.outputs)) p begun.kind
@@ -168,13 +168,13 @@ module _ (kinds : List KindSpec) (processes : List Begun) (ports : List Port) (n
             place = place;
             kind = kind;
             here = here;
-            name = ap (λ (b : Begun). b.kind) (sym last.1);
+            name = ap (λ (b : DraftProcess). b.kind) (sym last.1);
             inputs = own_inputs;
             outputs = own_outputs;
           })
 
   -- the place of a new port, by what stands before it among the new ports
-  new_place : (k : ℕ) (port : Port) → slice_get (fresh_ports (length processes) true 0 kind.inputs ++ fresh_ports (length processes) false 0 kind.outputs) k ≡ Some port → (port.process ≡ length processes) × (port.place ≡ sum_by (on_side (length processes) port.input) (take k (fresh_ports (length processes) true 0 kind.inputs ++ fresh_ports (length processes) false 0 kind.outputs)))
+  new_place : (k : ℕ) (port : DraftPort) → slice_get (fresh_ports (length processes) true 0 kind.inputs ++ fresh_ports (length processes) false 0 kind.outputs) k ≡ Some port → (port.process ≡ length processes) × (port.place ≡ sum_by (on_side (length processes) port.input) (take k (fresh_ports (length processes) true 0 kind.inputs ++ fresh_ports (length processes) false 0 kind.outputs)))
   new_place k port is = by (at_append (fresh_ports (length processes) true 0 kind.inputs) (fresh_ports (length processes) false 0 kind.outputs) k port is)
     where
       by : ((slice_get (fresh_ports (length processes) true 0 kind.inputs) k ≡ Some port) × (take k (fresh_ports (length processes) true 0 kind.inputs ++ fresh_ports (length processes) false 0 kind.outputs) ≡ take k (fresh_ports (length processes) true 0 kind.inputs))) ⊎ ((j : ℕ) × (slice_get (fresh_ports (length processes) false 0 kind.outputs) j ≡ Some port) × (take k (fresh_ports (length processes) true 0 kind.inputs ++ fresh_ports (length processes) false 0 kind.outputs) ≡ fresh_ports (length processes) true 0 kind.inputs ++ take j (fresh_ports (length processes) false 0 kind.outputs))) → (port.process ≡ length processes) × (port.place ≡ sum_by (on_side (length processes) port.input) (take k (fresh_ports (length processes) true 0 kind.inputs ++ fresh_ports (length processes) false 0 kind.outputs)))
@@ -192,7 +192,7 @@ module _ (kinds : List KindSpec) (processes : List Begun) (ports : List Port) (n
   behind : (k : ℕ) (s : Bool) → sum_by (on_side (length processes) s) (ports ++ take k (fresh_ports (length processes) true 0 kind.inputs ++ fresh_ports (length processes) false 0 kind.outputs)) ≡ sum_by (on_side (length processes) s) (take k (fresh_ports (length processes) true 0 kind.inputs ++ fresh_ports (length processes) false 0 kind.outputs))
   behind k s = omega (arith, before-none ports (length processes) s (not_old s), sum_by-append (on_side (length processes) s) ports (take k (fresh_ports (length processes) true 0 kind.inputs ++ fresh_ports (length processes) false 0 kind.outputs)))
 
-  places : (g : ℕ) (port : Port) → slice_get (ports ++ (fresh_ports (length processes) true 0 kind.inputs ++ fresh_ports (length processes) false 0 kind.outputs)) g ≡ Some port → port.place ≡ sum_by (on_side port.process port.input) (take g (ports ++ (fresh_ports (length processes) true 0 kind.inputs ++ fresh_ports (length processes) false 0 kind.outputs)))
+  places : (g : ℕ) (port : DraftPort) → slice_get (ports ++ (fresh_ports (length processes) true 0 kind.inputs ++ fresh_ports (length processes) false 0 kind.outputs)) g ≡ Some port → port.place ≡ sum_by (on_side port.process port.input) (take g (ports ++ (fresh_ports (length processes) true 0 kind.inputs ++ fresh_ports (length processes) false 0 kind.outputs)))
   places g port is = by (at_append ports (fresh_ports (length processes) true 0 kind.inputs ++ fresh_ports (length processes) false 0 kind.outputs) g port is)
     where
       by : ((slice_get ports g ≡ Some port) × (take g (ports ++ (fresh_ports (length processes) true 0 kind.inputs ++ fresh_ports (length processes) false 0 kind.outputs)) ≡ take g ports)) ⊎ ((k : ℕ) × (slice_get (fresh_ports (length processes) true 0 kind.inputs ++ fresh_ports (length processes) false 0 kind.outputs) k ≡ Some port) × (take g (ports ++ (fresh_ports (length processes) true 0 kind.inputs ++ fresh_ports (length processes) false 0 kind.outputs)) ≡ ports ++ take k (fresh_ports (length processes) true 0 kind.inputs ++ fresh_ports (length processes) false 0 kind.outputs))) → port.place ≡ sum_by (on_side port.process port.input) (take g (ports ++ (fresh_ports (length processes) true 0 kind.inputs ++ fresh_ports (length processes) false 0 kind.outputs)))

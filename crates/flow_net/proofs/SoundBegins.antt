@@ -9,9 +9,9 @@ use Rattle.std.proofs.lemmas.Bool.Decides.{nat_tests}
 use Rattle.std.proofs.lemmas.List.{length-replicate}
 use Rattle.std.proofs.lemmas.Slice.Eq.{bytes_eq-Decides}
 use Rattle.flow_net.specs.declared.draft.End.{End}
-use Rattle.flow_net.specs.declared.draft.Port.{Port}
+use Rattle.flow_net.specs.declared.draft.DraftPort.{DraftPort}
 use Rattle.flow_net.specs.declared.draft.Link.{Link}
-use Rattle.flow_net.specs.declared.draft.Begun.{Begun}
+use Rattle.flow_net.specs.declared.draft.DraftProcess.{DraftProcess}
 use Rattle.flow_net.specs.declared.draft.Binding.{Binding}
 use Rattle.flow_net.specs.declared.draft.Binding.TheVariants.{Free, Receives, Sends, Given}
 use Rattle.flow_plan.specs.declared.kind.KindSpec.{KindSpec}
@@ -87,7 +87,7 @@ fresh_output n place spec needed = record {
   output = λ side. refl;
 }
 
-pub IsPort-fresh : (n : ℕ) (kind : KindSpec) → IsKind kind → (g : ℕ) (port : Port) → slice_get (fresh_ports n true 0 kind.inputs ++ fresh_ports n false 0 kind.outputs) g ≡ Some port → IsPort (n + 1) port
+pub IsPort-fresh : (n : ℕ) (kind : KindSpec) → IsKind kind → (g : ℕ) (port : DraftPort) → slice_get (fresh_ports n true 0 kind.inputs ++ fresh_ports n false 0 kind.outputs) g ≡ Some port → IsPort (n + 1) port
 IsPort-fresh n kind is_kind g port is = by (slice_get-append_cases (fresh_ports n true 0 kind.inputs) (fresh_ports n false 0 kind.outputs) g port is)
   where
     by : (slice_get (fresh_ports n true 0 kind.inputs) g ≡ Some port) ⊎ ((k : ℕ) × (slice_get (fresh_ports n false 0 kind.outputs) k ≡ Some port)) → IsPort (n + 1) port
@@ -98,12 +98,12 @@ IsPort-fresh n kind is_kind g port is = by (slice_get-append_cases (fresh_ports 
         let fresh = fresh_ports-each n false 0 kind.outputs output.0 port output.1 in
         subst (IsPort (n + 1)) fresh.whole (fresh_output n fresh.place fresh.spec (is_kind.arrays_needed fresh.entry fresh.spec fresh.here))
 
-free_fresh : (p : ℕ) (s : Bool) (specs : List PortSpec) (port : Port) → IsFresh p s specs port → (e : ℕ) (b : Binding) → slice_get port.elements e ≡ Some b → b ≡ Free
+free_fresh : (p : ℕ) (s : Bool) (specs : List PortSpec) (port : DraftPort) → IsFresh p s specs port → (e : ℕ) (b : Binding) → slice_get port.elements e ≡ Some b → b ≡ Free
 free_fresh p s specs port fresh e b is =
-    sym (replicated (room_of fresh.spec.array) Free b e (ap (λ (q : Port). slice_get q.elements e) fresh.whole ∙ is))
+    sym (replicated (room_of fresh.spec.array) Free b e (ap (λ (q : DraftPort). slice_get q.elements e) fresh.whole ∙ is))
 
 -- the elements of new ports are free
-pub free-fresh : (n : ℕ) (kind : KindSpec) (g : ℕ) (port : Port) → slice_get (fresh_ports n true 0 kind.inputs ++ fresh_ports n false 0 kind.outputs) g ≡ Some port → (e : ℕ) (b : Binding) → slice_get port.elements e ≡ Some b → b ≡ Free
+pub free-fresh : (n : ℕ) (kind : KindSpec) (g : ℕ) (port : DraftPort) → slice_get (fresh_ports n true 0 kind.inputs ++ fresh_ports n false 0 kind.outputs) g ≡ Some port → (e : ℕ) (b : Binding) → slice_get port.elements e ≡ Some b → b ≡ Free
 free-fresh n kind g port is = by (slice_get-append_cases (fresh_ports n true 0 kind.inputs) (fresh_ports n false 0 kind.outputs) g port is)
   where
     by : (slice_get (fresh_ports n true 0 kind.inputs) g ≡ Some port) ⊎ ((k : ℕ) × (slice_get (fresh_ports n false 0 kind.outputs) k ≡ Some port)) → (e : ℕ) (b : Binding) → slice_get port.elements e ≡ Some b → b ≡ Free
@@ -111,47 +111,47 @@ free-fresh n kind g port is = by (slice_get-append_cases (fresh_ports n true 0 k
     by (inr output) = free_fresh n false kind.outputs port (fresh_ports-each n false 0 kind.outputs output.0 port output.1)
 
 -- more ports with free elements, and one more process without texts, leave every binding and every text as it was
-module _ (ports more : List Port) (processes : List Begun) (links : List Link) (begun : Begun)
-    (free : (g : ℕ) (port : Port) → slice_get more g ≡ Some port → (e : ℕ) (b : Binding) → slice_get port.elements e ≡ Some b → b ≡ Free)
+module _ (ports more : List DraftPort) (processes : List DraftProcess) (links : List Link) (begun : DraftProcess)
+    (free : (g : ℕ) (port : DraftPort) → slice_get more g ≡ Some port → (e : ℕ) (b : Binding) → slice_get port.elements e ≡ Some b → b ≡ Free)
     (textless : begun.texts ≡ []) where
   kept : (end : End) (b : Binding) → binding_at ports end ≡ Some b → binding_at (ports ++ more) end ≡ Some b
   kept end b is =
-      let found = then_some (λ (port : Port). slice_get port.elements end.element) (slice_get ports end.port) b is in
-      ap (option_and_then (λ (port : Port). slice_get port.elements end.element)) (slice_get-append_keeps ports more end.port found.0 found.1) ∙ found.2
+      let found = then_some (λ (port : DraftPort). slice_get port.elements end.element) (slice_get ports end.port) b is in
+      ap (option_and_then (λ (port : DraftPort). slice_get port.elements end.element)) (slice_get-append_keeps ports more end.port found.0 found.1) ∙ found.2
 
   port_kept : (end : End) (b : Binding) → binding_at ports end ≡ Some b → slice_get (ports ++ more) end.port ≡ slice_get ports end.port
   port_kept end b is =
-      let found = then_some (λ (port : Port). slice_get port.elements end.element) (slice_get ports end.port) b is in
+      let found = then_some (λ (port : DraftPort). slice_get port.elements end.element) (slice_get ports end.port) b is in
       slice_get-append_keeps ports more end.port found.0 found.1 ∙ sym found.1
 
   owner_kept : (end : End) (b : Binding) → binding_at ports end ≡ Some b → process_at (ports ++ more) end ≡ process_at ports end
-  owner_kept end b is = ap (λ (o : Option Port). option_map_or (λ (port : Port). port.process) o 0) (port_kept end b is)
+  owner_kept end b is = ap (λ (o : Option DraftPort). option_map_or (λ (port : DraftPort). port.process) o 0) (port_kept end b is)
 
   was : (end : End) (b : Binding) → b ≢ Free → binding_at (ports ++ more) end ≡ Some b → binding_at ports end ≡ Some b
   was end b ne is = by (slice_get-append_cases ports more end.port found.0 found.1)
     where
-      found : (port : Port) × (slice_get (ports ++ more) end.port ≡ Some port) × (slice_get port.elements end.element ≡ Some b)
-      found = then_some (λ (port : Port). slice_get port.elements end.element) (slice_get (ports ++ more) end.port) b is
+      found : (port : DraftPort) × (slice_get (ports ++ more) end.port ≡ Some port) × (slice_get port.elements end.element ≡ Some b)
+      found = then_some (λ (port : DraftPort). slice_get port.elements end.element) (slice_get (ports ++ more) end.port) b is
 
       by : (slice_get ports end.port ≡ Some found.0) ⊎ ((k : ℕ) × (slice_get more k ≡ Some found.0)) → binding_at ports end ≡ Some b
-      by (inl old) = ap (option_and_then (λ (port : Port). slice_get port.elements end.element)) old ∙ found.2
+      by (inl old) = ap (option_and_then (λ (port : DraftPort). slice_get port.elements end.element)) old ∙ found.2
       by (inr new) = absurd (ne (free new.0 found.0 new.1 end.element b found.2))
 
   text_kept : (p k : ℕ) (x : End × List ℕ) → text_at processes p k ≡ Some x → text_at (processes ++ begun ∷ []) p k ≡ Some x
   text_kept p k x is =
-      let found = then_some (λ (b : Begun). slice_get b.texts k) (slice_get processes p) x is in
-      ap (option_and_then (λ (b : Begun). slice_get b.texts k)) (slice_get-append_keeps processes (begun ∷ []) p found.0 found.1) ∙ found.2
+      let found = then_some (λ (b : DraftProcess). slice_get b.texts k) (slice_get processes p) x is in
+      ap (option_and_then (λ (b : DraftProcess). slice_get b.texts k)) (slice_get-append_keeps processes (begun ∷ []) p found.0 found.1) ∙ found.2
 
   text_was : (p k : ℕ) (x : End × List ℕ) → text_at (processes ++ begun ∷ []) p k ≡ Some x → text_at processes p k ≡ Some x
   text_was p k x is = by (slice_get-push_cases processes begun found.0 p found.1)
     where
-      found : (b : Begun) × (slice_get (processes ++ begun ∷ []) p ≡ Some b) × (slice_get b.texts k ≡ Some x)
-      found = then_some (λ (b : Begun). slice_get b.texts k) (slice_get (processes ++ begun ∷ []) p) x is
+      found : (b : DraftProcess) × (slice_get (processes ++ begun ∷ []) p ≡ Some b) × (slice_get b.texts k ≡ Some x)
+      found = then_some (λ (b : DraftProcess). slice_get b.texts k) (slice_get (processes ++ begun ∷ []) p) x is
 
       by : (slice_get processes p ≡ Some found.0) ⊎ ((p ≡ length processes) × (begun ≡ found.0)) → text_at processes p k ≡ Some x
-      by (inl old) = ap (option_and_then (λ (b : Begun). slice_get b.texts k)) old ∙ found.2
+      by (inl old) = ap (option_and_then (λ (b : DraftProcess). slice_get b.texts k)) old ∙ found.2
       by (inr new) =
-          let empty : found.0.texts ≡ [] = sym (ap (λ (b : Begun). b.texts) new.1) ∙ textless in
+          let empty : found.0.texts ≡ [] = sym (ap (λ (b : DraftProcess). b.texts) new.1) ∙ textless in
           let there : slice_get [] k ≡ Some x = subst (λ (xs : List (End × List ℕ)). slice_get xs k ≡ Some x) empty found.2 in
           absurd (cc)
 
@@ -180,16 +180,16 @@ module _ (ports more : List Port) (processes : List Begun) (links : List Link) (
     into = λ c end h.
         let old = sided.into c end h in
         let port = port_kept end (Receives c) (listed.received end c h) in
-        (ap (option_map (λ (p : Port). p.input)) port ∙ old.0, ap is_stream_port port ∙ old.1);
-    sender = λ c k end h. ap (option_map (λ (p : Port). p.input)) (port_kept end (Sends c k) (listed.sent end c k h)) ∙ sided.sender c k end h;
+        (ap (option_map (λ (p : DraftPort). p.input)) port ∙ old.0, ap is_stream_port port ∙ old.1);
+    sender = λ c k end h. ap (option_map (λ (p : DraftPort). p.input)) (port_kept end (Sends c k) (listed.sent end c k h)) ∙ sided.sender c k end h;
     text = λ p k end text h.
         let there = text_was p k (end, text) h in
         let old = sided.text p k end text there in
         let port = port_kept end (Given k) (listed.given p k end text there).0 in
-        (ap (option_map (λ (q : Port). q.input)) port ∙ old.0, subst (λ (o : Option Port). FitsPort o text) (sym port) old.1, old.2);
+        (ap (option_map (λ (q : DraftPort). q.input)) port ∙ old.0, subst (λ (o : Option DraftPort). FitsPort o text) (sym port) old.1, old.2);
   }
 
-more_processes : (n : ℕ) (port : Port) → IsPort n port → IsPort (n + 1) port
+more_processes : (n : ℕ) (port : DraftPort) → IsPort n port → IsPort (n + 1) port
 more_processes n port is = record {
   process = omega (arith, is.process);
   room = is.room;
@@ -200,14 +200,14 @@ more_processes n port is = record {
 }
 
 -- A kind that a new process may have.
-pub record KindFor (kinds : List KindSpec) (processes : List Begun) (name : List ℕ) (kind : KindSpec) : Type 0 where
-  pub new : (p : ℕ) (begun : Begun) → slice_get processes p ≡ Some begun → begun.name ≢ name
+pub record KindFor (kinds : List KindSpec) (processes : List DraftProcess) (name : List ℕ) (kind : KindSpec) : Type 0 where
+  pub new : (p : ℕ) (begun : DraftProcess) → slice_get processes p ≡ Some begun → begun.name ≢ name
   pub place : ℕ
   pub here : slice_get kinds place ≡ Some kind
   pub room : length processes < 128
 
 -- A kind that was found is one of the table, under a name that is free.
-pub KindFor-ok : (kinds : List KindSpec) (processes : List Begun) (name wanted : List ℕ) (kind : KindSpec) → kind_for kinds processes name wanted ≡ Ok kind → KindFor kinds processes name kind
+pub KindFor-ok : (kinds : List KindSpec) (processes : List DraftProcess) (name wanted : List ℕ) (kind : KindSpec) → kind_for kinds processes name wanted ≡ Ok kind → KindFor kinds processes name kind
 KindFor-ok kinds processes name wanted kind is =
     let new = bind_ok (refused_if (is_some (process_named processes name)) _) _ kind is in
     let spec = bind_ok (ok_or (kind_named kinds wanted) _) _ kind new.2 in
@@ -217,7 +217,7 @@ KindFor-ok kinds processes name wanted kind is =
     let test : nat_le 128 (length processes) ≡ false = refused_ok _ _ room.0 room.1 in
     record {
       new = λ p begun here same_name.
-          let apart : bytes_eq begun.name name ≡ false = position_none (λ (b : Begun). bytes_eq b.name name) processes (refused_ok _ _ new.0 new.1) p begun here in
+          let apart : bytes_eq begun.name name ≡ false = position_none (λ (b : DraftProcess). bytes_eq b.name name) processes (refused_ok _ _ new.0 new.1) p begun here in
           let equal : bytes_eq begun.name name ≡ true = (bytes_eq-Decides begun.name name).1 same_name in
           false≢true (sym apart ∙ equal);
       place = found.0;
@@ -244,10 +244,10 @@ IsSound-begun draft name wanted kind sound ok = record {
     n : ℕ
     n = length draft.processes
 
-    begun : Begun
+    begun : DraftProcess
     begun = begun_as n name kind.name
 
-    more : List Port
+    more : List DraftPort
     more = fresh_ports n true 0 kind.inputs ++ fresh_ports n false 0 kind.outputs
 
     chosen : KindFor draft.kinds draft.processes name kind
@@ -259,23 +259,23 @@ IsSound-begun draft name wanted kind sound ok = record {
     one_more : length (draft.processes ++ begun ∷ []) ≡ n + 1
     one_more = omega (arith, length-append draft.processes (begun ∷ []))
 
-    numbers : (p : ℕ) (b : Begun) → slice_get (draft.processes ++ begun ∷ []) p ≡ Some b → b.number ≡ p
+    numbers : (p : ℕ) (b : DraftProcess) → slice_get (draft.processes ++ begun ∷ []) p ≡ Some b → b.number ≡ p
     numbers p b is = by (slice_get-push_cases draft.processes begun b p is)
       where
         by : (slice_get draft.processes p ≡ Some b) ⊎ ((p ≡ length draft.processes) × (begun ≡ b)) → b.number ≡ p
         by (inl old) = sound.numbers p b old
-        by (inr last) = sym (ap (λ (x : Begun). x.number) last.1) ∙ sym last.0
+        by (inr last) = sym (ap (λ (x : DraftProcess). x.number) last.1) ∙ sym last.0
 
-    names : (p q : ℕ) (b other : Begun) → slice_get (draft.processes ++ begun ∷ []) p ≡ Some b → slice_get (draft.processes ++ begun ∷ []) q ≡ Some other → b.name ≡ other.name → p ≡ q
+    names : (p q : ℕ) (b other : DraftProcess) → slice_get (draft.processes ++ begun ∷ []) p ≡ Some b → slice_get (draft.processes ++ begun ∷ []) q ≡ Some other → b.name ≡ other.name → p ≡ q
     names p q b other here there same = by (slice_get-push_cases draft.processes begun b p here) (slice_get-push_cases draft.processes begun other q there)
       where
         by : (slice_get draft.processes p ≡ Some b) ⊎ ((p ≡ length draft.processes) × (begun ≡ b)) → (slice_get draft.processes q ≡ Some other) ⊎ ((q ≡ length draft.processes) × (begun ≡ other)) → p ≡ q
         by (inl old) (inl earlier) = sound.names p q b other old earlier same
-        by (inl old) (inr last) = absurd (chosen.new p b old (same ∙ sym (ap (λ (x : Begun). x.name) last.1)))
-        by (inr last) (inl old) = absurd (chosen.new q other old (sym same ∙ sym (ap (λ (x : Begun). x.name) last.1)))
+        by (inl old) (inr last) = absurd (chosen.new p b old (same ∙ sym (ap (λ (x : DraftProcess). x.name) last.1)))
+        by (inr last) (inl old) = absurd (chosen.new q other old (sym same ∙ sym (ap (λ (x : DraftProcess). x.name) last.1)))
         by (inr last) (inr end) = last.0 ∙ sym end.0
 
-    ports : (g : ℕ) (port : Port) → slice_get (draft.ports ++ more) g ≡ Some port → IsPort (length (draft.processes ++ begun ∷ [])) port
+    ports : (g : ℕ) (port : DraftPort) → slice_get (draft.ports ++ more) g ≡ Some port → IsPort (length (draft.processes ++ begun ∷ [])) port
     ports g port is = subst (λ (m : ℕ). IsPort m port) (sym one_more) (by (slice_get-append_cases draft.ports more g port is))
       where
         by : (slice_get draft.ports g ≡ Some port) ⊎ ((k : ℕ) × (slice_get more k ≡ Some port)) → IsPort (n + 1) port

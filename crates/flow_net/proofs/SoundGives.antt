@@ -3,8 +3,8 @@ use Rattle.flow_limits.specs.declared.TheConstants.{TEXT_LIMIT}
 use Rattle.std.proofs.Common.{◌≡◌, ◌≢◌, ℕ, ◌<◌, ◌≤◌, List, [], ◌∷◌, Option, Some, Ok, Err, true, refl, ap, sym, ◌∙◌, subst, zero, suc, inl, inr, ◌⊎◌, slice_get, length, arith}
 use Rattle.std.specs.Option.{option_map, option_map_or}
 use Rattle.flow_net.specs.declared.draft.End.{End}
-use Rattle.flow_net.specs.declared.draft.Port.{Port}
-use Rattle.flow_net.specs.declared.draft.Begun.{Begun}
+use Rattle.flow_net.specs.declared.draft.DraftPort.{DraftPort}
+use Rattle.flow_net.specs.declared.draft.DraftProcess.{DraftProcess}
 use Rattle.flow_net.specs.declared.draft.Binding.TheVariants.{Free, Given}
 use Rattle.flow_plan.specs.declared.kind.PortRef.{PortRef}
 use Rattle.flow_net.specs.Drafts.{Draft, Answers, refused_if, binding_at, bound, updated}
@@ -23,13 +23,13 @@ use Rattle.flow_net.proofs.Ends.{IsThere, IsThere-named, bind_ok, refused_ok, ok
 use Rattle.flow_net.proofs.SoundJoins.{IsPort-bound}
 
 -- An input that is there and free.
-pub record IsOpen (ports : List Port) (input : End) : Type 0 where
+pub record IsOpen (ports : List DraftPort) (input : End) : Type 0 where
   pub receiver : ℕ
   pub there : IsThere ports receiver true input
   pub free : binding_at ports input ≡ Some Free
 
 -- An input that was found for a text is free.
-pub IsOpen-for : (processes : List Begun) (ports : List Port) (n : ℕ) (to : List ℕ) (into : PortRef) (input : End) → ((g : ℕ) (p : Port) → slice_get ports g ≡ Some p → IsPort n p) → input_for processes ports to into ≡ Ok input → IsOpen ports input
+pub IsOpen-for : (processes : List DraftProcess) (ports : List DraftPort) (n : ℕ) (to : List ℕ) (into : PortRef) (input : End) → ((g : ℕ) (p : DraftPort) → slice_get ports g ≡ Some p → IsPort n p) → input_for processes ports to into ≡ Ok input → IsOpen ports input
 IsOpen-for processes ports n to into input all is =
     let receiver = bind_ok (process_of_name processes to) _ input is in
     let end = bind_ok (end_of_port ports receiver.0 true to into) _ input receiver.2 in
@@ -50,10 +50,10 @@ some_at (x ∷ xs) zero within = (x, refl)
 some_at (x ∷ xs) (suc i) within = some_at xs i (omega arith)
 
 -- the process of an element that is there
-pub process_at-within : (ports : List Port) (n : ℕ) (end : End) → ((g : ℕ) (p : Port) → slice_get ports g ≡ Some p → IsPort n p) → binding_at ports end ≡ Some Free → process_at ports end < n
+pub process_at-within : (ports : List DraftPort) (n : ℕ) (end : End) → ((g : ℕ) (p : DraftPort) → slice_get ports g ≡ Some p → IsPort n p) → binding_at ports end ≡ Some Free → process_at ports end < n
 process_at-within ports n end all is =
-    let found = then_some (λ (p : Port). slice_get p.elements end.element) (slice_get ports end.port) Free is in
-    subst (λ (m : ℕ). m < n) (sym (ap (λ (o : Option Port). option_map_or (λ (p : Port). p.process) o 0) found.1)) (all end.port found.0 found.1).process
+    let found = then_some (λ (p : DraftPort). slice_get p.elements end.element) (slice_get ports end.port) Free is in
+    subst (λ (m : ℕ). m < n) (sym (ap (λ (o : Option DraftPort). option_map_or (λ (p : DraftPort). p.process) o 0) found.1)) (all end.port found.0 found.1).process
 
 -- A text that is given keeps a draft sound.
 pub IsSound-given : (draft : Draft) (text to : List ℕ) (into : PortRef) (input : End) → IsSound draft → input_for draft.processes draft.ports to into ≡ Ok input → FitsPort (slice_get draft.ports input.port) text → length text ≤ TEXT_LIMIT → IsSound (given draft input text)
@@ -64,7 +64,7 @@ IsSound-given draft text to into input sound ok fits short = record {
   few_links = sound.few_links;
   numbers = numbers;
   names = names;
-  ports = subst (λ (n : ℕ). (g : ℕ) (port : Port) → slice_get after g ≡ Some port → IsPort n port) (sym count) (IsPort-bound (length draft.processes) draft.ports input (Given (next_text (slice_get draft.processes p))) sound.ports);
+  ports = subst (λ (n : ℕ). (g : ℕ) (port : DraftPort) → slice_get after g ≡ Some port → IsPort n port) (sym count) (IsPort-bound (length draft.processes) draft.ports input (Given (next_text (slice_get draft.processes p))) sound.ports);
   links = sound.links;
   listed = IsListed-given draft.ports after draft.processes texted draft.links p (next_text (slice_get draft.processes p)) input text sound.listed chosen.free refl (Rebound-bound draft.ports input (Given (next_text (slice_get draft.processes p))) chosen.there.bound) (SameOutline-bound draft.ports input (Given (next_text (slice_get draft.processes p)))) gives;
   sided = IsSided-given draft.ports after draft.processes texted draft.links p (next_text (slice_get draft.processes p)) input text sound.sided chosen.there.side fits short (SameOutline-bound draft.ports input (Given (next_text (slice_get draft.processes p)))) gives;
@@ -77,13 +77,13 @@ IsSound-given draft text to into input sound ok fits short = record {
     chosen : IsOpen draft.ports input
     chosen = IsOpen-for draft.processes draft.ports (length draft.processes) to into input sound.ports ok
 
-    found : (b : Begun) × (slice_get draft.processes p ≡ Some b)
+    found : (b : DraftProcess) × (slice_get draft.processes p ≡ Some b)
     found = some_at draft.processes p (process_at-within draft.ports (length draft.processes) input sound.ports chosen.free)
 
-    texted : List Begun
+    texted : List DraftProcess
     texted = updated (with_text input text) draft.processes p
 
-    after : List Port
+    after : List DraftPort
     after = bound draft.ports input (Given (next_text (slice_get draft.processes p)))
 
     ports_count : length after ≡ length draft.ports
@@ -95,21 +95,21 @@ IsSound-given draft text to into input sound ok fits short = record {
     gives : GivesOne draft.processes texted p (next_text (slice_get draft.processes p)) input text
     gives = subst (λ (k : ℕ). GivesOne draft.processes texted p k input text) (sym (ap next_text found.1)) (GivesOne-updated draft.processes p found.0 input text found.1)
 
-    was : (q : ℕ) (b : Begun) → slice_get texted q ≡ Some b → (old : Begun) × (slice_get draft.processes q ≡ Some old) × (b.number ≡ old.number) × (b.name ≡ old.name) × (b.kind ≡ old.kind)
+    was : (q : ℕ) (b : DraftProcess) → slice_get texted q ≡ Some b → (old : DraftProcess) × (slice_get draft.processes q ≡ Some old) × (b.number ≡ old.number) × (b.name ≡ old.name) × (b.kind ≡ old.kind)
     was q b is = by (same_or_not q p)
       where
-        by : (q ≡ p) ⊎ (q ≢ p) → (old : Begun) × (slice_get draft.processes q ≡ Some old) × (b.number ≡ old.number) × (b.name ≡ old.name) × (b.kind ≡ old.kind)
+        by : (q ≡ p) ⊎ (q ≢ p) → (old : DraftProcess) × (slice_get draft.processes q ≡ Some old) × (b.number ≡ old.number) × (b.name ≡ old.name) × (b.kind ≡ old.kind)
         by (inl e) =
             let changed : slice_get texted q ≡ option_map (with_text input text) (slice_get draft.processes q) =
             ap (λ i. slice_get (updated (with_text input text) draft.processes i) q) (sym e) ∙ slice_get-updated_same (with_text input text) draft.processes q in
             let old = map_some (with_text input text) (slice_get draft.processes q) b (sym changed ∙ is) in
-            (old.0, old.1, sym (ap (λ (x : Begun). x.number) old.2), sym (ap (λ (x : Begun). x.name) old.2), sym (ap (λ (x : Begun). x.kind) old.2))
+            (old.0, old.1, sym (ap (λ (x : DraftProcess). x.number) old.2), sym (ap (λ (x : DraftProcess). x.name) old.2), sym (ap (λ (x : DraftProcess). x.kind) old.2))
         by (inr ne) = (b, sym (slice_get-updated_other (with_text input text) draft.processes p q ne) ∙ is, refl, refl, refl)
 
-    numbers : (q : ℕ) (b : Begun) → slice_get texted q ≡ Some b → b.number ≡ q
+    numbers : (q : ℕ) (b : DraftProcess) → slice_get texted q ≡ Some b → b.number ≡ q
     numbers q b is = let old = was q b is in old.2 ∙ sound.numbers q old.0 old.1
 
-    names : (q r : ℕ) (b other : Begun) → slice_get texted q ≡ Some b → slice_get texted r ≡ Some other → b.name ≡ other.name → q ≡ r
+    names : (q r : ℕ) (b other : DraftProcess) → slice_get texted q ≡ Some b → slice_get texted r ≡ Some other → b.name ≡ other.name → q ≡ r
     names q r b other here there same =
         let old = was q b here in
         let before = was r other there in

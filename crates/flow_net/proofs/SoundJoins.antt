@@ -6,9 +6,9 @@ use Rattle.std.specs.Option.{option_map}
 use Rattle.std.proofs.lemmas.Bool.Decides.{nat_tests}
 use Rattle.std.proofs.Math.ListN.{length-set}
 use Rattle.flow_net.specs.declared.draft.End.{End}
-use Rattle.flow_net.specs.declared.draft.Port.{Port}
+use Rattle.flow_net.specs.declared.draft.DraftPort.{DraftPort}
 use Rattle.flow_net.specs.declared.draft.Link.{Link}
-use Rattle.flow_net.specs.declared.draft.Begun.{Begun}
+use Rattle.flow_net.specs.declared.draft.DraftProcess.{DraftProcess}
 use Rattle.flow_net.specs.declared.draft.Binding.{Binding}
 use Rattle.flow_net.specs.declared.draft.Binding.TheVariants.{Free, Receives, Sends}
 use Rattle.flow_plan.specs.declared.kind.PortRef.{PortRef}
@@ -28,15 +28,15 @@ updated-push f [] x = refl
 updated-push f (y ∷ xs) x = ap (λ zs. y ∷ zs) (updated-push f xs x)
 
 -- ports are ports after one element was bound
-pub IsPort-bound : (n : ℕ) (ports : List Port) (end : End) (b : Binding) → ((g : ℕ) (p : Port) → slice_get ports g ≡ Some p → IsPort n p) → (g : ℕ) (p : Port) → slice_get (bound ports end b) g ≡ Some p → IsPort n p
+pub IsPort-bound : (n : ℕ) (ports : List DraftPort) (end : End) (b : Binding) → ((g : ℕ) (p : DraftPort) → slice_get ports g ≡ Some p → IsPort n p) → (g : ℕ) (p : DraftPort) → slice_get (bound ports end b) g ≡ Some p → IsPort n p
 IsPort-bound n ports end b all g p is = by (same_or_not g end.port)
   where
-    change : Port → Port
+    change : DraftPort → DraftPort
     change port = record port { elements = slice_set port.elements end.element b }
 
     by : (g ≡ end.port) ⊎ (g ≢ end.port) → IsPort n p
     by (inl e) =
-        let was = map_some (λ (port : Port). record port { elements = slice_set port.elements end.element b }) (slice_get ports end.port) p (sym (slice_get-updated_same (λ (port : Port). record port { elements = slice_set port.elements end.element b }) ports end.port) ∙ ap (slice_get (bound ports end b)) (sym e) ∙ is) in
+        let was = map_some (λ (port : DraftPort). record port { elements = slice_set port.elements end.element b }) (slice_get ports end.port) p (sym (slice_get-updated_same (λ (port : DraftPort). record port { elements = slice_set port.elements end.element b }) ports end.port) ∙ ap (slice_get (bound ports end b)) (sym e) ∙ is) in
         let port = all end.port was.0 was.1 in
         subst (IsPort n) was.2
         (record {
@@ -47,7 +47,7 @@ IsPort-bound n ports end b all g p is = by (same_or_not g end.port)
           single = port.single;
           output = port.output;
         })
-    by (inr ne) = all g p (sym (slice_get-updated_other (λ (port : Port). record port { elements = slice_set port.elements end.element b }) ports end.port g ne) ∙ is)
+    by (inr ne) = all g p (sym (slice_get-updated_other (λ (port : DraftPort). record port { elements = slice_set port.elements end.element b }) ports end.port g ne) ∙ is)
 
 first_given_allowed : (before now : Option ℕ) → ((n : ℕ) → before ≡ Some n → (1 ≤ n) × (n ≤ CAPACITY_LIMIT)) → ((n : ℕ) → now ≡ Some n → (1 ≤ n) × (n ≤ CAPACITY_LIMIT)) → (n : ℕ) → first_given before now ≡ Some n → (1 ≤ n) × (n ≤ CAPACITY_LIMIT)
 first_given_allowed (Some m) now before after n is = before n is
@@ -80,16 +80,16 @@ IsLink-push links link all new c l is = by (slice_get-push_cases links link l c 
     by (inr last) = subst IsLink last.1 new
 
 -- What a join leaves, whichever way it went.
-pub record Joins (ports : List Port) (processes : List Begun) (n : ℕ) (after : List Port) (linked : List Link) : Type 0 where
+pub record Joins (ports : List DraftPort) (processes : List DraftProcess) (n : ℕ) (after : List DraftPort) (linked : List Link) : Type 0 where
   pub count : length after ≡ length ports
   pub few : length linked ≤ CONNECTION_LIMIT
-  pub each_port : (g : ℕ) (p : Port) → slice_get after g ≡ Some p → IsPort n p
+  pub each_port : (g : ℕ) (p : DraftPort) → slice_get after g ≡ Some p → IsPort n p
   pub each_link : (c : ℕ) (l : Link) → slice_get linked c ≡ Some l → IsLink l
   pub listed : IsListed after processes linked
   pub sided : IsSided after processes linked
 
-module _ (ports : List Port) (processes : List Begun) (links : List Link) (n : ℕ) (out into : End) (capacity : Option ℕ)
-    (each_port : (g : ℕ) (p : Port) → slice_get ports g ≡ Some p → IsPort n p)
+module _ (ports : List DraftPort) (processes : List DraftProcess) (links : List Link) (n : ℕ) (out into : End) (capacity : Option ℕ)
+    (each_port : (g : ℕ) (p : DraftPort) → slice_get ports g ≡ Some p → IsPort n p)
     (each_link : (c : ℕ) (l : Link) → slice_get links c ≡ Some l → IsLink l)
     (few : length links ≤ CONNECTION_LIMIT)
     (listed : IsListed ports processes links)
@@ -121,13 +121,13 @@ module _ (ports : List Port) (processes : List Begun) (links : List Link) (n : �
       space : length links < CONNECTION_LIMIT
       space = grind (arith, nat_tests, room)
 
-      opened_ports : List Port
+      opened_ports : List DraftPort
       opened_ports = bound ports into (Receives (length links))
 
       opened_links : List Link
       opened_links = links ++ empty ∷ []
 
-      after : List Port
+      after : List DraftPort
       after = bound opened_ports out (Sends (length links) 0)
 
       links_are : updated (with_sender out capacity) opened_links (length links) ≡ links ++ whole ∷ []
@@ -180,7 +180,7 @@ module _ (ports : List Port) (processes : List Begun) (links : List Link) (n : �
       space : length link.senders < SENDER_LIMIT
       space = grind (arith, nat_tests, full)
 
-      after : List Port
+      after : List DraftPort
       after = bound ports out (Sends c (next_sender (slice_get links c)))
 
       sends : SendsOne links (updated (with_sender out capacity) links c) c (next_sender (slice_get links c)) out

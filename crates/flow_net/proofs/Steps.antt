@@ -2,7 +2,7 @@
 use Rattle.std.proofs.Common.{◌≡◌, ◌≢◌, ℕ, List, [], ◌∷◌, ◌++◌, Option, Some, None, refl, ap, sym, ◌∙◌, subst, inl, inr, ◌⊎◌, slice_get, length}
 use Rattle.std.specs.Option.{option_map, option_and_then}
 use Rattle.flow_net.specs.declared.draft.End.{End}
-use Rattle.flow_net.specs.declared.draft.Begun.{Begun}
+use Rattle.flow_net.specs.declared.draft.DraftProcess.{DraftProcess}
 use Rattle.flow_net.specs.declared.draft.Link.{Link}
 use Rattle.flow_net.specs.Drafts.{updated}
 use Rattle.flow_net.specs.Calls.{with_sender, with_text}
@@ -36,7 +36,7 @@ pub record SendsOne (links after : List Link) (n k : ℕ) (out : End) : Type 0 w
   pub cases : (c j : ℕ) (end : End) → sender_at after c j ≡ Some end → (sender_at links c j ≡ Some end) ⊎ ((c ≡ n) × (j ≡ k) × (out ≡ end))
 
 -- A process has one text more.
-pub record GivesOne (processes after : List Begun) (p k : ℕ) (input : End) (text : List ℕ) : Type 0 where
+pub record GivesOne (processes after : List DraftProcess) (p k : ℕ) (input : End) (text : List ℕ) : Type 0 where
   pub added : text_at after p k ≡ Some (input, text)
   pub keeps : (q j : ℕ) (x : End × List ℕ) → text_at processes q j ≡ Some x → text_at after q j ≡ Some x
   pub cases : (q j : ℕ) (x : End × List ℕ) → text_at after q j ≡ Some x → (text_at processes q j ≡ Some x) ⊎ ((q ≡ p) × (j ≡ k) × ((input, text) ≡ x))
@@ -151,9 +151,9 @@ SendsOne-updated links n link out capacity here = record {
         by (inr ne) = ap (option_map (λ (l : Link). l.into)) (slice_get-updated_other (with_sender out capacity) links n c ne)
 
 -- A process with one more text is the one that the text is given to.
-pub GivesOne-updated : (processes : List Begun) (p : ℕ) (begun : Begun) (input : End) (text : List ℕ) → slice_get processes p ≡ Some begun → GivesOne processes (updated (with_text input text) processes p) p (length begun.texts) input text
+pub GivesOne-updated : (processes : List DraftProcess) (p : ℕ) (begun : DraftProcess) (input : End) (text : List ℕ) → slice_get processes p ≡ Some begun → GivesOne processes (updated (with_text input text) processes p) p (length begun.texts) input text
 GivesOne-updated processes p begun input text here = record {
-  added = grown_added (λ (b : Begun). b.texts) (with_text input text) (input, text) (λ b. refl) processes p begun here;
-  keeps = λ q j x is. grown_keeps (λ (b : Begun). b.texts) (with_text input text) (input, text) (λ b. refl) processes p q j x is;
-  cases = λ q j x is. grown_cases (λ (b : Begun). b.texts) (with_text input text) (input, text) (λ b. refl) processes p q j begun x here is;
+  added = grown_added (λ (b : DraftProcess). b.texts) (with_text input text) (input, text) (λ b. refl) processes p begun here;
+  keeps = λ q j x is. grown_keeps (λ (b : DraftProcess). b.texts) (with_text input text) (input, text) (λ b. refl) processes p q j x is;
+  cases = λ q j x is. grown_cases (λ (b : DraftProcess). b.texts) (with_text input text) (input, text) (λ b. refl) processes p q j begun x here is;
 }

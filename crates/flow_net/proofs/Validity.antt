@@ -11,8 +11,8 @@ use Rattle.std.proofs.lemmas.List.{length-map}
 use Rattle.std.proofs.lemmas.List.Sums.{sum_by-cons}
 use Rattle.std.proofs.lemmas.Option.{slice_get-map}
 use Rattle.flow_net.specs.declared.draft.End.{End}
-use Rattle.flow_net.specs.declared.draft.Port.{Port}
-use Rattle.flow_net.specs.declared.draft.Begun.{Begun}
+use Rattle.flow_net.specs.declared.draft.DraftPort.{DraftPort}
+use Rattle.flow_net.specs.declared.draft.DraftProcess.{DraftProcess}
 use Rattle.flow_net.specs.declared.draft.Link.{Link}
 use Rattle.flow_net.specs.declared.draft.Binding.{Binding}
 use Rattle.flow_net.specs.declared.draft.Binding.TheVariants.{Free, Receives, Sends, Given}
@@ -41,7 +41,7 @@ use Rattle.flow_net.proofs.PlanOptions.{HasOptions-plan, HasRows-plan}
 use Rattle.flow_net.proofs.Wholes.{Located, Located-bound, each_bound, no_fault}
 
 -- a text at a stream port is an initial text of its number
-initial_there : (ports : List Port) (texts : List (End × List ℕ)) (k : ℕ) (end : End) (text : List ℕ) → slice_get texts k ≡ Some (end, text) → is_stream_at ports end ≡ true → (m : ℕ) × (slice_get (initials_of ports texts) m ≡ Some (number_of ports end, text))
+initial_there : (ports : List DraftPort) (texts : List (End × List ℕ)) (k : ℕ) (end : End) (text : List ℕ) → slice_get texts k ≡ Some (end, text) → is_stream_at ports end ≡ true → (m : ℕ) × (slice_get (initials_of ports texts) m ≡ Some (number_of ports end, text))
 initial_there ports [] k end text here stream = absurd (cc)
 initial_there ports (x ∷ xs) zero end text here stream =
     let whole : ◌≡◌ {A = End × List ℕ} x (end, text) = cc in
@@ -54,14 +54,14 @@ initial_there ports (x ∷ xs) (suc k) end text here stream = by (is_stream_at p
     by false later = later
 
 -- An initial text is a text at a stream port of its number.
-pub record FromText (ports : List Port) (texts : List (End × List ℕ)) (i : ℕ) (text : List ℕ) : Type 0 where
+pub record FromText (ports : List DraftPort) (texts : List (End × List ℕ)) (i : ℕ) (text : List ℕ) : Type 0 where
   pub place : ℕ
   pub end : End
   pub here : slice_get texts place ≡ Some (end, text)
   pub stream : is_stream_at ports end ≡ true
   pub number : number_of ports end ≡ i
 
-initial_from : (ports : List Port) (texts : List (End × List ℕ)) (m i : ℕ) (text : List ℕ) → slice_get (initials_of ports texts) m ≡ Some (i, text) → FromText ports texts i text
+initial_from : (ports : List DraftPort) (texts : List (End × List ℕ)) (m i : ℕ) (text : List ℕ) → slice_get (initials_of ports texts) m ≡ Some (i, text) → FromText ports texts i text
 initial_from ports [] m i text here = absurd (cc)
 initial_from ports (x ∷ xs) m i text here = by (is_stream_at ports x.0) refl m here (λ k at. initial_from ports xs k i text at)
   where
@@ -76,7 +76,7 @@ initial_from ports (x ∷ xs) m i text here = by (is_stream_at ports x.0) refl m
     by false test m here rest = later (rest m here)
 
 -- no two initial texts have one number, where no two texts at stream ports have
-initial_once : (ports : List Port) (texts : List (End × List ℕ)) → ((k l : ℕ) (a b : End × List ℕ) → slice_get texts k ≡ Some a → slice_get texts l ≡ Some b → is_stream_at ports a.0 ≡ true → is_stream_at ports b.0 ≡ true → number_of ports a.0 ≡ number_of ports b.0 → k ≡ l) → (m o i : ℕ) (t u : List ℕ) → slice_get (initials_of ports texts) m ≡ Some (i, t) → slice_get (initials_of ports texts) o ≡ Some (i, u) → m ≡ o
+initial_once : (ports : List DraftPort) (texts : List (End × List ℕ)) → ((k l : ℕ) (a b : End × List ℕ) → slice_get texts k ≡ Some a → slice_get texts l ≡ Some b → is_stream_at ports a.0 ≡ true → is_stream_at ports b.0 ≡ true → number_of ports a.0 ≡ number_of ports b.0 → k ≡ l) → (m o i : ℕ) (t u : List ℕ) → slice_get (initials_of ports texts) m ≡ Some (i, t) → slice_get (initials_of ports texts) o ≡ Some (i, u) → m ≡ o
 initial_once ports [] once m o i t u here there = absurd (cc)
 initial_once ports (x ∷ xs) once m o i t u here there = by (is_stream_at ports x.0) refl m o here there (λ p q a b. initial_once ports xs (λ k l v w h g s r n. suc_same k l (once (suc k) (suc l) v w h g s r n)) p q i t u a b)
   where
@@ -105,14 +105,14 @@ sum_by_map : {A B : Type 0} (g : B → ℕ) (f : A → B) (xs : List A) → sum_
 sum_by_map g f [] = refl
 sum_by_map g f (x ∷ xs) = omega (arith, sum_by_map g f xs, sum_by-cons g (f x) (map f xs), sum_by-cons (λ x. g (f x)) x xs)
 
-counted_side : (p : ℕ) (s : Bool) (port : Port) (e : ℕ) → e < counted p s port → (is_side p s port ≡ true) × (e < count_of port)
+counted_side : (p : ℕ) (s : Bool) (port : DraftPort) (e : ℕ) → e < counted p s port → (is_side p s port ≡ true) × (e < count_of port)
 counted_side p s port e within = by (is_side p s port) refl within
   where
     by : (b : Bool) → is_side p s port ≡ b → e < (if b then count_of port else 0) → (is_side p s port ≡ true) × (e < count_of port)
     by true test below = (test, below)
     by false test below = absurd (omega arith)
 
-count_stream : (port : Port) (e : ℕ) → e < count_of port → (is_stream port.spec.class ≡ true) × (e < elements_in port)
+count_stream : (port : DraftPort) (e : ℕ) → e < count_of port → (is_stream port.spec.class ≡ true) × (e < elements_in port)
 count_stream port e within = by (is_stream port.spec.class) refl within
   where
     by : (b : Bool) → is_stream port.spec.class ≡ b → e < (if b then elements_in port else 0) → (is_stream port.spec.class ≡ true) × (e < elements_in port)
@@ -120,14 +120,14 @@ count_stream port e within = by (is_stream port.spec.class) refl within
     by false test below = absurd (omega arith)
 
 -- An element of this number, whose port is needed or not.
-pub record NeedsNumber (ports : List Port) (p : ℕ) (s : Bool) (o : ℕ) (needed : Bool) : Type 0 where
+pub record NeedsNumber (ports : List DraftPort) (p : ℕ) (s : Bool) (o : ℕ) (needed : Bool) : Type 0 where
   pub numbered : Numbered (counted p s) ports o
   pub is : numbered.port.spec.needed ≡ needed
 
 mapped_same : {A B : Type 0} (b c : B) (xs : List A) (i : ℕ) → slice_get (map (λ x. b) xs) i ≡ Some c → b ≡ c
 mapped_same b c xs i is = (mapped (λ x. b) xs i c is).2
 
-needs_numbered : (ports : List Port) (p : ℕ) (s : Bool) (o : ℕ) (needed : Bool) → slice_get (needs_of (rows_of ports p s)) o ≡ Some needed → NeedsNumber ports p s o needed
+needs_numbered : (ports : List DraftPort) (p : ℕ) (s : Bool) (o : ℕ) (needed : Bool) → slice_get (needs_of (rows_of ports p s)) o ≡ Some needed → NeedsNumber ports p s o needed
 needs_numbered [] p s o needed is = absurd (cc)
 needs_numbered (port ∷ ports) p s o needed is = by (is_side p s port) refl is (λ k at. needs_numbered ports p s k needed at)
   where
@@ -177,10 +177,10 @@ module _ (draft : Draft) (sound : IsSound draft) (u : Unit {0}) (whole : draft_f
   ports_whole = bind_ok (first_fault draft.processes draft.ports) (λ none. sum_fault draft.links) u whole
 
   -- a process of the plan is that of the draft
-  process_at_plan : (p : ℕ) (x : Process) → slice_get (map (process_of draft.ports) draft.processes) p ≡ Some x → (b : Begun) × (slice_get draft.processes p ≡ Some b) × (process_of draft.ports b ≡ x)
+  process_at_plan : (p : ℕ) (x : Process) → slice_get (map (process_of draft.ports) draft.processes) p ≡ Some x → (b : DraftProcess) × (slice_get draft.processes p ≡ Some b) × (process_of draft.ports b ≡ x)
   process_at_plan p x here = mapped (process_of draft.ports) draft.processes p x here
 
-  has_process : (p : ℕ) → p < length draft.processes → (b : Begun) × (slice_get (map (process_of draft.ports) draft.processes) p ≡ Some (process_of draft.ports b)) × (b.number ≡ p)
+  has_process : (p : ℕ) → p < length draft.processes → (b : DraftProcess) × (slice_get (map (process_of draft.ports) draft.processes) p ≡ Some (process_of draft.ports b)) × (b.number ≡ p)
   has_process p within =
       let found = some_at draft.processes p within in
       (found.0, slice_get-map (process_of draft.ports) draft.processes p ∙ ap (option_map (process_of draft.ports)) found.1, sound.numbers p found.0 found.1)
@@ -195,9 +195,9 @@ module _ (draft : Draft) (sound : IsSound draft) (u : Unit {0}) (whole : draft_f
       let side = sound.sided.sender c k end is in
       Located-bound (length draft.processes) draft.ports end (Sends c k) sound.ports (sound.listed.sent end c k is) refl false side (λ port here. ap is_stream ((sound.ports end.port port here).output (output port here side)))
     where
-      output : (port : Port) → slice_get draft.ports end.port ≡ Some port → is_input_at draft.ports end ≡ Some false → port.input ≡ false
+      output : (port : DraftPort) → slice_get draft.ports end.port ≡ Some port → is_input_at draft.ports end ≡ Some false → port.input ≡ false
       output port here side =
-          let both : Some port.input ≡ Some false = sym (ap (option_map (λ (q : Port). q.input)) here) ∙ side in
+          let both : Some port.input ≡ Some false = sym (ap (option_map (λ (q : DraftPort). q.input)) here) ∙ side in
           cc
 
   text_located : (p k : ℕ) (end : End) (text : List ℕ) → text_at draft.processes p k ≡ Some (end, text) → is_stream_at draft.ports end ≡ true → Located draft.ports end (process_at draft.ports end) true
@@ -207,7 +207,7 @@ module _ (draft : Draft) (sound : IsSound draft) (u : Unit {0}) (whole : draft_f
   -- an element that has a number is an input or an output of its process
   owner_within : (end : End) (p : ℕ) (s : Bool) → Located draft.ports end p s → process_at draft.ports end < length draft.processes
   owner_within end p s located =
-      subst (λ (m : ℕ). m < length draft.processes) (sym (ap (λ (o : Option Port). option_map_or (λ (q : Port). q.process) o 0) located.here)) (sound.ports end.port located.port located.here).process
+      subst (λ (m : ℕ). m < length draft.processes) (sym (ap (λ (o : Option DraftPort). option_map_or (λ (q : DraftPort). q.process) o 0) located.here)) (sound.ports end.port located.port located.here).process
 
   number_below : (end : End) (p : ℕ) (s : Bool) → Located draft.ports end p s → number_of draft.ports end < total_of draft.ports p s
   number_below end p s located =
@@ -283,13 +283,13 @@ module _ (draft : Draft) (sound : IsSound draft) (u : Unit {0}) (whole : draft_f
       sound.names p q found.0 other.0 found.1 other.1 (ap (λ (z : Process). z.name) found.2 ∙ same_name ∙ sym (ap (λ (z : Process). z.name) other.2))
 
   -- An initial text of the plan, as the draft has it.
-  text_at_plan : (p k i : ℕ) (x : Process) (text : List ℕ) → slice_get network.processes p ≡ Some x → slice_get x.initials k ≡ Some (i, text) → (b : Begun) × (slice_get draft.processes p ≡ Some b) × FromText draft.ports b.texts i text
+  text_at_plan : (p k i : ℕ) (x : Process) (text : List ℕ) → slice_get network.processes p ≡ Some x → slice_get x.initials k ≡ Some (i, text) → (b : DraftProcess) × (slice_get draft.processes p ≡ Some b) × FromText draft.ports b.texts i text
   text_at_plan p k i x text here given =
       let found = process_at_plan p x here in
       (found.0, found.1, initial_from draft.ports found.0.texts k i text (ap (λ (z : Process). slice_get z.initials k) found.2 ∙ given))
 
-  text_here : (p k : ℕ) (b : Begun) (x : End × List ℕ) → slice_get draft.processes p ≡ Some b → slice_get b.texts k ≡ Some x → text_at draft.processes p k ≡ Some x
-  text_here p k b x here is = ap (option_and_then (λ (c : Begun). slice_get c.texts k)) here ∙ is
+  text_here : (p k : ℕ) (b : DraftProcess) (x : End × List ℕ) → slice_get draft.processes p ≡ Some b → slice_get b.texts k ≡ Some x → text_at draft.processes p k ≡ Some x
+  text_here p k b x here is = ap (option_and_then (λ (c : DraftProcess). slice_get c.texts k)) here ∙ is
 
   not_both : (p i : ℕ) → HasConnection network p i → HasText network p i → ⊥
   not_both p i received texted =
@@ -310,7 +310,7 @@ module _ (draft : Draft) (sound : IsSound draft) (u : Unit {0}) (whole : draft_f
       let found = process_at_plan p x here in
       initial_once draft.ports found.0.texts (once found.0 found.1) k l i text other (ap (λ (z : Process). slice_get z.initials k) found.2 ∙ given) (ap (λ (z : Process). slice_get z.initials l) found.2 ∙ too)
     where
-      once : (b : Begun) → slice_get draft.processes p ≡ Some b → (m o : ℕ) (a c : End × List ℕ) → slice_get b.texts m ≡ Some a → slice_get b.texts o ≡ Some c → is_stream_at draft.ports a.0 ≡ true → is_stream_at draft.ports c.0 ≡ true → number_of draft.ports a.0 ≡ number_of draft.ports c.0 → m ≡ o
+      once : (b : DraftProcess) → slice_get draft.processes p ≡ Some b → (m o : ℕ) (a c : End × List ℕ) → slice_get b.texts m ≡ Some a → slice_get b.texts o ≡ Some c → is_stream_at draft.ports a.0 ≡ true → is_stream_at draft.ports c.0 ≡ true → number_of draft.ports a.0 ≡ number_of draft.ports c.0 → m ≡ o
       once b begun m o a c at there stream too_stream number =
           let first = text_here p m b a begun at in
           let second = text_here p o b c begun there in
@@ -327,17 +327,17 @@ module _ (draft : Draft) (sound : IsSound draft) (u : Unit {0}) (whole : draft_f
       let stream = count_stream at.port at.element sided.1 in
       let side = and_true (at.port.process == p) (same at.port.input s) sided.0 in
       let bound = each_bound (name_of draft.processes at.port.process) at.port at.element needed (no_fault draft.processes draft.ports ports_whole.0 ports_whole.1 at.place at.port at.here) stream.1 in
-      let binding : binding_at draft.ports (record { port = at.place; element = at.element }) ≡ Some bound.binding = ap (option_and_then (λ (q : Port). slice_get q.elements at.element)) at.here ∙ bound.here in
-      let input : is_input_at draft.ports (record { port = at.place; element = at.element }) ≡ Some s = ap (option_map (λ (q : Port). q.input)) at.here ∙ ap Some (same_true at.port.input s side.1) in
-      let owner : process_at draft.ports (record { port = at.place; element = at.element }) ≡ p = ap (λ (q : Option Port). option_map_or (λ (r : Port). r.process) q 0) at.here ∙ eqb_true at.port.process p side.0 in
+      let binding : binding_at draft.ports (record { port = at.place; element = at.element }) ≡ Some bound.binding = ap (option_and_then (λ (q : DraftPort). slice_get q.elements at.element)) at.here ∙ bound.here in
+      let input : is_input_at draft.ports (record { port = at.place; element = at.element }) ≡ Some s = ap (option_map (λ (q : DraftPort). q.input)) at.here ∙ ap Some (same_true at.port.input s side.1) in
+      let owner : process_at draft.ports (record { port = at.place; element = at.element }) ≡ p = ap (λ (q : Option DraftPort). option_map_or (λ (r : DraftPort). r.process) q 0) at.here ∙ eqb_true at.port.process p side.0 in
       let located = Located-bound (length draft.processes) draft.ports (record { port = at.place; element = at.element }) bound.binding sound.ports binding bound.taken s input (λ port here. same_stream port here stream.0) in
       (bound.binding, binding, bound.taken, input, owner, located.number ∙ ap (λ (q : ℕ). number_at (counted q s) draft.ports at.place at.element) owner ∙ at.number)
     where
-      same_stream : (port : Port) → slice_get draft.ports at.place ≡ Some port → is_stream at.port.spec.class ≡ true → is_stream port.spec.class ≡ true
+      same_stream : (port : DraftPort) → slice_get draft.ports at.place ≡ Some port → is_stream at.port.spec.class ≡ true → is_stream port.spec.class ≡ true
       same_stream port here stream =
           let one : Some port ≡ Some at.port = sym here ∙ at.here in
           let whole_port : port ≡ at.port = cc in
-          ap (λ (q : Port). is_stream q.spec.class) whole_port ∙ stream
+          ap (λ (q : DraftPort). is_stream q.spec.class) whole_port ∙ stream
 
   connection_here : (c : ℕ) (end : End) → into_of draft.links c ≡ Some end → HasConnection network (process_at draft.ports end) (number_of draft.ports end)
   connection_here c end is =
@@ -364,7 +364,7 @@ module _ (draft : Draft) (sound : IsSound draft) (u : Unit {0}) (whole : draft_f
   each_input : (p i : ℕ) → HasInput network p i → HasConnection network p i ⊎ HasText network p i
   each_input p i has = by found.0 found.1 found.2 found.3 found.4 found.5
     where
-      begun : (b : Begun) × (slice_get draft.processes p ≡ Some b) × (process_of draft.ports b ≡ has.0)
+      begun : (b : DraftProcess) × (slice_get draft.processes p ≡ Some b) × (process_of draft.ports b ≡ has.0)
       begun = process_at_plan p has.0 has.1
 
       within : i < total_of draft.ports p true
@@ -398,7 +398,7 @@ module _ (draft : Draft) (sound : IsSound draft) (u : Unit {0}) (whole : draft_f
           some_apart is = cc
       by (Given k) bound taken input owner number =
           let has_text = map_some (λ (t : End × List ℕ). t.0) (text_at draft.processes (process_at draft.ports (record { port = at.place; element = at.element })) k) _ (sound.listed.has (record { port = at.place; element = at.element }) k bound) in
-          let text = then_some (λ (b : Begun). slice_get b.texts k) (slice_get draft.processes (process_at draft.ports (record { port = at.place; element = at.element }))) has_text.0 has_text.1 in
+          let text = then_some (λ (b : DraftProcess). slice_get b.texts k) (slice_get draft.processes (process_at draft.ports (record { port = at.place; element = at.element }))) has_text.0 has_text.1 in
           let mine : slice_get draft.processes p ≡ Some text.0 = ap (slice_get draft.processes) (sym owner) ∙ text.1 in
           let stream : is_stream_at draft.ports has_text.0.0 ≡ true = ap (is_stream_at draft.ports) has_text.2 ∙ ap is_stream_port at.here ∙ (count_stream at.port at.element (counted_side p true at.port at.element at.within).1).0 in
           let initial = initial_there draft.ports text.0.texts k has_text.0.0 has_text.0.1 text.2 stream in
@@ -413,7 +413,7 @@ module _ (draft : Draft) (sound : IsSound draft) (u : Unit {0}) (whole : draft_f
   needed_outputs : (p o : ℕ) → NeedsOutput network p o → HasSender network p o
   needed_outputs p o needs = by found.0 found.1 found.2 found.3 found.4 found.5
     where
-      begun : (b : Begun) × (slice_get draft.processes p ≡ Some b) × (table_of draft.ports b ≡ needs.table)
+      begun : (b : DraftProcess) × (slice_get draft.processes p ≡ Some b) × (table_of draft.ports b ≡ needs.table)
       begun = mapped (table_of draft.ports) draft.processes p needs.table needs.here
 
       there : slice_get (needs_of (rows_of draft.ports p false)) o ≡ Some true

@@ -7,8 +7,8 @@ use Rattle.std.proofs.lemmas.Bool.{false≢true}
 use Rattle.std.proofs.lemmas.Bool.Decides.{nat_tests}
 use Rattle.std.proofs.lemmas.Option.{slice_get_within}
 use Rattle.flow_net.specs.declared.draft.End.{End}
-use Rattle.flow_net.specs.declared.draft.Port.{Port}
-use Rattle.flow_net.specs.declared.draft.Begun.{Begun}
+use Rattle.flow_net.specs.declared.draft.DraftPort.{DraftPort}
+use Rattle.flow_net.specs.declared.draft.DraftProcess.{DraftProcess}
 use Rattle.flow_net.specs.declared.draft.Binding.{Binding}
 use Rattle.flow_net.specs.declared.fault.PlanFault.TheVariants.{PortMissing}
 use Rattle.flow_plan.specs.Network.{is_stream}
@@ -25,14 +25,14 @@ use Rattle.flow_net.proofs.Placed.{size_of-within}
 use Rattle.flow_net.proofs.Numbers.{number_at}
 
 -- where the first fault is none, no port has one
-pub no_fault : (processes : List Begun) (ports : List Port) (u : Unit {0}) → first_fault processes ports ≡ Ok u → (g : ℕ) (port : Port) → slice_get ports g ≡ Some port → port_fault (name_of processes port.process) port ≡ Ok tt
+pub no_fault : (processes : List DraftProcess) (ports : List DraftPort) (u : Unit {0}) → first_fault processes ports ≡ Ok u → (g : ℕ) (port : DraftPort) → slice_get ports g ≡ Some port → port_fault (name_of processes port.process) port ≡ Ok tt
 no_fault processes [] u whole g port here = absurd (cc)
 no_fault processes (p ∷ ports) u whole g port here = by g here (bind_ok (port_fault (name_of processes p.process) p) (λ none. first_fault processes ports) u whole) (λ rest k at. no_fault processes ports u rest k port at)
   where
     by : (g : ℕ) → slice_get (p ∷ ports) g ≡ Some port → (x : Unit {0}) × (port_fault (name_of processes p.process) p ≡ Ok x) × (first_fault processes ports ≡ Ok u) → (first_fault processes ports ≡ Ok u → (k : ℕ) → slice_get ports k ≡ Some port → port_fault (name_of processes port.process) port ≡ Ok tt) → port_fault (name_of processes port.process) port ≡ Ok tt
     by zero here both rest =
         let same_port : p ≡ port = cc in
-        subst (λ (q : Port). port_fault (name_of processes q.process) q ≡ Ok tt) same_port both.1
+        subst (λ (q : DraftPort). port_fault (name_of processes q.process) q ≡ Ok tt) same_port both.1
     by (suc k) here both rest = rest both.2 k here
 
 slice_get-take : {X : Type 0} (xs : List X) (n i : ℕ) → i < n → slice_get (take n xs) i ≡ slice_get xs i
@@ -48,7 +48,7 @@ pub record IsBound (elements : List Binding) (e : ℕ) : Type 0 where
   pub taken : is_free binding ≡ false
 
 -- each element of a needed port without fault is bound
-pub each_bound : (name : List ℕ) (port : Port) (e : ℕ) → port.spec.needed ≡ true → port_fault name port ≡ Ok tt → e < elements_in port → IsBound port.elements e
+pub each_bound : (name : List ℕ) (port : DraftPort) (e : ℕ) → port.spec.needed ≡ true → port_fault name port ≡ Ok tt → e < elements_in port → IsBound port.elements e
 each_bound name port e needed none within = by (size_of port.elements == 0) refl none
   where
     gap : (o : Option ℕ) → gap_fault name port o ≡ Ok tt → is_some o ≡ false
@@ -85,14 +85,14 @@ size_of-bound (x ∷ xs) (suc e) b here taken = by (size_of xs) (size_of-bound x
     by n below = grind (arith, nat_tests, below)
 
 -- An element that has a number on this side of this process.
-pub record Located (ports : List Port) (end : End) (p : ℕ) (s : Bool) : Type 0 where
-  pub port : Port
+pub record Located (ports : List DraftPort) (end : End) (p : ℕ) (s : Bool) : Type 0 where
+  pub port : DraftPort
   pub here : slice_get ports end.port ≡ Some port
   pub within : end.element < counted p s port
   pub number : number_of ports end ≡ number_at (counted p s) ports end.port end.element
 
 -- a bound element of a port that carries packets has a number
-pub Located-bound : (n : ℕ) (ports : List Port) (end : End) (b : Binding) → ((g : ℕ) (p : Port) → slice_get ports g ≡ Some p → IsPort n p) → binding_at ports end ≡ Some b → is_free b ≡ false → (s : Bool) → is_input_at ports end ≡ Some s → ((port : Port) → slice_get ports end.port ≡ Some port → is_stream port.spec.class ≡ true) → Located ports end (process_at ports end) s
+pub Located-bound : (n : ℕ) (ports : List DraftPort) (end : End) (b : Binding) → ((g : ℕ) (p : DraftPort) → slice_get ports g ≡ Some p → IsPort n p) → binding_at ports end ≡ Some b → is_free b ≡ false → (s : Bool) → is_input_at ports end ≡ Some s → ((port : DraftPort) → slice_get ports end.port ≡ Some port → is_stream port.spec.class ≡ true) → Located ports end (process_at ports end) s
 Located-bound n ports end b all bound taken s side stream = record {
   port = port;
   here = here;
@@ -100,25 +100,25 @@ Located-bound n ports end b all bound taken s side stream = record {
   number = ap (λ (o : Bool). sum_by (counted (process_at ports end) o) (take end.port ports) + end.element) side_is;
 }
   where
-    found : (p : Port) × (slice_get ports end.port ≡ Some p) × (slice_get p.elements end.element ≡ Some b)
-    found = then_some (λ (p : Port). slice_get p.elements end.element) (slice_get ports end.port) b bound
+    found : (p : DraftPort) × (slice_get ports end.port ≡ Some p) × (slice_get p.elements end.element ≡ Some b)
+    found = then_some (λ (p : DraftPort). slice_get p.elements end.element) (slice_get ports end.port) b bound
 
-    port : Port
+    port : DraftPort
     port = found.0
 
     here : slice_get ports end.port ≡ Some port
     here = found.1
 
     owner : process_at ports end ≡ port.process
-    owner = ap (λ (o : Option Port). option_map_or (λ (q : Port). q.process) o 0) here
+    owner = ap (λ (o : Option DraftPort). option_map_or (λ (q : DraftPort). q.process) o 0) here
 
     input : port.input ≡ s
     input =
-        let both : Some port.input ≡ Some s = sym (ap (option_map (λ (q : Port). q.input)) here) ∙ side in
+        let both : Some port.input ≡ Some s = sym (ap (option_map (λ (q : DraftPort). q.input)) here) ∙ side in
         cc
 
     side_is : side_at ports end ≡ s
-    side_is = ap (λ (o : Option Port). option_map_or (λ (q : Port). q.input) o false) here ∙ input
+    side_is = ap (λ (o : Option DraftPort). option_map_or (λ (q : DraftPort). q.input) o false) here ∙ input
 
     on_side : is_side (process_at ports end) s port ≡ true
     on_side =

@@ -8,8 +8,8 @@ use Rattle.std.specs.Str.{bytes_eq}
 use Rattle.flow_net.specs.declared.draft.End.{End}
 use Rattle.flow_net.specs.declared.draft.Binding.{Binding}
 use Rattle.flow_net.specs.declared.draft.Binding.TheVariants.{Free, Receives, Sends, Given}
-use Rattle.flow_net.specs.declared.draft.Port.{Port}
-use Rattle.flow_net.specs.declared.draft.Begun.{Begun}
+use Rattle.flow_net.specs.declared.draft.DraftPort.{DraftPort}
+use Rattle.flow_net.specs.declared.draft.DraftProcess.{DraftProcess}
 use Rattle.flow_net.specs.declared.draft.Link.{Link}
 use Rattle.flow_net.specs.declared.fault.Many.TheVariants as many
 use Rattle.flow_net.specs.declared.fault.PlanFault.{PlanFault}
@@ -29,7 +29,7 @@ abbrev pub room_of : Bool → ℕ
 room_of array = if array then ELEMENT_LIMIT else 1
 
 -- A port of a new process: nothing is bound. An output carries packets, whatever its class says.
-abbrev pub fresh_port : ℕ → Bool → ℕ → PortSpec → Port
+abbrev pub fresh_port : ℕ → Bool → ℕ → PortSpec → DraftPort
 fresh_port process input place spec = record {
   process = process;
   input = input;
@@ -39,12 +39,12 @@ fresh_port process input place spec = record {
 }
 
 -- The ports of a table from this place on.
-abbrev pub fresh_ports : ℕ → Bool → ℕ → List PortSpec → List Port
+abbrev pub fresh_ports : ℕ → Bool → ℕ → List PortSpec → List DraftPort
 fresh_ports process input place [] = []
 fresh_ports process input place (spec ∷ specs) = fresh_port process input place spec ∷ fresh_ports process input (place + 1) specs
 
 -- A process before it has a text.
-abbrev pub begun_as : ℕ → List ℕ → List ℕ → Begun
+abbrev pub begun_as : ℕ → List ℕ → List ℕ → DraftProcess
 begun_as number name kind = record { number = number; name = name; kind = kind; texts = [] }
 
 -- The draft with one more process, and its ports: the inputs and then the outputs of its kind.
@@ -55,7 +55,7 @@ with_process draft name kind = record draft {
 }
 
 -- The kind of a new process: its name is new, its kind is there, and there are fewer than PROCESS_LIMIT processes.
-abbrev pub kind_for : List KindSpec → List Begun → List ℕ → List ℕ → Result KindSpec PlanFault
+abbrev pub kind_for : List KindSpec → List DraftProcess → List ℕ → List ℕ → Result KindSpec PlanFault
 kind_for kinds processes name kind = do
   new ← refused_if (is_some (process_named processes name)) (SameName name)
   spec ← ok_or (kind_named kinds kind) (UnknownKind name kind)
@@ -69,23 +69,23 @@ after_process draft name kind = do
   Ok (with_process draft name spec)
 
 -- The process of a name, or that there is none.
-abbrev pub process_of_name : List Begun → List ℕ → Result ℕ PlanFault
+abbrev pub process_of_name : List DraftProcess → List ℕ → Result ℕ PlanFault
 process_of_name processes name = ok_or (process_named processes name) (UnknownProcess name)
 
 -- The element of a port at this place, as it is written.
-abbrev pub end_at : List Port → Option ℕ → ℕ → Option End
-end_at ports element place = option_and_then (λ (port : Port). option_map (λ e. record { port = place; element = e }) (element_named port.spec.array element)) (slice_get ports place)
+abbrev pub end_at : List DraftPort → Option ℕ → ℕ → Option End
+end_at ports element place = option_and_then (λ (port : DraftPort). option_map (λ e. record { port = place; element = e }) (element_named port.spec.array element)) (slice_get ports place)
 
 -- The element that a network names, on this side of this process.
-abbrev pub end_named : List Port → ℕ → Bool → PortRef → Option End
+abbrev pub end_named : List DraftPort → ℕ → Bool → PortRef → Option End
 end_named ports number input port = option_and_then (end_at ports port.element) (port_named ports number input port.name)
 
 -- The element that a network names, or that there is none.
-abbrev pub end_of_port : List Port → ℕ → Bool → List ℕ → PortRef → Result End PlanFault
+abbrev pub end_of_port : List DraftPort → ℕ → Bool → List ℕ → PortRef → Result End PlanFault
 end_of_port ports number input process port = ok_or (end_named ports number input port) (PortUnknown process port)
 
 -- Both ends of a connection, as a network names them.
-abbrev pub ends_of : List Begun → List Port → List ℕ → PortRef → List ℕ → PortRef → Result (End × End) PlanFault
+abbrev pub ends_of : List DraftProcess → List DraftPort → List ℕ → PortRef → List ℕ → PortRef → Result (End × End) PlanFault
 ends_of processes ports from out to into = do
   sender ← process_of_name processes from
   receiver ← process_of_name processes to
@@ -109,7 +109,7 @@ has_text None = false
 has_text (Some binding) = is_given binding
 
 -- The connection into an element.
-abbrev pub link_into : List Port → End → Option ℕ
+abbrev pub link_into : List DraftPort → End → Option ℕ
 link_into ports end = option_and_then receives (binding_at ports end)
 
 -- The capacity that a connection was given before.
@@ -133,7 +133,7 @@ is_full links None = nat_le CONNECTION_LIMIT (length links)
 is_full links (Some c) = has_all_senders (slice_get links c)
 
 -- Whether two ends may be joined.
-abbrev pub may_join : List Port → List Link → List ℕ → PortRef → List ℕ → PortRef → Option ℕ → End → End → Result (Unit {0}) PlanFault
+abbrev pub may_join : List DraftPort → List Link → List ℕ → PortRef → List ℕ → PortRef → Option ℕ → End → End → Result (Unit {0}) PlanFault
 may_join ports links from out to into capacity output input = do
   stream ← refused_if (if is_stream_at ports input then false else true) (NeedsInitial to into)
   allowed ← allowed_capacity capacity
@@ -162,7 +162,7 @@ joined_links links out into capacity None = links ++ record { into = into; capac
 joined_links links out into capacity (Some c) = updated (with_sender out capacity) links c
 
 -- The ports after an output was joined to an input: both are bound to the connection.
-abbrev pub joined_ports : List Port → List Link → End → End → Option ℕ → List Port
+abbrev pub joined_ports : List DraftPort → List Link → End → End → Option ℕ → List DraftPort
 joined_ports ports links out into None = bound (bound ports into (Receives (length links))) out (Sends (length links) 0)
 joined_ports ports links out into (Some c) = bound ports out (Sends c (next_sender (slice_get links c)))
 
@@ -181,7 +181,7 @@ after_connect draft from out capacity to into = do
   Ok (joined draft ends.0 ends.1 capacity)
 
 -- The input that a text is for: it is there, and nothing is bound to it.
-abbrev pub input_for : List Begun → List Port → List ℕ → PortRef → Result End PlanFault
+abbrev pub input_for : List DraftProcess → List DraftPort → List ℕ → PortRef → Result End PlanFault
 input_for processes ports to into = do
   receiver ← process_of_name processes to
   input ← end_of_port ports receiver true to into
@@ -189,16 +189,16 @@ input_for processes ports to into = do
   Ok input
 
 -- The number of an element's process.
-abbrev pub process_at : List Port → End → ℕ
-process_at ports end = option_map_or (λ (port : Port). port.process) (slice_get ports end.port) 0
+abbrev pub process_at : List DraftPort → End → ℕ
+process_at ports end = option_map_or (λ (port : DraftPort). port.process) (slice_get ports end.port) 0
 
 -- The place of the next text.
-abbrev pub next_text : Option Begun → ℕ
+abbrev pub next_text : Option DraftProcess → ℕ
 next_text None = 0
 next_text (Some begun) = length begun.texts
 
 -- A process with one more text.
-abbrev pub with_text : End → List ℕ → Begun → Begun
+abbrev pub with_text : End → List ℕ → DraftProcess → DraftProcess
 with_text input text begun = record begun { texts = begun.texts ++ (input, text) ∷ [] }
 
 -- The draft with a text at an input: it is the last of its process's texts.

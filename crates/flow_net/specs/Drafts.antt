@@ -6,8 +6,8 @@ use Rattle.std.specs.Str.{bytes_eq}
 use Rattle.flow_net.specs.declared.draft.End.{End}
 use Rattle.flow_net.specs.declared.draft.Binding.{Binding}
 use Rattle.flow_net.specs.declared.draft.Binding.TheVariants.{Free, Receives, Sends, Given}
-use Rattle.flow_net.specs.declared.draft.Port.{Port}
-use Rattle.flow_net.specs.declared.draft.Begun.{Begun}
+use Rattle.flow_net.specs.declared.draft.DraftPort.{DraftPort}
+use Rattle.flow_net.specs.declared.draft.DraftProcess.{DraftProcess}
 use Rattle.flow_net.specs.declared.draft.Link.{Link}
 use Rattle.flow_net.specs.declared.fault.PlanFault.{PlanFault}
 use Rattle.flow_net.specs.declared.fault.PlanStop.{PlanStop}
@@ -18,8 +18,8 @@ use Rattle.flow_plan.specs.Network.{is_stream}
 -- The kinds that there are, the processes and their ports in the order of the calls, and the connections in the order in which they were first named.
 pub record Draft : Type 0 where
   pub kinds : List KindSpec
-  pub processes : List Begun
-  pub ports : List Port
+  pub processes : List DraftProcess
+  pub ports : List DraftPort
   pub links : List Link
 
 infixl 10 ◌>>=◌
@@ -51,12 +51,12 @@ updated f (x ∷ xs) zero = f x ∷ xs
 updated f (x ∷ xs) (suc i) = x ∷ updated f xs i
 
 -- What an element is bound to.
-abbrev pub binding_at : List Port → End → Option Binding
-binding_at ports end = option_and_then (λ (port : Port). slice_get port.elements end.element) (slice_get ports end.port)
+abbrev pub binding_at : List DraftPort → End → Option Binding
+binding_at ports end = option_and_then (λ (port : DraftPort). slice_get port.elements end.element) (slice_get ports end.port)
 
 -- The ports with an element bound to this.
-abbrev pub bound : List Port → End → Binding → List Port
-bound ports end binding = updated (λ (port : Port). record port { elements = slice_set port.elements end.element binding }) ports end.port
+abbrev pub bound : List DraftPort → End → Binding → List DraftPort
+bound ports end binding = updated (λ (port : DraftPort). record port { elements = slice_set port.elements end.element binding }) ports end.port
 
 -- Nothing stands at the element.
 abbrev pub is_free : Binding → Bool
@@ -87,16 +87,16 @@ same true false = false
 same false true = false
 
 -- A port on this side of this process.
-abbrev pub is_side : ℕ → Bool → Port → Bool
+abbrev pub is_side : ℕ → Bool → DraftPort → Bool
 is_side process input port = (port.process == process) && same port.input input
 
 -- The number of the process of this name.
-abbrev pub process_named : List Begun → List ℕ → Option ℕ
-process_named processes name = position (λ (begun : Begun). bytes_eq begun.name name) processes
+abbrev pub process_named : List DraftProcess → List ℕ → Option ℕ
+process_named processes name = position (λ (begun : DraftProcess). bytes_eq begun.name name) processes
 
 -- The place of the port of this name, on this side of this process.
-abbrev pub port_named : List Port → ℕ → Bool → List ℕ → Option ℕ
-port_named ports process input name = position (λ (port : Port). is_side process input port && bytes_eq port.spec.name name) ports
+abbrev pub port_named : List DraftPort → ℕ → Bool → List ℕ → Option ℕ
+port_named ports process input name = position (λ (port : DraftPort). is_side process input port && bytes_eq port.spec.name name) ports
 
 -- The element that a port is asked for: of an array the one that is written, or 0; every other port has none to write.
 abbrev pub element_named : Bool → Option ℕ → Option ℕ
@@ -106,10 +106,10 @@ element_named false None = Some 0
 element_named false (Some e) = None
 
 -- The port carries packets.
-abbrev pub is_stream_port : Option Port → Bool
+abbrev pub is_stream_port : Option DraftPort → Bool
 is_stream_port None = false
 is_stream_port (Some port) = is_stream port.spec.class
 
 -- The class of an element's port is Stream.
-abbrev pub is_stream_at : List Port → End → Bool
+abbrev pub is_stream_at : List DraftPort → End → Bool
 is_stream_at ports end = is_stream_port (slice_get ports end.port)

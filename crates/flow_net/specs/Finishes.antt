@@ -6,8 +6,8 @@ use Rattle.std.specs.List.{sum_by}
 use Rattle.std.specs.Option.{option_map_or}
 use Rattle.flow_net.specs.declared.draft.End.{End}
 use Rattle.flow_net.specs.declared.draft.Binding.{Binding}
-use Rattle.flow_net.specs.declared.draft.Port.{Port}
-use Rattle.flow_net.specs.declared.draft.Begun.{Begun}
+use Rattle.flow_net.specs.declared.draft.DraftPort.{DraftPort}
+use Rattle.flow_net.specs.declared.draft.DraftProcess.{DraftProcess}
 use Rattle.flow_net.specs.declared.draft.Link.{Link}
 use Rattle.flow_net.specs.declared.fault.Many.TheVariants as many
 use Rattle.flow_net.specs.declared.fault.PlanFault.{PlanFault}
@@ -27,21 +27,21 @@ size_of [] = 0
 size_of (b ∷ bs) = if size_of bs == 0 then (if is_free b then 0 else 1) else size_of bs + 1
 
 -- The name of a process.
-abbrev pub name_of : List Begun → ℕ → List ℕ
-name_of processes p = option_map_or (λ (begun : Begun). begun.name) (slice_get processes p) []
+abbrev pub name_of : List DraftProcess → ℕ → List ℕ
+name_of processes p = option_map_or (λ (begun : DraftProcess). begun.name) (slice_get processes p) []
 
 -- The lowest element that isn't bound, among those below one that is.
-abbrev pub gap_fault : List ℕ → Port → Option ℕ → Result (Unit {0}) PlanFault
+abbrev pub gap_fault : List ℕ → DraftPort → Option ℕ → Result (Unit {0}) PlanFault
 gap_fault name port None = Ok tt
 gap_fault name port (Some e) = Err (ElementGap name port.spec.name e)
 
 -- What is wrong with a port: it is needed and nothing is bound to it, or an element below a bound one isn't bound.
-abbrev pub port_fault : List ℕ → Port → Result (Unit {0}) PlanFault
+abbrev pub port_fault : List ℕ → DraftPort → Result (Unit {0}) PlanFault
 port_fault name port =
     if size_of port.elements == 0 then refused_if port.spec.needed (PortMissing name port.spec.name) else gap_fault name port (position is_free (take (size_of port.elements) port.elements))
 
 -- The first port with a fault, in the order of the processes and of their tables.
-abbrev pub first_fault : List Begun → List Port → Result (Unit {0}) PlanFault
+abbrev pub first_fault : List DraftProcess → List DraftPort → Result (Unit {0}) PlanFault
 first_fault processes [] = Ok tt
 first_fault processes (port ∷ ports) = port_fault (name_of processes port.process) port >>= λ none. first_fault processes ports
 
@@ -54,35 +54,35 @@ abbrev pub sum_fault : List Link → Result (Unit {0}) PlanFault
 sum_fault links = refused_if (if nat_le (sum_by capacity_of links) CAPACITY_SUM_LIMIT then false else true) (TooMany many.CapacitySum)
 
 -- The number of elements of a port: of an array up to the last that is bound.
-abbrev pub elements_in : Port → ℕ
+abbrev pub elements_in : DraftPort → ℕ
 elements_in port = if port.spec.array then size_of port.elements else 1
 
 -- The number of elements of a port that have numbers: an option port has none.
-abbrev pub count_of : Port → ℕ
+abbrev pub count_of : DraftPort → ℕ
 count_of port = if is_stream port.spec.class then elements_in port else 0
 
 -- The same, of a port on this side of this process, and of another 0.
-abbrev pub counted : ℕ → Bool → Port → ℕ
+abbrev pub counted : ℕ → Bool → DraftPort → ℕ
 counted process input port = if is_side process input port then count_of port else 0
 
 -- The side of an element's port.
-abbrev pub side_at : List Port → End → Bool
-side_at ports end = option_map_or (λ (port : Port). port.input) (slice_get ports end.port) false
+abbrev pub side_at : List DraftPort → End → Bool
+side_at ports end = option_map_or (λ (port : DraftPort). port.input) (slice_get ports end.port) false
 
 -- The number of an element: the elements of the ports before its own on this side of its process, and the elements before it in its own.
-abbrev pub number_of : List Port → End → ℕ
+abbrev pub number_of : List DraftPort → End → ℕ
 number_of ports end = sum_by (counted (process_at ports end) (side_at ports end)) (take end.port ports) + end.element
 
 -- The number of inputs, or of outputs, of a process.
-abbrev pub total_of : List Port → ℕ → Bool → ℕ
+abbrev pub total_of : List DraftPort → ℕ → Bool → ℕ
 total_of ports process input = sum_by (counted process input) ports
 
 -- The output at an end.
-abbrev pub sender_of : List Port → End → Sender
+abbrev pub sender_of : List DraftPort → End → Sender
 sender_of ports end = record { process = process_at ports end; output = number_of ports end }
 
 -- The connection that a link becomes.
-abbrev pub connection_of : List Port → Link → Connection
+abbrev pub connection_of : List DraftPort → Link → Connection
 connection_of ports link = record {
   receiver = process_at ports link.into;
   input = number_of ports link.into;
@@ -91,21 +91,21 @@ connection_of ports link = record {
 }
 
 -- The place of an element's port in the table of its kind.
-abbrev pub place_at : List Port → End → ℕ
-place_at ports end = option_map_or (λ (port : Port). port.place) (slice_get ports end.port) 0
+abbrev pub place_at : List DraftPort → End → ℕ
+place_at ports end = option_map_or (λ (port : DraftPort). port.place) (slice_get ports end.port) 0
 
 -- The texts at option ports, by the places of the ports, in the order of the calls.
-abbrev pub options_of : List Port → List (End × List ℕ) → List (ℕ × List ℕ)
+abbrev pub options_of : List DraftPort → List (End × List ℕ) → List (ℕ × List ℕ)
 options_of ports [] = []
 options_of ports (x ∷ xs) = if is_stream_at ports x.0 then options_of ports xs else (place_at ports x.0, x.1) ∷ options_of ports xs
 
 -- The texts at stream ports, by their input numbers, in the order of the calls.
-abbrev pub initials_of : List Port → List (End × List ℕ) → List (ℕ × List ℕ)
+abbrev pub initials_of : List DraftPort → List (End × List ℕ) → List (ℕ × List ℕ)
 initials_of ports [] = []
 initials_of ports (x ∷ xs) = if is_stream_at ports x.0 then (number_of ports x.0, x.1) ∷ initials_of ports xs else initials_of ports xs
 
 -- The process that a begun one becomes.
-abbrev pub process_of : List Port → Begun → Process
+abbrev pub process_of : List DraftPort → DraftProcess → Process
 process_of ports begun = record {
   name = begun.name;
   kind = begun.kind;
@@ -116,16 +116,16 @@ process_of ports begun = record {
 }
 
 -- A port with its number of elements.
-abbrev pub row_of : Port → PortRow
+abbrev pub row_of : DraftPort → PortRow
 row_of port = record { spec = port.spec; elements = elements_in port }
 
 -- The ports on one side of a process, in order.
-abbrev pub rows_of : List Port → ℕ → Bool → List PortRow
+abbrev pub rows_of : List DraftPort → ℕ → Bool → List PortRow
 rows_of [] process input = []
 rows_of (port ∷ ports) process input = if is_side process input port then row_of port ∷ rows_of ports process input else rows_of ports process input
 
 -- The ports of a process.
-abbrev pub table_of : List Port → Begun → PortTable
+abbrev pub table_of : List DraftPort → DraftProcess → PortTable
 table_of ports begun = record { inputs = rows_of ports begun.number true; outputs = rows_of ports begun.number false }
 
 -- The plan that a draft is.

@@ -5,8 +5,8 @@ use Rattle.std.specs.List.{sum_by}
 use Rattle.std.specs.Option.{option_and_then, option_map}
 use Rattle.flow_net.specs.declared.draft.End.{End}
 use Rattle.flow_net.specs.declared.draft.Binding.TheVariants.{Receives, Sends, Given}
-use Rattle.flow_net.specs.declared.draft.Port.{Port}
-use Rattle.flow_net.specs.declared.draft.Begun.{Begun}
+use Rattle.flow_net.specs.declared.draft.DraftPort.{DraftPort}
+use Rattle.flow_net.specs.declared.draft.DraftProcess.{DraftProcess}
 use Rattle.flow_net.specs.declared.draft.Link.{Link}
 use Rattle.flow_plan.specs.declared.kind.KindSpec.{KindSpec}
 use Rattle.flow_plan.specs.declared.kind.PortSpec.{PortSpec}
@@ -26,7 +26,7 @@ pub record IsKind (kind : KindSpec) : Type 0 where
   pub few_outputs : length kind.outputs ≤ PORT_LIMIT
 
 -- A port of one of this many processes: an input and an array are needed, an option port is no array, and an output carries packets.
-pub record IsPort (processes : ℕ) (port : Port) : Type 0 where
+pub record IsPort (processes : ℕ) (port : DraftPort) : Type 0 where
   pub process : port.process < processes
   pub room : length port.elements ≡ room_of port.spec.array
   pub input : port.input ≡ true → port.spec.needed ≡ true
@@ -39,7 +39,7 @@ abbrev pub into_of : List Link → ℕ → Option End
 into_of links c = option_map (λ (link : Link). link.into) (slice_get links c)
 
 -- An element that a port may have.
-pub record IsPlaced (ports : List Port) (end : End) : Type 0 where
+pub record IsPlaced (ports : List DraftPort) (end : End) : Type 0 where
   pub port : end.port < length ports
   pub element : end.element < ELEMENT_LIMIT
 
@@ -48,11 +48,11 @@ abbrev pub sender_at : List Link → ℕ → ℕ → Option End
 sender_at links c k = option_and_then (λ (link : Link). slice_get link.senders k) (slice_get links c)
 
 -- The text of a process at a place, with its element.
-abbrev pub text_at : List Begun → ℕ → ℕ → Option (End × List ℕ)
-text_at processes p k = option_and_then (λ (begun : Begun). slice_get begun.texts k) (slice_get processes p)
+abbrev pub text_at : List DraftProcess → ℕ → ℕ → Option (End × List ℕ)
+text_at processes p k = option_and_then (λ (begun : DraftProcess). slice_get begun.texts k) (slice_get processes p)
 
 -- An element is bound to a connection exactly where the connection names it, and to a text exactly where its process has the text.
-pub record IsListed (ports : List Port) (processes : List Begun) (links : List Link) : Type 0 where
+pub record IsListed (ports : List DraftPort) (processes : List DraftProcess) (links : List Link) : Type 0 where
   pub receives : (end : End) (c : ℕ) → binding_at ports end ≡ Some (Receives c) → into_of links c ≡ Some end
   pub received : (end : End) (c : ℕ) → into_of links c ≡ Some end → binding_at ports end ≡ Some (Receives c)
   pub sends : (end : End) (c k : ℕ) → binding_at ports end ≡ Some (Sends c k) → sender_at links c k ≡ Some end
@@ -61,11 +61,11 @@ pub record IsListed (ports : List Port) (processes : List Begun) (links : List L
   pub given : (p k : ℕ) (end : End) (text : List ℕ) → text_at processes p k ≡ Some (end, text) → (binding_at ports end ≡ Some (Given k)) × (process_at ports end ≡ p)
 
 -- The side of an element's port.
-abbrev pub is_input_at : List Port → End → Option Bool
-is_input_at ports end = option_map (λ (port : Port). port.input) (slice_get ports end.port)
+abbrev pub is_input_at : List DraftPort → End → Option Bool
+is_input_at ports end = option_map (λ (port : DraftPort). port.input) (slice_get ports end.port)
 
 -- Inputs receive and are given texts of their class, and outputs send.
-pub record IsSided (ports : List Port) (processes : List Begun) (links : List Link) : Type 0 where
+pub record IsSided (ports : List DraftPort) (processes : List DraftProcess) (links : List Link) : Type 0 where
   pub into : (c : ℕ) (end : End) → into_of links c ≡ Some end → (is_input_at ports end ≡ Some true) × (is_stream_at ports end ≡ true)
   pub sender : (c k : ℕ) (end : End) → sender_at links c k ≡ Some end → is_input_at ports end ≡ Some false
   pub text : (p k : ℕ) (end : End) (text : List ℕ) → text_at processes p k ≡ Some (end, text) → (is_input_at ports end ≡ Some true) × FitsPort (slice_get ports end.port) text × (length text ≤ TEXT_LIMIT)
@@ -76,16 +76,16 @@ pub record IsLink (link : Link) : Type 0 where
   pub senders : length link.senders ≤ SENDER_LIMIT
 
 -- 1 for a port on this side of this process, and 0 for another.
-abbrev pub on_side : ℕ → Bool → Port → ℕ
+abbrev pub on_side : ℕ → Bool → DraftPort → ℕ
 on_side process input port = if is_side process input port then 1 else 0
 
 -- The entries of the ports on one side of a process, in order.
-abbrev pub entries_of : List Port → ℕ → Bool → List PortSpec
+abbrev pub entries_of : List DraftPort → ℕ → Bool → List PortSpec
 entries_of [] process input = []
 entries_of (port ∷ ports) process input = if is_side process input port then port.spec ∷ entries_of ports process input else entries_of ports process input
 
 -- Process p has the ports of a kind of this name of the table, on each side and in order.
-pub record HasKindPorts (kinds : List KindSpec) (ports : List Port) (p : ℕ) (called : List ℕ) : Type 0 where
+pub record HasKindPorts (kinds : List KindSpec) (ports : List DraftPort) (p : ℕ) (called : List ℕ) : Type 0 where
   pub place : ℕ
   pub kind : KindSpec
   pub here : slice_get kinds place ≡ Some kind
@@ -94,9 +94,9 @@ pub record HasKindPorts (kinds : List KindSpec) (ports : List Port) (p : ℕ) (c
   pub outputs : entries_of ports p false ≡ map carries kind.outputs
 
 -- Each process has the ports of its kind, and the place of a port is the number of the ports before it on its side of its process.
-pub record IsShaped (kinds : List KindSpec) (processes : List Begun) (ports : List Port) : Type 0 where
-  pub each : (p : ℕ) (begun : Begun) → slice_get processes p ≡ Some begun → HasKindPorts kinds ports p begun.kind
-  pub places : (g : ℕ) (port : Port) → slice_get ports g ≡ Some port → port.place ≡ sum_by (on_side port.process port.input) (take g ports)
+pub record IsShaped (kinds : List KindSpec) (processes : List DraftProcess) (ports : List DraftPort) : Type 0 where
+  pub each : (p : ℕ) (begun : DraftProcess) → slice_get processes p ≡ Some begun → HasKindPorts kinds ports p begun.kind
+  pub places : (g : ℕ) (port : DraftPort) → slice_get ports g ≡ Some port → port.place ≡ sum_by (on_side port.process port.input) (take g ports)
 
 -- What holds of every draft.
 pub record IsSound (draft : Draft) : Type 0 where
@@ -104,9 +104,9 @@ pub record IsSound (draft : Draft) : Type 0 where
   pub few_processes : length draft.processes ≤ PROCESS_LIMIT
   pub few_ports : length draft.ports ≤ 8192 * length draft.processes
   pub few_links : length draft.links ≤ CONNECTION_LIMIT
-  pub numbers : (p : ℕ) (begun : Begun) → slice_get draft.processes p ≡ Some begun → begun.number ≡ p
-  pub names : (p q : ℕ) (begun other : Begun) → slice_get draft.processes p ≡ Some begun → slice_get draft.processes q ≡ Some other → begun.name ≡ other.name → p ≡ q
-  pub ports : (g : ℕ) (port : Port) → slice_get draft.ports g ≡ Some port → IsPort (length draft.processes) port
+  pub numbers : (p : ℕ) (begun : DraftProcess) → slice_get draft.processes p ≡ Some begun → begun.number ≡ p
+  pub names : (p q : ℕ) (begun other : DraftProcess) → slice_get draft.processes p ≡ Some begun → slice_get draft.processes q ≡ Some other → begun.name ≡ other.name → p ≡ q
+  pub ports : (g : ℕ) (port : DraftPort) → slice_get draft.ports g ≡ Some port → IsPort (length draft.processes) port
   pub links : (c : ℕ) (link : Link) → slice_get draft.links c ≡ Some link → IsLink link
   pub listed : IsListed draft.ports draft.processes draft.links
   pub sided : IsSided draft.ports draft.processes draft.links

@@ -3,7 +3,7 @@ ghost use Rattle.std.specs.Prelude.{◌≡◌, ◌∷◌, ◌++◌, [], ◌<◌,
 ghost use Rattle.flow_net.specs.Drafts.{Answers};
 ghost use Rattle.flow_net.specs.Calls.{fresh_port, fresh_ports, kind_for, begun_as, room_of};
 
-use crate::draft::{Begun, Binding, Port};
+use crate::draft::{DraftProcess, Binding, DraftPort};
 use crate::fault::{Many, PlanFault, PlanStop};
 use crate::find;
 use flow_items::{Items, Text};
@@ -30,13 +30,13 @@ fn fresh_port(
     input: bool,
     place: u32,
     spec: &PortSpec,
-) -> Result<Port, AllocError>
+) -> Result<DraftPort, AllocError>
     ensures { IfOk result (λ port. port ≡ fresh_port process input place spec.now) }
 {
     let elements = free_elements(alloc, room_of(spec.array))?;
     let name = spec.name.copy(alloc)?;
     let class = if input { spec.class } else { PortClass::Stream };
-    Ok(Port {
+    Ok(DraftPort {
         process,
         input,
         place,
@@ -52,7 +52,7 @@ fn fresh_port(
 
 fn add_ports(
     alloc: Global,
-    ports: &mut Vec<Port>,
+    ports: &mut Vec<DraftPort>,
     process: u32,
     input: bool,
     specs: &[PortSpec],
@@ -71,7 +71,7 @@ fn add_ports(
 pub fn kind_for<'a>(
     alloc: Global,
     kinds: &'a [KindSpec],
-    processes: &[Begun],
+    processes: &[DraftProcess],
     name: &[u8],
     kind: &[u8],
 ) -> Result<&'a KindSpec, PlanStop>
@@ -99,8 +99,8 @@ pub fn kind_for<'a>(
 /// A new process, with all its ports behind those that there are. Its name moves in.
 pub fn begin(
     alloc: Global,
-    processes: &mut Vec<Begun>,
-    ports: &mut Vec<Port>,
+    processes: &mut Vec<DraftProcess>,
+    ports: &mut Vec<DraftPort>,
     name: Text,
     kind: &KindSpec,
 ) -> Result<(), AllocError>
@@ -116,7 +116,7 @@ pub fn begin(
     let mut added = Vec::new(alloc);
     add_ports(alloc, &mut added, number, true, kind.inputs.as_slice())?;
     add_ports(alloc, &mut added, number, false, kind.outputs.as_slice())?;
-    let begun = Begun {
+    let begun = DraftProcess {
         number,
         name,
         kind: kind.name.copy(alloc)?,

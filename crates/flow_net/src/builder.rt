@@ -8,7 +8,7 @@ ghost use Rattle.flow_net.specs.Kinds.{is_table};
 ghost use Rattle.flow_plan.specs.Valid.{IsValid};
 ghost use Rattle.flow_net.specs.Over.{IsOver};
 
-use crate::draft::{Begun, Link, Port};
+use crate::draft::{DraftProcess, Link, DraftPort};
 use crate::fault::{PlanFault, PlanStop};
 use crate::{begin, check, find, finish, give, join, lay, options};
 use flow_items::Text;
@@ -23,8 +23,8 @@ use std::marker::Model;
 pub struct PlanBuilder {
     alloc: Global,
     kinds: Vec<KindSpec>,
-    processes: Vec<Begun>,
-    ports: Vec<Port>,
+    processes: Vec<DraftProcess>,
+    ports: Vec<DraftPort>,
     links: Vec<Link>,
 }
 

@@ -4,7 +4,7 @@ ghost use Rattle.std.specs.List.{sum_by};
 ghost use Rattle.flow_net.specs.Drafts.{Answers, is_free};
 ghost use Rattle.flow_net.specs.Finishes.{size_of, gap_fault, port_fault, first_fault, capacity_of, sum_fault, name_of};
 
-use crate::draft::{Begun, Binding, Link, Port};
+use crate::draft::{DraftProcess, Binding, Link, DraftPort};
 use crate::fault::{Many, PlanFault, PlanStop};
 use flow_items::Text;
 use flow_limits::{CAPACITY_LIMIT, CAPACITY_SUM_LIMIT, CONNECTION_LIMIT, ELEMENT_LIMIT};
@@ -36,7 +36,7 @@ fn first_free(elements: &[Binding]) -> Option<usize>
     elements.iter().position(|binding| is_free(binding))
 }
 
-fn missing(alloc: Global, process: &[u8], port: &Port) -> Result<PlanFault, PlanStop>
+fn missing(alloc: Global, process: &[u8], port: &DraftPort) -> Result<PlanFault, PlanStop>
     ensures ok { IfOk result (λ fault. fault ≡ PlanFault.PortMissing process.now port.now.spec.name) }
     ensures memory { IfErr result (λ stop. stop ≡ PlanStop.NoMemory) }
 {
@@ -45,7 +45,7 @@ fn missing(alloc: Global, process: &[u8], port: &Port) -> Result<PlanFault, Plan
     Ok(PlanFault::PortMissing(process, name))
 }
 
-fn gap(alloc: Global, process: &[u8], port: &Port, e: u32) -> Result<PlanFault, PlanStop>
+fn gap(alloc: Global, process: &[u8], port: &DraftPort, e: u32) -> Result<PlanFault, PlanStop>
     ensures ok { IfOk result (λ fault. fault ≡ PlanFault.ElementGap process.now port.now.spec.name e) }
     ensures memory { IfErr result (λ stop. stop ≡ PlanStop.NoMemory) }
 {
@@ -54,7 +54,7 @@ fn gap(alloc: Global, process: &[u8], port: &Port, e: u32) -> Result<PlanFault, 
     Ok(PlanFault::ElementGap(process, name, e))
 }
 
-fn check_port(alloc: Global, process: &[u8], port: &Port) -> Result<(), PlanStop>
+fn check_port(alloc: Global, process: &[u8], port: &DraftPort) -> Result<(), PlanStop>
     requires { length port.now.elements ≤ ELEMENT_LIMIT }
     ensures { Answers (port_fault process.now port.now) result }
 {
@@ -76,7 +76,7 @@ fn check_port(alloc: Global, process: &[u8], port: &Port) -> Result<(), PlanStop
     }
 }
 
-fn name_of(processes: &[Begun], process: u32) -> &[u8]
+fn name_of(processes: &[DraftProcess], process: u32) -> &[u8]
     ensures { result.now ≡ name_of processes.now process }
 {
     match processes.get(process as usize) {
@@ -86,8 +86,8 @@ fn name_of(processes: &[Begun], process: u32) -> &[u8]
 }
 
 /// That each port is bound as it has to be, or the first that isn't.
-pub fn check_ports(alloc: Global, processes: &[Begun], ports: &[Port]) -> Result<(), PlanStop>
-    requires { (g : ℕ) (port : Port) → slice_get ports.now g ≡ Some port → length port.elements ≤ ELEMENT_LIMIT }
+pub fn check_ports(alloc: Global, processes: &[DraftProcess], ports: &[DraftPort]) -> Result<(), PlanStop>
+    requires { (g : ℕ) (port : DraftPort) → slice_get ports.now g ≡ Some port → length port.elements ≤ ELEMENT_LIMIT }
     ensures { Answers (first_fault processes.now ports.now) result }
 {
     for port in ports {

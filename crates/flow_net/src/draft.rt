@@ -25,7 +25,7 @@ pub enum Binding {
 /// A port of a process, with what each of its elements is bound to. An array has all its elements from
 /// the start, every other port the one.
 #[derive(Drop)]
-pub struct Port {
+pub struct DraftPort {
     pub process: u32,
     pub input: bool,
     pub place: u32,
@@ -35,7 +35,7 @@ pub struct Port {
 
 /// A process, with the texts that it was given in the order of the calls.
 #[derive(Drop)]
-pub struct Begun {
+pub struct DraftProcess {
     pub number: u32,
     pub name: Text,
     pub kind: Text,

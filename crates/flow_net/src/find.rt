@@ -5,7 +5,7 @@ ghost use Rattle.std.specs.Option.{option_copied};
 ghost use Rattle.flow_net.specs.Drafts.{Answers, binding_at, process_named, port_named, element_named, is_side, same, is_stream_at};
 ghost use Rattle.flow_net.specs.Calls.{kind_named, process_of_name, end_at, end_named, end_of_port, ends_of, link_into};
 
-use crate::draft::{Begun, Binding, End, Port};
+use crate::draft::{DraftProcess, Binding, End, DraftPort};
 use crate::fault::{PlanFault, PlanStop};
 use flow_items::Text;
 use flow_limits::{ELEMENT_LIMIT, PROCESS_LIMIT};
@@ -20,7 +20,7 @@ pub fn kind_named<'a>(kinds: &'a [KindSpec], name: &[u8]) -> Option<&'a KindSpec
 }
 
 /// The place of a process's name.
-pub fn process_named(processes: &[Begun], name: &[u8]) -> Option<usize>
+pub fn process_named(processes: &[DraftProcess], name: &[u8]) -> Option<usize>
     ensures { result ≡ process_named processes.now name.now }
 {
     processes
@@ -29,13 +29,13 @@ pub fn process_named(processes: &[Begun], name: &[u8]) -> Option<usize>
 }
 
 /// Whether a port is on this side of this process.
-pub fn is_side(port: &Port, process: u32, input: bool) -> bool
+pub fn is_side(port: &DraftPort, process: u32, input: bool) -> bool
     ensures { result ≡ is_side process input port.now }
 {
     port.process == process && port.input == input
 }
 
-fn port_named(ports: &[Port], process: u32, input: bool, name: &[u8]) -> Option<usize>
+fn port_named(ports: &[DraftPort], process: u32, input: bool, name: &[u8]) -> Option<usize>
     ensures { result ≡ port_named ports.now process input name.now }
 {
     ports.iter().position(|port| is_side(port, process, input) && port.spec.name.as_slice() == name)
@@ -56,7 +56,7 @@ fn element_named(array: bool, element: Option<u32>) -> Option<u32>
     }
 }
 
-fn end_named(ports: &[Port], process: u32, input: bool, port: &PortRef) -> Option<End>
+fn end_named(ports: &[DraftPort], process: u32, input: bool, port: &PortRef) -> Option<End>
     requires { length ports.now < 2 ^ 32 }
     ensures { result ≡ end_named ports.now process input port.now }
 {
@@ -73,7 +73,7 @@ fn end_named(ports: &[Port], process: u32, input: bool, port: &PortRef) -> Optio
 }
 
 /// What an element is bound to.
-pub fn binding_at(ports: &[Port], end: End) -> Option<Binding>
+pub fn binding_at(ports: &[DraftPort], end: End) -> Option<Binding>
     ensures { result ≡ binding_at ports.now end }
 {
     match ports.get(end.port as usize) {
@@ -83,7 +83,7 @@ pub fn binding_at(ports: &[Port], end: End) -> Option<Binding>
 }
 
 /// The connection into an element.
-pub fn link_into(ports: &[Port], end: End) -> Option<u32>
+pub fn link_into(ports: &[DraftPort], end: End) -> Option<u32>
     ensures { result ≡ link_into ports.now end }
 {
     match binding_at(ports, end) {
@@ -93,7 +93,7 @@ pub fn link_into(ports: &[Port], end: End) -> Option<u32>
 }
 
 /// Whether an element's port carries packets.
-pub fn is_stream_at(ports: &[Port], end: End) -> bool
+pub fn is_stream_at(ports: &[DraftPort], end: End) -> bool
     ensures { result ≡ is_stream_at ports.now end }
 {
     match ports.get(end.port as usize) {
@@ -103,7 +103,7 @@ pub fn is_stream_at(ports: &[Port], end: End) -> bool
 }
 
 /// The process of a name, or that there is none.
-pub fn found_process(alloc: Global, processes: &[Begun], name: &[u8]) -> Result<u32, PlanStop>
+pub fn found_process(alloc: Global, processes: &[DraftProcess], name: &[u8]) -> Result<u32, PlanStop>
     requires { length processes.now ≤ PROCESS_LIMIT }
     ensures { Answers (process_of_name processes.now name.now) result }
 {
@@ -119,7 +119,7 @@ pub fn found_process(alloc: Global, processes: &[Begun], name: &[u8]) -> Result<
 /// The element that a network names, or that there is none.
 pub fn found_end(
     alloc: Global,
-    ports: &[Port],
+    ports: &[DraftPort],
     number: u32,
     input: bool,
     process: &[u8],
@@ -141,8 +141,8 @@ pub fn found_end(
 /// Both ends of a connection.
 pub fn ends(
     alloc: Global,
-    processes: &[Begun],
-    ports: &[Port],
+    processes: &[DraftProcess],
+    ports: &[DraftPort],
     from: &[u8],
     out: &PortRef,
     to: &[u8],

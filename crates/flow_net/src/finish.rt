@@ -7,7 +7,7 @@ ghost use Rattle.flow_net.specs.Calls.{process_at};
 ghost use Rattle.flow_net.specs.Sound.{IsPlaced, into_of, sender_at};
 
 use crate::check::size_of;
-use crate::draft::{Begun, End, Link, Port};
+use crate::draft::{DraftProcess, End, Link, DraftPort};
 use crate::find::{is_side, is_stream_at};
 use crate::give::process_at;
 use flow_items::{Items, Text};
@@ -16,7 +16,7 @@ use flow_plan::{Connection, PortClass, PortRow, PortSpec, PortTable, Process, Se
 use std::alloc::{AllocError, Global};
 
 /// The number of elements of a port.
-pub fn elements_in(port: &Port) -> u32
+pub fn elements_in(port: &DraftPort) -> u32
     requires { length port.now.elements ≤ ELEMENT_LIMIT }
     ensures elements { result ≡ elements_in port.now }
     ensures few { result ≤ ELEMENT_LIMIT }
@@ -28,7 +28,7 @@ pub fn elements_in(port: &Port) -> u32
     }
 }
 
-fn count_of(port: &Port) -> u32
+fn count_of(port: &DraftPort) -> u32
     requires { length port.now.elements ≤ ELEMENT_LIMIT }
     ensures count { result ≡ count_of port.now }
     ensures few { result ≤ ELEMENT_LIMIT }
@@ -40,8 +40,8 @@ fn count_of(port: &Port) -> u32
 }
 
 /// The numbers of elements of all ports.
-pub fn counts(alloc: Global, ports: &[Port]) -> Result<Vec<u32>, AllocError>
-    requires { (g : ℕ) (port : Port) → slice_get ports.now g ≡ Some port → length port.elements ≤ ELEMENT_LIMIT }
+pub fn counts(alloc: Global, ports: &[DraftPort]) -> Result<Vec<u32>, AllocError>
+    requires { (g : ℕ) (port : DraftPort) → slice_get ports.now g ≡ Some port → length port.elements ≤ ELEMENT_LIMIT }
     ensures { IfOk result (λ v. v.items ≡ map count_of ports.now) }
 {
     let mut counts = Vec::new(alloc);
@@ -52,7 +52,7 @@ pub fn counts(alloc: Global, ports: &[Port]) -> Result<Vec<u32>, AllocError>
 }
 
 // The numbered elements of a port, if it is on this side of this process.
-fn counted(port: &Port, count: u32, process: u32, input: bool) -> u32
+fn counted(port: &DraftPort, count: u32, process: u32, input: bool) -> u32
     requires { count ≡ count_of port.now }
     ensures counted { result ≡ counted process input port.now }
     ensures few { result ≤ count }
@@ -65,7 +65,7 @@ fn counted(port: &Port, count: u32, process: u32, input: bool) -> u32
 }
 
 /// The elements that the first ports have on one side of a process.
-pub fn total(ports: &[Port], counts: &[u32], place: usize, process: u32, input: bool) -> u32
+pub fn total(ports: &[DraftPort], counts: &[u32], place: usize, process: u32, input: bool) -> u32
     requires few_ports { length ports.now ≤ 2 ^ 20 }
     requires counts { counts.now ≡ map count_of ports.now }
     requires few { (g n : ℕ) → slice_get counts.now g ≡ Some n → n ≤ ELEMENT_LIMIT }
@@ -80,7 +80,7 @@ pub fn total(ports: &[Port], counts: &[u32], place: usize, process: u32, input: 
     sum
 }
 
-fn side_at(ports: &[Port], end: End) -> bool
+fn side_at(ports: &[DraftPort], end: End) -> bool
     ensures { result ≡ side_at ports.now end }
 {
     match ports.get(end.port as usize) {
@@ -90,7 +90,7 @@ fn side_at(ports: &[Port], end: End) -> bool
 }
 
 /// The number of an element.
-pub fn number(ports: &[Port], counts: &[u32], end: End) -> u32
+pub fn number(ports: &[DraftPort], counts: &[u32], end: End) -> u32
     requires few_ports { length ports.now ≤ 2 ^ 20 }
     requires counts { counts.now ≡ map count_of ports.now }
     requires few { (g n : ℕ) → slice_get counts.now g ≡ Some n → n ≤ ELEMENT_LIMIT }
@@ -103,7 +103,7 @@ pub fn number(ports: &[Port], counts: &[u32], end: End) -> u32
     total(ports, counts, end.port as usize, process, input) + end.element
 }
 
-fn sender(ports: &[Port], counts: &[u32], end: End) -> Sender
+fn sender(ports: &[DraftPort], counts: &[u32], end: End) -> Sender
     requires few_ports { length ports.now ≤ 2 ^ 20 }
     requires counts { counts.now ≡ map count_of ports.now }
     requires few { (g n : ℕ) → slice_get counts.now g ≡ Some n → n ≤ ELEMENT_LIMIT }
@@ -119,7 +119,7 @@ fn sender(ports: &[Port], counts: &[u32], end: End) -> Sender
 
 fn senders(
     alloc: Global,
-    ports: &[Port],
+    ports: &[DraftPort],
     counts: &[u32],
     ends: &[End],
 ) -> Result<Items<Sender>, AllocError>
@@ -138,7 +138,7 @@ fn senders(
 
 fn connection(
     alloc: Global,
-    ports: &[Port],
+    ports: &[DraftPort],
     counts: &[u32],
     link: &Link,
 ) -> Result<Connection, AllocError>
@@ -161,7 +161,7 @@ fn connection(
 /// The connections of a plan.
 pub fn connections(
     alloc: Global,
-    ports: &[Port],
+    ports: &[DraftPort],
     counts: &[u32],
     links: &[Link],
 ) -> Result<Vec<Connection>, AllocError>

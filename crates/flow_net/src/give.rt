@@ -3,7 +3,7 @@ ghost use Rattle.std.specs.Prelude.{◌≡◌, ◌<◌, ◌≤◌, ◌^◌, leng
 ghost use Rattle.flow_net.specs.Drafts.{Answers, binding_at, bound, updated};
 ghost use Rattle.flow_net.specs.Calls.{input_for, process_at, next_text, with_text};
 
-use crate::draft::{Begun, Binding, End, Port};
+use crate::draft::{DraftProcess, Binding, End, DraftPort};
 use crate::fault::{PlanFault, PlanStop};
 use crate::{find, join};
 use flow_items::Text;
@@ -14,8 +14,8 @@ use std::alloc::{AllocError, Global};
 /// The input that a text is for, or the first thing that is against it.
 pub fn input_for(
     alloc: Global,
-    processes: &[Begun],
-    ports: &[Port],
+    processes: &[DraftProcess],
+    ports: &[DraftPort],
     to: &[u8],
     into: &PortRef,
 ) -> Result<End, PlanStop>
@@ -41,7 +41,7 @@ pub fn option_fault(alloc: Global, process: &[u8], port: &PortRef) -> Result<Pla
 }
 
 /// The number of an element's process.
-pub fn process_at(ports: &[Port], end: End) -> u32
+pub fn process_at(ports: &[DraftPort], end: End) -> u32
     ensures { result ≡ process_at ports.now end }
 {
     match ports.get(end.port as usize) {
@@ -52,8 +52,8 @@ pub fn process_at(ports: &[Port], end: End) -> u32
 
 /// A text at an input, as the last of its process's.
 pub fn give(
-    processes: &mut Vec<Begun>,
-    ports: &mut Vec<Port>,
+    processes: &mut Vec<DraftProcess>,
+    ports: &mut Vec<DraftPort>,
     process: u32,
     input: End,
     text: Text,

@@ -3,7 +3,7 @@ ghost use Rattle.std.specs.Prelude.{◌≡◌, ◌∷◌, ◌++◌, [], ◌<◌,
 ghost use Rattle.flow_net.specs.Drafts.{Answers, binding_at, bound, updated};
 ghost use Rattle.flow_net.specs.Calls.{allowed_capacity, same_capacity, capacity_before, is_full, may_join, is_taken, has_text, link_into, first_given, next_sender, with_sender, joined_links, joined_ports};
 
-use crate::draft::{Binding, End, Link, Port};
+use crate::draft::{Binding, End, Link, DraftPort};
 use crate::fault::{Many, PlanFault, PlanStop};
 use crate::find;
 use flow_items::{Items, Text};
@@ -102,7 +102,7 @@ fn initial_fault(alloc: Global, process: &[u8], port: &PortRef) -> Result<PlanFa
 /// Whether two ends may be joined, or the first thing that is against it.
 pub fn may_join(
     alloc: Global,
-    ports: &[Port],
+    ports: &[DraftPort],
     links: &[Link],
     from: &[u8],
     out: &PortRef,
@@ -133,7 +133,7 @@ pub fn may_join(
 }
 
 /// Binds an element.
-pub fn bind(ports: &mut Vec<Port>, end: End, binding: Binding)
+pub fn bind(ports: &mut Vec<DraftPort>, end: End, binding: Binding)
     requires { IsSome (binding_at ports.old.items end) }
     ensures { ports.new.items ≡ bound ports.old.items end binding }
 {
@@ -144,7 +144,7 @@ pub fn bind(ports: &mut Vec<Port>, end: End, binding: Binding)
 // A new connection, with its first sender.
 fn open_link(
     alloc: Global,
-    ports: &mut Vec<Port>,
+    ports: &mut Vec<DraftPort>,
     links: &mut Vec<Link>,
     out: End,
     into: End,
@@ -200,7 +200,7 @@ fn add_sender(
 
 // One more sender of a connection.
 fn extend_link(
-    ports: &mut Vec<Port>,
+    ports: &mut Vec<DraftPort>,
     links: &mut Vec<Link>,
     number: u32,
     out: End,
@@ -224,7 +224,7 @@ fn extend_link(
 /// of the one that it has.
 pub fn join(
     alloc: Global,
-    ports: &mut Vec<Port>,
+    ports: &mut Vec<DraftPort>,
     links: &mut Vec<Link>,
     out: End,
     into: End,

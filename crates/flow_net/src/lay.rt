@@ -4,7 +4,7 @@ ghost use Rattle.flow_net.specs.Drafts.{is_stream_at};
 ghost use Rattle.flow_net.specs.Sound.{IsPlaced, text_at};
 ghost use Rattle.flow_net.specs.Finishes.{count_of, total_of, place_at, options_of, initials_of, process_of, row_of, rows_of, table_of};
 
-use crate::draft::{Begun, End, Port};
+use crate::draft::{DraftProcess, End, DraftPort};
 use crate::find::{is_side, is_stream_at};
 use crate::finish::{elements_in, number, total};
 use flow_items::{Items, Text};
@@ -12,7 +12,7 @@ use flow_limits::ELEMENT_LIMIT;
 use flow_plan::{PortRow, PortSpec, PortTable, Process};
 use std::alloc::{AllocError, Global};
 
-fn row(alloc: Global, port: &Port) -> Result<PortRow, AllocError>
+fn row(alloc: Global, port: &DraftPort) -> Result<PortRow, AllocError>
     requires { length port.now.elements ≤ ELEMENT_LIMIT }
     ensures { IfOk result (λ row. row ≡ row_of port.now) }
 {
@@ -30,11 +30,11 @@ fn row(alloc: Global, port: &Port) -> Result<PortRow, AllocError>
 
 fn rows(
     alloc: Global,
-    ports: &[Port],
+    ports: &[DraftPort],
     process: u32,
     input: bool,
 ) -> Result<Items<PortRow>, AllocError>
-    requires { (g : ℕ) (port : Port) → slice_get ports.now g ≡ Some port → length port.elements ≤ ELEMENT_LIMIT }
+    requires { (g : ℕ) (port : DraftPort) → slice_get ports.now g ≡ Some port → length port.elements ≤ ELEMENT_LIMIT }
     ensures { IfOk result (λ rows. rows ≡ rows_of ports.now process input) }
 {
     let mut rows = Vec::new(alloc);
@@ -46,8 +46,8 @@ fn rows(
     Ok(Items::of(rows))
 }
 
-fn table(alloc: Global, ports: &[Port], begun: &Begun) -> Result<PortTable, AllocError>
-    requires { (g : ℕ) (port : Port) → slice_get ports.now g ≡ Some port → length port.elements ≤ ELEMENT_LIMIT }
+fn table(alloc: Global, ports: &[DraftPort], begun: &DraftProcess) -> Result<PortTable, AllocError>
+    requires { (g : ℕ) (port : DraftPort) → slice_get ports.now g ≡ Some port → length port.elements ≤ ELEMENT_LIMIT }
     ensures { IfOk result (λ table. table ≡ table_of ports.now begun.now) }
 {
     let inputs = rows(alloc, ports, begun.number, true)?;
@@ -58,10 +58,10 @@ fn table(alloc: Global, ports: &[Port], begun: &Begun) -> Result<PortTable, Allo
 /// The ports of each process.
 pub fn tables(
     alloc: Global,
-    ports: &[Port],
-    processes: &[Begun],
+    ports: &[DraftPort],
+    processes: &[DraftProcess],
 ) -> Result<Vec<PortTable>, AllocError>
-    requires { (g : ℕ) (port : Port) → slice_get ports.now g ≡ Some port → length port.elements ≤ ELEMENT_LIMIT }
+    requires { (g : ℕ) (port : DraftPort) → slice_get ports.now g ≡ Some port → length port.elements ≤ ELEMENT_LIMIT }
     ensures { IfOk result (λ v. v.items ≡ map (table_of ports.now) processes.now) }
 {
     let mut tables = Vec::new(alloc);
@@ -71,7 +71,7 @@ pub fn tables(
     Ok(tables)
 }
 
-fn place_at(ports: &[Port], end: End) -> u32
+fn place_at(ports: &[DraftPort], end: End) -> u32
     ensures { result ≡ place_at ports.now end }
 {
     match ports.get(end.port as usize) {
@@ -83,7 +83,7 @@ fn place_at(ports: &[Port], end: End) -> u32
 // The texts of a process: those at option ports, and those at stream ports.
 fn given(
     alloc: Global,
-    ports: &[Port],
+    ports: &[DraftPort],
     counts: &[u32],
     texts: Vec<(End, Text)>,
 ) -> Result<(Vec<(u32, Text)>, Vec<(u32, Text)>), AllocError>
@@ -108,9 +108,9 @@ fn given(
 
 fn process(
     alloc: Global,
-    ports: &[Port],
+    ports: &[DraftPort],
     counts: &[u32],
-    begun: Begun,
+    begun: DraftProcess,
 ) -> Result<Process, AllocError>
     requires few_ports { length ports.now ≤ 2 ^ 20 }
     requires counts { counts.now ≡ map count_of ports.now }
@@ -118,7 +118,7 @@ fn process(
     requires there { (k : ℕ) (end : End) (text : List ℕ) → slice_get begun.texts k ≡ Some (end, text) → IsPlaced ports.now end }
     ensures { IfOk result (λ process. process ≡ process_of ports.now begun) }
 {
-    let Begun {
+    let DraftProcess {
         number,
         name,
         kind,
@@ -138,9 +138,9 @@ fn process(
 /// The processes of a plan. Names and texts stay where they are.
 pub fn processes(
     alloc: Global,
-    ports: &[Port],
+    ports: &[DraftPort],
     counts: &[u32],
-    begun: Vec<Begun>,
+    begun: Vec<DraftProcess>,
 ) -> Result<Vec<Process>, AllocError>
     requires few_ports { length ports.now ≤ 2 ^ 20 }
     requires counts { counts.now ≡ map count_of ports.now }

@@ -4,7 +4,7 @@ ghost use Rattle.std.specs.List.{All, slice_split};
 ghost use Rattle.flow_plan.specs.Texts.{IsNumberWithin, IsFields, IsFileName, IsOfClass};
 ghost use Rattle.flow_net.specs.Options.{FitsPort};
 
-use crate::draft::{End, Port};
+use crate::draft::{End, DraftPort};
 use flow_plan::PortClass;
 use flow_text::decimal;
 
@@ -82,7 +82,7 @@ fn is_of_class(class: PortClass, text: &[u8]) -> bool
 }
 
 /// Whether a text is of the class of an element's port.
-pub fn fits(ports: &[Port], end: End, text: &[u8]) -> bool
+pub fn fits(ports: &[DraftPort], end: End, text: &[u8]) -> bool
     ensures { IsTrue result ↔ FitsPort (slice_get ports.now end.port) text.now }
 {
     match ports.get(end.port as usize) {

@@ -9,10 +9,10 @@ use Rattle.std.proofs.lemmas.Bool.{leb-true}
 use Rattle.std.proofs.lemmas.List.Folds.{list_any-append}
 use Rattle.std.proofs.lemmas.Slice.Eq.{bytes_eq-Decides}
 use Rattle.flow_parse.specs.declared.form.Mention.{Mention}
-use Rattle.flow_parse.specs.declared.form.Port.{Port}
+use Rattle.flow_parse.specs.declared.form.PortMention.{PortMention}
 use Rattle.flow_parse.specs.declared.form.Form.{Form}
 use Rattle.flow_parse.specs.declared.form.Form.TheVariants.{Header, Process, Connection, Initial, Subnet, End, InPort, OutPort}
-use Rattle.flow_parse.specs.declared.part.Known.{Known}
+use Rattle.flow_parse.specs.declared.part.MentionedProcess.{MentionedProcess}
 use Rattle.flow_parse.specs.declared.value.Statement.{Statement}
 use Rattle.flow_parse.specs.Names.{is_name, is_decimal, number_in, or_none, mention_is_named, port_is_named, is_named}
 use Rattle.flow_parse.specs.Files.{Lines, mentions_of, mentions_in, first_mentions, kind_in, processes_in, kindless_line, port_ref, statements_of, statements_in, text_fits, value_of}
@@ -42,7 +42,7 @@ number_if_any : (least most : ℕ) (o : Option (List ℕ)) → IsWithin least mo
 number_if_any least most None = tt
 number_if_any least most (Some w) = number_within least most w
 
-port_fine : (p : Port) → is_name p.name ≡ true → OfWord p.name → IsPort (port_ref p)
+port_fine : (p : PortMention) → is_name p.name ≡ true → OfWord p.name → IsPort (port_ref p)
 port_fine p named worded = ((named, worded), number_if_any 0 511 p.element)
 
 mention_name : (m : Mention) → mention_is_named m ≡ true → OfMention m → IsName m.name
@@ -132,7 +132,7 @@ firsts_named [] all = tt
 firsts_named (m ∷ ms) all = (all.0, filter_all (λ (k : ℕ × Mention). NamedMention k.1) _ (first_mentions ms) (firsts_named ms all.1))
 
 -- A process of the value.
-abbrev pub pair : Known → List ℕ × List ℕ
+abbrev pub pair : MentionedProcess → List ℕ × List ℕ
 pair p = (p.name, unwrap_or p.kind [])
 
 pairs_named : (ms ks : Ms) → AllByRecursion (λ (k : ℕ × Mention). NamedMention k.1) ms → AllByRecursion (λ (k : ℕ × Mention). NamedMention k.1) ks → kindless_line (map (entry ms) ks) ≡ None

@@ -6,7 +6,7 @@ use Rattle.std.proofs.lemmas.Bool.{eqb-true}
 use Rattle.flow_parse.specs.declared.token.Token.{Token}
 use Rattle.flow_parse.specs.declared.token.Token.TheVariants.{Word, Arrow, Open, Close, OpenBracket, CloseBracket, Quoted}
 use Rattle.flow_parse.specs.declared.form.Mention.{Mention}
-use Rattle.flow_parse.specs.declared.form.Port.{Port}
+use Rattle.flow_parse.specs.declared.form.PortMention.{PortMention}
 use Rattle.flow_parse.specs.declared.form.Form.{Form}
 use Rattle.flow_parse.specs.declared.form.Form.TheVariants.{Header, Process, Connection, Initial, Subnet, End, InPort, OutPort}
 use Rattle.flow_parse.specs.Spelling.{is_word_byte, spelling, doubled, Ends, BeginsRow}
@@ -118,7 +118,7 @@ mention_words m all = (all.0, kind m.kind all.1) where
   kind None all = tt
   kind (Some w) all = all.1.0
 
-receiver_words : (into : Port) (to : Mention) → AllByRecursion OfLine (port into ++ mention to) → OfWord into.name × OfMention to
+receiver_words : (into : PortMention) (to : Mention) → AllByRecursion OfLine (port into ++ mention to) → OfWord into.name × OfMention to
 receiver_words into to all = (all.0, mention_words to (back_of OfLine (port into) (mention to) all))
 
 form_words : (form : Form) → AllByRecursion OfLine (row_of form) → Worded form

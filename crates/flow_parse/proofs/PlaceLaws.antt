@@ -5,7 +5,7 @@ use Rattle.std.proofs.lemmas.Bool.{lt-ltb, le-ltb, ltb-true, ltb-false, eqb-true
 use Rattle.std.proofs.lemmas.List.{length-map}
 use Rattle.std.proofs.lemmas.List.Folds.{position_or_len_push, list_any-append}
 use Rattle.std.proofs.lemmas.List.Sums.{prefix_len-le-length}
-use Rattle.flow_parse.specs.declared.part.Known.{Known}
+use Rattle.flow_parse.specs.declared.part.MentionedProcess.{MentionedProcess}
 use Rattle.flow_parse.specs.declared.value.NetPart.{NetPart}
 use Rattle.std.specs.Global.{Vec}
 use Rattle.std.specs.Ordering.{is_eq, nat_cmp, eq_by_cmp}
@@ -126,10 +126,10 @@ one_name_again {R} key rows row places place before there name = by (bytes_eq (k
   by false e = before name ∙ sym (pushed_other (λ (r : R). bytes_eq (key r) name) rows row e)
 
 -- The places of a table's names, where no name has changed.
-pub places_stay : (old new : List Known) (names : List ℕ → Option ℕ) → ((name : List ℕ) → names name ≡ position (λ (r : Known). bytes_eq r.name name) old) → map (λ r. r.name) new ≡ map (λ r. r.name) old
-    → (name : List ℕ) → names name ≡ position (λ (r : Known). bytes_eq r.name name) new
+pub places_stay : (old new : List MentionedProcess) (names : List ℕ → Option ℕ) → ((name : List ℕ) → names name ≡ position (λ (r : MentionedProcess). bytes_eq r.name name) old) → map (λ r. r.name) new ≡ map (λ r. r.name) old
+    → (name : List ℕ) → names name ≡ position (λ (r : MentionedProcess). bytes_eq r.name name) new
 places_stay old new names before same name =
-    let f : Known → List ℕ = λ r. r.name in
+    let f : MentionedProcess → List ℕ = λ r. r.name in
     let q : List ℕ → Bool = λ n. bytes_eq n name in
     before name ∙ mapped f q old ∙ ap (position q) (sym same) ∙ sym (mapped f q new)
 

@@ -14,7 +14,7 @@ use Rattle.flow_plan.specs.declared.kind.PortRef.{PortRef}
 use Rattle.flow_parse.specs.declared.token.Token.{Token}
 use Rattle.flow_parse.specs.declared.token.Token.TheVariants.{Word, Arrow, Open, Close, Quoted}
 use Rattle.flow_parse.specs.declared.form.Mention.{Mention}
-use Rattle.flow_parse.specs.declared.form.Port.{Port}
+use Rattle.flow_parse.specs.declared.form.PortMention.{PortMention}
 use Rattle.flow_parse.specs.declared.form.Form.{Form}
 use Rattle.flow_parse.specs.declared.form.Form.TheVariants as forms
 use Rattle.flow_parse.specs.declared.value.Statement.{Statement}
@@ -125,7 +125,7 @@ abbrev pub as_mention : List ℕ → Mention
 as_mention name = record { name = name; kind = None }
 
 -- A port as a canonical line names it.
-abbrev pub as_port : PortRef → Port
+abbrev pub as_port : PortRef → PortMention
 as_port p = record { name = p.name; element = option_map decimal p.element }
 
 -- The form that a statement's line says.

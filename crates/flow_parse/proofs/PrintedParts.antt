@@ -12,7 +12,7 @@ use Rattle.flow_parse.specs.declared.token.Token.TheVariants.{Word, Open as open
 use Rattle.flow_parse.specs.declared.form.Mention.{Mention}
 use Rattle.flow_parse.specs.declared.form.Form.{Form}
 use Rattle.flow_parse.specs.declared.form.Form.TheVariants as forms
-use Rattle.flow_parse.specs.declared.part.Known.{Known}
+use Rattle.flow_parse.specs.declared.part.MentionedProcess.{MentionedProcess}
 use Rattle.flow_parse.specs.declared.fault.Reason.TheVariants as reasons
 use Rattle.flow_parse.specs.declared.fault.NetFault.{NetFault}
 use Rattle.flow_parse.specs.declared.value.Statement.{Statement}
@@ -57,16 +57,16 @@ count_at (in_main done) ls = omega arith
 count_at (in_subnet done n name) ls = omega arith
 
 -- What a part's lines have given so far.
-pub record Made (ls : Lines) (table : List Known) (said : List Statement) : Type 0 where
+pub record Made (ls : Lines) (table : List MentionedProcess) (said : List Statement) : Type 0 where
   pub known : processes_in (mentions_in ls) ≡ table
   pub statements : statements_in ls ≡ said
 
-made_more : (ls : Lines) (table next : List Known) (said : List Statement) (n : ℕ) (form : Form) → Made ls table said → table_with table n (mentions_of form) ≡ Some next
+made_more : (ls : Lines) (table next : List MentionedProcess) (said : List Statement) (n : ℕ) (form : Form) → Made ls table said → table_with table n (mentions_of form) ≡ Some next
     → (kinds_agree (map (λ k. k.1) (mentions_in ls)) (mentions_of form) ≡ true) × Made (ls ++ (n, form) ∷ []) next (said ++ statements_of form)
 made_more ls table next said n form made some =
-    let all = ap (λ (t : List Known). table_with t n (mentions_of form)) (sym made.known) ∙ line_table (mentions_of form) (mentions_in ls) n in
+    let all = ap (λ (t : List MentionedProcess). table_with t n (mentions_of form)) (sym made.known) ∙ line_table (mentions_of form) (mentions_in ls) n in
     let a = agreed (kinds_agree (map (λ (k : ℕ × Mention). k.1) (mentions_in ls)) (mentions_of form)) (processes_in (mentions_in ls ++ map (λ (m : Mention). (n, m)) (mentions_of form))) next (sym all ∙ some) in
-    let back = ap (λ (t : List Known). table_with t n (mentions_of form)) made.known in
+    let back = ap (λ (t : List MentionedProcess). table_with t n (mentions_of form)) made.known in
     (a.0, record { known = ap processes_in (mentions_push ls n form) ∙ a.1; statements = statements_push ls n form ∙ ap (λ (l : List Statement). l ++ statements_of form) made.statements })
 
 all_pass : (a b c d e g : Bool) → a ≡ true → b ≡ true → c ≡ true → d ≡ true → e ≡ true → g ≡ true
@@ -94,34 +94,34 @@ one_line n parts next pieces form rest outcome s none goes there =
     subst (λ (l : List (List ℕ)). LeadsTo n (Some parts) l outcome) (sym (lines_first (joined pieces) rest s.closed)) (says form, s.is, rw none step)
 
 -- The table has these processes.
-abbrev pub IsTable : List Known → List (List ℕ × List ℕ) → Type 0
+abbrev pub IsTable : List MentionedProcess → List (List ℕ × List ℕ) → Type 0
 IsTable [] [] = Unit {0}
 IsTable [] (p ∷ ps) = ⊥
 IsTable (k ∷ ks) [] = ⊥
 IsTable (k ∷ ks) (p ∷ ps) = (k.name ≡ p.0) × (k.kind ≡ Some p.1) × IsTable ks ps
 
-table_push : (ks : List Known) (ps : List (List ℕ × List ℕ)) (n : ℕ) (p : List ℕ × List ℕ) → IsTable ks ps → IsTable (ks ++ record { line = n; name = p.0; kind = Some p.1 } ∷ []) (ps ++ p ∷ [])
+table_push : (ks : List MentionedProcess) (ps : List (List ℕ × List ℕ)) (n : ℕ) (p : List ℕ × List ℕ) → IsTable ks ps → IsTable (ks ++ record { line = n; name = p.0; kind = Some p.1 } ∷ []) (ps ++ p ∷ [])
 table_push [] [] n p is = (refl, refl, tt)
 table_push [] (q ∷ ps) n p is = absurd is
 table_push (k ∷ ks) [] n p is = absurd is
 table_push (k ∷ ks) (q ∷ ps) n p is = (is.0, is.1, table_push ks ps n p is.2)
 
-table_values : (ks : List Known) (ps : List (List ℕ × List ℕ)) → IsTable ks ps → map (λ p. (p.name, unwrap_or p.kind [])) ks ≡ ps
+table_values : (ks : List MentionedProcess) (ps : List (List ℕ × List ℕ)) → IsTable ks ps → map (λ p. (p.name, unwrap_or p.kind [])) ks ≡ ps
 table_values [] [] is = refl
 table_values [] (q ∷ ps) is = absurd is
 table_values (k ∷ ks) [] is = absurd is
 table_values (k ∷ ks) (q ∷ ps) is =
     let head : (k.name, unwrap_or k.kind []) ≡ q = ap (λ (n : List ℕ). (n, unwrap_or k.kind [])) is.0 ∙ ap (λ (o : Option (List ℕ)). (q.0, unwrap_or o [])) is.1 in
-    let tail : map (λ (p : Known). (p.name, unwrap_or p.kind [])) ks ≡ ps = table_values ks ps is.2 in
-    ap (λ (r : List ℕ × List ℕ). r ∷ map (λ (p : Known). (p.name, unwrap_or p.kind [])) ks) head ∙ ap (λ (l : List (List ℕ × List ℕ)). q ∷ l) tail
+    let tail : map (λ (p : MentionedProcess). (p.name, unwrap_or p.kind [])) ks ≡ ps = table_values ks ps is.2 in
+    ap (λ (r : List ℕ × List ℕ). r ∷ map (λ (p : MentionedProcess). (p.name, unwrap_or p.kind [])) ks) head ∙ ap (λ (l : List (List ℕ × List ℕ)). q ∷ l) tail
 
-table_kinded : (ks : List Known) (ps : List (List ℕ × List ℕ)) → IsTable ks ps → kindless_line ks ≡ None
+table_kinded : (ks : List MentionedProcess) (ps : List (List ℕ × List ℕ)) → IsTable ks ps → kindless_line ks ≡ None
 table_kinded [] ps is = refl
 table_kinded (k ∷ ks) [] is = absurd is
 table_kinded (k ∷ ks) (q ∷ ps) is = rw is.1 (table_kinded ks ps is.2)
 
 -- A mention of a process of the table, without a kind, changes nothing.
-mention_known : (ks : List Known) (ps : List (List ℕ × List ℕ)) (n : ℕ) (name : List ℕ) → IsTable ks ps → list_any (λ (p : List ℕ × List ℕ). bytes_eq p.0 name) ps ≡ true → mentioned ks n (as_mention name) ≡ Some ks
+mention_known : (ks : List MentionedProcess) (ps : List (List ℕ × List ℕ)) (n : ℕ) (name : List ℕ) → IsTable ks ps → list_any (λ (p : List ℕ × List ℕ). bytes_eq p.0 name) ps ≡ true → mentioned ks n (as_mention name) ≡ Some ks
 mention_known [] [] n name is has = absurd cc
 mention_known [] (q ∷ ps) n name is has = absurd is
 mention_known (k ∷ ks) [] n name is has = absurd is
@@ -133,20 +133,20 @@ mention_known (k ∷ ks) (q ∷ ps) n name is has =
       | false ↦ λ e h. let more = mention_known ks ps n name is.2 h in rw (e, more) refl
     ] refl there
 
-mentions_known : (names : List (List ℕ)) (ks : List Known) (ps : List (List ℕ × List ℕ)) (n : ℕ) → IsTable ks ps → AllByRecursion (λ name. list_any (λ (p : List ℕ × List ℕ). bytes_eq p.0 name) ps ≡ true) names → table_with ks n (map as_mention names) ≡ Some ks
+mentions_known : (names : List (List ℕ)) (ks : List MentionedProcess) (ps : List (List ℕ × List ℕ)) (n : ℕ) → IsTable ks ps → AllByRecursion (λ name. list_any (λ (p : List ℕ × List ℕ). bytes_eq p.0 name) ps ≡ true) names → table_with ks n (map as_mention names) ≡ Some ks
 mentions_known [] ks ps n is all = refl
 mentions_known (name ∷ names) ks ps n is all =
-    ap (option_and_then (λ (next : List Known). table_with next n (map as_mention names))) (mention_known ks ps n name is all.0) ∙ mentions_known names ks ps n is all.1
+    ap (option_and_then (λ (next : List MentionedProcess). table_with next n (map as_mention names))) (mention_known ks ps n name is all.0) ∙ mentions_known names ks ps n is all.1
 
 -- No process of the table has one of these names.
-abbrev pub Fresh : List Known → List (List ℕ × List ℕ) → Type 0
-Fresh ks ps = AllByRecursion (λ (p : List ℕ × List ℕ). AllByRecursion (λ (k : Known). bytes_eq k.name p.0 ≡ false) ks) ps
+abbrev pub Fresh : List MentionedProcess → List (List ℕ × List ℕ) → Type 0
+Fresh ks ps = AllByRecursion (λ (p : List ℕ × List ℕ). AllByRecursion (λ (k : MentionedProcess). bytes_eq k.name p.0 ≡ false) ks) ps
 
-all_push : (name : List ℕ) (ks : List Known) (k : Known) → AllByRecursion (λ (j : Known). bytes_eq j.name name ≡ false) ks → bytes_eq k.name name ≡ false → AllByRecursion (λ (j : Known). bytes_eq j.name name ≡ false) (ks ++ k ∷ [])
+all_push : (name : List ℕ) (ks : List MentionedProcess) (k : MentionedProcess) → AllByRecursion (λ (j : MentionedProcess). bytes_eq j.name name ≡ false) ks → bytes_eq k.name name ≡ false → AllByRecursion (λ (j : MentionedProcess). bytes_eq j.name name ≡ false) (ks ++ k ∷ [])
 all_push name [] k all one = (one, tt)
 all_push name (j ∷ ks) k all one = (all.0, all_push name ks k all.1 one)
 
-fresh_push : (ks : List Known) (k : Known) (ps : List (List ℕ × List ℕ)) → Fresh ks ps → AllByRecursion (λ other. bytes_eq k.name other ≡ false) (map (λ p. p.0) ps) → Fresh (ks ++ k ∷ []) ps
+fresh_push : (ks : List MentionedProcess) (k : MentionedProcess) (ps : List (List ℕ × List ℕ)) → Fresh ks ps → AllByRecursion (λ other. bytes_eq k.name other ≡ false) (map (λ p. p.0) ps) → Fresh (ks ++ k ∷ []) ps
 fresh_push ks k [] fresh apart = tt
 fresh_push ks k (p ∷ ps) fresh apart = (all_push p.0 ks k fresh.0 apart.0, fresh_push ks k ps fresh.1 apart.1)
 
@@ -155,15 +155,15 @@ put_process (in_main done) ls n p = refl
 put_process (in_subnet done m name) ls n p = refl
 
 -- The lines of processes, read one after another.
-pub processes_read : (ps : List (List ℕ × List ℕ)) (w : Where) (n : ℕ) (ls : Lines) (table : List Known) (done all : List (List ℕ × List ℕ)) (rest : List ℕ) (outcome : Result NetText NetFault)
+pub processes_read : (ps : List (List ℕ × List ℕ)) (w : Where) (n : ℕ) (ls : Lines) (table : List MentionedProcess) (done all : List (List ℕ × List ℕ)) (rest : List ℕ) (outcome : Result NetText NetFault)
     → Made ls table [] → IsTable table done → done ++ ps ≡ all → Fresh table ps → Differ (map (λ p. p.0) ps) → AllByRecursion (λ (p : List ℕ × List ℕ). IsName p.0 × IsName p.1) ps → elsewhere w ≤ STATEMENT_LIMIT
-    → ((m : ℕ) (later : Lines) (made : List Known) → Made later made [] → IsTable made all → LeadsTo m (Some (at w later)) (lines rest) outcome)
+    → ((m : ℕ) (later : Lines) (made : List MentionedProcess) → Made later made [] → IsTable made all → LeadsTo m (Some (at w later)) (lines rest) outcome)
     → LeadsTo n (Some (at w ls)) (lines (flat_map process_line ps ++ rest)) outcome
 processes_read [] w n ls table done all rest outcome made is whole fresh differ named count go = go n ls table made (subst (λ (l : List (List ℕ × List ℕ)). IsTable table l) (sym (append-nil done) ∙ whole) is)
 processes_read (p ∷ ps) w n ls table done all rest outcome made is whole fresh differ named count go =
-    let k : Known = record { line = n; name = p.0; kind = Some p.1 } in
+    let k : MentionedProcess = record { line = n; name = p.0; kind = Some p.1 } in
     let form : Form = forms.Process p.0 p.1 in
-    let new : table_with table n (mentions_of form) ≡ Some (table ++ k ∷ []) = ap (option_and_then (λ (next : List Known). table_with next n [])) (mentioned_new table n (record { name = p.0; kind = Some p.1 }) fresh.0) in
+    let new : table_with table n (mentions_of form) ≡ Some (table ++ k ∷ []) = ap (option_and_then (λ (next : List MentionedProcess). table_with next n [])) (mentioned_new table n (record { name = p.0; kind = Some p.1 }) fresh.0) in
     let more = made_more ls table (table ++ k ∷ []) [] n form made new in
     let none : reason_at (at w ls) form ≡ None = no_reason w ls form (stands w ls p) (both_true _ _ named.0.0.0 named.0.1.0) refl more.0 (new_subnet w ls p) refl (let s : length (statements_in ls) ≡ 0 = ap length made.statements in omega (arith, s, count)) in
     let fault : fault_at n (at w ls) form ≡ None = rw none refl in
@@ -214,7 +214,7 @@ statement_fault n parts (InPort outer to into) none = rw none refl
 statement_fault n parts (OutPort from out outer) none = rw none refl
 
 -- The lines of statements, read one after another.
-pub statements_read : (ss : List Statement) (w : Where) (n : ℕ) (ls : Lines) (table : List Known) (processes : List (List ℕ × List ℕ)) (done all : List Statement) (rest : List ℕ) (outcome : Result NetText NetFault)
+pub statements_read : (ss : List Statement) (w : Where) (n : ℕ) (ls : Lines) (table : List MentionedProcess) (processes : List (List ℕ × List ℕ)) (done all : List Statement) (rest : List ℕ) (outcome : Result NetText NetFault)
     → Made ls table done → IsTable table processes → done ++ ss ≡ all → AllByRecursion IsStatement ss → AllByRecursion (NamesKnown processes) ss → AllByRecursion (MayStand w) ss → length all + elsewhere w ≤ STATEMENT_LIMIT
     → ((m : ℕ) (later : Lines) → Made later table all → LeadsTo m (Some (at w later)) (lines rest) outcome)
     → LeadsTo n (Some (at w ls)) (lines (flat_map statement_line ss ++ rest)) outcome
@@ -243,9 +243,9 @@ pub record Gives (ls : Lines) (part : NetPart) : Type 0 where
   pub value : value_of ls ≡ part
   pub kinded : kindless_line (processes_in (mentions_in ls)) ≡ None
 
-gives : (ls : Lines) (table : List Known) (part : NetPart) → Made ls table part.statements → IsTable table part.processes → Gives ls part
+gives : (ls : Lines) (table : List MentionedProcess) (part : NetPart) → Made ls table part.statements → IsTable table part.processes → Gives ls part
 gives ls table part made is =
-    let left : (value_of ls).processes ≡ part.processes = ap (λ (l : List Known). map (λ (p : Known). (p.name, unwrap_or p.kind [])) l) made.known ∙ table_values table part.processes is in
+    let left : (value_of ls).processes ≡ part.processes = ap (λ (l : List MentionedProcess). map (λ (p : MentionedProcess). (p.name, unwrap_or p.kind [])) l) made.known ∙ table_values table part.processes is in
     let build : List (List ℕ × List ℕ) → List Statement → NetPart = λ p s. record { processes = p; statements = s } in
     record { value = ap (λ (p : List (List ℕ × List ℕ)). build p (statements_in ls)) left ∙ ap (build part.processes) made.statements; kinded = ap kindless_line made.known ∙ table_kinded table part.processes is }
 

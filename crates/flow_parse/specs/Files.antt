@@ -6,10 +6,10 @@ use Rattle.std.specs.Str.Lines.{lines}
 use Rattle.std.specs.List.{flat_map, list_any, sum_by}
 use Rattle.flow_parse.specs.declared.token.Token.{Token}
 use Rattle.flow_parse.specs.declared.form.Mention.{Mention}
-use Rattle.flow_parse.specs.declared.form.Port.{Port}
+use Rattle.flow_parse.specs.declared.form.PortMention.{PortMention}
 use Rattle.flow_parse.specs.declared.form.Form.{Form}
 use Rattle.flow_parse.specs.declared.form.Form.TheVariants.{Header, Process, Connection, Initial, Subnet, End, InPort, OutPort}
-use Rattle.flow_parse.specs.declared.part.Known.{Known}
+use Rattle.flow_parse.specs.declared.part.MentionedProcess.{MentionedProcess}
 use Rattle.flow_parse.specs.declared.stop.LineStop.{LineStop}
 use Rattle.flow_parse.specs.declared.stop.LineStop.TheVariants as stops
 use Rattle.flow_parse.specs.declared.fault.Reason.{Reason}
@@ -125,11 +125,11 @@ first_mentions [] = []
 first_mentions (m ∷ ms) = m ∷ filter (λ k. not (bytes_eq m.1.name k.1.name)) (first_mentions ms)
 
 -- A process of a part: where it is first mentioned, and the kind that some mention gives.
-abbrev pub processes_in : List (ℕ × Mention) → List Known
+abbrev pub processes_in : List (ℕ × Mention) → List MentionedProcess
 processes_in ms = map (λ m. record { line = m.0; name = m.1.name; kind = kind_in m.1.name (map (λ k. k.1) ms) }) (first_mentions ms)
 
 -- The line that first mentions a process without a kind.
-abbrev pub kindless_line : List Known → Option ℕ
+abbrev pub kindless_line : List MentionedProcess → Option ℕ
 kindless_line [] = None
 kindless_line (p ∷ ps) = if is_none p.kind then Some p.line else kindless_line ps
 
@@ -144,7 +144,7 @@ kinds_agree before [] = true
 kinds_agree before (m ∷ ms) = may_be (kind_in m.name before) m.kind && kinds_agree (before ++ m ∷ []) ms
 
 -- A port of the value: its name and the number of its element.
-abbrev pub port_ref : Port → PortRef
+abbrev pub port_ref : PortMention → PortRef
 port_ref p = record { name = p.name; element = option_and_then element_of p.element }
 
 -- The statement that a line adds to its part, where it is one.

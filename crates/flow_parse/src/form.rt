@@ -10,7 +10,7 @@ pub struct Mention {
 
 /// A port where a line names it, maybe with an element.
 #[derive(Drop)]
-pub struct Port {
+pub struct PortMention {
     pub name: Text,
     pub element: Option<Text>,
 }
@@ -25,14 +25,14 @@ pub enum Form {
     },
     Connection {
         from: Mention,
-        out: Port,
+        out: PortMention,
         capacity: Option<Text>,
-        into: Port,
+        into: PortMention,
         to: Mention,
     },
     Initial {
         text: Text,
-        into: Port,
+        into: PortMention,
         to: Mention,
     },
     Subnet {
@@ -41,12 +41,12 @@ pub enum Form {
     End,
     InPort {
         outer: Text,
-        into: Port,
+        into: PortMention,
         to: Mention,
     },
     OutPort {
         from: Mention,
-        out: Port,
+        out: PortMention,
         outer: Text,
     },
 }

@@ -3,7 +3,7 @@ ghost use Rattle.std.specs.Prelude.{◌≡◌};
 ghost use Rattle.flow_parse.specs.Forms.{is_reserved};
 ghost use Rattle.flow_parse.specs.Names.{is_name, begins_with_letter, number_in, capacity_of, element_of, mention_is_named, port_is_named, is_named, port_is_numbered, is_numbered};
 
-use crate::form::{Form, Mention, Port};
+use crate::form::{Form, Mention, PortMention};
 use crate::same::is;
 use flow_items::Text;
 use flow_limits::CAPACITY_LIMIT;
@@ -100,7 +100,7 @@ pub fn element(word: &Text) -> Option<u32>
     number(word.as_slice(), 0, 511)
 }
 
-fn port_numbered(port: &Port) -> bool
+fn port_numbered(port: &PortMention) -> bool
     ensures { result ≡ port_is_numbered port.now }
 {
     match &port.element {

@@ -3,7 +3,7 @@ use flow_items::Text;
 
 /// A process as far as it is known.
 #[derive(Drop)]
-pub struct Known {
+pub struct MentionedProcess {
     pub line: u64,
     pub name: Text,
     pub kind: Option<Text>,

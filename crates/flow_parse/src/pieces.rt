@@ -4,7 +4,7 @@ ghost use Rattle.flow_parse.specs.Files.{port_ref, mentions_of, statements_of, k
 ghost use Rattle.flow_parse.specs.Names.{capacity_of};
 ghost use Rattle.flow_parse.specs.Table.{Adds, table_with, mentioned};
 
-use crate::form::{Form, Mention, Port};
+use crate::form::{Form, Mention, PortMention};
 use crate::name::{capacity, element};
 use crate::table::Processes;
 use crate::value::Statement;
@@ -29,10 +29,10 @@ fn copy_mention(alloc: Global, mention: &Mention) -> Result<Mention, AllocError>
     Ok(Mention { name, kind })
 }
 
-fn refer(port: Port) -> PortRef
+fn refer(port: PortMention) -> PortRef
     ensures { result ≡ port_ref port }
 {
-    let Port {
+    let PortMention {
         name,
         element: word,
     } = port;

@@ -7,7 +7,7 @@ use crate::fault::{NetFault, ParseStop, Reason};
 use crate::form::Form;
 use crate::line::read_line;
 use crate::name::{named, numbered};
-use crate::part::Known;
+use crate::part::MentionedProcess;
 use crate::pieces::{add_mentions, add_statement};
 use crate::stop::LineStop;
 use crate::subnets::Subnets;
@@ -108,7 +108,7 @@ impl Part {
         }
         let mut processes = Items::new(alloc);
         'processes: for process in known.into_rows() {
-            let Known {
+            let MentionedProcess {
                 line: _,
                 name,
                 kind,

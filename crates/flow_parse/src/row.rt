@@ -4,7 +4,7 @@ ghost use Rattle.flow_parse.specs.declared.form.Form.{Form};
 ghost use Rattle.flow_parse.specs.Forms.{IsForm};
 ghost use Rattle.flow_parse.specs.Reading.{Gives, word_at, arrow_at, close_at, close_bracket_at, begins_open, begins_open_bracket, parenthesized_at, bracketed_at, mention_at, port_at, tail, receiver_at, header_at, subnet_at, initial_at, in_port_at, out_port_at, connection_at, named_at, form_after, form_at, form_of};
 
-use crate::form::{Form, Mention, Port};
+use crate::form::{Form, Mention, PortMention};
 use crate::same::is;
 use crate::token::Token;
 use flow_items::Text;
@@ -133,16 +133,16 @@ impl Row {
     }
 
     #[tactic(auto, unfolding(crate::specs::Reading::port_at))]
-    fn port(&mut self) -> Option<Port>
+    fn port(&mut self) -> Option<PortMention>
         ensures { Gives result self.new (port_at self.old) }
     {
         let name = self.word()?;
         let element = self.bracketed()?;
-        Some(Port { name, element })
+        Some(PortMention { name, element })
     }
 
     #[tactic(auto, unfolding(crate::specs::Reading::receiver_at))]
-    fn receiver(&mut self) -> Option<(Port, Mention)>
+    fn receiver(&mut self) -> Option<(PortMention, Mention)>
         ensures { Gives result self.new (receiver_at self.old) }
     {
         let into = self.port()?;

@@ -7,7 +7,7 @@ ghost use Rattle.flow_parse.specs.Files.{kindless_line};
 
 use crate::form::Mention;
 use crate::names::Names;
-use crate::part::Known;
+use crate::part::MentionedProcess;
 use crate::same::is;
 use flow_items::Text;
 use std::alloc::{AllocError, Global};
@@ -16,7 +16,7 @@ use std::marker::Model;
 /// A part's processes in the order of their first mention, and the place of each under its name.
 #[derive(Drop)]
 pub struct Processes {
-    rows: Vec<Known>,
+    rows: Vec<MentionedProcess>,
     names: Names,
 }
 
@@ -24,10 +24,10 @@ impl Model for Processes {
     ghost use Rattle.std.specs.Prelude.{◌≡◌, ℕ, List};
     ghost use Rattle.std.specs.Str.{bytes_eq};
     ghost use Rattle.std.specs.List.{position};
-    ghost use Rattle.flow_parse.specs.declared.part.Known.{Known};
+    ghost use Rattle.flow_parse.specs.declared.part.MentionedProcess.{MentionedProcess};
     ghost use Rattle.flow_parse.specs.Places.{place_in};
 
-    ghost Value = { List Known };
+    ghost Value = { List MentionedProcess };
 
     ghost view = { λ p. p.rows.items };
 
@@ -45,21 +45,21 @@ impl Processes {
         }
     }
 
-    pub fn as_slice(&self) -> &[Known]
+    pub fn as_slice(&self) -> &[MentionedProcess]
         ensures { result.now ≡ self.now }
     {
         self.rows.as_slice()
     }
 
     /// The processes as a `Vec`, which stay where they are.
-    pub fn into_rows(self) -> Vec<Known>
+    pub fn into_rows(self) -> Vec<MentionedProcess>
         ensures { result.items ≡ self }
     {
         let Processes { rows, names: _ } = self;
         rows
     }
 
-    fn push(&mut self, alloc: Global, process: Known) -> Result<(), AllocError>
+    fn push(&mut self, alloc: Global, process: MentionedProcess) -> Result<(), AllocError>
         requires { position (λ p. bytes_eq p.name process.name) self.old ≡ None }
         ensures { OnOk result (self.new ≡ self.old ++ process ∷ []) }
     {
@@ -94,7 +94,7 @@ impl Processes {
     {
         let Mention { name, kind } = mention;
         let Some(place) = self.place(name.as_slice()) else {
-            self.push(alloc, Known { line, name, kind })?;
+            self.push(alloc, MentionedProcess { line, name, kind })?;
             return Ok(true);
         };
         let Some(kind) = kind else {
@@ -105,7 +105,7 @@ impl Processes {
 }
 
 /// Gives the process at a place a kind, unless it has another: then the answer is false.
-fn give_kind(known: &mut Vec<Known>, place: usize, kind: Text) -> bool
+fn give_kind(known: &mut Vec<MentionedProcess>, place: usize, kind: Text) -> bool
     requires { place < length known.old.items }
     ensures given { Adds (kind_given known.old.items place kind) known.new.items result }
     ensures names { map (λ p. p.name) known.new.items ≡ map (λ p. p.name) known.old.items }
@@ -119,7 +119,7 @@ fn give_kind(known: &mut Vec<Known>, place: usize, kind: Text) -> bool
 }
 
 /// The line that first mentions a process without a kind.
-pub fn kindless(known: &[Known]) -> Option<u64>
+pub fn kindless(known: &[MentionedProcess]) -> Option<u64>
     ensures { result ≡ kindless_line known.now }
 {
     'processes: for process in known {

@@ -1,5 +1,5 @@
 use Rattle.std.proofs.Common.{◌≡◌, Ok, ◌∙◌, ap, sym, subst, List, length, slice_get, map}
-use Rattle.flow_net.specs.declared.draft.Port.{Port}
+use Rattle.flow_net.specs.declared.draft.DraftPort.{DraftPort}
 use Rattle.flow_net.specs.declared.draft.Link.{Link}
 use Rattle.flow_net.specs.Drafts.{Draft}
 use Rattle.flow_net.specs.Over.{IsOver}
@@ -18,20 +18,20 @@ check_sum-requires-clause-small c =
 pub processes-requires-clause-there : goal.processes-requires-clause-there
 processes-requires-clause-there c =
     λ p k end text at.
-    subst (λ (ports : List Port). IsPlaced ports end) (sym c.as_slice-ports.ensures.value)
+    subst (λ (ports : List DraftPort). IsPlaced ports end) (sym c.as_slice-ports.ensures.value)
     (text-placed (record { kinds = c.self.inside.kinds.items; processes = c.self.inside.processes.items; ports = c.self.inside.ports.items; links = c.self.inside.links.items }) c.self.invariant p k end text at)
 
 pub connections-requires-clause-into : goal.connections-requires-clause-into
 connections-requires-clause-into c =
     λ number end at.
-    subst (λ (ports : List Port). IsPlaced ports end) (sym c.as_slice-ports.ensures.value)
+    subst (λ (ports : List DraftPort). IsPlaced ports end) (sym c.as_slice-ports.ensures.value)
     (into-placed (record { kinds = c.self.inside.kinds.items; processes = c.self.inside.processes.items; ports = c.self.inside.ports.items; links = c.self.inside.links.items }) c.self.invariant number end
     (ap (λ (xs : List Link). into_of xs number) (sym c.as_slice-links.ensures.value) ∙ at))
 
 pub connections-requires-clause-senders : goal.connections-requires-clause-senders
 connections-requires-clause-senders c =
     λ number k end at.
-    subst (λ (ports : List Port). IsPlaced ports end) (sym c.as_slice-ports.ensures.value)
+    subst (λ (ports : List DraftPort). IsPlaced ports end) (sym c.as_slice-ports.ensures.value)
     (sender-placed (record { kinds = c.self.inside.kinds.items; processes = c.self.inside.processes.items; ports = c.self.inside.ports.items; links = c.self.inside.links.items }) c.self.invariant number k end
     (ap (λ (xs : List Link). sender_at xs number k) (sym c.as_slice-links.ensures.value) ∙ at))
 

@@ -1,6 +1,6 @@
 use Rattle.std.proofs.Common.{◌≡◌, ◌<◌, Ok, Err, subst, sym, ℕ, List, length, slice_get}
-use Rattle.flow_net.specs.declared.draft.Port.{Port}
-use Rattle.flow_net.specs.declared.draft.Begun.{Begun}
+use Rattle.flow_net.specs.declared.draft.DraftPort.{DraftPort}
+use Rattle.flow_net.specs.declared.draft.DraftProcess.{DraftProcess}
 use Rattle.flow_net.specs.Drafts.{Answers, Draft}
 use Rattle.flow_net.specs.Calls.{input_for, process_at}
 use Rattle.flow_net.specs.Options.{FitsPort}
@@ -11,8 +11,8 @@ use Rattle.flow_net.proofs.builder.PlanBuilder.initial.Goals as goal
 pub returns-in-Err : goal.returns-in-Err
 returns-in-Err c =
     let refused : Answers (input_for c.self.inside.processes.items c.self.inside.ports.items c.args.to.now c.args.into.now) (Err c.in-Err.stop) =
-    subst (λ (ports : List Port). Answers (input_for c.self.inside.processes.items ports c.args.to.now c.args.into.now) (Err c.in-Err.stop)) c.as_slice-ports.ensures.value
-    (subst (λ (processes : List Begun). Answers (input_for processes c.as_slice-ports.result.now c.args.to.now c.args.into.now) (Err c.in-Err.stop)) c.as_slice.ensures.value c.in-Err.ensures) in
+    subst (λ (ports : List DraftPort). Answers (input_for c.self.inside.processes.items ports c.args.to.now c.args.into.now) (Err c.in-Err.stop)) c.as_slice-ports.ensures.value
+    (subst (λ (processes : List DraftProcess). Answers (input_for processes c.as_slice-ports.result.now c.args.to.now c.args.into.now) (Err c.in-Err.stop)) c.as_slice.ensures.value c.in-Err.ensures) in
     subst (λ (d : Draft). AfterInitial d c.args.text.now c.args.to.now c.args.into.now (Err c.in-Err.stop) d) c.self.view_is
     (Refuses-before (record { kinds = c.self.inside.kinds.items; processes = c.self.inside.processes.items; ports = c.self.inside.ports.items; links = c.self.inside.links.items }) c.args.text.now c.args.to.now c.args.into.now c.in-Err.stop refused)
 

@@ -1,5 +1,5 @@
 use Rattle.std.proofs.Common.{subst, Option, List}
-use Rattle.flow_parse.specs.declared.part.Known.{Known}
+use Rattle.flow_parse.specs.declared.part.MentionedProcess.{MentionedProcess}
 use Rattle.flow_parse.specs.Table.{Adds}
 use Rattle.flow_parse.proofs.TableLaws.{new_mention, unkinded_mention, kinded_mention}
 use Rattle.flow_parse.proofs.table.Processes.mention.Goals as goal
@@ -11,4 +11,4 @@ pub returns-in_default-kind : goal.returns-in_default-kind
 returns-in_default-kind c = unkinded_mention c.args.self.now c.args.line c.args.mention c.in-Some.place (rw c.as_slice.ensures at c.in-Some.ensures) c.in_default-kind.is
 
 pub returns : goal.returns
-returns c = subst (λ (t : Option (List Known)). Adds t c.give_kind.new.self c.give_kind.result) (kinded_mention c.args.self.now c.args.line c.args.mention c.in-Some.place c.in-Some-kind.kind (rw c.as_slice.ensures at c.in-Some.ensures) c.in-Some-kind.is) c.give_kind.ensures
+returns c = subst (λ (t : Option (List MentionedProcess)). Adds t c.give_kind.new.self c.give_kind.result) (kinded_mention c.args.self.now c.args.line c.args.mention c.in-Some.place c.in-Some-kind.kind (rw c.as_slice.ensures at c.in-Some.ensures) c.in-Some-kind.is) c.give_kind.ensures
