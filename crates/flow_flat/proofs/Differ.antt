@@ -1,4 +1,5 @@
 -- The processes of the flat text of a file's value may follow one another: their flat names differ, since no name has a dot.
+use Rattle.flow_limits.specs.declared.TheConstants.{PROCESS_LIMIT}
 use Rattle.std.proofs.Common.{◌≡◌, ◌≢◌, ℕ, ◌+◌, zero, suc, Bool, true, false, cond, List, [], ◌∷◌, ◌++◌, map, length, take, Option, Some, None, Ok, Err, refl, ap, sym, subst, ◌∙◌, slice_get, get_or, arith, append_assoc, length-append}
 use Rattle.std.specs.Prelude.{is_some, not, nat_le, count_by, if◌then◌else◌}
 use Rattle.std.specs.List.{AllByRecursion, filter_map, cons_option, flat_map, find}
@@ -211,10 +212,10 @@ called_none xs name all = by (process_called xs name) refl where
       let found = position-Some (λ (x : List ℕ × List ℕ). bytes_eq x.0 name) xs i d is in
       absurd (false≢true (sym (all_at (λ (x : List ℕ × List ℕ). bytes_eq x.0 name ≡ false) xs i (get_or xs i d) all (slice_get-get_or xs i d found.0)) ∙ found.1))
 
-process_ok : (kinds : List KindSpec) (before : List (List ℕ × List ℕ)) (x : List ℕ × List ℕ) → is_some (process_called before x.0) ≡ false → is_some (kind_named kinds x.1) ≡ true → nat_le 128 (length before) ≡ false → process_test kinds before x ≡ Ok tt
+process_ok : (kinds : List KindSpec) (before : List (List ℕ × List ℕ)) (x : List ℕ × List ℕ) → is_some (process_called before x.0) ≡ false → is_some (kind_named kinds x.1) ≡ true → nat_le PROCESS_LIMIT (length before) ≡ false → process_test kinds before x ≡ Ok tt
 process_ok kinds before x new known few =
-    ap (λ (b : Bool). refused_if b (SameName x.0) >>= λ n. refused_if (not (is_some (kind_named kinds x.1))) (UnknownKind x.0 x.1) >>= λ k. refused_if (nat_le 128 (length before)) (TooMany many.Processes)) new
-    ∙ ap (λ (b : Bool). refused_if (not b) (UnknownKind x.0 x.1) >>= λ k. refused_if (nat_le 128 (length before)) (TooMany many.Processes)) known
+    ap (λ (b : Bool). refused_if b (SameName x.0) >>= λ n. refused_if (not (is_some (kind_named kinds x.1))) (UnknownKind x.0 x.1) >>= λ k. refused_if (nat_le PROCESS_LIMIT (length before)) (TooMany many.Processes)) new
+    ∙ ap (λ (b : Bool). refused_if (not b) (UnknownKind x.0 x.1) >>= λ k. refused_if (nat_le PROCESS_LIMIT (length before)) (TooMany many.Processes)) known
     ∙ ap (λ (b : Bool). refused_if b (TooMany many.Processes)) few
 
 same_names : (a b : List ℕ) → a ≢ b → bytes_eq a b ≡ false
@@ -227,16 +228,16 @@ module _ (text : NetText) (kinds : List KindSpec) where
   abbrev plain : Instance → Bool
   plain y = not (is_subnet text y)
 
-  instance_ok : (before : List Instance) (x : Instance) → instance_test text kinds before x ≡ Ok tt → is_subnet text x ≡ false → (is_some (kind_named kinds x.kind) ≡ true) × (nat_le 128 (count_by plain before) ≡ false)
+  instance_ok : (before : List Instance) (x : Instance) → instance_test text kinds before x ≡ Ok tt → is_subnet text x ≡ false → (is_some (kind_named kinds x.kind) ≡ true) × (nat_le PROCESS_LIMIT (count_by plain before) ≡ false)
   instance_ok before x = by (nat_le 9 (length x.inside)) (subnet_called text x.kind) where
     few : (b c : Bool) → (if b then fails_if c (faults.Plan (TooMany many.Processes)) else Err (faults.Plan (UnknownKind x.name x.kind))) ≡ Ok tt → (b ≡ true) × (c ≡ false)
     few true false is = (refl, refl)
     few true true is = absurd (cc)
     few false c is = absurd (cc)
 
-    by : (b : Bool) (o : Option NetPart) → (if b then Err (faults.Depth x.name) else elim o [ None ↦ plain_test text kinds before x | Some part ↦ subnet_test text before x part ]) ≡ Ok tt → is_some o ≡ false → (is_some (kind_named kinds x.kind) ≡ true) × (nat_le 128 (count_by plain before) ≡ false)
+    by : (b : Bool) (o : Option NetPart) → (if b then Err (faults.Depth x.name) else elim o [ None ↦ plain_test text kinds before x | Some part ↦ subnet_test text before x part ]) ≡ Ok tt → is_some o ≡ false → (is_some (kind_named kinds x.kind) ≡ true) × (nat_le PROCESS_LIMIT (count_by plain before) ≡ false)
     by true o is none = absurd (cc)
-    by false None is none = few (is_some (kind_named kinds x.kind)) (nat_le 128 (count_by plain before)) is
+    by false None is none = few (is_some (kind_named kinds x.kind)) (nat_le PROCESS_LIMIT (count_by plain before)) is
     by false (Some part) is none = absurd (cc)
 
   plain_count : (xs : List Instance) → length (filter_map (plain_process text) xs) ≡ count_by plain xs
@@ -272,7 +273,7 @@ module _ (text : NetText) (kinds : List KindSpec) where
         (subst (λ (l : List (List ℕ × List ℕ)). process_test kinds l (r.one.name, r.one.kind) ≡ Ok tt) (sym r.before)
         (process_ok kinds (filter_map (plain_process text) (take r.place (all_instances text))) (r.one.name, r.one.kind)
         (called_none (filter_map (plain_process text) (take r.place (all_instances text))) r.one.name (names_differ (take r.place (all_instances text)) r.one.name apart)) ok.0
-        (ap (nat_le 128) (plain_count (take r.place (all_instances text))) ∙ ok.1)))
+        (ap (nat_le PROCESS_LIMIT) (plain_count (take r.place (all_instances text))) ∙ ok.1)))
 
 -- Where each process that a file's value stands for can be written out, the processes of its flat text may follow one another.
 pub flat_passes : (kinds : List KindSpec) (text : NetText) → IsNetText text → AllPass (InstancePasses text kinds) (all_instances text) → AllPass (ProcessPasses kinds) (flat_of text).processes

@@ -1,4 +1,5 @@
 -- Processes one after the other: a draft refuses the first that the text refuses, for the same, and agrees with the text after all of them.
+use Rattle.flow_limits.specs.declared.TheConstants.{PROCESS_LIMIT}
 use Rattle.std.proofs.Common.{◌≡◌, ℕ, ◌+◌, Bool, true, false, List, [], ◌∷◌, ◌++◌, map, length, take, zero, suc, Option, Some, None, Ok, Err, refl, ap, sym, subst, ◌∙◌, ◌⊎◌, inl, inr, slice_get, append_assoc, arith}
 use Rattle.std.specs.Prelude.{nat_le, not, if◌then◌else◌, is_some}
 use Rattle.std.specs.List.{find}
@@ -65,11 +66,11 @@ module _ (kinds : List KindSpec) where
     abbrev tested : (a : Bool) (o : Option KindSpec) (b : Bool) → Result (Unit {0}) PlanFault
     tested a o b = refused_if a (SameName x.0) >>= λ new. refused_if (not (is_some o)) (UnknownKind x.0 x.1) >>= λ known. refused_if b (TooMany many.Processes)
 
-    test_is : tested (is_some (process_named draft.processes x.0)) (kind_named draft.kinds x.1) (nat_le 128 (length draft.processes)) ≡ process_test kinds before x
+    test_is : tested (is_some (process_named draft.processes x.0)) (kind_named draft.kinds x.1) (nat_le PROCESS_LIMIT (length draft.processes)) ≡ process_test kinds before x
     test_is =
-        ap (λ (o : Option ℕ). tested (is_some o) (kind_named draft.kinds x.1) (nat_le 128 (length draft.processes))) (process_is draft.processes x.0 ∙ ap (λ (l : List (List ℕ × List ℕ)). process_called l x.0) names.names)
-        ∙ ap (λ (l : List KindSpec). tested (is_some (process_called before x.0)) (kind_named l x.1) (nat_le 128 (length draft.processes))) names.kinds
-        ∙ ap (λ (n : ℕ). tested (is_some (process_called before x.0)) (kind_named kinds x.1) (nat_le 128 n)) count
+        ap (λ (o : Option ℕ). tested (is_some o) (kind_named draft.kinds x.1) (nat_le PROCESS_LIMIT (length draft.processes))) (process_is draft.processes x.0 ∙ ap (λ (l : List (List ℕ × List ℕ)). process_called l x.0) names.names)
+        ∙ ap (λ (l : List KindSpec). tested (is_some (process_called before x.0)) (kind_named l x.1) (nat_le PROCESS_LIMIT (length draft.processes))) names.kinds
+        ∙ ap (λ (n : ℕ). tested (is_some (process_called before x.0)) (kind_named kinds x.1) (nat_le PROCESS_LIMIT n)) count
 
     chosen_ok : (a : Bool) (o : Option KindSpec) (b : Bool) (spec : KindSpec) → chosen a o b ≡ Ok spec → (tested a o b ≡ Ok tt) × (o ≡ Some spec)
     chosen_ok true o b spec is = absurd (cc)
@@ -128,11 +129,11 @@ module _ (kinds : List KindSpec) where
     name_steps next is =
         let spec = bind_ok (kind_for draft.kinds draft.processes x.0 x.1) (λ spec. Ok (with_process draft x.0 spec)) next is in
         let made : with_process draft x.0 spec.0 ≡ next = cc (spec.2) in
-        let ok = chosen_ok (is_some (process_named draft.processes x.0)) (kind_named draft.kinds x.1) (nat_le 128 (length draft.processes)) spec.0 spec.1 in
+        let ok = chosen_ok (is_some (process_named draft.processes x.0)) (kind_named draft.kinds x.1) (nat_le PROCESS_LIMIT (length draft.processes)) spec.0 spec.1 in
         (sym test_is ∙ ok.0, subst (Names kinds (before ++ x ∷ [])) made (names_begun spec.0 spec.1 ok.1))
 
     pub name_stops : (fault : PlanFault) → after_process draft x.0 x.1 ≡ Err fault → process_test kinds before x ≡ Err fault
-    name_stops fault is = sym test_is ∙ chosen_err (is_some (process_named draft.processes x.0)) (kind_named draft.kinds x.1) (nat_le 128 (length draft.processes)) fault (by (kind_for draft.kinds draft.processes x.0 x.1) is)
+    name_stops fault is = sym test_is ∙ chosen_err (is_some (process_named draft.processes x.0)) (kind_named draft.kinds x.1) (nat_le PROCESS_LIMIT (length draft.processes)) fault (by (kind_for draft.kinds draft.processes x.0 x.1) is)
       where
         by : (r : Result KindSpec PlanFault) → (r >>= λ spec. Ok (with_process draft x.0 spec)) ≡ Err fault → r ≡ Err fault
         by (Ok spec) is = absurd (cc)

@@ -10,6 +10,9 @@ pub const CONNECTION_LIMIT: usize = 512;
 /// The most elements of an array port.
 pub const ELEMENT_LIMIT: usize = 512;
 
+/// The greatest number of an element: elements are counted from 0.
+pub const LAST_ELEMENT: u32 = 511;
+
 /// The most ports of a kind on one side.
 pub const PORT_LIMIT: usize = 4096;
 

@@ -1,5 +1,5 @@
 -- What is known of an element that was found by its name, and of two that may be joined.
-use Rattle.flow_limits.specs.declared.TheConstants.{CAPACITY_LIMIT, ELEMENT_LIMIT}
+use Rattle.flow_limits.specs.declared.TheConstants.{CAPACITY_LIMIT, ELEMENT_LIMIT, LAST_ELEMENT}
 use Rattle.std.proofs.Common.{◌≡◌, ℕ, ◌<◌, ◌≤◌, List, [], ◌∷◌, Option, Some, None, Ok, Err, Bool, true, false, refl, ap, sym, ◌∙◌, subst, zero, suc, IsSome, slice_get, get_or, length, arith}
 use Rattle.std.specs.Prelude.{◌&&◌, ◌==◌, nat_le, if◌then◌else◌}
 use Rattle.std.specs.declared.result.Result.{Result}
@@ -55,9 +55,9 @@ is_some_within (x ∷ xs) (suc i) within = is_some_within xs i (omega arith)
 
 element_within : (array : Bool) (element : Option ℕ) (e : ℕ) → element_named array element ≡ Some e → e < room_of array
 element_within true None e is = let zero_is : 0 ≡ e = cc in omega arith
-element_within true (Some n) e is = by (nat_le n 511) refl is
+element_within true (Some n) e is = by (nat_le n LAST_ELEMENT) refl is
   where
-    by : (b : Bool) → nat_le n 511 ≡ b → (if b then Some n else None) ≡ Some e → e < ELEMENT_LIMIT
+    by : (b : Bool) → nat_le n LAST_ELEMENT ≡ b → (if b then Some n else None) ≡ Some e → e < ELEMENT_LIMIT
     by true test is = let same_number : n ≡ e = cc in grind (arith, nat_tests)
     by false test is = absurd (cc)
 element_within false None e is = let zero_is : 0 ≡ e = cc in omega arith

@@ -1,4 +1,5 @@
 -- What a builder holds: the processes so far with all their ports, and the connections so far.
+use Rattle.flow_limits.specs.declared.TheConstants.{LAST_ELEMENT}
 use Rattle.std.specs.Prelude.{◌≡◌, ℕ, zero, suc, ◌==◌, ◌&&◌, nat_le, if◌then◌else◌, Bool, true, false, List, [], ◌∷◌, slice_set, Option, Some, None, Ok, Err, slice_get, position}
 use Rattle.std.specs.declared.result.Result.{Result}
 use Rattle.std.specs.Option.{option_and_then}
@@ -101,7 +102,7 @@ port_named ports process input name = position (λ (port : DraftPort). is_side p
 -- The element that a port is asked for: of an array the one that is written, or 0; every other port has none to write.
 abbrev pub element_named : Bool → Option ℕ → Option ℕ
 element_named true None = Some 0
-element_named true (Some e) = if nat_le e 511 then Some e else None
+element_named true (Some e) = if nat_le e LAST_ELEMENT then Some e else None
 element_named false None = Some 0
 element_named false (Some e) = None
 

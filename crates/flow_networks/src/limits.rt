@@ -1,8 +1,8 @@
 //! The limits as the documents tell them. Code and definitions both cite the constants, so no contract refuses another number.
 use flow_cli::FILE_LIMIT;
 use flow_limits::{
-    CAPACITY_LIMIT, CAPACITY_SUM_LIMIT, CONNECTION_LIMIT, ELEMENT_LIMIT, HANDS_LIMIT, PORT_LIMIT,
-    PROCESS_LIMIT, SENDER_LIMIT, STATEMENT_LIMIT, SUBNET_PROCESS_LIMIT, TEXT_LIMIT, TURN_LIMIT,
+    CAPACITY_LIMIT, CAPACITY_SUM_LIMIT, CONNECTION_LIMIT, ELEMENT_LIMIT, HANDS_LIMIT, LAST_ELEMENT,
+    PORT_LIMIT, PROCESS_LIMIT, SENDER_LIMIT, STATEMENT_LIMIT, SUBNET_PROCESS_LIMIT, TEXT_LIMIT, TURN_LIMIT,
 };
 
 #[test]
@@ -11,6 +11,7 @@ fn the_limits_are_those_that_are_told(rt: HostRuntime) {
         (PROCESS_LIMIT, 128),
         (CONNECTION_LIMIT, 512),
         (ELEMENT_LIMIT, 512),
+        (LAST_ELEMENT as usize, 511),
         (PORT_LIMIT, 4_096),
         (CAPACITY_LIMIT as usize, 1_024),
         (CAPACITY_SUM_LIMIT as usize, 65_536),

@@ -1,5 +1,5 @@
 -- The value of a part's lines is that of a part.
-use Rattle.flow_limits.specs.declared.TheConstants.{CAPACITY_LIMIT, TEXT_LIMIT}
+use Rattle.flow_limits.specs.declared.TheConstants.{CAPACITY_LIMIT, LAST_ELEMENT, TEXT_LIMIT}
 use Rattle.std.proofs.Common.{◌≡◌, ℕ, Bool, true, false, cond, leb, List, [], ◌∷◌, ◌++◌, length, map, Option, Some, None, refl, ap, ◌∙◌}
 use Rattle.std.specs.Prelude.{◌&&◌, ◌||◌, is_some, unwrap_or, option_and_then}
 use Rattle.std.specs.Str.{bytes_eq}
@@ -43,7 +43,7 @@ number_if_any least most None = tt
 number_if_any least most (Some w) = number_within least most w
 
 port_fine : (p : PortMention) → is_name p.name ≡ true → OfWord p.name → IsPort (port_ref p)
-port_fine p named worded = ((named, worded), number_if_any 0 511 p.element)
+port_fine p named worded = ((named, worded), number_if_any 0 LAST_ELEMENT p.element)
 
 mention_name : (m : Mention) → mention_is_named m ≡ true → OfMention m → IsName m.name
 mention_name m named worded = ((both (is_name m.name) (or_none is_name m.kind) named).0, worded.0)

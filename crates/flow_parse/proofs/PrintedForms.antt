@@ -1,5 +1,5 @@
 -- The form that the line of a process or a statement says.
-use Rattle.flow_limits.specs.declared.TheConstants.{CAPACITY_LIMIT, TEXT_LIMIT}
+use Rattle.flow_limits.specs.declared.TheConstants.{CAPACITY_LIMIT, LAST_ELEMENT, TEXT_LIMIT}
 use Rattle.std.proofs.Common.{◌≡◌, ℕ, ◌+◌, ◌%◌, ◌^◌, ◌<◌, ◌≤◌, Bool, true, false, cond, eqb, leb, List, [], ◌∷◌, ◌++◌, length, get_or, map, Option, Some, None, refl, ap, subst, ◌∙◌, ◌⊎◌, inl, inr, append_assoc, eq-eqb, leb-true, leb-false, eqb-true, rules, arith}
 use Rattle.std.specs.Prelude.{◌&&◌, ◌||◌, not, is_some, codes, option_map, option_and_then}
 use Rattle.std.specs.Fmt.{decimal}
@@ -98,21 +98,21 @@ not_true false e = refl
 pub name_free : (name : List ℕ) → IsName name → is_reserved name ≡ false
 name_free name is = not_true (is_reserved name) (and_last _ (not (is_reserved name)) is.0)
 
-port_is_piece : (name : List ℕ) (e : Option ℕ) → IsName name → IsWithin 0 511 e → Piece (port (record { name = name; element = option_map decimal e }))
+port_is_piece : (name : List ℕ) (e : Option ℕ) → IsName name → IsWithin 0 LAST_ELEMENT e → Piece (port (record { name = name; element = option_map decimal e }))
 port_is_piece name None is within = word_piece name (name_word name is)
 port_is_piece name (Some n) is within = bracketed_piece name (decimal n) (name_word name is) (decimal_word n (omega arith))
 
-element_again : (e : Option ℕ) → IsWithin 0 511 e → option_and_then element_of (option_map decimal e) ≡ e
+element_again : (e : Option ℕ) → IsWithin 0 LAST_ELEMENT e → option_and_then element_of (option_map decimal e) ≡ e
 element_again None within = refl
-element_again (Some n) within = number_again 0 511 n within.0 within.1 (omega arith)
+element_again (Some n) within = number_again 0 LAST_ELEMENT n within.0 within.1 (omega arith)
 
 capacity_again : (e : Option ℕ) → IsWithin 1 CAPACITY_LIMIT e → option_and_then capacity_of (option_map decimal e) ≡ e
 capacity_again None within = refl
 capacity_again (Some n) within = number_again 1 CAPACITY_LIMIT n within.0 within.1 (omega arith)
 
-element_numbered : (e : Option ℕ) → IsWithin 0 511 e → or_none (λ w. is_some (element_of w)) (option_map decimal e) ≡ true
+element_numbered : (e : Option ℕ) → IsWithin 0 LAST_ELEMENT e → or_none (λ w. is_some (element_of w)) (option_map decimal e) ≡ true
 element_numbered None within = refl
-element_numbered (Some n) within = ap is_some (number_again 0 511 n within.0 within.1 (omega arith))
+element_numbered (Some n) within = ap is_some (number_again 0 LAST_ELEMENT n within.0 within.1 (omega arith))
 
 capacity_numbered : (e : Option ℕ) → IsWithin 1 CAPACITY_LIMIT e → or_none (λ w. is_some (capacity_of w)) (option_map decimal e) ≡ true
 capacity_numbered None within = refl

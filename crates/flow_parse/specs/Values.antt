@@ -1,5 +1,5 @@
 -- Which values are values of files.
-use Rattle.flow_limits.specs.declared.TheConstants.{CAPACITY_LIMIT, STATEMENT_LIMIT, TEXT_LIMIT}
+use Rattle.flow_limits.specs.declared.TheConstants.{CAPACITY_LIMIT, LAST_ELEMENT, STATEMENT_LIMIT, TEXT_LIMIT}
 use Rattle.std.specs.Prelude.{◌≡◌, ◌≢◌, ℕ, ◌+◌, ◌≤◌, List, [], ◌∷◌, map, length, Option, Some, None, true, false}
 use Rattle.std.specs.Str.{bytes_eq}
 use Rattle.std.specs.List.{AllByRecursion, list_any, sum_by}
@@ -20,9 +20,9 @@ abbrev pub IsWithin : ℕ → ℕ → Option ℕ → Type 0
 IsWithin least most None = Unit {0}
 IsWithin least most (Some n) = (least ≤ n) × (n ≤ most)
 
--- A port has a name, and its element, where it has one, is at most 511.
+-- A port has a name, and its element, where it has one, is at most LAST_ELEMENT.
 abbrev pub IsPort : PortRef → Type 0
-IsPort port = IsName port.name × IsWithin 0 511 port.element
+IsPort port = IsName port.name × IsWithin 0 LAST_ELEMENT port.element
 
 -- A text that stands within one line: no byte 10, and at most TEXT_LIMIT bytes.
 abbrev pub IsQuotable : List ℕ → Type 0

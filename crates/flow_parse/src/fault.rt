@@ -18,7 +18,7 @@ pub enum Reason {
     /// A word in the place of a name is none: a name begins with a letter, has at most 64 bytes, and is
     /// none of `flow`, `subnet`, `end`, `inport` and `outport`.
     Name,
-    /// A capacity isn't a decimal number from 1 to CAPACITY_LIMIT, or an element isn't one from 0 to 511.
+    /// A capacity isn't a decimal number from 1 to CAPACITY_LIMIT, or an element isn't one from 0 to LAST_ELEMENT.
     Number,
     /// A process is given a second, different kind in its part; or its part ends, and it has none. Then
     /// the line is that of its first mention.

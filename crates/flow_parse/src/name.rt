@@ -6,7 +6,7 @@ ghost use Rattle.flow_parse.specs.Names.{is_name, begins_with_letter, number_in,
 use crate::form::{Form, Mention, PortMention};
 use crate::same::is;
 use flow_items::Text;
-use flow_limits::CAPACITY_LIMIT;
+use flow_limits::{CAPACITY_LIMIT, LAST_ELEMENT};
 use flow_text::decimal;
 
 pub const MOST_NAME: usize = 64;
@@ -97,7 +97,7 @@ pub fn capacity(word: &Text) -> Option<u32>
 pub fn element(word: &Text) -> Option<u32>
     ensures { result ≡ element_of word.now }
 {
-    number(word.as_slice(), 0, 511)
+    number(word.as_slice(), 0, LAST_ELEMENT)
 }
 
 fn port_numbered(port: &PortMention) -> bool
