@@ -39,3 +39,6 @@ pub const STATEMENT_LIMIT: usize = 4096;
 
 /// The most processes of a network file that are subnets, when all are written out.
 pub const SUBNET_PROCESS_LIMIT: usize = 512;
+
+/// The greatest number from which a network and its input are made; the least is 1.
+pub const NUMBER_LIMIT: u32 = 100;

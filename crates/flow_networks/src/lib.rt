@@ -8,6 +8,8 @@ mod faults;
 #[cfg(test)]
 mod limits;
 #[cfg(test)]
+mod made;
+#[cfg(test)]
 mod refused;
 #[cfg(test)]
 mod run;

@@ -2,7 +2,8 @@
 use flow_cli::FILE_LIMIT;
 use flow_limits::{
     CAPACITY_LIMIT, CAPACITY_SUM_LIMIT, CONNECTION_LIMIT, ELEMENT_LIMIT, HANDS_LIMIT, LAST_ELEMENT,
-    PORT_LIMIT, PROCESS_LIMIT, SENDER_LIMIT, STATEMENT_LIMIT, SUBNET_PROCESS_LIMIT, TEXT_LIMIT, TURN_LIMIT,
+    NUMBER_LIMIT, PORT_LIMIT, PROCESS_LIMIT, SENDER_LIMIT, STATEMENT_LIMIT, SUBNET_PROCESS_LIMIT,
+    TEXT_LIMIT, TURN_LIMIT,
 };
 
 #[test]
@@ -21,6 +22,7 @@ fn the_limits_are_those_that_are_told(rt: HostRuntime) {
         (TURN_LIMIT, 8_388_608),
         (STATEMENT_LIMIT, 4_096),
         (SUBNET_PROCESS_LIMIT, 512),
+        (NUMBER_LIMIT as usize, 100),
         (FILE_LIMIT as usize, 16_777_216),
     ] {
         assert_eq!(rt; limit, told);

@@ -1,0 +1,52 @@
+//! A network and an input for it, as large as a number says.
+#![tactic(auto)]
+
+ghost use Rattle.std.specs.Prelude.{◌≡◌, ◌≤◌, ◌+◌, ◌*◌, IfOk, length};
+ghost use Rattle.std.specs.Str.Lines.{lines as lines_of};
+ghost use Rattle.flow_make.specs.Lines.{text_of};
+ghost use Rattle.flow_make.specs.Input.{input_lines, lines_for_one, longest_word, words_in_line};
+ghost use Rattle.flow_make.specs.Network.{network_lines};
+
+mod generator;
+mod input;
+
+use flow_items::Text;
+use flow_limits::NUMBER_LIMIT;
+use input::make_input;
+use std::alloc::{AllocError, Global};
+
+/// What is made from a number.
+#[derive(Debug, Drop)]
+pub struct Made {
+    /// The text of a network file, the same for each number. Its one reader reads the file `in`.
+    pub network: Text,
+    /// The bytes of that file.
+    pub input: Text,
+}
+
+const NETWORK: &[u8] =
+    b"flow 1\n'in' -> FILE Read(ReadLines)\nRead OUT -> IN Words(Words)\nWords OUT -> IN Copy(Copy)\nCopy OUT[0] -> IN Narrow(Fill)\nCopy OUT[1] -> IN Wide(Fill)\nCopy OUT[2] -> IN Count(Count)\n'20' -> SIZE Narrow\n'60' -> SIZE Wide\nNarrow OUT -> IN A(WriteLines)\nWide OUT -> IN B(WriteLines)\nCount COUNT -> IN C(WriteLines)\n'a' -> FILE A\n'b' -> FILE B\n'c' -> FILE C\n";
+
+/// A network, and an input for it of 1,000 lines for each one of the number. A line has ten words, which are pseudo-random: the same
+/// number makes the same input everywhere. Network and input are this project's own.
+pub fn make(alloc: Global, number: u32) -> Result<Made, AllocError>
+    requires least { 1 ≤ number }
+    requires most { number ≤ NUMBER_LIMIT }
+
+    ensures network { IfOk result (λ made. made.network ≡ text_of network_lines) }
+    ensures input { IfOk result (λ made. made.input ≡ text_of (input_lines number)) }
+
+    // So the input is cut into just these lines where it is read, and it isn't too long for a file.
+    ensures lines { IfOk result (λ made. lines_of made.input ≡ input_lines number) }
+    ensures short { IfOk result (λ made. length made.input ≤ number * lines_for_one * (words_in_line * (longest_word + 1))) }
+{
+    let network = Text::from_slice(alloc, NETWORK)?;
+    let input = make_input(alloc, number)?;
+    Ok(Made {
+        network,
+        input: Text::of(input),
+    })
+}
+
+#[cfg(test)]
+mod tests;
