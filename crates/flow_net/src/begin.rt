@@ -3,7 +3,7 @@ ghost use Rattle.std.specs.Prelude.{◌≡◌, ◌∷◌, ◌++◌, [], ◌<◌,
 ghost use Rattle.flow_net.specs.Drafts.{Answers};
 ghost use Rattle.flow_net.specs.Calls.{fresh_port, fresh_ports, kind_for, begun_as, room_of};
 
-use crate::draft::{DraftProcess, Binding, DraftPort};
+use crate::draft::{Binding, DraftPort, DraftProcess};
 use crate::fault::{Many, PlanFault, PlanStop};
 use crate::find;
 use flow_items::{Items, Text};

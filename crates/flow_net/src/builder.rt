@@ -8,7 +8,7 @@ ghost use Rattle.flow_net.specs.Kinds.{is_table};
 ghost use Rattle.flow_plan.specs.Valid.{IsValid};
 ghost use Rattle.flow_net.specs.Over.{IsOver};
 
-use crate::draft::{DraftProcess, Link, DraftPort};
+use crate::draft::{DraftPort, DraftProcess, Link};
 use crate::fault::{PlanFault, PlanStop};
 use crate::{begin, check, find, finish, give, join, lay, options};
 use flow_items::Text;

@@ -4,7 +4,7 @@ ghost use Rattle.std.specs.List.{sum_by};
 ghost use Rattle.flow_net.specs.Drafts.{Answers, is_free};
 ghost use Rattle.flow_net.specs.Finishes.{size_of, gap_fault, port_fault, first_fault, capacity_of, sum_fault, name_of};
 
-use crate::draft::{DraftProcess, Binding, Link, DraftPort};
+use crate::draft::{Binding, DraftPort, DraftProcess, Link};
 use crate::fault::{Many, PlanFault, PlanStop};
 use flow_items::Text;
 use flow_limits::{CAPACITY_LIMIT, CAPACITY_SUM_LIMIT, CONNECTION_LIMIT, ELEMENT_LIMIT};
@@ -86,7 +86,11 @@ fn name_of(processes: &[DraftProcess], process: u32) -> &[u8]
 }
 
 /// That each port is bound as it has to be, or the first that isn't.
-pub fn check_ports(alloc: Global, processes: &[DraftProcess], ports: &[DraftPort]) -> Result<(), PlanStop>
+pub fn check_ports(
+    alloc: Global,
+    processes: &[DraftProcess],
+    ports: &[DraftPort],
+) -> Result<(), PlanStop>
     requires { (g : ℕ) (port : DraftPort) → slice_get ports.now g ≡ Some port → length port.elements ≤ ELEMENT_LIMIT }
     ensures { Answers (first_fault processes.now ports.now) result }
 {

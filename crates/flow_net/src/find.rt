@@ -5,7 +5,7 @@ ghost use Rattle.std.specs.Option.{option_copied};
 ghost use Rattle.flow_net.specs.Drafts.{Answers, binding_at, process_named, port_named, element_named, is_side, same, is_stream_at};
 ghost use Rattle.flow_net.specs.Calls.{kind_named, process_of_name, end_at, end_named, end_of_port, ends_of, link_into};
 
-use crate::draft::{DraftProcess, Binding, End, DraftPort};
+use crate::draft::{Binding, DraftPort, DraftProcess, End};
 use crate::fault::{PlanFault, PlanStop};
 use flow_items::Text;
 use flow_limits::{ELEMENT_LIMIT, PROCESS_LIMIT};
@@ -103,7 +103,11 @@ pub fn is_stream_at(ports: &[DraftPort], end: End) -> bool
 }
 
 /// The process of a name, or that there is none.
-pub fn found_process(alloc: Global, processes: &[DraftProcess], name: &[u8]) -> Result<u32, PlanStop>
+pub fn found_process(
+    alloc: Global,
+    processes: &[DraftProcess],
+    name: &[u8],
+) -> Result<u32, PlanStop>
     requires { length processes.now ≤ PROCESS_LIMIT }
     ensures { Answers (process_of_name processes.now name.now) result }
 {

@@ -7,7 +7,7 @@ ghost use Rattle.flow_net.specs.Calls.{process_at};
 ghost use Rattle.flow_net.specs.Sound.{IsPlaced, into_of, sender_at};
 
 use crate::check::size_of;
-use crate::draft::{DraftProcess, End, Link, DraftPort};
+use crate::draft::{DraftPort, DraftProcess, End, Link};
 use crate::find::{is_side, is_stream_at};
 use crate::give::process_at;
 use flow_items::{Items, Text};

@@ -3,7 +3,7 @@ ghost use Rattle.std.specs.Prelude.{◌≡◌, ◌<◌, ◌≤◌, ◌^◌, leng
 ghost use Rattle.flow_net.specs.Drafts.{Answers, binding_at, bound, updated};
 ghost use Rattle.flow_net.specs.Calls.{input_for, process_at, next_text, with_text};
 
-use crate::draft::{DraftProcess, Binding, End, DraftPort};
+use crate::draft::{Binding, DraftPort, DraftProcess, End};
 use crate::fault::{PlanFault, PlanStop};
 use crate::{find, join};
 use flow_items::Text;

@@ -3,7 +3,7 @@ ghost use Rattle.std.specs.Prelude.{◌≡◌, ◌∷◌, ◌++◌, [], ◌<◌,
 ghost use Rattle.flow_net.specs.Drafts.{Answers, binding_at, bound, updated};
 ghost use Rattle.flow_net.specs.Calls.{allowed_capacity, same_capacity, capacity_before, is_full, may_join, is_taken, has_text, link_into, first_given, next_sender, with_sender, joined_links, joined_ports};
 
-use crate::draft::{Binding, End, Link, DraftPort};
+use crate::draft::{Binding, DraftPort, End, Link};
 use crate::fault::{Many, PlanFault, PlanStop};
 use crate::find;
 use flow_items::{Items, Text};

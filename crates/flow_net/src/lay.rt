@@ -4,7 +4,7 @@ ghost use Rattle.flow_net.specs.Drafts.{is_stream_at};
 ghost use Rattle.flow_net.specs.Sound.{IsPlaced, text_at};
 ghost use Rattle.flow_net.specs.Finishes.{count_of, total_of, place_at, options_of, initials_of, process_of, row_of, rows_of, table_of};
 
-use crate::draft::{DraftProcess, End, DraftPort};
+use crate::draft::{DraftPort, DraftProcess, End};
 use crate::find::{is_side, is_stream_at};
 use crate::finish::{elements_in, number, total};
 use flow_items::{Items, Text};

@@ -4,7 +4,7 @@ ghost use Rattle.std.specs.List.{All, slice_split};
 ghost use Rattle.flow_plan.specs.Texts.{IsNumberWithin, IsFields, IsFileName, IsOfClass};
 ghost use Rattle.flow_net.specs.Options.{FitsPort};
 
-use crate::draft::{End, DraftPort};
+use crate::draft::{DraftPort, End};
 use flow_plan::PortClass;
 use flow_text::decimal;
 
