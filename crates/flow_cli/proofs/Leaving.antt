@@ -48,8 +48,8 @@ leaves-one plan components net told standard tell comes is =
       last = last;
       run = comes.run;
       told_is = record {
-        report = told_of plan net.bodies;
-        tells = tell plan net last comes.fit comes.run.quiet few comes.stands;
+        report = told_of plan net;
+        tells = tell plan net last comes.fit few comes.stands;
         verdict = is.verdict;
         text = is.report;
       };

@@ -60,8 +60,8 @@ pub record RanOn (plan : Network) (components : List Std) (net : NetValue Std) :
 
 -- What is told is the report of the network and the journal of its turns.
 pub record IsToldOfNet (plan : Network) (net : NetValue Std) (told : Told) : Type 0 where
-  pub verdict : told.verdict ≡ (told_of plan net.bodies).verdict
-  pub report : told.report.items ≡ report_text (told_of plan net.bodies)
+  pub verdict : told.verdict ≡ (told_of plan net).verdict
+  pub report : told.report.items ≡ report_text (told_of plan net)
   pub turns : NamesTurns net told.journal.turns
   pub seen : NamesSeen net told.journal.seen
 

@@ -65,7 +65,7 @@ const ROW: Row = Row {
     write_fail: 0,
     status: 0,
     output: Some(b"x\n"),
-    printed: b"verdict finished\ntotal turns 17 made 1 dropped 1 left 0\n",
+    printed: b"verdict finished\nprocess Read ReadLines ended turns 5 made 1 dropped 0 left 0\nprocess Pass Passthru ended turns 7 made 0 dropped 0 left 0\nprocess Write WriteLines ended turns 5 made 0 dropped 1 left 0\nconnection Pass.IN capacity 10 puts 1 takes 1 left 0\nconnection Write.IN capacity 10 puts 1 takes 1 left 0\ntotal turns 17 made 1 dropped 1 left 0\n",
     turns: 17,
 };
 
@@ -115,14 +115,14 @@ fn networks_run(rt: HostRuntime) -> Result<(), Fail> {
             input: b"x\r\nyy",
             piece: 1,
             output: Some(b"x\nyy\n"),
-            printed: b"verdict finished\ntotal turns 21 made 2 dropped 2 left 0\n",
+            printed: b"verdict finished\nprocess A1 ReadLines ended turns 6 made 2 dropped 0 left 0\nprocess b_2 Passthru ended turns 9 made 0 dropped 0 left 0\nprocess C WriteLines ended turns 6 made 0 dropped 2 left 0\nconnection b_2.IN capacity 10 puts 2 takes 2 left 0\nconnection C.IN capacity 10 puts 2 takes 2 left 0\ntotal turns 21 made 2 dropped 2 left 0\n",
             turns: 21,
             ..ROW
         },
         Row {
             input: b"",
             output: Some(b""),
-            printed: b"verdict finished\ntotal turns 7 made 0 dropped 0 left 0\n",
+            printed: b"verdict finished\nprocess Read ReadLines ended turns 4 made 0 dropped 0 left 0\nprocess Pass Passthru ended turns 2 made 0 dropped 0 left 0\nprocess Write WriteLines ended turns 1 made 0 dropped 0 left 0\nconnection Pass.IN capacity 10 puts 0 takes 0 left 0\nconnection Write.IN capacity 10 puts 0 takes 0 left 0\ntotal turns 7 made 0 dropped 0 left 0\n",
             turns: 7,
             ..ROW
         },
@@ -136,7 +136,7 @@ fn networks_run(rt: HostRuntime) -> Result<(), Fail> {
             input: b"a1\na2\n",
             second: b"b1\nb2\n",
             output: Some(b"a1\na2\nb1\nb2\n"),
-            printed: b"verdict finished\ntotal turns 20 made 4 dropped 4 left 0\n",
+            printed: b"verdict finished\nprocess A ReadLines ended turns 6 made 2 dropped 0 left 0\nprocess B ReadLines ended turns 6 made 2 dropped 0 left 0\nprocess W WriteLines ended turns 8 made 0 dropped 4 left 0\nconnection W.IN capacity 10 puts 4 takes 4 left 0\ntotal turns 20 made 4 dropped 4 left 0\n",
             turns: 20,
             ..ROW
         },
@@ -144,7 +144,7 @@ fn networks_run(rt: HostRuntime) -> Result<(), Fail> {
             net: CIRCLE,
             status: 4,
             output: None,
-            printed: b"verdict deadlock\nblocked A dormant\nblocked B dormant\ntotal turns 0 made 0 dropped 0 left 0\n",
+            printed: b"verdict deadlock\nprocess A Passthru idle turns 0 made 0 dropped 0 left 0\nprocess B Passthru idle turns 0 made 0 dropped 0 left 0\nconnection B.IN capacity 10 puts 0 takes 0 left 0\nconnection A.IN capacity 10 puts 0 takes 0 left 0\nblocked A dormant\nblocked B dormant\ntotal turns 0 made 0 dropped 0 left 0\n",
             turns: 0,
             ..ROW
         },
@@ -333,11 +333,11 @@ fn long_lines_fail_their_reader(rt: HostRuntime) -> Result<(), Fail> {
     let rows: [(&[u8], &[u8]); 2] = [
         (
             CHAIN,
-            b"verdict failed\nblocked Pass dormant\nblocked Write dormant\nfailed Read text limit 1048577\ntotal turns 1 made 0 dropped 0 left 0\n",
+            b"verdict failed\nprocess Read ReadLines failed turns 1 made 0 dropped 0 left 0\nprocess Pass Passthru idle turns 0 made 0 dropped 0 left 0\nprocess Write WriteLines idle turns 0 made 0 dropped 0 left 0\nconnection Pass.IN capacity 10 puts 0 takes 0 left 0\nconnection Write.IN capacity 10 puts 0 takes 0 left 0\nblocked Pass dormant\nblocked Write dormant\nfailed Read text limit 1048577\ntotal turns 1 made 0 dropped 0 left 0\n",
         ),
         (
             READ_TO_WRITE,
-            b"verdict failed\nblocked Write dormant\nfailed Read text limit 1048577\ntotal turns 1 made 0 dropped 0 left 0\n",
+            b"verdict failed\nprocess Read ReadLines failed turns 1 made 0 dropped 0 left 0\nprocess Write WriteLines idle turns 0 made 0 dropped 0 left 0\nconnection Write.IN capacity 10 puts 0 takes 0 left 0\nblocked Write dormant\nfailed Read text limit 1048577\ntotal turns 1 made 0 dropped 0 left 0\n",
         ),
     ];
     for (net, printed) in rows {
@@ -370,7 +370,7 @@ fn the_longest_file_runs_and_a_longer_one_is_refused(rt: HostRuntime) -> Result<
         many_lines(alloc, 262_144)?,
         0,
         Some(&output),
-        b"verdict finished\ntotal turns 524296 made 262144 dropped 262144 left 0\n",
+        b"verdict finished\nprocess Read ReadLines ended turns 262148 made 262144 dropped 0 left 0\nprocess Write WriteLines ended turns 262148 made 0 dropped 262144 left 0\nconnection Write.IN capacity 10 puts 262144 takes 262144 left 0\ntotal turns 524296 made 262144 dropped 262144 left 0\n",
     )?;
     longest.push(b'a')?;
     run_long(

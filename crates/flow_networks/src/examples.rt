@@ -15,7 +15,8 @@ fn the_examples_leave_what_is_expected(rt: HostRuntime) -> Result<(), Fail> {
                 NONE,
                 NONE,
             ],
-            printed: Some(b"verdict finished\ntotal turns 96 made 39 dropped 39 left 0\n"),
+            starts: b"verdict finished\n",
+            ends: b"total turns 96 made 39 dropped 39 left 0\n",
             outputs: [
                 (
                     "examples/telegram/out.txt",

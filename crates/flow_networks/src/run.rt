@@ -24,6 +24,9 @@ pub struct Row {
     pub status: u8,
     /// What is printed to its last byte, where that is known from elsewhere.
     pub printed: Option<&'static [u8]>,
+    /// The bytes with which it begins and ends.
+    pub starts: &'static [u8],
+    pub ends: &'static [u8],
     pub outputs: [File; 2],
     /// The file of this name isn't there at the end.
     pub absent: &'static str,
@@ -42,6 +45,8 @@ pub const ROW: Row = Row {
     inputs: [NONE; 3],
     status: 0,
     printed: None,
+    starts: b"",
+    ends: b"",
     outputs: [NONE; 2],
     absent: "",
     check: false,
@@ -115,6 +120,7 @@ pub fn run_on(
     let mut out = MemSink::new(alloc, row.piece, ROOM, Vec::new(alloc))?;
     let words = words(alloc, row.check)?;
     let outcome = plain_top(alloc, &words, &mut shelf, &mut out);
+    assert!(rt; out.bytes().starts_with(row.starts) && out.bytes().ends_with(row.ends));
     if let Some(printed) = row.printed {
         assert_eq!(rt; out.bytes(), printed);
     }

@@ -12,7 +12,7 @@ fn the_telegram_problem(rt: HostRuntime) -> Result<(), Fail> {
                 NONE,
                 NONE,
             ],
-            printed: Some(b"verdict finished\ntotal turns 50 made 16 dropped 16 left 0\n"),
+            printed: Some(b"verdict finished\nprocess Read ReadLines ended turns 6 made 2 dropped 0 left 0\nprocess Words Words ended turns 17 made 10 dropped 2 left 0\nprocess Fill Fill ended turns 19 made 4 dropped 10 left 0\nprocess Write WriteLines ended turns 8 made 0 dropped 4 left 0\nconnection Words.IN capacity 10 puts 2 takes 2 left 0\nconnection Fill.IN capacity 20 puts 10 takes 10 left 0\nconnection Write.IN capacity 10 puts 4 takes 4 left 0\ntotal turns 50 made 16 dropped 16 left 0\n"),
             outputs: [
                 ("out.txt", b"To be or not\nto be that\nis the\nquestion\n"),
                 NONE,
@@ -22,7 +22,7 @@ fn the_telegram_problem(rt: HostRuntime) -> Result<(), Fail> {
         Row {
             net: b"flow 1\n# the telegram problem\n'in.txt' -> FILE Read(ReadLines)\nRead OUT -> IN Words(Words)\nWords OUT->(20) IN Fill(Fill)\n'12' -> SIZE Fill\nFill OUT -> IN Write(WriteLines)\n'out.txt' -> FILE Write\n",
             inputs: [("in.txt", b""), NONE, NONE],
-            printed: Some(b"verdict finished\ntotal turns 9 made 0 dropped 0 left 0\n"),
+            printed: Some(b"verdict finished\nprocess Read ReadLines ended turns 4 made 0 dropped 0 left 0\nprocess Words Words ended turns 2 made 0 dropped 0 left 0\nprocess Fill Fill ended turns 2 made 0 dropped 0 left 0\nprocess Write WriteLines ended turns 1 made 0 dropped 0 left 0\nconnection Words.IN capacity 10 puts 0 takes 0 left 0\nconnection Fill.IN capacity 20 puts 0 takes 0 left 0\nconnection Write.IN capacity 10 puts 0 takes 0 left 0\ntotal turns 9 made 0 dropped 0 left 0\n"),
             outputs: [("out.txt", b""), NONE],
             ..ROW
         },
@@ -54,7 +54,7 @@ fn copies_are_put_behind_one_another(rt: HostRuntime) -> Result<(), Fail> {
             inputs: [("i", b"a\nb\nc\n"), NONE, NONE],
             status: 4,
             printed: Some(
-                b"verdict deadlock\nblocked Copy full OUT[1]\nblocked Concat empty IN[0]\nblocked Write empty IN\ntotal turns 21 made 5 dropped 2 left 3\n",
+                b"verdict deadlock\nprocess Read ReadLines ended turns 7 made 3 dropped 0 left 0\nprocess Copy Copy active turns 6 made 2 dropped 0 left 1\nprocess Concat Concat active turns 5 made 0 dropped 0 left 0\nprocess Write WriteLines active turns 3 made 0 dropped 2 left 0\nconnection Copy.IN capacity 10 puts 3 takes 2 left 1\nconnection Concat.IN[0] capacity 1 puts 2 takes 2 left 0\nconnection Concat.IN[1] capacity 1 puts 1 takes 0 left 1\nconnection Write.IN capacity 10 puts 2 takes 2 left 0\nblocked Copy full OUT[1]\nblocked Concat empty IN[0]\nblocked Write empty IN\nleft Read:1 in hands of Copy\nleft Read:2 in Copy.IN\nleft Read:0 in Concat.IN[1]\ntotal turns 21 made 5 dropped 2 left 3\n",
             ),
             outputs: [("o", b"a\nb\n"), NONE],
             ..ROW
@@ -62,7 +62,7 @@ fn copies_are_put_behind_one_another(rt: HostRuntime) -> Result<(), Fail> {
         Row {
             net: b"flow 1\n'i' -> FILE Read(ReadLines)\nRead OUT -> IN Copy(Copy)\nCopy OUT[0] -> (3) IN[0] Concat(Concat)\nCopy OUT[1] -> (3) IN[1] Concat\nConcat OUT -> IN Write(WriteLines)\n'o' -> FILE Write\n",
             inputs: [("i", b"a\nb\nc\n"), NONE, NONE],
-            printed: Some(b"verdict finished\ntotal turns 50 made 6 dropped 6 left 0\n"),
+            printed: Some(b"verdict finished\nprocess Read ReadLines ended turns 7 made 3 dropped 0 left 0\nprocess Copy Copy ended turns 15 made 3 dropped 0 left 0\nprocess Concat Concat ended turns 18 made 0 dropped 0 left 0\nprocess Write WriteLines ended turns 10 made 0 dropped 6 left 0\nconnection Copy.IN capacity 10 puts 3 takes 3 left 0\nconnection Concat.IN[0] capacity 3 puts 3 takes 3 left 0\nconnection Concat.IN[1] capacity 3 puts 3 takes 3 left 0\nconnection Write.IN capacity 10 puts 6 takes 6 left 0\ntotal turns 50 made 6 dropped 6 left 0\n"),
             outputs: [("o", b"a\nb\nc\na\nb\nc\n"), NONE],
             ..ROW
         },
@@ -119,7 +119,7 @@ fn brackets_and_bundles(rt: HostRuntime) -> Result<(), Fail> {
             inputs: [("i", b"x\n)\ny\n"), NONE, NONE],
             status: 5,
             printed: Some(
-                b"verdict failed\nblocked Write empty IN\nfailed Brackets unnested OUT\ntotal turns 13 made 4 dropped 2 left 2\n",
+                b"verdict failed\nprocess Read ReadLines ended turns 7 made 3 dropped 0 left 0\nprocess Brackets Brackets failed turns 4 made 1 dropped 1 left 1\nprocess Write WriteLines active turns 2 made 0 dropped 1 left 0\nconnection Brackets.IN capacity 10 puts 3 takes 2 left 1\nconnection Write.IN capacity 10 puts 1 takes 1 left 0\nblocked Write empty IN\nfailed Brackets unnested OUT\nleft Brackets:0 in hands of Brackets\nleft Read:2 in Brackets.IN\ntotal turns 13 made 4 dropped 2 left 2\n",
             ),
             outputs: [("o", b"x\n"), NONE],
             ..ROW
@@ -129,7 +129,7 @@ fn brackets_and_bundles(rt: HostRuntime) -> Result<(), Fail> {
             inputs: [("i", b"(g\np\nq\n)\n"), NONE, NONE],
             status: 1,
             printed: Some(
-                b"verdict finished, packets left\ntotal turns 36 made 7 dropped 4 left 3\n",
+                b"verdict finished, packets left\nprocess Read ReadLines ended turns 8 made 4 dropped 0 left 0\nprocess Brackets Brackets ended turns 13 made 2 dropped 2 left 0\nprocess Bundle Bundle ended turns 10 made 1 dropped 2 left 0\nprocess Hoard Hoard ended turns 5 made 0 dropped 0 left 3\nconnection Brackets.IN capacity 10 puts 4 takes 4 left 0\nconnection Bundle.IN capacity 10 puts 4 takes 4 left 0\nconnection Hoard.IN capacity 10 puts 1 takes 1 left 0\nleft Bundle:0 in hands of Hoard\nleft Read:1 in chain items of Bundle:0\nleft Read:2 in chain items of Bundle:0\ntotal turns 36 made 7 dropped 4 left 3\n",
             ),
             ..ROW
         },
@@ -161,7 +161,7 @@ fn lines_are_selected(rt: HostRuntime) -> Result<(), Fail> {
         Row {
             net: b"flow 1\n'i' -> FILE Read(ReadLines)\n'a' -> KEY Sel(Select)\nRead OUT -> IN Sel\nSel ACC -> IN Write(WriteLines)\n'o' -> FILE Write\n",
             inputs: [("i", b"ab\nb\n"), NONE, NONE],
-            printed: Some(b"verdict finished\ntotal turns 22 made 4 dropped 4 left 0\n"),
+            printed: Some(b"verdict finished\nprocess Read ReadLines ended turns 6 made 2 dropped 0 left 0\nprocess Sel Select ended turns 11 made 2 dropped 3 left 0\nprocess Write WriteLines ended turns 5 made 0 dropped 1 left 0\nconnection Sel.IN capacity 10 puts 2 takes 2 left 0\nconnection Write.IN capacity 10 puts 1 takes 1 left 0\ntotal turns 22 made 4 dropped 4 left 0\n"),
             outputs: [("o", b"ab\n"), NONE],
             ..ROW
         },
@@ -239,6 +239,7 @@ fn a_load_is_balanced(rt: HostRuntime) -> Result<(), Fail> {
     let row = Row {
         net: b"flow 1\n'i' -> FILE Read(ReadLines)\nRead OUT -> IN Load(LoadBalance)\nLoad OUT[0] -> IN A(WriteLines)\nLoad OUT[1] -> IN B(WriteLines)\n'o' -> FILE A\n'p' -> FILE B\n",
         inputs: [("i", b"a\nb\nc\nd\n"), NONE, NONE],
+        printed: Some(b"verdict finished\nprocess Read ReadLines ended turns 8 made 4 dropped 0 left 0\nprocess Load LoadBalance ended turns 22 made 0 dropped 0 left 0\nprocess A WriteLines ended turns 6 made 0 dropped 2 left 0\nprocess B WriteLines ended turns 6 made 0 dropped 2 left 0\nconnection Load.IN capacity 10 puts 4 takes 4 left 0\nconnection A.IN capacity 10 puts 2 takes 2 left 0\nconnection B.IN capacity 10 puts 2 takes 2 left 0\ntotal turns 42 made 4 dropped 4 left 0\n"),
         outputs: [("o", b"a\nc\n"), ("p", b"b\nd\n")],
         ..ROW
     };
@@ -310,9 +311,8 @@ fn hands_take_so_many_packets(rt: HostRuntime) -> Result<(), Fail> {
     let row = Row {
         net: b"flow 1\n'in' -> FILE Read(ReadLines)\nRead OUT -> IN Hoard(Hoard)\n",
         status: 5,
-        printed: Some(
-            b"verdict failed\nfailed Hoard hands limit\ntotal turns 8198 made 4097 dropped 0 left 4097\n",
-        ),
+        starts: b"verdict failed\nprocess Read ReadLines ended turns 4101 made 4097 dropped 0 left 0\nprocess Hoard Hoard failed turns 4097 made 0 dropped 0 left 4096\nconnection Hoard.IN capacity 10 puts 4097 takes 4096 left 1\nfailed Hoard hands limit\nleft Read:0 in hands of Hoard\nleft Read:1 in hands of Hoard\n",
+        ends: b"left Read:4095 in hands of Hoard\nleft Read:4096 in Hoard.IN\ntotal turns 8198 made 4097 dropped 0 left 4097\n",
         ..ROW
     };
     run_on(&rt, rt.alloc(), row, ("in", lines.as_slice()))?;

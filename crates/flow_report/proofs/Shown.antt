@@ -1,5 +1,5 @@
 -- What a net keeps of a state that it stands for: its processes, and how many packets they dropped.
-use Rattle.std.proofs.Common.{◌≡◌, ℕ, zero, suc, ◌+◌, ◌-◌, ◌^◌, ◌<◌, Bool, List, [], ◌∷◌, map, length, min, refl, ap, arith, length-append, ◌&&◌, ◌||◌}
+use Rattle.std.proofs.Common.{◌≡◌, ℕ, zero, suc, ◌+◌, ◌-◌, ◌^◌, ◌<◌, Bool, List, [], ◌∷◌, ◌++◌, map, length, min, refl, ap, ◌∙◌, arith, length-append, ◌&&◌, ◌||◌}
 use Rattle.std.specs.Prelude.{sum_by}
 use Rattle.std.specs.List.{list_all, list_any}
 use Rattle.std.proofs.lemmas.List.Sums.{sum_by-cons}
@@ -7,6 +7,10 @@ use Rattle.flow_model.specs.States.{Process}
 use Rattle.flow_model.specs.Places.{ids_dropped}
 use Rattle.flow_model.specs.Stands.{BodyShown, bodies_from, show_body}
 use Rattle.flow_machine.specs.Values.{BodyValue, shown_body}
+use Rattle.flow_plan.specs.Network.{Network}
+use Rattle.flow_report.specs.declared.report.ProcessLine.{ProcessLine}
+use Rattle.flow_report.specs.Of.{line_of_process, process_told, told_from}
+use Rattle.flow_report.specs.States.{process_in}
 
 -- its processes are the state's
 pub processes-shown : {K : Type 0} (dropped : ℕ → List ℕ) (p : ℕ) (bodies : List (BodyValue K)) (xs : List (Process K))
@@ -35,11 +39,6 @@ all-processes f (b ∷ bodies) = ap (λ (t : Bool). f b.process && t) (all-proce
 pub any-processes : {K : Type 0} (f : Process K → Bool) (bodies : List (BodyValue K)) → list_any (λ b. f b.process) bodies ≡ list_any f (map (λ b. b.process) bodies)
 any-processes f [] = refl
 any-processes f (b ∷ bodies) = ap (λ (t : Bool). f b.process || t) (any-processes f bodies)
-
--- the stages of bodies are those of their processes
-pub map-processes : {K Y : Type 0} (f : Process K → Y) (bodies : List (BodyValue K)) → map (λ b. f b.process) bodies ≡ map f (map (λ b. b.process) bodies)
-map-processes f [] = refl
-map-processes f (b ∷ bodies) = ap (λ (t : List _). f b.process ∷ t) (map-processes f bodies)
 
 -- how many ids these n processes dropped, from process p on
 pub dropped_from : (ℕ → List ℕ) → ℕ → ℕ → ℕ
@@ -78,3 +77,21 @@ dropped-shown dropped p (b ∷ bodies) (x ∷ xs) is small =
     let rest = dropped-shown dropped (p + 1) bodies xs tail (omega (arith, small)) in
     let exact : b.dropped ≡ length (dropped p) = omega (arith, first, small) in
     omega (arith, exact, rest, sum_by-cons (λ (y : BodyValue _). y.dropped) b bodies)
+
+-- the lines of the bodies are those of the processes, where the counts of the dropped are small
+pub lines-shown : {K : Type 0} (plan : Network) (dropped : ℕ → List ℕ) (p : ℕ) (bodies : List (BodyValue K)) (xs : List (Process K))
+    → map shown_body bodies ≡ bodies_from dropped p xs → dropped_from dropped p (length xs) < 2 ^ 64 → told_from (process_told plan) p bodies ≡ told_from (process_in plan dropped) p xs
+unfolding dropped_from
+lines-shown plan dropped p [] [] is small = refl
+lines-shown plan dropped p [] (x ∷ xs) is small = absurd cc
+lines-shown plan dropped p (b ∷ bodies) [] is small = absurd cc
+lines-shown {K} plan dropped p (b ∷ bodies) (x ∷ xs) is small =
+    let head : shown_body b ≡ show_body dropped p x = cc in
+    let tail : map shown_body bodies ≡ bodies_from dropped (p + 1) xs = cc in
+    let process : b.process ≡ x = ap (λ (v : BodyShown K). v.process) head in
+    let first : b.dropped ≡ min (length (dropped p)) (2 ^ 64 - 1) = ap (λ (v : BodyShown K). v.dropped) head in
+    let exact : b.dropped ≡ length (dropped p) = omega (arith, first, small) in
+    let rest = lines-shown plan dropped (p + 1) bodies xs tail (omega (arith, small)) in
+    let line : process_told plan p b ≡ process_in plan dropped p x =
+    ap (λ (y : Process K). line_of_process plan p y b.dropped ∷ []) process ∙ ap (λ (m : ℕ). line_of_process plan p x m ∷ []) exact in
+    ap (λ (l : List ProcessLine). l ++ told_from (process_told plan) (p + 1) bodies) line ∙ ap (λ (l : List ProcessLine). process_in plan dropped p x ++ l) rest

@@ -1,24 +1,25 @@
 -- What a report tells of a state of the network machine.
 use Rattle.flow_limits.specs.declared.TheConstants.{PROCESS_LIMIT}
-use Rattle.std.specs.Prelude.{◌≡◌, ◌≢◌, ℕ, ◌≤◌, ◌+◌, ◌++◌, Bool, List, [], ◌∷◌, map, length, sum_by, Option, Some, None}
+use Rattle.std.specs.Prelude.{◌≡◌, ◌≢◌, ℕ, ◌≤◌, ◌+◌, ◌-◌, ◌++◌, Bool, List, [], ◌∷◌, map, length, sum_by}
 use Rattle.flow_packet.specs.Held.{Held}
 use Rattle.flow_component.specs.declared.Answer.{Answer}
 use Rattle.flow_component.specs.declared.Shape.{Shape}
-use Rattle.flow_model.specs.declared.Block.{Block}
-use Rattle.flow_model.specs.declared.Block.TheVariants as blocks
-use Rattle.flow_model.specs.States.{Process, State}
-use Rattle.flow_model.specs.Events.{Look, looks}
+use Rattle.flow_model.specs.States.{Process, Channel, Put, State}
+use Rattle.flow_model.specs.Events.{looks}
 use Rattle.flow_model.specs.Places.{places, ids_dropped}
-use Rattle.flow_model.specs.Verdicts.{Quiet, IsFinished, IsFailed, IsDeadlock, IsRunning, block_of}
+use Rattle.flow_model.specs.Verdicts.{IsFinished, IsFailed, IsDeadlock, IsRunning}
 use Rattle.flow_model.specs.Stands.{StandsForOpen}
 use Rattle.flow_model.specs.Fit.{Fit}
 use Rattle.flow_machine.specs.Values.{NetValue, shown_net}
 use Rattle.flow_plan.specs.Network.{Network}
 use Rattle.flow_report.specs.declared.report.Verdict.{Verdict}
 use Rattle.flow_report.specs.declared.report.Verdict.TheVariants.{Finished, FinishedLeft, Deadlock, Failed, Running}
-use Rattle.flow_report.specs.declared.report.Wait.TheVariants.{Empty, Full, Dormant}
-use Rattle.flow_report.specs.declared.report.Blocked.{Blocked}
-use Rattle.flow_report.specs.Of.{name_text, input_text, output_text, failed_at, told_from, told_of}
+use Rattle.flow_report.specs.declared.report.ProcessLine.{ProcessLine}
+use Rattle.flow_report.specs.declared.report.ConnectionLine.{ConnectionLine}
+use Rattle.flow_report.specs.declared.report.LeftPacket.{LeftPacket}
+use Rattle.flow_report.specs.declared.report.Place.TheVariants.{InConnection}
+use Rattle.flow_report.specs.Left.{left_at}
+use Rattle.flow_report.specs.Of.{line_of_process, line_of_connection, block_told, failure_told, hands_told, told_from, told_of}
 use Rattle.flow_report.specs.Text.{Told}
 
 -- The verdict on a state. Finished is told apart by whether a packet is left anywhere.
@@ -29,32 +30,39 @@ IsVerdict s Deadlock = IsDeadlock s
 IsVerdict s Failed = IsFailed s
 IsVerdict s Running = IsRunning s
 
--- A block of process p, with the name of the process and its port as they are spelled.
-abbrev pub named_block : Network → ℕ → Option Block → List Blocked
-named_block plan p None = []
-named_block plan p (Some (blocks.Empty c port)) = record { name = name_text plan p; wait = Empty (input_text plan p port.0) } ∷ []
-named_block plan p (Some (blocks.Full c port)) = record { name = name_text plan p; wait = Full (output_text plan p port.0) } ∷ []
-named_block plan p (Some blocks.Dormant) = record { name = name_text plan p; wait = Dormant } ∷ []
+-- What is told of process p, where each process dropped these packets.
+abbrev pub process_in : {K : Type 0} → Network → (ℕ → List ℕ) → ℕ → Process K → List ProcessLine
+process_in plan dropped p x = line_of_process plan p x (length (dropped p)) ∷ []
 
--- The blocks of these processes, in order, from process p on.
-abbrev pub blocks_from : {K : Type 0} → Network → List Look → ℕ → List (Process K) → List Blocked
-blocks_from plan channels p [] = []
-blocks_from plan channels p (x ∷ xs) = named_block plan p (block_of channels x) ++ blocks_from plan channels (p + 1) xs
+-- What is told of connection c, where this was put into each connection: as many packets were taken as were put, less those that are still there.
+abbrev pub connection_in : Network → (ℕ → List Put) → ℕ → Channel → List ConnectionLine
+connection_in plan put c x = line_of_connection plan c x.capacity (length (put c)) (length (put c) - length x.packets) x.packets ∷ []
 
--- A report tells of a state: its verdict; every process that has a block and every one that failed, each named with its port, in order; how many turns were
--- made and how many packets; how many of these were dropped, and how many are left in hands and in connections, trees followed.
+-- The packets that are left in connection c.
+abbrev pub transit_in : ℕ → Channel → List LeftPacket
+transit_in c x = left_at (InConnection c) x.packets
+
+-- A report tells of a state: its verdict; of every process its status, its turns, and the packets that it made, dropped and holds; of every connection its
+-- capacity, its puts and takes, and the packets in it; every process that has a block and every one that failed, each named with its port; every packet
+-- that is left, with its place: first those in the hands of each process, then those in each connection, each followed by its tree; and how many turns
+-- were made, how many packets, and how many of these were dropped. All these stand in the order of the processes and of the connections. What was made
+-- is what was dropped and what is left.
 pub record TellsOf {K : Type 0} (plan : Network) (s : State K) (told : Told) : Type 0 where
   pub verdict : IsVerdict s told.verdict
-  pub blocked : told.blocked ≡ blocks_from plan (looks s.kept.channels) 0 s.kept.processes
-  pub failed : told.failed ≡ told_from (failed_at plan) 0 (map (λ x. x.stage) s.kept.processes)
+  pub processes : told.processes ≡ told_from (process_in plan s.past.dropped) 0 s.kept.processes
+  pub connections : told.connections ≡ told_from (connection_in plan s.past.put) 0 s.kept.channels
+  pub blocked : told.blocked ≡ told_from (block_told plan (looks s.kept.channels)) 0 s.kept.processes
+  pub failed : told.failed ≡ told_from (failure_told plan) 0 s.kept.processes
+  pub left : told.left ≡ told_from hands_told 0 s.kept.processes ++ told_from transit_in 0 s.kept.channels
+  pub each_place : map (λ l. l.packet) told.left ≡ places s
   pub turns : told.turns ≡ sum_by (λ x. x.turns) s.kept.processes
   pub made : told.made ≡ sum_by (λ x. x.held.made) s.kept.processes
   pub dropped : told.dropped ≡ length (ids_dropped s.past.dropped (length s.kept.processes))
-  pub left : told.left ≡ length (places s)
+  pub adds_up : told.made ≡ told.dropped + length told.left
 
--- Where no process can go on, the report of a net tells of every state that the net stands for.
+-- The report of a net tells of every state that the net stands for, whether or not a process can go on there.
 abbrev pub ReportsTell : {K : Type 0} → (K → Shape) → (K → ℕ → Bool) → (K → Held → Answer → Type 0) → Type 0
 ReportsTell {K} shape_of uses ready =
     (plan : Network) (net : NetValue K) (s : State K)
-    → Fit shape_of uses ready s → Quiet s → length s.kept.processes ≤ PROCESS_LIMIT → StandsForOpen (shown_net net) s
-    → TellsOf plan s (told_of plan net.bodies)
+    → Fit shape_of uses ready s → length s.kept.processes ≤ PROCESS_LIMIT → StandsForOpen (shown_net net) s
+    → TellsOf plan s (told_of plan net)

@@ -1,29 +1,37 @@
--- The lines of a report.
-use Rattle.std.specs.Prelude.{ℕ, List, [], ◌∷◌, ◌++◌, codes}
+-- What a report tells, and the lines in which it is printed.
+use Rattle.std.specs.Prelude.{ℕ, List, [], ◌∷◌, ◌++◌, map, length, slice_get, unwrap_or, codes}
 use Rattle.std.specs.List.{flat_map}
+use Rattle.std.specs.Option.{option_map}
 use Rattle.std.specs.Fmt.{decimal}
+use Rattle.flow_packet.specs.Ids.{maker_of, ordinal_of}
+use Rattle.flow_machine.specs.declared.answers.Status.{Status}
+use Rattle.flow_machine.specs.declared.answers.Status.TheVariants as statuses
 use Rattle.flow_report.specs.declared.report.Verdict.{Verdict}
 use Rattle.flow_report.specs.declared.report.Verdict.TheVariants.{Finished, FinishedLeft, Deadlock, Failed, Running}
+use Rattle.flow_report.specs.declared.report.ProcessLine.{ProcessLine}
+use Rattle.flow_report.specs.declared.report.ConnectionLine.{ConnectionLine}
 use Rattle.flow_report.specs.declared.report.Wait.{Wait}
 use Rattle.flow_report.specs.declared.report.Wait.TheVariants.{Empty, Full, Dormant}
 use Rattle.flow_report.specs.declared.report.Blocked.{Blocked}
 use Rattle.flow_report.specs.declared.report.Cause.{Cause}
 use Rattle.flow_report.specs.declared.report.Cause.TheVariants.{Unnested, TurnLimit, TextLimit, HandsLimit, TreeDepth, BracketIn}
 use Rattle.flow_report.specs.declared.report.Failure.{Failure}
+use Rattle.flow_report.specs.declared.report.LeftPacket.{LeftPacket}
+use Rattle.flow_report.specs.declared.report.Place.{Place}
+use Rattle.flow_report.specs.declared.report.Place.TheVariants.{InHands, InConnection, InChain}
 
--- What a report tells: the verdict, who can't go on, who failed, and the totals.
+-- What a report tells: the verdict; each process and each connection; who can't go on; who failed; every packet that is left; and how many turns,
+-- packets made and packets dropped there were in all.
 pub record Told : Type 0 where
   pub verdict : Verdict
+  pub processes : List ProcessLine
+  pub connections : List ConnectionLine
   pub blocked : List Blocked
   pub failed : List Failure
+  pub left : List LeftPacket
   pub turns : ℕ
   pub made : ℕ
   pub dropped : ℕ
-  pub left : ℕ
-
--- A line, with the byte that ends it.
-abbrev pub line : List ℕ → List ℕ
-line text = text ++ 10 ∷ []
 
 -- A verdict in words.
 abbrev pub verdict_text : Verdict → List ℕ
@@ -32,6 +40,14 @@ verdict_text FinishedLeft = codes "finished, packets left"
 verdict_text Deadlock = codes "deadlock"
 verdict_text Failed = codes "failed"
 verdict_text Running = codes "running"
+
+-- A status in words.
+abbrev pub status_text : Status → List ℕ
+status_text statuses.Idle = codes "idle"
+status_text statuses.Active = codes "active"
+status_text (statuses.Closing place) = codes "closing"
+status_text statuses.Ended = codes "ended"
+status_text (statuses.Failed cause) = codes "failed"
 
 -- What a process waits for, in words.
 abbrev pub wait_text : Wait → List ℕ
@@ -48,27 +64,72 @@ cause_text HandsLimit = codes "hands limit"
 cause_text TreeDepth = codes "tree depth"
 cause_text (BracketIn port) = codes "bracket in " ++ port
 
+-- The name of process p among these.
+abbrev pub process_name : List ProcessLine → ℕ → List ℕ
+process_name processes p = unwrap_or (option_map (λ x. x.name) (slice_get processes p)) []
+
+-- The name of connection c among these.
+abbrev pub connection_name : List ConnectionLine → ℕ → List ℕ
+connection_name connections c = unwrap_or (option_map (λ x. x.name) (slice_get connections c)) []
+
+-- A packet is spelled by the name of its maker and by how many packets its maker had made before it.
+abbrev pub packet_text : List ProcessLine → ℕ → List ℕ
+packet_text processes id = process_name processes (maker_of id) ++ codes ":" ++ decimal (ordinal_of id)
+
+-- A place in words.
+abbrev pub place_text : List ProcessLine → List ConnectionLine → Place → List ℕ
+place_text processes connections (InHands p) = codes "in hands of " ++ process_name processes p
+place_text processes connections (InConnection c) = codes "in " ++ connection_name connections c
+place_text processes connections (InChain chain of) = codes "in chain " ++ chain ++ codes " of " ++ packet_text processes of
+
 -- The line of the verdict.
 abbrev pub verdict_line : Verdict → List ℕ
-verdict_line verdict = line (codes "verdict " ++ verdict_text verdict)
+verdict_line verdict = codes "verdict " ++ verdict_text verdict
+
+-- The line of a process.
+abbrev pub process_line : ProcessLine → List ℕ
+process_line p =
+    codes "process " ++ p.name ++ codes " " ++ p.kind ++ codes " " ++ status_text p.status
+    ++ codes " turns " ++ decimal p.turns ++ codes " made " ++ decimal p.made ++ codes " dropped " ++ decimal p.dropped ++ codes " left " ++ decimal p.left
+
+-- The line of a connection.
+abbrev pub connection_line : ConnectionLine → List ℕ
+connection_line c =
+    codes "connection " ++ c.name ++ codes " capacity " ++ decimal c.capacity
+    ++ codes " puts " ++ decimal c.puts ++ codes " takes " ++ decimal c.takes ++ codes " left " ++ decimal c.left
 
 -- The line of a process that waits.
 abbrev pub blocked_line : Blocked → List ℕ
-blocked_line b = line (codes "blocked " ++ b.name ++ codes " " ++ wait_text b.wait)
+blocked_line b = codes "blocked " ++ b.name ++ codes " " ++ wait_text b.wait
 
 -- The line of a process that failed.
 abbrev pub failed_line : Failure → List ℕ
-failed_line f = line (codes "failed " ++ f.name ++ codes " " ++ cause_text f.cause)
+failed_line f = codes "failed " ++ f.name ++ codes " " ++ cause_text f.cause
+
+-- The line of a packet that is left.
+abbrev pub left_line : List ProcessLine → List ConnectionLine → LeftPacket → List ℕ
+left_line processes connections l = codes "left " ++ packet_text processes l.packet ++ codes " " ++ place_text processes connections l.place
 
 -- The line of the totals.
 abbrev pub total_line : ℕ → ℕ → ℕ → ℕ → List ℕ
 total_line turns made dropped left =
-    line (codes "total turns " ++ decimal turns ++ codes " made " ++ decimal made ++ codes " dropped " ++ decimal dropped ++ codes " left " ++ decimal left)
+    codes "total turns " ++ decimal turns ++ codes " made " ++ decimal made ++ codes " dropped " ++ decimal dropped ++ codes " left " ++ decimal left
 
--- The verdict, a line for each process that can't go on, a line for each that failed, and the totals.
+-- The lines of a report: the verdict; each process; each connection; each process that can't go on; each that failed; each packet that is left; the totals.
+abbrev pub report_lines : Told → List (List ℕ)
+report_lines r =
+    (verdict_line r.verdict ∷ [])
+    ++ map process_line r.processes
+    ++ map connection_line r.connections
+    ++ map blocked_line r.blocked
+    ++ map failed_line r.failed
+    ++ map (left_line r.processes r.connections) r.left
+    ++ (total_line r.turns r.made r.dropped (length r.left) ∷ [])
+
+-- A line, with the byte that ends it.
+abbrev pub ended : List ℕ → List ℕ
+ended line = line ++ 10 ∷ []
+
+-- The text of a report is its lines, each with the byte that ends it.
 abbrev pub report_text : Told → List ℕ
-report_text r =
-    verdict_line r.verdict
-    ++ flat_map blocked_line r.blocked
-    ++ flat_map failed_line r.failed
-    ++ total_line r.turns r.made r.dropped r.left
+report_text r = flat_map ended (report_lines r)

@@ -1,23 +1,24 @@
-//! The report of a run that is over.
-ghost use Rattle.std.specs.Prelude.{◌≡◌, ◌++◌, OnOk, IfOk};
-ghost use Rattle.flow_report.specs.Of.{totals_in, with_process, verdict_on, has_ended, has_failed, inputs_at, outputs_at, input_text, output_text, name_text, blocked_at, cause_at, failed_at, told_from, stages_of};
+//! What a report tells of a net as a whole: its sums, its verdict, who can't go on and who failed.
+ghost use Rattle.std.specs.Prelude.{◌≡◌, ◌<◌, ◌++◌, ◌==◌, ◌||◌, length, OnOk, IfOk, IfSome, slice_get};
+ghost use Rattle.std.specs.List.{list_all, list_any};
+ghost use Rattle.std.specs.Option.{is_none};
+ghost use Rattle.flow_machine.specs.Nets.{block_at, looks_of};
+ghost use Rattle.flow_report.specs.Of.{totals_in, with_process, verdict_by, has_ended, has_failed, goes_on, is_open, cause_at, failed_at, named_block, block_told, failure_told, told_from, processes_of};
 
-use crate::report::{Blocked, Cause, Failure, Verdict, Wait};
-use flow_component::{Component, Fail, Port, Wish};
+use crate::names::{input_text, name_text, output_text};
+use crate::report::{Blocked, Cause, Failure, LeftPacket, Verdict, Wait};
+use flow_component::{Component, Fail};
 use flow_items::{Items, Text};
-use flow_machine::{Body, Net, Stage};
+use flow_machine::{Block, Body, Net, Stage};
 use flow_net::Plan;
 use std::alloc::{AllocError, Global};
 
-/// The sums over the processes of a network, and whether all ended and whether some failed. A sum
-/// stands still at the end of its type.
+/// The sums over the processes of a network. A sum stands still at the end of its type.
 #[derive(Clone, Copy)]
 pub struct Totals {
     pub turns: u64,
     pub made: u64,
     pub dropped: u64,
-    pub all_ended: bool,
-    pub some_failed: bool,
 }
 
 fn has_ended(stage: Stage) -> bool
@@ -38,6 +39,16 @@ fn has_failed(stage: Stage) -> bool
     }
 }
 
+// Its work after an answer is still to come.
+fn is_open(stage: Stage) -> bool
+    ensures { result ≡ is_open stage }
+{
+    match stage {
+        Stage::Told(_) => true,
+        _ => false,
+    }
+}
+
 /// The sums over a network's processes.
 pub fn totals_of<K: Component>(net: &Net<K>) -> Totals
     ensures { result ≡ totals_in net.now.bodies }
@@ -46,8 +57,6 @@ pub fn totals_of<K: Component>(net: &Net<K>) -> Totals
         turns: 0,
         made: 0,
         dropped: 0,
-        all_ended: true,
-        some_failed: false,
     };
     for process in 0..net.processes() {
         totals = with_body(&totals, net.body(process));
@@ -62,109 +71,129 @@ fn with_body<K: Component>(totals: &Totals, body: &Body<K>) -> Totals
     let turns = body.turns().len() as u64;
     let made = u64::from(body.hands().made());
     let dropped = body.hands().dropped();
-    let ended = has_ended(body.stage());
-    let failed = has_failed(body.stage());
     Totals {
         turns: totals.turns.saturating_add(turns),
         made: totals.made.saturating_add(made),
         dropped: totals.dropped.saturating_add(dropped),
-        all_ended: totals.all_ended & ended,
-        some_failed: totals.some_failed | failed,
     }
 }
 
-/// The verdict on a network in which no process can go on.
-pub fn verdict_on(totals: Totals) -> Verdict
-    ensures { result ≡ verdict_on totals }
+// What blocks a process. One whose work is still to come isn't blocked.
+fn block_of<K: Component>(net: &Net<K>, process: u32) -> Option<Block>
+    requires { process < length net.now.bodies }
+    ensures { result ≡ block_at net.now process }
 {
-    if totals.all_ended {
-        if totals.made.saturating_sub(totals.dropped) == 0 {
+    if is_open(net.body(process).stage()) {
+        None
+    } else {
+        net.block(process)
+    }
+}
+
+// It has ended or failed.
+fn is_over(stage: Stage) -> bool
+    ensures { result ≡ (has_ended stage || has_failed stage) }
+{
+    match stage {
+        Stage::Ended => true,
+        Stage::Failed(_) => true,
+        _ => false,
+    }
+}
+
+fn is_free(block: Option<Block>) -> bool
+    ensures { result ≡ is_none block }
+{
+    match block {
+        Some(_) => false,
+        None => true,
+    }
+}
+
+fn process_goes_on<K: Component>(net: &Net<K>, process: u32) -> bool
+    requires { process < length net.now.bodies }
+    ensures { IfSome (slice_get net.now.bodies process) (λ b. result ≡ goes_on (looks_of net.now.channels) b.process) }
+{
+    let over = is_over(net.body(process).stage());
+    let free = is_free(block_of(net, process));
+    !over & free
+}
+
+fn all_ended<K: Component>(net: &Net<K>) -> bool
+    ensures { result ≡ list_all (λ b. has_ended b.process.stage) net.now.bodies }
+{
+    for process in 0..net.processes() {
+        if !has_ended(net.body(process).stage()) {
+            return false;
+        }
+    }
+    true
+}
+
+fn some_failed<K: Component>(net: &Net<K>) -> bool
+    ensures { result ≡ list_any (λ b. has_failed b.process.stage) net.now.bodies }
+{
+    for process in 0..net.processes() {
+        if has_failed(net.body(process).stage()) {
+            return true;
+        }
+    }
+    false
+}
+
+fn some_goes_on<K: Component>(net: &Net<K>) -> bool
+    ensures { result ≡ list_any (λ b. goes_on (looks_of net.now.channels) b.process) net.now.bodies }
+{
+    for process in 0..net.processes() {
+        if process_goes_on(net, process) {
+            return true;
+        }
+    }
+    false
+}
+
+/// The verdict on a network in which these packets are left.
+pub fn verdict_of<K: Component>(net: &Net<K>, left: &Items<LeftPacket>) -> Verdict
+    ensures { result ≡ verdict_by (list_all (λ b. has_ended b.process.stage) net.now.bodies) (list_any (λ b. goes_on (looks_of net.now.channels) b.process) net.now.bodies) (list_any (λ b. has_failed b.process.stage) net.now.bodies) (length left.now == 0) }
+{
+    if all_ended(net) {
+        if left.is_empty() {
             Verdict::Finished
         } else {
             Verdict::FinishedLeft
         }
-    } else if totals.some_failed {
+    } else if some_goes_on(net) {
+        Verdict::Running
+    } else if some_failed(net) {
         Verdict::Failed
     } else {
         Verdict::Deadlock
     }
 }
 
-fn inputs_at(plan: &Plan, process: u32) -> u32
-    ensures { result ≡ inputs_at plan.now process }
-{
-    match plan.processes().get(process as usize) {
-        Some(entry) => entry.inputs,
-        None => 0,
-    }
-}
-
-fn outputs_at(plan: &Plan, process: u32) -> u32
-    ensures { result ≡ outputs_at plan.now process }
-{
-    match plan.processes().get(process as usize) {
-        Some(entry) => entry.outputs,
-        None => 0,
-    }
-}
-
-// An input as it is spelled. An input that the process doesn't have is spelled by no bytes; a net of this
-// plan names none.
-fn input_text(alloc: Global, plan: &Plan, process: u32, port: Port) -> Result<Text, AllocError>
-    ensures { IfOk result (λ text. text ≡ input_text plan.now process port.0) }
-{
-    if port.0 < inputs_at(plan, process) {
-        let name = plan.input_name(alloc, process, port.0)?;
-        Ok(Text::of(name))
-    } else {
-        Ok(Text::new(alloc))
-    }
-}
-
-// An output as it is spelled, likewise.
-fn output_text(alloc: Global, plan: &Plan, process: u32, port: Port) -> Result<Text, AllocError>
-    ensures { IfOk result (λ text. text ≡ output_text plan.now process port.0) }
-{
-    if port.0 < outputs_at(plan, process) {
-        let name = plan.output_name(alloc, process, port.0)?;
-        Ok(Text::of(name))
-    } else {
-        Ok(Text::new(alloc))
-    }
-}
-
-// The name of a process, likewise.
-fn name_text(alloc: Global, plan: &Plan, process: u32) -> Result<Text, AllocError>
-    ensures { IfOk result (λ text. text ≡ name_text plan.now process) }
-{
-    match plan.processes().get(process as usize) {
-        Some(entry) => entry.name.copy(alloc),
-        None => Ok(Text::new(alloc)),
-    }
-}
-
-/// Adds what a process waits for, if it waits, where no process can go on.
-pub fn add_blocked(
+/// Adds what a process waits for, if it waits.
+fn add_blocked(
     alloc: Global,
     blocked: &mut Items<Blocked>,
     plan: &Plan,
     process: u32,
-    stage: Stage,
+    block: Option<Block>,
 ) -> Result<(), AllocError>
-    ensures { OnOk result (blocked.new ≡ blocked.old ++ blocked_at plan.now process stage) }
+    ensures { OnOk result (blocked.new ≡ blocked.old ++ named_block plan.now process block) }
 {
-    let wait = match stage {
-        Stage::Idle => Wait::Dormant,
-        Stage::Wishing(wish) => match wish {
-            Wish::Receive(port) => Wait::Empty(input_text(alloc, plan, process, port)?),
-            Wish::Send(port, _) => Wait::Full(output_text(alloc, plan, process, port)?),
-            Wish::Level(_) => return Ok(()),
-            Wish::Deactivate => return Ok(()),
-        },
-        Stage::Told(_) => return Ok(()),
-        Stage::Closing(_) => return Ok(()),
-        Stage::Ended => return Ok(()),
-        Stage::Failed(_) => return Ok(()),
+    let Some(block) = block else {
+        return Ok(());
+    };
+    let wait = match block {
+        Block::Empty {
+            connection: _,
+            port,
+        } => Wait::Empty(input_text(alloc, plan, process, port)?),
+        Block::Full {
+            connection: _,
+            port,
+        } => Wait::Full(output_text(alloc, plan, process, port)?),
+        Block::Dormant => Wait::Dormant,
     };
     let name = name_text(alloc, plan, process)?;
     blocked.push(Blocked { name, wait })?;
@@ -186,7 +215,7 @@ fn cause_of(alloc: Global, plan: &Plan, process: u32, fail: Fail) -> Result<Caus
 }
 
 /// Adds why a process failed, if it did.
-pub fn add_failed(
+fn add_failed(
     alloc: Global,
     failed: &mut Items<Failure>,
     plan: &Plan,
@@ -210,23 +239,18 @@ pub fn add_failed(
     }
 }
 
-/// What all processes wait for.
+/// What all processes wait for that can't go on.
 pub fn all_blocked<K: Component>(
     alloc: Global,
     plan: &Plan,
     net: &Net<K>,
 ) -> Result<Items<Blocked>, AllocError>
-    ensures { IfOk result (λ blocked. blocked ≡ told_from (blocked_at plan.now) 0 (stages_of net.now.bodies)) }
+    ensures { IfOk result (λ blocked. blocked ≡ told_from (block_told plan.now (looks_of net.now.channels)) 0 (processes_of net.now.bodies)) }
 {
     let mut blocked = Items::new(alloc);
     for process in 0..net.processes() {
-        add_blocked(
-            alloc,
-            &mut blocked,
-            plan,
-            process,
-            net.body(process).stage(),
-        )?;
+        let block = block_of(net, process);
+        add_blocked(alloc, &mut blocked, plan, process, block)?;
     }
     Ok(blocked)
 }
@@ -237,7 +261,7 @@ pub fn all_failed<K: Component>(
     plan: &Plan,
     net: &Net<K>,
 ) -> Result<Items<Failure>, AllocError>
-    ensures { IfOk result (λ failed. failed ≡ told_from (failed_at plan.now) 0 (stages_of net.now.bodies)) }
+    ensures { IfOk result (λ failed. failed ≡ told_from (failure_told plan.now) 0 (processes_of net.now.bodies)) }
 {
     let mut failed = Items::new(alloc);
     for process in 0..net.processes() {

@@ -1,12 +1,16 @@
 //! What a run came to.
 ghost use Rattle.std.specs.Prelude.{◌≡◌, IfOk};
 
-use crate::lines::{put_blocked, put_failed, put_total, put_verdict};
-use crate::of::{all_blocked, all_failed, totals_of, verdict_on};
+use crate::lines::{
+    put_blocked, put_connections, put_failed, put_left, put_processes, put_total, put_verdict,
+};
+use crate::of::{all_blocked, all_failed, totals_of, verdict_of};
+use crate::rows::{all_connections, all_processes};
 use flow_component::Component;
 use flow_items::{Items, Text};
-use flow_machine::Closed;
+use flow_machine::{Closed, Status};
 use flow_net::Plan;
+use flow_packet::PacketId;
 use std::alloc::{AllocError, Global};
 use std::marker::Model;
 
@@ -23,6 +27,30 @@ pub enum Verdict {
     Failed,
     /// Some process can go on.
     Running,
+}
+
+/// A process: its flat name and its kind, where it stands, how many turns it made, and how many packets it
+/// made, dropped, and has in its hands. Packets in trees count.
+#[derive(Debug, Drop)]
+pub struct ProcessLine {
+    pub name: Text,
+    pub kind: Text,
+    pub status: Status,
+    pub turns: u64,
+    pub made: u64,
+    pub dropped: u64,
+    pub left: u64,
+}
+
+/// A connection: its name, how many packets it takes at once, how many were put and taken, each with its tree as
+/// one, and how many are left in it, where packets in trees count.
+#[derive(Debug, Drop)]
+pub struct ConnectionLine {
+    pub name: Text,
+    pub capacity: u32,
+    pub puts: u64,
+    pub takes: u64,
+    pub left: u64,
 }
 
 /// Why a process can't go on, with its port as the report spells it.
@@ -61,17 +89,38 @@ pub struct Failure {
     pub cause: Cause,
 }
 
-/// What a run came to: the verdict, who can't go on, who failed, and the totals.
+/// Where a packet is that is left, by the numbers of processes and connections.
+#[derive(Debug, Drop)]
+pub enum Place {
+    /// At the root of the hands of a process.
+    InHands(u32),
+    /// At the root of a connection.
+    InConnection(u32),
+    /// In the chain of this name of another packet that is left.
+    InChain { chain: Text, of: PacketId },
+}
+
+/// A packet that is left.
+#[derive(Debug, Drop)]
+pub struct LeftPacket {
+    pub packet: PacketId,
+    pub place: Place,
+}
+
+/// What a run came to: the verdict, the processes and the connections, who can't go on, who failed, every packet
+/// that is left, and the totals.
 #[derive(Drop)]
 pub struct Report {
     pub(crate) alloc: Global,
     pub(crate) verdict: Verdict,
+    pub(crate) processes: Items<ProcessLine>,
+    pub(crate) connections: Items<ConnectionLine>,
     pub(crate) blocked: Items<Blocked>,
     pub(crate) failed: Items<Failure>,
+    pub(crate) left: Items<LeftPacket>,
     pub(crate) turns: u64,
     pub(crate) made: u64,
     pub(crate) dropped: u64,
-    pub(crate) left: u64,
 }
 
 impl Model for Report {
@@ -81,12 +130,14 @@ impl Model for Report {
 
     ghost view = { λ r. record {
       verdict = r.verdict;
+      processes = r.processes;
+      connections = r.connections;
       blocked = r.blocked;
       failed = r.failed;
+      left = r.left;
       turns = r.turns;
       made = r.made;
       dropped = r.dropped;
-      left = r.left;
     } };
 }
 
@@ -94,26 +145,33 @@ impl Report {
     ghost use Rattle.flow_report.specs.Of.{told_of};
     ghost use Rattle.flow_report.specs.Text.{report_text};
 
-    /// The report of a run of this plan in which no process can go on any more. Its rules are this
+    /// The report of a network of this plan, whether or not a process can go on there. Its rules are this
     /// project's own.
     pub fn of<K: Component>(
         alloc: Global,
         plan: &Plan,
         closed: &Closed<K>,
     ) -> Result<Report, AllocError>
-        ensures { IfOk result (λ report. report ≡ told_of plan.now closed.now.net.bodies) }
+        ensures { IfOk result (λ report. report ≡ told_of plan.now closed.now.net) }
     {
         let net = &closed.net;
+        let mut left = Items::new(alloc);
+        let processes = all_processes(alloc, &mut left, plan, net)?;
+        let connections = all_connections(alloc, &mut left, plan, net)?;
+        let blocked = all_blocked(alloc, plan, net)?;
+        let failed = all_failed(alloc, plan, net)?;
         let totals = totals_of(net);
         Ok(Report {
             alloc,
-            verdict: verdict_on(totals),
-            blocked: all_blocked(alloc, plan, net)?,
-            failed: all_failed(alloc, plan, net)?,
+            verdict: verdict_of(net, &left),
+            processes,
+            connections,
+            blocked,
+            failed,
+            left,
             turns: totals.turns,
             made: totals.made,
             dropped: totals.dropped,
-            left: totals.made.saturating_sub(totals.dropped),
         })
     }
 
@@ -127,11 +185,23 @@ impl Report {
     pub fn print(&self) -> Result<Vec<u8>, AllocError>
         ensures { IfOk result (λ text. text.items ≡ report_text self.now) }
     {
+        let processes = self.processes.as_slice();
+        let connections = self.connections.as_slice();
+        let left = self.left.as_slice();
         let mut text = Vec::new(self.alloc);
         put_verdict(&mut text, self.verdict)?;
+        put_processes(&mut text, processes)?;
+        put_connections(&mut text, connections)?;
         put_blocked(&mut text, self.blocked.as_slice())?;
         put_failed(&mut text, self.failed.as_slice())?;
-        put_total(&mut text, self.turns, self.made, self.dropped, self.left)?;
+        put_left(&mut text, processes, connections, left)?;
+        put_total(
+            &mut text,
+            self.turns,
+            self.made,
+            self.dropped,
+            left.len() as u64,
+        )?;
         Ok(text)
     }
 }

@@ -1,6 +1,6 @@
 use Rattle.std.specs.Prelude.{codes}
 use Rattle.std.specs.Fmt.{decimal}
-use Rattle.flow_report.proofs.Totals.{total-of}
+use Rattle.flow_report.proofs.Appending.{total-of}
 use Rattle.flow_report.proofs.lines.put_total.Goals as goal
 
 pub returns : goal.returns

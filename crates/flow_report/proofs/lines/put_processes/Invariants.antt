@@ -1,0 +1,7 @@
+use Rattle.std.proofs.Common.{◌≡◌, ◌++◌, take}
+use Rattle.std.specs.List.{flat_map}
+use Rattle.flow_report.specs.Text.{ended, process_line}
+use Rattle.flow_report.proofs.lines.put_processes.Given as goal
+
+abbrev pub invariant-loop-process : goal.invariant-loop-process
+invariant-loop-process l = l.text.items ≡ l.initial.text.items ++ flat_map (λ x. ended (process_line x)) (take l.process-index l.processes)
