@@ -1,2 +1,4 @@
-pub mod Stamps
-pub mod Levels
+mod FileLaws
+mod FileLemmas
+mod Levels
+mod Stamps
