@@ -22,6 +22,7 @@ outlet-back k (Some d ∷ os) zero c is = (0, ap (λ (x : Option ℕ). let r : O
 outlet-back k (Some d ∷ os) (suc j) c is = let r = outlet-back (k + 1) os j c is in (suc r.0, r.1)
 outlet-back k (None ∷ os) j c is = let r = outlet-back (k + 1) os j c is in (suc r.0, r.1)
 
+-- The connection that a body has to close is one of the net's.
 pub close-range : {K : Type 0} (m c : ℕ) (b : BodyValue K) → case_of b.process ≡ Some (cases.Close c) → IsWiredBody m b → c < m
 close-range m c b is wired =
     let t = case-is b.process (cases.Close c) is in
@@ -29,6 +30,7 @@ close-range m c b is wired =
     let o = outlet-back 0 b.process.outputs t.0 c at in
     wired.outputs o.0 c (ap (option_and_then (λ (x : Option ℕ). x)) o.1)
 
+-- A held body that comes out of a turn has only connections of the net.
 pub wired-came : {K : Type 0} (m : ℕ) (h h' : Held K) (w w' : Worker K) (r : Turned) (R : ℕ → Type 0) → MatchTurned r (IsMade h w h' w') (λ n. IsUnmade h w h' w') (λ n. IsUnmade h w h' w' × R n) → IsWiredBody m h.body → IsWiredBody m h'.body
 wired-came m h h' w w' (turned.Made s) R is wired = wired-turn m h.body h'.body is.1.0 s is.1.1 wired
 wired-came {K} m h h' w w' (turned.Busy n) R is wired = subst (λ (x : Held K). IsWiredBody m x.body) (sym is.0) wired

@@ -38,12 +38,15 @@ input-same c b d same i = (i.0, ap (λ (xs : List Input). slice_get xs i.0) (sym
 pub level-of : (level senders : ℕ) → level < 65536 → senders < 65536 → level_in (free_word level senders) ≡ level
 level-of level senders low few = omega (arith, low, few)
 
+-- A word that was made of a level and a number of senders gives that number back.
 pub senders-of : (level senders : ℕ) → level < 65536 → senders < 65536 → senders_in (free_word level senders) ≡ senders
 senders-of level senders low few = omega (arith, low, few)
 
+-- The held bit doesn't change the level of a word.
 pub level-held : (word : ℕ) → level_in (word + held_bit) ≡ level_in word
 level-held word = omega arith
 
+-- The held bit doesn't change the senders of a word.
 pub senders-held : (word : ℕ) → senders_in (word + held_bit) ≡ senders_in word
 senders-held word = omega arith
 

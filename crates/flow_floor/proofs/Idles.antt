@@ -123,6 +123,7 @@ dormant-seen start d seen i c idle saw is there = (
   ),
 )
 
+-- An idle process whose inputs were all seen empty, one of them with a sender, is dormant.
 pub dormant-there : {K : Type 0} (start : NetValue K) (d : BodyValue K) (seen : List Look) (n : ℕ) → length start.bodies ≡ n → d.process.stage ≡ stages.Idle → AllSaw (SawNone n) (length d.process.inputs) d.process.inputs seen → SawOne (SawSender n) d.process.inputs seen → SeenBlocks start d seen
 dormant-there start d seen n is idle none_in one =
     let sawn = subst (λ m. AllSaw (SawNone m) (length d.process.inputs) d.process.inputs seen) (sym is) none_in in

@@ -32,12 +32,15 @@ input-told inputs i c is = by (slice_get inputs i) refl is
     by (Some (Text text)) at is = absurd (cc)
     by None at is = absurd (cc)
 
+-- An input without a connection needs no look.
 pub looked-skip : (n m : ℕ) (inputs : List Input) (seen : List Look) (o : Bool) → Looked n m inputs seen o → connection_of (slice_get inputs m) ≡ None → Looked n (m + 1) inputs seen o
 looked-skip n m inputs seen o l gone = record { none_in = saw-skip (SawNone n) m inputs seen l.none_in gone; opened = l.opened; over = λ e. saw-skip (SawOver n) m inputs seen (l.over e) gone }
 
+-- An empty input with an open sender was looked at, and found open.
 pub looked-open : (n m c : ℕ) (inputs : List Input) (look : Look) (seen : List Look) (o : Bool) → Looked n m inputs seen o → connection_of (slice_get inputs m) ≡ Some c → look.word ≡ n + c → level_in look.read ≡ 0 → 0 < senders_in look.read → Looked n (m + 1) inputs (look ∷ seen) true
 looked-open n m c inputs look seen o l at word none_in some_one = record { none_in = saw-look (SawNone n) m c inputs look seen l.none_in at (word, none_in); opened = λ _. (m, c, input-told inputs m c at, inl (word, some_one)); over = λ e. absurd (cc) }
 
+-- An empty input without an open sender was looked at, and changes nothing.
 pub looked-over : (n m c : ℕ) (inputs : List Input) (look : Look) (seen : List Look) (o : Bool) → Looked n m inputs seen o → connection_of (slice_get inputs m) ≡ Some c → look.word ≡ n + c → level_in look.read ≡ 0 → senders_in look.read ≡ 0 → Looked n (m + 1) inputs (look ∷ seen) o
 looked-over n m c inputs look seen o l at word none_in none_open = record {
   none_in = saw-look (SawNone n) m c inputs look seen l.none_in at (word, none_in);
@@ -45,6 +48,7 @@ looked-over n m c inputs look seen o l at word none_in none_open = record {
   over = λ e. saw-look (SawOver n) m c inputs look seen (l.over e) at (word, none_in, none_open);
 }
 
+-- What isn't nothing is at least one.
 pub not-none : (n : ℕ) → (n ≡ 0 → ⊥) → 0 < n
 not-none zero other = absurd (other refl)
 not-none (suc n) other = omega arith

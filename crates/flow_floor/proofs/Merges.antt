@@ -40,6 +40,7 @@ name_here o i k e = ap (λ b. if b then i else k) (eq-eqb k o e)
 name_else : (o i k : ℕ) → k ≢ o → (if k == o then i else k) ≡ k
 name_else o i k e = ap (λ b. if b then i else k) (ne_eqb k o e)
 
+-- The turns of two workers, merged in the order of their stamps, are those of one worker that made both.
 pub merge-turns : (o i n : ℕ) (by : List ℕ) (log : List Logged) → o ≢ i → merge (turns_by o n by log) (turns_by i n by log) ≡ turns_by i n (renamed o i by) log
 merge-turns o i n [] log other = refl
 merge-turns o i n (s ∷ by) [] other = refl
@@ -54,6 +55,7 @@ merge-turns o i n (s ∷ by) (t ∷ log) other = let r = merge-turns o i (n + 1)
     ∙ sym (turns_by-head i n x (renamed o i by) t log (sym (name_else o i s not_o ∙ is))))))
     (λ not_i. ap (merge a) (turns_by-skip i n s by t log (λ z. not_i (sym z))) ∙ (r ∙ sym (turns_by-skip i n x (renamed o i by) t log (λ z. not_i (sym (z ∙ name_else o i s not_o)))))))
 
+-- The turns of every other worker stay.
 pub turns_by-renamed_else : (o i j n : ℕ) (by : List ℕ) (log : List Logged) → j ≢ o → j ≢ i → turns_by j n (renamed o i by) log ≡ turns_by j n by log
 turns_by-renamed_else o i j n [] log a b = refl
 turns_by-renamed_else o i j n (s ∷ by) [] a b = refl
@@ -63,20 +65,24 @@ turns_by-renamed_else o i j n (s ∷ by) (t ∷ log) a b = let r = turns_by-rena
     (λ not_o. ap (λ k. if j == k then (n, t.process) ∷ turns_by j (n + 1) (renamed o i by) log else turns_by j (n + 1) (renamed o i by) log) (name_else o i s not_o)
     ∙ ap (λ l. if j == s then (n, t.process) ∷ l else l) r)
 
+-- The worker that was merged into another has no turns left.
 pub turns_by-renamed_gone : (o i n : ℕ) (by : List ℕ) (log : List Logged) → o ≢ i → turns_by o n (renamed o i by) log ≡ []
 turns_by-renamed_gone o i n [] log other = refl
 turns_by-renamed_gone o i n (s ∷ by) [] other = refl
 turns_by-renamed_gone o i n (s ∷ by) (t ∷ log) other = turns_by-skip o n (if s == o then i else s) (renamed o i by) t log
     (λ z. dite (ℕ_discrete s o) (λ is. other (z ∙ name_here o i s is)) (λ not_o. not_o (sym (z ∙ name_else o i s not_o)))) ∙ turns_by-renamed_gone o i (n + 1) by log other
 
+-- Renaming a worker keeps how many turns there are.
 pub length-renamed : (o i : ℕ) (by : List ℕ) → length (renamed o i by) ≡ length by
 length-renamed o i [] = refl
 length-renamed o i (s ∷ by) = ap suc (length-renamed o i by)
 
+-- Numbers stay below a bound when one of them is renamed to one below it.
 pub below-renamed : (o i m : ℕ) (by : List ℕ) → i < m → AllBelow m by → AllBelow m (renamed o i by)
 below-renamed o i m [] l h = tt
 below-renamed o i m (s ∷ by) l h = (dite (ℕ_discrete s o) (λ is. subst (λ k. k < m) (sym (name_here o i s is)) l) (λ not_o. subst (λ k. k < m) (sym (name_else o i s not_o)) h.0), below-renamed o i m by l h.1)
 
+-- Numbers below a bound are below every greater one.
 pub below-more : (m n : ℕ) (by : List ℕ) → m ≤ n → AllBelow m by → AllBelow n by
 below-more m n [] le all = tt
 below-more m n (s ∷ by) le all = (omega (arith, all.0, le), below-more m n by le all.1)

@@ -29,6 +29,8 @@ idx-new [] y (suc i) is = absurd (omega (arith, is))
 idx-new (x ∷ xs) y zero is = absurd (omega (arith, is))
 idx-new (x ∷ xs) y (suc i) is = idx-new xs y i (omega (arith, is))
 
+-- The words with which a floor begins are those of its net: all processes ready, each connection with its level and senders, the clock, and all
+-- live.
 pub first-words : {K : Type 0} (start : NetValue K) (n m t : ℕ) (w v ws : List ℕ) → n ≡ length start.bodies → m ≡ length start.channels → t ≡ turns_made start → v ≡ w ++ t ∷ [] → ws ≡ v ++ n ∷ [] → length w ≡ n + m → ((p : ℕ) → p < n → get_or w p 0 ≡ 2)
     → ((c : ℕ) (k : ChannelShown) → c < m → slice_get start.channels c ≡ Some k → get_or w (n + c) 0 ≡ free_word (length k.packets) k.open_senders) → FirstWords start ws
 first-words {K} start n m t w v ws n_is m_is t_is v_is ws_is wide twos frees =
@@ -57,6 +59,7 @@ at-back f [] ys c i is = ap (get_elem? ys) (let e : i ≡ c = omega (arith, is) 
 at-back f (z ∷ zs) ys c zero is = absurd (omega (arith, is))
 at-back f (z ∷ zs) ys c (suc i) is = at-back f zs ys c i (omega (arith, is))
 
+-- A floor that begins with these words and slots obeys the rule.
 pub begins : {K : Type 0} (shape_of : K → Shape) (uses : K → ℕ → Bool) (ready : K → Held → Answer → Type 0) (next : K → Held → Answer → Outcome K → Type 0) (start : NetValue K) (ws : List ℕ) (xs : List (Slot K)) → FirstWords start ws → FewSenders start.channels
     → xs ≡ map slot.Body start.bodies ++ map slot.Channel start.channels → Begins shape_of uses ready next start ws xs
 begins {K} shape_of uses ready next start ws xs w few xs_is = record {

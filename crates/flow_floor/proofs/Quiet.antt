@@ -41,9 +41,11 @@ bodies-length dropped p (x ∷ xs) = omega (arith, bodies-length dropped (p + 1)
 abbrev WordsTell : ℕ → List ChannelShown → List ℕ → Type 0
 WordsTell n channels ws = (c : ℕ) (k : ChannelShown) → slice_get channels c ≡ Some k → (level_in (get_or ws (n + c) 0) ≡ length k.packets) × (senders_in (get_or ws (n + c) 0) ≡ k.open_senders)
 
+-- What is seen of a connection is what is shown of it.
 pub look-of : (channels : List ChannelShown) (c : ℕ) (k : ChannelShown) → slice_get channels c ≡ Some k → slice_get (looks_of channels) c ≡ Some (look_shown k)
 look-of channels c k is = get-map look_shown channels c k is
 
+-- A connection of level 0 has no packets.
 pub no-packets : (ps : List Tree) → length ps ≡ 0 → ps ≡ []
 no-packets [] e = refl
 no-packets (p ∷ ps) e = absurd (omega (arith, e))
@@ -57,6 +59,7 @@ none-held channels (From d ∷ xs) empty =
     let here : has_packet (looks_of channels) (From d) ≡ false = ap (passes holds_packet) (look-of channels d k.0 k.1) ∙ ap (λ (ps : List Tree). not (is_empty ps)) (no-packets k.0.packets k.2) in
     ap (λ b. b || list_any (has_packet (looks_of channels)) xs) here ∙ none-held channels xs (λ i c is. empty (suc i) c is)
 
+-- A process with a connection at some input is connected.
 pub some-connected : (xs : List Input) (i c : ℕ) → slice_get xs i ≡ Some (From c) → list_any is_connected xs ≡ true
 some-connected [] i c is = absurd (cc)
 some-connected (Text text ∷ xs) zero c is = absurd (let e : Text text ≡ From c = some_Some (Text text) (From c) is in let n : 0 ≡ 1 = ap number e in omega (arith, n))

@@ -39,6 +39,7 @@ all-push m [] all (suc k) d l = absurd (omega (arith, l))
 all-push m (x ∷ xs) all zero d l = omega (arith, all zero d (omega arith))
 all-push m (x ∷ xs) all (suc k) d l = all-push m xs (λ i e n. all (suc i) e (omega (arith, n))) k d (omega (arith, l))
 
+-- One more body is named in the row of a connection exactly where it stands at it.
 pub named-more : {K : Type 0} (sends : Bool) (c : ℕ) (bodies : List (BodyValue K)) (m : ℕ) (row row' : List ℕ) (stands : Bool) (b : BodyValue K) → Named sends c bodies m row → slice_get bodies m ≡ Some b → (StandsAt sends c b → stands ≡ true) → OnTrue stands (row' ≡ row ++ m ∷ []) → OnFalse stands (row' ≡ row)
     → Named sends c bodies (m + 1) row'
 named-more {K} sends c bodies m row row' true b n at tells add keep = subst (λ (r : List ℕ). Named sends c bodies (m + 1) r) (sym add) (record {

@@ -76,19 +76,24 @@ turns_by-push j n i (h ∷ by) (u ∷ log) t len =
     go true h = ap (λ l. (n, u.process) ∷ l) h
     go false h = h
 
+-- A turn of a worker is one more of its turns, under the next stamp.
 pub turns_by-mine : (j n : ℕ) (by : List ℕ) (log : List Logged) (t : Logged) → length by ≡ length log → turns_by j n (by ++ j ∷ []) (log ++ t ∷ []) ≡ turns_by j n by log ++ (n + length log, t.process) ∷ []
 turns_by-mine j n by log t len = turns_by-push j n j by log t len ∙ ap (λ b. turns_by j n by log ++ (if b then (n + length log, t.process) ∷ [] else [])) (eq-eqb j j refl)
 
+-- A turn of another worker changes none of its turns.
 pub turns_by-else : (j n i : ℕ) (by : List ℕ) (log : List Logged) (t : Logged) → length by ≡ length log → j ≢ i → turns_by j n (by ++ i ∷ []) (log ++ t ∷ []) ≡ turns_by j n by log
 turns_by-else j n i by log t len other = turns_by-push j n i by log t len ∙ (ap (λ b. turns_by j n by log ++ (if b then (n + length log, t.process) ∷ [] else [])) (ne_eqb j i other) ∙ append-nil (turns_by j n by log))
 
+-- Numbers stay below a bound when one below it is added.
 pub below-push : (m j : ℕ) (by : List ℕ) → j < m → AllBelow m by → AllBelow m (by ++ j ∷ [])
 below-push m j [] lt all = (lt, tt)
 below-push m j (i ∷ by) lt all = (all.0, below-push m j by lt all.1)
 
+-- The state of the table.
 abbrev pub St : Type 0 → Type 0
 St K = State (Slot K) (View K)
 
+-- What each slot has, where it isn't taken out.
 abbrev pub Homes : Type 0 → Type 0
 Homes K = List (maybe.Option (Slot K))
 

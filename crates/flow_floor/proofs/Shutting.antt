@@ -11,11 +11,13 @@ use Rattle.flow_floor.specs.Shut.{BodiesIn, ChannelsIn}
 use Rattle.flow_floor.proofs.Slots.{body-is, channel-is}
 use Rattle.flow_floor.proofs.Seats.{some_Some}
 
+-- All places keep what they have when something is pushed.
 pub push-old : {A : Type 0} (xs : List A) (x : A) (i : ℕ) → i < length xs → slice_get (xs ++ x ∷ []) i ≡ slice_get xs i
 push-old [] x i below = absurd (omega (arith, below))
 push-old (y ∷ ys) x zero below = refl
 push-old (y ∷ ys) x (suc i) below = push-old ys x i (omega (arith, below))
 
+-- What is pushed stands at the end.
 pub push-new : {A : Type 0} (xs : List A) (x : A) (i : ℕ) → i ≡ length xs → slice_get (xs ++ x ∷ []) i ≡ Some x
 push-new [] x zero is = refl
 push-new [] x (suc i) is = absurd (omega (arith, is))

@@ -13,6 +13,7 @@ abbrev first : {A : Type 0} → A → List (ℕ × A) → A
 first d [] = d
 first d (x ∷ xs) = x.1
 
+-- Two lists that begin at one place with two things and are equal begin with one.
 pub head-is : {A : Type 0} (i : ℕ) (x y : A) (xs ys : List (ℕ × A)) → (i, x) ∷ xs ≡ (i, y) ∷ ys → x ≡ y
 head-is i x y xs ys e = ap (first x) e
 
@@ -26,10 +27,12 @@ channel-in d (slot.Channel k) = k
 channel-in d slot.Vacant = d
 channel-in d (slot.Body b) = d
 
+-- A slot has one body.
 pub body-is : {K : Type 0} (s : Slot K) (b d : BodyValue K) → s ≡ slot.Body b → s ≡ slot.Body d → b ≡ d
 unfolding body-in
 body-is s b d e f = ap (body-in b) (sym e ∙ f)
 
+-- A slot has one channel.
 pub channel-is : {K : Type 0} (s : Slot K) (k l : ChannelShown) → s ≡ slot.Channel k → s ≡ slot.Channel l → k ≡ l
 unfolding channel-in
 channel-is s k l e f = ap (channel-in k) (sym e ∙ f)
@@ -39,6 +42,7 @@ drop-suc [] i below = absurd (omega (arith, below))
 drop-suc (x ∷ xs) zero below = refl
 drop-suc (x ∷ xs) (suc i) below = drop-suc xs i (omega (arith, below))
 
+-- A list from a place on begins with what stands there.
 pub drop-head : (l : List ℕ) (i : ℕ) → i < length l → drop i l ≡ get_or l i 0 ∷ drop (i + 1) l
 drop-head l i below = drop-suc l i below ∙ ap (λ n. get_or l i 0 ∷ drop n l) (let e : suc i ≡ i + 1 = omega arith in e)
 

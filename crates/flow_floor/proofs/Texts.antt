@@ -27,9 +27,11 @@ levels-none port true (Some (From c)) r = refl
 levels-none port true None r = refl
 levels-none port false input r = refl
 
+-- Taking an initial text happens without any connection.
 pub text-at : (grab : Option (ℕ × ChannelShown)) (port : ℕ) (fresh : Bool) (input : Option Input) (e : Event) → grab ≡ None → e ≡ text_event port fresh input → At e grab
 text-at grab port fresh input e gone is = subst (At e) (sym gone) (subst (λ (x : Event). (cs : List ChannelShown) → all_shown_after x cs ≡ cs) (sym is) (text-stays port fresh input))
 
+-- Taking an initial text is what the machine has the process do.
 pub text-happens : {K : Type 0} (fits : NetValue K → Type 0) (n m p : ℕ) (port : Port) (text : List ℕ) (d : BodyValue K) (grab : Option (ℕ × ChannelShown)) (seen : List Look) (e : Event) → e ≡ text_event port.0 (is_fresh d.process port.0) (slice_get d.process.inputs port.0)
     → d.process.stage ≡ stages.Wishing (wishes.Receive port) → slice_get d.process.inputs port.0 ≡ Some (Text text) → Happens fits n m p d grab seen e
 text-happens fits n m p port text d grab seen e is stage input now fit held grabs all len = (
@@ -42,6 +44,7 @@ text-happens fits n m p port text d grab seen e is stage input now fit held grab
     by true = refl
     by false = refl
 
+-- Taking an initial text changes the body as that event does.
 pub text-deed : {K : Type 0} (b d : BodyValue K) (port : Port) (r : ℕ) (e : Event) → e ≡ text_event port.0 (is_fresh b.process port.0) (slice_get b.process.inputs port.0) → b.process.stage ≡ stages.Wishing (wishes.Receive port) → TakesTurn b effects.Initial r d → BodyTurn b e r d
 text-deed {K} b d port r e is stage takes = subst (λ (x : Event). BodyTurn b x r d) (sym is)
     (body-turn b d effects.Initial r (text_event port.0 (is_fresh b.process port.0) (slice_get b.process.inputs port.0)) takes (ap (λ (q : ℕ). process_after b.process (text_event q (is_fresh b.process q) (slice_get b.process.inputs q))) (ap port_at stage))

@@ -101,5 +101,6 @@ wired-think {K} next m h h' t thinks wired = by (thinks-step next h t h' thinks)
     by (inl same) = wired-same m h h' (ap (λ (x : Process K). x.inputs) same.process) (ap (λ (x : Process K). x.outputs) same.process) wired
     by (inr work) = wired-same m h h' (ap (λ (x : Process K). x.inputs) work.process ∙ inputs-worked h.process work.outcome) (ap (λ (x : Process K). x.outputs) work.process ∙ outputs-worked h.process work.outcome) wired
 
+-- A turn leaves a body with only connections of the net.
 pub wired-turn : {K : Type 0} (m : ℕ) (h h' : BodyValue K) (e : Event) (r : ℕ) → BodyTurn h e r h' → IsWiredBody m h → IsWiredBody m h'
 wired-turn {K} m h h' e r turn wired = wired-same m h h' (ap (λ (x : Process K). x.inputs) turn.process ∙ inputs-after h.process e) (ap (λ (x : Process K). x.outputs) turn.process ∙ outputs-after h.process e) wired

@@ -90,6 +90,7 @@ got-turn b d port c stamp k packet rest is takes = subst (λ (ps : List Tree). B
 pub end-turn : {K : Type 0} (b d : BodyValue K) (port c stamp : ℕ) (packets : List Tree) → packets ≡ [] → TakesTurn b effects.End stamp d → BodyTurn b (received_event port c packets) stamp d
 end-turn b d port c stamp packets is takes = subst (λ (ps : List Tree). BodyTurn b (received_event port c ps) stamp d) (sym is) (body-turn b d effects.End stamp (Hears_end port) takes refl refl)
 
+-- Hearing an end changes the body as that event does, and no connection.
 pub end-deed : {K : Type 0} (b d : BodyValue K) (port c r : ℕ) (k : ChannelShown) (e : Event) → e ≡ received_event port c k.packets → length k.packets ≡ 0 → TakesTurn b effects.End r d → BodyTurn b e r d × (k ≡ shown_after e k)
 end-deed {K} b d port c r k e e_is none_in takes = by k.packets e_is none_in
   where
@@ -97,6 +98,7 @@ end-deed {K} b d port c r k e e_is none_in takes = by k.packets e_is none_in
     by [] is none_in = subst (λ (x : Event). BodyTurn b x r d × (k ≡ shown_after x k)) (sym is) (body-turn b d effects.End r (Hears_end port) takes refl refl, refl)
     by (p ∷ ps) is none_in = absurd (omega (arith, none_in))
 
+-- Getting a packet changes body and connection as that event does.
 pub got-deed : {K : Type 0} (b d : BodyValue K) (port c r : ℕ) (k k' : ChannelShown) (packet : Tree) (e : Event) → e ≡ received_event port c k.packets → k.packets ≡ packet ∷ k'.packets → k' ≡ record k { packets = drop 1 k.packets; takes = k.takes + 1 }
     → TakesTurn b (effects.Got packet) r d → BodyTurn b e r d × (k' ≡ shown_after e k) × (length k'.packets ≤ length k.packets) × (k'.open_senders ≡ k.open_senders)
 got-deed {K} b d port c r k k' packet e e_is first rest takes =
@@ -122,6 +124,7 @@ waking-after {K} next z n w w' h c i r k notes more g table view slots told = re
 pub poked-spare : {K : Type 0} (v w : View K) (i r : ℕ) → w ≡ poking v i r → (r ≡ 0 → ⊥) → w.spare ≡ v.spare
 poked-spare {K} v w i r is other = ap (λ (x : View K). x.spare) is ∙ (let z : nat_eq r 0 ≡ false = grind (arith, nat_tests) in ap (λ b. cond b (v.spare - 1) v.spare) z)
 
+-- A poke that read 0 spends one of the spare counts.
 pub poked-spent : {K : Type 0} (v w : View K) (i r : ℕ) → w ≡ poking v i r → r ≡ 0 → w.spare ≡ v.spare - 1
 poked-spent {K} v w i r is none_there = ap (λ (x : View K). x.spare) is ∙ (let z : nat_eq r 0 ≡ true = grind (arith, nat_tests) in ap (λ b. cond b (v.spare - 1) v.spare) z)
 
@@ -159,9 +162,11 @@ held-turned next z n w w' h h' i r e f q table view slots after turn process = r
 pub alone-at : (grab : Option (ℕ × ChannelShown)) (e d : Event) → grab ≡ None → e ≡ d → ((cs : List ChannelShown) → all_shown_after d cs ≡ cs) → At e grab
 alone-at grab e d none is same = subst (At e) (sym none) (subst (λ (x : Event). (cs : List ChannelShown) → all_shown_after x cs ≡ cs) (sym is) same)
 
+-- An event that equals one that happens happens.
 pub happens-as : {K : Type 0} (fits : NetValue K → Type 0) (n m p : ℕ) (d : BodyValue K) (grab : Option (ℕ × ChannelShown)) (seen : List Look) (e e' : Event) → grab ≡ None → e ≡ e' → Happens fits n m p d None seen e' → Happens fits n m p d grab seen e
 happens-as fits n m p d grab seen e e' none is happens now fit there grabs all len = let t = happens now fit there tt all len in (t.0, t.1 ∙ ap (λ (x : Event). let r : Option Event = Some x in r) (sym is))
 
+-- A process that wishes its deactivation has it.
 pub sleeps-happens : {K : Type 0} (fits : NetValue K → Type 0) (n m p : ℕ) (d : BodyValue K) (seen : List Look) → d.process.stage ≡ stages.Wishing wishes.Deactivate → Happens fits n m p d None seen Sleeps
 sleeps-happens fits n m p d seen stage now fit there grabs all len = (0, ap (stage_event (looks_of now.channels) d.process 0) stage)
 
@@ -169,6 +174,7 @@ sent-is : (port c : ℕ) (found : Option Tree) (k : ChannelShown) → IsSome fou
 sent-is port c (Some packet) k there room = (let z : nat_lt (length k.packets) k.capacity ≡ true = grind (arith, nat_tests) in ap (λ b. cond b (Some (Sends port c packet)) None) z)
 sent-is port c None k there room = absurd (cc)
 
+-- A send happens at the connection that is held.
 pub send-at : (grab : Option (ℕ × ChannelShown)) (port c : ℕ) (found : Option Tree) (k : ChannelShown) (e : Event) → grab ≡ Some (c, k) → e ≡ sent_event port c found → At e grab
 send-at grab port c found k e is e_is = subst (At e) (sym is) (subst (IsOn c) (sym e_is) (on found))
   where
@@ -176,12 +182,14 @@ send-at grab port c found k e is e_is = subst (At e) (sym is) (subst (IsOn c) (s
     on (Some packet) = refl
     on None = tt
 
+-- Sending onto the held connection is what the machine has the process do.
 pub send-happens : {K : Type 0} (fits : NetValue K → Type 0) (n m p c : ℕ) (port : Port) (d : BodyValue K) (grab : Option (ℕ × ChannelShown)) (seen : List Look) (k : ChannelShown) (e : Event) → grab ≡ Some (c, k) → e ≡ sent_event port.0 c (packet_wished d.process)
     → SendsAt d.process.stage port → output_at d.process port.0 ≡ Some c → IsSome (packet_wished d.process) → length k.packets < k.capacity → Happens fits n m p d grab seen e
 send-happens fits n m p c port d grab seen k e is e_is stage output there room now fit held grabs all len =
     let at : slice_get now.channels c ≡ Some k = subst (GrabIn now) is grabs in
     (0, sends now.channels d.process 0 c port stage.0 k stage.1 output at ∙ sent-is port.0 c (packet_wished d.process) k there room ∙ ap (λ (x : Event). let t : Option Event = Some x in t) (sym e_is))
 
+-- Sending changes body and connection as that event does.
 pub send-deed : {K : Type 0} (b mid d : BodyValue K) (port : Port) (c r id : ℕ) (k k' : ChannelShown) (packet : Tree) (e : Event) → e ≡ sent_event port.0 c (packet_wished b.process) → b.process.stage ≡ stages.Wishing (wishes.Send port id)
     → IfSome (id_sent b.process.stage) (λ id. packet_at b.process.held.packets id ≡ Some packet) → IfSome (id_sent b.process.stage) (λ id. mid ≡ left_behind b packet id) → length k.packets < k.capacity → k' ≡ record k { packets = k.packets ++ packet ∷ []; puts = k.puts + 1 }
     → TakesTurn mid effects.Sent r d → BodyTurn b e r d × (k' ≡ shown_after e k) × (length k'.packets ≤ k.capacity) × (k'.open_senders ≡ k.open_senders)
@@ -197,9 +205,11 @@ send-deed {K} b mid d port c r id k k' packet e e_is stage found left room put t
     wished = let at : packet_at b.process.held.packets id ≡ Some packet = (let Q : Option ℕ → Type 0 = λ o. IfSome o (λ id. packet_at b.process.held.packets id ≡ Some packet) in subst Q (ap id_sent stage) found) in
         subst (λ (x : Option Tree). IsSome x) (sym (ap (option_and_then (packet_at b.process.held.packets)) (ap id_sent stage) ∙ at)) refl
 
+-- Learning a level happens at the connection that is held.
 pub learn-at : (grab : Option (ℕ × ChannelShown)) (port l c : ℕ) (k : ChannelShown) (e : Event) → grab ≡ Some (c, k) → e ≡ Learns port l → At e grab
 learn-at grab port l c k e is e_is = subst (At e) (sym is) (subst (IsOn c) (sym e_is) tt)
 
+-- Learning the level of the held connection is what the machine has the process do.
 pub learn-happens : {K : Type 0} (fits : NetValue K → Type 0) (n m p c : ℕ) (port : Port) (d : BodyValue K) (grab : Option (ℕ × ChannelShown)) (seen : List Look) (k : ChannelShown) (e : Event) → grab ≡ Some (c, k) → e ≡ Learns port.0 (length k.packets)
     → d.process.stage ≡ stages.Wishing (wishes.Level port) → output_at d.process port.0 ≡ Some c → length k.packets ≤ k.capacity → Happens fits n m p d grab seen e
 learn-happens fits n m p c port d grab seen k e is e_is stage output within now fit held grabs all len =
@@ -207,6 +217,7 @@ learn-happens fits n m p c port d grab seen k e is e_is stage output within now 
     let le : length k.packets ≤ length k.packets = omega arith in
     (length k.packets, learns now.channels d.process (length k.packets) c port k stage output at ∙ told-some port.0 (length k.packets) k le within ∙ ap (λ (x : Event). let t : Option Event = Some x in t) (sym e_is))
 
+-- The connection that is closed is that of an output.
 pub closed-is : (found : Option Outlet) (c : ℕ) → option_map (λ (o : Outlet). o.connection) found ≡ Some c → (o : Outlet) × (found ≡ Some o) × (o.connection ≡ c)
 closed-is (Some o) c is = (o, refl, some_Some o.connection c is)
 closed-is None c is = absurd (cc)
@@ -220,6 +231,7 @@ close-happens fits n m p c i d grab seen e e_is stage outlet now fit held grabs 
     let o = closed-is (slice_get (outlets d.process) i) c outlet in
     (0, close-turn now.channels d.process 0 o.0.connection i o.0 stage o.1 refl ∙ ap (λ (x : Event). let t : Option Event = Some x in t) (sym (e_is ∙ ap closed_event o.1)))
 
+-- Closing an output changes body and connection as that event does.
 pub close-deed : {K : Type 0} (b d : BodyValue K) (found : Option Outlet) (c r : ℕ) (k k' : ChannelShown) (e : Event) → e ≡ closed_event found → option_map (λ (o : Outlet). o.connection) found ≡ Some c → k' ≡ record k { open_senders = k.open_senders - 1 } → TakesTurn b effects.Closed r d
     → BodyTurn b e r d × (k' ≡ shown_after e k) × (k'.packets ≡ k.packets) × (k'.open_senders ≤ k.open_senders)
 close-deed {K} b d found c r k k' e e_is outlet closed takes =
@@ -228,6 +240,7 @@ close-deed {K} b d found c r k k' e e_is outlet closed takes =
     subst (λ (x : Event). BodyTurn b x r d × (k' ≡ shown_after x k) × (k'.packets ≡ k.packets) × (k'.open_senders ≤ k.open_senders)) (sym is)
     (body-turn b d effects.Closed r (Closes o.0.output o.0.connection) takes refl refl, closed, ap (λ (x : ChannelShown). x.packets) closed, omega (arith, ap (λ (x : ChannelShown). x.open_senders) closed))
 
+-- Learning a level changes the body as that event does, and no connection.
 pub learn-deed : {K : Type 0} (b d : BodyValue K) (port l m r : ℕ) (k : ChannelShown) (e : Event) → e ≡ Learns port m → l ≡ m → TakesTurn b (effects.Level l) r d → BodyTurn b e r d × (k ≡ shown_after e k)
 learn-deed {K} b d port l m r k e e_is same takes =
     subst (λ (x : Event). BodyTurn b x r d × (k ≡ shown_after x k)) (sym e_is) (subst (λ n. BodyTurn b (Learns port n) r d) same (body-turn b d (effects.Level l) r (Learns port l) takes refl refl), refl)

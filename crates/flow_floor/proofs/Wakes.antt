@@ -29,6 +29,7 @@ live-set (suc n) (suc i) y (w ∷ ws) below within =
     let r = live-set n i y ws (omega (arith, below)) (omega (arith, within)) in
     let a : counts w + live_in n (set ws i y) + counts (get_or ws i 0) ≡ counts w + live_in n ws + counts y = omega (arith, r) in a
 
+-- A word behind those of the processes doesn't change how many are live.
 pub live-other : (n i y : ℕ) (ws : List ℕ) → n ≤ i → live_in n (set ws i y) ≡ live_in n ws
 live-other zero i y ws above = refl
 live-other (suc n) zero y ws above = absurd (omega (arith, above))
@@ -49,6 +50,7 @@ counts-most w = by ((nat_eq w 1) || ((nat_eq w 2) || (nat_eq w 3)))
     by true = omega arith
     by false = omega arith
 
+-- At most all processes are live.
 pub live-most : (n : ℕ) (ws : List ℕ) → live_in n ws ≤ n
 live-most zero ws = omega arith
 live-most (suc n) [] = omega arith

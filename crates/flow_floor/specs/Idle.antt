@@ -4,6 +4,7 @@ use Rattle.flow_model.specs.States.{Input, From}
 use Rattle.flow_ring.specs.Words.{level_in, senders_in}
 use Rattle.flow_floor.specs.declared.board.Look.{Look}
 
+-- Some look that was taken is such a one.
 abbrev pub InSeen : (Look → Type 0) → List Look → Type 0
 InSeen is [] = ⊥
 InSeen is (look ∷ seen) = is look ⊎ InSeen is seen
@@ -12,12 +13,15 @@ InSeen is (look ∷ seen) = is look ⊎ InSeen is seen
 abbrev pub SawPacket : ℕ → ℕ → Look → Type 0
 SawPacket n c look = (look.word ≡ n + c) × (0 < level_in look.read)
 
+-- A connection was seen without packets.
 abbrev pub SawNone : ℕ → ℕ → Look → Type 0
 SawNone n c look = (look.word ≡ n + c) × (level_in look.read ≡ 0)
 
+-- A connection was seen without packets and without open senders.
 abbrev pub SawOver : ℕ → ℕ → Look → Type 0
 SawOver n c look = (look.word ≡ n + c) × (level_in look.read ≡ 0) × (senders_in look.read ≡ 0)
 
+-- A connection was seen with an open sender.
 abbrev pub SawSender : ℕ → ℕ → Look → Type 0
 SawSender n c look = (look.word ≡ n + c) × (0 < senders_in look.read)
 

@@ -24,6 +24,7 @@ use Rattle.flow_floor.specs.declared.board.Look.{Look}
 abbrev pub IsTaken : ℕ → Type 0
 IsTaken w = (w ≡ 1) ⊎ (w ≡ 3)
 
+-- A word by which no worker holds the process.
 abbrev pub IsFree : ℕ → Type 0
 IsFree w = (w ≡ 0) ⊎ ((w ≡ 2) ⊎ ((w ≡ 4) ⊎ (w ≡ 6)))
 

@@ -15,6 +15,7 @@ use Rattle.flow_floor.specs.declared.board.View.{View}
 use Rattle.flow_floor.specs.declared.board.Look.{Look}
 use Rattle.flow_floor.specs.Turning.{turned_body, grab_after}
 
+-- A worker's seat at the table.
 abbrev pub Sat : Type 0 → Type 0
 Sat K = Me (Slot K) (View K)
 
@@ -23,6 +24,7 @@ abbrev pub Below : ℕ → List (ℕ × ℕ) → Type 0
 Below n [] = Unit {0}
 Below n (turn ∷ turns) = (turn.0 < n) × Below n turns
 
+-- A list without its first member.
 abbrev pub tail : List ℕ → List ℕ
 tail [] = []
 tail (x ∷ xs) = xs
@@ -136,8 +138,10 @@ abbrev pub renamed : ℕ → ℕ → List ℕ → List ℕ
 renamed o i [] = []
 renamed o i (k ∷ ks) = (if k == o then i else k) ∷ renamed o i ks
 
+-- A view with one share given away.
 abbrev pub cut : {K : Type 0} → View K → View K
 cut v = record v { shares = v.shares - 1 }
 
+-- Two views of workers as one.
 abbrev pub merged : {K : Type 0} → View K → View K → View K
 merged v w = record v { shares = v.shares + w.shares; made = merge w.made v.made; read_zero = v.read_zero || w.read_zero }

@@ -16,6 +16,7 @@ use Rattle.flow_machine.specs.Logs.{Logged}
 abbrev pub turned_body : {K : Type 0} → Event → ℕ → BodyValue K → BodyValue K
 turned_body e stamp b = record b { process = process_after b.process e; leaving = None; stamps = b.stamps ++ stamp ∷ []; levels = b.levels ++ levels_told e stamp }
 
+-- A net with another body at one place.
 abbrev pub with_body : {K : Type 0} → NetValue K → ℕ → BodyValue K → NetValue K
 with_body now p b = record { bodies = slice_set now.bodies p b; channels = now.channels }
 
@@ -23,6 +24,7 @@ with_body now p b = record { bodies = slice_set now.bodies p b; channels = now.c
 abbrev pub turned_net : {K : Type 0} → NetValue K → ℕ → BodyValue K → Event → ℕ → NetValue K
 turned_net now p b e stamp = record { bodies = slice_set now.bodies p (turned_body e stamp b); channels = all_shown_after e now.channels }
 
+-- What the log keeps of a turn.
 abbrev pub logged : ℕ → Event → Logged
 logged p e = record { process = p; seen = seen_by e }
 

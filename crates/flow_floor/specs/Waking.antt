@@ -27,6 +27,7 @@ live_in zero words = 0
 live_in (suc n) [] = 0
 live_in (suc n) (w ∷ words) = counts w + live_in n words
 
+-- A number stands in a list.
 abbrev pub InList : ℕ → List ℕ → Type 0
 InList q [] = ⊥
 InList q (x ∷ xs) = (q ≡ x) ⊎ InList q xs

@@ -120,6 +120,7 @@ module _ {K : Type 0} where
   MatchClaim (claim.Held h) P Q = P h
   MatchClaim (claim.NotReady n) P Q = Q n
 
+-- What holds of an answer to a grab, by its cases.
 abbrev pub MatchGrabbed : Grabbed → (ℕ → Type 0) → (ChannelShown → Type 0) → Type 0
 MatchGrabbed (grabbed.Busy n) P Q = P n
 MatchGrabbed (grabbed.Got k) P Q = Q k
@@ -138,6 +139,7 @@ MatchCame (turned.Busy n) P Q R S = Q n
 MatchCame (turned.Blocked n) P Q R S = R n
 MatchCame turned.Over P Q R S = S
 
+-- What holds of an answer to a look, by its cases.
 abbrev pub MatchSaw : Saw → Type 0 → Type 0 → Type 0 → Type 0
 MatchSaw saw.Packet P Q R = P
 MatchSaw saw.Sender P Q R = Q

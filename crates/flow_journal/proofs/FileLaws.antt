@@ -35,6 +35,7 @@ same-numbers (x ∷ xs) (y ∷ ys) few less same =
     let tail = same-numbers xs ys (All-tail (λ n. n < 2 ^ 16) x xs few) (All-tail (λ n. n < 2 ^ 16) y ys less) cut.1 in
     λ i. head i ∷ tail i
 
+-- Bytes are the file of one journal at most.
 pub one-journal : HasOneJournal
 one-journal bytes j k few less first second =
     let a = parts-of j bytes first in
@@ -42,6 +43,7 @@ one-journal bytes j k few less first second =
     let cut = same-front j.turns k.turns (numbers_written j.seen) (numbers_written k.seen) (sym a.turns ∙ b.turns) (sym a.rest ∙ b.rest) in
     (cut.0, same-numbers j.seen k.seen few less cut.1)
 
+-- Bytes that are the file of a journal have no fault.
 pub journal-or-fault : HasJournalOrFault
 journal-or-fault bytes journal place file fault =
     let p = parts-of journal bytes file in
@@ -126,6 +128,7 @@ strays-or-begins bytes place fault = elim fault [
   | goes_on header longer at ↦ inr header.turns.begins
 ]
 
+-- Bytes have one fault at most.
 pub one-fault : HasOneFault
 one-fault bytes p q first second = elim (strays-or-begins bytes p first) [
   | inl away ↦ elim (strays-or-begins bytes q second) [ inl too ↦ strays-once bytes p q away too | inr begins ↦ absurd (never-strays bytes p begins away) ]

@@ -41,6 +41,7 @@ pub record Parts (journal : Journal) (bytes : List ℕ) : Type 0 where
   pub rest : drop 16 bytes ≡ journal.turns ++ numbers_written journal.seen
   pub whole : length bytes ≡ 16 + length journal.turns + 2 * length journal.seen
 
+-- The file of a journal, cut into its parts.
 pub parts-of : (journal : Journal) (bytes : List ℕ) → IsFileOf journal bytes → Parts journal bytes
 parts-of journal bytes file = subst (Parts journal) (sym file.is) (record {
   begins = refl;

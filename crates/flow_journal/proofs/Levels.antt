@@ -47,6 +47,7 @@ pub record TurnAt (log : List Logged) (k : ℕ) : Type 0 where
   pub rest : drop k log ≡ turn ∷ drop (k + 1) log
   pub seen : flat_map (λ t. t.seen) (take (k + 1) log) ≡ flat_map (λ t. t.seen) (take k log) ++ turn.seen
 
+-- There is a turn at each place within a log.
 pub turn-at : (log : List Logged) (k : ℕ) → k < length log → TurnAt log k
 turn-at [] k within = absurd (omega (arith, within))
 turn-at (t ∷ log) zero within = record { turn = t; process = refl; rest = refl; seen = append-nil t.seen }

@@ -7,5 +7,4 @@ pub fn a_file_has_one_journal_or_one_fault()
     ensures journal { HasOneJournal }
     ensures apart { HasJournalOrFault }
     ensures fault { HasOneFault }
-{
-}
+{}

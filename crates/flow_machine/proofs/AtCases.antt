@@ -33,6 +33,7 @@ pub record AtCase {K : Type 0} (net : NetValue K) (p : ℕ) (case : Case) (b : B
   pub whole : b.leaving ≡ None
   pub is : CaseIs b.process case
 
+-- All that is to be known of a process that is at a case.
 pub at-case : {K : Type 0} (shape_of : K → Shape) (uses : K → ℕ → Bool) (ready : K → Held → Told → Type 0) (net : NetValue K) (p : ℕ) (case : Case) (b : BodyValue K) → FitNet shape_of uses ready net → slice_get net.bodies p ≡ Some b → case_of b.process ≡ Some case → AtCase net p case b
 at-case shape_of uses ready net p case b fit there is = record { there = there; whole = fit.whole p b there; is = case-is b.process case is }
 
@@ -45,6 +46,7 @@ at-place shape_of uses ready bodies channels p case d fit within is = at-case sh
 pub thought-at : {K : Type 0} (net : NetValue K) (p : ℕ) (b : BodyValue K) → slice_get net.bodies p ≡ Some b → IsSetIn net p → IsThoughtStage b.process.stage
 thought-at {K} net p b there set = set-thought b b.process.stage (if_some (slice_get net.bodies p) (λ (x : BodyValue K). IsSet x) b there set)
 
+-- A process that is set has the room of its stage.
 pub room-at : {K : Type 0} (net : NetValue K) (p : ℕ) (b : BodyValue K) (stage : Stage) → slice_get net.bodies p ≡ Some b → IsSetIn net p → b.process.stage ≡ stage → IsSetAt b stage
 room-at {K} net p b stage there set at = subst (IsSetAt b) at (if_some (slice_get net.bodies p) (λ (x : BodyValue K). IsSet x) b there set)
 

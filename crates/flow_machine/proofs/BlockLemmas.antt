@@ -31,9 +31,11 @@ use Rattle.flow_machine.specs.declared.answers.Turn.{Turn as Answer}
 use Rattle.flow_machine.specs.declared.answers.Turn.TheVariants as turns
 use Rattle.flow_machine.proofs.Standings.{process-in}
 
+-- A process of the net has the block that its looks give it.
 pub block-there : {K : Type 0} (net : NetValue K) (p : ℕ) (b : BodyValue K) → slice_get net.bodies p ≡ Some b → block_at net p ≡ block_of (looks_of net.channels) b.process
 block-there {K} net p b there = ap (option_and_then (λ (x : BodyValue K). block_of (looks_of net.channels) x.process)) there
 
+-- A process that waits for nothing has no block.
 pub waits-none : {K : Type 0} (looks : List Look) (x : Process K) → waits_for x x.stage ≡ None → block_of looks x ≡ None
 waits-none looks x none = by (is_some (event_from looks x (exact_level looks x)))
   where
@@ -41,6 +43,7 @@ waits-none looks x none = by (is_some (event_from looks x (exact_level looks x))
     by true = refl
     by false = none
 
+-- A process that may wait is blocked exactly where it has no event.
 pub block-event : {K : Type 0} (looks : List Look) (x : Process K) (found : Option Event) (block : Block) → event_from looks x (exact_level looks x) ≡ found → waits_for x x.stage ≡ Some block → block_of looks x ≡ cond {A = Option Block} (is_some found) None (Some block)
 block-event looks x found block event waits = λ i. cond {A = Option Block} (is_some (event i)) None (waits i)
 
@@ -48,15 +51,19 @@ block-event looks x found block event waits = λ i. cond {A = Option Block} (is_
 pub waits-initial : {K : Type 0} (x : Process K) (port : Port) → CaseIs x (cases.Initial port) → waits_for x x.stage ≡ None
 waits-initial x port is = ap (waits_for x) is.1 ∙ ap (λ (i : Option Input). option_and_then (λ d. Some (blocks.Empty d port)) (connection_of i)) is.2
 
+-- A process that asks for a level waits for nothing.
 pub waits-level : {K : Type 0} (x : Process K) (c : ℕ) (port : Port) → CaseIs x (cases.Level c port) → waits_for x x.stage ≡ None
 waits-level x c port is = ap (waits_for x) is.0
 
+-- A process that wishes its deactivation waits for nothing.
 pub waits-deactivate : {K : Type 0} (x : Process K) → CaseIs x cases.Deactivate → waits_for x x.stage ≡ None
 waits-deactivate x is = ap (waits_for x) is
 
+-- A process that has to close an output waits for nothing.
 pub waits-close : {K : Type 0} (x : Process K) (c : ℕ) → CaseIs x (cases.Close c) → waits_for x x.stage ≡ None
 waits-close x c is = ap (waits_for x) is.2
 
+-- A process that is over waits for nothing.
 pub waits-over : {K : Type 0} (x : Process K) (over : _) → CaseIs x (cases.Over over) → waits_for x x.stage ≡ None
 waits-over x overs.Ended is = ap (waits_for x) is
 waits-over x overs.Failed is = ap (waits_for x) is.1
@@ -95,6 +102,7 @@ asks-case x (cases.Over overs.Ended) asks is = absurd (let h : false ≡ true = 
 asks-case x (cases.Over overs.Failed) asks is = absurd (let h : false ≡ true = sym (ap is_asking is.1) ∙ asks in cc)
 asks-case x (cases.Over overs.Starved) asks is = absurd is
 
+-- A number that passes both tests lies between the two.
 pub within-both : (k n m : ℕ) → (nat_le k n && nat_le n m) ≡ true → (k ≤ n) × (n ≤ m)
 within-both k n m both = by (nat_le k n) (nat_le n m) refl refl both
   where

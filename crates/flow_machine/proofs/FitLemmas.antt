@@ -74,6 +74,7 @@ by-place {K} bodies p b b' P there here others q x is = elim (same_or_not q p) [
   | inr other ↦ others q x other (sym (slice_get-set_other bodies p q b' other) ∙ is)
 ]
 
+-- All turns together change by those of the changed body.
 pub turns-set : {K : Type 0} (bodies : List (BodyValue K)) (p : ℕ) (b b' : BodyValue K) → slice_get bodies p ≡ Some b → sum_by (λ (x : BodyValue K). x.process.turns) (slice_set bodies p b') + b.process.turns ≡ sum_by (λ (x : BodyValue K). x.process.turns) bodies + b'.process.turns
 turns-set {K} bodies p b b' there = sum_by-slice_set (λ (x : BodyValue K). x.process.turns) bodies p b b' there
 
@@ -84,6 +85,7 @@ length-change xs i f = by (slice_get xs i)
     by (Some x) = length-set xs i (f x)
     by None = refl
 
+-- An event keeps the number of connections.
 pub channels-len : (e : Event) (channels : List ChannelShown) → length (all_shown_after e channels) ≡ length channels
 channels-len (Gets port c packet) channels = length-change channels c (shown_after (Gets port c packet))
 channels-len (Sends port c packet) channels = length-change channels c (shown_after (Sends port c packet))
@@ -121,6 +123,7 @@ puts-after (Hears_end port) channels m most = λ d ch is. omega (arith, most d c
 puts-after (Learns port level) channels m most = λ d ch is. omega (arith, most d ch is)
 puts-after Sleeps channels m most = λ d ch is. omega (arith, most d ch is)
 
+-- A body with the same inputs and outputs has only connections of the net.
 pub wired-same : {K : Type 0} (channels : ℕ) (b b' : BodyValue K) → b'.process.inputs ≡ b.process.inputs → b'.process.outputs ≡ b.process.outputs → IsWiredBody channels b → IsWiredBody channels b'
 wired-same {K} channels b b' inputs outputs wired = record {
   inputs = λ i c is. wired.inputs i c (ap (λ ins. slice_get ins i) (sym inputs) ∙ is);

@@ -8,6 +8,7 @@ use Rattle.flow_machine.specs.declared.inlet.Inlet.{Inlet}
 use Rattle.flow_machine.specs.declared.inlet.Inlet.TheVariants as inlets
 use Rattle.flow_machine.specs.Inlets.{input_shown, is_text}
 
+-- An input is a text exactly where it is no connection.
 pub texts-shown : (xs : List Inlet) → map is_text xs ≡ map (λ (input : Input). not (is_connected input)) (map input_shown xs)
 texts-shown [] = refl
 texts-shown (inlets.Connection c ∷ xs) = ap (λ (bs : List Bool). false ∷ bs) (texts-shown xs)
@@ -26,12 +27,15 @@ drop-over (x ∷ xs) (suc i) over = drop-over xs i (omega (arith, over))
 pub any-step : {A B : Type 0} (p : B → Bool) (f : A → B) (xs : List A) (i : ℕ) (x : A) → i < length xs → x ≡ get_or xs i x → list_any p (map f (drop i xs)) ≡ (p (f x) || list_any p (map f (drop (i + 1) xs)))
 any-step p f xs i x within is = ap (λ ys. list_any p (map f ys)) (drop-here xs i x within is)
 
+-- Behind the end of a list no member passes a test.
 pub any-over : {A B : Type 0} (p : B → Bool) (f : A → B) (xs : List A) (i : ℕ) → length xs ≤ i → list_any p (map f (drop i xs)) ≡ false
 any-over p f xs i over = ap (λ ys. list_any p (map f ys)) (drop-over xs i over)
 
+-- All members from a place on pass a test where the one there does and all behind it.
 pub all-step : {A B : Type 0} (p : B → Bool) (f : A → B) (xs : List A) (i : ℕ) (x : A) → i < length xs → x ≡ get_or xs i x → list_all p (map f (drop i xs)) ≡ (p (f x) && list_all p (map f (drop (i + 1) xs)))
 all-step p f xs i x within is = ap (λ ys. list_all p (map f ys)) (drop-here xs i x within is)
 
+-- Behind the end of a list all members pass a test.
 pub all-over : {A B : Type 0} (p : B → Bool) (f : A → B) (xs : List A) (i : ℕ) → length xs ≤ i → list_all p (map f (drop i xs)) ≡ true
 all-over p f xs i over = ap (λ ys. list_all p (map f ys)) (drop-over xs i over)
 

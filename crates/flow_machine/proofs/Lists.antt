@@ -2,14 +2,17 @@
 use Rattle.std.proofs.Common.{◌≡◌, ℕ, ◌<◌, List, [], ◌∷◌, ◌++◌, length, Some, suc, zero, refl, arith, slice_get, get_or, sym, ap, ◌∙◌, ◌⊎◌, inl, inr}
 use Rattle.std.proofs.lemmas.Option.{slice_get-get_or}
 
+-- There is a member at each place within a list.
 pub element-there : {A : Type 0} (xs : List A) (i : ℕ) → i < length xs → (x : A) × (slice_get xs i ≡ Some x)
 element-there [] i within = absurd (omega (arith, within))
 element-there (x ∷ xs) zero within = (x, refl)
 element-there (x ∷ xs) (suc i) within = element-there xs i (omega (arith, within))
 
+-- An empty list has nothing at any place.
 pub nothing-there : {A : Type 0} (i : ℕ) (x : A) → slice_get [] i ≡ Some x → ⊥
 nothing-there i x is = absurd (cc)
 
+-- What is there twice is the same.
 pub some-same : {A : Type 0} (x y : A) → Some x ≡ Some y → x ≡ y
 some-same x y is = cc
 

@@ -70,12 +70,15 @@ case-is {K} x case is = by x.stage refl is
     by stages.Ended at e = give (cases.Over overs.Ended) at e
     by (stages.Failed cause) at e = give (cases.Over overs.Failed) (cause, at) e
 
+-- What holds if something is there holds of what is there.
 pub if_some : {A : Type 0} (o : Option A) (P : A → Type 0) (x : A) → o ≡ Some x → IfSome o P → P x
 if_some {A} o P x is h = let Q : Option A → Type 0 = λ q. IfSome q P in subst Q is h
 
+-- What holds of what is there holds if something is there.
 pub some_if : {A : Type 0} (o : Option A) (P : A → Type 0) (x : A) → o ≡ Some x → P x → IfSome o P
 some_if {A} o P x is h = let Q : Option A → Type 0 = λ q. IfSome q P in subst Q (sym is) h
 
+-- Setting a member to itself changes nothing.
 pub set-same : {A : Type 0} (xs : List A) (i : ℕ) (x : A) → slice_get xs i ≡ Some x → slice_set xs i x ≡ xs
 set-same xs i x is = ap (slice_set xs i) (sym (get_or_from_slice_get xs i x x is)) ∙ set-get_or xs i x
 
@@ -91,6 +94,7 @@ IsOn c Starts = Unit {0}
 IsOn c Finishes = Unit {0}
 IsOn c Sleeps = Unit {0}
 
+-- An event on one connection changes that one alone.
 pub all-on : (c : ℕ) (channels : List ChannelShown) (channel : ChannelShown) (e : Event) → IsOn c e → slice_get channels c ≡ Some channel → all_shown_after e channels ≡ slice_set channels c (shown_after e channel)
 all-on c channels channel (Gets port d packet) on is = change_at-some channels d (shown_after (Gets port d packet)) channel (ap (slice_get channels) on ∙ is) ∙ ap (λ n. slice_set channels n (shown_after (Gets port d packet) channel)) on
 all-on c channels channel (Sends port d packet) on is = change_at-some channels d (shown_after (Sends port d packet)) channel (ap (slice_get channels) on ∙ is) ∙ ap (λ n. slice_set channels n (shown_after (Sends port d packet) channel)) on
@@ -170,10 +174,12 @@ end-on : (c port senders : ℕ) (b : Bool) (e : Event) → cond b (Some (Hears_e
 end-on c port senders true e is = let h : Hears_end port ≡ e = cc in subst (IsOn c) h tt
 end-on c port senders false e is = absurd (cc)
 
+-- A get, or an end that is heard, is on its connection.
 pub received-on : (port c senders : ℕ) (packets : List Tree) (e : Event) → received port c packets senders ≡ Some e → IsOn c e
 received-on port c senders [] e is = end-on c port senders (senders == 0) e is
 received-on port c senders (packet ∷ packets) e is = let h : Gets port c packet ≡ e = cc in subst (IsOn c) h refl
 
+-- A process that wishes to receive waits for a packet on its connection.
 pub waits-receive : {K : Type 0} (x : Process K) (port : Port) (c : ℕ) → x.stage ≡ stages.Wishing (wishes.Receive port) → slice_get x.inputs port.0 ≡ Some (From c) → waits_for x x.stage ≡ Some (blocks.Empty c port)
 waits-receive x port c stage input = ap (waits_for x) stage ∙ ap (λ i. option_and_then (λ d. Some (blocks.Empty d port)) (connection_of i)) input
 
@@ -188,10 +194,12 @@ send-on : (port c : ℕ) (packet : Tree) (b : Bool) (e : Event) → cond b (Some
 send-on port c packet true e is = let h : Sends port c packet ≡ e = cc in subst (IsOn c) h refl
 send-on port c packet false e is = absurd (cc)
 
+-- A send is on its connection.
 pub sent-on : (port c : ℕ) (found : Option Tree) (channel : ChannelShown) (e : Event) → sent port c found (Some (look_shown channel)) ≡ Some e → IsOn c e
 sent-on port c None channel e is = absurd (cc)
 sent-on port c (Some packet) channel e is = send-on port c packet (nat_lt (length channel.packets) channel.capacity) e is
 
+-- A process that wishes to send waits for a free place on its connection.
 pub waits-send : {K : Type 0} (x : Process K) (port : Port) (id c : ℕ) → x.stage ≡ stages.Wishing (wishes.Send port id) → output_at x port.0 ≡ Some c → waits_for x x.stage ≡ Some (blocks.Full c port)
 waits-send x port id c stage output = ap (waits_for x) stage ∙ ap (option_and_then (λ d. Some (blocks.Full d port))) output
 
@@ -205,6 +213,7 @@ learn-on : (c port n : ℕ) (b : Bool) (e : Event) → cond b (Some (Learns port
 learn-on c port n true e is = let h : Learns port n ≡ e = cc in subst (IsOn c) h tt
 learn-on c port n false e is = absurd (cc)
 
+-- A level that is told is on its connection.
 pub told-on : (c port n : ℕ) (channel : ChannelShown) (e : Event) → told_level port n (Some (look_shown channel)) ≡ Some e → IsOn c e
 told-on c port n channel e is = learn-on c port n (nat_le (length channel.packets) n && nat_le n channel.capacity) e is
 
@@ -214,6 +223,7 @@ pub exact : {K : Type 0} (channels : List ChannelShown) (x : Process K) (c : ℕ
 exact channels x c port channel stage output there =
     ap (exact_level_for (looks_of channels) x) stage ∙ ap (λ (o : Option ℕ). unwrap_or (option_and_then (λ d. Some (level_in (slice_get (looks_of channels) d))) o) 0) output ∙ ap level_in (look-there channels c channel there)
 
+-- A process of the net is told the level that its looks give it.
 pub level-there : {K : Type 0} (net : NetValue K) (p : ℕ) (b : BodyValue K) → slice_get net.bodies p ≡ Some b → level_of net p ≡ exact_level (looks_of net.channels) b.process
 level-there {K} net p b there = ap (λ (o : Option (BodyValue K)). unwrap_or (option_and_then (λ (x : BodyValue K). Some (exact_level (looks_of net.channels) x.process)) o) 0) there
 
@@ -285,11 +295,14 @@ pub close-turn : {K : Type 0} (channels : List ChannelShown) (x : Process K) (n 
 close-turn channels x n c i outlet stage is same =
     ap (stage_event (looks_of channels) x n) stage ∙ ap (option_and_then (λ (o : Outlet). Some (Closes o.output o.connection))) is ∙ ap (λ d. Some (Closes outlet.output d)) same
 
+-- A close is on its connection.
 pub close-on : (c output : ℕ) (e : Event) → Some (Closes output c) ≡ Some e → IsOn c e
 close-on c output e is = let h : Closes output c ≡ e = cc in subst (IsOn c) h refl
 
+-- A close always happens.
 pub no-close : (output c : ℕ) (P : Type 0) → Some (Closes output c) ≡ None → P
 no-close output c P is = absurd (cc)
 
+-- A level between the length and the capacity may be told.
 pub learned-some : (port n : ℕ) (channel : ChannelShown) → length channel.packets ≤ n → n ≤ channel.capacity → told_level port n (Some (look_shown channel)) ≡ None → ⊥
 learned-some port n channel least most none = let h : Some (Learns port n) ≡ None = sym (told-some port n channel least most) ∙ none in cc

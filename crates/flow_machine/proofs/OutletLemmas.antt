@@ -5,11 +5,13 @@ use Rattle.std.proofs.lemmas.List.Sums.{sum_by-cons}
 use Rattle.flow_model.specs.States.{outlets_from}
 use Rattle.flow_machine.specs.Outlets.{connection_at}
 
+-- There are as many outlets as outputs with a connection.
 pub length-outlets : (k : ℕ) (os : List (Option ℕ)) → length (outlets_from k os) ≡ count_by is_some os
 length-outlets k [] = refl
 length-outlets k (Some c ∷ os) = omega (arith, length-outlets (k + 1) os, sum_by-cons (λ o. cond (is_some o) 1 0) (Some c) os)
 length-outlets k (None ∷ os) = omega (arith, length-outlets (k + 1) os, sum_by-cons (λ o. cond (is_some o) 1 0) None os)
 
+-- There are at most as many outlets as outputs.
 pub length-outlets-most : (k : ℕ) (os : List (Option ℕ)) → length (outlets_from k os) ≤ length os
 length-outlets-most k [] = omega arith
 length-outlets-most k (Some c ∷ os) = omega (arith, length-outlets-most (k + 1) os)
@@ -21,6 +23,7 @@ connections [] = []
 connections (Some c ∷ os) = c ∷ connections os
 connections (None ∷ os) = connections os
 
+-- The connection of the n-th outlet is the n-th among those of the outputs.
 pub connection_at-from : (k : ℕ) (os : List (Option ℕ)) (n : ℕ) → connection_at (outlets_from k os) n ≡ slice_get (connections os) n
 connection_at-from k [] n = refl
 connection_at-from k (Some c ∷ os) zero = refl
@@ -35,6 +38,7 @@ connections-drop os i o within is = ap connections (drop-cons os i o within ∙ 
 pub connection-here : (os : List (Option ℕ)) (i c : ℕ) → i < length os → get_or os i None ≡ Some c → slice_get (connections (drop i os)) 0 ≡ Some c
 connection-here os i c within is = ap (λ (xs : List (Option ℕ)). slice_get (connections xs) 0) (drop-cons os i None within ∙ ap (λ (x : Option ℕ). x ∷ drop (suc i) os) is)
 
+-- Behind the last output there is no connection.
 pub connections-over : (os : List (Option ℕ)) (i n : ℕ) → length os ≤ i → slice_get (connections (drop i os)) n ≡ None
 connections-over os i n over = ap (λ (xs : List (Option ℕ)). slice_get (connections xs) n) (drop-all os i over)
   where

@@ -23,6 +23,7 @@ use Rattle.flow_machine.specs.declared.answers.Turn.TheVariants as turns
 use Rattle.flow_machine.specs.Effects.{effected, levels_by, TakesTurn, IsEffectFor, port_at, id_sent}
 use Rattle.flow_machine.specs.Nets.{BodyTurn, PairTurns, AloneTurns, levels_told, packet_wished}
 
+-- A body whose effect is that of an event has made that turn.
 pub body-turn : {K : Type 0} (old new : BodyValue K) (effect : Effect) (stamp : ℕ) (e : Event) → TakesTurn old effect stamp new → effected old.process old.leaving effect ≡ process_after old.process e → levels_by effect stamp ≡ levels_told e stamp → BodyTurn old e stamp new
 body-turn old new effect stamp e takes process levels = record {
   process = takes.process ∙ process;
@@ -32,6 +33,7 @@ body-turn old new effect stamp e takes process levels = record {
   levels = takes.levels ∙ ap (λ (ls : List (ℕ × ℕ)). old.levels ++ ls) levels;
 }
 
+-- Getting a packet is a turn of body and connection.
 pub got : {K : Type 0} (b b' : BodyValue K) (channel channel' : ChannelShown) (port c stamp : ℕ) (block : Block) (packet : Tree) → channel.packets ≡ packet ∷ channel'.packets → channel' ≡ record channel { packets = drop 1 channel.packets; takes = channel.takes + 1 }
     → TakesTurn b (effects.Got packet) stamp b' → PairTurns (received port c channel.packets channel.open_senders) block stamp b channel (turns.Made stamp) b' channel'
 got b b' channel channel' port c stamp block packet first rest takes =
@@ -41,6 +43,7 @@ received-end : (port c senders : ℕ) (packets : List Tree) (channel : ChannelSh
 received-end port c senders [] channel is none over = rw over refl
 received-end port c senders (packet ∷ packets) channel is none over = absurd (let h = rw is at none in cc)
 
+-- Hearing an end is a turn of body and connection.
 pub heard : {K : Type 0} (b b' : BodyValue K) (channel : ChannelShown) (port c stamp : ℕ) (block : Block) → holds_packet (look_shown channel) ≡ false → channel.open_senders ≡ 0
     → TakesTurn b effects.End stamp b' → PairTurns (received port c channel.packets channel.open_senders) block stamp b channel (turns.Made stamp) b' channel
 heard b b' channel port c stamp block none over takes =
@@ -53,6 +56,7 @@ sent-some port c found channel packet is room = let t : nat_lt (length channel.p
 abbrev pub left_behind : {K : Type 0} → BodyValue K → Tree → ℕ → BodyValue K
 left_behind b packet id = record b { process = record b.process { held = without_packet b.process.held id }; leaving = Some (kind_of packet); places = b.places + 1 }
 
+-- Sending a packet is a turn of body and connection.
 pub sent-off : {K : Type 0} (b mid b' : BodyValue K) (channel channel' : ChannelShown) (port : Port) (c id stamp : ℕ) (block : Block) (packet : Tree) → b.process.stage ≡ stages.Wishing (wishes.Send port id) → IfSome (id_sent b.process.stage) (λ id. packet_at b.process.held.packets id ≡ Some packet)
     → IfSome (id_sent b.process.stage) (λ id. mid ≡ left_behind b packet id) → length channel.packets < channel.capacity → channel' ≡ record channel { packets = channel.packets ++ packet ∷ []; puts = channel.puts + 1 }
     → TakesTurn mid effects.Sent stamp b' → PairTurns (sent port.0 c (packet_wished b.process) (Some (look_shown channel))) block stamp b channel (turns.Made stamp) b' channel'
@@ -73,20 +77,24 @@ may-finish {K} b mid port id packet stage left =
     let mid_is : mid ≡ left_behind b packet id = let P : Option ℕ → Type 0 = λ o. IfSome o (λ id. mid ≡ left_behind b packet id) in subst P (ap id_sent stage) left in
     subst (λ (m : BodyValue K). IsEffectFor m.process m.leaving effects.Sent) (sym mid_is) (kind_of packet, refl, (port, id, stage))
 
+-- A level between the length and the capacity is told.
 pub told-some : (port n : ℕ) (channel : ChannelShown) → length channel.packets ≤ n → n ≤ channel.capacity → told_level port n (Some (look_shown channel)) ≡ Some (Learns port n)
 told-some port n channel least most =
     let l : nat_le (length channel.packets) n ≡ true = grind (arith, nat_tests) in
     let m : nat_le n channel.capacity ≡ true = grind (arith, nat_tests) in
     rw (l, m) refl
 
+-- Learning a level is a turn of body and connection.
 pub learned : {K : Type 0} (b b' : BodyValue K) (channel : ChannelShown) (port : Port) (n stamp : ℕ) (block : Block) → b.process.stage ≡ stages.Wishing (wishes.Level port) → length channel.packets ≤ n → n ≤ channel.capacity
     → TakesTurn b (effects.Level n) stamp b' → PairTurns (told_level port.0 n (Some (look_shown channel))) block stamp b channel (turns.Made stamp) b' channel
 learned b b' channel port n stamp block stage least most takes =
     (refl, (Learns port.0 n, told-some port.0 n channel least most, body-turn b b' (effects.Level n) stamp (Learns port.0 n) takes refl refl, refl))
 
+-- A start is a turn of the body alone.
 pub started : {K : Type 0} (b b' : BodyValue K) (looks : List Look) (stamp : ℕ) (block : Block) → can_start looks b.process ≡ true → TakesTurn b effects.Start stamp b' → AloneTurns (idle_event looks b.process) block stamp b (turns.Made stamp) b'
 started b b' looks stamp block can takes = (refl, (Starts, rw can refl, body-turn b b' effects.Start stamp Starts takes refl refl))
 
+-- The turn to closing is one of the body alone.
 pub finished : {K : Type 0} (b b' : BodyValue K) (looks : List Look) (stamp : ℕ) (block : Block) → can_start looks b.process ≡ false → list_all (has_ended looks) b.process.inputs ≡ true → TakesTurn b effects.ToClosing stamp b'
     → AloneTurns (idle_event looks b.process) block stamp b (turns.Made stamp) b'
 finished b b' looks stamp block cannot over takes = (refl, (Finishes, rw (cannot, over) refl, body-turn b b' effects.ToClosing stamp Finishes takes refl refl))

@@ -34,6 +34,7 @@ reaches-append {K} next s [] b mid s' first rest = subst (λ (t : State K). Reac
 reaches-append next s (Turned p seen ∷ a) b mid s' first rest = (first.0, first.1, first.2, first.3, reaches-append next first.1 a b mid s' first.4 rest)
 reaches-append next s (Worked p ∷ a) b mid s' first rest = (first.0, first.1, reaches-append next first.0 a b mid s' first.2 rest)
 
+-- The journal of steps behind steps is that of the first and then that of the others.
 pub steps-append : (a b : List Step) → steps_journal (a ++ b) ≡ then_turns (steps_journal a) (steps_journal b)
 steps-append [] b = refl
 steps-append (Turned p seen ∷ a) b =

@@ -49,6 +49,7 @@ seen-append : (log more : List Logged) → flat_map (λ (t : Logged). t.seen) (l
 seen-append [] more = refl
 seen-append (t ∷ log) more = ap (λ xs. t.seen ++ xs) (seen-append log more) ∙ sym (append_assoc t.seen (flat_map (λ (u : Logged). u.seen) log) (flat_map (λ (u : Logged). u.seen) more))
 
+-- The journal of a log behind a log is that of the first and then that of the other.
 pub journal_of-append : (log more : List Logged) → journal_of (log ++ more) ≡ then_turns (journal_of log) (journal_of more)
 journal_of-append log more = λ i. record { turns = map-append log more i; seen = seen-append log more i }
 
@@ -76,9 +77,11 @@ body-of {K} net s p x stands is = body-from s.past.dropped 0 net.bodies s.kept.p
 pub answer-turn : {K : Type 0} (old : NetValue K) (p stamp : ℕ) (s : ℕ) (new : NetValue K) → TurnsNet old p (level_of old p) stamp (turns.Made s) new → MakesTurn old p stamp true new
 answer-turn old p stamp s new made = made.1
 
+-- A turn that is blocked makes none.
 pub blocked-turn : {K : Type 0} (old : NetValue K) (p stamp : ℕ) (block : Block) (new : NetValue K) → TurnsNet old p (level_of old p) stamp (turns.Blocked block) new → MakesTurn old p stamp false new
 blocked-turn {K} old p stamp block new blocked = (λ b n there. block-no_turn (looks_of old.channels) b.process block n (sym (ap (λ (o : Option (BodyValue K)). option_and_then (λ (x : BodyValue K). block_of (looks_of old.channels) x.process) o) there) ∙ blocked.0), blocked.1)
 
+-- A turn of a process that is over makes none.
 pub over-turn : {K : Type 0} (old : NetValue K) (p stamp : ℕ) (over : Over) (new : NetValue K) → TurnsNet old p (level_of old p) stamp (turns.Over over) new → MakesTurn old p stamp false new
 over-turn {K} old p stamp overs.Ended new over = (λ b n there. ap (stage_event (looks_of old.channels) b.process n) (if_some (slice_get old.bodies p) (λ (x : BodyValue K). x.process.stage ≡ stages.Ended) b there over.0), over.1)
 over-turn {K} old p stamp overs.Failed new over = (λ b n there. ap (stage_event (looks_of old.channels) b.process n) (if_some (slice_get old.bodies p) (λ (x : BodyValue K). HasFailed x.process.stage) b there over.0).1, over.1)
@@ -88,6 +91,7 @@ over-turn old p stamp overs.Starved new never = absurd never
 pub settles-wishing : {K : Type 0} (next : K → Held → Answer → Outcome K → Type 0) (old : NetValue K) (p : ℕ) (new : NetValue K) → ThinksNet next old p thoughts.Wishing new → SettlesNet next old p new
 settles-wishing next old p new think = record { before = think.before; after = think.after; there = think.there; settles = think.thinks.0; set = think.thinks.1; keeps = think.keeps; bodies = think.bodies; channels = think.channels }
 
+-- A thought that ends in a failure settles the process.
 pub settles-failed : {K : Type 0} (next : K → Held → Answer → Outcome K → Type 0) (old : NetValue K) (p : ℕ) (cause : Fail) (new : NetValue K) → ThinksNet next old p (thoughts.Failed cause) new → SettlesNet next old p new
 settles-failed next old p cause new think = record {
   before = think.before;
@@ -165,6 +169,7 @@ remember-then {K} a b c n m log more first at rest len p x z was is =
       r.1 ∙ ap (λ (xs : List (ℕ × ℕ)). xs ++ levels_of p m more) f.1 ∙ append_assoc x.levels (levels_of p n log) (levels_of p m more) ∙ ap (λ (k : ℕ). x.levels ++ (levels_of p n log ++ levels_of p k more)) at ∙ ap (λ (xs : List (ℕ × ℕ)). x.levels ++ xs) (sym (levels_of-append p n log more)),
     )
 
+-- Bodies that made no turns since remember nothing more.
 pub remember-none : {K : Type 0} (n : ℕ) (bodies : List (BodyValue K)) → Remembers n bodies [] bodies
 remember-none {K} n bodies p b b' was is =
     let h : Some b ≡ Some b' = sym was ∙ is in
@@ -438,6 +443,7 @@ set-after {K} next old mid new p k m e set turn settle q b is = elim (same_or_no
   | inr other ↦ set q b (sym (slice_get-set_other old.bodies p q turn.after other) ∙ ap (λ (bs : List (BodyValue K)). slice_get bs q) (sym turn.bodies) ∙ sym (slice_get-set_other mid.bodies p q settle.after other) ∙ ap (λ (bs : List (BodyValue K)). slice_get bs q) (sym settle.bodies) ∙ is)
 ]
 
+-- A process that is settled is set with those below it.
 pub set-more : {K : Type 0} (next : K → Held → Answer → Outcome K → Type 0) (old new : NetValue K) (p : ℕ) → SetBelow p old.bodies → SettlesNet next old p new → SetBelow (p + 1) new.bodies
 set-more {K} next old new p set settle q b below is = elim (same_or_not q p) [
   | inl same ↦ (let here : Some settle.after ≡ Some b = sym (slice_get-set_same old.bodies p settle.before settle.after settle.there) ∙ ap (λ (bs : List (BodyValue K)). slice_get bs p) (sym settle.bodies) ∙ ap (slice_get new.bodies) (sym same) ∙ is in
@@ -445,6 +451,7 @@ set-more {K} next old new p set settle q b below is = elim (same_or_not q p) [
   | inr other ↦ set q b (omega (arith, below, other)) (sym (slice_get-set_other old.bodies p q settle.after other) ∙ ap (λ (bs : List (BodyValue K)). slice_get bs q) (sym settle.bodies) ∙ is)
 ]
 
+-- Where those below the last are set, all are.
 pub set-all : {K : Type 0} (n : ℕ) (bodies : List (BodyValue K)) → length bodies ≤ n → SetBelow n bodies → AllSet bodies
 set-all n bodies most set p b is = set p b (omega (arith, get-within bodies p b is, most)) is
 
@@ -455,6 +462,7 @@ set-in {K} net p set = by (slice_get net.bodies p) refl
     by (Some b) is = set p b is
     by None is = tt
 
+-- A turn counts as one.
 pub turn-count : {K : Type 0} (old : NetValue K) (p k : ℕ) (e : Event) (m : ℕ) (new : NetValue K) → NetTurn old p k e m new → turns_made new ≡ turns_made old + 1
 turn-count {K} old p k e m new turn =
     let ts : turn.after.process.turns ≡ turn.before.process.turns + 1 = ap (λ (x : Process K). x.turns) turn.turn.process ∙ turns-after turn.before.process e in
@@ -464,6 +472,7 @@ turns-worked : {K : Type 0} (x : Process K) (outcome : Outcome K) → (worked x 
 turns-worked x (Wishes component held wish) = refl
 turns-worked x (Fails component held cause) = refl
 
+-- A body that only thought keeps all turns together as they are.
 pub count-rest : {K : Type 0} (next : K → Held → Answer → Outcome K → Type 0) (old : NetValue K) (p : ℕ) (b b' : BodyValue K) (new : NetValue K) → slice_get old.bodies p ≡ Some b → SameBody b b' ⊎ WorkedBody next b b' → new.bodies ≡ slice_set old.bodies p b' → turns_made new ≡ turns_made old
 count-rest {K} next old p b b' new there step bodies = omega (arith, by step, ap (λ (bs : List (BodyValue K)). sum_by (λ (x : BodyValue K). x.process.turns) bs) bodies, turns-set old.bodies p b b' there)
   where
@@ -471,6 +480,7 @@ count-rest {K} next old p b b' new there step bodies = omega (arith, by step, ap
     by (inl same) = ap (λ (x : Process K). x.turns) same.process
     by (inr work) = ap (λ (x : Process K). x.turns) work.process ∙ turns-worked b.process work.outcome
 
+-- A thought counts as no turn.
 pub think-count : {K : Type 0} (next : K → Held → Answer → Outcome K → Type 0) (old : NetValue K) (p : ℕ) (t : Thought) (new : NetValue K) → ThinksNet next old p t new → turns_made new ≡ turns_made old
 think-count next old p t new think = count-rest next old p think.before think.after new think.there (thinks-step next think.before t think.after think.thinks) think.bodies
 

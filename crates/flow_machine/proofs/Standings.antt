@@ -6,6 +6,7 @@ use Rattle.flow_model.specs.Stands.{BodyShown, ChannelShown, show_channel, bodie
 use Rattle.flow_model.proofs.Stands.{event-shown}
 use Rattle.flow_machine.specs.Values.{BodyValue, NetValue, shown_body, shown_net}
 
+-- A member of a mapped list is the mapped member.
 pub get-map : {A B : Type 0} (f : A → B) (xs : List A) (i : ℕ) (x : A) → slice_get xs i ≡ Some x → slice_get (map f xs) i ≡ Some (f x)
 get-map f [] i x is = absurd (cc)
 get-map {A} {B} f (y ∷ xs) zero x is = let h : y ≡ x = cc in ap (λ (z : A). let w : Option B = Some (f z) in w) h

@@ -74,6 +74,7 @@ connected : (text : List ℕ) (found : Option ℕ) (c : ℕ) → connected_or te
 connected text (Some d) c is = let h : d ≡ c = cc in ap (λ n. Some n) h
 connected text None c is = absurd (cc)
 
+-- A body that begins stands for its process at the start.
 pub stands-start : {K : Type 0} (shape_of : K → Shape) (uses : K → ℕ → Bool) (ready : K → Held → Answer → Type 0) (plan : Plan) (components : List K) (p : ℕ) (q : PlanProcess) (component : K) → StartsWell shape_of uses ready plan components → slice_get plan.processes p ≡ Some q → slice_get components p ≡ Some component
     → q.outputs < 2 ^ 32 → StandsWell shape_of uses ready (process_at_start plan p q component)
 stands-start {K} shape_of uses ready plan components p q component well is at few =
@@ -161,6 +162,7 @@ drop-one [] (suc n) = refl
 drop-one (x ∷ xs) zero = refl
 drop-one (x ∷ xs) (suc n) = drop-one xs n
 
+-- What is left without its first member is what is left one place on.
 pub rest-drops : {A : Type 0} (xs ys : List A) (n : ℕ) → ys ≡ drop n xs → drop 1 ys ≡ drop (n + 1) xs
 rest-drops {A} xs ys n is = ap (λ (zs : List A). drop 1 zs) is ∙ drop-one xs n ∙ ap (λ (m : ℕ). drop m xs) (sym (add-one n))
 
@@ -169,9 +171,11 @@ first-is [] n v x there is = absurd (cc)
 first-is (y ∷ xs) zero v x there is = let h : y ≡ x = cc in is ∙ h
 first-is (y ∷ xs) (suc n) v x there is = first-is xs n v x there is
 
+-- The first of what is left is the member at that place.
 pub first-of : {A : Type 0} (xs ys : List A) (n : ℕ) (v x : A) → ys ≡ drop n xs → slice_get xs n ≡ Some x → v ≡ get_or ys 0 v → v ≡ x
 first-of {A} xs ys n v x is there first = first-is xs n v x there (first ∙ ap (λ (zs : List A). get_or zs 0 v) is)
 
+-- A body that begins begins so for equal plans, processes and components.
 pub starts-same : {K : Type 0} (plan : Plan) (p p' : ℕ) (q q' : PlanProcess) (component component' : K) (b b' : BodyValue K) → p ≡ p' → q ≡ q' → component ≡ component' → b ≡ b' → StartsBody (process_at_start plan p q component) b → StartsBody (process_at_start plan p' q' component') b'
 starts-same {K} plan p p' q q' component component' b b' places specs components bodies start =
     subst (λ (x : BodyValue K). StartsBody (process_at_start plan p' q' component') x) bodies

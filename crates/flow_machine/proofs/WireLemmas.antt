@@ -55,6 +55,7 @@ rows-none input processes rows are p x is = ap (λ (rs : List (List (Option ℕ)
 pub row-within : (input : Bool) (processes : List Process) (at : ℕ → ℕ → Option ℕ) (rows : List (List (Option ℕ))) (p : ℕ) → AreRows input processes at rows → p < length processes → p < length rows
 row-within input processes at rows p are within = let x = element-there processes p within in slice_get_within rows p _ (are p x.0 x.1)
 
+-- The row of a process is read at its place.
 pub row-read : (input : Bool) (processes : List Process) (at : ℕ → ℕ → Option ℕ) (rows : List (List (Option ℕ))) (p : ℕ) (row row' : List (Option ℕ)) → AreRows input processes at rows → p < length processes → row ≡ slice_index_or rows p row → row' ≡ row
     → IfSome (slice_get processes p) (λ (x : Process). row' ≡ map (at p) (range_with_len 0 (ports_of input x)))
 row-read input processes at rows p row row' are within is same =
@@ -119,6 +120,7 @@ rows-all_noted processes (s ∷ senders) at at' rows c here others are =
 abbrev pub found_from : (ℕ → ℕ → Connection → Bool) → List Connection → ℕ → ℕ → ℕ → Option ℕ
 found_from test xs k p i = later k (position (test p i) (drop k xs))
 
+-- Behind the last connection the rows are as they were.
 pub rows-over : (input : Bool) (processes : List Process) (test : ℕ → ℕ → Connection → Bool) (xs : List Connection) (k : ℕ) (rows : List (List (Option ℕ))) → length xs ≤ k → AreRows input processes no_wires rows → AreRows input processes (found_from test xs k) rows
 rows-over input processes test xs k rows over are = rows-same input processes no_wires (found_from test xs k) rows (λ p i. sym (position-over (test p i) xs k over)) are
 
@@ -153,11 +155,13 @@ inputs-more initials i (d ∷ cs) c =
     let m : i + 1 + length cs ≡ i + length (d ∷ cs) = omega arith in
     λ k. connected_or (text_at initials i) d ∷ (inputs-more initials (i + 1) cs c ∙ ap (λ (n : ℕ). inputs_from initials (i + 1) cs ++ connected_or (text_at initials n) c ∷ []) m) k
 
+-- One input more adds what is at it.
 pub inputs-step : (initials : List (ℕ × List ℕ)) (cs : List (Option ℕ)) (k : ℕ) (d : Option ℕ) → k < length cs → inputs_from initials 0 (take (k + 1) cs) ≡ inputs_from initials 0 (take k cs) ++ connected_or (text_at initials k) (get_or cs k d) ∷ []
 inputs-step initials cs k d within =
     let at : 0 + length (take k cs) ≡ k = omega (arith, length-take-le k cs (omega (arith, within))) in
     ap (inputs_from initials 0) (take_more cs k d within) ∙ inputs-more initials 0 (take k cs) (get_or cs k d) ∙ ap (λ (n : ℕ). inputs_from initials 0 (take k cs) ++ connected_or (text_at initials n) (get_or cs k d) ∷ []) at
 
+-- The inputs are what is at each number in their order.
 pub inputs-ranged : (initials : List (ℕ × List ℕ)) (f : ℕ → Option ℕ) (i n : ℕ) → inputs_from initials i (map f (range_with_len i n)) ≡ map (λ k. connected_or (text_at initials k) (f k)) (range_with_len i n)
 inputs-ranged initials f i zero = refl
 inputs-ranged initials f i (suc n) = ap (λ (xs : List Input). connected_or (text_at initials i) (f i) ∷ xs) (inputs-ranged initials f (i + 1) n)

@@ -165,6 +165,7 @@ process_code {K} k =
     (λ p. record { stage = p.0; has_run = p.1.0; component = p.1.1.0; held = p.1.1.1.0; fresh = p.1.1.1.1.0; depths = p.1.1.1.1.1.0; turns = p.1.1.1.1.1.1.0; inputs = p.1.1.1.1.1.1.1.0; outputs = p.1.1.1.1.1.1.1.1 })
     (λ _. refl)
 
+-- How the prover keeps a body as a value.
 abbrev pub body_code : {K : Type 0} → Coded K → Coded (BodyValue K)
 body_code {K} k =
     code_by (Process K × (ℕ × (Option Kind × (List ℕ × (List (ℕ × ℕ) × (ℕ × (ℕ × (ℕ × Option (List ℕ)))))))))
@@ -173,11 +174,13 @@ body_code {K} k =
     (λ p. record { process = p.0; dropped = p.1.0; leaving = p.1.1.0; stamps = p.1.1.1.0; levels = p.1.1.1.1.0; places = p.1.1.1.1.1.0; stamp_room = p.1.1.1.1.1.1.0; level_room = p.1.1.1.1.1.1.1.0; copy = p.1.1.1.1.1.1.1.1 })
     (λ _. refl)
 
+-- How the prover keeps a channel as a value.
 abbrev pub channel_code : Coded ChannelShown
 channel_code =
     code_by (List Tree × (ℕ × (ℕ × (ℕ × ℕ)))) (coded× (coded_list tree_code) (coded× coded_ℕ (coded× coded_ℕ (coded× coded_ℕ coded_ℕ))))
     (λ c. (c.packets, (c.capacity, (c.open_senders, (c.puts, c.takes)))))
     (λ p. record { packets = p.0; capacity = p.1.0; open_senders = p.1.1.0; puts = p.1.1.1.0; takes = p.1.1.1.1 }) (λ _. refl)
 
+-- How the prover keeps a net as a value.
 abbrev pub net_code : {K : Type 0} → Coded K → Coded (NetValue K)
 net_code {K} k = code_by (List (BodyValue K) × List ChannelShown) (coded× (coded_list (body_code k)) (coded_list channel_code)) (λ n. (n.bodies, n.channels)) (λ p. record { bodies = p.0; channels = p.1 }) (λ _. refl)

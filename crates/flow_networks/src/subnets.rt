@@ -12,7 +12,9 @@ fn a_subnet_stands_for_its_processes(rt: HostRuntime) -> Result<(), Fail> {
                 NONE,
                 NONE,
             ],
-            printed: Some(b"verdict finished\nprocess Read ReadLines ended turns 6 made 2 dropped 0 left 0\nprocess T.W Words ended turns 17 made 10 dropped 2 left 0\nprocess T.F Fill ended turns 19 made 4 dropped 10 left 0\nprocess Write WriteLines ended turns 8 made 0 dropped 4 left 0\nconnection T.W.IN capacity 10 puts 2 takes 2 left 0\nconnection Write.IN capacity 10 puts 4 takes 4 left 0\nconnection T.F.IN capacity 20 puts 10 takes 10 left 0\ntotal turns 50 made 16 dropped 16 left 0\n"),
+            printed: Some(
+                b"verdict finished\nprocess Read ReadLines ended turns 6 made 2 dropped 0 left 0\nprocess T.W Words ended turns 17 made 10 dropped 2 left 0\nprocess T.F Fill ended turns 19 made 4 dropped 10 left 0\nprocess Write WriteLines ended turns 8 made 0 dropped 4 left 0\nconnection T.W.IN capacity 10 puts 2 takes 2 left 0\nconnection Write.IN capacity 10 puts 4 takes 4 left 0\nconnection T.F.IN capacity 20 puts 10 takes 10 left 0\ntotal turns 50 made 16 dropped 16 left 0\n",
+            ),
             outputs: [
                 ("out.txt", b"To be or not\nto be that\nis the\nquestion\n"),
                 NONE,
@@ -27,7 +29,9 @@ fn a_subnet_stands_for_its_processes(rt: HostRuntime) -> Result<(), Fail> {
                 NONE,
                 NONE,
             ],
-            printed: Some(b"verdict finished\nprocess Read ReadLines ended turns 6 made 2 dropped 0 left 0\nprocess A.T.W Words ended turns 17 made 10 dropped 2 left 0\nprocess A.T.F Fill ended turns 19 made 4 dropped 10 left 0\nprocess Write WriteLines ended turns 8 made 0 dropped 4 left 0\nconnection A.T.W.IN capacity 10 puts 2 takes 2 left 0\nconnection Write.IN capacity 10 puts 4 takes 4 left 0\nconnection A.T.F.IN capacity 20 puts 10 takes 10 left 0\ntotal turns 50 made 16 dropped 16 left 0\n"),
+            printed: Some(
+                b"verdict finished\nprocess Read ReadLines ended turns 6 made 2 dropped 0 left 0\nprocess A.T.W Words ended turns 17 made 10 dropped 2 left 0\nprocess A.T.F Fill ended turns 19 made 4 dropped 10 left 0\nprocess Write WriteLines ended turns 8 made 0 dropped 4 left 0\nconnection A.T.W.IN capacity 10 puts 2 takes 2 left 0\nconnection Write.IN capacity 10 puts 4 takes 4 left 0\nconnection A.T.F.IN capacity 20 puts 10 takes 10 left 0\ntotal turns 50 made 16 dropped 16 left 0\n",
+            ),
             outputs: [
                 ("out.txt", b"To be or not\nto be that\nis the\nquestion\n"),
                 NONE,

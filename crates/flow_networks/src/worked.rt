@@ -12,7 +12,9 @@ fn the_telegram_problem(rt: HostRuntime) -> Result<(), Fail> {
                 NONE,
                 NONE,
             ],
-            printed: Some(b"verdict finished\nprocess Read ReadLines ended turns 6 made 2 dropped 0 left 0\nprocess Words Words ended turns 17 made 10 dropped 2 left 0\nprocess Fill Fill ended turns 19 made 4 dropped 10 left 0\nprocess Write WriteLines ended turns 8 made 0 dropped 4 left 0\nconnection Words.IN capacity 10 puts 2 takes 2 left 0\nconnection Fill.IN capacity 20 puts 10 takes 10 left 0\nconnection Write.IN capacity 10 puts 4 takes 4 left 0\ntotal turns 50 made 16 dropped 16 left 0\n"),
+            printed: Some(
+                b"verdict finished\nprocess Read ReadLines ended turns 6 made 2 dropped 0 left 0\nprocess Words Words ended turns 17 made 10 dropped 2 left 0\nprocess Fill Fill ended turns 19 made 4 dropped 10 left 0\nprocess Write WriteLines ended turns 8 made 0 dropped 4 left 0\nconnection Words.IN capacity 10 puts 2 takes 2 left 0\nconnection Fill.IN capacity 20 puts 10 takes 10 left 0\nconnection Write.IN capacity 10 puts 4 takes 4 left 0\ntotal turns 50 made 16 dropped 16 left 0\n",
+            ),
             outputs: [
                 ("out.txt", b"To be or not\nto be that\nis the\nquestion\n"),
                 NONE,
@@ -22,7 +24,9 @@ fn the_telegram_problem(rt: HostRuntime) -> Result<(), Fail> {
         Row {
             net: b"flow 1\n# the telegram problem\n'in.txt' -> FILE Read(ReadLines)\nRead OUT -> IN Words(Words)\nWords OUT->(20) IN Fill(Fill)\n'12' -> SIZE Fill\nFill OUT -> IN Write(WriteLines)\n'out.txt' -> FILE Write\n",
             inputs: [("in.txt", b""), NONE, NONE],
-            printed: Some(b"verdict finished\nprocess Read ReadLines ended turns 4 made 0 dropped 0 left 0\nprocess Words Words ended turns 2 made 0 dropped 0 left 0\nprocess Fill Fill ended turns 2 made 0 dropped 0 left 0\nprocess Write WriteLines ended turns 1 made 0 dropped 0 left 0\nconnection Words.IN capacity 10 puts 0 takes 0 left 0\nconnection Fill.IN capacity 20 puts 0 takes 0 left 0\nconnection Write.IN capacity 10 puts 0 takes 0 left 0\ntotal turns 9 made 0 dropped 0 left 0\n"),
+            printed: Some(
+                b"verdict finished\nprocess Read ReadLines ended turns 4 made 0 dropped 0 left 0\nprocess Words Words ended turns 2 made 0 dropped 0 left 0\nprocess Fill Fill ended turns 2 made 0 dropped 0 left 0\nprocess Write WriteLines ended turns 1 made 0 dropped 0 left 0\nconnection Words.IN capacity 10 puts 0 takes 0 left 0\nconnection Fill.IN capacity 20 puts 0 takes 0 left 0\nconnection Write.IN capacity 10 puts 0 takes 0 left 0\ntotal turns 9 made 0 dropped 0 left 0\n",
+            ),
             outputs: [("out.txt", b""), NONE],
             ..ROW
         },
@@ -62,7 +66,9 @@ fn copies_are_put_behind_one_another(rt: HostRuntime) -> Result<(), Fail> {
         Row {
             net: b"flow 1\n'i' -> FILE Read(ReadLines)\nRead OUT -> IN Copy(Copy)\nCopy OUT[0] -> (3) IN[0] Concat(Concat)\nCopy OUT[1] -> (3) IN[1] Concat\nConcat OUT -> IN Write(WriteLines)\n'o' -> FILE Write\n",
             inputs: [("i", b"a\nb\nc\n"), NONE, NONE],
-            printed: Some(b"verdict finished\nprocess Read ReadLines ended turns 7 made 3 dropped 0 left 0\nprocess Copy Copy ended turns 15 made 3 dropped 0 left 0\nprocess Concat Concat ended turns 18 made 0 dropped 0 left 0\nprocess Write WriteLines ended turns 10 made 0 dropped 6 left 0\nconnection Copy.IN capacity 10 puts 3 takes 3 left 0\nconnection Concat.IN[0] capacity 3 puts 3 takes 3 left 0\nconnection Concat.IN[1] capacity 3 puts 3 takes 3 left 0\nconnection Write.IN capacity 10 puts 6 takes 6 left 0\ntotal turns 50 made 6 dropped 6 left 0\n"),
+            printed: Some(
+                b"verdict finished\nprocess Read ReadLines ended turns 7 made 3 dropped 0 left 0\nprocess Copy Copy ended turns 15 made 3 dropped 0 left 0\nprocess Concat Concat ended turns 18 made 0 dropped 0 left 0\nprocess Write WriteLines ended turns 10 made 0 dropped 6 left 0\nconnection Copy.IN capacity 10 puts 3 takes 3 left 0\nconnection Concat.IN[0] capacity 3 puts 3 takes 3 left 0\nconnection Concat.IN[1] capacity 3 puts 3 takes 3 left 0\nconnection Write.IN capacity 10 puts 6 takes 6 left 0\ntotal turns 50 made 6 dropped 6 left 0\n",
+            ),
             outputs: [("o", b"a\nb\nc\na\nb\nc\n"), NONE],
             ..ROW
         },
@@ -161,7 +167,9 @@ fn lines_are_selected(rt: HostRuntime) -> Result<(), Fail> {
         Row {
             net: b"flow 1\n'i' -> FILE Read(ReadLines)\n'a' -> KEY Sel(Select)\nRead OUT -> IN Sel\nSel ACC -> IN Write(WriteLines)\n'o' -> FILE Write\n",
             inputs: [("i", b"ab\nb\n"), NONE, NONE],
-            printed: Some(b"verdict finished\nprocess Read ReadLines ended turns 6 made 2 dropped 0 left 0\nprocess Sel Select ended turns 11 made 2 dropped 3 left 0\nprocess Write WriteLines ended turns 5 made 0 dropped 1 left 0\nconnection Sel.IN capacity 10 puts 2 takes 2 left 0\nconnection Write.IN capacity 10 puts 1 takes 1 left 0\ntotal turns 22 made 4 dropped 4 left 0\n"),
+            printed: Some(
+                b"verdict finished\nprocess Read ReadLines ended turns 6 made 2 dropped 0 left 0\nprocess Sel Select ended turns 11 made 2 dropped 3 left 0\nprocess Write WriteLines ended turns 5 made 0 dropped 1 left 0\nconnection Sel.IN capacity 10 puts 2 takes 2 left 0\nconnection Write.IN capacity 10 puts 1 takes 1 left 0\ntotal turns 22 made 4 dropped 4 left 0\n",
+            ),
             outputs: [("o", b"ab\n"), NONE],
             ..ROW
         },
@@ -239,7 +247,9 @@ fn a_load_is_balanced(rt: HostRuntime) -> Result<(), Fail> {
     let row = Row {
         net: b"flow 1\n'i' -> FILE Read(ReadLines)\nRead OUT -> IN Load(LoadBalance)\nLoad OUT[0] -> IN A(WriteLines)\nLoad OUT[1] -> IN B(WriteLines)\n'o' -> FILE A\n'p' -> FILE B\n",
         inputs: [("i", b"a\nb\nc\nd\n"), NONE, NONE],
-        printed: Some(b"verdict finished\nprocess Read ReadLines ended turns 8 made 4 dropped 0 left 0\nprocess Load LoadBalance ended turns 22 made 0 dropped 0 left 0\nprocess A WriteLines ended turns 6 made 0 dropped 2 left 0\nprocess B WriteLines ended turns 6 made 0 dropped 2 left 0\nconnection Load.IN capacity 10 puts 4 takes 4 left 0\nconnection A.IN capacity 10 puts 2 takes 2 left 0\nconnection B.IN capacity 10 puts 2 takes 2 left 0\ntotal turns 42 made 4 dropped 4 left 0\n"),
+        printed: Some(
+            b"verdict finished\nprocess Read ReadLines ended turns 8 made 4 dropped 0 left 0\nprocess Load LoadBalance ended turns 22 made 0 dropped 0 left 0\nprocess A WriteLines ended turns 6 made 0 dropped 2 left 0\nprocess B WriteLines ended turns 6 made 0 dropped 2 left 0\nconnection Load.IN capacity 10 puts 4 takes 4 left 0\nconnection A.IN capacity 10 puts 2 takes 2 left 0\nconnection B.IN capacity 10 puts 2 takes 2 left 0\ntotal turns 42 made 4 dropped 4 left 0\n",
+        ),
         outputs: [("o", b"a\nc\n"), ("p", b"b\nd\n")],
         ..ROW
     };

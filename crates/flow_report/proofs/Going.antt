@@ -12,6 +12,7 @@ nor : (e f : Bool) → not (e || f) ≡ (not e && not f)
 nor true f = refl
 nor false f = refl
 
+-- A process of the net goes on where it isn't over and nothing blocks it.
 pub goes-of : {K : Type 0} (net : NetValue K) (p : ℕ) (b : BodyValue K) (over free : Bool) → slice_get net.bodies p ≡ Some b
     → over ≡ (has_ended b.process.stage || has_failed b.process.stage) → free ≡ is_none (block_at net p)
     → IfSome (slice_get net.bodies p) (λ x. (not over && free) ≡ goes_on (looks_of net.channels) x.process)

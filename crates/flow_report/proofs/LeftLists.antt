@@ -115,6 +115,7 @@ map-append f (x ∷ xs) ys = ap (λ l. f x ∷ l) (map-append f xs ys)
 abbrev pub ids_told : List LeftPacket → List ℕ
 ids_told left = map (λ l. l.packet) left
 
+-- The packets that two lists tell are those of the one and then those of the other.
 pub ids_told-append : (xs ys : List LeftPacket) → ids_told (xs ++ ys) ≡ ids_told xs ++ ids_told ys
 ids_told-append xs ys = map-append (λ (l : LeftPacket). l.packet) xs ys
 
@@ -146,5 +147,6 @@ length-ids_told (x ∷ xs) = omega (arith, length-ids_told xs)
 pub length-left_at : (place : Place) (ts : List Tree) → length (left_at place ts) ≡ length (all_ids ts)
 length-left_at place ts = sym (length-ids_told (left_at place ts)) ∙ ap length (ids-left_at place ts)
 
+-- A list tells as many packets as it has lines.
 pub length-told : (xs : List LeftPacket) (is : List ℕ) → ids_told xs ≡ is → length xs ≡ length is
 length-told xs is same = sym (length-ids_told xs) ∙ ap length same

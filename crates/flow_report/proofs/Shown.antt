@@ -36,6 +36,7 @@ pub all-processes : {K : Type 0} (f : Process K → Bool) (bodies : List (BodyVa
 all-processes f [] = refl
 all-processes f (b ∷ bodies) = ap (λ (t : Bool). f b.process && t) (all-processes f bodies)
 
+-- Some process of the bodies passes a test where some body's process does.
 pub any-processes : {K : Type 0} (f : Process K → Bool) (bodies : List (BodyValue K)) → list_any (λ b. f b.process) bodies ≡ list_any f (map (λ b. b.process) bodies)
 any-processes f [] = refl
 any-processes f (b ∷ bodies) = ap (λ (t : Bool). f b.process || t) (any-processes f bodies)
@@ -54,6 +55,7 @@ dropped_snoc dropped p (suc n) =
     let e : length (dropped (p + 1 + n)) ≡ length (dropped (p + suc n)) = ap (λ (m : ℕ). length (dropped m)) h in
     omega (arith, rest, e)
 
+-- All dropped packets are counted.
 pub dropped-all : (dropped : ℕ → List ℕ) (n : ℕ) → dropped_from dropped 0 n ≡ length (ids_dropped dropped n)
 unfolding dropped_from
 dropped-all dropped zero = refl

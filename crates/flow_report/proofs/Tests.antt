@@ -85,6 +85,7 @@ any-there-if {A} f xs k r below told is = by (slice_get xs k) refl told
     by (Some x) there told = any-there f xs k x there (sym told ∙ is)
     by None there told = absurd (within xs k below there)
 
+-- Where none of the first passed a test, and the next doesn't, none of one more does.
 pub any-more-if : {A : Type 0} → (f : A → Bool) (xs : List A) (k : ℕ) (r : Bool) → k < length xs → IfSome (slice_get xs k) (λ x. r ≡ f x) → r ≡ false → list_any f (take k xs) ≡ false
     → list_any f (take (suc k) xs) ≡ false
 any-more-if {A} f xs k r below told is before = by (slice_get xs k) refl told

@@ -121,12 +121,15 @@ failed_at plan p stages.Ended = []
 abbrev pub process_told : {K : Type 0} → Network → ℕ → BodyValue K → List ProcessLine
 process_told plan p b = line_of_process plan p b.process b.dropped ∷ []
 
+-- What is told of a process that waits, and nothing of any other.
 abbrev pub block_told : {K : Type 0} → Network → List Look → ℕ → Process K → List Blocked
 block_told plan channels p x = named_block plan p (block_of channels x)
 
+-- What is told of a process that failed, and nothing of any other.
 abbrev pub failure_told : {K : Type 0} → Network → ℕ → Process K → List Failure
 failure_told plan p x = failed_at plan p x.stage
 
+-- What is told of the packets in the hands of a process.
 abbrev pub hands_told : {K : Type 0} → ℕ → Process K → List LeftPacket
 hands_told p x = left_at (InHands p) x.held.packets
 
@@ -134,6 +137,7 @@ hands_told p x = left_at (InHands p) x.held.packets
 abbrev pub connection_told : Network → ℕ → ChannelShown → List ConnectionLine
 connection_told plan c channel = line_of_connection plan c channel.capacity channel.puts channel.takes channel.packets ∷ []
 
+-- What is told of the packets on a connection.
 abbrev pub transit_told : ℕ → ChannelShown → List LeftPacket
 transit_told c channel = left_at (InConnection c) channel.packets
 
