@@ -14,7 +14,8 @@ use Rattle.flow_model.specs.Events.{event_from, stage_event}
 use Rattle.flow_model.specs.Schedules.{IsThoughtStage}
 use Rattle.flow_model.specs.Stands.{ChannelShown, StandsForOpen}
 use Rattle.flow_model.specs.Verdicts.{Quiet}
-use Rattle.flow_machine.specs.Values.{BodyValue, NetValue, shown_net}
+use Rattle.flow_plan.specs.declared.plan.Connection.{Connection}
+use Rattle.flow_machine.specs.Values.{BodyValue, NetValue, net_with, shown_net}
 use Rattle.flow_machine.specs.Logs.{Logged, turns_made}
 use Rattle.flow_machine.specs.Nets.{looks_of}
 use Rattle.flow_machine.specs.FitNets.{FitNet}
@@ -85,11 +86,11 @@ module _ {K : Type 0} (shape_of : K → Shape) (uses : K → ℕ → Bool) (read
   has-channels v ws xs c p below = let k = get-exists c.now.channels p (omega (arith, below, c.sizes.1)) in (k.0, c.channels p k.0 k.1)
 
   -- the pieces are the net
-  pub pieces : (v : View K) (ws : List ℕ) (xs : List (Slot K)) (bs : List (BodyValue K)) (ks : List ChannelShown) (c : Closes v ws xs) → BodiesIn (length start.bodies) xs bs → ChannelsIn (length start.bodies) (length start.channels) xs ks → c.now ≡ record { bodies = bs; channels = ks }
-  pieces v ws xs bs ks c have have' =
+  pub pieces : (v : View K) (ws : List ℕ) (xs : List (Slot K)) (cs : List Connection) (bs : List (BodyValue K)) (ks : List ChannelShown) (c : Closes v ws xs) → cs ≡ start.connections → BodiesIn (length start.bodies) xs bs → ChannelsIn (length start.bodies) (length start.channels) xs ks → c.now ≡ net_with cs bs ks
+  pieces v ws xs cs bs ks c wired have have' =
       let bodies : bs ≡ c.now.bodies = same-lists bs c.now.bodies (have.0 ∙ sym c.sizes.0) (λ i y is. have.1 i y (omega (arith, get-within c.now.bodies i y is, c.sizes.0)) (c.bodies i y is)) in
       let channels : ks ≡ c.now.channels = same-lists ks c.now.channels (have'.0 ∙ sym c.sizes.1) (λ i y is. have'.1 i y (omega (arith, get-within c.now.channels i y is, c.sizes.1)) (c.channels i y is)) in
-      λ i. record { bodies = sym bodies i; channels = sym channels i }
+      λ i. net_with ((c.goes.connections ∙ sym wired) i) (sym bodies i) (sym channels i)
 
   pub is-shut : (v : View K) (ws : List ℕ) (xs : List (Slot K)) (net : NetValue K) (c : Closes v ws xs) → c.now ≡ net → IsShut shape_of uses ready next start v net
   is-shut v ws xs net c is = subst (IsShut shape_of uses ready next start v) is (record { words = ws; log = c.log; goes = c.goes; len = c.sizes.0; total = c.total; turns = c.turns; quiet = c.quiet })

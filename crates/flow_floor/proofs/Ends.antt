@@ -73,7 +73,7 @@ module _ {K : Type 0} (shape_of : K → Shape) (uses : K → ℕ → Bool) (read
     beside = record { now = start; log = []; by = []; holder = λ _. None; grabber = λ _. None };
     flow = record {
       fit = fit;
-      goes = record { remembers = remember-none (turns_made start) start.bodies; states = λ s good stands. (s, ([], refl, refl), good, stands) };
+      goes = record { remembers = remember-none (turns_made start) start.bodies; states = λ s good stands. (s, ([], refl, refl), good, stands); connections = refl };
       clock = b.clock;
       total = omega arith;
       seats = refl;

@@ -17,11 +17,11 @@ abbrev pub turned_body : {K : Type 0} → Event → ℕ → BodyValue K → Body
 turned_body e stamp b = record b { process = process_after b.process e; leaving = None; stamps = b.stamps ++ stamp ∷ []; levels = b.levels ++ levels_told e stamp }
 
 abbrev pub with_body : {K : Type 0} → NetValue K → ℕ → BodyValue K → NetValue K
-with_body now p b = record { bodies = slice_set now.bodies p b; channels = now.channels }
+with_body now p b = record now { bodies = slice_set now.bodies p b }
 
 -- The net after a turn of process p, which was b, with this stamp.
 abbrev pub turned_net : {K : Type 0} → NetValue K → ℕ → BodyValue K → Event → ℕ → NetValue K
-turned_net now p b e stamp = record { bodies = slice_set now.bodies p (turned_body e stamp b); channels = all_shown_after e now.channels }
+turned_net now p b e stamp = record now { bodies = slice_set now.bodies p (turned_body e stamp b); channels = all_shown_after e now.channels }
 
 abbrev pub logged : ℕ → Event → Logged
 logged p e = record { process = p; seen = seen_by e }

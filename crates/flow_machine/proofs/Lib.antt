@@ -10,6 +10,7 @@ pub mod BlockLemmas
 pub mod PlanLemmas
 pub mod LogLemmas
 pub mod FitLemmas
+mod Wholes
 mod AtCases
 mod WireLemmas
 pub mod SoloLemmas

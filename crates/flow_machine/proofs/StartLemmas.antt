@@ -21,7 +21,7 @@ use Rattle.flow_model.proofs.Start.{port-at, Valid-start}
 use Rattle.flow_model.proofs.Blocks.{AllFit-start}
 use Rattle.flow_model.proofs.Fits.{Fit-start}
 use Rattle.flow_machine.proofs.Lists.{element-there}
-use Rattle.flow_machine.specs.Values.{BodyValue, NetValue, shown_body, net_of}
+use Rattle.flow_machine.specs.Values.{BodyValue, NetValue, shown_body, net_with}
 use Rattle.flow_machine.specs.Bodies.{StandsWell}
 use Rattle.flow_model.specs.Plans.{leads_to}
 use Rattle.flow_model.specs.Plans.{comes_from}
@@ -181,7 +181,7 @@ starts-same {K} plan p p' q q' component component' b b' places specs components
 
 module _ {K : Type 0} (shape_of : K → Shape) (uses : K → ℕ → Bool) (ready : K → Held → Answer → Type 0) (network : Network) (components : List K) (bodies : List (BodyValue K)) where
   abbrev pub begun_net : NetValue K
-  begun_net = net_of bodies (map channel_begun network.connections)
+  begun_net = net_with network.connections bodies (map channel_begun network.connections)
 
   pub starts-net : StartsWell shape_of uses ready network components → StartsBodies network components bodies → StartsNet network components begun_net
   starts-net well start =
@@ -193,6 +193,7 @@ module _ {K : Type 0} (shape_of : K → Shape) (uses : K → ℕ → Bool) (read
         stands = λ i. record { bodies = shown i; channels = channels i };
         set = λ p b is. (begun plan components bodies well.one_each start p b is).starts.set;
         unmade = λ p b is. (let s = (begun plan components bodies well.one_each start p b is).starts in (s.stamps, s.levels));
+        connections = refl;
       }
 
   pub fit-start : StartsWell shape_of uses ready network components → StartsBodies network components bodies → FitNet shape_of uses ready begun_net

@@ -32,6 +32,10 @@ pub invariant_of-floor-clause-sends : goal.invariant_of-floor-clause-sends
 invariant_of-floor-clause-sends g c = let key : c.in-Ok.table.shared.key.value ≡ c.args.net = search rules in
     λ p b o d there is below. row-any (λ w. w.items) true c.args.net c.args.laid.senders.items c.requires.senders p d b (ap (λ n. slice_get n.bodies p) (sym key) ∙ there) (o, is) (omega (arith, below, c.connections-connections.ensures))
 
+pub invariant_of-floor-clause-planned : goal.invariant_of-floor-clause-planned
+invariant_of-floor-clause-planned g c = let key : c.in-Ok.table.shared.key.value ≡ c.args.net = search rules in
+    c.split-bodies.ensures.connections ∙ ap (λ n. n.connections) (sym key)
+
 pub invariant_of-floor-clause-named : goal.invariant_of-floor-clause-named
 invariant_of-floor-clause-named g c = λ d. (
   row-below (λ w. w.items) false c.args.net c.args.laid.receivers.items c.requires.receivers c.processes-processes.result d c.processes-processes.ensures.count,

@@ -22,12 +22,12 @@ pub join-requires : goal.join-requires
 join-requires g c = let s = c.args.self in let w = c.args.worker.seat in
     let cl = closing g.K.Component.shape_of g.K.Component.uses g.K.Component.ready g.K.Component.next s.table.shared.key.value w.id w.me.0 _ _ c.requires.all c.requires.worker.held c.close_with-closed.ensures.values.2 in
     fit-pieces g.K.Component.shape_of g.K.Component.uses g.K.Component.ready g.K.Component.next s.table.shared.key.value w.me.0 _ _ _ cl
-    (pieces g.K.Component.shape_of g.K.Component.uses g.K.Component.ready g.K.Component.next s.table.shared.key.value w.me.0 _ _ c.take_bodies-bodies.result.items c.take_channels-channels.result.items cl
+    (pieces g.K.Component.shape_of g.K.Component.uses g.K.Component.ready g.K.Component.next s.table.shared.key.value w.me.0 _ _ s.plan.items c.take_bodies-bodies.result.items c.take_channels-channels.result.items cl s.planned
     (rw s.bodies c.take_bodies-bodies.ensures.bodies) (rw (s.bodies, s.channels, ← c.take_bodies-bodies.ensures.same.0) c.take_channels-channels.ensures.channels))
 
 pub returns : goal.returns
 returns g c = let s = c.args.self in let w = c.args.worker.seat in
     let cl = closing g.K.Component.shape_of g.K.Component.uses g.K.Component.ready g.K.Component.next s.table.shared.key.value w.id w.me.0 _ _ c.requires.all c.requires.worker.held c.close_with-closed.ensures.values.2 in
     is-shut g.K.Component.shape_of g.K.Component.uses g.K.Component.ready g.K.Component.next s.table.shared.key.value w.me.0 _ _ c.join.result cl
-    (pieces g.K.Component.shape_of g.K.Component.uses g.K.Component.ready g.K.Component.next s.table.shared.key.value w.me.0 _ _ c.take_bodies-bodies.result.items c.take_channels-channels.result.items cl
+    (pieces g.K.Component.shape_of g.K.Component.uses g.K.Component.ready g.K.Component.next s.table.shared.key.value w.me.0 _ _ s.plan.items c.take_bodies-bodies.result.items c.take_channels-channels.result.items cl s.planned
     (rw s.bodies c.take_bodies-bodies.ensures.bodies) (rw (s.bodies, s.channels, ← c.take_bodies-bodies.ensures.same.0) c.take_channels-channels.ensures.channels) ∙ sym c.join.ensures)
