@@ -25,7 +25,8 @@ use Rattle.flow_machine.specs.Values.{BodyValue, NetValue, shown_body, net_with}
 use Rattle.flow_machine.specs.Bodies.{StandsWell}
 use Rattle.flow_model.specs.Plans.{leads_to}
 use Rattle.flow_model.specs.Plans.{comes_from}
-use Rattle.flow_machine.specs.FitNets.{IsWiredBody, FitNet}
+use Rattle.flow_machine.specs.FitNets.{IsWiredBody, FitNet, IsNet}
+use Rattle.flow_machine.proofs.Planning.{planned-start}
 use Rattle.flow_machine.specs.Starts.{StartsBody, StartsBodies, StartsNet, channel_begun}
 
 process-there : {K : Type 0} (plan : Plan) (n : ℕ) (xs : List PlanProcess) (components : List K) (k : ℕ) (x : PlanProcess) (component : K) → slice_get xs k ≡ Some x → slice_get components k ≡ Some component → slice_get (processes_at_start plan n xs components) k ≡ Some (process_at_start plan (n + k) x component)
@@ -212,4 +213,8 @@ module _ {K : Type 0} (shape_of : K → Shape) (uses : K → ℕ → Bool) (read
         whole = λ p b is. (each p b is).starts.leaving;
         wired = λ p b is. (let s = each p b is in wired-start network p s.spec s.component b s.starts.process);
         puts = λ c channel is. omega (arith, no-puts network.connections c channel is);
+        counted = λ p b is. (let s = (each p b is).starts in omega (arith, ap length s.stamps, ap (λ (x : Process K). x.turns) s.process));
       }
+
+  pub is-start : StartsWell shape_of uses ready network components → StartsBodies network components bodies → IsNet shape_of uses ready begun_net
+  is-start well start = record { fit = fit-start well start; planned = planned-start shape_of uses ready network components well begun_net (starts-net well start).stands refl refl }

@@ -37,7 +37,7 @@ pub struct Net<K: Component> {
 impl<K: Component> Model for Net<K> {
     ghost use Rattle.flow_machine.specs.Values.{NetValue, net_with};
     ghost use Rattle.flow_machine.specs.Codes.{net_code};
-    ghost use Rattle.flow_machine.specs.FitNets.{FitNet};
+    ghost use Rattle.flow_machine.specs.FitNets.{IsNet};
 
     ghost Value = { NetValue K };
 
@@ -45,7 +45,7 @@ impl<K: Component> Model for Net<K> {
 
     ghost view = { λ n. net_with n.connections.items n.bodies.items n.channels.items };
 
-    ghost invariant = { λ n. FitNet K.shape_of K.uses K.ready (net_with n.connections.items n.bodies.items n.channels.items) };
+    ghost invariant = { λ n. IsNet K.shape_of K.uses K.ready (net_with n.connections.items n.bodies.items n.channels.items) };
 }
 
 /// The turns of these processes together.

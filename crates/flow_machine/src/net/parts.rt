@@ -2,6 +2,7 @@
 ghost use Rattle.std.specs.Prelude.{◌≡◌};
 ghost use Rattle.flow_machine.specs.Values.{net_with};
 ghost use Rattle.flow_machine.specs.FitNets.{FitNet};
+ghost use Rattle.flow_machine.specs.Joins.{Joins};
 
 use super::Net;
 use crate::body::Body;
@@ -23,6 +24,7 @@ impl<K: Component> Net<K> {
         ensures connections { result.connections.items ≡ self.connections }
         ensures bodies { result.bodies.items ≡ self.bodies }
         ensures channels { result.channels.items ≡ self.channels }
+        ensures joins { Joins K.shape_of K.uses K.ready (net_with result.connections.items result.bodies.items result.channels.items) }
         ensures fit { FitNet K.shape_of K.uses K.ready self }
     {
         let Net {
@@ -39,9 +41,10 @@ impl<K: Component> Net<K> {
 }
 
 impl<K: Component> Parts<K> {
-    /// The network of these pieces, which together stand for a state of the machine, and remember all turns that were made.
+    /// The network of these pieces: connections of a valid plan, bodies that are its processes, and channels that are its connections', as `split` gives
+    /// them. No state of the machine is asked for.
     pub fn join(self) -> Net<K>
-        requires { FitNet K.shape_of K.uses K.ready (net_with self.connections.items self.bodies.items self.channels.items) }
+        requires { Joins K.shape_of K.uses K.ready (net_with self.connections.items self.bodies.items self.channels.items) }
         ensures { result ≡ net_with self.connections.items self.bodies.items self.channels.items }
     {
         let Parts {

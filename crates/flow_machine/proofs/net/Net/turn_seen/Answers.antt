@@ -4,11 +4,12 @@ use Rattle.flow_machine.specs.Values.{NetValue, net_with}
 use Rattle.flow_machine.specs.Nets.{SeesNet}
 use Rattle.flow_machine.specs.Logs.{turns_made}
 use Rattle.flow_machine.proofs.FitLemmas.{fit-seen, goes-by}
+use Rattle.flow_machine.proofs.Planning.{planned-seen}
 use Rattle.flow_machine.proofs.Wholes.{fit-with, sees-with}
 use Rattle.flow_machine.proofs.net.Net.turn_seen.Goals as goal
 
 pub seen_of-requires-clause-fit : goal.seen_of-requires-clause-fit
-seen_of-requires-clause-fit g c = rw (c.deref_mut.ensures.value, c.deref.ensures.value) (fit-with g.K.Component.shape_of g.K.Component.uses g.K.Component.ready c.self.inside.connections.items [] c.self.inside.bodies.items c.self.inside.channels.items c.self.invariant)
+seen_of-requires-clause-fit g c = rw (c.deref_mut.ensures.value, c.deref.ensures.value) (fit-with g.K.Component.shape_of g.K.Component.uses g.K.Component.ready c.self.inside.connections.items [] c.self.inside.bodies.items c.self.inside.channels.items c.self.invariant.fit)
 
 pub invariant_of-self : goal.invariant_of-self
 invariant_of-self g c =
@@ -18,7 +19,10 @@ invariant_of-self g c =
     let sees : SeesNet old c.args.process c.args.seen c.args.stamp c.seen_of.result new =
     sees-with c.self.inside.connections.items c.self.inside.bodies.items c.seen_of.new.bodies c.self.inside.channels.items c.self.inside.channels.items c.args.process c.args.seen c.args.stamp c.seen_of.result (rw (c.deref_mut.ensures.value, c.deref.ensures.value) at c.seen_of.ensures) in
     let next : c.args.stamp ≡ turns_made old = c.requires.next ∙ ap turns_made (sym c.self.view_is) in
-    rw bodies (fit-seen g.K.Component.shape_of g.K.Component.uses g.K.Component.ready old c.args.process c.args.seen c.args.stamp c.seen_of.result new sees next c.self.invariant)
+    rw bodies (record {
+      fit = fit-seen g.K.Component.shape_of g.K.Component.uses g.K.Component.ready old c.args.process c.args.seen c.args.stamp c.seen_of.result new sees next c.self.invariant.fit;
+      planned = planned-seen old c.args.process c.args.seen c.args.stamp c.seen_of.result new sees c.self.invariant.planned;
+    })
 
 pub returns : goal.returns
 returns g c =
