@@ -1,4 +1,5 @@
 -- What a floor leaves when it is closed.
+use Rattle.std.proofs.lemmas.List.{length-map}
 use Rattle.std.proofs.Common.{◌≡◌, ℕ, ◌+◌, Bool, true, List, length, arith, map, get_or, refl, ap, sym, subst, ◌∙◌, Some, None, slice_get, ◌⊎◌, inl, inr}
 use lib.ListN.{get_elem?}
 use mathlib.Core.Option.{some}
@@ -14,15 +15,23 @@ use Rattle.flow_model.specs.Events.{event_from, stage_event}
 use Rattle.flow_model.specs.Schedules.{IsThoughtStage}
 use Rattle.flow_model.specs.Stands.{ChannelShown, StandsForOpen}
 use Rattle.flow_model.specs.Verdicts.{Quiet}
-use Rattle.flow_machine.specs.Values.{BodyValue, NetValue, shown_net}
+use Rattle.flow_plan.specs.declared.plan.Connection.{Connection}
+use Rattle.flow_machine.specs.Values.{BodyValue, NetValue, net_with, shown_net}
 use Rattle.flow_machine.specs.Logs.{Logged, turns_made}
 use Rattle.flow_machine.specs.Nets.{looks_of}
 use Rattle.flow_machine.specs.FitNets.{FitNet}
 use Rattle.flow_machine.specs.Solo.{GoesBy, reached}
+use Rattle.flow_machine.specs.Joins.{IsPlanned, Joins}
+use Rattle.flow_machine.proofs.Standings.{get-map}
+use Rattle.flow_machine.proofs.Planning.{body_wires, capacity_of, planned-kept}
+use Rattle.flow_machine.proofs.JoinPieces.{joins-pieces}
+use Rattle.flow_model.specs.Wires.{Wires}
+use Rattle.flow_model.proofs.Lists.{map-found}
 use Rattle.flow_floor.specs.declared.board.Slot.{Slot}
 use Rattle.flow_floor.specs.declared.board.Slot.TheVariants as slot
 use Rattle.flow_floor.specs.declared.board.View.{View}
 use Rattle.flow_floor.specs.Rule.{Law}
+use Rattle.flow_floor.specs.Waking.{IsWiredAs}
 use Rattle.flow_floor.specs.Shut.{IsOverStage, IsShut, HasBodies, HasChannels, BodiesIn, ChannelsIn}
 use Rattle.flow_floor.proofs.Shutting.{same-lists}
 use Rattle.flow_floor.proofs.Seats.{St, get-exists, get-within}
@@ -41,6 +50,22 @@ module _ {K : Type 0} (shape_of : K → Shape) (uses : K → ℕ → Bool) (read
   abbrev Rule : St K → Type 0
   Rule = Law shape_of uses ready next start
 
+  -- its connections are still the plan's
+  planned-now : (now : NetValue K) → IsWiredAs start now → (length now.bodies ≡ length start.bodies) × (length now.channels ≡ length start.channels) → now.connections ≡ start.connections → IsPlanned start → IsPlanned now
+  planned-now now wired sizes connections planned =
+      let wires_same : map body_wires now.bodies ≡ map body_wires start.bodies =
+      same-lists (map body_wires now.bodies) (map body_wires start.bodies) (length-map now.bodies body_wires ∙ sizes.0 ∙ sym (length-map start.bodies body_wires)) (λ i y is.
+      (let b0 = map-found body_wires start.bodies i y is in
+      let b = get-exists now.bodies i (omega (arith, get-within start.bodies i b0.0 b0.1, sizes.0)) in
+      let same : body_wires b.0 ≡ body_wires b0.0 = (λ k. record { inputs = wired.inputs i b.0 b0.0 b.1 b0.1 k; outputs = wired.outputs i b.0 b0.0 b.1 b0.1 k }) in
+      get-map body_wires now.bodies i b.0 b.1 ∙ ap (λ (w : Wires). Some w) (same ∙ b0.2))) in
+      let capacities_same : map capacity_of now.channels ≡ map capacity_of start.channels =
+      same-lists (map capacity_of now.channels) (map capacity_of start.channels) (length-map now.channels capacity_of ∙ sizes.1 ∙ sym (length-map start.channels capacity_of)) (λ i y is.
+      (let k0 = map-found capacity_of start.channels i y is in
+      let k = get-exists now.channels i (omega (arith, get-within start.channels i k0.0 k0.1, sizes.1)) in
+      get-map capacity_of now.channels i k.0 k.1 ∙ ap (λ (n : ℕ). Some n) (wired.capacities i k.0 k0.0 k.1 k0.1 ∙ k0.2))) in
+      planned-kept start now connections wires_same capacities_same planned
+
   -- The net at the end: it is well; the net of the opening goes on to it by the turns of all workers, in the order of their stamps; each body and each
   -- channel is in its slot; and where no process is left that was starved, it is quiet.
   pub record Closes (v : View K) (ws : List ℕ) (xs : List (Slot K)) : Type 0 where
@@ -54,6 +79,7 @@ module _ {K : Type 0} (shape_of : K → Shape) (uses : K → ℕ → Bool) (read
     pub bodies : (p : ℕ) (b : BodyValue K) → slice_get now.bodies p ≡ Some b → get_elem? xs p ≡ some (slot.Body b)
     pub channels : (c : ℕ) (k : ChannelShown) → slice_get now.channels c ≡ Some k → get_elem? xs (length start.bodies + c) ≡ some (slot.Channel k)
     pub slots : length xs ≡ length start.bodies + length start.channels
+    pub planned : IsPlanned now
     pub quiet : v.read_zero ≡ true → ((p : ℕ) (b : BodyValue K) → slice_get now.bodies p ≡ Some b → (get_or ws p 0 ≡ 0) ⊎ IsOverStage b.process.stage) → (t : State K) → StandsForOpen (shown_net now) t → Quiet t
 
   pub closing : (id : ℕ) (v : View K) (ws : List ℕ) (xs : List (Slot K)) → v.shares ≡ 32 → v.held ≡ None → Final (Seen Rule id v) ws xs → Closes v ws xs
@@ -71,6 +97,7 @@ module _ {K : Type 0} (shape_of : K → Shape) (uses : K → ℕ → Bool) (read
         bodies = ended.bodies;
         channels = ended.channels;
         slots = sym deep ∙ r.flow.deep;
+        planned = planned-now r.beside.now r.wakes.wired r.flow.same r.flow.goes.connections r.planned;
         quiet = λ zero_read over t stands. quiet-at-zero shape_of uses ready next start s r ((r.wakes.each id v seen.1).zero zero_read)
             (λ p b there. elim (over p b there) [
               | inl parked ↦ inl (ap (λ (l : List ℕ). get_or l p 0) words ∙ parked)
@@ -85,14 +112,15 @@ module _ {K : Type 0} (shape_of : K → Shape) (uses : K → ℕ → Bool) (read
   has-channels v ws xs c p below = let k = get-exists c.now.channels p (omega (arith, below, c.sizes.1)) in (k.0, c.channels p k.0 k.1)
 
   -- the pieces are the net
-  pub pieces : (v : View K) (ws : List ℕ) (xs : List (Slot K)) (bs : List (BodyValue K)) (ks : List ChannelShown) (c : Closes v ws xs) → BodiesIn (length start.bodies) xs bs → ChannelsIn (length start.bodies) (length start.channels) xs ks → c.now ≡ record { bodies = bs; channels = ks }
-  pieces v ws xs bs ks c have have' =
+  pub pieces : (v : View K) (ws : List ℕ) (xs : List (Slot K)) (cs : List Connection) (bs : List (BodyValue K)) (ks : List ChannelShown) (c : Closes v ws xs) → cs ≡ start.connections → BodiesIn (length start.bodies) xs bs → ChannelsIn (length start.bodies) (length start.channels) xs ks → c.now ≡ net_with cs bs ks
+  pieces v ws xs cs bs ks c wired have have' =
       let bodies : bs ≡ c.now.bodies = same-lists bs c.now.bodies (have.0 ∙ sym c.sizes.0) (λ i y is. have.1 i y (omega (arith, get-within c.now.bodies i y is, c.sizes.0)) (c.bodies i y is)) in
       let channels : ks ≡ c.now.channels = same-lists ks c.now.channels (have'.0 ∙ sym c.sizes.1) (λ i y is. have'.1 i y (omega (arith, get-within c.now.channels i y is, c.sizes.1)) (c.channels i y is)) in
-      λ i. record { bodies = sym bodies i; channels = sym channels i }
+      λ i. net_with ((c.goes.connections ∙ sym wired) i) (sym bodies i) (sym channels i)
+
+  -- the pieces may be joined
+  pub join-pieces : (v : View K) (ws : List ℕ) (xs : List (Slot K)) (net : NetValue K) (c : Closes v ws xs) → c.now ≡ net → Joins shape_of uses ready net
+  join-pieces v ws xs net c is = subst (Joins shape_of uses ready) is (joins-pieces shape_of uses ready c.now c.fit c.planned)
 
   pub is-shut : (v : View K) (ws : List ℕ) (xs : List (Slot K)) (net : NetValue K) (c : Closes v ws xs) → c.now ≡ net → IsShut shape_of uses ready next start v net
   is-shut v ws xs net c is = subst (IsShut shape_of uses ready next start v) is (record { words = ws; log = c.log; goes = c.goes; len = c.sizes.0; total = c.total; turns = c.turns; quiet = c.quiet })
-
-  pub fit-pieces : (v : View K) (ws : List ℕ) (xs : List (Slot K)) (net : NetValue K) (c : Closes v ws xs) → c.now ≡ net → FitNet shape_of uses ready net
-  fit-pieces v ws xs net c is = subst (FitNet shape_of uses ready) is c.fit

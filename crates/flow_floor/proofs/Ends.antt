@@ -17,6 +17,7 @@ use Rattle.flow_model.specs.Stands.{ChannelShown}
 use Rattle.flow_machine.specs.Values.{BodyValue, NetValue}
 use Rattle.flow_machine.specs.Logs.{Logged, turns_made}
 use Rattle.flow_machine.specs.FitNets.{FitNet}
+use Rattle.flow_machine.specs.Joins.{IsPlanned}
 use Rattle.flow_machine.proofs.SoloLemmas.{remember-none}
 use Rattle.flow_ring.specs.Words.{free_word, held_bit, level_in, senders_in}
 use Rattle.flow_floor.specs.declared.board.Slot.{Slot}
@@ -68,12 +69,13 @@ module _ {K : Type 0} (shape_of : K → Shape) (uses : K → ℕ → Bool) (read
     pub clock : get_or ws (P + C) 0 ≡ turns_made start
     pub live : get_or ws L 0 ≡ P
 
-  pub opens : (ws : List ℕ) (xs : List (Slot K)) → FitNet shape_of uses ready start → Begins ws xs → Rule (opening ws xs (newcomer 32))
-  opens ws xs fit b = record {
+  pub opens : (ws : List ℕ) (xs : List (Slot K)) → FitNet shape_of uses ready start → IsPlanned start → Begins ws xs → Rule (opening ws xs (newcomer 32))
+  opens ws xs fit planned b = record {
+    planned = planned;
     beside = record { now = start; log = []; by = []; holder = λ _. None; grabber = λ _. None };
     flow = record {
       fit = fit;
-      goes = record { remembers = remember-none (turns_made start) start.bodies; states = λ s good stands. (s, ([], refl, refl), good, stands) };
+      goes = record { remembers = remember-none (turns_made start) start.bodies; states = λ s good stands. (s, ([], refl, refl), good, stands); connections = refl };
       clock = b.clock;
       total = omega arith;
       seats = refl;
@@ -180,6 +182,7 @@ module _ {K : Type 0} (shape_of : K → Shape) (uses : K → ℕ → Bool) (read
       each_channel = λ c k there. lies c k (r.beside.grabber c) (r.flow.each_channel c k there);
       each_seat = knows;
     };
+    planned = r.planned;
     wakes = record {
       wired = r.wakes.wired;
       live = omega (arith, r.wakes.live, spare);

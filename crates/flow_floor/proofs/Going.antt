@@ -36,6 +36,7 @@ turned now p n b e stamp there happens = record {
   turn = record { process = refl; dropped = refl; leaving = refl; stamps = refl; levels = refl };
   bodies = refl;
   channels = refl;
+  connections = refl;
 }
 
 module _ {K : Type 0} (shape_of : K → Shape) (uses : K → ℕ → Bool) (ready : K → Held → Answer → Type 0) (next : K → Held → Answer → Outcome K → Type 0)
@@ -57,6 +58,7 @@ module _ {K : Type 0} (shape_of : K → Shape) (uses : K → ℕ → Bool) (read
     remembers = subst (λ (l : List Logged). Remembers (turns_made start) start.bodies l (with_body now p d).bodies) (append-nil log)
         (remember-then start.bodies now.bodies (with_body now p d).bodies (turns_made start) (turns_made now) log [] goes.remembers total (remember-kept now.bodies (slice_set now.bodies p d) p (turns_made now) b d there r.1 refl) (sym (length-set now.bodies p d)));
     states = λ s fit stands. let g = goes.states s fit stands in on s g.0 g.2 g.3 g.1 r.0;
+    connections = goes.connections;
   }
     where
       on : (s t : State K) → Fit shape_of uses ready t → StandsForOpen (shown_net now) t → reached next (journal_of log) s t → SameBody b d ⊎ WorkedBody next b d
@@ -81,4 +83,5 @@ module _ {K : Type 0} (shape_of : K → Shape) (uses : K → ℕ → Bool) (read
             let h = goes-by shape_of uses ready now p n e stamp new turn g.0 g.2 g.3 in
             let one : List Step = Turned p (seen_by e) ∷ [] in
             (h.0, (g.1.0 ++ one, journal_of-append log (logged p e ∷ []) ∙ (λ i. then_turns (g.1.1 i) (steps_journal one)) ∙ sym (steps-append g.1.0 one), reaches-append next s g.1.0 one g.0 h.0 g.1.2 (e, h.0, h.1, refl, refl)), h.2, h.3);
+        connections = goes.connections;
       }

@@ -142,6 +142,7 @@ module _ {K : Type 0} (shape_of : K → Shape) (uses : K → ℕ → Bool) (read
       record {
         beside = g;
         flow = flow-view shape_of uses ready next obeys stays steady start s g id v w s.words f at refl (λ q below. (λ z. z, λ z. z)) (λ q a b. refl) held grab word made seen;
+        planned = r.planned;
         wakes = wakes-view shape_of uses ready next obeys stays steady start s g g s.words s.homes id v w f r.wakes at refl (λ q below. refl) refl (λ c below. (refl, refl)) (omega (arith, spare)) (λ z. z) held shares
             (record { spare = omega (arith, ks.spare, spare, shares); noted = λ e. noted ∙ ks.noted (sym held ∙ e); zero = λ z. ks.zero (sym zeros ∙ z); bare = λ e. (let n = ks.bare (sym shares ∙ e) in (held ∙ n.0, made ∙ n.1)) }) (λ q there. subst (InList q) (sym noted) there) blocks;
       }
@@ -165,6 +166,7 @@ module _ {K : Type 0} (shape_of : K → Shape) (uses : K → ℕ → Bool) (read
   law-commit s id p v w b d r at holds rests is = record {
     beside = record r.beside { now = with_body r.beside.now p d };
     flow = flow-commit shape_of uses ready next obeys stays steady start s r.beside id p v w b d r.flow at holds rests (ap (λ (y : View K). y.held) is) (ap (λ (y : View K). y.grab) is) (ap (λ (y : View K). y.word) is) (ap (λ (y : View K). y.made) is) (ap (λ (y : View K). y.seen) is);
+    planned = r.planned;
     wakes = wakes-commit shape_of uses ready next obeys stays steady start s r.beside id p v w b d r.flow r.wakes at holds rests (ap (λ (y : View K). y.held) is) (ap (λ (y : View K). y.shares) is) (ap (λ (y : View K). y.spare) is) (ap (λ (y : View K). y.noted) is) (ap (λ (y : View K). y.read_zero) is)
         (ap (λ (y : View K). y.seen) is);
   }
@@ -188,6 +190,7 @@ module _ {K : Type 0} (shape_of : K → Shape) (uses : K → ℕ → Bool) (read
         subst (λ (y : ℕ). Rule (state (set s.words i y) (set s.homes i none) (set s.views id w))) (sym (hit x 2 1 e)) (record {
           beside = record g { holder = put g.holder i (Some id) };
           flow = flow-claim shape_of uses ready next obeys stays steady start s g id i 1 v w b f at idle there.1 free.0 (inl refl) refl (ks.idle idle) refl refl;
+          planned = r.planned;
           wakes = wakes-claim shape_of uses ready next obeys stays steady start s g id i (set s.homes i none) v w b f r.wakes at there.1 free.0 e share refl refl refl refl refl refl (put g.holder i (Some id));
         }),
         (λ _. (b, f.fit.whole i b there.1, subst (λ n. IsWiredBody n b) (f.same.1 ∙ sym count) (f.fit.wired i b there.1), refl), λ other. absurd (other e)),
@@ -249,6 +252,7 @@ module _ {K : Type 0} (shape_of : K → Shape) (uses : K → ℕ → Bool) (read
         flow = flow-grab shape_of uses ready next obeys stays steady start s g id p c y v w b k f at holds no_grab there.1 free.0 small refl word refl refl refl
             (subst (λ (h : Option (ℕ × BodyValue K)). AllSeen P g.now h (look ∷ v.seen)) (sym holds)
             (seen-true s r id p c v b look at holds no_grab place x_is, subst (λ (h : Option (ℕ × BodyValue K)). AllSeen P g.now h v.seen) holds (f.each_seat id v at).seen));
+        planned = r.planned;
         wakes = grab-wakes s r id p c v w b look y at holds below (omega (arith, x_is)) place x_is refl refl refl refl refl refl refl (set s.homes (P + c) none) (put g.grabber c (Some id));
       } in (
         w,
@@ -326,6 +330,7 @@ module _ {K : Type 0} (shape_of : K → Shape) (uses : K → ℕ → Bool) (read
       let law : Rule (state (set s.words (P + C) y) s.homes (set s1.views id w)) = record {
         beside = g';
         flow = flow-stamp shape_of uses ready next obeys stays steady start s1 g id p happened.0 x y v1 w d e f at1 refl happened.1 on x_is refl held refl refl made refl;
+        planned = r1.planned;
         wakes = wakes-stamp shape_of uses ready next obeys stays steady start s1 g g' id p x y v1 w d e f r1.wakes at1 refl refl held refl refl refl refl refl;
       } in (
         w,
@@ -358,6 +363,7 @@ module _ {K : Type 0} (shape_of : K → Shape) (uses : K → ℕ → Bool) (read
       let law : Rule (state (set s.words (P + c) y) (set s.homes (P + c) home) (set s.views id w)) = record {
         beside = record g { grabber = put g.grabber c None };
         flow = flow-release shape_of uses ready next obeys stays steady start s g id c y v w k f at grab word refl refl refl (f.each_seat id v at).seen;
+        planned = r.planned;
         wakes = wakes-release shape_of uses ready next obeys stays steady start s g (record g { grabber = put g.grabber c None }) id p c y (set s.homes (P + c) home) v w b f r.wakes at holds below refl refl refl refl refl refl (λ q there. in-more q notes v.noted there)
             (record {
               receiver = elim told.receiver [
@@ -399,6 +405,7 @@ module _ {K : Type 0} (shape_of : K → Shape) (uses : K → ℕ → Bool) (read
       let law : Rule (state (set s.words p y) hs' (set s1.views id w)) = record {
         beside = record r1.beside { holder = put r1.beside.holder p None };
         flow = flow-leave shape_of uses ready next obeys stays steady start s1 r1.beside id p y v1 w d r1.flow at1 refl no_grab free held grab made;
+        planned = r1.planned;
         wakes = wakes-leave shape_of uses ready next obeys stays steady start s1 r1.beside id p y hs' v1 w d r1.flow r1.wakes at1 refl free held shares spare few no_notes noted zeros
             (λ none. (let a = parks none in (
               a.1.0,
@@ -484,6 +491,7 @@ module _ {K : Type 0} (shape_of : K → Shape) (uses : K → ℕ → Bool) (read
         beside = g;
         flow = flow-view shape_of uses ready next obeys stays steady start s g id v w ws' f at (length-set s.words L y) (λ q below. (let e = other q (omega arith) in (subst IsFree (sym e), subst IsTaken (sym e)))) (λ q a b. other q (omega arith)) held grab word made
             (subst (λ (z : Option (ℕ × BodyValue K) × List Look). AllSeen P g.now z.0 z.1) (λ j. (sym held j, sym seen j)) (f.each_seat id v at).seen);
+        planned = r.planned;
         wakes = wakes-view shape_of uses ready next obeys stays steady start s g g ws' s.homes id v w f r.wakes at refl (λ q below. other q (omega arith)) (live-other P L y s.words (omega arith))
             (λ c below. (let e = other (P + c) (omega arith) in (ap level_in e, ap senders_in e))) (omega (arith, here, live)) (λ z. here ∙ falls z) held shares
             (record { spare = few; noted = λ e. noted ∙ ks.noted (sym held ∙ e); zero = λ z. here ∙ zeros z; bare = λ e. (let n = ks.bare (sym shares ∙ e) in (held ∙ n.0, made ∙ n.1)) }) (λ q there. subst (InList q) (sym noted) there) (λ q z h all. subst (AllBlock P start.channels ws' z) (sym seen) all);
@@ -644,6 +652,7 @@ module _ {K : Type 0} (shape_of : K → Shape) (uses : K → ℕ → Bool) (read
               ))
               (λ other. (let e = get_or-set_other s.words i q y 0 other in (subst IsFree (sym e), subst IsTaken (sym e)))))
               (λ q a b. get_or-set_other s.words i q y 0 (λ e. omega (arith, e, below, a))) refl refl refl refl ks.seen;
+          planned = r.planned;
           wakes = wakes-poke shape_of uses ready next obeys stays steady start s g g id p i y s.homes v w b f r.wakes at holds refl below k.high (notes ∙ ap (λ (l : List ℕ). i ∷ l) (sym rest_is)) (omega (arith, spent, k.spare, one_spare)) (omega (arith, spent, low, share)) refl refl refl refl;
         },
         refl,

@@ -18,11 +18,11 @@ turned_body e stamp b = record b { process = process_after b.process e; leaving 
 
 -- A net with another body at one place.
 abbrev pub with_body : {K : Type 0} → NetValue K → ℕ → BodyValue K → NetValue K
-with_body now p b = record { bodies = slice_set now.bodies p b; channels = now.channels }
+with_body now p b = record now { bodies = slice_set now.bodies p b }
 
 -- The net after a turn of process p, which was b, with this stamp.
 abbrev pub turned_net : {K : Type 0} → NetValue K → ℕ → BodyValue K → Event → ℕ → NetValue K
-turned_net now p b e stamp = record { bodies = slice_set now.bodies p (turned_body e stamp b); channels = all_shown_after e now.channels }
+turned_net now p b e stamp = record now { bodies = slice_set now.bodies p (turned_body e stamp b); channels = all_shown_after e now.channels }
 
 -- What the log keeps of a turn.
 abbrev pub logged : ℕ → Event → Logged

@@ -10,6 +10,7 @@ use crate::board::{Lawful, Slot, View};
 use atomic_table::{Seat, Table};
 use flow_component::Component;
 use flow_machine::{Body, Channel, Net};
+use flow_net::Connection;
 use std::alloc::Global;
 use std::snapshot::Snapshot;
 
@@ -23,6 +24,9 @@ pub struct Floor<K: Component> {
     pub ghost bodies: { length table.shared.key.value.bodies ≡ processes },
     pub ghost channels: { length table.shared.key.value.channels ≡ connections },
     pub ghost small: { processes + connections < 4294967296 },
+    /// The connections of the net's plan.
+    pub(crate) plan: Vec<Connection>,
+    pub ghost planned: { plan.items ≡ table.shared.key.value.connections },
     /// By connection, the processes that receive there, and those that send there.
     pub(crate) receivers: Vec<Vec<u32>>,
     pub(crate) senders: Vec<Vec<u32>>,

@@ -230,7 +230,11 @@ fn begin<K: Component>(
     let processes = net.processes() as usize;
     let connections = net.connections();
     let about = Snapshot::of(&net);
-    let Parts { bodies, channels } = net.split();
+    let Parts {
+        bodies,
+        channels,
+        connections: plan,
+    } = net.split();
     let slots = put_bodies(bodies, slots);
     let slots = put_channels(channels, slots);
     match Table::new(alloc, words.as_slice(), slots, &about) {
@@ -239,6 +243,7 @@ fn begin<K: Component>(
                 table,
                 processes,
                 connections,
+                plan,
                 receivers,
                 senders,
             };

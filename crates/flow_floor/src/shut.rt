@@ -80,6 +80,7 @@ impl<K: Component> Floor<K> {
             table,
             processes,
             connections,
+            plan,
             receivers: _,
             senders: _,
         } = self;
@@ -87,6 +88,11 @@ impl<K: Component> Floor<K> {
         let bodies = take_bodies(&mut closed, processes, bodies);
         let channels = take_channels(&mut closed, processes, connections, channels);
         closed.free();
-        Parts { bodies, channels }.join()
+        Parts {
+            connections: plan,
+            bodies,
+            channels,
+        }
+        .join()
     }
 }

@@ -97,7 +97,7 @@ module _ {K : Type 0} (bodies : List (BodyValue K)) (channels : List ChannelShow
   -- A process is deactivated.
   pub slept-net : (n : ℕ) → AtCase (net_of bodies channels) p cases.Deactivate b → TakesTurn b effects.Deactivate stamp b' → TurnsNet (net_of bodies channels) p n stamp (turns.Made stamp) (net_of (slice_set bodies p b') channels)
   slept-net n at takes =
-      (refl, (Sleeps, record { before = b; after = b'; there = at.there; happens = ap (stage_event (looks_of channels) b.process n) at.is; turn = body-turn b b' effects.Deactivate stamp Sleeps takes refl refl; bodies = refl; channels = refl }))
+      (refl, (Sleeps, record { before = b; after = b'; there = at.there; happens = ap (stage_event (looks_of channels) b.process n) at.is; turn = body-turn b b' effects.Deactivate stamp Sleeps takes refl refl; bodies = refl; channels = refl; connections = refl }))
 
   -- One more connected output is closed.
   pub closed-net : (n c : ℕ) (ch ch' : ChannelShown) → AtCase (net_of bodies channels) p (cases.Close c) b → slice_get channels c ≡ Some ch → ch' ≡ shown_after (Closes 0 c) ch → TakesTurn b effects.Closed stamp b'

@@ -170,6 +170,8 @@ module _ {K : Type 0} (shape_of : K → Shape) (uses : K → ℕ → Bool) (read
             (by-place old.bodies p b turn.after (λ q x. IsWiredBody (length old.channels) x) turn.there
             (wired-same (length old.channels) b turn.after (ap (λ (x : Process K). x.inputs) turn.turn.process ∙ inputs-after b.process e) (ap (λ (x : Process K). x.outputs) turn.turn.process ∙ outputs-after b.process e) (fit.wired p b turn.there))
             (λ q x other is. fit.wired q x is)));
+        counted = subst (λ (bs : List (BodyValue K)). (q : ℕ) (x : BodyValue K) → slice_get bs q ≡ Some x → length x.stamps ≡ x.process.turns) (sym turn.bodies)
+            (by-place old.bodies p b turn.after (λ q x. length x.stamps ≡ x.process.turns) turn.there (omega (arith, ap length turn.turn.stamps, length-append b.stamps (stamp ∷ []), fit.counted p b turn.there, turns)) (λ q x other is. fit.counted q x is));
         puts = puts-now e old.channels new.channels (length fit.log) (length (fit.log ++ one ∷ [])) turn.channels len fit.puts;
       }
     where
@@ -343,6 +345,8 @@ module _ {K : Type 0} (shape_of : K → Shape) (uses : K → ℕ → Bool) (read
         wired = subst (λ (m : ℕ). (q : ℕ) (x : BodyValue K) → slice_get new.bodies q ≡ Some x → IsWiredBody m x) (ap length (sym channels))
             (subst (λ (bs : List (BodyValue K)). (q : ℕ) (x : BodyValue K) → slice_get bs q ≡ Some x → IsWiredBody (length old.channels) x) (sym bodies)
             (by-place old.bodies p b b' (λ q x. IsWiredBody (length old.channels) x) there (wired-same (length old.channels) b b' same.1 same.2 (fit.wired p b there)) (λ q x other is. fit.wired q x is)));
+        counted = subst (λ (bs : List (BodyValue K)). (q : ℕ) (x : BodyValue K) → slice_get bs q ≡ Some x → length x.stamps ≡ x.process.turns) (sym bodies)
+            (by-place old.bodies p b b' (λ q x. length x.stamps ≡ x.process.turns) there (omega (arith, ap length keeps.stamps, fit.counted p b there, same.0)) (λ q x other is. fit.counted q x is));
         puts = λ c channel is. fit.puts c channel (ap (λ (cs : List ChannelShown). slice_get cs c) (sym channels) ∙ is);
       }
 

@@ -10,6 +10,14 @@ pub mod BlockLemmas
 pub mod PlanLemmas
 pub mod LogLemmas
 pub mod FitLemmas
+mod Wholes
+mod JoinLogs
+mod JoinSenders
+mod JoinPast
+mod JoinPlaces
+pub mod Planning
+pub mod JoinState
+pub mod JoinPieces
 mod AtCases
 mod WireLemmas
 pub mod SoloLemmas

@@ -123,6 +123,7 @@ pair-net {K} bodies channels p c n stamp b b' channel channel' found block (turn
       turn = t.2;
       bodies = refl;
       channels = ap (slice_set channels c) t.3 ∙ sym (all-on c channels channel t.0 (on t.0 t.1) at_c);
+      connections = refl;
     },
   ),
 )
@@ -149,6 +150,7 @@ alone-net {K} bodies channels p n stamp b b' found block (turns.Made s) at_p hap
       turn = t.2;
       bodies = refl;
       channels = sym (on t.0 t.1);
+      connections = refl;
     },
   ),
 )
@@ -260,6 +262,7 @@ text-turn {K} b b' channels bodies p n stamp port text there stage input takes =
         turn = record { process = process true is; dropped = takes.dropped; leaving = takes.leaving; stamps = takes.stamps; levels = takes.levels };
         bodies = refl;
         channels = refl;
+        connections = refl;
       },
     )
     by false is = (
@@ -272,6 +275,7 @@ text-turn {K} b b' channels bodies p n stamp port text there stage input takes =
         turn = record { process = process false is; dropped = takes.dropped; leaving = takes.leaving; stamps = takes.stamps; levels = takes.levels };
         bodies = refl;
         channels = refl;
+        connections = refl;
       },
     )
 

@@ -84,7 +84,7 @@ module _ {K : Type 0} (shape_of : K → Shape) (uses : K → ℕ → Bool) (read
   Reached old new = ReachesNet shape_of uses ready next old new
 
   pub reach-none : (net : NetValue K) → Reached net net
-  reach-none net = record { len = refl; goes = ([], omega arith, record { remembers = remember-none (turns_made net) net.bodies; states = λ s fit stands. (s, ([], refl, refl), fit, stands) }) }
+  reach-none net = record { len = refl; goes = ([], omega arith, record { remembers = remember-none (turns_made net) net.bodies; states = λ s fit stands. (s, ([], refl, refl), fit, stands); connections = refl }) }
 
   pub reach-then : (a b c : NetValue K) → Reached a b → Reached b c → Reached a c
   reach-then a b c first rest = record {
@@ -99,6 +99,7 @@ module _ {K : Type 0} (shape_of : K → Shape) (uses : K → ℕ → Bool) (read
             let h = rest.goes.2.states g.0 g.2 g.3 in
             let journal : journal_of (first.goes.0 ++ rest.goes.0) ≡ steps_journal (g.1.0 ++ h.1.0) = journal_of-append first.goes.0 rest.goes.0 ∙ (λ i. then_turns (g.1.1 i) (h.1.1 i)) ∙ sym (steps-append g.1.0 h.1.0) in
             (h.0, (g.1.0 ++ h.1.0, journal, reaches-append next s g.1.0 h.1.0 g.0 h.0 g.1.2 h.1.2), h.2, h.3);
+        connections = rest.goes.2.connections ∙ first.goes.2.connections;
       },
     );
   }
@@ -112,6 +113,7 @@ module _ {K : Type 0} (shape_of : K → Shape) (uses : K → ℕ → Bool) (read
       record {
         remembers = remember-kept old.bodies new.bodies p (turns_made old) think.before think.after think.there think.keeps think.bodies;
         states = λ s fit stands. by s fit stands (thinks-step next think.before t think.after think.thinks);
+        connections = think.connections;
       },
     );
   }
@@ -132,6 +134,7 @@ module _ {K : Type 0} (shape_of : K → Shape) (uses : K → ℕ → Bool) (read
       record {
         remembers = subst (λ (n : ℕ). Remembers n old.bodies (record { process = p; seen = seen_by e } ∷ []) new.bodies) at (remember-one old new p k m e turn);
         states = λ s fit stands. let t = goes-by shape_of uses ready old p k e m new turn s fit stands in (t.0, (Turned p (seen_by e) ∷ [], refl, (e, t.0, t.1, refl, refl)), t.2, t.3);
+        connections = turn.connections;
       },
     );
   }

@@ -89,7 +89,7 @@ over-turn old p stamp overs.Starved new never = absurd never
 
 -- after a thought that found memory the process is settled
 pub settles-wishing : {K : Type 0} (next : K → Held → Answer → Outcome K → Type 0) (old : NetValue K) (p : ℕ) (new : NetValue K) → ThinksNet next old p thoughts.Wishing new → SettlesNet next old p new
-settles-wishing next old p new think = record { before = think.before; after = think.after; there = think.there; settles = think.thinks.0; set = think.thinks.1; keeps = think.keeps; bodies = think.bodies; channels = think.channels }
+settles-wishing next old p new think = record { before = think.before; after = think.after; there = think.there; settles = think.thinks.0; set = think.thinks.1; keeps = think.keeps; bodies = think.bodies; channels = think.channels; connections = think.connections }
 
 -- A thought that ends in a failure settles the process.
 pub settles-failed : {K : Type 0} (next : K → Held → Answer → Outcome K → Type 0) (old : NetValue K) (p : ℕ) (cause : Fail) (new : NetValue K) → ThinksNet next old p (thoughts.Failed cause) new → SettlesNet next old p new
@@ -102,6 +102,7 @@ settles-failed next old p cause new think = record {
   keeps = think.keeps;
   bodies = think.bodies;
   channels = think.channels;
+  connections = think.connections;
 }
 
 settles-step : {K : Type 0} (next : K → Held → Answer → Outcome K → Type 0) (old new : BodyValue K) → SettlesBody next old new → SameBody old new ⊎ WorkedBody next old new
@@ -267,11 +268,12 @@ module _ {K : Type 0} (shape_of : K → Shape) (uses : K → ℕ → Bool) (read
               let w = whole-state old p m e mid new turn settle g.0 g.2 g.3 in
               let journal = journal_of-append log (one ∷ []) in
               (w.0, subst (λ (j : Journal). TurnsOf next p s j.turns j.seen w.0) (sym journal) (TurnsOf-more next p s (journal_of log).turns (journal_of log).seen g.0 e w.0 g.1 w.1), w.2, w.3);
+          connections = settle.connections ∙ turn.connections ∙ by.connections;
         },
       )
 
   pub burst-none : (start : NetValue K) (p n : ℕ) → Goes' (turns_of next p) start n start n
-  burst-none start p n = ([], omega arith, record { remembers = remember-none n start.bodies; states = λ s fit stands. (s, (refl, refl), fit, stands) })
+  burst-none start p n = ([], omega arith, record { remembers = remember-none n start.bodies; states = λ s fit stands. (s, (refl, refl), fit, stands); connections = refl })
 
   no-turn-state : (net : NetValue K) (p : ℕ) (s : State K) → StandsForOpen (shown_net net) s → HasNoTurnIn net p → HasNoTurn s.kept p
   no-turn-state net p s stands none x n is =
@@ -286,11 +288,12 @@ module _ {K : Type 0} (shape_of : K → Shape) (uses : K → ℕ → Bool) (read
     record {
       remembers = goes.2.remembers;
       states = λ s fit stands. let g = goes.2.states s fit stands in (g.0, (g.1, no-turn-state old p g.0 g.3 none.0), g.2, g.3);
+      connections = goes.2.connections;
     },
   )
 
   pub pass-none : (start : NetValue K) (n : ℕ) → Goes' (pass_below next 0) start n start n
-  pass-none start n = ([], omega arith, record { remembers = remember-none n start.bodies; states = λ s fit stands. (s, (refl, refl), fit, stands) })
+  pass-none start n = ([], omega arith, record { remembers = remember-none n start.bodies; states = λ s fit stands. (s, (refl, refl), fit, stands); connections = refl })
 
   -- a pass goes on by a burst
   pub pass-more : (start old new : NetValue K) (p n m k : ℕ) → length old.bodies ≡ length new.bodies → Goes' (pass_below next p) start n old m → Goes' (burst_of next p) old m new k → Goes' (pass_below next (p + 1)) start n new k
@@ -304,6 +307,7 @@ module _ {K : Type 0} (shape_of : K → Shape) (uses : K → ℕ → Bool) (read
           let h = burst.2.states g.0 g.2 g.3 in
           let to : PassBelow next (suc p) s (journal_of (goes.0 ++ burst.0)) h.0 = (journal_of goes.0, journal_of burst.0, g.0, journal_of-append goes.0 burst.0, g.1, h.1) in
           (h.0, subst (λ (z : ℕ). PassBelow next z s (journal_of (goes.0 ++ burst.0)) h.0) (sym (add-one p)) to, h.2, h.3);
+      connections = burst.2.connections ∙ goes.2.connections;
     },
   )
 
@@ -311,7 +315,7 @@ module _ {K : Type 0} (shape_of : K → Shape) (uses : K → ℕ → Bool) (read
   processes-length net s stands = bodies-length net.bodies ∙ ap (λ (n : NetShown K). length n.bodies) stands ∙ shown-length s.past.dropped 0 s.kept.processes
 
   pub passes-none : (start : NetValue K) (n : ℕ) → Goes' (some_passes next) start n start n
-  passes-none start n = ([], omega arith, record { remembers = remember-none n start.bodies; states = λ s fit stands. (s, ([], refl, refl), fit, stands) })
+  passes-none start n = ([], omega arith, record { remembers = remember-none n start.bodies; states = λ s fit stands. (s, ([], refl, refl), fit, stands); connections = refl })
 
   some-turns : (log : List Logged) → 0 < length log → (journal_of log).turns ≢ []
   some-turns [] some = λ h. omega (arith, some)
@@ -330,6 +334,7 @@ module _ {K : Type 0} (shape_of : K → Shape) (uses : K → ℕ → Bool) (read
           let whole : Pass next g.0 (journal_of pass.0) h.0 = subst (λ (z : ℕ). PassBelow next z g.0 (journal_of pass.0) h.0) (processes-length old g.0 g.3) h.1 in
           let moved = some-turns pass.0 (omega (arith, pass.1, some)) in
           (h.0, (g.1.0 ++ journal_of pass.0 ∷ [], journal_of-append goes.0 pass.0 ∙ ap (λ (j : Journal). then_turns j (journal_of pass.0)) g.1.1 ∙ sym (joined-more g.1.0 (journal_of pass.0)), Passes-more next s g.1.0 g.0 (journal_of pass.0) h.0 g.1.2 moved whole), h.2, h.3);
+      connections = pass.2.connections ∙ goes.2.connections;
     },
   )
 
@@ -379,6 +384,7 @@ module _ {K : Type 0} (shape_of : K → Shape) (uses : K → ℕ → Bool) (read
                 h.2,
                 h.3,
               );
+          connections = pass.2.connections ∙ goes.2.connections ∙ settled.2.connections;
         },
       )
     where
@@ -387,7 +393,7 @@ module _ {K : Type 0} (shape_of : K → Shape) (uses : K → ℕ → Bool) (read
 
   -- pending works, one process after another
   pub works-none : (start : NetValue K) (n : ℕ) → Goes' (some_works next) start n start n
-  works-none start n = ([], omega arith, record { remembers = remember-none n start.bodies; states = λ s fit stands. (s, (refl, ([], refl)), fit, stands) })
+  works-none start n = ([], omega arith, record { remembers = remember-none n start.bodies; states = λ s fit stands. (s, (refl, ([], refl)), fit, stands); connections = refl })
 
   works-then : (s : State K) (ps : List ℕ) (mid : State K) (p : ℕ) (s' : State K) → WorksLead next s ps mid → Settles next mid p s' → (qs : List ℕ) × WorksLead next s qs s'
   works-then s [] mid p s' go (inl none) = ([], none.1 ∙ go)
@@ -420,6 +426,7 @@ module _ {K : Type 0} (shape_of : K → Shape) (uses : K → ℕ → Bool) (read
               let g = goes.2.states s fit stands in
               let w = settle-state old p new settle g.0 g.2 g.3 in
               (w.0, (refl, works-then s g.1.1.0 g.0 p w.0 g.1.1.1 w.1), w.2, w.3);
+          connections = settle.connections ∙ goes.2.connections;
         },
       )
 
@@ -432,6 +439,7 @@ module _ {K : Type 0} (shape_of : K → Shape) (uses : K → ℕ → Bool) (read
       states = λ s fit stands.
           let g = goes.2.states s fit stands in
           (g.0, (g.1.0, record { works = g.1.1.0; lead = g.1.1.1; closed = λ p x is. all-thought new g.0 g.3 set p x is }), g.2, g.3);
+      connections = goes.2.connections;
     },
   )
 
@@ -486,7 +494,7 @@ think-count next old p t new think = count-rest next old p think.before think.af
 
 -- after a thought that found none the process is starved
 pub starves-memory : {K : Type 0} (next : K → Held → Answer → Outcome K → Type 0) (old : NetValue K) (p : ℕ) (new : NetValue K) → ThinksNet next old p thoughts.NoMemory new → StarvesNet old p new
-starves-memory next old p new think = record { before = think.before; after = think.after; there = think.there; unset = think.thinks.2; bodies = think.bodies }
+starves-memory next old p new think = record { before = think.before; after = think.after; there = think.there; unset = think.thinks.2; bodies = think.bodies; connections = think.connections }
 
 -- a process that is starved is the first one that isn't set, where those below it are
 pub first-unset : {K : Type 0} (old new : NetValue K) (p : ℕ) → SetBelow p old.bodies → StarvesNet old p new → IsFirstUnset new.bodies p

@@ -12,7 +12,8 @@ get-map f [] i x is = absurd (cc)
 get-map {A} {B} f (y ∷ xs) zero x is = let h : y ≡ x = cc in ap (λ (z : A). let w : Option B = Some (f z) in w) h
 get-map f (y ∷ xs) (suc i) x is = get-map f xs i x is
 
-processes-shown : {K : Type 0} (dropped : ℕ → List ℕ) (k : ℕ) (xs : List (Process K)) → map (λ (b : BodyShown K). b.process) (bodies_from dropped k xs) ≡ xs
+-- The processes that bodies show are theirs.
+pub processes-shown : {K : Type 0} (dropped : ℕ → List ℕ) (k : ℕ) (xs : List (Process K)) → map (λ (b : BodyShown K). b.process) (bodies_from dropped k xs) ≡ xs
 processes-shown dropped k [] = refl
 processes-shown dropped k (x ∷ xs) = ap (λ ys. x ∷ ys) (processes-shown dropped (k + 1) xs)
 

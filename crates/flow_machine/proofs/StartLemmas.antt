@@ -21,11 +21,12 @@ use Rattle.flow_model.proofs.Start.{port-at, Valid-start}
 use Rattle.flow_model.proofs.Blocks.{AllFit-start}
 use Rattle.flow_model.proofs.Fits.{Fit-start}
 use Rattle.flow_machine.proofs.Lists.{element-there}
-use Rattle.flow_machine.specs.Values.{BodyValue, NetValue, shown_body, net_of}
+use Rattle.flow_machine.specs.Values.{BodyValue, NetValue, shown_body, net_with}
 use Rattle.flow_machine.specs.Bodies.{StandsWell}
 use Rattle.flow_model.specs.Plans.{leads_to}
 use Rattle.flow_model.specs.Plans.{comes_from}
-use Rattle.flow_machine.specs.FitNets.{IsWiredBody, FitNet}
+use Rattle.flow_machine.specs.FitNets.{IsWiredBody, FitNet, IsNet}
+use Rattle.flow_machine.proofs.Planning.{planned-start}
 use Rattle.flow_machine.specs.Starts.{StartsBody, StartsBodies, StartsNet, channel_begun}
 
 process-there : {K : Type 0} (plan : Plan) (n : ℕ) (xs : List PlanProcess) (components : List K) (k : ℕ) (x : PlanProcess) (component : K) → slice_get xs k ≡ Some x → slice_get components k ≡ Some component → slice_get (processes_at_start plan n xs components) k ≡ Some (process_at_start plan (n + k) x component)
@@ -185,7 +186,7 @@ starts-same {K} plan p p' q q' component component' b b' places specs components
 
 module _ {K : Type 0} (shape_of : K → Shape) (uses : K → ℕ → Bool) (ready : K → Held → Answer → Type 0) (network : Network) (components : List K) (bodies : List (BodyValue K)) where
   abbrev pub begun_net : NetValue K
-  begun_net = net_of bodies (map channel_begun network.connections)
+  begun_net = net_with network.connections bodies (map channel_begun network.connections)
 
   pub starts-net : StartsWell shape_of uses ready network components → StartsBodies network components bodies → StartsNet network components begun_net
   starts-net well start =
@@ -197,6 +198,7 @@ module _ {K : Type 0} (shape_of : K → Shape) (uses : K → ℕ → Bool) (read
         stands = λ i. record { bodies = shown i; channels = channels i };
         set = λ p b is. (begun plan components bodies well.one_each start p b is).starts.set;
         unmade = λ p b is. (let s = (begun plan components bodies well.one_each start p b is).starts in (s.stamps, s.levels));
+        connections = refl;
       }
 
   pub fit-start : StartsWell shape_of uses ready network components → StartsBodies network components bodies → FitNet shape_of uses ready begun_net
@@ -215,4 +217,8 @@ module _ {K : Type 0} (shape_of : K → Shape) (uses : K → ℕ → Bool) (read
         whole = λ p b is. (each p b is).starts.leaving;
         wired = λ p b is. (let s = each p b is in wired-start network p s.spec s.component b s.starts.process);
         puts = λ c channel is. omega (arith, no-puts network.connections c channel is);
+        counted = λ p b is. (let s = (each p b is).starts in omega (arith, ap length s.stamps, ap (λ (x : Process K). x.turns) s.process));
       }
+
+  pub is-start : StartsWell shape_of uses ready network components → StartsBodies network components bodies → IsNet shape_of uses ready begun_net
+  is-start well start = record { fit = fit-start well start; planned = planned-start shape_of uses ready network components well begun_net (starts-net well start).stands refl refl }

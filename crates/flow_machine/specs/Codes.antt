@@ -16,6 +16,8 @@ use Rattle.flow_component.specs.declared.Fail.{Fail}
 use Rattle.flow_component.specs.declared.Fail.TheVariants as fails
 use Rattle.flow_model.specs.declared.Stage.{Stage}
 use Rattle.flow_model.specs.declared.Stage.TheVariants as stages
+use Rattle.flow_plan.specs.declared.plan.Sender.{Sender}
+use Rattle.flow_plan.specs.declared.plan.Connection.{Connection}
 use Rattle.flow_model.specs.States.{Input, From, Text, Process}
 use Rattle.flow_model.specs.Stands.{ChannelShown}
 use Rattle.flow_machine.specs.Values.{BodyValue, NetValue}
@@ -181,6 +183,18 @@ channel_code =
     (λ c. (c.packets, (c.capacity, (c.open_senders, (c.puts, c.takes)))))
     (λ p. record { packets = p.0; capacity = p.1.0; open_senders = p.1.1.0; puts = p.1.1.1.0; takes = p.1.1.1.1 }) (λ _. refl)
 
+-- How the prover keeps a sender as a value.
+abbrev sender_code : Coded Sender
+sender_code = code_by (ℕ × ℕ) (coded× coded_ℕ coded_ℕ) (λ s. (s.process, s.output)) (λ p. record { process = p.0; output = p.1 }) (λ _. refl)
+
+-- How the prover keeps a connection of a plan as a value.
+abbrev pub connection_code : Coded Connection
+connection_code =
+    code_by (ℕ × (ℕ × (ℕ × List Sender))) (coded× coded_ℕ (coded× coded_ℕ (coded× coded_ℕ (coded_list sender_code)))) (λ c. (c.receiver, (c.input, (c.capacity, c.senders))))
+    (λ p. record { receiver = p.0; input = p.1.0; capacity = p.1.1.0; senders = p.1.1.1 }) (λ _. refl)
+
 -- How the prover keeps a net as a value.
 abbrev pub net_code : {K : Type 0} → Coded K → Coded (NetValue K)
-net_code {K} k = code_by (List (BodyValue K) × List ChannelShown) (coded× (coded_list (body_code k)) (coded_list channel_code)) (λ n. (n.bodies, n.channels)) (λ p. record { bodies = p.0; channels = p.1 }) (λ _. refl)
+net_code {K} k =
+    code_by (List Connection × (List (BodyValue K) × List ChannelShown)) (coded× (coded_list connection_code) (coded× (coded_list (body_code k)) (coded_list channel_code))) (λ n. (n.connections, (n.bodies, n.channels)))
+    (λ p. record { connections = p.0; bodies = p.1.0; channels = p.1.1 }) (λ _. refl)

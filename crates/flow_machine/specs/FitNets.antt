@@ -9,13 +9,14 @@ use Rattle.flow_model.specs.Stands.{ChannelShown, StandsForOpen}
 use Rattle.flow_model.specs.Fit.{Fit}
 use Rattle.flow_machine.specs.Values.{BodyValue, NetValue, shown_net}
 use Rattle.flow_machine.specs.Logs.{Logged, Logs, turns_made}
+use Rattle.flow_machine.specs.Joins.{IsPlanned}
 
 -- Each connection that a body has at a port is there.
 pub record IsWiredBody {K : Type 0} (channels : ℕ) (b : BodyValue K) : Type 0 where
   pub inputs : (i c : ℕ) → slice_get b.process.inputs i ≡ Some (From c) → c < channels
   pub outputs : (o c : ℕ) → output_at b.process o ≡ Some c → c < channels
 
--- A net stands for some state of the machine in which all is well, and its bodies remember all turns that were made.
+-- A net stands for some state of the machine in which all is well, and its bodies remember all turns that were made, each with a stamp.
 pub record FitNet {K : Type 0} (shape_of : K → Shape) (uses : K → ℕ → Bool) (ready : K → Held → Answer → Type 0) (net : NetValue K) : Type 0 where
   pub state : State K
   pub fit : Fit shape_of uses ready state
@@ -27,3 +28,9 @@ pub record FitNet {K : Type 0} (shape_of : K → Shape) (uses : K → ℕ → Bo
   pub whole : (p : ℕ) (b : BodyValue K) → slice_get net.bodies p ≡ Some b → b.leaving ≡ None
   pub wired : (p : ℕ) (b : BodyValue K) → slice_get net.bodies p ≡ Some b → IsWiredBody (length net.channels) b
   pub puts : (c : ℕ) (channel : ChannelShown) → slice_get net.channels c ≡ Some channel → channel.puts ≤ length log
+  pub counted : (p : ℕ) (b : BodyValue K) → slice_get net.bodies p ≡ Some b → length b.stamps ≡ b.process.turns
+
+-- What holds of each net: that, and its connections are those of its bodies and channels, as a valid plan has them.
+pub record IsNet {K : Type 0} (shape_of : K → Shape) (uses : K → ℕ → Bool) (ready : K → Held → Answer → Type 0) (net : NetValue K) : Type 0 where
+  pub fit : FitNet shape_of uses ready net
+  pub planned : IsPlanned net

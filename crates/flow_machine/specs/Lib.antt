@@ -11,6 +11,7 @@ pub mod Thoughts
 pub mod Outlets
 pub mod Nets
 pub mod Logs
+pub mod Joins
 pub mod FitNets
 pub mod NetSteps
 pub mod Starts

@@ -30,3 +30,4 @@ pub record ThinksNet {K : Type 0} (next : K → Held → Answer → Outcome K �
   pub keeps : KeepsTurns before after
   pub bodies : new.bodies ≡ slice_set old.bodies p after
   pub channels : new.channels ≡ old.channels
+  pub connections : new.connections ≡ old.connections

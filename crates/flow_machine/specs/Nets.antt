@@ -80,6 +80,7 @@ pub record NetTurn {K : Type 0} (old : NetValue K) (p n : ℕ) (event : Event) (
   pub turn : BodyTurn before event stamp after
   pub bodies : new.bodies ≡ slice_set old.bodies p after
   pub channels : new.channels ≡ all_shown_after event old.channels
+  pub connections : new.connections ≡ old.connections
 
 -- The block of process p.
 abbrev pub block_at : {K : Type 0} → NetValue K → ℕ → Option Block

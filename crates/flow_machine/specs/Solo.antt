@@ -21,11 +21,12 @@ use Rattle.flow_machine.specs.Logs.{Logged, journal_of, Remembers, turns_made}
 abbrev pub GoesOn : {K : Type 0} → (K → Shape) → (K → ℕ → Bool) → (K → Held → Answer → Type 0) → (State K → State K → Type 0) → NetValue K → NetValue K → Type 0
 GoesOn {K} shape_of uses ready way old new = (s : State K) → Fit shape_of uses ready s → StandsForOpen (shown_net old) s → (s' : State K) × way s s' × Fit shape_of uses ready s' × StandsForOpen (shown_net new) s'
 
--- A net goes on by these turns, the first of which has stamp n: its bodies remember them, beside what they remembered, and its states go on in
--- this way.
+-- A net goes on by these turns, the first of which has stamp n: its bodies remember them, beside what they remembered, its states go on in this
+-- way, and its connections stay.
 pub record GoesBy {K : Type 0} (shape_of : K → Shape) (uses : K → ℕ → Bool) (ready : K → Held → Answer → Type 0) (way : Journal → State K → State K → Type 0) (old : NetValue K) (n : ℕ) (log : List Logged) (new : NetValue K) : Type 0 where
   pub remembers : Remembers n old.bodies log new.bodies
   pub states : GoesOn shape_of uses ready (way (journal_of log)) old new
+  pub connections : new.connections ≡ old.connections
 
 -- The same by some turns, after which m turns have been made.
 abbrev pub Goes : {K : Type 0} → (K → Shape) → (K → ℕ → Bool) → (K → Held → Answer → Type 0) → (Journal → State K → State K → Type 0) → NetValue K → ℕ → NetValue K → ℕ → Type 0
@@ -50,6 +51,7 @@ pub record SettlesNet {K : Type 0} (next : K → Held → Answer → Outcome K �
   pub keeps : KeepsTurns before after
   pub bodies : new.bodies ≡ slice_set old.bodies p after
   pub channels : new.channels ≡ old.channels
+  pub connections : new.connections ≡ old.connections
 
 -- A thought of process p found no memory: the process isn't set, and no other has changed.
 pub record StarvesNet {K : Type 0} (old : NetValue K) (p : ℕ) (new : NetValue K) : Type 0 where
@@ -58,6 +60,7 @@ pub record StarvesNet {K : Type 0} (old : NetValue K) (p : ℕ) (new : NetValue 
   pub there : slice_get old.bodies p ≡ Some before
   pub unset : IsUnset after
   pub bodies : new.bodies ≡ slice_set old.bodies p after
+  pub connections : new.connections ≡ old.connections
 
 -- The processes below p are set.
 abbrev pub SetBelow : {K : Type 0} → ℕ → List (BodyValue K) → Type 0

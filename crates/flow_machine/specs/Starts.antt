@@ -35,8 +35,10 @@ channel_begun c = record { packets = []; capacity = c.capacity; open_senders = l
 abbrev pub StartsChannels : List NetConnection → List ChannelShown → Type 0
 StartsChannels connections channels = channels ≡ map channel_begun connections
 
--- A net that has just started: it stands for the start state of the plan with these components, each process is set, and no turn was made.
+-- A net that has just started: it stands for the start state of the plan with these components, each process is set, no turn was made, and its
+-- connections are the plan's.
 pub record StartsNet {K : Type 0} (plan : Plan) (components : List K) (net : NetValue K) : Type 0 where
   pub stands : StandsForOpen (shown_net net) (start_of plan components)
   pub set : AllSet net.bodies
   pub unmade : (p : ℕ) (b : BodyValue K) → slice_get net.bodies p ≡ Some b → (b.stamps ≡ []) × (b.levels ≡ [])
+  pub connections : net.connections ≡ plan.connections

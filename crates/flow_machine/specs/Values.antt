@@ -1,6 +1,7 @@
 -- How contracts see bodies and nets.
-use Rattle.std.specs.Prelude.{ℕ, List, map, Option}
+use Rattle.std.specs.Prelude.{ℕ, List, [], map, Option}
 use Rattle.flow_packet.specs.declared.packet.Kind.{Kind}
+use Rattle.flow_plan.specs.declared.plan.Connection.{Connection}
 use Rattle.flow_model.specs.States.{Process}
 use Rattle.flow_model.specs.Stands.{BodyShown, ChannelShown, NetShown}
 
@@ -18,14 +19,19 @@ pub record BodyValue (K : Type 0) : Type 0 where
   pub level_room : ℕ
   pub copy : Option (List ℕ)
 
--- A net: its bodies and its connections.
+-- A net: the connections of its plan, and a body for each process and a channel for each connection.
 pub record NetValue (K : Type 0) : Type 0 where
+  pub connections : List Connection
   pub bodies : List (BodyValue K)
   pub channels : List ChannelShown
 
--- The net of these bodies and connections.
+-- The net of these connections, bodies and channels.
+abbrev pub net_with : {K : Type 0} → List Connection → List (BodyValue K) → List ChannelShown → NetValue K
+net_with connections bodies channels = record { connections = connections; bodies = bodies; channels = channels }
+
+-- The bodies and channels of a net alone, which are all that a turn reads and changes.
 abbrev pub net_of : {K : Type 0} → List (BodyValue K) → List ChannelShown → NetValue K
-net_of bodies channels = record { bodies = bodies; channels = channels }
+net_of bodies channels = net_with [] bodies channels
 
 -- What is shown of a body and of a net to the states that they stand for.
 abbrev pub shown_body : {K : Type 0} → BodyValue K → BodyShown K

@@ -13,6 +13,7 @@ use crate::channel::Channel;
 use flow_component::{Component, Gate, Wish};
 use flow_limits::PROCESS_LIMIT;
 use flow_model::{Block, Stage};
+use flow_net::Connection;
 use std::marker::Model;
 
 mod begin;
@@ -26,24 +27,25 @@ mod turns;
 pub use parts::Parts;
 pub use round::{Closed, solo};
 
-/// A network: its processes and its connections.
+/// A network: the connections of its plan, its processes, and a channel for each connection.
 pub struct Net<K: Component> {
+    connections: Vec<Connection>,
     bodies: Vec<Body<K>>,
     channels: Vec<Channel>,
 }
 
 impl<K: Component> Model for Net<K> {
-    ghost use Rattle.flow_machine.specs.Values.{NetValue, net_of};
+    ghost use Rattle.flow_machine.specs.Values.{NetValue, net_with};
     ghost use Rattle.flow_machine.specs.Codes.{net_code};
-    ghost use Rattle.flow_machine.specs.FitNets.{FitNet};
+    ghost use Rattle.flow_machine.specs.FitNets.{IsNet};
 
     ghost Value = { NetValue K };
 
     ghost coded = { net_code K.code };
 
-    ghost view = { λ n. net_of n.bodies.items n.channels.items };
+    ghost view = { λ n. net_with n.connections.items n.bodies.items n.channels.items };
 
-    ghost invariant = { λ n. FitNet K.shape_of K.uses K.ready (net_of n.bodies.items n.channels.items) };
+    ghost invariant = { λ n. IsNet K.shape_of K.uses K.ready (net_with n.connections.items n.bodies.items n.channels.items) };
 }
 
 /// The turns of these processes together.
@@ -157,7 +159,11 @@ impl<K: Component> Net<K> {
 
     /// Gives the run up, and spends all that it holds.
     pub fn discard(self) {
-        let Net { bodies, channels } = self;
+        let Net {
+            connections: _,
+            bodies,
+            channels,
+        } = self;
         discard_bodies(bodies);
         discard_channels(channels);
     }

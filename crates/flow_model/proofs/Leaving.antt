@@ -363,7 +363,7 @@ ports-at f k (suc n) zero within = let h : k ≡ k + zero = omega arith in ap (�
 ports-at f k (suc n) (suc i) within = ports-at f (k + 1) n i (omega (arith, within)) ∙ (let h : k + 1 + i ≡ k + suc i = omega arith in ap (λ m. Some (f m)) h)
 
 -- the first place where a test passes is the only one
-position-only : {A : Type 0} (p : A → Bool) (xs : List A) (i : ℕ) (x : A) → slice_get xs i ≡ Some x → p x ≡ true → ((k : ℕ) (y : A) → slice_get xs k ≡ Some y → p y ≡ true → k ≡ i) → position p xs ≡ Some i
+pub position-only : {A : Type 0} (p : A → Bool) (xs : List A) (i : ℕ) (x : A) → slice_get xs i ≡ Some x → p x ≡ true → ((k : ℕ) (y : A) → slice_get xs k ≡ Some y → p y ≡ true → k ≡ i) → position p xs ≡ Some i
 position-only p xs i x is passes only = by (position p xs) refl
   where
     by : (found : Option ℕ) → position p xs ≡ found → found ≡ Some i

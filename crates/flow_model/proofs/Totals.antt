@@ -13,12 +13,12 @@ use Rattle.flow_model.proofs.Places.{times-all_places}
 use Rattle.flow_model.proofs.Drops.{length-times}
 
 -- the ids that processes made, of the process p and those after it
-made_ids : {K : Type 0} → ℕ → List (Process K) → List ℕ
+pub made_ids : {K : Type 0} → ℕ → List (Process K) → List ℕ
 made_ids p [] = []
 made_ids p (x ∷ xs) = map (id_by p) (range_with_len 0 x.held.made) ++ made_ids (p + 1) xs
 
 -- each process made fewer than 2^32
-abbrev FewMade : {K : Type 0} → List (Process K) → Type 0
+abbrev pub FewMade : {K : Type 0} → List (Process K) → Type 0
 FewMade {K} processes = (k : ℕ) (x : Process K) → slice_get processes k ≡ Some x → x.held.made ≤ 4294967296
 
 times-others : (id p k n : ℕ) → maker_of id ≢ p → k + n ≤ 4294967296 → times id (map (id_by p) (range_with_len k n)) ≡ 0
@@ -105,7 +105,8 @@ times-made_ids {K} id p (x ∷ xs) few =
           ])
     ]
 
-length-made_ids : {K : Type 0} (p : ℕ) (xs : List (Process K)) → length (made_ids p xs) ≡ sum_by (λ x. x.held.made) xs
+-- A process made as many packets as it has ids given away.
+pub length-made_ids : {K : Type 0} (p : ℕ) (xs : List (Process K)) → length (made_ids p xs) ≡ sum_by (λ x. x.held.made) xs
 unfolding made_ids
 length-made_ids p [] = refl
 length-made_ids {K} p (x ∷ xs) = omega (
@@ -123,9 +124,13 @@ from-all id xs =
     let z : maker_of id - 0 ≡ maker_of id = omega arith in
     rw (t, z) refl
 
+-- an id stands among those that were made as often as it was
+pub times-made : {K : Type 0} (id : ℕ) (xs : List (Process K)) → FewMade xs → times id (made_ids 0 xs) ≡ made_count id xs
+times-made id xs few = times-made_ids id 0 xs few ∙ from-all id xs
+
 -- where each id has one place, the totals add up
 pub totals-add_up : {K : Type 0} (s : State K) → ((p : ℕ) (x : Process K) → slice_get s.kept.processes p ≡ Some x → x.held.made ≤ 4294967296) → OnePlaceCounted s → TotalsAddUp s
 totals-add_up {K} s few place =
     let same : length (made_ids 0 s.kept.processes) ≡ length (all_places s) = length-times (made_ids 0 s.kept.processes) (all_places s)
-    (λ id. (let p = place id in omega (arith, times-made_ids id 0 s.kept.processes few, from-all id s.kept.processes, times-all_places s id, p))) in
+    (λ id. (let p = place id in omega (arith, times-made id s.kept.processes few, times-all_places s id, p))) in
     omega (arith, same, length-made_ids 0 s.kept.processes, length-append (places s) (ids_dropped s.past.dropped (length s.kept.processes)))

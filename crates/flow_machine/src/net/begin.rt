@@ -9,6 +9,7 @@ use crate::body::Body;
 use crate::channel::Channel;
 use crate::wires::{receiving, sending};
 use flow_component::Component;
+use flow_items::Items;
 use flow_limits::{CONNECTION_LIMIT, SENDER_LIMIT};
 use flow_net::{Connection, Plan};
 use std::alloc::{AllocError, Global};
@@ -29,6 +30,23 @@ pub(crate) fn discard_channels(channels: Vec<Channel>) {
         channel.discard();
     }
     channels.destroy_empty();
+}
+
+/// The connections of a plan once more.
+fn copied(alloc: Global, connections: &[Connection]) -> Result<Vec<Connection>, AllocError>
+    ensures { IfOk result (λ copy. copy.items ≡ connections.now) }
+{
+    let mut copy = Vec::with_capacity(alloc, connections.len())?;
+    for connection in connections {
+        let senders = Vec::from_slice(alloc, connection.senders.as_slice())?;
+        copy.push(Connection {
+            receiver: connection.receiver,
+            input: connection.input,
+            capacity: connection.capacity,
+            senders: Items::of(senders),
+        })?;
+    }
+    Ok(copy)
 }
 
 /// The connections at their start.
@@ -84,16 +102,21 @@ fn bodies_of<K: Component>(
 }
 
 impl<K: Component> Net<K> {
-    /// A network of a plan with these components, one for each process. All processes are idle and set, nothing was made or put, and each connection has
-    /// the places of its capacity.
+    /// A network of a plan with these components, one for each process. All processes are idle and set, nothing was made or put, each connection has
+    /// the places of its capacity, and the net has a copy of the plan's connections.
     pub fn start(alloc: Global, plan: &Plan, components: Vec<K>) -> Result<Net<K>, AllocError>
         requires well { StartsWell K.shape_of K.uses K.ready plan.now components.items }
         requires few { length plan.now.connections ≤ CONNECTION_LIMIT }
         ensures { IfOk result (λ net. StartsNet plan.now components.items net) }
     {
+        let connections = copied(alloc, plan.connections())?;
         let channels = channels_of(alloc, plan.connections())?;
         match bodies_of(alloc, plan, components) {
-            Ok(bodies) => Ok(Net { bodies, channels }),
+            Ok(bodies) => Ok(Net {
+                connections,
+                bodies,
+                channels,
+            }),
             Err(stop) => {
                 discard_channels(channels);
                 Err(stop)

@@ -1,6 +1,7 @@
 use Rattle.std.proofs.Common.{rules, arith, true, false, ◌≡◌, ◌∙◌, ◌++◌, sym, ap, subst, map, length, slice_get}
 use Rattle.atomic_table.specs.Table.{opening}
-use Rattle.flow_machine.specs.Values.{NetValue}
+use Rattle.flow_machine.specs.Values.{NetValue, net_with}
+use Rattle.flow_machine.specs.Joins.{IsPlanned}
 use Rattle.flow_floor.specs.declared.board.Slot.TheVariants as slot
 use Rattle.flow_floor.specs.Rule.{Law}
 use Rattle.flow_floor.specs.Seats.{newcomer}
@@ -16,6 +17,7 @@ new-requires g c = let net = c.args.net in let s = c.split-bodies.ensures in
     let slots : c.put_channels-slots.result.items ≡ map slot.Body net.bodies ++ map slot.Channel net.channels = c.put_channels-slots.ensures.items ∙ (λ j. first j ++ map slot.Channel (s.channels j)) in
     subst (λ (n : NetValue _). Law g.K.Component.shape_of g.K.Component.uses g.K.Component.ready g.K.Component.next n (opening c.as_slice.result.now c.put_channels-slots.result.items (newcomer 32))) (sym c.of-about.ensures)
     (opens g.K.Component.shape_of g.K.Component.uses g.K.Component.ready g.K.Component.next net c.as_slice.result.now c.put_channels-slots.result.items s.fit
+    (subst (λ (n : NetValue _). IsPlanned n) (let parts : net_with c.split-bodies.result.connections.items c.split-bodies.result.bodies.items c.split-bodies.result.channels.items ≡ net = (λ i. net_with (s.connections i) (s.bodies i) (s.channels i)) in parts) s.joins.planned)
     (begins g.K.Component.shape_of g.K.Component.uses g.K.Component.ready g.K.Component.next net c.as_slice.result.now c.put_channels-slots.result.items (subst (FirstWords net) (sym c.as_slice.ensures.value) c.requires.words) c.requires.few.1 slots))
 
 pub invariant_of-floor-clause-rows : goal.invariant_of-floor-clause-rows
@@ -31,6 +33,10 @@ invariant_of-floor-clause-receives g c = let key : c.in-Ok.table.shared.key.valu
 pub invariant_of-floor-clause-sends : goal.invariant_of-floor-clause-sends
 invariant_of-floor-clause-sends g c = let key : c.in-Ok.table.shared.key.value ≡ c.args.net = search rules in
     λ p b o d there is below. row-any (λ w. w.items) true c.args.net c.args.laid.senders.items c.requires.senders p d b (ap (λ n. slice_get n.bodies p) (sym key) ∙ there) (o, is) (omega (arith, below, c.connections-connections.ensures))
+
+pub invariant_of-floor-clause-planned : goal.invariant_of-floor-clause-planned
+invariant_of-floor-clause-planned g c = let key : c.in-Ok.table.shared.key.value ≡ c.args.net = search rules in
+    c.split-bodies.ensures.connections ∙ ap (λ n. n.connections) (sym key)
 
 pub invariant_of-floor-clause-named : goal.invariant_of-floor-clause-named
 invariant_of-floor-clause-named g c = λ d. (

@@ -1,7 +1,7 @@
 use Rattle.std.proofs.Common.{◌<◌, sym, ◌∙◌, subst}
 use Rattle.std.specs.Mem.Slots.{slots_items}
 use Rattle.flow_floor.specs.Shut.{HasBodies, HasChannels}
-use Rattle.flow_floor.proofs.Closing.{closing, has-bodies, has-channels, pieces, is-shut, fit-pieces}
+use Rattle.flow_floor.proofs.Closing.{closing, has-bodies, has-channels, pieces, is-shut, join-pieces}
 use Rattle.flow_floor.proofs.floor.Floor.shut.Goals as goal
 
 pub take_bodies-bodies-requires-clause-stocked : goal.take_bodies-bodies-requires-clause-stocked
@@ -21,13 +21,13 @@ take_channels-channels-requires-clause-stocked g c = let s = c.args.self in let 
 pub join-requires : goal.join-requires
 join-requires g c = let s = c.args.self in let w = c.args.worker.seat in
     let cl = closing g.K.Component.shape_of g.K.Component.uses g.K.Component.ready g.K.Component.next s.table.shared.key.value w.id w.me.0 _ _ c.requires.all c.requires.worker.held c.close_with-closed.ensures.values.2 in
-    fit-pieces g.K.Component.shape_of g.K.Component.uses g.K.Component.ready g.K.Component.next s.table.shared.key.value w.me.0 _ _ _ cl
-    (pieces g.K.Component.shape_of g.K.Component.uses g.K.Component.ready g.K.Component.next s.table.shared.key.value w.me.0 _ _ c.take_bodies-bodies.result.items c.take_channels-channels.result.items cl
+    join-pieces g.K.Component.shape_of g.K.Component.uses g.K.Component.ready g.K.Component.next s.table.shared.key.value w.me.0 _ _ _ cl
+    (pieces g.K.Component.shape_of g.K.Component.uses g.K.Component.ready g.K.Component.next s.table.shared.key.value w.me.0 _ _ s.plan.items c.take_bodies-bodies.result.items c.take_channels-channels.result.items cl s.planned
     (rw s.bodies c.take_bodies-bodies.ensures.bodies) (rw (s.bodies, s.channels, ← c.take_bodies-bodies.ensures.same.0) c.take_channels-channels.ensures.channels))
 
 pub returns : goal.returns
 returns g c = let s = c.args.self in let w = c.args.worker.seat in
     let cl = closing g.K.Component.shape_of g.K.Component.uses g.K.Component.ready g.K.Component.next s.table.shared.key.value w.id w.me.0 _ _ c.requires.all c.requires.worker.held c.close_with-closed.ensures.values.2 in
     is-shut g.K.Component.shape_of g.K.Component.uses g.K.Component.ready g.K.Component.next s.table.shared.key.value w.me.0 _ _ c.join.result cl
-    (pieces g.K.Component.shape_of g.K.Component.uses g.K.Component.ready g.K.Component.next s.table.shared.key.value w.me.0 _ _ c.take_bodies-bodies.result.items c.take_channels-channels.result.items cl
+    (pieces g.K.Component.shape_of g.K.Component.uses g.K.Component.ready g.K.Component.next s.table.shared.key.value w.me.0 _ _ s.plan.items c.take_bodies-bodies.result.items c.take_channels-channels.result.items cl s.planned
     (rw s.bodies c.take_bodies-bodies.ensures.bodies) (rw (s.bodies, s.channels, ← c.take_bodies-bodies.ensures.same.0) c.take_channels-channels.ensures.channels) ∙ sym c.join.ensures)
