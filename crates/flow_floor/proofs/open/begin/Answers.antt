@@ -12,12 +12,12 @@ use Rattle.flow_floor.proofs.Rows.{row-count, row-any, row-below}
 use Rattle.flow_floor.proofs.open.begin.Goals as goal
 
 pub new-requires : goal.new-requires
-new-requires g c = let net = c.args.net in let s = c.split-bodies.ensures in
+new-requires g c = let net = c.args.net in let s = c.split-plan.ensures in
     let first : c.put_bodies-slots.result.items ≡ map slot.Body net.bodies = c.put_bodies-slots.ensures.items ∙ (λ j. c.requires.slots.0 j ++ map slot.Body (s.bodies j)) in
     let slots : c.put_channels-slots.result.items ≡ map slot.Body net.bodies ++ map slot.Channel net.channels = c.put_channels-slots.ensures.items ∙ (λ j. first j ++ map slot.Channel (s.channels j)) in
     subst (λ (n : NetValue _). Law g.K.Component.shape_of g.K.Component.uses g.K.Component.ready g.K.Component.next n (opening c.as_slice.result.now c.put_channels-slots.result.items (newcomer 32))) (sym c.of-about.ensures)
     (opens g.K.Component.shape_of g.K.Component.uses g.K.Component.ready g.K.Component.next net c.as_slice.result.now c.put_channels-slots.result.items s.fit
-    (subst (λ (n : NetValue _). IsPlanned n) (let parts : net_with c.split-bodies.result.connections.items c.split-bodies.result.bodies.items c.split-bodies.result.channels.items ≡ net = (λ i. net_with (s.connections i) (s.bodies i) (s.channels i)) in parts) s.joins.planned)
+    (subst (λ (n : NetValue _). IsPlanned n) (let parts : net_with c.split-plan.result.connections.items c.split-plan.result.bodies.items c.split-plan.result.channels.items ≡ net = (λ i. net_with (s.connections i) (s.bodies i) (s.channels i)) in parts) s.joins.planned)
     (begins g.K.Component.shape_of g.K.Component.uses g.K.Component.ready g.K.Component.next net c.as_slice.result.now c.put_channels-slots.result.items (subst (FirstWords net) (sym c.as_slice.ensures.value) c.requires.words) c.requires.few.1 slots))
 
 pub invariant_of-floor-clause-rows : goal.invariant_of-floor-clause-rows
@@ -36,7 +36,7 @@ invariant_of-floor-clause-sends g c = let key : c.in-Ok.table.shared.key.value �
 
 pub invariant_of-floor-clause-planned : goal.invariant_of-floor-clause-planned
 invariant_of-floor-clause-planned g c = let key : c.in-Ok.table.shared.key.value ≡ c.args.net = search rules in
-    c.split-bodies.ensures.connections ∙ ap (λ n. n.connections) (sym key)
+    c.split-plan.ensures.connections ∙ ap (λ n. n.connections) (sym key)
 
 pub invariant_of-floor-clause-named : goal.invariant_of-floor-clause-named
 invariant_of-floor-clause-named g c = λ d. (
@@ -45,7 +45,7 @@ invariant_of-floor-clause-named g c = λ d. (
 )
 
 pub invariant_of-floor-clause-slots : goal.invariant_of-floor-clause-slots
-invariant_of-floor-clause-slots g c = let net = c.args.net in let s = c.split-bodies.ensures in
+invariant_of-floor-clause-slots g c = let net = c.args.net in let s = c.split-plan.ensures in
     let first : c.put_bodies-slots.result.items ≡ map slot.Body net.bodies = c.put_bodies-slots.ensures.items ∙ (λ j. c.requires.slots.0 j ++ map slot.Body (s.bodies j)) in
     let slots : c.put_channels-slots.result.items ≡ map slot.Body net.bodies ++ map slot.Channel net.channels = c.put_channels-slots.ensures.items ∙ (λ j. first j ++ map slot.Channel (s.channels j)) in
     let t : c.in-Ok.table.shared.table_id.slots ≡ length c.put_channels-slots.result.items = search rules in
