@@ -11,7 +11,7 @@ use Rattle.flow_journal.specs.Files.{name, numbers_written, number_at, whole_len
 use Rattle.flow_journal.proofs.FileLemmas.{parts-of, never-strays, within-front}
 
 -- two lists of the same bytes, cut at the same place
-same-front : (xs ys us vs : List ℕ) → length xs ≡ length ys → xs ++ us ≡ ys ++ vs → (xs ≡ ys) × (us ≡ vs)
+pub same-front : (xs ys us vs : List ℕ) → length xs ≡ length ys → xs ++ us ≡ ys ++ vs → (xs ≡ ys) × (us ≡ vs)
 same-front [] [] us vs long same = (refl, same)
 same-front [] (y ∷ ys) us vs long same = absurd (omega (arith, long))
 same-front (x ∷ xs) [] us vs long same = absurd (omega (arith, long))
