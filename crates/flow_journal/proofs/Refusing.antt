@@ -1,19 +1,18 @@
 -- What a net refuses, the states that it stands for refuse.
-use Rattle.std.proofs.Common.{◌≡◌, ◌⊎◌, inl, inr, ℕ, ◌+◌, ◌<◌, ◌≤◌, Bool, true, false, List, [], ◌∷◌, length, map, Option, Some, None, suc, zero, refl, sym, ap, ◌∙◌, arith, slice_get}
+use Rattle.std.proofs.Common.{◌≡◌, ◌⊎◌, inl, inr, ℕ, ◌+◌, ◌<◌, Bool, true, false, List, [], ◌∷◌, length, map, Option, Some, None, suc, zero, refl, sym, ap, ◌∙◌, arith, slice_get}
 use Rattle.std.specs.Prelude.{option_and_then, nat_le, ◌&&◌, IfSome}
 use Rattle.std.proofs.lemmas.List.{length-map}
 use Rattle.std.proofs.lemmas.Bool.Decides.{nat_tests}
-use Rattle.flow_component.specs.declared.Port.{Port}
 use Rattle.flow_model.specs.declared.Stage.{Stage}
 use Rattle.flow_model.specs.declared.Stage.TheVariants as stages
 use Rattle.flow_model.specs.declared.Block.{Block}
-use Rattle.flow_model.specs.States.{Process, Channel, State}
+use Rattle.flow_model.specs.States.{Process, State}
 use Rattle.flow_model.specs.Events.{Look, looks}
 use Rattle.flow_model.specs.Verdicts.{block, block_of}
 use Rattle.flow_model.specs.Stands.{ChannelShown, NetShown, bodies_from, look_shown, StandsForOpen}
 use Rattle.flow_model.proofs.Stands.{looks-shown}
 use Rattle.flow_machine.specs.Values.{BodyValue, NetValue, shown_body, shown_net}
-use Rattle.flow_machine.specs.Nets.{looks_of, IsAt, RefusesLevel, TurnsNet, HasFailed, is_asking, asks_level}
+use Rattle.flow_machine.specs.Nets.{looks_of, IsAt, TurnsNet, HasFailed, is_asking, asks_level}
 use Rattle.flow_machine.specs.declared.answers.Turn.TheVariants as turns
 use Rattle.flow_machine.specs.declared.answers.Over.{Over as Ending}
 use Rattle.flow_machine.specs.declared.answers.Over.TheVariants as overs

@@ -1,5 +1,5 @@
 -- A net goes on by the turns of a journal, one after another.
-use Rattle.std.proofs.Common.{◌≡◌, ◌≢◌, ◌⊎◌, inl, inr, ℕ, ◌+◌, ◌<◌, ◌≤◌, Bool, true, false, nat_eq, get_or, List, [], ◌∷◌, ◌++◌, length, Some, suc, zero, take, drop, refl, sym, ap, ◌∙◌, subst, arith, slice_get, slice_set, length-set, length-append, append_assoc, append-nil}
+use Rattle.std.proofs.Common.{◌≡◌, ◌≢◌, inl, inr, ℕ, ◌+◌, ◌<◌, ◌≤◌, Bool, true, false, nat_eq, get_or, List, [], ◌∷◌, ◌++◌, length, Some, suc, zero, take, drop, refl, sym, ap, ◌∙◌, subst, arith, slice_get, length-set, length-append, append_assoc, append-nil}
 use Rattle.std.specs.Prelude.{Result, Ok, Err, OnOk}
 use Rattle.std.proofs.lemmas.List.{take-append-drop}
 use Rattle.flow_packet.specs.Held.{Held}
@@ -13,7 +13,7 @@ use Rattle.flow_model.specs.Schedules.{Journal as Schedule}
 use Rattle.flow_model.specs.Stands.{StandsForOpen}
 use Rattle.flow_model.specs.Fit.{Fit}
 use Rattle.flow_model.proofs.Journals.{Leads-then}
-use Rattle.flow_machine.specs.Values.{BodyValue, NetValue, shown_net}
+use Rattle.flow_machine.specs.Values.{NetValue, shown_net}
 use Rattle.flow_machine.specs.Thoughts.{SettlesBody}
 use Rattle.flow_machine.specs.Logs.{Logged, journal_of, Remembers, turns_made}
 use Rattle.flow_machine.specs.Solo.{Goes, SettlesNet, all_settled}
@@ -26,7 +26,7 @@ use Rattle.flow_journal.specs.declared.refusal.Refusal.{Refusal}
 use Rattle.flow_journal.specs.declared.refusal.Refusal.TheVariants.{Seen}
 use Rattle.flow_journal.specs.declared.refusal.ReplayStop.{ReplayStop}
 use Rattle.flow_journal.specs.declared.refusal.ReplayStop.TheVariants.{NoTurn, NoMemory}
-use Rattle.flow_journal.specs.Replays.{schedule_of, StopsAtOnce, replayed, StopsFrom}
+use Rattle.flow_journal.specs.Replays.{StopsAtOnce, replayed, StopsFrom}
 use Rattle.flow_journal.specs.Replaying.{MadeTurn, RefusesTurn, LeadsTo, LeadsOn, StopsMaking}
 use Rattle.flow_journal.proofs.Refusing.{refuses}
 

@@ -1,15 +1,13 @@
 -- A journal that stops is no schedule, where components come to one outcome.
-use Rattle.std.proofs.Common.{◌≡◌, ◌⊎◌, inl, inr, ℕ, ◌<◌, ◌≤◌, Bool, true, false, cond, List, [], ◌∷◌, ◌++◌, length, Option, Some, None, suc, zero, refl, sym, ap, ◌∙◌, subst, arith, slice_get, append_assoc}
+use Rattle.std.proofs.Common.{◌≡◌, ◌⊎◌, inl, inr, ℕ, ◌<◌, Bool, true, false, cond, List, [], ◌∷◌, ◌++◌, length, Some, None, refl, sym, ap, ◌∙◌, subst, arith, slice_get, append_assoc}
 use Rattle.std.specs.Prelude.{option_and_then, nat_le, ◌&&◌}
 use Rattle.std.proofs.lemmas.Bool.Decides.{nat_tests}
 use Rattle.flow_packet.specs.Held.{Held}
 use Rattle.flow_component.specs.declared.Answer.{Answer}
 use Rattle.flow_component.specs.declared.Wish.TheVariants as wishes
 use Rattle.flow_component.specs.Laws.{Outcome}
-use Rattle.flow_model.specs.declared.Stage.{Stage}
 use Rattle.flow_model.specs.declared.Stage.TheVariants as stages
-use Rattle.flow_model.specs.declared.Block.{Block}
-use Rattle.flow_model.specs.States.{Process, Channel, Kept, State, output_at}
+use Rattle.flow_model.specs.States.{Process, Kept, State, output_at}
 use Rattle.flow_model.specs.Events.{Event, Learns, Look, look, looks, told_level, stage_event, event_from, event_of, seen_by}
 use Rattle.flow_model.specs.Turns.{Turn}
 use Rattle.flow_model.specs.Schedules.{WholeTurn, LeadsBy, Leads}
@@ -21,7 +19,7 @@ use Rattle.flow_machine.specs.Nets.{is_asking}
 use Rattle.flow_machine.proofs.Standings.{get-map}
 use Rattle.flow_journal.specs.declared.refusal.Refusal.{Refusal}
 use Rattle.flow_journal.specs.declared.refusal.Refusal.TheVariants.{NoProcess, Over, Blocked, Seen}
-use Rattle.flow_journal.specs.Replays.{AsksLevel, IsOutside, HasOver, CannotSee, Refuses, StopsAtOnce, StopsAtTurn, StopsAreNoSchedules}
+use Rattle.flow_journal.specs.Replays.{AsksLevel, HasOver, CannotSee, Refuses, StopsAtOnce, StopsAtTurn, StopsAreNoSchedules}
 use Rattle.flow_journal.proofs.FileLaws.{same-front}
 use Rattle.flow_journal.proofs.Turning.{asking-port, sees-told, sees-none}
 use Rattle.flow_journal.proofs.Replayed.{within-of}

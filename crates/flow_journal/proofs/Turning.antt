@@ -9,7 +9,7 @@ use Rattle.flow_component.specs.declared.Wish.TheVariants as wishes
 use Rattle.flow_model.specs.declared.Stage.{Stage}
 use Rattle.flow_model.specs.declared.Stage.TheVariants as stages
 use Rattle.flow_model.specs.States.{Input, From, Text, Process, Outlet, output_at, outlets}
-use Rattle.flow_model.specs.Events.{Event, Starts, Finishes, Gets, Takes_text, Hears_end, Sends, Learns, Sleeps, Closes, Look, can_start, has_ended, is_fresh, received, received_from, receive_event, sent, told_level, wish_event, stage_event, event_from, seen_by}
+use Rattle.flow_model.specs.Events.{Event, Starts, Finishes, Gets, Takes_text, Hears_end, Sends, Learns, Sleeps, Closes, Look, can_start, has_ended, is_fresh, received, received_from, receive_event, sent, told_level, stage_event, event_from, seen_by}
 use Rattle.flow_machine.specs.Values.{BodyValue, NetValue}
 use Rattle.flow_machine.specs.Nets.{NetTurn, TurnsNet, SeesNet, IsAt, is_asking, asks_level, looks_of}
 use Rattle.flow_machine.specs.declared.answers.Turn.{Turn as Answer}

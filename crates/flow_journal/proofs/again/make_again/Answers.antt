@@ -1,5 +1,4 @@
 use Rattle.std.proofs.Common.{◌≡◌, length, sym}
-use Rattle.std.specs.Prelude.{Result, Ok, Err, OnOk}
 use Rattle.flow_machine.specs.Logs.{turns_made}
 use Rattle.flow_machine.specs.Solo.{Goes}
 use Rattle.flow_journal.specs.Replays.{replayed}

@@ -1,8 +1,4 @@
-use Rattle.std.proofs.Common.{◌≡◌, ◌∷◌, ◌∙◌, sym, ap, subst}
 use Rattle.flow_machine.proofs.SoloLemmas.{set-in}
-use Rattle.flow_journal.specs.Replaying.{RefusesNumber}
-use Rattle.flow_journal.proofs.Turning.{seen-level}
-use Rattle.flow_journal.proofs.Replayed.{nothing-left}
 use Rattle.flow_journal.proofs.turn.make_level_turn.Goals as goal
 
 pub turn_seen-requires-clause-set : goal.turn_seen-requires-clause-set
