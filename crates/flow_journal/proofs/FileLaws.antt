@@ -1,17 +1,16 @@
 -- A file is that of one journal, or has one fault.
-use Rattle.std.proofs.Common.{◌≡◌, ◌≢◌, ◌⊎◌, inl, inr, ℕ, ◌+◌, ◌*◌, ◌<◌, ◌≤◌, ◌^◌, List, [], ◌∷◌, ◌++◌, length, take, drop, slice_get, Some, None, suc, zero, refl, ap, sym, ◌∙◌, arith, subst}
+use Rattle.std.proofs.Common.{◌≡◌, ◌⊎◌, inl, inr, ℕ, ◌+◌, ◌*◌, ◌<◌, ◌≤◌, ◌^◌, List, [], ◌∷◌, ◌++◌, length, slice_get, suc, zero, refl, ap, sym, ◌∙◌, arith}
 use Rattle.std.specs.Prelude.{All, Bool, true, false, cond, nat_lt}
 use Rattle.std.specs.Int.{w16, to_le_bytes, from_le_bytes}
 use Rattle.std.proofs.lemmas.Nat.{from_le_bytes-to_le_bytes_2}
 use Rattle.std.proofs.lemmas.List.Elements.{All-head, All-tail}
 use Rattle.std.proofs.lemmas.Bool.Decides.{nat_tests}
 use Rattle.flow_journal.specs.declared.file.TheConstants.{RUN_LIMIT}
-use Rattle.flow_journal.specs.declared.merge.Journal.{Journal}
-use Rattle.flow_journal.specs.Files.{name, numbers_written, number_at, whole_length, IsFileOf, IsFault, strays, many_turns, many_seen, ends, goes_on, BeginsWithName, TellsTurns, HasHeader, StraysFromName, EndsEarly, HasOneJournal, HasJournalOrFault, HasOneFault}
+use Rattle.flow_journal.specs.Files.{name, numbers_written, number_at, IsFault, strays, many_turns, many_seen, ends, goes_on, BeginsWithName, StraysFromName, HasOneJournal, HasJournalOrFault, HasOneFault}
 use Rattle.flow_journal.proofs.FileLemmas.{parts-of, never-strays, within-front}
 
 -- two lists of the same bytes, cut at the same place
-same-front : (xs ys us vs : List ℕ) → length xs ≡ length ys → xs ++ us ≡ ys ++ vs → (xs ≡ ys) × (us ≡ vs)
+pub same-front : (xs ys us vs : List ℕ) → length xs ≡ length ys → xs ++ us ≡ ys ++ vs → (xs ≡ ys) × (us ≡ vs)
 same-front [] [] us vs long same = (refl, same)
 same-front [] (y ∷ ys) us vs long same = absurd (omega (arith, long))
 same-front (x ∷ xs) [] us vs long same = absurd (omega (arith, long))

@@ -1,9 +1,8 @@
 -- Numbers in bytes, and the parts of a journal file.
-use Rattle.std.proofs.Common.{◌≡◌, ◌≢◌, ℕ, ◌+◌, ◌*◌, ◌<◌, ◌≤◌, ◌^◌, List, [], ◌∷◌, ◌++◌, length, take, drop, get_or, slice_get, Some, None, suc, zero, refl, ap, sym, ◌∙◌, arith, subst, append_assoc, append-nil, length-append}
+use Rattle.std.proofs.Common.{◌≡◌, ℕ, ◌+◌, ◌*◌, ◌<◌, ◌≤◌, List, [], ◌∷◌, ◌++◌, length, take, drop, get_or, slice_get, Some, suc, zero, refl, ap, sym, ◌∙◌, arith, subst, append_assoc, append-nil, length-append}
 use Rattle.std.specs.Int.{w16, w32, to_le_bytes, from_le_bytes}
 use Rattle.std.proofs.lemmas.List.{drop-drop, take-append-drop, length-take, length-drop}
 use Rattle.std.proofs.lemmas.Nat.{le_bytes_2, le_bytes_4, from_le_bytes-to_le_bytes_4}
-use Rattle.flow_journal.specs.declared.file.TheConstants.{RUN_LIMIT}
 use Rattle.flow_journal.specs.declared.merge.Journal.{Journal}
 use Rattle.flow_journal.specs.Files.{name, numbers_written, written, number_at, whole_length, IsFileOf, BeginsWithName, HasHeader, StraysFromName}
 

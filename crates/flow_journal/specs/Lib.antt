@@ -1,2 +1,4 @@
 pub mod Files
 pub mod Journals
+pub mod Replaying
+pub mod Replays

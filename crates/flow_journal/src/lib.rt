@@ -1,13 +1,21 @@
 //! The journal of a run: which process made each turn; its file; and how a run is made again by it.
 #![tactic(auto)]
 
+mod again;
 mod fault;
 mod file;
 mod law;
 mod merge;
 mod parse;
+mod refusal;
+mod turn;
 
+pub use again::replay;
 pub use fault::{JournalFault, JournalStop};
 pub use file::RUN_LIMIT;
-pub use law::a_file_has_one_journal_or_one_fault;
+pub use law::{a_file_has_one_journal_or_one_fault, a_journal_that_stops_is_no_schedule};
 pub use merge::Journal;
+pub use refusal::{Refusal, ReplayStop};
+
+#[cfg(test)]
+mod tests;

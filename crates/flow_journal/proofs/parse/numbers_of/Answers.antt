@@ -1,4 +1,4 @@
-use Rattle.std.proofs.Common.{rules, ◌≡◌, ◌∙◌, ◌++◌, ◌≤◌, ◌<◌, ◌+◌, ℕ, List, length, ap, arith}
+use Rattle.std.proofs.Common.{rules, ◌∙◌, ◌++◌, ℕ, List, ap, arith}
 use Rattle.flow_journal.specs.Files.{numbers_written}
 use Rattle.flow_journal.proofs.FileLemmas.{AreBytes, numbers-read, numbers-done}
 use Rattle.flow_journal.proofs.parse.numbers_of.Goals as goal

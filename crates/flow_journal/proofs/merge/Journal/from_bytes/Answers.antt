@@ -1,4 +1,4 @@
-use Rattle.std.proofs.Common.{rules, ◌≡◌, ◌∙◌, ℕ, ◌*◌, length, drop, sym, ap, arith, length-drop}
+use Rattle.std.proofs.Common.{rules, ◌≡◌, ◌∙◌, ◌*◌, length, drop, ap, arith, length-drop}
 use Rattle.flow_journal.specs.Files.{number_at, numbers_written}
 use Rattle.flow_journal.proofs.FileLemmas.{AreBytes, file-of-parts}
 use Rattle.flow_journal.proofs.merge.Journal.from_bytes.Goals as goal
