@@ -98,7 +98,7 @@ module _ {K : Type 0} (shape_of : K → Shape) (uses : K → ℕ → Bool) (read
 
   -- before its first turn the journal has led nowhere
   pub leads-none : (journal : Journal) (start : NetValue K) (n : ℕ) → Goes shape_of uses ready (LeadsTo next journal 0 journal.seen) start n start n
-  leads-none journal start n = ([], omega arith, record { remembers = remember-none n start.bodies; states = λ s fit stands. (s, record { turns = refl; seen = refl; leads = (refl, refl) }, fit, stands) })
+  leads-none journal start n = ([], omega arith, record { remembers = remember-none n start.bodies; states = λ s fit stands. (s, record { turns = refl; seen = refl; leads = (refl, refl) }, fit, stands); connections = refl })
 
   -- it leads on by a turn and its work
   pub leads-more : (journal : Journal) (start old mid new : NetValue K) (p n m place : ℕ) (seen left : List ℕ) → Goes shape_of uses ready (LeadsTo next journal place seen) start n old m → MadeTurn old p m seen left mid → SettlesNet next mid p new → slice_get journal.turns place ≡ Some p
@@ -134,6 +134,7 @@ module _ {K : Type 0} (shape_of : K → Shape) (uses : K → ℕ → Bool) (read
                 w.2,
                 w.3,
               );
+          connections = settle.connections ∙ made.turn.connections ∙ goes.2.connections;
         },
       )
 
@@ -149,6 +150,7 @@ module _ {K : Type 0} (shape_of : K → Shape) (uses : K → ℕ → Bool) (read
           let turns : (journal_of goes.0).turns ≡ journal.turns = g.1.turns ∙ taken-all journal.turns place all in
           let seen : (journal_of goes.0).seen ≡ journal.seen = sym (append-nil (journal_of goes.0).seen) ∙ ap (λ (ns : List ℕ). (journal_of goes.0).seen ++ ns) (sym none) ∙ g.1.seen in
           (g.0, (λ i. record { turns = turns i; seen = seen i }, g.1.leads), g.2, g.3);
+      connections = goes.2.connections;
     },
   )
 
@@ -201,6 +203,7 @@ module _ {K : Type 0} (shape_of : K → Shape) (uses : K → ℕ → Bool) (read
               let t = settled.2.states s fit stands in
               let g = goes.2.states t.0 t.2 t.3 in
               (g.0, (g.1.0, (t.0, t.1.1, g.1.1)), g.2, g.3);
+          connections = goes.2.connections ∙ settled.2.connections;
         },
       )
 
