@@ -117,7 +117,7 @@ module _ {K : Type 0} (shape_of : K → Shape) (uses : K → ℕ → Bool) (read
       by {c} output = ap (λ (xs : List (Option ℕ)). option_and_then (λ (y : Option ℕ). y) (slice_get xs output.0)) (sym outputs) ∙ output.1
 
   wired-body : (now : NetValue K) (p : ℕ) (b d : BodyValue K) → slice_get now.bodies p ≡ Some b → d.process.inputs ≡ b.process.inputs → d.process.outputs ≡ b.process.outputs → IsWiredAs start now
-      → (cs : List ChannelShown) → ((c : ℕ) (k k0 : ChannelShown) → slice_get cs c ≡ Some k → slice_get start.channels c ≡ Some k0 → k.capacity ≡ k0.capacity) → IsWiredAs start (record { bodies = slice_set now.bodies p d; channels = cs })
+      → (cs : List ChannelShown) → ((c : ℕ) (k k0 : ChannelShown) → slice_get cs c ≡ Some k → slice_get start.channels c ≡ Some k0 → k.capacity ≡ k0.capacity) → IsWiredAs start (record now { bodies = slice_set now.bodies p d; channels = cs })
   wired-body now p b d there inputs outputs wired cs capacities = record {
     inputs = λ q x x0 is is0. elim (same_or_not q p) [
       | inl same ↦ (ap (λ (y : BodyValue K). y.process.inputs) (sym (here q x same is)) ∙ inputs ∙ wired.inputs p b x0 there (ap (slice_get start.bodies) (sym same) ∙ is0))
