@@ -24,8 +24,22 @@ pub struct Made {
     pub input: Text,
 }
 
-const NETWORK: &[u8] =
-    b"flow 1\n'in' -> FILE Read(ReadLines)\nRead OUT -> IN Words(Words)\nWords OUT -> IN Copy(Copy)\nCopy OUT[0] -> IN Narrow(Fill)\nCopy OUT[1] -> IN Wide(Fill)\nCopy OUT[2] -> IN Count(Count)\n'20' -> SIZE Narrow\n'60' -> SIZE Wide\nNarrow OUT -> IN A(WriteLines)\nWide OUT -> IN B(WriteLines)\nCount COUNT -> IN C(WriteLines)\n'a' -> FILE A\n'b' -> FILE B\n'c' -> FILE C\n";
+const NETWORK: &[u8] = b"flow 1
+'in' -> FILE Read(ReadLines)
+Read OUT -> IN Words(Words)
+Words OUT -> IN Copy(Copy)
+Copy OUT[0] -> IN Narrow(Fill)
+Copy OUT[1] -> IN Wide(Fill)
+Copy OUT[2] -> IN Count(Count)
+'20' -> SIZE Narrow
+'60' -> SIZE Wide
+Narrow OUT -> IN A(WriteLines)
+Wide OUT -> IN B(WriteLines)
+Count COUNT -> IN C(WriteLines)
+'a' -> FILE A
+'b' -> FILE B
+'c' -> FILE C
+";
 
 /// A network, and an input for it of 1,000 lines for each one of the number. A line has ten words, which are pseudo-random: the same
 /// number makes the same input everywhere. Network and input are this project's own.
