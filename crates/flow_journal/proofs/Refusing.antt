@@ -91,6 +91,7 @@ at-map None P Q to is = tt
 pub at-asks : {K : Type 0} (net : NetValue K) (p : ℕ) (asks : Bool) → IsAt net p (λ stage. asks ≡ is_asking stage) → asks ≡ true → IsAt net p asks_level
 at-asks {K} net p asks at is = at-map (slice_get net.bodies p) (λ (b : BodyValue K). asks ≡ is_asking b.process.stage) (λ (b : BodyValue K). asks_level b.process.stage) (λ b told. sym told ∙ is) at
 
+-- A process that was found not to ask for a level asks for none.
 pub at-quiet : {K : Type 0} (net : NetValue K) (p : ℕ) (asks : Bool) → IsAt net p (λ stage. asks ≡ is_asking stage) → asks ≡ false → IsAt net p (λ stage. is_asking stage ≡ false)
 at-quiet {K} net p asks at is = at-map (slice_get net.bodies p) (λ (b : BodyValue K). asks ≡ is_asking b.process.stage) (λ (b : BodyValue K). is_asking b.process.stage ≡ false) (λ b told. sym told ∙ is) at
 

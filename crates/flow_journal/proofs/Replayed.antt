@@ -72,11 +72,13 @@ something-left (n ∷ left) some = λ is. cc
 pub as-many-made : {K : Type 0} (old : NetValue K) (p stamp : ℕ) (seen left : List ℕ) (new : NetValue K) → MadeTurn old p stamp seen left new → length new.bodies ≡ length old.bodies
 as-many-made old p stamp seen left new made = ap length made.turn.bodies ∙ length-set old.bodies p made.turn.after
 
+-- A place at which a member stands lies within the list.
 pub within-of : {A : Type 0} (xs : List A) (i : ℕ) (x : A) → slice_get xs i ≡ Some x → i < length xs
 within-of [] i x is = absurd (cc)
 within-of (y ∷ xs) zero x is = omega arith
 within-of (y ∷ xs) (suc i) x is = omega (arith, within-of xs i x is)
 
+-- The process of a turn that was made is one of the net's.
 pub made-within : {K : Type 0} (old : NetValue K) (p stamp : ℕ) (seen left : List ℕ) (new : NetValue K) → MadeTurn old p stamp seen left new → p < length new.bodies
 made-within old p stamp seen left new made = omega (arith, as-many-made old p stamp seen left new made, within-of old.bodies p made.turn.before made.turn.there)
 
@@ -218,6 +220,7 @@ at-place [] k n within is = absurd (omega (arith, within))
 at-place (x ∷ xs) zero n within is = cc
 at-place (x ∷ xs) (suc k) n within is = at-place xs k n (omega (arith, within)) is
 
+-- A list that isn't empty by its test isn't empty.
 pub not-empty : (left : List ℕ) (empty : Bool) → empty ≡ nat_eq (length left) 0 → empty ≡ false → left ≢ []
 not-empty [] empty is some = absurd (let both : true ≡ false = sym is ∙ some in cc)
 not-empty (n ∷ left) empty is some = λ none. cc
