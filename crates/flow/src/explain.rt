@@ -43,8 +43,8 @@ fn say<R: Eprint>(rt: &R, text: &str) {
 // The network file is read once more where it is a regular one: a pipe has nothing left to give.
 fn explain_refusal<R: Files + Eprint + Drop>(alloc: Global, rt: &R, words: &[String]) {
     let name = match command(alloc, words) {
-        Ok(Some(Command::Run(name))) => name,
-        Ok(Some(Command::Check(name))) => name,
+        Ok(Some(Command::Run { net, journal: _ })) => net,
+        Ok(Some(Command::Check(net))) => net,
         _ => return,
     };
     match rt.metadata(name) {

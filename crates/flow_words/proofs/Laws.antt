@@ -1,121 +1,253 @@
 -- What the lines of a command ask for.
-use Rattle.std.proofs.Common.{◌≡◌, ◌==◌, refl, false, ℕ, List, [], ◌∷◌, Some, None, codes, inl, inr}
+use Rattle.std.proofs.Common.{◌≡◌, ◌≤◌, ◌<◌, refl, true, false, Bool, ℕ, List, [], ◌∷◌, Some, None, Option, codes, inl, inr, get_or, sym, ◌∙◌, ap, arith}
+use Rattle.std.specs.Fmt.{decimal}
+use Rattle.std.specs.Option.{option_map}
 use Rattle.std.specs.Str.{bytes_eq}
+use Rattle.std.proofs.lemmas.Bool.{ne_eqb}
+use Rattle.std.proofs.lemmas.Fmt.{first_decimal}
 use Rattle.clap.specs.Lexer.{long_of, short_of}
-use Rattle.clap.specs.Faults.{fault_of, turn_fault}
-use Rattle.clap.specs.Simple.{built, filled, matches_of}
-use Rattle.clap.specs.Walk.{Held, Rule, Text, idle, nothing_held, reacted, walk_from, walked, word_met, value}
+use Rattle.clap.specs.Faults.{fault_of, is_simple_and_free, turn_fault}
+use Rattle.clap.specs.Simple.{App, built, filled, is_simple, matches_of}
+use Rattle.clap.specs.Walk.{Held, Row, Rule, Text, Walk, idle, option, nothing_held, reacted, settled, plain_word, walk_from, walked, word_met}
 use Rattle.clap.proofs.OnLiterals.{clap_on_literals}
-use Rattle.flow_words.specs.Words.{Asked, Run, Check, asked_in, check_rule, command_of, line_app}
-use Rattle.flow_words.specs.Lines.{AskFor, IsPlainLine, file_of, full_line, is_flag}
+use Rattle.flow_limits.specs.declared.TheConstants.{NUMBER_LIMIT}
+use Rattle.flow_words.specs.Words.{Asked, Run, Check, Replay, Make, asked_in, command_of, flag_rule, line_app}
+use Rattle.flow_words.specs.Numbers.{spelled_number}
+use Rattle.flow_words.proofs.Numbers.{own-number}
+use Rattle.flow_words.specs.Lines.{AskFor, HasPlainNames, IsPlainLine, IsWithinBounds, full_line, is_flag}
 
 abbrev rules : List Rule
 rules = (built line_app).top.rules
 
--- what is held after the flag
+-- What is held after the flag.
 abbrev flagged : Held
-flagged = reacted rules (filled check_rule) [] nothing_held
+flagged = reacted rules (filled (flag_rule (codes "check"))) [] nothing_held
 
-no-dashes : (first : ℕ) (rest : Text) → (first == 45) ≡ false → bytes_eq (first ∷ rest) (45 ∷ 45 ∷ []) ≡ false
-no-dashes first rest plain = rw plain refl
+no-dashes : (word : Text) → is_flag word ≡ false → bytes_eq word (45 ∷ 45 ∷ []) ≡ false
+no-dashes [] plain = refl
+no-dashes (first ∷ rest) plain = rw plain refl
 
-no-long : (first : ℕ) (rest : Text) → (first == 45) ≡ false → long_of (first ∷ rest) ≡ None
-no-long first rest plain = rw plain refl
+no-long : (word : Text) → is_flag word ≡ false → long_of word ≡ None
+no-long [] plain = refl
+no-long (first ∷ rest) plain = rw plain refl
 
-no-short : (first : ℕ) (rest : Text) → (first == 45) ≡ false → short_of (first ∷ rest) ≡ None
-no-short first rest plain = rw plain refl
+no-short : (word : Text) → is_flag word ≡ false → short_of word ≡ None
+no-short [] plain = refl
+no-short (first ∷ rest) plain = rw plain refl
 
-name-met : (held : Held) (first : ℕ) (rest : Text) → (first == 45) ≡ false → word_met rules [] false idle 1 (first ∷ rest) held ≡ (held, value)
+-- A plain word where nothing waits for a value.
+name-met : (held : Held) (word : Text) → is_flag word ≡ false → word_met rules [] false idle 1 word held ≡ plain_word rules idle word held
 unfolding clap_on_literals
-name-met held first rest plain = rw (no-dashes first rest plain, no-long first rest plain, no-short first rest plain) refl
+name-met held word plain = rw (no-dashes word plain, no-long word plain, no-short word plain) refl
 
-name-walk : (first : ℕ) (rest : Text) → (first == 45) ≡ false → walked rules [] (walk_from nothing_held) (first ∷ rest) ≡ record {
-  held = record { rows = []; pending = Some (codes "NETFILE", (first ∷ rest) ∷ []); skip = 0 };
+-- A walk that stands before the first name, with this held.
+abbrev with_name : Text → List Row → Walk
+with_name name rows = record {
+  held = record { rows = rows; pending = Some (codes "NETFILE", name ∷ []); skip = 0 };
   waiting = idle;
   position = 2;
   is_trailing = false;
   stopped = None;
 }
-unfolding clap_on_literals
-name-walk first rest plain = rw (name-met nothing_held first rest plain) refl
 
-flagged-walk : (first : ℕ) (rest : Text) → (first == 45) ≡ false → walked rules [] (walk_from flagged) (first ∷ rest) ≡ record {
-  held = record { rows = flagged.rows; pending = Some (codes "NETFILE", (first ∷ rest) ∷ []); skip = 0 };
-  waiting = idle;
-  position = 2;
-  is_trailing = false;
-  stopped = None;
-}
+name-walk : (name : Text) → is_flag name ≡ false → walked rules [] (walk_from nothing_held) name ≡ with_name name []
 unfolding clap_on_literals
-flagged-walk first rest plain = rw (name-met flagged first rest plain) refl
+name-walk name plain = rw (name-met nothing_held name plain) refl
 
-name-turn : (first : ℕ) (rest : Text) → (first == 45) ≡ false → turn_fault (built line_app).top [] (walk_from nothing_held) (first ∷ rest) ≡ []
+flagged-walk : (name : Text) → is_flag name ≡ false → walked rules [] (walk_from flagged) name ≡ with_name name flagged.rows
 unfolding clap_on_literals
-name-turn first rest plain = rw (name-met nothing_held first rest plain, no-dashes first rest plain, no-long first rest plain, no-short first rest plain) refl
+flagged-walk name plain = rw (name-met flagged name plain) refl
 
-flagged-turn : (first : ℕ) (rest : Text) → (first == 45) ≡ false → turn_fault (built line_app).top [] (walk_from flagged) (first ∷ rest) ≡ []
+name-turn : (name : Text) → is_flag name ≡ false → turn_fault (built line_app).top [] (walk_from nothing_held) name ≡ []
 unfolding clap_on_literals
-flagged-turn first rest plain = rw (name-met flagged first rest plain, no-dashes first rest plain, no-long first rest plain, no-short first rest plain) refl
+name-turn name plain = rw (name-met nothing_held name plain, no-dashes name plain, no-long name plain, no-short name plain) refl
 
-name-free : (first : ℕ) (rest : Text) → (first == 45) ≡ false → fault_of line_app ((first ∷ rest) ∷ []) ≡ []
+flagged-turn : (name : Text) → is_flag name ≡ false → turn_fault (built line_app).top [] (walk_from flagged) name ≡ []
 unfolding clap_on_literals
-name-free first rest plain = rw (name-walk first rest plain, name-turn first rest plain) refl
+flagged-turn name plain = rw (name-met flagged name plain, no-dashes name plain, no-long name plain, no-short name plain) refl
 
-name-rows : (first : ℕ) (rest : Text) → (first == 45) ≡ false → asked_in (matches_of line_app ((first ∷ rest) ∷ [])) ≡ Some (Run (first ∷ rest))
+name-free : (name : Text) → is_flag name ≡ false → fault_of line_app (name ∷ []) ≡ []
 unfolding clap_on_literals
-name-rows first rest plain = rw (name-walk first rest plain) refl
+name-free name plain = rw (name-walk name plain, name-turn name plain) refl
 
-before-free : (first : ℕ) (rest : Text) → (first == 45) ≡ false → fault_of line_app (codes "--check" ∷ (first ∷ rest) ∷ []) ≡ []
+name-rows : (name : Text) → is_flag name ≡ false → asked_in (matches_of line_app (name ∷ [])) ≡ Some (Run name None)
 unfolding clap_on_literals
-before-free first rest plain = rw (flagged-walk first rest plain, flagged-turn first rest plain) refl
+name-rows name plain = rw (name-walk name plain) refl
 
-before-rows : (first : ℕ) (rest : Text) → (first == 45) ≡ false → asked_in (matches_of line_app (codes "--check" ∷ (first ∷ rest) ∷ [])) ≡ Some (Check (first ∷ rest))
+before-free : (name : Text) → is_flag name ≡ false → fault_of line_app (codes "--check" ∷ name ∷ []) ≡ []
 unfolding clap_on_literals
-before-rows first rest plain = rw (flagged-walk first rest plain) refl
+before-free name plain = rw (flagged-walk name plain, flagged-turn name plain) refl
 
-after-free : (first : ℕ) (rest : Text) → (first == 45) ≡ false → fault_of line_app ((first ∷ rest) ∷ codes "--check" ∷ []) ≡ []
+before-rows : (name : Text) → is_flag name ≡ false → asked_in (matches_of line_app (codes "--check" ∷ name ∷ [])) ≡ Some (Check name)
 unfolding clap_on_literals
-after-free first rest plain = rw (name-walk first rest plain, name-turn first rest plain) refl
+before-rows name plain = rw (flagged-walk name plain) refl
 
-after-rows : (first : ℕ) (rest : Text) → (first == 45) ≡ false → asked_in (matches_of line_app ((first ∷ rest) ∷ codes "--check" ∷ [])) ≡ Some (Check (first ∷ rest))
+after-free : (name : Text) → is_flag name ≡ false → fault_of line_app (name ∷ codes "--check" ∷ []) ≡ []
 unfolding clap_on_literals
-after-rows first rest plain = rw (name-walk first rest plain) refl
+after-free name plain = rw (name-walk name plain, name-turn name plain) refl
 
-full-free : (asked : Asked) → fault_of line_app (full_line asked) ≡ []
+after-rows : (name : Text) → is_flag name ≡ false → asked_in (matches_of line_app (name ∷ codes "--check" ∷ [])) ≡ Some (Check name)
 unfolding clap_on_literals
-full-free (Run file) = refl
-full-free (Check file) = refl
-
-full-rows : (asked : Asked) → asked_in (matches_of line_app (full_line asked)) ≡ Some asked
-unfolding clap_on_literals
-full-rows (Run file) = refl
-full-rows (Check file) = refl
+after-rows name plain = rw (name-walk name plain) refl
 
 -- With no fault the rows are read.
 taken : (words : List Text) (asked : Asked) → fault_of line_app words ≡ [] → asked_in (matches_of line_app words) ≡ Some asked → command_of words ≡ Some asked
 taken words asked free rows = rw (free, rows) refl
 
-empty-run : command_of ([] ∷ []) ≡ Some (Run [])
+full-free : (asked : Asked) → fault_of line_app (full_line asked) ≡ []
 unfolding clap_on_literals
-empty-run = refl
+full-free (Run net None) = refl
+full-free (Run net (Some journal)) = refl
+full-free (Check net) = refl
+full-free (Replay net journal) = refl
+full-free (Make number) = refl
 
-empty-before : command_of (codes "--check" ∷ [] ∷ []) ≡ Some (Check [])
+full-rows : (asked : Asked) → IsWithinBounds asked → asked_in (matches_of line_app (full_line asked)) ≡ Some asked
 unfolding clap_on_literals
-empty-before = refl
+full-rows (Run net None) within = refl
+full-rows (Run net (Some journal)) within = refl
+full-rows (Check net) within = refl
+full-rows (Replay net journal) within = refl
+full-rows (Make number) within = ap (option_map Make) (own-number number within.0 within.1)
 
-empty-after : command_of ([] ∷ codes "--check" ∷ []) ≡ Some (Check [])
+-- The options that name a journal's file: that of a run, and that of a replay.
+abbrev kept : Bool → Text
+kept true = codes "journal"
+kept false = codes "replay"
+
+-- The walk stands behind an option, whose value is still to come.
+abbrev waits : Text → List Row → ℕ → Walk
+waits name rows position = record {
+  held = record { rows = rows; pending = Some (name, []); skip = 0 };
+  waiting = option name;
+  position = position;
+  is_trailing = false;
+  stopped = None;
+}
+
+-- The walk stands behind an option and its value.
+abbrev has_value : Text → Text → List Row → ℕ → Walk
+has_value name value rows position = record {
+  held = record { rows = rows; pending = Some (name, value ∷ []); skip = 0 };
+  waiting = idle;
+  position = position;
+  is_trailing = false;
+  stopped = None;
+}
+
+value-met : (name : Text) (position : ℕ) (held : Held) (word : Text) → is_flag word ≡ false → word_met rules [] false (option name) position word held ≡ plain_word rules (option name) word held
 unfolding clap_on_literals
-empty-after = refl
+value-met name position held word plain = rw (no-dashes word plain, no-long word plain, no-short word plain) refl
 
-plain-line : (asked : Asked) (words : List Text) → is_flag (file_of asked) ≡ false → IsPlainLine asked words → command_of words ≡ Some asked
-plain-line (Run []) words plain is = rw is empty-run
-plain-line (Run (first ∷ rest)) words plain is = rw is (taken _ _ (name-free first rest plain) (name-rows first rest plain))
-plain-line (Check []) words plain (inl is) = rw is empty-before
-plain-line (Check []) words plain (inr is) = rw is empty-after
-plain-line (Check (first ∷ rest)) words plain (inl is) = rw is (taken _ _ (before-free first rest plain) (before-rows first rest plain))
-plain-line (Check (first ∷ rest)) words plain (inr is) = rw is (taken _ _ (after-free first rest plain) (after-rows first rest plain))
+value-walk : (keeps : Bool) (rows : List Row) (position : ℕ) (word : Text) → is_flag word ≡ false → walked rules [] (waits (kept keeps) rows position) word ≡ has_value (kept keeps) word rows position
+unfolding clap_on_literals
+value-walk true rows position word plain = rw (value-met (codes "journal") position (waits (codes "journal") rows position).held word plain) refl
+value-walk false rows position word plain = rw (value-met (codes "replay") position (waits (codes "replay") rows position).held word plain) refl
+
+value-turn : (keeps : Bool) (rows : List Row) (position : ℕ) (word : Text) → is_flag word ≡ false → turn_fault (built line_app).top [] (waits (kept keeps) rows position) word ≡ []
+unfolding clap_on_literals
+value-turn true rows position word plain = rw (value-met (codes "journal") position (waits (codes "journal") rows position).held word plain, no-dashes word plain, no-long word plain, no-short word plain) refl
+value-turn false rows position word plain = rw (value-met (codes "replay") position (waits (codes "replay") rows position).held word plain, no-dashes word plain, no-long word plain, no-short word plain) refl
+
+valued-walk : (keeps : Bool) (value name : Text) → is_flag name ≡ false
+    → walked rules [] (has_value (kept keeps) value [] 1) name ≡ with_name name (settled rules (has_value (kept keeps) value [] 1).held).rows
+unfolding clap_on_literals
+valued-walk true value name plain = rw (name-met (has_value (codes "journal") value [] 1).held name plain) refl
+valued-walk false value name plain = rw (name-met (has_value (codes "replay") value [] 1).held name plain) refl
+
+valued-turn : (keeps : Bool) (value name : Text) → is_flag name ≡ false → turn_fault (built line_app).top [] (has_value (kept keeps) value [] 1) name ≡ []
+unfolding clap_on_literals
+valued-turn true value name plain = rw (name-met (has_value (codes "journal") value [] 1).held name plain, no-dashes name plain, no-long name plain, no-short name plain) refl
+valued-turn false value name plain = rw (name-met (has_value (codes "replay") value [] 1).held name plain, no-dashes name plain, no-long name plain, no-short name plain) refl
+
+-- What a line with a journal's file asks for.
+abbrev with_journal : Bool → Text → Text → Asked
+with_journal true net journal = Run net (Some journal)
+with_journal false net journal = Replay net journal
+
+-- The word of the option.
+abbrev flag_of : Bool → Text
+flag_of true = codes "--journal"
+flag_of false = codes "--replay"
+
+before-journal-free : (keeps : Bool) (net journal : Text) → is_flag net ≡ false → is_flag journal ≡ false → fault_of line_app (flag_of keeps ∷ journal ∷ net ∷ []) ≡ []
+unfolding clap_on_literals
+before-journal-free true net journal plain kept_plain = rw (value-walk true [] 1 journal kept_plain, value-turn true [] 1 journal kept_plain, valued-walk true journal net plain, valued-turn true journal net plain) refl
+before-journal-free false net journal plain kept_plain = rw (value-walk false [] 1 journal kept_plain, value-turn false [] 1 journal kept_plain, valued-walk false journal net plain, valued-turn false journal net plain) refl
+
+before-journal-rows : (keeps : Bool) (net journal : Text) → is_flag net ≡ false → is_flag journal ≡ false
+    → asked_in (matches_of line_app (flag_of keeps ∷ journal ∷ net ∷ [])) ≡ Some (with_journal keeps net journal)
+unfolding clap_on_literals
+before-journal-rows true net journal plain kept_plain = rw (value-walk true [] 1 journal kept_plain, valued-walk true journal net plain) refl
+before-journal-rows false net journal plain kept_plain = rw (value-walk false [] 1 journal kept_plain, valued-walk false journal net plain) refl
+
+journal-before : (keeps : Bool) (net journal : Text) → is_flag net ≡ false → is_flag journal ≡ false → command_of (flag_of keeps ∷ journal ∷ net ∷ []) ≡ Some (with_journal keeps net journal)
+journal-before keeps net journal plain kept_plain = taken _ _ (before-journal-free keeps net journal plain kept_plain) (before-journal-rows keeps net journal plain kept_plain)
+
+-- What is held of a name that was used.
+abbrev named : Text → List Row
+named net = (settled rules (with_name net []).held).rows
+
+after-journal-free : (keeps : Bool) (net journal : Text) → is_flag net ≡ false → is_flag journal ≡ false → fault_of line_app (net ∷ flag_of keeps ∷ journal ∷ []) ≡ []
+unfolding clap_on_literals
+after-journal-free true net journal plain kept_plain = rw (name-walk net plain, name-turn net plain, value-walk true (named net) 2 journal kept_plain, value-turn true (named net) 2 journal kept_plain) refl
+after-journal-free false net journal plain kept_plain = rw (name-walk net plain, name-turn net plain, value-walk false (named net) 2 journal kept_plain, value-turn false (named net) 2 journal kept_plain) refl
+
+after-journal-rows : (keeps : Bool) (net journal : Text) → is_flag net ≡ false → is_flag journal ≡ false
+    → asked_in (matches_of line_app (net ∷ flag_of keeps ∷ journal ∷ [])) ≡ Some (with_journal keeps net journal)
+unfolding clap_on_literals
+after-journal-rows true net journal plain kept_plain = rw (name-walk net plain, value-walk true (named net) 2 journal kept_plain) refl
+after-journal-rows false net journal plain kept_plain = rw (name-walk net plain, value-walk false (named net) 2 journal kept_plain) refl
+
+journal-after : (keeps : Bool) (net journal : Text) → is_flag net ≡ false → is_flag journal ≡ false → command_of (net ∷ flag_of keeps ∷ journal ∷ []) ≡ Some (with_journal keeps net journal)
+journal-after keeps net journal plain kept_plain = taken _ _ (after-journal-free keeps net journal plain kept_plain) (after-journal-rows keeps net journal plain kept_plain)
+
+digit-plain : (word : Text) → 48 < get_or word 0 0 → is_flag word ≡ false
+digit-plain [] digit = refl
+digit-plain (first ∷ rest) digit = ne_eqb first 45 (λ e. omega (arith, digit, e))
+
+make-walk : (word : Text) → is_flag word ≡ false → walked rules [] (waits (codes "make") [] 1) word ≡ has_value (codes "make") word [] 1
+unfolding clap_on_literals
+make-walk word plain = rw (value-met (codes "make") 1 (waits (codes "make") [] 1).held word plain) refl
+
+make-turn : (word : Text) → is_flag word ≡ false → turn_fault (built line_app).top [] (waits (codes "make") [] 1) word ≡ []
+unfolding clap_on_literals
+make-turn word plain = rw (value-met (codes "make") 1 (waits (codes "make") [] 1).held word plain, no-dashes word plain, no-long word plain, no-short word plain) refl
+
+make-free : (word : Text) → is_flag word ≡ false → fault_of line_app (codes "--make" ∷ word ∷ []) ≡ []
+unfolding clap_on_literals
+make-free word plain = rw (make-walk word plain, make-turn word plain) refl
+
+make-rows : (word : Text) → is_flag word ≡ false → asked_in (matches_of line_app (codes "--make" ∷ word ∷ [])) ≡ option_map Make (spelled_number word)
+unfolding clap_on_literals
+make-rows word plain = rw (make-walk word plain) refl
+
+make-plain : (number : ℕ) → 1 ≤ number → number ≤ NUMBER_LIMIT → command_of (codes "--make" ∷ decimal number ∷ []) ≡ Some (Make number)
+make-plain number low high =
+    let plain = digit-plain (decimal number) (first_decimal number (omega arith) (omega arith)) in
+    taken _ _ (make-free (decimal number) plain) (make-rows (decimal number) plain ∙ ap (option_map Make) (own-number number low high))
+
+plain-line : (asked : Asked) (words : List Text) → IsWithinBounds asked → HasPlainNames asked → IsPlainLine asked words → command_of words ≡ Some asked
+plain-line (Run net None) words within plain is = rw is (taken _ _ (name-free net plain) (name-rows net plain))
+plain-line (Run net (Some journal)) words within plain (inl is) = rw is (journal-before true net journal plain.0 plain.1)
+plain-line (Run net (Some journal)) words within plain (inr is) = rw is (journal-after true net journal plain.0 plain.1)
+plain-line (Check net) words within plain (inl is) = rw is (taken _ _ (before-free net plain) (before-rows net plain))
+plain-line (Check net) words within plain (inr is) = rw is (taken _ _ (after-free net plain) (after-rows net plain))
+plain-line (Replay net journal) words within plain (inl is) = rw is (journal-before false net journal plain.0 plain.1)
+plain-line (Replay net journal) words within plain (inr is) = rw is (journal-after false net journal plain.0 plain.1)
+plain-line (Make number) words within plain is = rw is (make-plain number within.0 within.1)
 
 -- The words of a line ask for it.
 pub asks : (asked : Asked) (words : List Text) → AskFor asked words → command_of words ≡ Some asked
-asks asked words (inl is) = rw is (taken _ _ (full-free asked) (full-rows asked))
-asks asked words (inr plain) = plain-line asked words plain.0 plain.1
+asks asked words (within, inl is) = rw is (taken _ _ (full-free asked) (full-rows asked within))
+asks asked words (within, inr plain) = plain-line asked words within plain.0 plain.1
+
+-- What the matches of a parse ask for is what its words do.
+pub read-as : (app : App) (words : List Text) (rows : List Row) (found : Option Asked) → app ≡ line_app → (is_simple app ≡ true → rows ≡ matches_of app words)
+    → (is_simple_and_free app ≡ true → fault_of app words ≡ []) → found ≡ asked_in rows → found ≡ command_of words
+read-as app words rows found is matched free asked =
+    let simple : is_simple app ≡ true = ap is_simple is in
+    let all_free : is_simple_and_free app ≡ true = ap is_simple_and_free is in
+    let no_fault : fault_of line_app words ≡ [] = ap (λ (a : App). fault_of a words) (sym is) ∙ free all_free in
+    let same : rows ≡ matches_of line_app words = matched simple ∙ ap (λ (a : App). matches_of a words) is in
+    asked ∙ ap asked_in same ∙ rw no_fault refl

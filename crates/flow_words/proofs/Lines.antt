@@ -1,14 +1,14 @@
 -- What clap's getters give, by the rows of a parse.
-use Rattle.std.proofs.Common.{◌≡◌, ◌∙◌, ap, ap₂, sym, refl, Bool, Option, Some, None, codes}
+use Rattle.std.proofs.Common.{◌≡◌, ◌∙◌, ap, sym, refl, Bool, Option, Some, None, codes}
 use Rattle.std.specs.Prelude.{find, option_map, option_and_then}
 use Rattle.std.specs.Str.{bytes_eq}
 use Rattle.clap.specs.Facts.{Entry}
 use Rattle.clap.specs.Matches.{first_value, matched_of}
-use Rattle.clap.specs.Walk.{Text, row_of, rows_of}
+use Rattle.clap.specs.Walk.{Text, first_of, row_of, rows_of}
 use Rattle.clap.specs.declared.parser.matches.Found.{Found}
 use Rattle.clap.specs.declared.parser.matches.ValueSource.{ValueSource}
 use Rattle.clap.proofs.WalkLemmas.{find_row, first_value-rows}
-use Rattle.flow_words.specs.Words.{asked, asked_in, is_checked, is_from_words}
+use Rattle.flow_words.specs.Words.{asked_in, form_of, is_checked, is_from_words}
 
 -- The source of a row is that of its entry.
 source-rows : (found : Found) (id : Text) → option_and_then (λ entry. entry.source) (matched_of found id)
@@ -26,7 +26,15 @@ pub checked-as : (found : Found) (source : Option ValueSource) → source ≡ op
     → is_from_words source ≡ is_checked (rows_of found)
 checked-as found source same = ap is_from_words (same ∙ source-rows found (codes "check"))
 
--- A file's name and the flag say what is asked for.
-pub asked-as : (found : Found) (checked : Bool) (file : Option Text) → checked ≡ is_checked (rows_of found) → file ≡ first_value found (codes "NETFILE")
-    → option_map (asked checked) file ≡ asked_in (rows_of found)
-asked-as found checked file flag same = ap₂ (λ c f. option_map (asked c) f) flag (same ∙ first_value-rows found (codes "NETFILE"))
+-- What is given says what is asked for.
+pub given-as : (found : Found) (checked : Bool) (net journal replay number : Option Text) → checked ≡ is_checked (rows_of found) → net ≡ first_value found (codes "NETFILE")
+    → journal ≡ first_value found (codes "journal") → replay ≡ first_value found (codes "replay") → number ≡ first_value found (codes "make")
+    → form_of checked net journal replay number ≡ asked_in (rows_of found)
+given-as found checked net journal replay number flag is_net is_journal is_replay is_number =
+    let rows = rows_of found in
+    let at : (id : Text) (given : Option Text) → given ≡ first_value found id → given ≡ first_of id rows = λ id given is. is ∙ first_value-rows found id in
+    ap (λ c. form_of c net journal replay number) flag
+    ∙ ap (λ n. form_of (is_checked rows) n journal replay number) (at (codes "NETFILE") net is_net)
+    ∙ ap (λ j. form_of (is_checked rows) (first_of (codes "NETFILE") rows) j replay number) (at (codes "journal") journal is_journal)
+    ∙ ap (λ r. form_of (is_checked rows) (first_of (codes "NETFILE") rows) (first_of (codes "journal") rows) r number) (at (codes "replay") replay is_replay)
+    ∙ ap (λ m. form_of (is_checked rows) (first_of (codes "NETFILE") rows) (first_of (codes "journal") rows) (first_of (codes "replay") rows) m) (at (codes "make") number is_number)

@@ -1,5 +1,5 @@
 -- Which words are a command line, and what each asks for.
-use Rattle.std.specs.Prelude.{Bool, true, false, List, Some, None, find, codes, if◌then◌else◌}
+use Rattle.std.specs.Prelude.{ℕ, Bool, true, false, List, Some, None, find, codes, if◌then◌else◌}
 use Rattle.std.specs.declared.option.Option.{Option}
 use Rattle.std.specs.Option.{option_map, option_and_then}
 use Rattle.std.specs.Str.{bytes_eq}
@@ -9,37 +9,48 @@ use Rattle.clap.specs.Faults.{fault_of}
 use Rattle.clap.specs.declared.builder.action.ArgAction.TheVariants.{SetTrue}
 use Rattle.clap.specs.declared.parser.matches.ValueSource.{ValueSource}
 use Rattle.clap.specs.declared.parser.matches.ValueSource.TheVariants.{CommandLine}
+use Rattle.flow_words.specs.Numbers.{spelled_number}
 use Rattle.flow_words.specs.declared.asked.Command.{Command}
 use Rattle.flow_words.specs.declared.asked.Command.TheVariants as commands
 
--- A run of the network file of this name, or a check of it.
+-- A run of the network file of this name, with the name of a file for its journal, where there is one; a check of it; a replay of it, with the
+-- name of the file that has the journal; or a make from a number.
 pub data Asked : Type 0 where
-  Run : Text → Asked
+  Run : Text → Option Text → Asked
   Check : Text → Asked
+  Replay : Text → Text → Asked
+  Make : ℕ → Asked
 
--- What a command asks for, with the text of its name.
+-- What a command asks for, with the texts of its names.
 abbrev pub asked_by : Command → Asked
-asked_by (commands.Run file) = Run file.now
-asked_by (commands.Check file) = Check file.now
+asked_by (commands.Run net journal) = Run net.now (option_map (λ s. s.now) journal)
+asked_by (commands.Check net) = Check net.now
+asked_by (commands.Replay net journal) = Replay net.now journal.now
+asked_by (commands.Make number) = Make number
 
--- The network file's name is a word that has to stand.
+-- A word that is no flag is the network file's name.
 abbrev pub file_rule : Rule
-file_rule = record (new_rule (codes "NETFILE")) { required = true }
+file_rule = new_rule (codes "NETFILE")
 
--- The flag `--check` takes no value.
-abbrev pub check_rule : Rule
-check_rule = record (new_rule (codes "check")) {
-  long = Some (codes "check");
-  action = Some SetTrue;
-}
+-- The flag of this name takes no value.
+abbrev pub flag_rule : Text → Rule
+flag_rule name = record (new_rule name) { long = Some name; action = Some SetTrue }
+
+-- The option of this name takes one value.
+abbrev pub option_rule : Text → Rule
+option_rule name = record (new_rule name) { long = Some name }
 
 -- The words begin after the program's name, and no flag asks for help.
 abbrev pub plain_app : App
 plain_app = on_top (λ top. record top { no_binary_name = true; disable_help_flag = true }) (new_app (codes "flow"))
 
--- A command line has these two arguments and no others.
+-- The network file's name and the flag of a check.
+abbrev pub short_app : App
+short_app = with_rule (with_rule plain_app file_rule) (flag_rule (codes "check"))
+
+-- A command line has these arguments and no others.
 abbrev pub line_app : App
-line_app = with_rule (with_rule plain_app file_rule) check_rule
+line_app = with_rule (with_rule (with_rule short_app (option_rule (codes "journal"))) (option_rule (codes "replay"))) (option_rule (codes "make"))
 
 -- The value came from the words, and from no default.
 abbrev pub is_from_words : Option ValueSource → Bool
@@ -50,13 +61,18 @@ is_from_words _ = false
 abbrev pub is_checked : List Row → Bool
 is_checked rows = is_from_words (option_and_then (λ row. row.source) (find (λ row. bytes_eq row.id (codes "check")) rows))
 
--- A network file's name asks for a check where the flag was given, and else for a run.
-abbrev pub asked : Bool → Text → Asked
-asked checked file = if checked then Check file else Run file
+-- What a line asks for by what is given in it: whether it has the flag `--check`, the network file's name, and the values of `--journal`, `--replay` and
+-- `--make`. A line of any other form asks for nothing.
+abbrev pub form_of : Bool → Option Text → Option Text → Option Text → Option Text → Option Asked
+form_of false (Some net) journal None None = Some (Run net journal)
+form_of true (Some net) None None None = Some (Check net)
+form_of false (Some net) None (Some journal) None = Some (Replay net journal)
+form_of false None None None (Some word) = option_map Make (spelled_number word)
+form_of _ _ _ _ _ = None
 
--- The rows of a command line ask for what the value of NETFILE and the flag say.
+-- What the rows of a line ask for.
 abbrev pub asked_in : List Row → Option Asked
-asked_in rows = option_map (asked (is_checked rows)) (first_of (codes "NETFILE") rows)
+asked_in rows = form_of (is_checked rows) (first_of (codes "NETFILE") rows) (first_of (codes "journal") rows) (first_of (codes "replay") rows) (first_of (codes "make") rows)
 
 -- Words in which clap finds a fault ask for nothing, and all others for what their rows do.
 abbrev pub command_of : List Text → Option Asked

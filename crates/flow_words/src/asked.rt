@@ -1,10 +1,20 @@
 //! What a command line may ask for.
 
-/// What a command line asks for.
+/// What a command line asks for. Files are named as they were given.
 #[derive(Clone, Copy, Debug, PartialEq, Eq)]
 pub enum Command<'a> {
-    /// Run the network of this file.
-    Run(&'a str),
-    /// Check it, and print its canonical spelling.
+    /// Run the network of a file, and keep the journal of the run in a file, where one is named.
+    Run {
+        net: &'a str,
+        journal: Option<&'a str>,
+    },
+    /// Check the network of this file, and print its canonical spelling.
     Check(&'a str),
+    /// Make the turns again that a journal's file tells of the network of a file.
+    Replay {
+        net: &'a str,
+        journal: &'a str,
+    },
+    /// Run the network that is made from this number, on the input that is made from it.
+    Make(u32),
 }

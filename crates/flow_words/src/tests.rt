@@ -13,14 +13,40 @@ fn cut(alloc: Global, line: &str) -> Result<Vec<String>, Fail> {
     Ok(words)
 }
 
+// A run of this network file that keeps no journal.
+fn run(net: &str) -> Command<'_> {
+    Command::Run { net, journal: None }
+}
+
+// One that keeps its journal.
+fn kept<'a>(net: &'a str, journal: &'a str) -> Command<'a> {
+    Command::Run {
+        net,
+        journal: Some(journal),
+    }
+}
+
+fn replay<'a>(net: &'a str, journal: &'a str) -> Command<'a> {
+    Command::Replay { net, journal }
+}
+
 #[test]
 fn lines_are_read(rt: HostRuntime) -> Result<(), Fail> {
     let rows = [
-        ("net", Some(Command::Run("net"))),
-        ("-- net", Some(Command::Run("net"))),
-        ("-- --check", Some(Command::Run("--check"))),
+        ("net", Some(run("net"))),
+        ("-- net", Some(run("net"))),
+        ("-- --check", Some(run("--check"))),
         ("--check net", Some(Command::Check("net"))),
         ("net --check", Some(Command::Check("net"))),
+        ("net --journal j", Some(kept("net", "j"))),
+        ("--journal j net", Some(kept("net", "j"))),
+        ("--journal=-j -- -net", Some(kept("-net", "-j"))),
+        ("net --journal=", Some(kept("net", ""))),
+        ("net --replay j", Some(replay("net", "j"))),
+        ("--replay=j net", Some(replay("net", "j"))),
+        ("--make 7", Some(Command::Make(7))),
+        ("--make=100", Some(Command::Make(100))),
+        ("help", Some(run("help"))),
         ("", None),
         ("net net", None),
         ("-x", None),
@@ -28,14 +54,36 @@ fn lines_are_read(rt: HostRuntime) -> Result<(), Fail> {
         ("--help", None),
         ("-h", None),
         ("--help net", None),
-        ("help", Some(Command::Run("help"))),
         ("--version", None),
         ("-V net", None),
         ("--check", None),
         ("--check --check net", None),
-        ("--workers 3 net", None),
         ("--check=1 net", None),
         ("--chec net", None),
+        ("--workers 3 net", None),
+        ("--workers 03 net", None),
+        ("--workers 33 net", None),
+        ("--workers=2 net", None),
+        ("--make 7 --workers 4", None),
+        ("--journal j", None),
+        ("--journal net", None),
+        ("--journal -j net", None),
+        ("--journal -- net", None),
+        ("--journal j --journal k net", None),
+        ("--check --journal j net", None),
+        ("--replay j", None),
+        ("--replay j --journal j net", None),
+        ("--check --replay j net", None),
+        ("--make", None),
+        ("--make 0", None),
+        ("--make 101", None),
+        ("--make 07", None),
+        ("--make +7", None),
+        ("--make 7 net", None),
+        ("--make 7 --make 7", None),
+        ("--make 7 --journal j", None),
+        ("--make 7 --replay j", None),
+        ("--check --make 3", None),
     ];
     for (line, want) in rows {
         let words = cut(rt.alloc(), line)?;

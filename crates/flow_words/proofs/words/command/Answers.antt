@@ -1,14 +1,18 @@
-use Rattle.std.proofs.Common.{◌≡◌, ◌∙◌, rules, arith, map, string_bytes, None}
+use Rattle.std.proofs.Common.{◌≡◌, ◌∙◌, arith, map, string_bytes, None}
 use Rattle.std.proofs.lemmas.Grind.{common_steps}
 use Rattle.std.specs.Option.{option_map}
+use Rattle.clap.specs.Words.{app_of, found_of, rows_of}
 use Rattle.flow_words.specs.Words.{asked_by, command_of}
-use Rattle.flow_words.proofs.Laws.{asks}
+use Rattle.flow_words.proofs.Laws.{asks, read-as}
 use Rattle.flow_words.proofs.words.command.Goals as goal
 
+pub returns-in-Ok-clause-words : goal.returns-in-Ok-clause-words
+returns-in-Ok-clause-words c =
+    read-as (app_of c.in_ok-line.field-0) (map string_bytes c.args.words.now) (rows_of (found_of c.in-Ok.matches)) (option_map asked_by c.asked_by_matches.result)
+    c.in_ok-line.ensures (λ simple. (c.in-Ok.ensures.matches simple).0) c.in-Ok.ensures.kinds c.asked_by_matches.ensures
+
 pub returns-in-Ok-clause-lines : goal.returns-in-Ok-clause-lines
-returns-in-Ok-clause-lines c =
-    let read : option_map asked_by c.asked_by_matches.result ≡ command_of (map string_bytes c.args.words.now) = search rules in
-    λ asked given. read ∙ asks asked (map string_bytes c.args.words.now) given
+returns-in-Ok-clause-lines c = λ asked given. returns-in-Ok-clause-words c ∙ asks asked (map string_bytes c.args.words.now) given
 
 pub returns : goal.returns
 returns c =
