@@ -1,20 +1,17 @@
 -- What the lines of a command ask for.
-use Rattle.std.proofs.Common.{◌≡◌, ◌≤◌, ◌<◌, refl, true, false, Bool, ℕ, List, [], ◌∷◌, Some, None, Option, codes, inl, inr, get_or, sym, ◌∙◌, ap, arith}
+use Rattle.std.proofs.Common.{◌≡◌, refl, true, false, Bool, ℕ, List, [], ◌∷◌, ◌++◌, Some, None, Option, codes, inl, inr, sym, ◌∙◌, ap}
 use Rattle.std.specs.Fmt.{decimal}
 use Rattle.std.specs.Option.{option_map}
 use Rattle.std.specs.Str.{bytes_eq}
-use Rattle.std.proofs.lemmas.Bool.{ne_eqb}
-use Rattle.std.proofs.lemmas.Fmt.{first_decimal}
 use Rattle.clap.specs.Lexer.{long_of, short_of}
 use Rattle.clap.specs.Faults.{fault_of, is_simple_and_free, turn_fault}
 use Rattle.clap.specs.Simple.{App, built, filled, is_simple, matches_of}
 use Rattle.clap.specs.Walk.{Held, Row, Rule, Text, Walk, idle, option, nothing_held, reacted, settled, plain_word, walk_from, walked, word_met}
 use Rattle.clap.proofs.OnLiterals.{clap_on_literals}
-use Rattle.flow_limits.specs.declared.TheConstants.{NUMBER_LIMIT}
-use Rattle.flow_words.specs.Words.{Asked, Run, Check, Replay, Make, asked_in, command_of, flag_rule, line_app}
+use Rattle.flow_words.specs.Words.{Asked, Run, Check, Replay, Make, IsWithinBounds, asked_in, command_of, flag_rule, line_app}
 use Rattle.flow_words.specs.Numbers.{spelled_number}
 use Rattle.flow_words.proofs.Numbers.{own-number}
-use Rattle.flow_words.specs.Lines.{AskFor, HasPlainNames, IsPlainLine, IsWithinBounds, full_line, is_flag}
+use Rattle.flow_words.specs.Lines.{AskFor, IsBesideName, IsCheckFlag, IsName, IsOption, is_flag}
 
 abbrev rules : List Rule
 rules = (built line_app).top.rules
@@ -94,6 +91,14 @@ after-rows name plain = rw (name-walk name plain) refl
 taken : (words : List Text) (asked : Asked) → fault_of line_app words ≡ [] → asked_in (matches_of line_app words) ≡ Some asked → command_of words ≡ Some asked
 taken words asked free rows = rw (free, rows) refl
 
+-- A line for any names whatever, and for any number: the network file's name stands behind `--`, and a value behind `=`.
+abbrev full_line : Asked → List Text
+full_line (Run net None) = codes "--" ∷ net ∷ []
+full_line (Run net (Some journal)) = (codes "--journal" ++ codes "=" ++ journal) ∷ codes "--" ∷ net ∷ []
+full_line (Check net) = codes "--check" ∷ codes "--" ∷ net ∷ []
+full_line (Replay net journal) = (codes "--replay" ++ codes "=" ++ journal) ∷ codes "--" ∷ net ∷ []
+full_line (Make number) = (codes "--make" ++ codes "=" ++ decimal number) ∷ []
+
 full-free : (asked : Asked) → fault_of line_app (full_line asked) ≡ []
 unfolding clap_on_literals
 full-free (Run net None) = refl
@@ -109,6 +114,9 @@ full-rows (Run net (Some journal)) within = refl
 full-rows (Check net) within = refl
 full-rows (Replay net journal) within = refl
 full-rows (Make number) within = ap (option_map Make) (own-number number within.0 within.1)
+
+full : (asked : Asked) → IsWithinBounds asked → command_of (full_line asked) ≡ Some asked
+full asked within = taken _ _ (full-free asked) (full-rows asked within)
 
 -- The options that name a journal's file: that of a run, and that of a replay.
 abbrev kept : Bool → Text
@@ -202,9 +210,67 @@ after-journal-rows false net journal plain kept_plain = rw (name-walk net plain,
 journal-after : (keeps : Bool) (net journal : Text) → is_flag net ≡ false → is_flag journal ≡ false → command_of (net ∷ flag_of keeps ∷ journal ∷ []) ≡ Some (with_journal keeps net journal)
 journal-after keeps net journal plain kept_plain = taken _ _ (after-journal-free keeps net journal plain kept_plain) (after-journal-rows keeps net journal plain kept_plain)
 
-digit-plain : (word : Text) → 48 < get_or word 0 0 → is_flag word ≡ false
-digit-plain [] digit = refl
-digit-plain (first ∷ rest) digit = ne_eqb first 45 (λ e. omega (arith, digit, e))
+full-journal : (keeps : Bool) (net journal : Text) → command_of ((flag_of keeps ++ codes "=" ++ journal) ∷ codes "--" ∷ net ∷ []) ≡ Some (with_journal keeps net journal)
+full-journal true net journal = full (Run net (Some journal)) tt
+full-journal false net journal = full (Replay net journal) tt
+
+-- The walk stands behind an option that has its value in the same word.
+abbrev has_joined : Text → Text → Walk
+has_joined name value = record (has_value name value [] 1) { held = settled rules (has_value name value [] 1).held }
+
+joined-name : (keeps : Bool) (journal net : Text) → is_flag net ≡ false
+    → walked rules [] (has_joined (kept keeps) journal) net ≡ with_name net (has_joined (kept keeps) journal).held.rows
+unfolding clap_on_literals
+joined-name true journal net plain = rw (name-met (has_joined (codes "journal") journal).held net plain) refl
+joined-name false journal net plain = rw (name-met (has_joined (codes "replay") journal).held net plain) refl
+
+joined-turn : (keeps : Bool) (journal net : Text) → is_flag net ≡ false → turn_fault (built line_app).top [] (has_joined (kept keeps) journal) net ≡ []
+unfolding clap_on_literals
+joined-turn true journal net plain = rw (name-met (has_joined (codes "journal") journal).held net plain, no-dashes net plain, no-long net plain, no-short net plain) refl
+joined-turn false journal net plain = rw (name-met (has_joined (codes "replay") journal).held net plain, no-dashes net plain, no-long net plain, no-short net plain) refl
+
+joined-before-free : (keeps : Bool) (net journal : Text) → is_flag net ≡ false → fault_of line_app ((flag_of keeps ++ codes "=" ++ journal) ∷ net ∷ []) ≡ []
+unfolding clap_on_literals
+joined-before-free true net journal plain = rw (joined-name true journal net plain, joined-turn true journal net plain) refl
+joined-before-free false net journal plain = rw (joined-name false journal net plain, joined-turn false journal net plain) refl
+
+joined-before-rows : (keeps : Bool) (net journal : Text) → is_flag net ≡ false
+    → asked_in (matches_of line_app ((flag_of keeps ++ codes "=" ++ journal) ∷ net ∷ [])) ≡ Some (with_journal keeps net journal)
+unfolding clap_on_literals
+joined-before-rows true net journal plain = rw (joined-name true journal net plain) refl
+joined-before-rows false net journal plain = rw (joined-name false journal net plain) refl
+
+joined-before : (keeps : Bool) (net journal : Text) → is_flag net ≡ false → command_of ((flag_of keeps ++ codes "=" ++ journal) ∷ net ∷ []) ≡ Some (with_journal keeps net journal)
+joined-before keeps net journal plain = taken _ _ (joined-before-free keeps net journal plain) (joined-before-rows keeps net journal plain)
+
+joined-after-free : (keeps : Bool) (net journal : Text) → is_flag net ≡ false → fault_of line_app (net ∷ (flag_of keeps ++ codes "=" ++ journal) ∷ []) ≡ []
+unfolding clap_on_literals
+joined-after-free true net journal plain = rw (name-walk net plain, name-turn net plain) refl
+joined-after-free false net journal plain = rw (name-walk net plain, name-turn net plain) refl
+
+joined-after-rows : (keeps : Bool) (net journal : Text) → is_flag net ≡ false
+    → asked_in (matches_of line_app (net ∷ (flag_of keeps ++ codes "=" ++ journal) ∷ [])) ≡ Some (with_journal keeps net journal)
+unfolding clap_on_literals
+joined-after-rows true net journal plain = rw (name-walk net plain) refl
+joined-after-rows false net journal plain = rw (name-walk net plain) refl
+
+joined-after : (keeps : Bool) (net journal : Text) → is_flag net ≡ false → command_of (net ∷ (flag_of keeps ++ codes "=" ++ journal) ∷ []) ≡ Some (with_journal keeps net journal)
+joined-after keeps net journal plain = taken _ _ (joined-after-free keeps net journal plain) (joined-after-rows keeps net journal plain)
+
+-- The value in a word of its own, and the name behind `--`.
+behind-free : (keeps : Bool) (net journal : Text) → is_flag journal ≡ false → fault_of line_app (flag_of keeps ∷ journal ∷ codes "--" ∷ net ∷ []) ≡ []
+unfolding clap_on_literals
+behind-free true net journal plain = rw (value-walk true [] 1 journal plain, value-turn true [] 1 journal plain) refl
+behind-free false net journal plain = rw (value-walk false [] 1 journal plain, value-turn false [] 1 journal plain) refl
+
+behind-rows : (keeps : Bool) (net journal : Text) → is_flag journal ≡ false
+    → asked_in (matches_of line_app (flag_of keeps ∷ journal ∷ codes "--" ∷ net ∷ [])) ≡ Some (with_journal keeps net journal)
+unfolding clap_on_literals
+behind-rows true net journal plain = rw (value-walk true [] 1 journal plain) refl
+behind-rows false net journal plain = rw (value-walk false [] 1 journal plain) refl
+
+behind : (keeps : Bool) (net journal : Text) → is_flag journal ≡ false → command_of (flag_of keeps ∷ journal ∷ codes "--" ∷ net ∷ []) ≡ Some (with_journal keeps net journal)
+behind keeps net journal plain = taken _ _ (behind-free keeps net journal plain) (behind-rows keeps net journal plain)
 
 make-walk : (word : Text) → is_flag word ≡ false → walked rules [] (waits (codes "make") [] 1) word ≡ has_value (codes "make") word [] 1
 unfolding clap_on_literals
@@ -222,25 +288,39 @@ make-rows : (word : Text) → is_flag word ≡ false → asked_in (matches_of li
 unfolding clap_on_literals
 make-rows word plain = rw (make-walk word plain) refl
 
-make-plain : (number : ℕ) → 1 ≤ number → number ≤ NUMBER_LIMIT → command_of (codes "--make" ∷ decimal number ∷ []) ≡ Some (Make number)
-make-plain number low high =
-    let plain = digit-plain (decimal number) (first_decimal number (omega arith) (omega arith)) in
-    taken _ _ (make-free (decimal number) plain) (make-rows (decimal number) plain ∙ ap (option_map Make) (own-number number low high))
+make-plain : (number : ℕ) → IsWithinBounds (Make number) → is_flag (decimal number) ≡ false → command_of (codes "--make" ∷ decimal number ∷ []) ≡ Some (Make number)
+make-plain number within plain =
+    taken _ _ (make-free (decimal number) plain) (make-rows (decimal number) plain ∙ ap (option_map Make) (own-number number within.0 within.1))
 
-plain-line : (asked : Asked) (words : List Text) → IsWithinBounds asked → HasPlainNames asked → IsPlainLine asked words → command_of words ≡ Some asked
-plain-line (Run net None) words within plain is = rw is (taken _ _ (name-free net plain) (name-rows net plain))
-plain-line (Run net (Some journal)) words within plain (inl is) = rw is (journal-before true net journal plain.0 plain.1)
-plain-line (Run net (Some journal)) words within plain (inr is) = rw is (journal-after true net journal plain.0 plain.1)
-plain-line (Check net) words within plain (inl is) = rw is (taken _ _ (before-free net plain) (before-rows net plain))
-plain-line (Check net) words within plain (inr is) = rw is (taken _ _ (after-free net plain) (after-rows net plain))
-plain-line (Replay net journal) words within plain (inl is) = rw is (journal-before false net journal plain.0 plain.1)
-plain-line (Replay net journal) words within plain (inr is) = rw is (journal-after false net journal plain.0 plain.1)
-plain-line (Make number) words within plain is = rw is (make-plain number within.0 within.1)
+name-line : (net : Text) (words : List Text) → IsName net words → command_of words ≡ Some (Run net None)
+name-line net words (inl is) = rw is (full (Run net None) tt)
+name-line net words (inr (plain, is)) = rw is (taken _ _ (name-free net plain) (name-rows net plain))
+
+check-line : (net : Text) (words : List Text) → IsBesideName IsCheckFlag net words → command_of words ≡ Some (Check net)
+check-line net words (form, is_form, inl (name, inl is_name, is)) = rw (is, is_form, is_name) (full (Check net) tt)
+check-line net words (form, is_form, inl (name, inr (plain, is_name), is)) = rw (is, is_form, is_name) (taken _ _ (before-free net plain) (before-rows net plain))
+check-line net words (form, is_form, inr (plain, is)) = rw (is, is_form) (taken _ _ (after-free net plain) (after-rows net plain))
+
+journal-line : (keeps : Bool) (net journal : Text) (words : List Text) → IsBesideName (IsOption (flag_of keeps) journal) net words → command_of words ≡ Some (with_journal keeps net journal)
+journal-line keeps net journal words (form, inl is_form, inl (name, inl is_name, is)) = rw (is, is_form, is_name) (full-journal keeps net journal)
+journal-line keeps net journal words (form, inl is_form, inl (name, inr (plain, is_name), is)) = rw (is, is_form, is_name) (joined-before keeps net journal plain)
+journal-line keeps net journal words (form, inr (kept_plain, is_form), inl (name, inl is_name, is)) = rw (is, is_form, is_name) (behind keeps net journal kept_plain)
+journal-line keeps net journal words (form, inr (kept_plain, is_form), inl (name, inr (plain, is_name), is)) =
+    rw (is, is_form, is_name) (journal-before keeps net journal plain kept_plain)
+journal-line keeps net journal words (form, inl is_form, inr (plain, is)) = rw (is, is_form) (joined-after keeps net journal plain)
+journal-line keeps net journal words (form, inr (kept_plain, is_form), inr (plain, is)) = rw (is, is_form) (journal-after keeps net journal plain kept_plain)
+
+make-line : (number : ℕ) (words : List Text) → IsWithinBounds (Make number) → IsOption (codes "--make") (decimal number) words → command_of words ≡ Some (Make number)
+make-line number words within (inl is) = rw is (full (Make number) within)
+make-line number words within (inr (plain, is)) = rw is (make-plain number within plain)
 
 -- The words of a line ask for it.
 pub asks : (asked : Asked) (words : List Text) → AskFor asked words → command_of words ≡ Some asked
-asks asked words (within, inl is) = rw is (taken _ _ (full-free asked) (full-rows asked within))
-asks asked words (within, inr plain) = plain-line asked words within plain.0 plain.1
+asks (Run net None) words line = name-line net words line
+asks (Run net (Some journal)) words line = journal-line true net journal words line
+asks (Check net) words line = check-line net words line
+asks (Replay net journal) words line = journal-line false net journal words line
+asks (Make number) words line = make-line number words line.0 line.1
 
 -- What the matches of a parse ask for is what its words do.
 pub read-as : (app : App) (words : List Text) (rows : List Row) (found : Option Asked) → app ≡ line_app → (is_simple app ≡ true → rows ≡ matches_of app words)

@@ -1,48 +1,35 @@
 -- Lines as a reader writes them, and what each asks for.
-use Rattle.std.specs.Prelude.{◌≡◌, ◌⊎◌, ◌≤◌, ◌==◌, ⊤, Bool, false, List, [], ◌∷◌, ◌++◌, Some, None, codes}
+use Rattle.std.specs.Prelude.{◌≡◌, ◌⊎◌, ◌==◌, Bool, false, List, [], ◌∷◌, ◌++◌, Some, None, codes}
 use Rattle.std.specs.Fmt.{decimal}
 use Rattle.clap.specs.Walk.{Text}
-use Rattle.flow_limits.specs.declared.TheConstants.{NUMBER_LIMIT}
-use Rattle.flow_words.specs.Words.{Asked, Run, Check, Replay, Make}
+use Rattle.flow_words.specs.Words.{Asked, Run, Check, Replay, Make, IsWithinBounds}
 
 -- The word begins with `-`.
 abbrev pub is_flag : Text → Bool
 is_flag [] = false
 is_flag (first ∷ rest) = first == 45
 
--- A line for any names whatever: the network file's has `--` before it, the journal file's stands behind `=` in one word.
-abbrev pub full_line : Asked → List Text
-full_line (Run net None) = codes "--" ∷ net ∷ []
-full_line (Run net (Some journal)) = (codes "--journal=" ++ journal) ∷ codes "--" ∷ net ∷ []
-full_line (Check net) = codes "--check" ∷ codes "--" ∷ net ∷ []
-full_line (Replay net journal) = (codes "--replay=" ++ journal) ∷ codes "--" ∷ net ∷ []
-full_line (Make number) = (codes "--make=" ++ decimal number) ∷ []
+-- The words of the flag of a check.
+abbrev pub IsCheckFlag : List Text → Type 0
+IsCheckFlag words = words ≡ codes "--check" ∷ []
 
--- The network file's name, and then an option with its value; or the other way round.
-abbrev pub IsLineWith : Text → Text → Text → List Text → Type 0
-IsLineWith option value net words = (words ≡ option ∷ value ∷ net ∷ []) ⊎ (words ≡ net ∷ option ∷ value ∷ [])
+-- The words of an option with its value: one word with `=` between the two, or two words where the value doesn't begin with `-`.
+abbrev pub IsOption : Text → Text → List Text → Type 0
+IsOption option value words = (words ≡ (option ++ codes "=" ++ value) ∷ []) ⊎ ((is_flag value ≡ false) × (words ≡ option ∷ value ∷ []))
 
--- A plain line is the network file's name, with the flag or the option and its value before or after it; a make has no name.
-abbrev pub IsPlainLine : Asked → List Text → Type 0
-IsPlainLine (Run net None) words = words ≡ net ∷ []
-IsPlainLine (Run net (Some journal)) words = IsLineWith (codes "--journal") journal net words
-IsPlainLine (Check net) words = (words ≡ codes "--check" ∷ net ∷ []) ⊎ (words ≡ net ∷ codes "--check" ∷ [])
-IsPlainLine (Replay net journal) words = IsLineWith (codes "--replay") journal net words
-IsPlainLine (Make number) words = words ≡ codes "--make" ∷ decimal number ∷ []
+-- The words of the network file's name: the name behind `--`, or the name alone where it doesn't begin with `-`.
+abbrev pub IsName : Text → List Text → Type 0
+IsName net words = (words ≡ codes "--" ∷ net ∷ []) ⊎ ((is_flag net ≡ false) × (words ≡ net ∷ []))
 
--- None of the names begins with `-`.
-abbrev pub HasPlainNames : Asked → Type 0
-HasPlainNames (Run net None) = is_flag net ≡ false
-HasPlainNames (Run net (Some journal)) = (is_flag net ≡ false) × (is_flag journal ≡ false)
-HasPlainNames (Check net) = is_flag net ≡ false
-HasPlainNames (Replay net journal) = (is_flag net ≡ false) × (is_flag journal ≡ false)
-HasPlainNames (Make number) = ⊤
+-- Words of this form and then those of the network file's name, or the name first where it doesn't begin with `-`.
+abbrev pub IsBesideName : (List Text → Type 0) → Text → List Text → Type 0
+IsBesideName IsForm net words = (form : List Text) × IsForm form
+    × (((name : List Text) × IsName net name × (words ≡ form ++ name)) ⊎ ((is_flag net ≡ false) × (words ≡ net ∷ form)))
 
--- The number of a make is within its bounds.
-abbrev pub IsWithinBounds : Asked → Type 0
-IsWithinBounds (Make number) = (1 ≤ number) × (number ≤ NUMBER_LIMIT)
-IsWithinBounds _ = ⊤
-
--- The words ask for this in full, or plainly where no name begins with `-`.
+-- The words of a line that asks for this.
 abbrev pub AskFor : Asked → List Text → Type 0
-AskFor asked words = IsWithinBounds asked × ((words ≡ full_line asked) ⊎ (HasPlainNames asked × IsPlainLine asked words))
+AskFor (Run net None) words = IsName net words
+AskFor (Run net (Some journal)) words = IsBesideName (IsOption (codes "--journal") journal) net words
+AskFor (Check net) words = IsBesideName IsCheckFlag net words
+AskFor (Replay net journal) words = IsBesideName (IsOption (codes "--replay") journal) net words
+AskFor (Make number) words = IsWithinBounds (Make number) × IsOption (codes "--make") (decimal number) words

@@ -1,14 +1,15 @@
 -- Which words are a command line, and what each asks for.
-use Rattle.std.specs.Prelude.{ℕ, Bool, true, false, List, Some, None, find, codes, if◌then◌else◌}
+use Rattle.std.specs.Prelude.{◌≤◌, ⊤, ℕ, Bool, true, false, List, [], ◌∷◌, Some, None, find, codes, if◌then◌else◌}
 use Rattle.std.specs.declared.option.Option.{Option}
 use Rattle.std.specs.Option.{option_map, option_and_then}
 use Rattle.std.specs.Str.{bytes_eq}
 use Rattle.clap.specs.Walk.{Text, Rule, Row, is_empty, first_of}
-use Rattle.clap.specs.Simple.{App, new_app, new_rule, on_top, with_rule, matches_of}
+use Rattle.clap.specs.Simple.{App, new_app, new_rule, on_top, matches_of}
 use Rattle.clap.specs.Faults.{fault_of}
 use Rattle.clap.specs.declared.builder.action.ArgAction.TheVariants.{SetTrue}
 use Rattle.clap.specs.declared.parser.matches.ValueSource.{ValueSource}
 use Rattle.clap.specs.declared.parser.matches.ValueSource.TheVariants.{CommandLine}
+use Rattle.flow_limits.specs.declared.TheConstants.{NUMBER_LIMIT}
 use Rattle.flow_words.specs.Numbers.{spelled_number}
 use Rattle.flow_words.specs.declared.asked.Command.{Command}
 use Rattle.flow_words.specs.declared.asked.Command.TheVariants as commands
@@ -28,9 +29,10 @@ asked_by (commands.Check net) = Check net.now
 asked_by (commands.Replay net journal) = Replay net.now journal.now
 asked_by (commands.Make number) = Make number
 
--- A word that is no flag is the network file's name.
-abbrev pub file_rule : Rule
-file_rule = new_rule (codes "NETFILE")
+-- The number of a make is from 1 to the greatest from which something is made; nothing is asked of the others.
+abbrev pub IsWithinBounds : Asked → Type 0
+IsWithinBounds (Make number) = (1 ≤ number) × (number ≤ NUMBER_LIMIT)
+IsWithinBounds _ = ⊤
 
 -- The flag of this name takes no value.
 abbrev pub flag_rule : Text → Rule
@@ -40,17 +42,14 @@ flag_rule name = record (new_rule name) { long = Some name; action = Some SetTru
 abbrev pub option_rule : Text → Rule
 option_rule name = record (new_rule name) { long = Some name }
 
--- The words begin after the program's name, and no flag asks for help.
-abbrev pub plain_app : App
-plain_app = on_top (λ top. record top { no_binary_name = true; disable_help_flag = true }) (new_app (codes "flow"))
+-- What may stand in a line, each once: the network file's name, the flag of a check, and the options with the name of a run's journal file, with
+-- that of a replay's, and with the number of a make.
+abbrev pub line_rules : List Rule
+line_rules = new_rule (codes "NETFILE") ∷ flag_rule (codes "check") ∷ option_rule (codes "journal") ∷ option_rule (codes "replay") ∷ option_rule (codes "make") ∷ []
 
--- The network file's name and the flag of a check.
-abbrev pub short_app : App
-short_app = with_rule (with_rule plain_app file_rule) (flag_rule (codes "check"))
-
--- A command line has these arguments and no others.
+-- A command line has these and no others; its words begin after the program's name, and no flag asks for help.
 abbrev pub line_app : App
-line_app = with_rule (with_rule (with_rule short_app (option_rule (codes "journal"))) (option_rule (codes "replay"))) (option_rule (codes "make"))
+line_app = on_top (λ top. record top { no_binary_name = true; disable_help_flag = true; rules = line_rules }) (new_app (codes "flow"))
 
 -- The value came from the words, and from no default.
 abbrev pub is_from_words : Option ValueSource → Bool

@@ -1,11 +1,10 @@
 //! How the words after the program's name are read.
-ghost use Rattle.std.specs.Prelude.{◌≡◌, IfOk, map, string_bytes};
+ghost use Rattle.std.specs.Prelude.{◌≡◌, IfOk, IfSome, false, map, string_bytes};
 ghost use Rattle.std.specs.Option.{option_map};
-ghost use Rattle.clap.specs.Words.{app_of, found_of, rows_of};
+ghost use Rattle.clap.specs.Words.{app_of, found_of, rows_of, rule_of};
 ghost use Rattle.flow_words.specs.Lines.{AskFor};
 ghost use Rattle.flow_words.specs.Numbers.{spelled_number};
-ghost use Rattle.flow_words.specs.Words.{Asked, Make as MakeOf, asked_by, asked_in, command_of, form_of, is_checked, line_app, option_rule, short_app};
-ghost use Rattle.clap.specs.Simple.{with_rule};
+ghost use Rattle.flow_words.specs.Words.{Asked, IsWithinBounds, Make, asked_by, asked_in, command_of, flag_rule, form_of, is_checked, line_app, option_rule};
 
 use crate::asked::Command;
 use clap::error::ErrorKind;
@@ -16,14 +15,16 @@ use flow_text::decimal;
 use std::alloc::{AllocError, Global};
 
 /// What the words after the program's name ask for, or `None` where they are no command line. Which
-/// flags and names make which form is this project's own rule. How the words are told apart and which
-/// are refused is clap's: the word after `--` is a name, whatever it begins with, and a call for help
-/// or the version is refused like any other flag.
+/// names, flags and options make which form is this project's own rule. How the words are told apart
+/// and which are refused is clap's: the word after `--` is a name, and the text behind an option's `=`
+/// its value, whatever they begin with, and a call for help or the version is refused like any other
+/// flag.
 pub fn command<'a>(alloc: Global, words: &'a [String]) -> Result<Option<Command<'a>>, AllocError>
     ensures words { IfOk result (λ command.
         option_map asked_by command ≡ command_of (map string_bytes words.entry.now)) }
     ensures lines { (asked : Asked) → AskFor asked (map string_bytes words.entry.now)
         → IfOk result (λ command. option_map asked_by command ≡ Some asked) }
+    ensures bounds { IfOk result (λ found. IfSome found (λ command. IsWithinBounds (asked_by command))) }
 {
     match line(alloc)?.try_get_matches_from(words) {
         Ok(matches) => Ok(asked_by_matches(&matches)),
@@ -38,41 +39,36 @@ pub fn command<'a>(alloc: Global, words: &'a [String]) -> Result<Option<Command<
 fn line<'a>(alloc: Global) -> Result<clap::Command<'a>, AllocError>
     ensures { IfOk result (λ line. app_of line ≡ line_app) }
 {
-    let line = short_line(alloc)?;
-    let line = with_option(alloc, line, "journal")?;
-    let line = with_option(alloc, line, "replay")?;
-    with_option(alloc, line, "make")
-}
-
-// The network file's name and the flag of a check.
-fn short_line<'a>(alloc: Global) -> Result<clap::Command<'a>, AllocError>
-    ensures { IfOk result (λ line. app_of line ≡ short_app) }
-{
-    let file = Arg::new(alloc, "NETFILE");
-    let check = Arg::new(alloc, "check")
-        .long("check")
-        .action(ArgAction::SetTrue);
     clap::Command::new(alloc, "flow")
         .no_binary_name(true)
         .disable_help_flag(true)
-        .arg(file)?
-        .arg(check)
+        .arg(Arg::new(alloc, "NETFILE"))?
+        .arg(flag(alloc, "check"))?
+        .arg(option(alloc, "journal"))?
+        .arg(option(alloc, "replay"))?
+        .arg(option(alloc, "make"))
 }
 
-// The line with one option more, which takes one value.
-fn with_option<'a>(
-    alloc: Global,
-    line: clap::Command<'a>,
-    name: &'a str,
-) -> Result<clap::Command<'a>, AllocError>
-    ensures { IfOk result (λ longer. app_of longer ≡ with_rule (app_of line.entry) (option_rule name.entry.now)) }
+// A flag, which takes no value.
+fn flag<'a>(alloc: Global, name: &'a str) -> Arg<'a>
+    ensures rule { rule_of result ≡ flag_rule name.entry.now }
+    ensures local { result.global ≡ false }
 {
-    line.arg(Arg::new(alloc, name).long(name))
+    Arg::new(alloc, name).long(name).action(ArgAction::SetTrue)
+}
+
+// An option, which takes one value.
+fn option<'a>(alloc: Global, name: &'a str) -> Arg<'a>
+    ensures rule { rule_of result ≡ option_rule name.entry.now }
+    ensures local { result.global ≡ false }
+{
+    Arg::new(alloc, name).long(name)
 }
 
 // What clap's matches ask for.
 fn asked_by_matches<'a>(matches: &ArgMatches<'a>) -> Option<Command<'a>>
-    ensures { option_map asked_by result ≡ asked_in (rows_of (found_of matches.now)) }
+    ensures asks { option_map asked_by result ≡ asked_in (rows_of (found_of matches.now)) }
+    ensures bounds { IfSome result (λ command. IsWithinBounds (asked_by command)) }
 {
     form(
         is_checked(matches),
@@ -91,21 +87,23 @@ fn form<'a>(
     replay: Option<&'a str>,
     number: Option<&'a str>,
 ) -> Option<Command<'a>>
-    ensures { option_map asked_by result ≡ form_of checked (option_map (λ s. s.now) net.entry) (option_map (λ s. s.now) journal.entry)
+    ensures asks { option_map asked_by result ≡ form_of checked (option_map (λ s. s.now) net.entry) (option_map (λ s. s.now) journal.entry)
         (option_map (λ s. s.now) replay.entry) (option_map (λ s. s.now) number.entry) }
+    ensures bounds { IfSome result (λ command. IsWithinBounds (asked_by command)) }
 {
     match (checked, net, journal, replay, number) {
         (false, Some(net), journal, None, None) => Some(Command::Run { net, journal }),
         (true, Some(net), None, None, None) => Some(Command::Check(net)),
         (false, Some(net), None, Some(journal), None) => Some(Command::Replay { net, journal }),
-        (false, None, None, None, Some(word)) => made(word),
+        (false, None, None, None, Some(word)) => make_of(word),
         _ => None,
     }
 }
 
-// A make of the number that a word spells.
-fn made<'a>(word: &str) -> Option<Command<'a>>
-    ensures { option_map asked_by result ≡ option_map MakeOf (spelled_number word.now) }
+// A make from the number that a word spells.
+fn make_of<'a>(word: &str) -> Option<Command<'a>>
+    ensures asks { option_map asked_by result ≡ option_map Make (spelled_number word.now) }
+    ensures bounds { IfSome result (λ command. IsWithinBounds (asked_by command)) }
 {
     match decimal(word.as_bytes(), 1, u64::from(NUMBER_LIMIT)) {
         Some(number) => Some(Command::Make(number as u32)),

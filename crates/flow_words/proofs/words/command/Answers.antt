@@ -9,7 +9,7 @@ use Rattle.flow_words.proofs.words.command.Goals as goal
 pub returns-in-Ok-clause-words : goal.returns-in-Ok-clause-words
 returns-in-Ok-clause-words c =
     read-as (app_of c.in_ok-line.field-0) (map string_bytes c.args.words.now) (rows_of (found_of c.in-Ok.matches)) (option_map asked_by c.asked_by_matches.result)
-    c.in_ok-line.ensures (λ simple. (c.in-Ok.ensures.matches simple).0) c.in-Ok.ensures.kinds c.asked_by_matches.ensures
+    c.in_ok-line.ensures (λ simple. (c.in-Ok.ensures.matches simple).0) c.in-Ok.ensures.kinds c.asked_by_matches.ensures.asks
 
 pub returns-in-Ok-clause-lines : goal.returns-in-Ok-clause-lines
 returns-in-Ok-clause-lines c = λ asked given. returns-in-Ok-clause-words c ∙ asks asked (map string_bytes c.args.words.now) given
@@ -17,4 +17,4 @@ returns-in-Ok-clause-lines c = λ asked given. returns-in-Ok-clause-words c ∙ 
 pub returns : goal.returns
 returns c =
     let none : None ≡ command_of (map string_bytes c.args.words.now) = grind (arith, common_steps) in
-    record { words = none; lines = λ asked given. none ∙ asks asked (map string_bytes c.args.words.now) given }
+    record { words = none; bounds = tt; lines = λ asked given. none ∙ asks asked (map string_bytes c.args.words.now) given }
