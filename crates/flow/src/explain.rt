@@ -10,10 +10,13 @@ use std::alloc::Global;
 use std::fs::Files;
 use std::io;
 
-const HELP: &str = "flow NETFILE          runs the network of the file, and prints a report
-flow --check NETFILE  prints the canonical spelling of the file, and runs nothing
-flow -- NETFILE       runs a file whose name begins with -
---workers, --journal, --replay and --make aren't built yet.";
+const HELP: &str = "flow NETFILE                 runs the network of the file, and prints a report
+flow --journal FILE NETFILE  does so, and writes the journal of the run to FILE
+flow --check NETFILE         prints the canonical spelling of the file, and runs nothing
+flow --replay FILE NETFILE   makes the turns of the journal in FILE again
+flow --make N                runs the network that is made from N, a number from 1 to 100
+flow -- NETFILE              runs a file whose name begins with -
+--workers isn't built yet.";
 
 /// Explains a status, where there is more to say than its line on the standard output. What can't be said, for want of
 /// memory or of a standard error, is left out.
@@ -45,6 +48,7 @@ fn explain_refusal<R: Files + Eprint + Drop>(alloc: Global, rt: &R, words: &[Str
     let name = match command(alloc, words) {
         Ok(Some(Command::Run { net, journal: _ })) => net,
         Ok(Some(Command::Check(net))) => net,
+        Ok(Some(Command::Replay { net, journal: _ })) => net,
         _ => return,
     };
     match rt.metadata(name) {
