@@ -114,7 +114,7 @@ all-logged plan components old log new last begins unmade remembers total stands
     }
 
 -- the start has as many processes as the plan
-start-count : {K : Type 0} (plan : Plan) (p : ℕ) (xs : List PlanProcess) (components : List K) → length xs ≡ length components → length (processes_at_start plan p xs components) ≡ length xs
+pub start-count : {K : Type 0} (plan : Plan) (p : ℕ) (xs : List PlanProcess) (components : List K) → length xs ≡ length components → length (processes_at_start plan p xs components) ≡ length xs
 start-count plan p [] components same = refl
 start-count plan p (x ∷ xs) [] same = absurd (omega (arith, same))
 start-count plan p (x ∷ xs) (component ∷ components) same = omega (arith, start-count plan (p + 1) xs components (omega (arith, same)))

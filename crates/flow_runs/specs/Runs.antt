@@ -1,5 +1,5 @@
--- A run on one thread: its journal, and the state to which that leads.
-use Rattle.std.specs.Prelude.{◌≡◌, ℕ, Bool, List, length}
+-- A run: its journal, and the state to which that leads.
+use Rattle.std.specs.Prelude.{◌≡◌, ℕ, ◌≤◌, Bool, List, length}
 use Rattle.flow_packet.specs.Held.{Held}
 use Rattle.flow_component.specs.declared.Answer.{Answer}
 use Rattle.flow_component.specs.declared.Shape.{Shape}
@@ -18,7 +18,11 @@ use Rattle.flow_machine.specs.Values.{NetValue, shown_net}
 use Rattle.flow_machine.specs.Starts.{StartsNet}
 use Rattle.flow_machine.specs.Solo.{Goes, round_robin}
 use Rattle.flow_machine.specs.Logs.{turns_made}
+use Rattle.flow_journal.specs.declared.merge.Journal.{Journal as ProgramJournal}
+use Rattle.flow_journal.specs.declared.refusal.Refusal.{Refusal}
+use Rattle.flow_journal.specs.declared.refusal.ReplayStop.TheVariants.{NoTurn}
 use Rattle.flow_journal.specs.Journals.{NamesTurns, NamesSeen}
+use Rattle.flow_journal.specs.Replays.{schedule_of, replayed, StopsFrom, StopsAtTurn}
 
 -- The journal is a schedule from the start of the plan with these components, which leads to this last state; after each of its prefixes each packet is
 -- in one place and each connection is in order. (So it is of every run, whoever makes its turns.)
@@ -51,3 +55,35 @@ RoundsAreRuns {K} shape_of uses ready next =
     → NamesTurns net turns
     → NamesSeen net seen
     → ComesOfRun shape_of uses ready next plan components (record { turns = turns; seen = seen }) net
+
+-- The net has come out of turns that are a schedule from the start of the plan: it stands for the state to which they lead, in which each component still
+-- fits its process. (That state needn't be quiet.)
+pub record ComesOfSchedule {K : Type 0} (shape_of : K → Shape) (uses : K → ℕ → Bool) (ready : K → Held → Answer → Type 0) (next : K → Held → Answer → Outcome K → Type 0) (plan : Plan) (components : List K) (journal : Journal) (net : NetValue K) : Type 0 where
+  pub last : State K
+  pub schedule : IsScheduled next plan components journal last
+  pub stands : StandsForOpen (shown_net net) last
+  pub fit : Fit shape_of uses ready last
+  pub count : length last.kept.processes ≡ length plan.processes
+
+-- A net that started from a plan and made the turns of a journal again has come out of a schedule, and the schedule is this journal.
+abbrev pub ReplaysAreScheduled : {K : Type 0} → (K → Shape) → (K → ℕ → Bool) → (K → Held → Answer → Type 0) → (K → Held → Answer → Outcome K → Type 0) → Type 0
+ReplaysAreScheduled {K} shape_of uses ready next =
+    (plan : Plan) (components : List K) (start net : NetValue K) (journal : ProgramJournal)
+    → StartsWell shape_of uses ready plan components
+    → StartsNet plan components start
+    → Goes shape_of uses ready (replayed next journal) start (turns_made start) net (turns_made net)
+    → ComesOfSchedule shape_of uses ready next plan components (schedule_of journal) net
+
+-- Where a replay stops a net that started from a plan, the journal is no schedule from the start of the plan: it stops there too, at the same turn and for
+-- the same reason.
+abbrev pub StopsAreFromTheStart : {K : Type 0} → (K → Shape) → (K → ℕ → Bool) → (K → Held → Answer → Type 0) → (K → Held → Answer → Outcome K → Type 0) → Type 0
+StopsAreFromTheStart {K} shape_of uses ready next =
+    (plan : Plan) (components : List K) (start : NetValue K) (journal : ProgramJournal) (place p : ℕ) (refusal : Refusal)
+    → StartsWell shape_of uses ready plan components
+    → StartsNet plan components start
+    → StopsFrom shape_of uses ready next start journal (NoTurn place p refusal)
+    → StopsAtTurn next (start_of plan components) (schedule_of journal) place p refusal
+
+-- A schedule from the start of a plan has no more seen numbers than turns: a turn sees one number at most.
+abbrev pub SeesNoMoreThanTurns : {K : Type 0} → (K → Held → Answer → Outcome K → Type 0) → Type 0
+SeesNoMoreThanTurns {K} next = (plan : Plan) (components : List K) (journal : Journal) (last : State K) → IsScheduled next plan components journal last → length journal.seen ≤ length journal.turns

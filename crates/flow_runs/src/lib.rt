@@ -1,7 +1,7 @@
-//! What a run on one thread is, from the start of a network to its journal: the engine's contracts and the machine's laws, joined.
+//! What a run is, from the start of a network to its journal: the engine's contracts and the machine's laws, joined.
 #![tactic(auto)]
 
-ghost use Rattle.flow_runs.specs.Runs.{RoundsAreRuns};
+ghost use Rattle.flow_runs.specs.Runs.{RoundsAreRuns, ReplaysAreScheduled, StopsAreFromTheStart, SeesNoMoreThanTurns};
 
 use flow_component::Component;
 use flow_model::{every_schedule_keeps_the_packets, round_robins_are_schedules};
@@ -15,3 +15,18 @@ pub fn a_round_of_a_net_is_a_run<K: Component>()
     every_schedule_keeps_the_packets::<K>();
     round_robins_are_schedules::<K>();
 }
+
+/// Where a network started from a plan with components that fit, and made the turns of a journal again, that journal is a schedule from the
+/// plan's start, after each of whose prefixes each packet is in one place and each connection is in order; the network stands for the state to
+/// which the whole journal leads. Where the replay stopped at a turn, the journal stops at that turn from the plan's start.
+pub fn a_replay_of_a_net_is_scheduled<K: Component>()
+    ensures scheduled { ReplaysAreScheduled K.shape_of K.uses K.ready K.next }
+    ensures stops { StopsAreFromTheStart K.shape_of K.uses K.ready K.next }
+{
+    every_schedule_keeps_the_packets::<K>();
+}
+
+/// The journal of a schedule from a plan's start has no more seen numbers than turns, so that it can be written into a file.
+pub fn a_schedule_sees_no_more_than_its_turns<K: Component>()
+    ensures { SeesNoMoreThanTurns K.next }
+{}
