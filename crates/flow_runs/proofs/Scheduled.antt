@@ -1,5 +1,5 @@
 -- A net that started, and then made the turns of a journal again, comes of a schedule of its network; where it stopped, the journal is none.
-use Rattle.std.proofs.Common.{◌≡◌, ℕ, ◌≤◌, Bool, List, [], ◌∷◌, ◌++◌, length, ◌∙◌, ap, subst, sym, arith, length-append}
+use Rattle.std.proofs.Common.{◌≡◌, ℕ, ◌≤◌, Bool, List, [], ◌∷◌, length, ◌∙◌, ap, subst, sym, arith, length-append}
 use Rattle.flow_packet.specs.Held.{Held}
 use Rattle.flow_component.specs.declared.Answer.{Answer}
 use Rattle.flow_component.specs.declared.Shape.{Shape}
