@@ -33,7 +33,8 @@ pub as-many : {K : Type 0} (net : NetValue K) (s : State K) → StandsForOpen (s
 as-many {K} net s stands =
     sym (length-map net.bodies shown_body) ∙ ap (λ (shows : NetShown K). length shows.bodies) stands ∙ length-shown s.past.dropped 0 s.kept.processes
 
-there-is : {A : Type 0} (xs : List A) (i : ℕ) → i < length xs → (x : A) × (slice_get xs i ≡ Some x)
+-- There is a member at each place within a list.
+pub there-is : {A : Type 0} (xs : List A) (i : ℕ) → i < length xs → (x : A) × (slice_get xs i ≡ Some x)
 there-is [] i below = absurd (omega (arith, below))
 there-is (x ∷ xs) zero below = (x, refl)
 there-is (x ∷ xs) (suc i) below = there-is xs i (omega (arith, below))

@@ -1,5 +1,6 @@
 //! A journal, and how it is read off a net.
-ghost use Rattle.std.specs.Prelude.{◌≡◌, ◌<◌, ◌≤◌, ◌^◌, ℕ, All, length, drop, IfOk, slice_get, Some};
+ghost use Rattle.std.specs.Prelude.{◌≡◌, ◌<◌, ◌≤◌, ◌^◌, ◌==◌, ℕ, All, length, drop, IfOk, slice_get, Some};
+ghost use Rattle.std.specs.List.{list_all};
 ghost use Rattle.flow_machine.specs.Logs.{turns_made};
 ghost use Rattle.flow_journal.specs.Journals.{Marks, NamesTurns, NamesSeen, TakesNumbers};
 
@@ -64,14 +65,30 @@ fn take_numbers(
     Ok(next)
 }
 
-/// The numbers that the level turns saw, in the order of the stamps.
+/// No process remembers a number that it saw.
+fn saw_none<K: Component>(net: &Net<K>) -> bool
+    ensures { result ≡ list_all (λ b. length b.levels == 0) net.now.bodies }
+{
+    for process in 0..net.processes() {
+        if !net.body(process).levels().is_empty() {
+            return false;
+        }
+    }
+    true
+}
+
+/// The numbers that the level turns saw, in the order of the stamps. Where no process saw one, the turns aren't gone through.
 fn seen_of<K: Component>(alloc: Global, net: &Net<K>, turns: &[u8]) -> Result<Vec<u16>, AllocError>
     requires { NamesTurns net.now turns.now }
     ensures { IfOk result (λ seen. NamesSeen net.now seen.items) }
 {
+    // for what it promises: each turn was made by a process of the net
     let _made = net.turns_made();
-    let mut places = vec![in alloc; 0usize; net.processes() as usize]?;
     let mut seen = Vec::new(alloc);
+    if saw_none(net) {
+        return Ok(seen);
+    }
+    let mut places = vec![in alloc; 0usize; net.processes() as usize]?;
     for (stamp, process) in turns.iter().enumerate() {
         let levels = net.body(u32::from(*process)).levels();
         let place = &mut places[*process as usize];

@@ -3,8 +3,11 @@ use Rattle.std.proofs.lemmas.List.{get_or_default}
 use Rattle.flow_machine.specs.Logs.{levels_of}
 use Rattle.flow_journal.specs.Journals.{TakesNumbers}
 use Rattle.flow_journal.proofs.Stamps.{process_in, process-at, process-below, length-processes}
-use Rattle.flow_journal.proofs.Levels.{turn-at, numbers-taken, left-after}
+use Rattle.flow_journal.proofs.Levels.{turn-at, numbers-taken, left-after, names-none}
 use Rattle.flow_journal.proofs.merge.seen_of.Goals as goal
+
+pub returns-then-saw_none : goal.returns-then-saw_none
+returns-then-saw_none g c = rw c.new-seen.ensures.items (names-none c.args.net.now (sym c.turns_made-made.ensures.stamps ∙ c.turns_made-made.ensures.turns) (sym c.saw_none.ensures ∙ c.if-saw_none.true))
 
 pub body-requires : goal.body-requires
 body-requires g c =
