@@ -74,8 +74,7 @@ ReplaysAreScheduled {K} shape_of uses ready next =
     → Goes shape_of uses ready (replayed next journal) start (turns_made start) net (turns_made net)
     → ComesOfSchedule shape_of uses ready next plan components (schedule_of journal) net
 
--- Where a replay stops a net that started from a plan, the journal is no schedule from the start of the plan: it stops there too, at the same turn and for
--- the same reason.
+-- Where the replay of a net that started from a plan stops, the journal stops from the start of the plan: at the same turn, and for the same reason.
 abbrev pub StopsAreFromTheStart : {K : Type 0} → (K → Shape) → (K → ℕ → Bool) → (K → Held → Answer → Type 0) → (K → Held → Answer → Outcome K → Type 0) → Type 0
 StopsAreFromTheStart {K} shape_of uses ready next =
     (plan : Plan) (components : List K) (start : NetValue K) (journal : ProgramJournal) (place p : ℕ) (refusal : Refusal)

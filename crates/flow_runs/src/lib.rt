@@ -1,4 +1,5 @@
-//! What a run is, from the start of a network to its journal: the engine's contracts and the machine's laws, joined.
+//! What a run on one thread is, and what a replay is, from the start of a network to its journal: the engine's contracts and the machine's laws,
+//! joined.
 #![tactic(auto)]
 
 ghost use Rattle.flow_runs.specs.Runs.{RoundsAreRuns, ReplaysAreScheduled, StopsAreFromTheStart, SeesNoMoreThanTurns};
@@ -18,7 +19,8 @@ pub fn a_round_of_a_net_is_a_run<K: Component>()
 
 /// Where a network started from a plan with components that fit, and made the turns of a journal again, that journal is a schedule from the
 /// plan's start, after each of whose prefixes each packet is in one place and each connection is in order; the network stands for the state to
-/// which the whole journal leads. Where the replay stopped at a turn, the journal stops at that turn from the plan's start.
+/// which the whole journal leads. Where the replay stopped at a turn, the journal stops at that turn from the plan's
+/// start, for the same reason.
 pub fn a_replay_of_a_net_is_scheduled<K: Component>()
     ensures scheduled { ReplaysAreScheduled K.shape_of K.uses K.ready K.next }
     ensures stops { StopsAreFromTheStart K.shape_of K.uses K.ready K.next }
