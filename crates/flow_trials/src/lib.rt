@@ -11,6 +11,8 @@ mod levels;
 #[cfg(test)]
 mod loads;
 mod network;
+#[cfg(test)]
+mod replays;
 mod starting;
 mod telegram;
 
