@@ -1,0 +1,5 @@
+pub mod Passing
+pub mod Reading
+pub mod Value
+pub mod Plan
+pub mod Once
