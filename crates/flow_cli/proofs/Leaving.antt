@@ -1,23 +1,37 @@
 -- What a run leaves: its net stands for the machine's last state, so its report and its files are those of that state.
 use Rattle.std.proofs.Common.{◌≡◌, ℕ, zero, suc, ◌+◌, ◌≤◌, List, [], ◌∷◌, ◌++◌, length, map, Ok, Err, refl, sym, ◌∙◌, ap, subst, arith}
-use Rattle.std.specs.Prelude.{IfOk, slice_get, unwrap_or, option_and_then}
+use Rattle.std.specs.Prelude.{IfOk, slice_get, unwrap_or, option_and_then, codes}
+use Rattle.std.specs.Fmt.{decimal}
+use Rattle.std.specs.List.{flat_map}
+use Rattle.flow_limits.specs.declared.TheConstants.{PROCESS_LIMIT}
 use Rattle.std.specs.declared.result.Result.{Result}
 use Rattle.std.specs.declared.alloc.AllocError.{AllocError}
 use Rattle.flow_text.specs.Edge.{Name}
 use Rattle.flow_plan.specs.declared.plan.Process.{Process as NetProcess}
 use Rattle.flow_plan.specs.Network.{Network}
-use Rattle.flow_model.specs.States.{Process}
-use Rattle.flow_machine.specs.Values.{BodyValue, NetValue}
+use Rattle.flow_model.specs.States.{Process, State}
+use Rattle.flow_model.specs.Fit.{Fit}
+use Rattle.flow_model.specs.Stands.{StandsForOpen}
+use Rattle.flow_machine.specs.Values.{BodyValue, NetValue, shown_net}
+use Rattle.flow_journal.specs.Files.{IsWritable}
+use Rattle.flow_model.specs.Plans.{start_of}
+use Rattle.flow_journal.specs.Replays.{schedule_of, StopsFrom, StopsAtTurn}
+use Rattle.flow_journal.specs.declared.refusal.Refusal.{Refusal as NoTurn}
+use Rattle.flow_journal.specs.declared.refusal.ReplayStop.{ReplayStop}
+use Rattle.flow_journal.specs.declared.refusal.ReplayStop.TheVariants as replays
+use Rattle.flow_cli.specs.declared.stop.Stop.{Stop}
+use Rattle.flow_journal.specs.declared.merge.Journal.{Journal}
 use Rattle.flow_catalogue.specs.declared.standard.Std.{Std}
 use Rattle.flow_catalogue.specs.Std.{std_shape, std_uses, StdReady, StdNext, written_of}
-use Rattle.flow_runs.specs.Runs.{ComesOfRun}
+use Rattle.flow_runs.specs.Runs.{IsScheduled, ComesOfRun, ComesOfSchedule, SeesNoMoreThanTurns}
 use Rattle.flow_report.specs.Of.{told_of}
 use Rattle.flow_report.specs.States.{ReportsTell}
 use Rattle.flow_report.proofs.Shown.{processes-shown}
 use Rattle.flow_cli.specs.Networks.{IsStandardPlan}
 use Rattle.flow_cli.specs.Step.{Filled}
 use Rattle.flow_cli.specs.Components.{written_by}
-use Rattle.flow_cli.specs.Runs.{IsToldOfNet, Leaves, machine_journal, outputs_at, outputs_from, bytes_at, bytes_in}
+use Rattle.flow_cli.specs.Makes.{output_lines_at, output_lines_from}
+use Rattle.flow_cli.specs.Runs.{IsToldOf, IsToldOfNet, IsJournalOfNet, Leaves, TellsAgain, MakesAgain, stop_of_replay, outputs_at, outputs_from}
 use Rattle.flow_cli.specs.declared.engine.Told.{Told}
 use Rattle.flow_cli.specs.declared.engine.Ran.{Ran}
 
@@ -30,37 +44,77 @@ bytes-same (b ∷ bodies) [] p same = absurd cc
 bytes-same (b ∷ bodies) (x ∷ xs) zero same = let h : b.process ≡ x = cc in ap (λ (y : Process Std). unwrap_or (written_of y.component) []) h
 bytes-same (b ∷ bodies) (x ∷ xs) (suc p) same = let h : map (λ (b : BodyValue Std). b.process) bodies ≡ xs = cc in bytes-same bodies xs p h
 
--- the files of two tellings of the same bytes are the same
-outputs-same : (one other : ℕ → List ℕ) → ((p : ℕ) → one p ≡ other p) → (p : ℕ) (ps : List NetProcess) → outputs_from one p ps ≡ outputs_from other p ps
+-- The files of two tellings of the same bytes are the same.
+pub outputs-same : (one other : ℕ → List ℕ) → ((p : ℕ) → one p ≡ other p) → (p : ℕ) (ps : List NetProcess) → outputs_from one p ps ≡ outputs_from other p ps
 outputs-same one other same p [] = refl
 outputs-same one other same p (x ∷ xs) =
     let first : outputs_at one p x ≡ outputs_at other p x = ap (λ (bytes : List ℕ). map (λ (name : Name). (name, bytes)) (written_by x)) (same p) in
     let rest = outputs-same one other same (p + 1) xs in
     ap (λ (l : List Filled). l ++ outputs_from one (p + 1) xs) first ∙ ap (λ (l : List Filled). outputs_at other p x ++ l) rest
 
-leaves-one : (plan : Network) (components : List Std) (net : NetValue Std) (told : Told) → IsStandardPlan plan → ReportsTell std_shape std_uses StdReady
-    → ComesOfRun std_shape std_uses StdReady StdNext plan components (machine_journal told.journal) net → IsToldOfNet plan net told → Leaves plan components net told
-leaves-one plan components net told standard tell comes is =
+-- So are the lines on them.
+pub lines-same : (one other : ℕ → List ℕ) → ((p : ℕ) → one p ≡ other p) → (p : ℕ) (ps : List NetProcess) → output_lines_from one p ps ≡ output_lines_from other p ps
+lines-same one other same p [] = refl
+lines-same one other same p (x ∷ xs) =
+    let first : output_lines_at one p x ≡ output_lines_at other p x = ap (λ (bytes : List ℕ). flat_map (λ (name : Name). codes "output " ++ x.name ++ 32 ∷ decimal (length bytes) ++ 10 ∷ []) (written_by x)) (same p) in
+    let rest = lines-same one other same (p + 1) xs in
+    ap (λ (l : List ℕ). l ++ output_lines_from one (p + 1) xs) first ∙ ap (λ (l : List ℕ). output_lines_at other p x ++ l) rest
+
+-- what is told of a net that stands for a state is the report of that
+told-of : (plan : Network) (net : NetValue Std) (last : State Std) (told : Told) → IsStandardPlan plan → ReportsTell std_shape std_uses StdReady
+    → Fit std_shape std_uses StdReady last → length last.kept.processes ≡ length plan.processes → StandsForOpen (shown_net net) last → IsToldOfNet plan net told → IsToldOf plan last told
+told-of plan net last told standard tell fit count stands is =
+    let few : length last.kept.processes ≤ PROCESS_LIMIT = omega (arith, count, standard.valid.wired.few_processes) in
+    record {
+      report = told_of plan net;
+      tells = tell plan net last fit few stands;
+      verdict = is.verdict;
+      text = is.report;
+    }
+
+-- a journal of a run has a file
+has-file : (plan : Network) (components : List Std) (net : NetValue Std) (journal : Journal) (last : State Std) → SeesNoMoreThanTurns StdNext
+    → IsScheduled StdNext plan components (schedule_of journal) last → IsJournalOfNet net journal → IsWritable journal
+has-file plan components net journal last sees schedule is = record {
+  turns = is.few;
+  seen = sees plan components (schedule_of journal) last schedule;
+}
+
+leaves-one : (plan : Network) (components : List Std) (net : NetValue Std) (journal : Journal) (told : Told) → IsStandardPlan plan → ReportsTell std_shape std_uses StdReady → SeesNoMoreThanTurns StdNext
+    → ComesOfRun std_shape std_uses StdReady StdNext plan components (schedule_of journal) net → IsToldOfNet plan net told → IsJournalOfNet net journal → Leaves plan components net journal told
+leaves-one plan components net journal told standard tell sees comes is names =
     let last = comes.last in
     let procs = processes-shown last.past.dropped 0 net.bodies last.kept.processes (ap (λ v. v.bodies) comes.stands) in
-    let few : length last.kept.processes ≤ 128 = omega (arith, comes.count, standard.valid.wired.few_processes) in
     record {
       last = last;
       run = comes.run;
-      told_is = record {
-        report = told_of plan net;
-        tells = tell plan net last comes.fit few comes.stands;
-        verdict = is.verdict;
-        text = is.report;
-      };
-      outputs = outputs-same (bytes_at net.bodies) (bytes_in last) (λ p. bytes-same net.bodies last.kept.processes p procs) 0 plan.processes;
+      told_is = told-of plan net last told standard tell comes.fit comes.count comes.stands is;
+      wrote = λ p. bytes-same net.bodies last.kept.processes p procs;
+      writable = has-file plan components net journal last sees comes.run.schedule names;
     }
 
--- whatever the telling answers
-pub leaves : (plan : Network) (components : List Std) (net : NetValue Std) (result : Result Ran AllocError) → IsStandardPlan plan → ReportsTell std_shape std_uses StdReady
-    → ((told : Told) → IsToldOfNet plan net told → ComesOfRun std_shape std_uses StdReady StdNext plan components (machine_journal told.journal) net)
-    → IfOk result (λ ran. ran.net ≡ net) → IfOk result (λ ran. IsToldOfNet plan net ran.told)
-    → IfOk result (λ ran. Leaves plan components ran.net ran.told)
-leaves plan components net (Ok ran) standard tell comes same told =
-    subst (λ (n : NetValue Std). Leaves plan components n ran.told) (sym same) (leaves-one plan components net ran.told standard tell (comes ran.told told) told)
-leaves plan components net (Err e) standard tell comes same told = tt
+-- whatever the account answers
+pub leaves : (plan : Network) (components : List Std) (net : NetValue Std) (result : Result Ran AllocError) → IsStandardPlan plan → ReportsTell std_shape std_uses StdReady → SeesNoMoreThanTurns StdNext
+    → ((journal : Journal) → IsJournalOfNet net journal → ComesOfRun std_shape std_uses StdReady StdNext plan components (schedule_of journal) net)
+    → IfOk result (λ ran. ran.net ≡ net) → IfOk result (λ ran. IsToldOfNet plan net ran.told) → IfOk result (λ ran. IsJournalOfNet net ran.journal)
+    → IfOk result (λ ran. Leaves plan components ran.net ran.journal ran.told)
+leaves plan components net (Ok ran) standard tell sees comes same told names =
+    subst (λ (n : NetValue Std). Leaves plan components n ran.journal ran.told) (sym same) (leaves-one plan components net ran.journal ran.told standard tell sees (comes ran.journal names) told names)
+leaves plan components net (Err e) standard tell sees comes same told names = tt
+
+-- What making a journal again tells of the net to which it led.
+pub told-again : (plan : Network) (components : List Std) (net : NetValue Std) (journal : Journal) (told : Told) → IsStandardPlan plan → ReportsTell std_shape std_uses StdReady
+    → ComesOfSchedule std_shape std_uses StdReady StdNext plan components (schedule_of journal) net → IsToldOfNet plan net told → TellsAgain plan components journal told
+told-again plan components net journal told standard tell comes is = record {
+  last = comes.last;
+  schedule = comes.schedule;
+  told_is = told-of plan net comes.last told standard tell comes.fit comes.count comes.stands is;
+}
+
+-- A replay that stops has stopped from the start of the plan.
+pub stopped-again : (plan : Network) (components : List Std) (start : NetValue Std) (journal : Journal) (stop : ReplayStop) (result : Stop)
+    → ((place p : ℕ) (refusal : NoTurn) → StopsFrom std_shape std_uses StdReady StdNext start journal (replays.NoTurn place p refusal) → StopsAtTurn StdNext (start_of plan components) (schedule_of journal) place p refusal)
+    → StopsFrom std_shape std_uses StdReady StdNext start journal stop → result ≡ stop_of_replay stop → MakesAgain plan components journal (Err result)
+stopped-again plan components start journal (replays.NoTurn place p refusal) result law stops is =
+    subst (λ (s : Stop). MakesAgain plan components journal (Err s)) (sym is) (law place p refusal stops)
+stopped-again plan components start journal replays.NoMemory result law stops is = subst (λ (s : Stop). MakesAgain plan components journal (Err s)) (sym is) tt

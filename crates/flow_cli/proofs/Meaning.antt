@@ -1,5 +1,5 @@
 -- The files of a run that finished are what its network means.
-use Rattle.std.proofs.Common.{ap, inl, inr, ℕ, List, sym, ◌∙◌, subst, refl, arith}
+use Rattle.std.proofs.Common.{ap, inl, inr, ℕ, List, ◌∙◌, subst}
 use Rattle.std.specs.Prelude.{String}
 use Rattle.std.specs.declared.alloc.Global.{Global}
 use Rattle.flow_text.specs.Edge.{Outside}
@@ -16,16 +16,17 @@ use Rattle.flow_meanings.specs.Composition.{AreFirst, FinishedComposes, wrote_in
 use Rattle.flow_meanings.proofs.Every.{made-first}
 use Rattle.flow_cli.specs.Components.{AreComponents}
 use Rattle.flow_cli.specs.After.{Prints, verdict_status}
-use Rattle.flow_cli.specs.Runs.{machine_journal, net_outputs}
+use Rattle.flow_journal.specs.Replays.{schedule_of}
 use Rattle.flow_cli.specs.Statuses.{IsFinished as IsFinishedStatus, IsOver}
 use Rattle.flow_cli.specs.Many.{WritesAll}
 use Rattle.flow_cli.specs.Meant.{LeavesMeaning}
 use Rattle.flow_cli.specs.declared.status.Status.{Status}
 use Rattle.flow_cli.specs.declared.status.Status.TheVariants as statuses
 use Rattle.flow_cli.proofs.Befores.{so_far}
-use Rattle.flow_cli.specs.declared.engine.Ran.{Ran}
+use Rattle.flow_cli.specs.declared.run.Unwritten.{Unwritten}
 use Rattle.flow_cli.specs.Step.{Filled}
-use Rattle.flow_cli.specs.Top.{HasRun, Finishes}
+use Rattle.flow_cli.specs.Top.{HasRun, Finishes, outputs_of_run}
+use Rattle.flow_cli.proofs.Runs.{files}
 use Rattle.flow_cli.proofs.Fitting.{components-fit}
 use Rattle.flow_cli.proofs.Tops.{stop-not-over}
 
@@ -45,6 +46,7 @@ finished-over statuses.Finished is = is
 finished-over statuses.FinishedLeft is = is
 finished-over statuses.Words is = absurd is
 finished-over statuses.Refused is = absurd is
+finished-over statuses.JournalRefused is = absurd is
 finished-over statuses.Deadlock is = absurd is
 finished-over statuses.Failed is = absurd is
 finished-over statuses.ReadFault is = absurd is
@@ -54,36 +56,31 @@ finished-over statuses.TooLong is = absurd is
 finished-over statuses.Running is = absurd is
 
 -- with the laws of plans and of meanings, a run that finished left what its network means
-module _ (starts : StartsPlans std_shape std_uses StdReady) (composes : FinishedComposes) (words : List (String Global)) (o a n po pn : Outside) (ran : Ran) (status : Status) (limit : ℕ)
-    (has : HasRun o a words limit ran) where
-  left : WritesAll a n (net_outputs ran.plan ran.net) → Prints po pn ran.told.report.items (verdict_status ran.told.verdict) status → IsFinishedStatus status
-      → LeavesMeaning (so_far words o n ran.told.journal) limit
+module _ (starts : StartsPlans std_shape std_uses StdReady) (composes : FinishedComposes) (words : List (String Global)) (o a n po pn : Outside) (run : Unwritten) (status : Status) (limit : ℕ)
+    (has : HasRun o a words limit run) where
+  left : WritesAll a n (outputs_of_run run) → Prints po pn run.ran.told.report.items (verdict_status run.ran.told.verdict) status → IsFinishedStatus status
+      → LeavesMeaning (so_far words o n run.ran.journal) limit
   left w (inl p) finished =
-      let plan = ran.plan in
+      let plan = run.ran.plan in
       let of = has.ready in
       let well = starts plan has.components of.file.standard.valid (components-fit plan has.components (of.given, of.are_components)) in
       let ends = finished-of has.leaves.last has.leaves.told_is.report.verdict has.leaves.told_is.tells.verdict (subst IsFinishedStatus (p.0 ∙ ap verdict_status has.leaves.told_is.verdict) finished) in
       inl (
         has.name,
+        has.keeps,
         has.asks,
         record {
-          net = of.net;
-          text = of.text;
           plan = plan;
-          file = of.file;
-          given = of.given;
-          inputs = of.inputs;
           middle = a;
-          reads = of.reads;
           components = has.components;
-          are_components = of.are_components;
+          ready = of;
           wrote = wrote_in has.leaves.last;
-          composes = composes plan has.components (machine_journal ran.told.journal) has.leaves.last well (are-first plan of.given has.components of.are_components) has.leaves.run.schedule.leads ends;
-          writes = subst (λ (l : List Filled). WritesAll a n l) has.leaves.outputs w;
+          composes = composes plan has.components (schedule_of run.ran.journal) has.leaves.last well (are-first plan of.given has.components of.are_components) has.leaves.run.schedule.leads ends;
+          writes = subst (λ (l : List Filled). WritesAll a n l) (files o a n words limit run has) w;
         },
       )
   left w (inr p) finished = absurd (subst IsFinishedStatus p.0 finished)
 
-  pub meant : Finishes a n po pn ran status → IsFinishedStatus status → LeavesMeaning (so_far words o n ran.told.journal) limit
+  pub meant : Finishes a n po pn run status → IsFinishedStatus status → LeavesMeaning (so_far words o n run.ran.journal) limit
   meant (inl (w, p)) finished = left w p finished
   meant (inr (stop, w, p)) finished = absurd (stop-not-over po pn stop status p (finished-over status finished))

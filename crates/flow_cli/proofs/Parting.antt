@@ -13,7 +13,7 @@ use Rattle.flow_cli.specs.Step.{Filled, OnlyReads, HoldsMore, ReadsFile, whole}
 use Rattle.flow_cli.specs.Stops.{IsReadStop}
 use Rattle.flow_cli.specs.Components.{read_by, input_of, inputs_of, AreRead, IsComponent, IsNext, StopsAtFile, ReadsComponent, ReadsComponents}
 use Rattle.flow_cli.specs.declared.stop.Stop.{Stop}
-use Rattle.flow_cli.specs.declared.stop.Stop.TheVariants.{Words, Refused, ReadFault, WriteFault, TooLong, NoMemory}
+use Rattle.flow_cli.specs.declared.stop.Stop.TheVariants.{Words, Refused, JournalRefused, ReadFault, WriteFault, TooLong, NoMemory}
 use Rattle.flow_cli.proofs.Steps.{no-reads, may-read, may-fail-to-read, MayRead-trans}
 use Rattle.flow_cli.proofs.Readings.{OnlyReads-trans, FailsToRead-after, OnlyReads-files, are-read-append, none-read, inputs-none, inputs-more, get-more, get-last}
 
@@ -27,14 +27,17 @@ read-stopped old new name reads.Fault NoMemory limit r is = may-fail-to-read old
 read-stopped old new name (reads.TooLong told) NoMemory limit r is = may-read old new _ r.0
 read-stopped old new name reads.Fault Words limit r is = absurd is
 read-stopped old new name reads.Fault (Refused refusal) limit r is = absurd is
+read-stopped old new name reads.Fault (JournalRefused refusal) limit r is = absurd is
 read-stopped old new name reads.Fault (WriteFault written) limit r is = absurd is
 read-stopped old new name reads.Fault (TooLong read) limit r is = absurd is
 read-stopped old new name (reads.TooLong told) Words limit r is = absurd is
 read-stopped old new name (reads.TooLong told) (Refused refusal) limit r is = absurd is
+read-stopped old new name (reads.TooLong told) (JournalRefused refusal) limit r is = absurd is
 read-stopped old new name (reads.TooLong told) (ReadFault read) limit r is = absurd is
 read-stopped old new name (reads.TooLong told) (WriteFault written) limit r is = absurd is
 read-stopped old new name reads.NoMemory Words limit r is = absurd is
 read-stopped old new name reads.NoMemory (Refused refusal) limit r is = absurd is
+read-stopped old new name reads.NoMemory (JournalRefused refusal) limit r is = absurd is
 read-stopped old new name reads.NoMemory (ReadFault read) limit r is = absurd is
 read-stopped old new name reads.NoMemory (WriteFault written) limit r is = absurd is
 read-stopped old new name reads.NoMemory (TooLong read) limit r is = absurd is
@@ -59,7 +62,8 @@ nothing-so-far old plan limit = record {
   each = λ p component at. absurd cc;
 }
 
-pushed : {X : Type 0} (xs : List X) (y z : X) (p : ℕ) → slice_get (xs ++ y ∷ []) p ≡ Some z → (slice_get xs p ≡ Some z) ⊎ ((p ≡ length xs) × (z ≡ y))
+-- What stands in a list to which one was pushed stood there before, or is the one.
+pub pushed : {X : Type 0} (xs : List X) (y z : X) (p : ℕ) → slice_get (xs ++ y ∷ []) p ≡ Some z → (slice_get xs p ≡ Some z) ⊎ ((p ≡ length xs) × (z ≡ y))
 pushed [] y z zero at = inr (refl, let same : y ≡ z = cc in sym same)
 pushed [] y z (suc p) at = absurd cc
 pushed (x ∷ xs) y z zero at = inl at
@@ -109,6 +113,7 @@ stopped-behind old mid new earlier name (TooLong read) limit r s = (
 stopped-behind old mid new earlier name NoMemory limit r s = MayRead-trans old mid new (may-read old mid (map whole earlier) r) s
 stopped-behind old mid new earlier name Words limit r s = absurd s
 stopped-behind old mid new earlier name (Refused refusal) limit r s = absurd s
+stopped-behind old mid new earlier name (JournalRefused refusal) limit r s = absurd s
 stopped-behind old mid new earlier name (WriteFault written) limit r s = absurd s
 
 -- the next file is that of process k
@@ -135,4 +140,5 @@ stop-so-far old mid new plan limit k components (TooLong read) s r =
     (inputs_of plan.processes s.given, r.1, next old mid plan limit k components s r.0 r.1 r.2 r.3, stopped-behind old mid new (inputs_of plan.processes s.given) r.1 (TooLong read) limit s.reads r.4)
 stop-so-far old mid new plan limit k components Words s r = absurd r.4
 stop-so-far old mid new plan limit k components (Refused refusal) s r = absurd r.4
+stop-so-far old mid new plan limit k components (JournalRefused refusal) s r = absurd r.4
 stop-so-far old mid new plan limit k components (WriteFault written) s r = absurd r.4

@@ -11,7 +11,7 @@ use Rattle.flow_cli.specs.Step.{Filled, OnlyWrites, FailsToWrite, WritesFile, Ho
 use Rattle.flow_cli.specs.Many.{WritesFiles, FailsAt, replaced_all, after_some}
 use Rattle.flow_cli.specs.Stops.{IsWriteStop}
 use Rattle.flow_cli.specs.declared.stop.Stop.{Stop}
-use Rattle.flow_cli.specs.declared.stop.Stop.TheVariants.{Words, Refused, ReadFault, WriteFault, TooLong, NoMemory}
+use Rattle.flow_cli.specs.declared.stop.Stop.TheVariants.{Words, Refused, JournalRefused, ReadFault, WriteFault, TooLong, NoMemory}
 
 -- one file more
 more_at : (outputs : List Filled) (at : ℕ) (d : Filled) (files : Files) → at < length outputs
@@ -81,10 +81,12 @@ stops old mid new outputs at d shelf.NoMemory NoMemory only files lt is w named 
 })
 stops old mid new outputs at d shelf.Fault Words only files lt is w named = absurd named
 stops old mid new outputs at d shelf.Fault (Refused refusal) only files lt is w named = absurd named
+stops old mid new outputs at d shelf.Fault (JournalRefused refusal) only files lt is w named = absurd named
 stops old mid new outputs at d shelf.Fault (ReadFault read) only files lt is w named = absurd named
 stops old mid new outputs at d shelf.Fault (TooLong read) only files lt is w named = absurd named
 stops old mid new outputs at d shelf.NoMemory Words only files lt is w named = absurd named
 stops old mid new outputs at d shelf.NoMemory (Refused refusal) only files lt is w named = absurd named
+stops old mid new outputs at d shelf.NoMemory (JournalRefused refusal) only files lt is w named = absurd named
 stops old mid new outputs at d shelf.NoMemory (ReadFault read) only files lt is w named = absurd named
 stops old mid new outputs at d shelf.NoMemory (WriteFault written) only files lt is w named = absurd named
 stops old mid new outputs at d shelf.NoMemory (TooLong read) only files lt is w named = absurd named

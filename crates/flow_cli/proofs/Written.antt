@@ -39,7 +39,8 @@ pub none-writes : (found : Option Process) → IfSome found (λ p. UsesFile p No
 none-writes None h = tt
 none-writes (Some p) h = none_written p h.1
 
-there_at : (ps : List Process) (k : ℕ) → k < length ps → (p : Process) × (slice_get ps k ≡ Some p)
+-- Each place below the length has its process.
+pub there_at : (ps : List Process) (k : ℕ) → k < length ps → (p : Process) × (slice_get ps k ≡ Some p)
 there_at [] k lt = absurd (omega arith)
 there_at (x ∷ xs) zero lt = (x, refl)
 there_at (x ∷ xs) (suc k) lt = there_at xs k (omega arith)

@@ -1,24 +1,30 @@
 -- Why a call stops: each cause, once.
-use Rattle.std.specs.Prelude.{◌≡◌, ◌⊎◌, ℕ, ◌+◌, List, [], ◌∷◌, ◌++◌, map, Some, None, String, string_bytes}
+use Rattle.std.specs.Prelude.{◌≡◌, ◌⊎◌, ℕ, ◌+◌, List, [], ◌∷◌, ◌++◌, map, None, String, string_bytes}
 use Rattle.std.specs.declared.alloc.Global.{Global}
 use Rattle.std.specs.declared.option.Option.{Option}
-use Rattle.std.specs.Option.{option_map}
-use Rattle.flow_text.specs.Edge.{Outside, Name, Files, Logged}
+use Rattle.flow_text.specs.Edge.{Outside, Name, Logged}
 use Rattle.flow_plan.specs.Network.{Network}
-use Rattle.flow_words.specs.Lines.{file_of}
-use Rattle.flow_words.specs.Words.{Asked, Run, command_of}
+use Rattle.flow_words.specs.Words.{Run, Replay, command_of}
 use Rattle.flow_parse.specs.declared.value.NetText.{NetText}
 use Rattle.flow_model.specs.States.{State}
+use Rattle.flow_model.specs.Plans.{start_of}
 use Rattle.flow_catalogue.specs.declared.standard.Std.{Std}
+use Rattle.flow_catalogue.specs.Std.{StdNext}
+use Rattle.flow_journal.specs.Files.{IsFault, IsWritable}
+use Rattle.flow_journal.specs.Replays.{schedule_of, StopsAtTurn}
 use Rattle.flow_journal.specs.declared.merge.Journal.{Journal}
+use Rattle.flow_journal.specs.declared.refusal.Refusal.{Refusal as NoTurn}
 use Rattle.flow_cli.specs.Step.{Filled, OnlyReads, FailsToRead, Unended, IsRead, HoldsMore, whole, partly}
 use Rattle.flow_cli.specs.Many.{FailsAt, EndsAt}
-use Rattle.flow_cli.specs.Components.{inputs_of, AreRead, AreComponents, IsNext}
-use Rattle.flow_cli.specs.Networks.{Holds, RefusedFor, IsStandardPlan}
-use Rattle.flow_cli.specs.Runs.{RunsTo, outputs_of}
+use Rattle.flow_cli.specs.Networks.{RefusedFor}
+use Rattle.flow_cli.specs.Reads.{Asks, IsCommand, IsEmptyJournal, IsFile, IsJournalFile, IsReady, IsNextFile}
+use Rattle.flow_cli.specs.Runs.{RunsTo, files_of_run}
+use Rattle.flow_cli.specs.declared.components.TheConstants.{JOURNAL_FILE_LIMIT}
 use Rattle.flow_cli.specs.declared.stop.Refusal.{Refusal}
+use Rattle.flow_cli.specs.declared.stop.JournalRefusal.{JournalRefusal}
+use Rattle.flow_cli.specs.declared.stop.JournalRefusal.TheVariants.{Byte, Turn}
 use Rattle.flow_cli.specs.declared.stop.Stop.{Stop}
-use Rattle.flow_cli.specs.declared.stop.Stop.TheVariants.{Words, Refused, ReadFault, WriteFault, TooLong, NoMemory}
+use Rattle.flow_cli.specs.declared.stop.Stop.TheVariants.{Words, Refused, JournalRefused, ReadFault, WriteFault, TooLong, NoMemory}
 
 -- What stands of a call before it prints: its words, the shelf before and after, and the journal that is told.
 pub record Work : Type 0 where
@@ -27,36 +33,13 @@ pub record Work : Type 0 where
   pub after : Outside
   pub journal : Journal
 
--- What the words ask for, if they are a command line.
-abbrev pub Asks : List (String Global) → Asked → Type 0
-Asks words asked = command_of (map string_bytes words) ≡ Some asked
-
--- The words are a command line on this network file.
-abbrev pub IsCommand : List (String Global) → Name → Type 0
-IsCommand words name = option_map file_of (command_of (map string_bytes words)) ≡ Some name
-
--- No turn was made.
-abbrev pub IsEmptyJournal : Journal → Type 0
-IsEmptyJournal journal = (journal.turns ≡ []) × (journal.seen ≡ [])
-
--- The network file of this name gave these bytes, which spell this value; and this is its plan, a valid one over the standard kinds.
-pub record IsFile (told : Option Files) (limit : ℕ) (name : Name) (net : List ℕ) (text : NetText) (plan : Network) : Type 0 where
-  pub read : IsRead told limit (name, net)
-  pub holds : Holds net text plan
-  pub standard : IsStandardPlan plan
-
 -- The network of the file of this name was run on what its input files gave. This is its plan, this is the state to which the journal leads, and so stood the
--- shelf when all was read: the network file and then the files of the readers, in the order of the processes, each once, to its end, and nothing else.
+-- shelf when all was read. The journal has a file.
 pub record IsRunOf (w : Work) (limit : ℕ) (name : Name) (plan : Network) (last : State Std) (middle : Outside) : Type 0 where
-  pub net : List ℕ
-  pub text : NetText
-  pub file : IsFile w.before.files limit name net text plan
-  pub given : List (List ℕ)
-  pub inputs : AreRead w.before.files limit (inputs_of plan.processes given)
-  pub reads : OnlyReads w.before middle (map whole ((name, net) ∷ inputs_of plan.processes given))
   pub components : List Std
-  pub are_components : AreComponents plan given components
+  pub ready : IsReady w.before middle limit name [] plan components
   pub run : RunsTo plan components w.journal last
+  pub writable : IsWritable w.journal
 
 -- No turn was made, and no file was created.
 pub record IsUntouched (w : Work) : Type 0 where
@@ -80,59 +63,92 @@ pub record IsRefused (w : Work) (limit : ℕ) (refusal : Refusal) : Type 0 where
   pub shelf : OnlyReads w.before w.after (whole (name, net) ∷ [])
   pub journal : IsEmptyJournal w.journal
 
--- The file `read` is the next one that the call reads behind these, which it read whole: the network file first, and then, in a run, those of its network.
-abbrev pub IsNextFile : List (String Global) → Option Files → ℕ → Name → List Filled → Name → Type 0
-IsNextFile words told limit name earlier read =
-    ((read ≡ name) × (earlier ≡ []))
-    ⊎ (Asks words (Run name)
-    × ((net : List ℕ) × (text : NetText) × (plan : Network) × IsFile told limit name net text plan
-    × ((inputs : List Filled) × IsNext told limit plan inputs read × (earlier ≡ (name, net) ∷ inputs))))
+-- The network file was read whole, then that of the journal, and nothing else; and the byte at this place can't stand in a journal's file, or the file ends there
+-- too early.
+pub record IsFaulty (w : Work) (limit place : ℕ) : Type 0 where
+  pub name : Name
+  pub kept : Name
+  pub asks : Asks w.words (Replay name kept)
+  pub net : List ℕ
+  pub text : NetText
+  pub plan : Network
+  pub file : IsFile w.before.files limit name net text plan
+  pub bytes : List ℕ
+  pub read : IsRead w.before.files JOURNAL_FILE_LIMIT (kept, bytes)
+  pub fault : IsFault bytes place
+  pub shelf : OnlyReads w.before w.after (map whole ((name, net) ∷ (kept, bytes) ∷ []))
+  pub journal : IsEmptyJournal w.journal
+
+-- All that a replay reads was read, and the journal of the file is no schedule from the start of the network: this is the first of its turns that isn't defined, and
+-- why.
+pub record IsNoSchedule (w : Work) (limit place process : ℕ) (refusal : NoTurn) : Type 0 where
+  pub name : Name
+  pub kept : Name
+  pub asks : Asks w.words (Replay name kept)
+  pub bytes : List ℕ
+  pub tells : Journal
+  pub is_journal : IsJournalFile w.before.files kept bytes tells
+  pub plan : Network
+  pub components : List Std
+  pub ready : IsReady w.before w.after limit name ((kept, bytes) ∷ []) plan components
+  pub stops : StopsAtTurn StdNext (start_of plan components) (schedule_of tells) place process refusal
+  pub journal : IsEmptyJournal w.journal
+
+-- The journal's file is refused for this.
+abbrev pub IsJournalRefused : Work → ℕ → JournalRefusal → Type 0
+IsJournalRefused w limit (Byte place) = IsFaulty w limit place
+IsJournalRefused w limit (Turn place process refusal) = IsNoSchedule w limit place process refusal
 
 -- A read of this file failed: it couldn't be opened, or it gave an error before its end. Each file before it was read whole, and none behind it.
 pub record IsReadFault (w : Work) (limit : ℕ) (read : Name) : Type 0 where
   pub name : Name
   pub command : IsCommand w.words name
   pub earlier : List Filled
-  pub next : IsNextFile w.words w.before.files limit name earlier read
+  pub most : ℕ
+  pub next : IsNextFile w.words w.before.files limit name earlier read most
   pub opened : List Logged
   pub unended : Unended read opened
   pub shelf : FailsToRead w.before w.after (map whole earlier ++ opened) read
   pub journal : IsEmptyJournal w.journal
 
--- This file gave one byte more than the limit. Each file before it was read whole, and none behind it.
+-- This file gave one byte more than it may have. Each file before it was read whole, and none behind it.
 pub record IsTooLong (w : Work) (limit : ℕ) (read : Name) : Type 0 where
   pub name : Name
   pub command : IsCommand w.words name
   pub earlier : List Filled
-  pub next : IsNextFile w.words w.before.files limit name earlier read
-  pub more : HoldsMore w.before.files read limit
-  pub shelf : OnlyReads w.before w.after (map whole earlier ++ partly (limit + 1) read ∷ [])
+  pub most : ℕ
+  pub next : IsNextFile w.words w.before.files limit name earlier read most
+  pub more : HoldsMore w.before.files read most
+  pub shelf : OnlyReads w.before w.after (map whole earlier ++ partly (most + 1) read ∷ [])
   pub journal : IsEmptyJournal w.journal
 
 -- A run was made, and writing one of its files failed: this one. Those before it were written whole.
 pub record IsWriteFault (w : Work) (limit : ℕ) (written : Name) : Type 0 where
   pub name : Name
-  pub asks : Asks w.words (Run name)
+  pub keeps : Option Name
+  pub asks : Asks w.words (Run name keeps)
   pub plan : Network
   pub last : State Std
   pub middle : Outside
   pub run : IsRunOf w limit name plan last middle
-  pub fails : FailsAt middle w.after (outputs_of plan last) written
+  pub fails : FailsAt middle w.after (files_of_run plan last keeps w.journal) written
 
 -- A run was made, and memory was wanting before its last file was begun. Those that were begun were written whole.
 pub record IsCutOff (w : Work) (limit : ℕ) : Type 0 where
   pub name : Name
-  pub asks : Asks w.words (Run name)
+  pub keeps : Option Name
+  pub asks : Asks w.words (Run name keeps)
   pub plan : Network
   pub last : State Std
   pub middle : Outside
   pub run : IsRunOf w limit name plan last middle
-  pub ends : EndsAt middle w.after (outputs_of plan last)
+  pub ends : EndsAt middle w.after (files_of_run plan last keeps w.journal)
 
 -- Each stop has its cause. That of want of memory says only what stands: all files of a run stand only behind its report.
 abbrev pub HasCause : Work → ℕ → Stop → Type 0
 HasCause w limit Words = IsNoCommand w
 HasCause w limit (Refused refusal) = IsRefused w limit refusal
+HasCause w limit (JournalRefused refusal) = IsJournalRefused w limit refusal
 HasCause w limit (ReadFault read) = IsReadFault w limit (string_bytes read)
 HasCause w limit (TooLong read) = IsTooLong w limit (string_bytes read)
 HasCause w limit (WriteFault written) = IsWriteFault w limit (string_bytes written)

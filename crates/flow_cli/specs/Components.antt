@@ -97,3 +97,16 @@ ReadsComponents old new plan (Ok components) limit = (given : List (List ℕ)) �
     × AreRead old.files limit (inputs_of plan.processes given) × AreComponents plan given components.items
 ReadsComponents old new plan (Err NoMemory) limit = MayRead old new
 ReadsComponents old new plan (Err stop) limit = (earlier : List Filled) × (name : Name) × IsNext old.files limit plan earlier name × StopsAtFile old new earlier name stop limit
+
+-- All these files hold these bytes.
+abbrev pub AllHold : List ℕ → List Filled → Type 0
+AllHold bytes files = (at : ℕ) (file : Filled) → slice_get files at ≡ Some file → file.1 ≡ bytes
+
+-- The component is that of process p, on these bytes if it is a reader.
+abbrev pub GivesComponent : Network → ℕ → List ℕ → Std → Type 0
+GivesComponent plan p bytes component = (process : Process) × (given : List ℕ) × (slice_get plan.processes p ≡ Some process)
+    × AllHold bytes (input_of process given) × IsComponent plan p given component
+
+-- The components are those of the plan's processes, in order, and each reader is on these bytes.
+abbrev pub GivesComponents : Network → List ℕ → List Std → Type 0
+GivesComponents plan bytes components = (given : List (List ℕ)) × AllHold bytes (inputs_of plan.processes given) × AreComponents plan given components

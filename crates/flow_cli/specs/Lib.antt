@@ -1,10 +1,12 @@
 pub mod After
 pub mod Causes
+pub mod Components
+pub mod Makes
 pub mod Many
 pub mod Meant
 pub mod Networks
-pub mod Components
 pub mod Prepare
+pub mod Reads
 pub mod Runs
 pub mod Statuses
 pub mod Step

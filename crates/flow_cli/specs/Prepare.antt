@@ -1,21 +1,28 @@
--- What a call does before its network runs: the words, the network file, the input files.
-use Rattle.std.specs.Prelude.{ℕ, List, [], ◌∷◌, map, Ok, Err, String}
+-- What a call does before its network runs: the words, the network file, a journal's file, the input files.
+use Rattle.std.specs.Prelude.{◌≡◌, ◌≤◌, ℕ, List, [], ◌∷◌, Ok, Err, String}
 use Rattle.std.specs.declared.alloc.Global.{Global}
+use Rattle.std.specs.declared.option.Option.{Option}
 use Rattle.std.specs.declared.result.Result.{Result}
+use Rattle.std.specs.Option.{option_map}
+use Rattle.flow_limits.specs.declared.TheConstants.{NUMBER_LIMIT}
 use Rattle.flow_text.specs.Edge.{Outside, Name}
 use Rattle.flow_plan.specs.Network.{Network}
-use Rattle.flow_parse.specs.declared.value.NetText.{NetText}
-use Rattle.flow_words.specs.Words.{Run, Check}
+use Rattle.flow_words.specs.Words.{Run, Check, Replay, Make}
+use Rattle.flow_journal.specs.Files.{IsFault}
 use Rattle.flow_journal.specs.declared.merge.Journal.{Journal}
-use Rattle.flow_catalogue.specs.declared.standard.Std.{Std}
-use Rattle.flow_cli.specs.Step.{OnlyReads, whole}
-use Rattle.flow_cli.specs.Components.{inputs_of, AreRead, AreComponents}
-use Rattle.flow_cli.specs.Causes.{Asks, IsCommand, IsEmptyJournal, IsFile, HasCause}
+use Rattle.flow_cli.specs.Step.{OnlyReads, IsRead, whole}
+use Rattle.flow_cli.specs.Components.{StopsAtFile}
+use Rattle.flow_cli.specs.Reads.{Asks, IsCommand, IsEmptyJournal, IsFile, IsJournalFile, IsReady}
+use Rattle.flow_cli.specs.Causes.{HasCause}
+use Rattle.flow_cli.specs.declared.components.TheConstants.{JOURNAL_FILE_LIMIT}
 use Rattle.flow_cli.specs.declared.net_file.NetFile.{NetFile}
 use Rattle.flow_cli.specs.declared.before.Job.{Job}
+use Rattle.flow_cli.specs.declared.before.Again.{Again}
 use Rattle.flow_cli.specs.declared.before.Task.{Task}
 use Rattle.flow_cli.specs.declared.before.Task.TheVariants as tasks
+use Rattle.flow_cli.specs.declared.stop.JournalRefusal.TheVariants.{Byte}
 use Rattle.flow_cli.specs.declared.stop.Stop.{Stop}
+use Rattle.flow_cli.specs.declared.stop.Stop.TheVariants.{JournalRefused}
 
 -- The stop has its cause in every call on this network file that does no more.
 abbrev pub StopsCommand : Outside → Outside → Name → Stop → ℕ → Type 0
@@ -27,26 +34,45 @@ abbrev pub Loads : Outside → Outside → Name → Result NetFile Stop → ℕ 
 Loads old new name (Ok file) limit = (net : List ℕ) × OnlyReads old new (whole (name, net) ∷ []) × IsFile old.files limit name net file.text file.plan
 Loads old new name (Err stop) limit = StopsCommand old new name stop limit
 
--- All that a run reads was read.
-pub record IsReady (old new : Outside) (limit : ℕ) (name : Name) (plan : Network) (components : List Std) : Type 0 where
-  pub net : List ℕ
-  pub text : NetText
-  pub file : IsFile old.files limit name net text plan
-  pub given : List (List ℕ)
-  pub inputs : AreRead old.files limit (inputs_of plan.processes given)
-  pub reads : OnlyReads old new (map whole ((name, net) ∷ inputs_of plan.processes given))
-  pub are_components : AreComponents plan given components
+-- What reading a journal's file does to the shelf.
+abbrev pub ReadsJournal : Outside → Outside → Name → Result Journal Stop → Type 0
+ReadsJournal old new name (Ok journal) = (bytes : List ℕ) × OnlyReads old new (whole (name, bytes) ∷ []) × IsJournalFile old.files name bytes journal
+ReadsJournal old new name (Err (JournalRefused (Byte place))) = (bytes : List ℕ) × OnlyReads old new (whole (name, bytes) ∷ [])
+    × IsRead old.files JOURNAL_FILE_LIMIT (name, bytes) × IsFault bytes place
+ReadsJournal old new name (Err stop) = StopsAtFile old new [] name stop JOURNAL_FILE_LIMIT
 
 -- What reading the network file and then the files of its readers does to the shelf.
 abbrev pub ReadsInputs : Outside → Outside → Name → Result Job Stop → ℕ → Type 0
-ReadsInputs old new name (Ok job) limit = IsReady old new limit name job.plan job.components.items
-ReadsInputs old new name (Err stop) limit = (words : List (String Global)) (journal : Journal) → Asks words (Run name) → IsEmptyJournal journal
+ReadsInputs old new name (Ok job) limit = IsReady old new limit name [] job.plan job.components.items
+ReadsInputs old new name (Err stop) limit = (words : List (String Global)) (journal : Journal) (keeps : Option Name) → Asks words (Run name keeps) → IsEmptyJournal journal
     → HasCause (record { words = words; before = old; after = new; journal = journal }) limit stop
+
+-- All that a replay reads was read: the network of this file can run, and the file `kept` is that of this journal.
+pub record IsReadyAgain (old new : Outside) (limit : ℕ) (name kept : Name) (again : Again) : Type 0 where
+  pub bytes : List ℕ
+  pub is_journal : IsJournalFile old.files kept bytes again.journal
+  pub ready : IsReady old new limit name ((kept, bytes) ∷ []) again.job.plan again.job.components.items
+
+-- What reading the network file, then a journal's file, and then the files of the readers does to the shelf.
+abbrev pub ReadsAgain : Outside → Outside → Name → Name → Result Again Stop → ℕ → Type 0
+ReadsAgain old new name kept (Ok again) limit = IsReadyAgain old new limit name kept again
+ReadsAgain old new name kept (Err stop) limit = (words : List (String Global)) (journal : Journal) → Asks words (Replay name kept) → IsEmptyJournal journal
+    → HasCause (record { words = words; before = old; after = new; journal = journal }) limit stop
+
+-- A make is asked for, from a number within the bounds, and nothing was asked of the shelf.
+pub record AsksMake (old new : Outside) (words : List (String Global)) (number : ℕ) : Type 0 where
+  pub asks : Asks words (Make number)
+  pub least : 1 ≤ number
+  pub most : number ≤ NUMBER_LIMIT
+  pub shelf : new ≡ old
 
 -- What the steps before a run, or before the printing of a check, do to the shelf.
 abbrev pub Prepares : Outside → Outside → List (String Global) → Result Task Stop → ℕ → Type 0
-Prepares old new words (Ok (tasks.Run job)) limit = (name : Name) × Asks words (Run name) × IsReady old new limit name job.plan job.components.items
+Prepares old new words (Ok (tasks.Run job keeps)) limit = (name : Name) × Asks words (Run name (option_map (λ s. s.now) keeps))
+    × IsReady old new limit name [] job.plan job.components.items
 Prepares old new words (Ok (tasks.Check text)) limit = (name : Name) × Asks words (Check name)
     × ((net : List ℕ) × (plan : Network) × OnlyReads old new (whole (name, net) ∷ []) × IsFile old.files limit name net text plan)
+Prepares old new words (Ok (tasks.Replay again)) limit = (name : Name) × (kept : Name) × Asks words (Replay name kept) × IsReadyAgain old new limit name kept again
+Prepares old new words (Ok (tasks.Make number)) limit = AsksMake old new words number
 Prepares old new words (Err stop) limit = (journal : Journal) → IsEmptyJournal journal
     → HasCause (record { words = words; before = old; after = new; journal = journal }) limit stop

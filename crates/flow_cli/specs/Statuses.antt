@@ -1,7 +1,7 @@
 -- The numbers of the statuses.
 use Rattle.std.specs.Prelude.{ℕ, ⊤}
 use Rattle.flow_cli.specs.declared.status.Status.{Status}
-use Rattle.flow_cli.specs.declared.status.Status.TheVariants.{Finished, FinishedLeft, Words, Refused, Deadlock, Failed, ReadFault, WriteFault, NoMemory, TooLong, Running}
+use Rattle.flow_cli.specs.declared.status.Status.TheVariants.{Finished, FinishedLeft, Words, Refused, JournalRefused, Deadlock, Failed, ReadFault, WriteFault, NoMemory, TooLong, Running}
 
 -- The number with which the program ends.
 abbrev pub code_of : Status → ℕ
@@ -15,14 +15,17 @@ code_of ReadFault = 6
 code_of WriteFault = 7
 code_of NoMemory = 8
 code_of TooLong = 9
+code_of JournalRefused = 10
 code_of Running = 11
 
--- A run came to its end: finished, finished with packets left, in a deadlock, or failed; or a check found nothing.
+-- A call came to its end: a run did, finished, finished with packets left, in a deadlock, or failed; or a replay did, which may leave a network that can go on; or a
+-- check found nothing.
 abbrev pub IsOver : Status → Type 0
 IsOver Finished = ⊤
 IsOver FinishedLeft = ⊤
 IsOver Deadlock = ⊤
 IsOver Failed = ⊤
+IsOver Running = ⊤
 IsOver other = ⊥
 
 -- The network finished, with or without packets that are left.

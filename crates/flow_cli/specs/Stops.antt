@@ -1,5 +1,6 @@
 -- The statuses and the printed texts of stops.
 use Rattle.std.specs.Prelude.{◌≡◌, ℕ, List, [], ◌∷◌, ◌++◌, string_bytes, codes, ⊤}
+use Rattle.std.specs.Fmt.{decimal}
 use Rattle.flow_text.specs.Edge.{Name}
 use Rattle.flow_text.specs.declared.edge.ShelfStop.{ShelfStop}
 use Rattle.flow_text.specs.declared.edge.ShelfStop.TheVariants as shelf
@@ -8,15 +9,20 @@ use Rattle.flow_text.specs.declared.all.ReadStop.TheVariants as file
 use Rattle.flow_cli.specs.declared.status.Status.{Status}
 use Rattle.flow_cli.specs.declared.status.Status.TheVariants as statuses
 use Rattle.flow_cli.specs.declared.stop.Stop.{Stop}
-use Rattle.flow_cli.specs.declared.stop.Stop.TheVariants.{Words, Refused, ReadFault, WriteFault, TooLong, NoMemory}
+use Rattle.flow_cli.specs.declared.stop.Stop.TheVariants.{Words, Refused, JournalRefused, ReadFault, WriteFault, TooLong, NoMemory}
 use Rattle.flow_expand.specs.Refusals.{fault_text, net_fault_text}
+use Rattle.flow_journal.specs.declared.refusal.Refusal.{Refusal as NoTurn}
+use Rattle.flow_journal.specs.declared.refusal.Refusal.TheVariants.{NoProcess, Over, Blocked, Seen}
 use Rattle.flow_cli.specs.declared.stop.Refusal.{Refusal}
 use Rattle.flow_cli.specs.declared.stop.Refusal.TheVariants as refusals
+use Rattle.flow_cli.specs.declared.stop.JournalRefusal.{JournalRefusal}
+use Rattle.flow_cli.specs.declared.stop.JournalRefusal.TheVariants.{Byte, Turn}
 
 -- The status with which a stop ends the program.
 abbrev pub status_of : Stop → Status
 status_of Words = statuses.Words
 status_of (Refused refusal) = statuses.Refused
+status_of (JournalRefused refusal) = statuses.JournalRefused
 status_of (ReadFault name) = statuses.ReadFault
 status_of (WriteFault name) = statuses.WriteFault
 status_of NoMemory = statuses.NoMemory
@@ -27,10 +33,23 @@ abbrev pub refusal_text : Refusal → List ℕ
 refusal_text (refusals.Line fault) = net_fault_text fault
 refusal_text (refusals.Network fault) = fault_text fault
 
+-- Why a process made no turn.
+abbrev pub reason_text : NoTurn → List ℕ
+reason_text NoProcess = codes "unknown"
+reason_text Over = codes "over"
+reason_text (Blocked waits) = codes "blocked"
+reason_text Seen = codes "seen"
+
+-- What is said of a refused journal: the place of the byte that can't stand there; or the place of the turn, its process, and why that made none.
+abbrev pub journal_refusal_text : JournalRefusal → List ℕ
+journal_refusal_text (Byte place) = codes "byte " ++ decimal place
+journal_refusal_text (Turn place process refusal) = codes "entry " ++ decimal place ++ codes ": process " ++ decimal process ++ 32 ∷ reason_text refusal
+
 -- The line that is printed for a stop.
 abbrev pub text_of : Stop → List ℕ
 text_of Words = codes "usage: flow [--workers N] [--journal FILE] [--check] [--replay FILE] [--make N] [NETFILE]" ++ 10 ∷ []
 text_of (Refused refusal) = codes "network refused: " ++ refusal_text refusal ++ 10 ∷ []
+text_of (JournalRefused refusal) = codes "journal refused: " ++ journal_refusal_text refusal ++ 10 ∷ []
 text_of (ReadFault name) = codes "read fault: " ++ string_bytes name ++ 10 ∷ []
 text_of (WriteFault name) = codes "write fault: " ++ string_bytes name ++ 10 ∷ []
 text_of NoMemory = codes "no memory" ++ 10 ∷ []

@@ -1,42 +1,55 @@
 -- What the top call does.
-use Rattle.std.specs.Prelude.{◌≡◌, ◌⊎◌, ℕ, ◌≤◌, List, [], ◌∷◌, length, Some, Ok, Err, IfSome, String}
+use Rattle.std.specs.Prelude.{◌≡◌, ◌⊎◌, ℕ, ◌≤◌, List, [], ◌∷◌, ◌++◌, length, Some, None, Ok, Err, IfSome, String, ⊤}
 use Rattle.std.specs.declared.alloc.Global.{Global}
+use Rattle.std.specs.declared.option.Option.{Option}
 use Rattle.std.specs.declared.result.Result.{Result}
 use Rattle.flow_text.specs.Edge.{Outside, Name, Files, Rose, after_write}
 use Rattle.flow_plan.specs.Network.{Network}
-use Rattle.flow_words.specs.Words.{Run, Check}
+use Rattle.flow_words.specs.Words.{Run, Check, Replay, Make}
 use Rattle.flow_parse.specs.declared.value.NetText.{NetText}
 use Rattle.flow_parse.specs.Canonical.{canonical}
-use Rattle.flow_cli.specs.Step.{OnlyReads, whole}
-use Rattle.flow_cli.specs.Components.{IsInput}
-use Rattle.flow_cli.specs.Networks.{Holds}
-use Rattle.flow_cli.specs.Many.{WritesAll, WritesFiles}
-use Rattle.flow_cli.specs.After.{Prints, verdict_status}
-use Rattle.flow_cli.specs.Runs.{Leaves, net_outputs, outputs_of}
-use Rattle.flow_cli.specs.Prepare.{IsReady}
-use Rattle.flow_cli.specs.Statuses.{IsOver}
-use Rattle.flow_cli.specs.Stops.{status_of, text_of}
-use Rattle.flow_cli.specs.Causes.{Work, Asks, IsCommand, IsEmptyJournal, IsFile, IsRunOf, HasCause}
+use Rattle.flow_model.specs.States.{State}
+use Rattle.flow_model.specs.Schedules.{Leads}
+use Rattle.flow_model.specs.Plans.{start_of}
+use Rattle.flow_catalogue.specs.declared.standard.Std.{Std}
+use Rattle.flow_catalogue.specs.Std.{StdNext}
+use Rattle.flow_journal.specs.Files.{IsFileOf}
+use Rattle.flow_journal.specs.Replays.{schedule_of}
+use Rattle.flow_journal.specs.declared.merge.Journal.{Journal}
+use Rattle.flow_runs.specs.Runs.{IsScheduled}
 use Rattle.flow_report.specs.Text.{Told as Report, report_text}
 use Rattle.flow_report.specs.States.{TellsOf}
-use Rattle.flow_model.specs.States.{State}
-use Rattle.flow_catalogue.specs.declared.standard.Std.{Std}
-use Rattle.flow_journal.specs.declared.merge.Journal.{Journal}
-use Rattle.flow_cli.specs.declared.engine.Ran.{Ran}
+use Rattle.flow_cli.specs.Step.{Filled, OnlyReads, whole}
+use Rattle.flow_cli.specs.Components.{inputs_of, AreRead, AreComponents, IsInput}
+use Rattle.flow_cli.specs.Networks.{Holds, IsStandardPlan}
+use Rattle.flow_cli.specs.Many.{WritesAll, WritesFiles}
+use Rattle.flow_cli.specs.After.{Prints, verdict_status}
+use Rattle.flow_cli.specs.Runs.{Leaves, TellsAgain, MakesAgain, net_outputs, bytes_in, files_of_run, journal_file}
+use Rattle.flow_cli.specs.Reads.{Asks, IsCommand, MakesTurns, IsEmptyJournal, IsFile, IsJournalFile, IsReady}
+use Rattle.flow_cli.specs.Statuses.{IsOver}
+use Rattle.flow_cli.specs.Stops.{status_of, text_of}
+use Rattle.flow_cli.specs.Causes.{Work, IsRunOf, HasCause}
+use Rattle.flow_cli.specs.Makes.{make_text, IsRunOfMade}
+use Rattle.flow_cli.specs.declared.engine.Told.{Told}
+use Rattle.flow_cli.specs.declared.run.Kept.{Kept}
+use Rattle.flow_cli.specs.declared.run.Said.{Said}
+use Rattle.flow_cli.specs.declared.run.Unwritten.{Unwritten}
 use Rattle.flow_cli.specs.declared.run.Done.{Done}
 use Rattle.flow_cli.specs.declared.run.Done.TheVariants as dones
+use Rattle.flow_cli.specs.declared.top.Outcome.{Outcome}
 use Rattle.flow_cli.specs.declared.status.Status.{Status}
 use Rattle.flow_cli.specs.declared.status.Status.TheVariants.{Finished}
 use Rattle.flow_cli.specs.declared.stop.Stop.{Stop}
 use Rattle.flow_cli.specs.declared.stop.Stop.TheVariants.{NoMemory}
 
--- A run was made, all files of its writers were written whole, in the order of the processes, and nothing else; and this report tells of its last state.
-pub record IsWhole (w : Work) (limit : ℕ) (name : Name) (report : Report) : Type 0 where
+-- A run was made, and all its files were written whole: those of its writers, in the order of the processes, and then that of its journal, where one was named; and
+-- nothing else. This report tells of its last state.
+pub record IsWhole (w : Work) (limit : ℕ) (name : Name) (keeps : Option Name) (report : Report) : Type 0 where
   pub plan : Network
   pub last : State Std
   pub middle : Outside
   pub run : IsRunOf w limit name plan last middle
-  pub writes : WritesAll middle w.after (outputs_of plan last)
+  pub writes : WritesAll middle w.after (files_of_run plan last keeps w.journal)
   pub tells : TellsOf plan last report
 
 -- The network file was read whole, and nothing else was done; it holds this value, which has a plan.
@@ -47,29 +60,90 @@ pub record IsChecked (w : Work) (limit : ℕ) (name : Name) (text : NetText) : T
   pub shelf : OnlyReads w.before w.after (whole (name, net) ∷ [])
   pub journal : IsEmptyJournal w.journal
 
--- A network has run, on what was read, and nothing is written yet.
-pub record HasRun (old new : Outside) (words : List (String Global)) (limit : ℕ) (ran : Ran) : Type 0 where
-  pub name : Name
-  pub asks : Asks words (Run name)
-  pub components : List Std
-  pub ready : IsReady old new limit name ran.plan components
-  pub leaves : Leaves ran.plan components ran.net ran.told
-
--- A network file was read, and this is the canonical spelling of its value.
-pub record HasChecked (old new : Outside) (words : List (String Global)) (limit : ℕ) (spelled : List ℕ) : Type 0 where
-  pub name : Name
-  pub asks : Asks words (Check name)
-  pub text : NetText
-  pub net : List ℕ
+-- The journal of this file is a schedule of the network of that one, on what its input files gave: after each of its prefixes each packet is in one place and
+-- each connection is in order. All files were read whole, and nothing else was done. This report tells of the state to which the journal leads, which needn't
+-- be quiet.
+pub record IsReplayed (w : Work) (limit : ℕ) (name kept : Name) (report : Report) : Type 0 where
+  pub bytes : List ℕ
+  pub is_journal : IsJournalFile w.before.files kept bytes w.journal
   pub plan : Network
-  pub file : IsFile old.files limit name net text plan
-  pub shelf : OnlyReads old new (whole (name, net) ∷ [])
-  pub spelled_is : spelled ≡ canonical text
+  pub components : List Std
+  pub ready : IsReady w.before w.after limit name ((kept, bytes) ∷ []) plan components
+  pub last : State Std
+  pub schedule : IsScheduled StdNext plan components (schedule_of w.journal) last
+  pub tells : TellsOf plan last report
+
+-- A check says the canonical spelling of what its network file holds.
+pub record SaysSpelling (w : Work) (limit : ℕ) (text : List ℕ) (status : Status) : Type 0 where
+  pub name : Name
+  pub asks : Asks w.words (Check name)
+  pub value : NetText
+  pub checked : IsChecked w limit name value
+  pub text_is : text ≡ canonical value
+  pub status_is : status ≡ Finished
+
+-- A replay says the report of the state to which its journal leads, and its verdict is the status.
+pub record SaysAgain (w : Work) (limit : ℕ) (text : List ℕ) (status : Status) : Type 0 where
+  pub name : Name
+  pub kept : Name
+  pub asks : Asks w.words (Replay name kept)
+  pub report : Report
+  pub replayed : IsReplayed w limit name kept report
+  pub text_is : text ≡ report_text report
+  pub status_is : status ≡ verdict_status report.verdict
+
+-- A make says the report of its run, between a line on its input and lines on its writers' files, and its verdict is the status. Nothing was asked of the shelf.
+pub record SaysMade (w : Work) (text : List ℕ) (status : Status) : Type 0 where
+  pub number : ℕ
+  pub asks : Asks w.words (Make number)
+  pub report : Report
+  pub plan : Network
+  pub last : State Std
+  pub run : IsRunOfMade number plan w.journal last
+  pub shelf : w.after ≡ w.before
+  pub tells : TellsOf plan last report
+  pub text_is : text ≡ make_text number (report_text report) (bytes_in last) plan
+  pub status_is : status ≡ verdict_status report.verdict
+
+-- What a call says that writes no file, and with which status: a check, a replay or a make.
+abbrev pub Says : Work → ℕ → List ℕ → Status → Type 0
+Says w limit text status = SaysSpelling w limit text status ⊎ SaysAgain w limit text status ⊎ SaysMade w text status
+
+-- The file of a run's journal as the code holds it.
+abbrev pub kept_file : Option Kept → List Filled
+kept_file None = []
+kept_file (Some kept) = (kept.name.now, kept.bytes.items) ∷ []
+
+-- The files of a run as the code holds them: those of its writers, in the order of the processes, and then that of its journal, where one was named.
+abbrev pub outputs_of_run : Unwritten → List Filled
+outputs_of_run run = net_outputs run.ran.plan run.ran.net ++ kept_file run.kept
+
+-- A network has run, on what was read, and nothing is written yet.
+pub record HasRun (old new : Outside) (words : List (String Global)) (limit : ℕ) (run : Unwritten) : Type 0 where
+  pub name : Name
+  pub keeps : Option Name
+  pub asks : Asks words (Run name keeps)
+  pub components : List Std
+  pub ready : IsReady old new limit name [] run.ran.plan components
+  pub leaves : Leaves run.ran.plan components run.ran.net run.ran.journal run.ran.told
+  pub kept : kept_file run.kept ≡ journal_file keeps run.ran.journal
+
+-- A run of this plan with these components has left this, with the file of its journal where one was named.
+pub record KeepsRun (plan : Network) (components : List Std) (keeps : Option Name) (run : Unwritten) : Type 0 where
+  pub plan_is : run.ran.plan ≡ plan
+  pub leaves : Leaves plan components run.ran.net run.ran.journal run.ran.told
+  pub kept : kept_file run.kept ≡ journal_file keeps run.ran.journal
+
+-- What is said of the turns of a journal that were made again, or why they couldn't be made.
+abbrev pub SaysTurnsAgain : Network → List Std → Journal → Result Said Stop → Type 0
+SaysTurnsAgain plan components journal (Ok said) = (told : Told) × TellsAgain plan components journal told
+    × (said.text.items ≡ told.report.items) × (said.status ≡ verdict_status told.verdict) × (said.journal ≡ journal)
+SaysTurnsAgain plan components journal (Err stop) = MakesAgain plan components journal (Err stop)
 
 -- What a call does before something is written or printed.
 abbrev pub Performs : Outside → Outside → List (String Global) → Result Done Stop → ℕ → Type 0
-Performs old new words (Ok (dones.Ran ran)) limit = HasRun old new words limit ran
-Performs old new words (Ok (dones.Checked text)) limit = HasChecked old new words limit text.items
+Performs old new words (Ok (dones.Ran run)) limit = HasRun old new words limit run
+Performs old new words (Ok (dones.Said said)) limit = Says (record { words = words; before = old; after = new; journal = said.journal }) limit said.text.items said.status
 Performs old new words (Err stop) limit = (journal : Journal) → IsEmptyJournal journal → HasCause (record { words = words; before = old; after = new; journal = journal }) limit stop
 
 -- The text of the stop was printed, or, where there was no memory for it, that of want of memory.
@@ -77,10 +151,24 @@ abbrev pub PrintsStop : Outside → Outside → Stop → Status → Type 0
 PrintsStop old new stop status = Prints old new (text_of stop) (status_of stop) status ⊎ Prints old new (text_of NoMemory) (status_of NoMemory) status
 
 -- The files of a run were written and then its report was printed, or writing them stopped and the text of that was.
-abbrev pub Finishes : Outside → Outside → Outside → Outside → Ran → Status → Type 0
-Finishes shelf shelf_after out out_after ran status =
-    (WritesAll shelf shelf_after (net_outputs ran.plan ran.net) × Prints out out_after ran.told.report.items (verdict_status ran.told.verdict) status)
-    ⊎ ((stop : Stop) × WritesFiles {T = Unit {0}} shelf shelf_after (Err stop) (net_outputs ran.plan ran.net) × PrintsStop out out_after stop status)
+abbrev pub Finishes : Outside → Outside → Outside → Outside → Unwritten → Status → Type 0
+Finishes shelf shelf_after out out_after run status =
+    (WritesAll shelf shelf_after (outputs_of_run run) × Prints out out_after run.ran.told.report.items (verdict_status run.ran.told.verdict) status)
+    ⊎ ((stop : Stop) × WritesFiles {T = Unit {0}} shelf shelf_after (Err stop) (outputs_of_run run) × PrintsStop out out_after stop status)
+
+-- What has run is a network of a plan over the standard kinds.
+abbrev pub IsRunnable : Done → Type 0
+IsRunnable (dones.Ran run) = IsStandardPlan run.ran.plan
+IsRunnable (dones.Said said) = ⊤
+
+-- What is done of what there is to write and to print.
+abbrev pub Concludes : Outside → Outside → Outside → Outside → Done → Outcome → Type 0
+Concludes shelf shelf_after out out_after (dones.Ran run) outcome = Finishes shelf shelf_after out out_after run outcome.status × (outcome.journal ≡ run.ran.journal)
+Concludes shelf shelf_after out out_after (dones.Said said) outcome = (shelf_after ≡ shelf) × Prints out out_after said.text.items said.status outcome.status × (outcome.journal ≡ said.journal)
+
+-- The words ask for a replay.
+abbrev pub IsReplay : List (String Global) → Type 0
+IsReplay words = (name : Name) × (kept : Name) × Asks words (Replay name kept)
 
 -- What stands of a call: its work, its output before and after, and its status.
 pub record Call : Type 0 where
@@ -101,18 +189,18 @@ call_of words shelf shelf_after out out_after journal status = record {
 -- A run was made, and its report was printed; or a first part of that, and the output failed.
 pub record TellsRun (c : Call) (limit : ℕ) : Type 0 where
   pub name : Name
-  pub asks : Asks c.work.words (Run name)
+  pub keeps : Option Name
+  pub asks : Asks c.work.words (Run name keeps)
   pub report : Report
-  pub whole : IsWhole c.work limit name report
+  pub whole : IsWhole c.work limit name keeps report
   pub prints : Prints c.out c.out_after (report_text report) (verdict_status report.verdict) c.status
 
--- A network file was checked, and its canonical spelling was printed; or a first part of that, and the output failed.
-pub record TellsCheck (c : Call) (limit : ℕ) : Type 0 where
-  pub name : Name
-  pub asks : Asks c.work.words (Check name)
-  pub text : NetText
-  pub checked : IsChecked c.work limit name text
-  pub prints : Prints c.out c.out_after (canonical text) Finished c.status
+-- What a check, a replay or a make says was printed; or a first part of that, and the output failed.
+pub record TellsSaid (c : Call) (limit : ℕ) : Type 0 where
+  pub text : List ℕ
+  pub own : Status
+  pub says : Says c.work limit text own
+  pub prints : Prints c.out c.out_after text own c.status
 
 -- The call stopped for this cause, and the text of that was printed; or a first part of that, and the output failed.
 pub record TellsStop (c : Call) (limit : ℕ) : Type 0 where
@@ -120,31 +208,30 @@ pub record TellsStop (c : Call) (limit : ℕ) : Type 0 where
   pub cause : HasCause c.work limit stop
   pub prints : Prints c.out c.out_after (text_of stop) (status_of stop) c.status
 
--- Whatever its status is, a call has run a network, or checked a file, or stopped for a cause; and has told what came of it.
+-- Whatever its status is, a call has run a network, or done what writes no file, or stopped for a cause; and has told what came of it.
 abbrev pub IsCaused : Call → ℕ → Type 0
-IsCaused c limit = TellsRun c limit ⊎ TellsCheck c limit ⊎ TellsStop c limit
+IsCaused c limit = TellsRun c limit ⊎ TellsSaid c limit ⊎ TellsStop c limit
 
 -- The headline. The network of the file of this name was run: its plan is a valid one over the standard kinds; the journal of the outcome is a schedule of the
 -- machine from the plan's start and the round robin, after each of whose prefixes each packet is in one place and each connection is in order, and no process can
 -- go on after the whole of it. The network file and the readers' files were read whole, in order, and nothing else; then the files of the state to which the
--- journal leads were written whole, in order, and nothing else. Exactly the report of that state was printed, and the status is its verdict.
-pub record EndsWell (c : Call) (limit : ℕ) (name : Name) : Type 0 where
+-- journal leads were written whole, in order, and then the journal's own, where one was named, and nothing else. Exactly the report of that state was printed, and
+-- the status is its verdict.
+pub record EndsWell (c : Call) (limit : ℕ) (name : Name) (keeps : Option Name) : Type 0 where
   pub report : Report
-  pub whole : IsWhole c.work limit name report
+  pub whole : IsWhole c.work limit name keeps report
   pub printed : c.out_after ≡ after_write c.out (report_text report)
   pub status : c.status ≡ verdict_status report.verdict
 
--- The network file of this name holds a value with a plan; its canonical spelling was printed, and nothing else was done.
-pub record ChecksWell (c : Call) (limit : ℕ) (name : Name) : Type 0 where
-  pub text : NetText
-  pub checked : IsChecked c.work limit name text
-  pub printed : c.out_after ≡ after_write c.out (canonical text)
-  pub status : c.status ≡ Finished
+-- Exactly what a check, a replay or a make says was printed, with its status.
+pub record SaysWell (c : Call) (limit : ℕ) : Type 0 where
+  pub text : List ℕ
+  pub says : Says c.work limit text c.status
+  pub printed : c.out_after ≡ after_write c.out text
 
--- A call that came to its end: a run did, or a check.
+-- A call that came to its end: a run did, or a check, a replay or a make.
 abbrev pub ComesToEnd : Call → ℕ → Type 0
-ComesToEnd c limit =
-    ((name : Name) × Asks c.work.words (Run name) × EndsWell c limit name) ⊎ ((name : Name) × Asks c.work.words (Check name) × ChecksWell c limit name)
+ComesToEnd c limit = ((name : Name) × (keeps : Option Name) × Asks c.work.words (Run name keeps) × EndsWell c limit name keeps) ⊎ SaysWell c limit
 
 -- A network file of this name, with these contents, holds the network of this plan.
 pub record IsNetwork (files : Files) (name : Name) (plan : Network) : Type 0 where
@@ -153,17 +240,32 @@ pub record IsNetwork (files : Files) (name : Name) (plan : Network) : Type 0 whe
   pub text : NetText
   pub holds : Holds net text plan
 
--- A name that a call with these words reads: a check reads the network file alone, a run the input files of its network too.
+-- A name that a call with these words reads: a check reads the network file alone, a run and a replay the input files of its network too.
 abbrev pub IsReadFor : List (String Global) → Files → Name → Name → Type 0
-IsReadFor words files name read = (read ≡ name) ⊎ (Asks words (Run name) × ((plan : Network) × IsNetwork files name plan × IsInput plan read))
+IsReadFor words files name read = (read ≡ name) ⊎ (MakesTurns words name × ((plan : Network) × IsNetwork files name plan × IsInput plan read))
 
--- The words are a command line, the network file holds a value with a plan, and no file that is read is longer than the limit.
-pub record IsValid (files : Files) (words : List (String Global)) (limit : ℕ) : Type 0 where
+-- The file of this name is that of a journal, and what it tells is a schedule from the start of the plan, on what the input files hold.
+pub record HasSchedule (files : Files) (limit : ℕ) (plan : Network) (kept : Name) : Type 0 where
+  pub bytes : List ℕ
+  pub held : files kept ≡ Some bytes
+  pub journal : Journal
+  pub is : IsFileOf journal bytes
+  pub leads : (tells : Journal) (given : List (List ℕ)) (components : List Std) → IsFileOf tells bytes → AreRead (Some files) limit (inputs_of plan.processes given) → AreComponents plan given components
+      → (last : State Std) × Leads StdNext (start_of plan components) (schedule_of tells) last
+
+-- The words name a network file, which holds a value with a plan; no file that is read is longer than the limit; and where the words name a journal's file, it holds
+-- a schedule of that network.
+pub record IsValidFor (files : Files) (words : List (String Global)) (limit : ℕ) : Type 0 where
   pub name : Name
   pub command : IsCommand words name
   pub plan : Network
   pub network : IsNetwork files name plan
   pub short : (read bytes : List ℕ) → IsReadFor words files name read → files read ≡ Some bytes → length bytes ≤ limit
+  pub schedule : (kept : Name) → Asks words (Replay name kept) → HasSchedule files limit plan kept
+
+-- The words ask for a make, or for what these files allow.
+abbrev pub IsValid : Files → List (String Global) → ℕ → Type 0
+IsValid files words limit = ((number : ℕ) × Asks words (Make number)) ⊎ IsValidFor files words limit
 
 -- No count of faults rose.
 pub record NoFaults (c : Call) : Type 0 where

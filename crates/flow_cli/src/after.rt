@@ -3,22 +3,35 @@ ghost use Rattle.std.specs.Prelude.{◌≡◌};
 ghost use Rattle.flow_cli.specs.Networks.{IsStandardPlan};
 ghost use Rattle.flow_cli.specs.After.{Prints, verdict_status};
 ghost use Rattle.flow_cli.specs.Many.{WritesFiles};
-ghost use Rattle.flow_cli.specs.Runs.{net_outputs};
+ghost use Rattle.flow_cli.specs.Top.{outputs_of_run};
 
-use crate::engine::Ran;
-use crate::many::write_files;
+use crate::many::{Output, write_files};
+use crate::run::Unwritten;
 use crate::status::Status;
 use crate::stop::Stop;
 use flow_report::Verdict;
 use flow_text::{Shelf, Sink, WriteStop, write_all};
 use std::alloc::Global;
 
-/// Writes the files of a run, in the order of the processes.
-pub fn write_outputs<F: Shelf>(alloc: Global, shelf: &mut F, ran: &Ran) -> Result<(), Stop>
-    requires { IsStandardPlan ran.now.plan }
-    ensures { WritesFiles (F.outside shelf.old) (F.outside shelf.new) result (net_outputs ran.now.plan ran.now.net) }
+/// Writes the files of a run, in the order of the processes, and then that of its journal, where there is one.
+pub fn write_outputs<F: Shelf>(
+    alloc: Global,
+    shelf: &mut F,
+    run: &Unwritten<'_>,
+) -> Result<(), Stop>
+    requires { IsStandardPlan run.now.ran.plan }
+    ensures { WritesFiles (F.outside shelf.old) (F.outside shelf.new) result (outputs_of_run run.now) }
 {
-    let outputs = ran.outputs(alloc)?;
+    let mut outputs = run.ran.outputs(alloc)?;
+    if let Some(kept) = &run.kept {
+        let output = Output {
+            name: kept.name,
+            bytes: &kept.bytes,
+        };
+        if outputs.push(output).is_err() {
+            return Err(Stop::NoMemory);
+        }
+    }
     write_files(alloc, shelf, &outputs)
 }
 

@@ -1,12 +1,13 @@
-//! The steps before a network runs, or is checked: the words, the network file, the input files.
+//! The steps before a network runs, or is checked: the words, the network file, a journal's file, the input files.
 ghost use Rattle.std.specs.Prelude.{◌≡◌};
-ghost use Rattle.flow_cli.specs.Prepare.{Loads, ReadsInputs, Prepares};
+ghost use Rattle.flow_cli.specs.Prepare.{Loads, Prepares, ReadsAgain, ReadsInputs, ReadsJournal};
 
-use crate::components::{FILE_LIMIT, read_components};
+use crate::components::{FILE_LIMIT, JOURNAL_FILE_LIMIT, read_components};
 use crate::net_file::{NetFile, network};
 use crate::step::read_file;
-use crate::stop::{Stop, read_stop};
+use crate::stop::{JournalRefusal, Stop, read_stop};
 use flow_catalogue::Std;
+use flow_journal::{Journal, JournalStop};
 use flow_net::Plan;
 use flow_parse::NetText;
 use flow_text::Shelf;
@@ -20,28 +21,50 @@ pub struct Job {
     pub components: Vec<Std>,
 }
 
-/// What is to be done: a network is to run, or the value of a network file is to be printed.
+/// A network that can run, and the journal whose turns are to be made again in it.
 #[derive(Drop)]
-pub enum Task {
-    Run(Job),
+pub struct Again {
+    pub job: Job,
+    pub journal: Journal,
+}
+
+/// What is to be done.
+#[derive(Drop)]
+pub enum Task<'a> {
+    /// A network is to run, and its journal is to be kept in a file, where one is named.
+    Run { job: Job, journal: Option<&'a str> },
+    /// The value of a network file is to be printed.
     Check(NetText),
+    /// The turns of a journal are to be made again.
+    Replay(Again),
+    /// The network that is made from this number is to run.
+    Make(u32),
 }
 
 /// Reads the words, and what they name. The first stop comes in the order of these steps.
-pub fn prepare<F: Shelf>(alloc: Global, words: &[String], shelf: &mut F) -> Result<Task, Stop>
-    ensures { Prepares (F.outside shelf.old) (F.outside shelf.new) words.now result FILE_LIMIT }
+pub fn prepare<'a, F: Shelf>(
+    alloc: Global,
+    words: &'a [String],
+    shelf: &mut F,
+) -> Result<Task<'a>, Stop>
+    ensures { Prepares (F.outside shelf.old) (F.outside shelf.new) words.entry.now result FILE_LIMIT }
 {
     match command(alloc, words) {
         Err(_) => Err(Stop::NoMemory),
         Ok(None) => Err(Stop::Words),
-        Ok(Some(Command::Run(name))) => match runnable(alloc, shelf, name) {
-            Ok(job) => Ok(Task::Run(job)),
+        Ok(Some(Command::Run { net, journal })) => match runnable(alloc, shelf, net) {
+            Ok(job) => Ok(Task::Run { job, journal }),
             Err(stop) => Err(stop),
         },
         Ok(Some(Command::Check(name))) => match load(alloc, shelf, name) {
             Ok(file) => Ok(Task::Check(file.text)),
             Err(stop) => Err(stop),
         },
+        Ok(Some(Command::Replay { net, journal })) => match replayable(alloc, shelf, net, journal) {
+            Ok(again) => Ok(Task::Replay(again)),
+            Err(stop) => Err(stop),
+        },
+        Ok(Some(Command::Make(number))) => Ok(Task::Make(number)),
     }
 }
 
@@ -59,6 +82,27 @@ fn runnable<F: Shelf>(alloc: Global, shelf: &mut F, name: &str) -> Result<Job, S
     }
 }
 
+// The network of this file, then the journal of that one, then the components.
+fn replayable<F: Shelf>(alloc: Global, shelf: &mut F, name: &str, kept: &str) -> Result<Again, Stop>
+    ensures { ReadsAgain (F.outside shelf.old) (F.outside shelf.new) name.now kept.now result FILE_LIMIT }
+{
+    let plan = match load(alloc, shelf, name) {
+        Ok(file) => file.plan,
+        Err(stop) => return Err(stop),
+    };
+    let journal = match read_journal(alloc, shelf, kept) {
+        Ok(journal) => journal,
+        Err(stop) => return Err(stop),
+    };
+    match read_components(alloc, shelf, &plan) {
+        Ok(components) => Ok(Again {
+            job: Job { plan, components },
+            journal,
+        }),
+        Err(stop) => Err(stop),
+    }
+}
+
 // What the network file of this name holds.
 fn load<F: Shelf>(alloc: Global, shelf: &mut F, name: &str) -> Result<NetFile, Stop>
     ensures { Loads (F.outside shelf.old) (F.outside shelf.new) name.now result FILE_LIMIT }
@@ -68,4 +112,21 @@ fn load<F: Shelf>(alloc: Global, shelf: &mut F, name: &str) -> Result<NetFile, S
         Err(stop) => return Err(read_stop(alloc, stop, name)),
     };
     network(alloc, &net)
+}
+
+// The journal that the file of this name tells.
+fn read_journal<F: Shelf>(alloc: Global, shelf: &mut F, name: &str) -> Result<Journal, Stop>
+    ensures { ReadsJournal (F.outside shelf.old) (F.outside shelf.new) name.now result }
+{
+    let bytes = match read_file(alloc, shelf, name, JOURNAL_FILE_LIMIT) {
+        Ok(bytes) => bytes,
+        Err(stop) => return Err(read_stop(alloc, stop, name)),
+    };
+    match Journal::from_bytes(alloc, &bytes) {
+        Ok(journal) => Ok(journal),
+        Err(JournalStop::Fault(fault)) => {
+            Err(Stop::JournalRefused(JournalRefusal::Byte(fault.place)))
+        }
+        Err(JournalStop::NoMemory) => Err(Stop::NoMemory),
+    }
 }

@@ -1,6 +1,6 @@
 //! The components of a plan's processes, each reader on what its file holds.
-ghost use Rattle.std.specs.Prelude.{◌≡◌};
-ghost use Rattle.flow_cli.specs.Components.{ReadsComponent, ReadsComponents};
+ghost use Rattle.std.specs.Prelude.{◌≡◌, IfOk};
+ghost use Rattle.flow_cli.specs.Components.{GivesComponent, GivesComponents, ReadsComponent, ReadsComponents};
 ghost use Rattle.flow_cli.specs.Networks.{IsStandardPlan};
 ghost use Rattle.flow_catalogue.specs.Processes.{IsStandard};
 
@@ -9,10 +9,14 @@ use crate::stop::{Stop, read_stop};
 use flow_catalogue::{FileUse, Std, a_plan_over_the_table_is_standard, file_of, make};
 use flow_net::Plan;
 use flow_text::Shelf;
-use std::alloc::Global;
+use std::alloc::{AllocError, Global};
 
 /// A network file and each input file has at most so many bytes. The limit is this project's own.
 pub const FILE_LIMIT: u64 = 16_777_216;
+
+/// A journal's file has at most so many bytes: a header of 16, and 3 for each turn that a run may have, one for its process and two for the number
+/// that it saw.
+pub const JOURNAL_FILE_LIMIT: u64 = 3_221_225_488;
 
 /// Reads the files of the plan's readers in the order of the processes, and makes the component of each process.
 pub fn read_components<F: Shelf>(
@@ -53,5 +57,30 @@ fn read_component<F: Shelf>(
             Err(stop) => Err(read_stop(alloc, stop, name)),
         },
         _ => Ok(make(alloc, plan, process, Vec::new(alloc))?),
+    }
+}
+
+/// Makes the component of each process of the plan, each reader on these bytes.
+pub fn give_components(alloc: Global, plan: &Plan, bytes: &[u8]) -> Result<Vec<Std>, AllocError>
+    requires { IsStandardPlan plan.now }
+    ensures { IfOk result (λ components. GivesComponents plan.now bytes.now components.items) }
+{
+    a_plan_over_the_table_is_standard();
+    let mut components = Vec::new(alloc);
+    for process in 0..plan.processes().len() {
+        let component = give_component(alloc, plan, process as u32, bytes)?;
+        components.push(component)?;
+    }
+    Ok(components)
+}
+
+// The component of one process, on these bytes if it is a reader.
+fn give_component(alloc: Global, plan: &Plan, process: u32, bytes: &[u8]) -> Result<Std, AllocError>
+    requires { IsStandard plan.now process }
+    ensures { IfOk result (GivesComponent plan.now process bytes.now) }
+{
+    match file_of(plan, process) {
+        Some(FileUse::Read(_)) => make(alloc, plan, process, bytes.to_vec(alloc)?),
+        _ => make(alloc, plan, process, Vec::new(alloc)),
     }
 }

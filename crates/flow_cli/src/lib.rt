@@ -5,6 +5,7 @@ mod after;
 mod before;
 mod components;
 mod engine;
+mod made;
 mod many;
 mod net_file;
 mod run;
@@ -14,14 +15,16 @@ mod stop;
 mod top;
 
 pub use after::{print, verdict_status, write_outputs};
-pub use before::{Job, Task, prepare};
-pub use components::{FILE_LIMIT, read_components};
-pub use engine::{Ran, Told, run_net};
+pub use before::{Again, Job, Task, prepare};
+pub use components::{FILE_LIMIT, JOURNAL_FILE_LIMIT, give_components, read_components};
+pub use engine::{Ran, Told, replay_net, run_net};
+pub use made::run_made;
 pub use many::{Output, write_files};
 pub use net_file::{NetFile, network};
+pub use run::{Done, Kept, Said, Unwritten, perform};
 pub use status::Status;
 pub use step::{read_file, write_file};
-pub use stop::{Refusal, Stop, read_stop, write_stop};
+pub use stop::{JournalRefusal, Refusal, Stop, read_stop, write_stop};
 pub use top::{Outcome, plain_top};
 
 #[cfg(test)]

@@ -1,42 +1,165 @@
-//! What a command line asks for is done, up to the writing and printing: a network is run, or a network file is checked.
+//! What a command line asks for is done, up to the writing and printing: a network is run, a network file is checked, the turns of a journal
+//! are made again, or a made network is run.
 ghost use Rattle.std.specs.Prelude.{◌≡◌, IfOk};
+ghost use Rattle.std.specs.Option.{option_map};
+ghost use Rattle.flow_journal.specs.Files.{IsWritable};
 ghost use Rattle.flow_parse.specs.Canonical.{canonical};
-ghost use Rattle.flow_cli.specs.Top.{Performs};
+ghost use Rattle.flow_cli.specs.Components.{HasComponents};
+ghost use Rattle.flow_cli.specs.Networks.{IsStandardPlan};
+ghost use Rattle.flow_cli.specs.Reads.{IsEmptyJournal};
+ghost use Rattle.flow_cli.specs.Runs.{journal_file};
+ghost use Rattle.flow_cli.specs.Top.{KeepsRun, Performs, SaysTurnsAgain, kept_file};
+ghost use Rattle.flow_cli.specs.declared.status.Status.TheVariants.{Finished};
 
-use crate::before::{Task, prepare};
+use crate::after::verdict_status;
+use crate::before::{Again, Job, Task, prepare};
 use crate::components::FILE_LIMIT;
-use crate::engine::{Ran, run_net};
+use crate::engine::{Ran, replay_net, run_net};
+use crate::made::run_made;
+use crate::status::Status;
 use crate::stop::Stop;
+use flow_items::Items;
+use flow_journal::Journal;
 use flow_parse::{NetText, print as spelled};
 use flow_text::Shelf;
 use std::alloc::{AllocError, Global};
 
-/// What there is to write and to print: a run with its files and report, or the canonical spelling of a network file.
-pub enum Done {
-    Ran(Ran),
-    Checked(Vec<u8>),
+/// The file of a run's journal.
+#[derive(Drop)]
+pub struct Kept<'a> {
+    pub name: &'a str,
+    pub bytes: Vec<u8>,
+}
+
+/// What a call says that writes no file.
+#[derive(Drop)]
+pub struct Said {
+    /// What is to be printed.
+    pub text: Vec<u8>,
+    /// The status with which the program ends where that is printed.
+    pub status: Status,
+    /// The journal of the turns that were made, and empty where none was.
+    pub journal: Journal,
+}
+
+/// A run that is over, and the file of its journal where one was named. Nothing of it is written yet.
+pub struct Unwritten<'a> {
+    pub ran: Ran,
+    pub kept: Option<Kept<'a>>,
+}
+
+/// What there is to write and to print.
+pub enum Done<'a> {
+    /// A run: its files are to be written, and then its report is to be printed.
+    Ran(Unwritten<'a>),
+    /// The spelling of a checked network file, or the report of a replay or of a make.
+    Said(Said),
 }
 
 /// Does all that comes before something is written or printed. No call is made on the shelf after its first fault.
-pub fn perform<F: Shelf>(alloc: Global, words: &[String], shelf: &mut F) -> Result<Done, Stop>
-    ensures { Performs (F.outside shelf.old) (F.outside shelf.new) words.now result FILE_LIMIT }
+pub fn perform<'a, F: Shelf>(
+    alloc: Global,
+    words: &'a [String],
+    shelf: &mut F,
+) -> Result<Done<'a>, Stop>
+    ensures { Performs (F.outside shelf.old) (F.outside shelf.new) words.entry.now result FILE_LIMIT }
 {
     match prepare(alloc, words, shelf) {
-        Ok(Task::Run(job)) => match run_net(alloc, job) {
-            Ok(ran) => Ok(Done::Ran(ran)),
+        Ok(Task::Run { job, journal }) => match run_and_keep(alloc, job, journal) {
+            Ok(run) => Ok(Done::Ran(run)),
             Err(AllocError) => Err(Stop::NoMemory),
         },
         Ok(Task::Check(text)) => match spelling(alloc, &text) {
-            Ok(text) => Ok(Done::Checked(text)),
+            Ok(said) => Ok(Done::Said(said)),
             Err(AllocError) => Err(Stop::NoMemory),
+        },
+        Ok(Task::Replay(again)) => match run_again(alloc, again) {
+            Ok(said) => Ok(Done::Said(said)),
+            Err(stop) => Err(stop),
+        },
+        Ok(Task::Make(number)) => match run_made(alloc, number) {
+            Ok(said) => Ok(Done::Said(said)),
+            Err(stop) => Err(stop),
         },
         Err(stop) => Err(stop),
     }
 }
 
-// The canonical spelling of a network file's value.
-fn spelling(alloc: Global, text: &NetText) -> Result<Vec<u8>, AllocError>
-    ensures { IfOk result (λ spelled. spelled.items ≡ canonical text.now) }
+// Runs a network, and makes the file of its journal where one is named.
+fn run_and_keep<'a>(
+    alloc: Global,
+    job: Job,
+    name: Option<&'a str>,
+) -> Result<Unwritten<'a>, AllocError>
+    requires standard { IsStandardPlan job.plan }
+    requires components { HasComponents job.plan job.components.items }
+    ensures { IfOk result (KeepsRun job.plan job.components.items (option_map (λ s. s.now) name.entry)) }
 {
-    spelled(alloc, text)
+    let ran = run_net(alloc, job)?;
+    match keep(alloc, &ran.journal, name) {
+        Ok(kept) => Ok(Unwritten { ran, kept }),
+        Err(AllocError) => {
+            ran.discard();
+            Err(AllocError)
+        }
+    }
+}
+
+// The file of a journal, where one is named.
+fn keep<'a>(
+    alloc: Global,
+    journal: &Journal,
+    name: Option<&'a str>,
+) -> Result<Option<Kept<'a>>, AllocError>
+    requires { IsWritable journal.now }
+    ensures { IfOk result (λ kept. kept_file kept ≡ journal_file (option_map (λ s. s.now) name.entry) journal.now) }
+{
+    match name {
+        None => Ok(None),
+        Some(name) => {
+            let bytes = journal.to_bytes(alloc)?;
+            Ok(Some(Kept { name, bytes }))
+        }
+    }
+}
+
+// The canonical spelling of a network file's value.
+fn spelling(alloc: Global, text: &NetText) -> Result<Said, AllocError>
+    ensures text { IfOk result (λ said. said.text.items ≡ canonical text.now) }
+    ensures status { IfOk result (λ said. said.status ≡ Finished) }
+    ensures journal { IfOk result (λ said. IsEmptyJournal said.journal) }
+{
+    Ok(Said {
+        text: spelled(alloc, text)?,
+        status: Status::Finished,
+        journal: no_journal(alloc),
+    })
+}
+
+// Makes the turns of a journal again.
+fn run_again(alloc: Global, again: Again) -> Result<Said, Stop>
+    requires standard { IsStandardPlan again.job.plan }
+    requires components { HasComponents again.job.plan again.job.components.items }
+    requires writable { IsWritable again.journal }
+    ensures { SaysTurnsAgain again.job.plan again.job.components.items again.journal result }
+{
+    let Again { job, journal } = again;
+    match replay_net(alloc, job, &journal) {
+        Ok(told) => Ok(Said {
+            text: told.report,
+            status: verdict_status(told.verdict),
+            journal,
+        }),
+        Err(stop) => Err(stop),
+    }
+}
+
+/// The journal where no turn was made. Takes no memory.
+pub fn no_journal(alloc: Global) -> Journal
+    ensures { IsEmptyJournal result }
+{
+    Journal {
+        turns: Items::new(alloc),
+        seen: Items::new(alloc),
+    }
 }

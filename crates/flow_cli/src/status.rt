@@ -21,7 +21,9 @@ pub enum Status {
     NoMemory,
     /// A file that is read is longer than its limit.
     TooLong,
-    /// Some process can go on: the status of no run on one thread.
+    /// A journal's file is refused, or its journal is no schedule of the network.
+    JournalRefused,
+    /// A replay came to the end of its journal, and some process can go on.
     Running,
 }
 
@@ -41,6 +43,7 @@ impl Status {
             Status::WriteFault => 7,
             Status::NoMemory => 8,
             Status::TooLong => 9,
+            Status::JournalRefused => 10,
             Status::Running => 11,
         }
     }

@@ -1,13 +1,14 @@
 //! Why a call stops before its report, and what it prints then.
 ghost use Rattle.std.specs.Prelude.{◌≡◌, ◌++◌, ◌∷◌, [], IfOk, OnOk, codes};
-ghost use Rattle.flow_cli.specs.Stops.{status_of, refusal_text, text_of, IsReadStop, IsWriteStop};
+ghost use Rattle.flow_cli.specs.Stops.{status_of, journal_refusal_text, reason_text, refusal_text, text_of, IsReadStop, IsWriteStop};
 ghost use Rattle.flow_cli.specs.declared.stop.Stop.TheVariants.{NoMemory};
 
 use crate::status::Status;
 use flow_expand::{put_fault, put_net_fault};
 use flow_flat::ExpandFault;
+use flow_journal::Refusal as NoTurn;
 use flow_parse::NetFault;
-use flow_text::{ReadStop, ShelfStop};
+use flow_text::{ReadStop, ShelfStop, put_decimal};
 use std::alloc::{AllocError, Global};
 
 /// Why a network file is refused. The order in which faults are looked for is this project's own.
@@ -19,6 +20,19 @@ pub enum Refusal {
     Network(ExpandFault),
 }
 
+/// Why a journal is refused. Places are counted from 0.
+#[derive(Debug, Drop)]
+pub enum JournalRefusal {
+    /// The byte at this place can't stand there in a journal's file, or the file ends there too early.
+    Byte(u64),
+    /// The turn at this place isn't one of the network, for this reason.
+    Turn {
+        place: u64,
+        process: u32,
+        refusal: NoTurn,
+    },
+}
+
 /// Why a call stops. The statuses and texts are this project's own.
 #[derive(Debug, Drop)]
 pub enum Stop {
@@ -26,6 +40,8 @@ pub enum Stop {
     Words,
     /// The network file is refused.
     Refused(Refusal),
+    /// The file of a journal is refused, or its journal is no schedule of the network.
+    JournalRefused(JournalRefusal),
     /// The file of this name couldn't be read.
     ReadFault(String),
     /// The file of this name couldn't be written.
@@ -51,6 +67,7 @@ impl Stop {
         match self {
             Stop::Words => Status::Words,
             Stop::Refused(_) => Status::Refused,
+            Stop::JournalRefused(_) => Status::JournalRefused,
             Stop::ReadFault(_) => Status::ReadFault,
             Stop::WriteFault(_) => Status::WriteFault,
             Stop::NoMemory => Status::NoMemory,
@@ -69,6 +86,7 @@ impl Stop {
                 b"",
             ),
             Stop::Refused(refusal) => refused_line(alloc, refusal),
+            Stop::JournalRefused(refusal) => journal_line(alloc, refusal),
             Stop::ReadFault(name) => line(alloc, b"read fault: ", name.as_bytes()),
             Stop::WriteFault(name) => line(alloc, b"write fault: ", name.as_bytes()),
             Stop::NoMemory => line(alloc, b"no memory", b""),
@@ -93,6 +111,51 @@ fn put_refusal(text: &mut Vec<u8>, refusal: &Refusal) -> Result<(), AllocError>
     match refusal {
         Refusal::Line(fault) => put_net_fault(text, fault),
         Refusal::Network(fault) => put_fault(text, fault),
+    }
+}
+
+// The line for a refused journal.
+fn journal_line(alloc: Global, refusal: &JournalRefusal) -> Result<Vec<u8>, AllocError>
+    ensures { IfOk result (λ text. text.items ≡ codes "journal refused: " ++ journal_refusal_text refusal.now ++ 10 ∷ []) }
+{
+    let mut text = b"journal refused: ".to_vec(alloc)?;
+    put_journal_refusal(&mut text, refusal)?;
+    text.push(10)?;
+    Ok(text)
+}
+
+fn put_journal_refusal(text: &mut Vec<u8>, refusal: &JournalRefusal) -> Result<(), AllocError>
+    ensures { OnOk result (text.new.items ≡ text.old.items ++ journal_refusal_text refusal.now) }
+{
+    match refusal {
+        JournalRefusal::Byte(place) => {
+            text.extend_from_slice(b"byte ")?;
+            put_decimal(text, *place)
+        }
+        JournalRefusal::Turn {
+            place,
+            process,
+            refusal,
+        } => {
+            text.extend_from_slice(b"entry ")?;
+            put_decimal(text, *place)?;
+            text.extend_from_slice(b": process ")?;
+            put_decimal(text, u64::from(*process))?;
+            text.push(32)?;
+            text.extend_from_slice(reason(refusal))
+        }
+    }
+}
+
+// Why a process made no turn.
+fn reason(refusal: &NoTurn) -> &'static [u8]
+    ensures { result.now ≡ reason_text refusal.now }
+{
+    match refusal {
+        NoTurn::NoProcess => b"unknown",
+        NoTurn::Over => b"over",
+        NoTurn::Blocked(_) => b"blocked",
+        NoTurn::Seen => b"seen",
     }
 }
 

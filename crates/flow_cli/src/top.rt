@@ -1,21 +1,22 @@
 //! The top call.
-ghost use Rattle.std.specs.Prelude.{◌≡◌, ◌≢◌};
-ghost use Rattle.flow_cli.specs.Causes.{Work, IsEmptyJournal};
+ghost use Rattle.std.specs.Prelude.{◌≡◌};
 ghost use Rattle.flow_cli.specs.Meant.{LeavesMeaning};
 ghost use Rattle.flow_cli.specs.Networks.{IsStandardPlan};
 ghost use Rattle.flow_cli.specs.Statuses.{IsFinished, IsOver};
-ghost use Rattle.flow_cli.specs.Top.{ComesToEnd, Finishes, IsCaused, IsComplete, PrintsStop, call_of};
+ghost use Rattle.flow_cli.specs.Top.{ComesToEnd, Concludes, Finishes, IsCaused, IsComplete, IsReplay, IsRunnable, PrintsStop, call_of};
 ghost use Rattle.flow_cli.specs.declared.status.Status.TheVariants.{Running};
 
 use crate::after::{print, verdict_status, write_outputs};
 use crate::components::FILE_LIMIT;
-use crate::engine::Ran;
-use crate::run::{Done, perform};
+use crate::run::{Done, Unwritten, no_journal, perform};
 use crate::status::Status;
 use crate::stop::Stop;
-use flow_catalogue::{Std, a_plan_over_the_table_is_standard};
-use flow_items::Items;
-use flow_journal::Journal;
+use flow_catalogue::{
+    Std, a_plan_over_the_table_is_standard, standard_components_come_to_one_outcome,
+};
+use flow_journal::{
+    Journal, a_file_has_one_journal_or_one_fault, a_journal_that_stops_is_no_schedule,
+};
 use flow_meanings::a_finished_network_composes_its_meanings;
 use flow_ready::a_valid_plan_is_ready;
 use flow_text::{Shelf, Sink};
@@ -30,15 +31,15 @@ pub struct Outcome {
     pub journal: Journal,
 }
 
-/// Does what the program does: runs the network that the words name on one thread and prints its report, or checks it and
-/// prints its canonical spelling; or prints why it stopped.
+/// Does what the program does: runs the network that the words name on one thread, or the one that is made from a number, or makes the turns of a
+/// journal again in it, and prints the report; or checks the network file and prints its canonical spelling; or prints why it stopped.
 pub fn plain_top<F: Shelf, O: Sink>(
     alloc: Global,
     words: &[String],
     shelf: &mut F,
     out: &mut O,
 ) -> Outcome
-    // A run came to its end, or a check did.
+    // A run came to its end, or a check, a replay or a make did.
     ensures over { IsOver result.status → ComesToEnd (call_of words.now (F.outside shelf.old) (F.outside shelf.new) (O.outside out.old) (O.outside out.new) result.journal result.status) FILE_LIMIT }
 
     // A run that finished left the files that its network means.
@@ -48,21 +49,20 @@ pub fn plain_top<F: Shelf, O: Sink>(
     // Each status has the cause of what the call came to.
     ensures cause { IsCaused (call_of words.now (F.outside shelf.old) (F.outside shelf.new) (O.outside out.old) (O.outside out.new) result.journal result.status) FILE_LIMIT }
 
-    // No call ends while its network can go on.
-    ensures status { result.status ≢ Running }
+    // No call but a replay ends while its network can go on.
+    ensures status { result.status ≡ Running → IsReplay words.now }
 
-    // Where no count rose and all is valid, the run comes to its end, or memory is wanting.
+    // Where no count rose and all is valid, the call comes to its end, or memory is wanting.
     ensures complete { IsComplete (call_of words.now (F.outside shelf.old) (F.outside shelf.new) (O.outside out.old) (O.outside out.new) result.journal result.status) FILE_LIMIT }
 {
     a_plan_over_the_table_is_standard();
     a_valid_plan_is_ready::<Std>();
     a_finished_network_composes_its_meanings();
+    standard_components_come_to_one_outcome();
+    a_journal_that_stops_is_no_schedule::<Std>();
+    a_file_has_one_journal_or_one_fault();
     match perform(alloc, words, shelf) {
-        Ok(Done::Ran(ran)) => finish(alloc, shelf, out, ran),
-        Ok(Done::Checked(text)) => Outcome {
-            status: print(out, &text, Status::Finished),
-            journal: no_journal(alloc),
-        },
+        Ok(done) => conclude(alloc, shelf, out, done),
         Err(stop) => Outcome {
             status: print_stop(alloc, out, &stop),
             journal: no_journal(alloc),
@@ -70,33 +70,43 @@ pub fn plain_top<F: Shelf, O: Sink>(
     }
 }
 
-/// Writes the files of a run, and then prints its report.
-fn finish<F: Shelf, O: Sink>(alloc: Global, shelf: &mut F, out: &mut O, ran: Ran) -> Outcome
-    requires { IsStandardPlan ran.plan }
-    ensures files { Finishes (F.outside shelf.old) (F.outside shelf.new) (O.outside out.old) (O.outside out.new) ran result.status }
-    ensures journal { result.journal ≡ ran.told.journal }
+// Writes what there is to write, and then prints what there is to print.
+fn conclude<F: Shelf, O: Sink>(alloc: Global, shelf: &mut F, out: &mut O, done: Done<'_>) -> Outcome
+    requires { IsRunnable done }
+    ensures { Concludes (F.outside shelf.old) (F.outside shelf.new) (O.outside out.old) (O.outside out.new) done.entry result }
 {
-    let written = write_outputs(alloc, shelf, &ran);
-    let told = ran.into_told();
-    match written {
-        Ok(()) => Outcome {
-            status: print(out, &told.report, verdict_status(told.verdict)),
-            journal: told.journal,
-        },
-        Err(fault) => Outcome {
-            status: print_stop(alloc, out, &fault),
-            journal: told.journal,
+    match done {
+        Done::Ran(run) => finish(alloc, shelf, out, run),
+        Done::Said(said) => Outcome {
+            status: print(out, &said.text, said.status),
+            journal: said.journal,
         },
     }
 }
 
-/// The journal where no turn was made. Takes no memory.
-fn no_journal(alloc: Global) -> Journal
-    ensures { IsEmptyJournal result }
+// Writes the files of a run, and then prints its report.
+fn finish<F: Shelf, O: Sink>(
+    alloc: Global,
+    shelf: &mut F,
+    out: &mut O,
+    run: Unwritten<'_>,
+) -> Outcome
+    requires { IsStandardPlan run.ran.plan }
+    ensures files { Finishes (F.outside shelf.old) (F.outside shelf.new) (O.outside out.old) (O.outside out.new) run.entry result.status }
+    ensures journal { result.journal ≡ run.entry.ran.journal }
 {
-    Journal {
-        turns: Items::new(alloc),
-        seen: Items::new(alloc),
+    let written = write_outputs(alloc, shelf, &run);
+    let Unwritten { ran, kept: _ } = run;
+    let (told, journal) = ran.into_told();
+    match written {
+        Ok(()) => Outcome {
+            status: print(out, &told.report, verdict_status(told.verdict)),
+            journal,
+        },
+        Err(fault) => Outcome {
+            status: print_stop(alloc, out, &fault),
+            journal,
+        },
     }
 }
 

@@ -13,6 +13,6 @@ returns-in-Ok-clause-leaves c =
     let plan = c.args.job.plan in
     let components = c.args.job.components.items in
     let well = c.a_valid_plan_is_ready.ensures.starts plan components c.requires.standard.valid (components-fit plan components c.requires.components) in
-    leaves plan components c.in-Ok.closed.net c.tell.result c.requires.standard c.a_report_tells_of_its_state.ensures
-    (λ told is. c.a_round_of_a_net_is_a_run.ensures plan components c.in_ok-net.net c.in-Ok.closed.net told.journal.turns told.journal.seen well c.in_ok-net.ensures c.in-Ok.ensures.quiet is.turns is.seen)
-    c.tell.ensures.net c.tell.ensures.told
+    leaves plan components c.in-Ok.closed.net c.tell.result c.requires.standard c.a_report_tells_of_its_state.ensures c.a_schedule_sees_no_more_than_its_turns.ensures
+    (λ journal is. c.a_round_of_a_net_is_a_run.ensures plan components c.in_ok-net.net c.in-Ok.closed.net journal.turns journal.seen well c.in_ok-net.ensures c.in-Ok.ensures.quiet is.turns is.seen)
+    c.tell.ensures.net c.tell.ensures.told c.tell.ensures.journal

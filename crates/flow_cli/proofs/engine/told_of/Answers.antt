@@ -9,6 +9,4 @@ returns c =
     record {
       verdict = c.verdict.ensures ∙ ap (λ (r : Report). r.verdict) is;
       report = c.in_ok-print.ensures ∙ ap report_text is;
-      turns = c.in_ok-merge.ensures.turns;
-      seen = c.in_ok-merge.ensures.seen;
     }

@@ -1,0 +1,140 @@
+-- What a call came to that wasn't stopped before, and what was written and printed of it.
+use Rattle.std.proofs.Common.{◌≡◌, ◌⊎◌, ℕ, List, Some, None, inl, inr, sym, ap, subst}
+use Rattle.std.specs.Prelude.{◌≢◌, String, IfSome}
+use Rattle.std.specs.declared.alloc.Global.{Global}
+use Rattle.std.specs.declared.option.Option.{Option}
+use Rattle.flow_text.specs.Edge.{Outside, Files, Rose}
+use Rattle.flow_component.specs.Laws.{AtMostOneOutcome}
+use Rattle.flow_catalogue.specs.declared.standard.Std.{Std}
+use Rattle.flow_catalogue.specs.Std.{StdNext}
+use Rattle.flow_model.specs.States.{State}
+use Rattle.flow_model.specs.Verdicts.{Quiet}
+use Rattle.flow_journal.specs.Files.{HasJournalOrFault}
+use Rattle.flow_journal.specs.Replays.{StopsAreNoSchedules}
+use Rattle.flow_report.specs.Text.{report_text}
+use Rattle.flow_report.specs.declared.report.Verdict.{Verdict}
+use Rattle.flow_report.specs.declared.report.Verdict.TheVariants as verdicts
+use Rattle.flow_report.specs.States.{IsVerdict}
+use Rattle.flow_cli.specs.After.{Prints, verdict_status}
+use Rattle.flow_cli.specs.Many.{WritesAll}
+use Rattle.flow_cli.specs.Meant.{LeavesMeaning, ChangesNoName}
+use Rattle.flow_cli.specs.Statuses.{IsOver}
+use Rattle.flow_cli.specs.Top.{call_of, outputs_of_run, HasRun, Says, Finishes, IsReplay, IsCaused, ComesToEnd, IsValid, IsComplete}
+use Rattle.flow_cli.specs.declared.run.Said.{Said}
+use Rattle.flow_cli.specs.declared.run.Unwritten.{Unwritten}
+use Rattle.flow_cli.specs.declared.status.Status.{Status}
+use Rattle.flow_cli.specs.declared.status.Status.TheVariants as statuses
+use Rattle.flow_cli.proofs.Befores.{so_far}
+use Rattle.flow_cli.proofs.Runs.{stops-writing, whole-run, printed-report}
+use Rattle.flow_cli.proofs.Tops.{by-status, stopped, stop-not-over, stop-not-running, stop-complete}
+
+-- each verdict is one of a call that came to its end
+over-any : (verdict : Verdict) → IsOver (verdict_status verdict)
+over-any verdicts.Finished = tt
+over-any verdicts.FinishedLeft = tt
+over-any verdicts.Deadlock = tt
+over-any verdicts.Failed = tt
+over-any verdicts.Running = tt
+
+-- that of a quiet state isn't that it can go on
+quiet-not-running : (s : State Std) (verdict : Verdict) → Quiet s → IsVerdict s verdict → verdict_status verdict ≢ statuses.Running
+quiet-not-running s verdicts.Finished quiet is e = cc
+quiet-not-running s verdicts.FinishedLeft quiet is e = cc
+quiet-not-running s verdicts.Deadlock quiet is e = cc
+quiet-not-running s verdicts.Failed quiet is e = cc
+quiet-not-running s verdicts.Running quiet is e = absurd (is quiet)
+
+-- what was printed with a status that isn't Running
+own-not-running : (po pn : Outside) (text : List ℕ) (own status : Status) → own ≢ statuses.Running → Prints po pn text own status → status ≢ statuses.Running
+own-not-running po pn text own status other p is = by-status po pn text own status (λ s. s ≡ statuses.Running) p other (λ x. cc) is
+
+own-complete : (told : Option Files) (P : Files → Type 0) (po pn : Outside) (text : List ℕ) (own status : Status) → IsOver own → Prints po pn text own status
+    → (Rose po.write_faults pn.write_faults → ⊥) → IfSome told (λ files. P files → IsOver status ⊎ (status ≡ statuses.NoMemory))
+own-complete None P po pn text own status over p quiet = tt
+own-complete (Some files) P po pn text own status over (inl p) quiet = λ valid. inl (subst IsOver (sym p.0) over)
+own-complete (Some files) P po pn text own status over (inr p) quiet = λ valid. absurd (quiet p.1.1.rose)
+
+-- a run, and what was written and printed of it
+module _ (words : List (String Global)) (o a n po pn : Outside) (run : Unwritten) (status : Status) (limit : ℕ) (has : HasRun o a words limit run) (did : Finishes a n po pn run status) where
+  ran-not-running : status ≢ statuses.Running
+  ran-not-running = go did where
+    own : verdict_status run.ran.told.verdict ≢ statuses.Running
+    own = subst (λ (v : Verdict). verdict_status v ≢ statuses.Running) (sym has.leaves.told_is.verdict)
+        (quiet-not-running has.leaves.last has.leaves.told_is.report.verdict has.leaves.run.quiet has.leaves.told_is.tells.verdict)
+
+    go : Finishes a n po pn run status → status ≢ statuses.Running
+    go (inl (w, p)) = own-not-running po pn run.ran.told.report.items (verdict_status run.ran.told.verdict) status own p
+    go (inr (stop, w, p)) = stop-not-running po pn stop status p
+
+  pub ran-caused : IsCaused (call_of words o n po pn run.ran.journal status) limit
+  ran-caused = go did where
+    go : Finishes a n po pn run status → IsCaused (call_of words o n po pn run.ran.journal status) limit
+    go (inl (w, p)) = inl (record {
+      name = has.name;
+      keeps = has.keeps;
+      asks = has.asks;
+      report = has.leaves.told_is.report;
+      whole = whole-run o a n words limit run has w;
+      prints = printed-report o a n words limit run has po pn status p;
+    })
+    go (inr (stop, w, p)) = stopped words o n po pn run.ran.journal status limit stop (stops-writing o a n words limit run has stop w) p
+
+  pub ran-well : IsOver status → ComesToEnd (call_of words o n po pn run.ran.journal status) limit
+  ran-well over = go did where
+    well : WritesAll a n (outputs_of_run run) → Prints po pn (report_text has.leaves.told_is.report) (verdict_status has.leaves.told_is.report.verdict) status
+        → ComesToEnd (call_of words o n po pn run.ran.journal status) limit
+    well w (inl p) = inl (has.name, has.keeps, has.asks, record { report = has.leaves.told_is.report; whole = whole-run o a n words limit run has w; printed = p.1; status = p.0 })
+    well w (inr p) = absurd (subst IsOver p.0 over)
+
+    go : Finishes a n po pn run status → ComesToEnd (call_of words o n po pn run.ran.journal status) limit
+    go (inl (w, p)) = well w (printed-report o a n words limit run has po pn status p)
+    go (inr (stop, w, p)) = absurd (stop-not-over po pn stop status p over)
+
+  pub ran-status : status ≡ statuses.Running → IsReplay words
+  ran-status is = absurd (ran-not-running is)
+
+  pub ran-complete : AtMostOneOutcome StdNext → StopsAreNoSchedules StdNext → HasJournalOrFault → IsComplete (call_of words o n po pn run.ran.journal status) limit
+  ran-complete one no_schedule apart quiet = go did where
+    go : Finishes a n po pn run status → IfSome o.files (λ files. IsValid files words limit → IsOver status ⊎ (status ≡ statuses.NoMemory))
+    go (inl (w, p)) = own-complete o.files (λ files. IsValid files words limit) po pn run.ran.told.report.items (verdict_status run.ran.told.verdict) status (over-any run.ran.told.verdict) p quiet.prints
+    go (inr (stop, w, p)) = stop-complete one no_schedule apart words o n po pn run.ran.journal status limit stop (stops-writing o a n words limit run has stop w) p quiet
+
+-- what a call says that writes no file, and what was printed of it
+module _ (words : List (String Global)) (o n po pn : Outside) (said : Said) (status : Status) (limit : ℕ)
+    (says : Says (so_far words o n said.journal) limit said.text.items said.status) (p : Prints po pn said.text.items said.status status) where
+  pub said-caused : IsCaused (call_of words o n po pn said.journal status) limit
+  said-caused = inr (inl (record { text = said.text.items; own = said.status; says = says; prints = p }))
+
+  pub said-well : IsOver status → ComesToEnd (call_of words o n po pn said.journal status) limit
+  said-well over = go p where
+    go : Prints po pn said.text.items said.status status → ComesToEnd (call_of words o n po pn said.journal status) limit
+    go (inl q) = inr (record { text = said.text.items; says = subst (λ (s : Status). Says (so_far words o n said.journal) limit said.text.items s) (sym q.0) says; printed = q.1 })
+    go (inr q) = absurd (subst IsOver q.0 over)
+
+  -- the words ask for a replay, or this isn't the status of a network that can go on
+  by-form : Says (so_far words o n said.journal) limit said.text.items said.status → (said.status ≢ statuses.Running) ⊎ IsReplay words
+  by-form (inl s) = inl (λ is. let h = s.status_is in cc)
+  by-form (inr (inl s)) = inr (s.name, s.kept, s.asks)
+  by-form (inr (inr s)) = inl (subst (λ (t : Status). t ≢ statuses.Running) (sym s.status_is) (quiet-not-running s.last s.report.verdict s.run.run.quiet s.tells.verdict))
+
+  pub said-status : status ≡ statuses.Running → IsReplay words
+  said-status is = go (by-form says) where
+    go : (said.status ≢ statuses.Running) ⊎ IsReplay words → IsReplay words
+    go (inl other) = absurd (own-not-running po pn said.text.items said.status status other p is)
+    go (inr replay) = replay
+
+  own-over : Says (so_far words o n said.journal) limit said.text.items said.status → IsOver said.status
+  own-over (inl s) = subst IsOver (sym s.status_is) tt
+  own-over (inr (inl s)) = subst IsOver (sym s.status_is) (over-any s.report.verdict)
+  own-over (inr (inr s)) = subst IsOver (sym s.status_is) (over-any s.report.verdict)
+
+  pub said-complete : IsComplete (call_of words o n po pn said.journal status) limit
+  said-complete quiet = own-complete o.files (λ files. IsValid files words limit) po pn said.text.items said.status status (own-over says) p quiet.prints
+
+  changes-none : Says (so_far words o n said.journal) limit said.text.items said.status → ChangesNoName (so_far words o n said.journal)
+  changes-none (inl s) = record { asks = inl (s.name, s.asks); files = ap (λ (x : Outside). x.files) s.checked.shelf; created = ap (λ (x : Outside). x.created) s.checked.shelf }
+  changes-none (inr (inl s)) = record { asks = inr (inl (s.name, s.kept, s.asks)); files = ap (λ (x : Outside). x.files) s.replayed.ready.reads; created = ap (λ (x : Outside). x.created) s.replayed.ready.reads }
+  changes-none (inr (inr s)) = record { asks = inr (inr (s.number, s.asks)); files = ap (λ (x : Outside). x.files) s.shelf; created = ap (λ (x : Outside). x.created) s.shelf }
+
+  pub said-meaning : LeavesMeaning (so_far words o n said.journal) limit
+  said-meaning = inr (changes-none says)

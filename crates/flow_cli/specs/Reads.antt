@@ -1,0 +1,98 @@
+-- What a call reads before a network runs, or is made to run again: the network file, a journal's file, the files of the network's readers.
+use Rattle.std.specs.Prelude.{◌≡◌, ◌⊎◌, ℕ, List, [], ◌∷◌, ◌++◌, map, Some, None, String, string_bytes}
+use Rattle.std.specs.declared.alloc.Global.{Global}
+use Rattle.std.specs.declared.option.Option.{Option}
+use Rattle.std.specs.Option.{option_and_then}
+use Rattle.flow_text.specs.Edge.{Outside, Name, Files}
+use Rattle.flow_plan.specs.Network.{Network}
+use Rattle.flow_words.specs.Words.{Asked, Run, Check, Replay, Make, command_of}
+use Rattle.flow_parse.specs.declared.value.NetText.{NetText}
+use Rattle.flow_catalogue.specs.declared.standard.Std.{Std}
+use Rattle.flow_journal.specs.Files.{IsFileOf}
+use Rattle.flow_journal.specs.declared.merge.Journal.{Journal}
+use Rattle.flow_cli.specs.Step.{Filled, OnlyReads, IsRead, whole}
+use Rattle.flow_cli.specs.Components.{inputs_of, AreRead, AreComponents, IsNext}
+use Rattle.flow_cli.specs.Networks.{Holds, IsStandardPlan}
+use Rattle.flow_cli.specs.declared.components.TheConstants.{JOURNAL_FILE_LIMIT}
+
+-- What the words ask for, if they are a command line.
+abbrev pub Asks : List (String Global) → Asked → Type 0
+Asks words asked = command_of (map string_bytes words) ≡ Some asked
+
+-- The name of the network file of what is asked for. A make has none.
+abbrev pub file_of : Asked → Option Name
+file_of (Run name keeps) = Some name
+file_of (Check name) = Some name
+file_of (Replay name kept) = Some name
+file_of (Make number) = None
+
+-- The words are a command line on this network file.
+abbrev pub IsCommand : List (String Global) → Name → Type 0
+IsCommand words name = option_and_then file_of (command_of (map string_bytes words)) ≡ Some name
+
+-- The words ask that turns are made in the network of this file: in a run or in a replay.
+abbrev pub MakesTurns : List (String Global) → Name → Type 0
+MakesTurns words name = ((keeps : Option Name) × Asks words (Run name keeps)) ⊎ ((kept : Name) × Asks words (Replay name kept))
+
+-- No turn was made.
+abbrev pub IsEmptyJournal : Journal → Type 0
+IsEmptyJournal journal = (journal.turns ≡ []) × (journal.seen ≡ [])
+
+-- The network file of this name gave these bytes, which spell this value; and this is its plan, a valid one over the standard kinds.
+pub record IsFile (told : Option Files) (limit : ℕ) (name : Name) (net : List ℕ) (text : NetText) (plan : Network) : Type 0 where
+  pub read : IsRead told limit (name, net)
+  pub holds : Holds net text plan
+  pub standard : IsStandardPlan plan
+
+-- The file of this name gave these bytes, which are the file of this journal.
+pub record IsJournalFile (told : Option Files) (name : Name) (bytes : List ℕ) (journal : Journal) : Type 0 where
+  pub read : IsRead told JOURNAL_FILE_LIMIT (name, bytes)
+  pub is : IsFileOf journal bytes
+
+-- What a call with these words reads between the network file and the files of its network: nothing in a run, and in a replay the file of its journal.
+abbrev pub IsBetween : List (String Global) → Option Files → Name → List Filled → Type 0
+IsBetween words told name between =
+    ((keeps : Option Name) × Asks words (Run name keeps) × (between ≡ []))
+    ⊎ ((kept : Name) × (bytes : List ℕ) × (journal : Journal) × Asks words (Replay name kept) × IsJournalFile told kept bytes journal × (between ≡ (kept, bytes) ∷ []))
+
+-- The network file was read, then these files, then those of the readers, in the order of the processes; each once, to its end, and nothing else. This is the
+-- network's plan, and these are the components of its processes, each reader on what its file gave.
+pub record IsReady (old new : Outside) (limit : ℕ) (name : Name) (between : List Filled) (plan : Network) (components : List Std) : Type 0 where
+  pub net : List ℕ
+  pub text : NetText
+  pub file : IsFile old.files limit name net text plan
+  pub given : List (List ℕ)
+  pub inputs : AreRead old.files limit (inputs_of plan.processes given)
+  pub reads : OnlyReads old new (map whole ((name, net) ∷ (between ++ inputs_of plan.processes given)))
+  pub are_components : AreComponents plan given components
+
+-- The file `read` is that of the journal, which a replay reads behind the network file, and may have so many bytes.
+pub record IsJournalNext (words : List (String Global)) (told : Option Files) (limit : ℕ) (name : Name) (earlier : List Filled) (read : Name) (most : ℕ) : Type 0 where
+  pub asks : Asks words (Replay name read)
+  pub net : List ℕ
+  pub text : NetText
+  pub plan : Network
+  pub file : IsFile told limit name net text plan
+  pub earlier_are : earlier ≡ (name, net) ∷ []
+  pub most_is : most ≡ JOURNAL_FILE_LIMIT
+
+-- The file `read` is that of a reader of the network, and these are all files before it.
+pub record IsInputNext (words : List (String Global)) (told : Option Files) (limit : ℕ) (name : Name) (earlier : List Filled) (read : Name) (most : ℕ) : Type 0 where
+  pub net : List ℕ
+  pub text : NetText
+  pub plan : Network
+  pub file : IsFile told limit name net text plan
+  pub between : List Filled
+  pub is_between : IsBetween words told name between
+  pub inputs : List Filled
+  pub next : IsNext told limit plan inputs read
+  pub earlier_are : earlier ≡ (name, net) ∷ (between ++ inputs)
+  pub most_is : most ≡ limit
+
+-- The file `read` is the next one that the call reads behind these, which it read whole, and it may have so many bytes: the network file first; then, in a replay,
+-- the journal's file; then, in a run and in a replay, those of its network.
+abbrev pub IsNextFile : List (String Global) → Option Files → ℕ → Name → List Filled → Name → ℕ → Type 0
+IsNextFile words told limit name earlier read most =
+    ((read ≡ name) × (earlier ≡ []) × (most ≡ limit))
+    ⊎ IsJournalNext words told limit name earlier read most
+    ⊎ IsInputNext words told limit name earlier read most
