@@ -18,6 +18,9 @@ flow --make N                runs the network that is made from N, a number from
 flow -- NETFILE              runs a file whose name begins with -
 --workers isn't built yet.";
 
+const OTHER_RUN: &str =
+    "A journal is replayed with the network file and the input files of its own run.";
+
 /// Explains a status, where there is more to say than its line on the standard output. What can't be said, for want of
 /// memory or of a standard error, is left out.
 pub fn explain<R: Files + Eprint + Drop>(
@@ -35,6 +38,7 @@ pub fn explain<R: Files + Eprint + Drop>(
             }
         }
         Status::Refused => explain_refusal(alloc, rt, words),
+        Status::JournalRefused => say(rt, OTHER_RUN),
         _ => {}
     }
 }

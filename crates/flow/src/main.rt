@@ -1,4 +1,5 @@
-//! The program `flow NETFILE`: runs the network of a file over real files, and prints the report.
+//! The program `flow`, over real files: runs the network of a file and may keep the journal of the run, checks a network
+//! file, makes the turns of a journal again, or runs the network that is made from a number; and prints what comes of it.
 #![tactic(auto)]
 
 mod explain;
