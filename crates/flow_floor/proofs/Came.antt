@@ -1,20 +1,44 @@
--- What a turn leaves of a body's connections, and the connection that a body closes.
-use Rattle.std.proofs.Common.{◌≡◌, ℕ, zero, suc, ◌+◌, ◌<◌, List, [], ◌∷◌, Option, Some, None, slice_get, ap, sym, subst, ◌∙◌}
+-- What a turn leaves of a body's connections, the connection of a turn, and what a call for a turn tells.
+use Rattle.std.proofs.Common.{◌≡◌, ℕ, zero, suc, ◌+◌, ◌<◌, ◌≤◌, arith, refl, inl, Bool, List, [], ◌∷◌, ◌++◌, length, Option, Some, None, slice_get, ap, sym, subst, ◌∙◌}
 use Rattle.std.specs.Option.{option_map}
-use Rattle.std.specs.Prelude.{option_and_then}
-use Rattle.flow_model.specs.States.{Outlet, outlets, outlets_from}
-use Rattle.flow_machine.specs.Values.{BodyValue}
+use Rattle.std.specs.Prelude.{option_and_then, is_some}
+use Rattle.atomic_table.specs.Seated.{TableId}
+use Rattle.flow_packet.specs.Tree.{Tree}
+use Rattle.flow_packet.specs.Held.{Held as Hands}
+use Rattle.flow_component.specs.declared.Answer.{Answer}
+use Rattle.flow_component.specs.declared.Port.{Port}
+use Rattle.flow_component.specs.declared.Shape.{Shape}
+use Rattle.flow_component.specs.declared.Wish.TheVariants as wishes
+use Rattle.flow_component.specs.Laws.{Outcome}
+use Rattle.flow_model.specs.declared.Block.{Block}
+use Rattle.flow_model.specs.declared.Block.TheVariants as blocks
+use Rattle.flow_model.specs.declared.Stage.TheVariants as stages
+use Rattle.flow_model.specs.Events.{Event}
+use Rattle.flow_model.specs.Order.{connection_of}
+use Rattle.flow_model.specs.States.{From, Process, Outlet, outlets, outlets_from, output_at}
+use Rattle.flow_model.specs.Stands.{ChannelShown}
+use Rattle.flow_model.specs.Verdicts.{waits_for}
+use Rattle.flow_machine.specs.Values.{BodyValue, NetValue}
 use Rattle.flow_machine.specs.FitNets.{IsWiredBody}
 use Rattle.flow_machine.specs.Outlets.{connection_at}
-use Rattle.flow_machine.specs.Answers.{case_of}
+use Rattle.flow_machine.specs.Nets.{BodyTurn, SendsAt}
+use Rattle.flow_machine.specs.Answers.{case_of, stage_case, receive_case, send_case, level_case, close_case}
+use Rattle.flow_machine.specs.declared.answers.Case.{Case}
 use Rattle.flow_machine.specs.declared.answers.Case.TheVariants as cases
 use Rattle.flow_machine.proofs.NetTurns.{case-is}
+use Rattle.flow_ring.specs.Words.{held_bit, level_in, senders_in}
+use Rattle.flow_floor.specs.declared.board.View.{View}
 use Rattle.flow_floor.specs.declared.floor.Worker.{Worker}
 use Rattle.flow_floor.specs.declared.floor.Held.{Held}
 use Rattle.flow_floor.specs.declared.floor.Turned.{Turned}
 use Rattle.flow_floor.specs.declared.floor.Turned.TheVariants as turned
-use Rattle.flow_floor.specs.Workers.{IsMade, IsUnmade, MatchTurned}
+use Rattle.flow_floor.specs.Looks.{InSeen, IsLook}
+use Rattle.flow_floor.specs.Plays.{Below, look_at, seeing, grabbing, stamping, releasing, turn_of}
+use Rattle.flow_floor.specs.Turning.{MachineTurn, MachineTurnOf}
+use Rattle.flow_floor.specs.Turns.{Turns, IsMade, IsUnmade, IsBusy, IsBlocked, ToldLevel, connection_of_case}
+use Rattle.flow_floor.specs.Workers.{view, HasGrabbed, IsGrabbing, IsHeldBy, IsSameSeat}
 use Rattle.flow_floor.proofs.Thinking.{wired-turn}
+use Rattle.flow_floor.proofs.Turnings.{closed-is}
 
 outlet-back : (k : ℕ) (os : List (Option ℕ)) (j c : ℕ) → connection_at (outlets_from k os) j ≡ Some c → (m : ℕ) × (slice_get os m ≡ Some (Some c))
 outlet-back k [] j c is = absurd (cc)
@@ -30,9 +54,86 @@ close-range m c b is wired =
     let o = outlet-back 0 b.process.outputs t.0 c at in
     wired.outputs o.0 c (ap (option_and_then (λ (x : Option ℕ). x)) o.1)
 
--- A held body that comes out of a turn has only connections of the net.
-pub wired-came : {K : Type 0} (m : ℕ) (h h' : Held K) (w w' : Worker K) (r : Turned) (R : ℕ → Type 0) → MatchTurned r (IsMade h w h' w') (λ n. IsUnmade h w h' w') (λ n. IsUnmade h w h' w' × R n) → IsWiredBody m h.body → IsWiredBody m h'.body
-wired-came m h h' w w' (turned.Made s) R is wired = wired-turn m h.body h'.body is.1.0 s is.1.1 wired
-wired-came {K} m h h' w w' (turned.Busy n) R is wired = subst (λ (x : Held K). IsWiredBody m x.body) (sym is.0) wired
-wired-came {K} m h h' w w' (turned.Blocked n) R is wired = subst (λ (x : Held K). IsWiredBody m x.body) (sym is.0.0) wired
-wired-came m h h' w w' turned.Over R is wired = absurd is
+module _ {K : Type 0} (shape_of : K → Shape) (uses : K → ℕ → Bool) (ready : K → Hands → Answer → Type 0) (next : K → Hands → Answer → Outcome K → Type 0) (n : ℕ) (start : NetValue K) where
+  -- A held body that comes out of a turn has only connections of the net.
+  pub wired-came : (m : ℕ) (h h' : Held K) (w w' : Worker K) (r : Turned) → Turns shape_of uses ready next n start h w h' w' r → IsWiredBody m h.body → IsWiredBody m h'.body
+  wired-came m h h' w w' (turned.Made s) is wired = wired-turn m h.body h'.body is.event s is.turn wired
+  wired-came m h h' w w' (turned.Busy c word) is wired = subst (λ (x : Held K). IsWiredBody m x.body) (sym is.0.0) wired
+  wired-came m h h' w w' (turned.Blocked block word) is wired = subst (λ (x : Held K). IsWiredBody m x.body) (sym is.0.0) wired
+  wired-came m h h' w w' (turned.Over over) is wired = subst (λ (x : Held K). IsWiredBody m x.body) (sym is.0.0) wired
+
+  -- The turn of a stamp that a seat made is that of the body that its process has become.
+  pub machine-of : (o : NetValue K) (f : BodyValue K → BodyValue K) (e : Event) (r p : ℕ) (b d : BodyValue K) (held : Option (ℕ × BodyValue K)) → o ≡ start → held ≡ Some (p, b) → f b ≡ d → MachineTurnOf shape_of uses ready next o r f e held → MachineTurn shape_of uses ready next start r p d e
+  machine-of o f e r p b d held opened is after turn =
+      subst (λ (z : NetValue K). MachineTurn shape_of uses ready next z r p d e) opened (subst (λ (x : BodyValue K). MachineTurn shape_of uses ready next o r p x e) after (subst (MachineTurnOf shape_of uses ready next o r f e) is turn))
+
+  -- A turn at a connection that was grabbed and given back.
+  pub made-at : (z : TableId) (h h' : Held K) (w grabbed stamped given w' : Worker K) (c i most word r : ℕ) (k : ChannelShown) (notes : List ℕ) (e : Event) (f : BodyValue K → BodyValue K) → HasGrabbed shape_of uses ready w grabbed i c most word k → IsGrabbing next z n grabbed h c k
+      → view stamped ≡ stamping (view grabbed) r e f → view given ≡ releasing (view stamped) notes → (view w').made ≡ (view given).made → h'.process ≡ h.process → BodyTurn h.body e r h'.body → MachineTurn shape_of uses ready next start r h.process h.body e
+      → Below r (view grabbed).made → ToldLevel n h.body (view w) (view w') e → IsMade shape_of uses ready next n start h w h' w' r
+  made-at z h h' w grabbed stamped given w' c i most word r k notes e f has q stamp give same process turn machine above told =
+      let before : (view grabbed).made ≡ (view w).made = ap (λ (v : View K). v.made) has.view in
+      record {
+        process = process;
+        event = e;
+        turn = turn;
+        machine = machine;
+        made = same ∙ ap (λ (v : View K). v.made) give ∙ ap (λ (v : View K). v.made) stamp ∙ ap (λ (x : Option (ℕ × BodyValue K)). (view grabbed).made ++ turn_of r x) q.agrees.held ∙ ap (λ (xs : List (ℕ × ℕ)). xs ++ (r, h.process) ∷ []) before;
+        above = subst (Below r) before above;
+        level = told;
+      }
+
+  -- A turn at no connection.
+  pub made-alone : (z : TableId) (h h' : Held K) (w looked w' : Worker K) (r : ℕ) (e : Event) (f : BodyValue K → BodyValue K) → IsHeldBy next z n looked h → (view looked).made ≡ (view w).made → view w' ≡ stamping (view looked) r e f → h'.process ≡ h.process
+      → BodyTurn h.body e r h'.body → MachineTurn shape_of uses ready next start r h.process h.body e → Below r (view looked).made → ToldLevel n h.body (view w) (view w') e → IsMade shape_of uses ready next n start h w h' w' r
+  made-alone z h h' w looked w' r e f q before stamp process turn machine above told = record {
+    process = process;
+    event = e;
+    turn = turn;
+    machine = machine;
+    made = ap (λ (v : View K). v.made) stamp ∙ ap (λ (x : Option (ℕ × BodyValue K)). (view looked).made ++ turn_of r x) q.agrees.held ∙ ap (λ (xs : List (ℕ × ℕ)). xs ++ (r, h.process) ∷ []) before;
+    above = subst (Below r) before above;
+    level = told;
+  }
+
+-- A look that this call made.
+pub seen-now : {K : Type 0} (v w : View K) (n c r : ℕ) → w.look ≡ look_at v (n + c) r → IsLook n v.steps c r w.look
+seen-now v w n c r is = (ap (λ l. l.word) is, ap (λ l. l.read) is, subst (λ m. v.steps < m) (sym (ap (λ l. l.at) is)) (omega arith))
+
+-- The first of the looks that were kept is this one.
+pub kept-now : {K : Type 0} (v w : View K) (n c r : ℕ) → w.seen ≡ look_at v (n + c) r ∷ v.seen → InSeen (IsLook n v.steps c r) w.seen
+kept-now v w n c r is = subst (InSeen (IsLook n v.steps c r)) (sym is) (inl (refl, refl, omega arith))
+
+-- The connection of this turn was found held.
+pub is-busy : {K : Type 0} (n : ℕ) (b : BodyValue K) (v w : View K) (c r : ℕ) → connection_of_case (case_of b.process) ≡ Some c → v.grab ≡ None → held_bit ≤ r → w ≡ seeing v (n + c) r → IsBusy n b v w c r
+is-busy {K} n b v w c r turn none taken is = record {
+  turn = turn;
+  look = seen-now v w n c r (ap (λ (x : View K). x.look) is);
+  free = ap (λ (x : View K). x.look.holding) is ∙ ap (λ (x : Option (ℕ × ChannelShown)). is_some x) none;
+  taken = taken;
+}
+
+-- The connection of a turn, by what the process wishes.
+pub at-receive : {K : Type 0} (x : Process K) (port : Port) (c : ℕ) → x.stage ≡ stages.Wishing (wishes.Receive port) → slice_get x.inputs port.0 ≡ Some (From c) → connection_of_case (case_of x) ≡ Some c
+at-receive x port c stage input = ap connection_of_case (ap (stage_case x) stage ∙ ap (receive_case port) input)
+
+-- The connection of a send.
+pub at-send : {K : Type 0} (x : Process K) (port : Port) (c : ℕ) → SendsAt x.stage port → output_at x port.0 ≡ Some c → connection_of_case (case_of x) ≡ Some c
+at-send x port c stage output = ap connection_of_case (ap (stage_case x) stage.1 ∙ ap (send_case port) output)
+
+-- The connection whose level is asked.
+pub at-level : {K : Type 0} (x : Process K) (port : Port) (c : ℕ) → x.stage ≡ stages.Wishing (wishes.Level port) → output_at x port.0 ≡ Some c → connection_of_case (case_of x) ≡ Some c
+at-level x port c stage output = ap connection_of_case (ap (stage_case x) stage ∙ ap (level_case port) output)
+
+-- The connection that is closed.
+pub at-close : {K : Type 0} (x : Process K) (i c : ℕ) → x.stage ≡ stages.Closing i → connection_at (outlets x) i ≡ Some c → connection_of_case (case_of x) ≡ Some c
+at-close x i c stage outlet = let o = closed-is (slice_get (outlets x) i) c outlet in
+    ap connection_of_case (ap (stage_case x) stage ∙ ap close_case o.1) ∙ ap (λ m. let r : Option ℕ = Some m in r) o.2
+
+-- What a process waits for that finds nothing to receive, and no room to send.
+pub waits-empty : {K : Type 0} (x : Process K) (port : Port) (c : ℕ) → x.stage ≡ stages.Wishing (wishes.Receive port) → slice_get x.inputs port.0 ≡ Some (From c) → waits_for x x.stage ≡ Some (blocks.Empty c port)
+waits-empty x port c stage input = ap (waits_for x) stage ∙ ap (option_and_then (λ m. let r : Option Block = Some (blocks.Empty m port) in r)) (ap connection_of input)
+
+-- The same of a send.
+pub waits-full : {K : Type 0} (x : Process K) (port : Port) (c : ℕ) → SendsAt x.stage port → output_at x port.0 ≡ Some c → waits_for x x.stage ≡ Some (blocks.Full c port)
+waits-full x port c stage output = ap (waits_for x) stage.1 ∙ ap (option_and_then (λ m. let r : Option Block = Some (blocks.Full m port) in r)) output

@@ -1,6 +1,8 @@
 -- What a floor leaves when it is closed.
 use Rattle.std.proofs.lemmas.List.{length-map}
-use Rattle.std.proofs.Common.{◌≡◌, ℕ, ◌+◌, Bool, true, List, length, arith, map, get_or, refl, ap, sym, subst, ◌∙◌, Some, None, slice_get, ◌⊎◌, inl, inr}
+use Rattle.std.specs.Prelude.{not}
+use Rattle.std.proofs.lemmas.Bool.Decides.{nat_tests}
+use Rattle.std.proofs.Common.{◌≡◌, ℕ, ◌+◌, ◌<◌, nat_eq, cond, Bool, true, false, List, [], ◌∷◌, length, arith, map, get_or, refl, ap, sym, subst, ◌∙◌, Some, None, slice_get, ◌⊎◌, inl, inr}
 use lib.ListN.{get_elem?}
 use mathlib.Core.Option.{some}
 use Rattle.atomic_table.specs.Table.{Final, Seen}
@@ -21,6 +23,7 @@ use Rattle.flow_machine.specs.Logs.{Logged, turns_made}
 use Rattle.flow_machine.specs.Nets.{looks_of}
 use Rattle.flow_machine.specs.FitNets.{FitNet}
 use Rattle.flow_machine.specs.Solo.{GoesBy, reached}
+use Rattle.flow_machine.specs.Thoughts.{IsUnset}
 use Rattle.flow_machine.specs.Joins.{IsPlanned, Joins}
 use Rattle.flow_machine.proofs.Standings.{get-map}
 use Rattle.flow_machine.proofs.Planning.{body_wires, capacity_of, planned-kept}
@@ -31,12 +34,13 @@ use Rattle.flow_floor.specs.declared.board.Slot.{Slot}
 use Rattle.flow_floor.specs.declared.board.Slot.TheVariants as slot
 use Rattle.flow_floor.specs.declared.board.View.{View}
 use Rattle.flow_floor.specs.Rule.{Law}
-use Rattle.flow_floor.specs.Waking.{IsWiredAs}
-use Rattle.flow_floor.specs.Shut.{IsOverStage, IsShut, HasBodies, HasChannels, BodiesIn, ChannelsIn}
+use Rattle.flow_floor.specs.Law.{numbered}
+use Rattle.flow_floor.specs.Waking.{IsWiredAs, IsOverStage, IsDoneWord, IsRetired, AllRetired, InList}
+use Rattle.flow_floor.specs.Shut.{IsShut, IsQuietNet, ListsStarved, AllUnset, is_over_stage, starves, HasBodies, HasChannels, BodiesIn, ChannelsIn}
 use Rattle.flow_floor.proofs.Shutting.{same-lists}
 use Rattle.flow_floor.proofs.Seats.{St, get-exists, get-within}
 use Rattle.flow_floor.proofs.Ends.{closes}
-use Rattle.flow_floor.proofs.Quiet.{quiet-at-zero}
+use Rattle.flow_floor.proofs.Quiet.{quiet-at-zero, free-at-zero, parked-at-zero}
 
 over-still : {K : Type 0} (channels : List ChannelShown) (b : BodyValue K) (stage : Stage) → b.process.stage ≡ stage → IsOverStage stage → IsThoughtStage stage × ((m : ℕ) → event_from (looks_of channels) b.process m ≡ None)
 over-still channels b stages.Ended at over = (tt, λ m. ap (stage_event (looks_of channels) b.process m) at)
@@ -45,6 +49,40 @@ over-still channels b stages.Idle at over = absurd over
 over-still channels b (stages.Told answer) at over = absurd over
 over-still channels b (stages.Wishing wish) at over = absurd over
 over-still channels b (stages.Closing i) at over = absurd over
+
+-- What is told of a stage is so.
+pub over-is : (stage : Stage) → is_over_stage stage ≡ true → IsOverStage stage
+over-is stages.Ended is = tt
+over-is (stages.Failed cause) is = tt
+over-is stages.Idle is = absurd (cc)
+over-is (stages.Told answer) is = absurd (cc)
+over-is (stages.Wishing wish) is = absurd (cc)
+over-is (stages.Closing i) is = absurd (cc)
+
+not-over : (stage : Stage) → is_over_stage stage ≡ false → IsOverStage stage → ⊥
+not-over stages.Ended is over = let e : true ≡ false = is in absurd (cc)
+not-over (stages.Failed cause) is over = let e : true ≡ false = is in absurd (cc)
+not-over stages.Idle is over = over
+not-over (stages.Told answer) is over = over
+not-over (stages.Wishing wish) is over = over
+not-over (stages.Closing i) is over = over
+
+-- Who is neither parked nor over, and who is one of these.
+starves-true : (w : ℕ) (stage : Stage) → starves w stage ≡ true → (w ≡ 0 → ⊥) × (is_over_stage stage ≡ false)
+starves-true w stage is = by (nat_eq w 0) refl (is_over_stage stage) refl is
+  where
+    by : (a : Bool) → nat_eq w 0 ≡ a → (b : Bool) → is_over_stage stage ≡ b → cond a false (not b) ≡ true → (w ≡ 0 → ⊥) × (is_over_stage stage ≡ false)
+    by true z b o is = absurd (let e : false ≡ true = is in cc)
+    by false z true o is = absurd (let e : false ≡ true = is in cc)
+    by false z false o is = (λ e. (let t : 0 < w = grind (arith, nat_tests) in omega (arith, t, e)), o)
+
+starves-false : (w : ℕ) (stage : Stage) → starves w stage ≡ false → (w ≡ 0) ⊎ IsOverStage stage
+starves-false w stage is = by (nat_eq w 0) refl (is_over_stage stage) refl is
+  where
+    by : (a : Bool) → nat_eq w 0 ≡ a → (b : Bool) → is_over_stage stage ≡ b → cond a false (not b) ≡ false → (w ≡ 0) ⊎ IsOverStage stage
+    by true z b o is = inl (let t : w ≡ 0 = grind (arith, nat_tests) in t)
+    by false z true o is = inr (over-is stage o)
+    by false z false o is = absurd (let e : true ≡ false = is in cc)
 
 module _ {K : Type 0} (shape_of : K → Shape) (uses : K → ℕ → Bool) (ready : K → Held → Answer → Type 0) (next : K → Held → Answer → Outcome K → Type 0) (start : NetValue K) where
   abbrev Rule : St K → Type 0
@@ -73,13 +111,16 @@ module _ {K : Type 0} (shape_of : K → Shape) (uses : K → ℕ → Bool) (read
     pub log : List Logged
     pub fit : FitNet shape_of uses ready now
     pub goes : GoesBy shape_of uses ready (reached next) start (turns_made start) log now
-    pub turns : map (λ (e : ℕ × ℕ). e.1) v.made ≡ map (λ (t : Logged). t.process) log
+    pub turns : v.made ≡ numbered (turns_made start) log
     pub total : turns_made now ≡ turns_made start + length log
     pub sizes : (length now.bodies ≡ length start.bodies) × (length now.channels ≡ length start.channels)
     pub bodies : (p : ℕ) (b : BodyValue K) → slice_get now.bodies p ≡ Some b → get_elem? xs p ≡ some (slot.Body b)
     pub channels : (c : ℕ) (k : ChannelShown) → slice_get now.channels c ≡ Some k → get_elem? xs (length start.bodies + c) ≡ some (slot.Channel k)
     pub slots : length xs ≡ length start.bodies + length start.channels
     pub planned : IsPlanned now
+    pub done : AllRetired ws now.bodies
+    pub words : v.read_zero ≡ true → (p : ℕ) (b : BodyValue K) → slice_get now.bodies p ≡ Some b → (get_or ws p 0 ≡ 0) ⊎ IsDoneWord (get_or ws p 0)
+    pub thought : v.read_zero ≡ true → (p : ℕ) (b : BodyValue K) → slice_get now.bodies p ≡ Some b → get_or ws p 0 ≡ 0 → IsThoughtStage b.process.stage
     pub quiet : v.read_zero ≡ true → ((p : ℕ) (b : BodyValue K) → slice_get now.bodies p ≡ Some b → (get_or ws p 0 ≡ 0) ⊎ IsOverStage b.process.stage) → (t : State K) → StandsForOpen (shown_net now) t → Quiet t
 
   pub closing : (id : ℕ) (v : View K) (ws : List ℕ) (xs : List (Slot K)) → v.shares ≡ 32 → v.held ≡ None → Final (Seen Rule id v) ws xs → Closes v ws xs
@@ -98,6 +139,9 @@ module _ {K : Type 0} (shape_of : K → Shape) (uses : K → ℕ → Bool) (read
         channels = ended.channels;
         slots = sym deep ∙ r.flow.deep;
         planned = planned-now r.beside.now r.wakes.wired r.flow.same r.flow.goes.connections r.planned;
+        done = subst (λ (l : List ℕ). AllRetired l r.beside.now.bodies) words r.done;
+        words = λ zero_read p b there. subst (λ (l : List ℕ). (get_or l p 0 ≡ 0) ⊎ IsDoneWord (get_or l p 0)) words (free-at-zero shape_of uses ready next start s r ((r.wakes.each id v seen.1).zero zero_read) p b there);
+        thought = λ zero_read p b there parked. (parked-at-zero shape_of uses ready next start s r ((r.wakes.each id v seen.1).zero zero_read) p b there (ap (λ (l : List ℕ). get_or l p 0) words ∙ parked)).0;
         quiet = λ zero_read over t stands. quiet-at-zero shape_of uses ready next start s r ((r.wakes.each id v seen.1).zero zero_read)
             (λ p b there. elim (over p b there) [
               | inl parked ↦ inl (ap (λ (l : List ℕ). get_or l p 0) words ∙ parked)
@@ -122,5 +166,36 @@ module _ {K : Type 0} (shape_of : K → Shape) (uses : K → ℕ → Bool) (read
   pub join-pieces : (v : View K) (ws : List ℕ) (xs : List (Slot K)) (net : NetValue K) (c : Closes v ws xs) → c.now ≡ net → Joins shape_of uses ready net
   join-pieces v ws xs net c is = subst (Joins shape_of uses ready) is (joins-pieces shape_of uses ready c.now c.fit c.planned)
 
-  pub is-shut : (v : View K) (ws : List ℕ) (xs : List (Slot K)) (net : NetValue K) (c : Closes v ws xs) → c.now ≡ net → IsShut shape_of uses ready next start v net
-  is-shut v ws xs net c is = subst (IsShut shape_of uses ready next start v) is (record { words = ws; log = c.log; goes = c.goes; len = c.sizes.0; total = c.total; turns = c.turns; quiet = c.quiet })
+  pub is-shut : (v : View K) (ws : List ℕ) (xs : List (Slot K)) (net : NetValue K) (c : Closes v ws xs) → c.now ≡ net → IsShut shape_of uses ready next start v.made net
+  is-shut v ws xs net c is = subst (IsShut shape_of uses ready next start v.made) is (record { log = c.log; goes = c.goes; len = c.sizes.0; total = c.total; turns = c.turns })
+
+  -- where the worker read 0, the processes that are listed aren't set
+  pub starved-unset : (v : View K) (ws : List ℕ) (xs : List (Slot K)) (net : NetValue K) (m : ℕ) (starved : List ℕ) (c : Closes v ws xs) → c.now ≡ net → ListsStarved ws net.bodies m starved → v.read_zero ≡ true → AllUnset net starved
+  starved-unset v ws xs net m starved c is lists zero_read =
+      subst (λ (n : NetValue K). ListsStarved ws n.bodies m starved → AllUnset n starved) is
+      (λ l k d low. (let p = get_or starved k d in let a = l.each k d low in let t = starves-true (get_or ws p 0) a.0.process.stage a.2 in (a.0, a.1, unset p a.0 a.1 t.0 t.1 (c.words zero_read p a.0 a.1)))) lists
+    where
+      retired : (b : BodyValue K) → is_over_stage b.process.stage ≡ false → IsRetired b → IsUnset b
+      retired b left (inl over) = absurd (not-over b.process.stage left over)
+      retired b left (inr unset) = unset
+
+      unset : (p : ℕ) (b : BodyValue K) → slice_get c.now.bodies p ≡ Some b → (get_or ws p 0 ≡ 0 → ⊥) → is_over_stage b.process.stage ≡ false → (get_or ws p 0 ≡ 0) ⊎ IsDoneWord (get_or ws p 0) → IsUnset b
+      unset p b there high left (inl parked) = absurd (high parked)
+      unset p b there high left (inr done) = retired b left (c.done p b there done)
+
+  -- where it read 0, and none is listed, the net is quiet
+  pub quiet-none : (v : View K) (ws : List ℕ) (xs : List (Slot K)) (net : NetValue K) (starved : List ℕ) (c : Closes v ws xs) → c.now ≡ net → ListsStarved ws net.bodies (length net.bodies) starved → v.read_zero ≡ true → starved ≡ [] → IsQuietNet net
+  quiet-none v ws xs net starved c is lists zero_read none =
+      subst (λ (n : NetValue K). ListsStarved ws n.bodies (length n.bodies) starved → IsQuietNet n) is
+      (λ l. record {
+        thought = λ p b there. thought p b there (rests l p b there (starves (get_or ws p 0) b.process.stage) refl);
+        quiet = c.quiet zero_read (λ p b there. rests l p b there (starves (get_or ws p 0) b.process.stage) refl);
+      }) lists
+    where
+      rests : ListsStarved ws c.now.bodies (length c.now.bodies) starved → (p : ℕ) (b : BodyValue K) → slice_get c.now.bodies p ≡ Some b → (is : Bool) → starves (get_or ws p 0) b.process.stage ≡ is → (get_or ws p 0 ≡ 0) ⊎ IsOverStage b.process.stage
+      rests l p b there true is = absurd (subst (InList p) none (l.all p b (get-within c.now.bodies p b there) there is))
+      rests l p b there false is = starves-false (get_or ws p 0) b.process.stage is
+
+      thought : (p : ℕ) (b : BodyValue K) → slice_get c.now.bodies p ≡ Some b → (get_or ws p 0 ≡ 0) ⊎ IsOverStage b.process.stage → IsThoughtStage b.process.stage
+      thought p b there (inl parked) = c.thought zero_read p b there parked
+      thought p b there (inr over) = (over-still c.now.channels b b.process.stage refl over).0

@@ -1,25 +1,14 @@
 -- Lists of workers.
-use Rattle.std.proofs.Common.{◌≡◌, ℕ, zero, suc, ◌+◌, ◌<◌, List, [], ◌∷◌, ◌++◌, All, length, get_or, arith}
+use Rattle.std.proofs.Common.{◌≡◌, ℕ, zero, suc, ◌+◌, ◌<◌, List, [], ◌∷◌, ◌++◌, All, length, get_or, sym, ap, arith}
 use Rattle.std.specs.Prelude.{sum_by}
 use Rattle.std.proofs.lemmas.List.Elements.{All-append}
 use Rattle.std.proofs.lemmas.List.Sums.{sum_by-append}
 use Rattle.atomic_table.specs.Seated.{TableId}
 use Rattle.flow_floor.specs.declared.floor.Worker.{Worker}
 use Rattle.flow_floor.specs.Workers.{IsIdle}
-use Rattle.flow_floor.specs.Crew.{IsCrew}
-
-All-one : {X : Type 0} (P : X → Type 0) (x : X) → P x → All P (x ∷ [])
-All-one P x p zero d l = p
-All-one P x p (suc k) d l = absurd (omega (arith, l))
-
-All-front : {X : Type 0} (P : X → Type 0) (xs : List X) (y : X) → All P (xs ++ y ∷ []) → All P xs
-All-front P [] y a k d l = absurd (omega (arith, l))
-All-front P (x ∷ xs) y a zero d l = a zero d (omega arith)
-All-front P (x ∷ xs) y a (suc k) d l = All-front P xs y (λ i e m. a (suc i) e (omega (arith, m))) k d (omega (arith, l))
-
-All-last : {X : Type 0} (P : X → Type 0) (xs : List X) (y : X) → All P (xs ++ y ∷ []) → P y
-All-last P [] y a = a zero y (omega arith)
-All-last P (x ∷ xs) y a = All-last P xs y (λ i e m. a (suc i) e (omega (arith, m)))
+use Rattle.flow_floor.specs.Plays.{merge}
+use Rattle.flow_floor.specs.Crew.{IsCrew, made_by}
+use Rattle.flow_floor.proofs.Shutting.{All-one, All-front, All-last}
 
 module _ {K : Type 0} where
   shares : Worker K → ℕ
@@ -51,3 +40,9 @@ module _ {K : Type 0} where
 
   pub crew-each : (z : TableId) (xs ys : List (Worker K)) → IsCrew z xs → length ys ≡ length xs → ((i : ℕ) (d : Worker K) → i < length xs → IsIdle z (get_or ys i d) × ((get_or ys i d).seat.me.0.shares ≡ (get_or xs i d).seat.me.0.shares)) → IsCrew z ys
   crew-each z xs ys c l h = ((λ k d m. (h k d (omega (arith, m, l))).0), omega (arith, shares-each xs ys l (λ i d m. (h i d m).1), c.1))
+
+  -- the turns of two workers are those of the one that took in the other
+  pub made-pair : (xs : List (Worker K)) (a b c : Worker K) → c.seat.me.0.made ≡ merge a.seat.me.0.made b.seat.me.0.made → made_by ((xs ++ a ∷ []) ++ b ∷ []) ≡ made_by (xs ++ c ∷ [])
+  made-pair [] a b c is = sym is
+  made-pair (x ∷ []) a b c is = ap (merge x.seat.me.0.made) (sym is)
+  made-pair (x ∷ y ∷ xs) a b c is = ap (merge x.seat.me.0.made) (made-pair (y ∷ xs) a b c is)

@@ -24,12 +24,13 @@ use Rattle.flow_floor.specs.declared.board.Slot.{Slot}
 use Rattle.flow_floor.specs.declared.board.Slot.TheVariants as slot
 use Rattle.flow_floor.specs.declared.board.View.{View}
 use Rattle.flow_floor.specs.Seats.{newcomer}
-use Rattle.flow_floor.specs.Law.{IsOver, Receives, Stands, Lies, Knows, Beside, AllBelow}
+use Rattle.flow_floor.specs.Law.{IsOver, Receives, Stands, Lies, Knows, Beside, AllBelow, numbered}
 use Rattle.flow_floor.specs.Waking.{counts, live_in, InList, IsNoted, AllBlock, Keeps}
 use Rattle.flow_floor.specs.Rule.{Law}
 use Rattle.flow_floor.specs.Plays.{cut, merged, merge, renamed}
 use Rattle.flow_floor.proofs.Seats.{some_Some, get-exists, at_inside, St, state}
 use Rattle.flow_floor.proofs.Wakes.{total_set, total_one}
+use Rattle.flow_floor.proofs.Retires.{low-undone}
 use Rattle.flow_floor.proofs.Merges.{below-more, turns_by-none, turns_by-all, merge-turns, turns_by-renamed_else, turns_by-renamed_gone, length-renamed, below-renamed}
 
 -- an element of a list that was made one longer
@@ -96,6 +97,7 @@ module _ {K : Type 0} (shape_of : K → Shape) (uses : K → ℕ → Bool) (read
       parked = λ q x there z. absurd (omega (arith, (b.bodies q x there).0, z));
       held = λ j q v x e holds z. absurd (let h : None ≡ Some (q, x) = ap (λ (u : View K). u.held) (one j v e) ∙ holds in cc);
     };
+    done = λ q x there is. absurd (low-undone (get_or ws q 0) (omega (arith, (b.bodies q x there).0)) is);
   }
     where
       one : (j : ℕ) (v : View K) → get_elem? (newcomer 32 ∷ []) j ≡ some v → newcomer 32 ≡ v
@@ -131,7 +133,7 @@ module _ {K : Type 0} (shape_of : K → Shape) (uses : K → ℕ → Bool) (read
     pub flow_fit : FitNet shape_of uses ready g.now
     pub bodies : (p : ℕ) (b : BodyValue K) → slice_get g.now.bodies p ≡ Some b → get_elem? xs p ≡ some (slot.Body b)
     pub channels : (c : ℕ) (k : ChannelShown) → slice_get g.now.channels c ≡ Some k → get_elem? xs (P + c) ≡ some (slot.Channel k)
-    pub turns : map (λ (e : ℕ × ℕ). e.1) v.made ≡ map (λ (t : Logged). t.process) g.log
+    pub turns : v.made ≡ numbered (turns_made start) g.log
 
   pub closes : (id : ℕ) (v : View K) (ws : List ℕ) (xs : List (Slot K)) → v.shares ≡ 32 → v.held ≡ None → (f : Final (Seen Rule id v) ws xs) → Ended f.1.0.beside v xs
   closes id v ws xs all idle (s, seen, words, deep, homes) =
@@ -142,7 +144,7 @@ module _ {K : Type 0} (shape_of : K → Shape) (uses : K → ℕ → Bool) (read
         flow_fit = r.flow.fit;
         bodies = λ p b there. homes p (slot.Body b) (at-home p b (g.holder p) (r.flow.each_process p b there));
         channels = λ c k there. homes (P + c) (slot.Channel k) (channel-home c k (g.grabber c) (r.flow.each_channel c k there));
-        turns = ap (map (λ (e : ℕ × ℕ). e.1)) (r.flow.each_seat id v at).made ∙ turns_by-all id (length s.views) (turns_made start) g.by g.log r.flow.seats r.flow.inside
+        turns = (r.flow.each_seat id v at).made ∙ turns_by-all id (length s.views) (turns_made start) g.by g.log r.flow.seats r.flow.inside
             (λ j l other. (let u = view_at s.views j l in sym (r.flow.each_seat j u.0 u.1).made ∙ ((r.wakes.each j u.0 u.1).bare (alone s.views id v at (r.wakes.shares ∙ sym all) j u.0 other u.1)).1));
       }
     where
@@ -200,6 +202,7 @@ module _ {K : Type 0} (shape_of : K → Shape) (uses : K → ℕ → Bool) (read
         | inr note ↦ inr (noted q note)
       ]);
     };
+    done = r.done;
   }
     where
       noted : (q : ℕ) → IsNoted s.views q → IsNoted vs q

@@ -24,7 +24,7 @@ use Rattle.flow_floor.specs.Waking.{StillBlocks, AllBlock, WordsBlock, capacity_
 use Rattle.std.specs.Option.{option_map}
 use Rattle.flow_machine.specs.Nets.{SendsAt}
 use Rattle.flow_ring.specs.Words.{level_in, senders_in}
-use Rattle.flow_floor.specs.Idle.{InSeen, SawPacket, SawNone, SawOver, SawSender, AllSaw, SawOne}
+use Rattle.flow_floor.specs.Looks.{InSeen, IsLook, SawPacket, SawNone, SawOver, AllSaw, FirstOpen}
 use Rattle.flow_floor.specs.Workers.{SeenBlocks}
 use Rattle.flow_floor.proofs.Seats.{some_Some, get-exists, get-within}
 use Rattle.flow_floor.proofs.Quiet.{look-of, no-packets, none-held, some-connected}
@@ -71,10 +71,10 @@ not-connected xs none i c is = let e : true ≡ false = sym (some-connected xs i
 
 module _ {K : Type 0} (shape_of : K → Shape) (uses : K → ℕ → Bool) (ready : K → Hands → Answer → Type 0) (n m p : ℕ) (d : BodyValue K) (seen : List Look) (idle : d.process.stage ≡ stages.Idle) where
   -- it starts where an input was seen to hold a packet
-  pub starts-seen : (i c : ℕ) → slice_get d.process.inputs i ≡ Some (From c) → InSeen (SawPacket n c) seen → Happens (FitNet shape_of uses ready) n m p d None seen Starts
-  starts-seen i c is there now fit at grab all len =
+  pub starts-seen : (since i c : ℕ) → slice_get d.process.inputs i ≡ Some (From c) → InSeen (SawPacket n since c) seen → Happens (FitNet shape_of uses ready) n m p d None seen Starts
+  starts-seen since i c is there now fit at grab all len =
       let k = get-exists now.channels c ((fit.wired p d at).inputs i c is) in
-      let s = seen-in n now (p, d) seen (SawPacket n c) all there in
+      let s = seen-in n now (p, d) seen (SawPacket n since c) all there in
       let full = (s.2 c k.0 s.1.0 k.1 (i, is)).0 s.1.1 in
       let any = some-held now.channels d.process.inputs i c k.0 is k.1 full in
       (0, ap (stage_event (looks_of now.channels) d.process 0) idle ∙ (λ j. cond (any j || (not (list_any is_connected d.process.inputs) && not d.process.has_run)) (Some Starts) (cond (list_all (has_ended (looks_of now.channels)) d.process.inputs) (Some Finishes) None)))
@@ -92,11 +92,11 @@ module _ {K : Type 0} (shape_of : K → Shape) (uses : K → ℕ → Bool) (read
       or-true false = refl
 
   -- it goes to its end where each connected input was seen over
-  pub finishes-seen : AllSaw (SawOver n) (length d.process.inputs) d.process.inputs seen → (list_any is_connected d.process.inputs ≡ true) ⊎ (d.process.has_run ≡ true) → Happens (FitNet shape_of uses ready) n m p d None seen Finishes
-  finishes-seen saw ran now fit at grab all len =
+  pub finishes-seen : (since : ℕ) → AllSaw (SawOver n since) (length d.process.inputs) d.process.inputs seen → (list_any is_connected d.process.inputs ≡ true) ⊎ (d.process.has_run ≡ true) → Happens (FitNet shape_of uses ready) n m p d None seen Finishes
+  finishes-seen since saw ran now fit at grab all len =
       let over = λ (i c : ℕ) (is : slice_get d.process.inputs i ≡ Some (From c)).
       (let k = get-exists now.channels c ((fit.wired p d at).inputs i c is) in
-      let s = seen-in n now (p, d) seen (SawOver n c) all (saw i c (get-within d.process.inputs i (From c) is) is) in
+      let s = seen-in n now (p, d) seen (SawOver n since c) all (saw i c (get-within d.process.inputs i (From c) is) is) in
       let o = (s.2 c k.0 s.1.0 k.1 (i, is)).1 s.1.1 s.1.2 in
       let t : (k : ChannelShown) × (slice_get now.channels c ≡ Some k) × IsOver k = (k.0, k.1, o) in t) in
       let none = none-held now.channels d.process.inputs (λ i c is. (let o = over i c is in (o.0, o.1, o.2.0))) in
@@ -113,41 +113,40 @@ module _ {K : Type 0} (shape_of : K → Shape) (uses : K → ℕ → Bool) (read
       cannot (inr run) = ap (λ b. not (list_any is_connected d.process.inputs) && not b) run ∙ and-false (not (list_any is_connected d.process.inputs))
 
 -- what was seen blocks an idle process
-pub dormant-seen : {K : Type 0} (start : NetValue K) (d : BodyValue K) (seen : List Look) (i c : ℕ) → d.process.stage ≡ stages.Idle → AllSaw (SawNone (length start.bodies)) (length d.process.inputs) d.process.inputs seen → slice_get d.process.inputs i ≡ Some (From c)
-    → InSeen (SawSender (length start.bodies) c) seen → SeenBlocks start d seen
-dormant-seen start d seen i c idle saw is there = (
+pub dormant-seen : {K : Type 0} (start : NetValue K) (d : BodyValue K) (seen : List Look) (since w : ℕ) → d.process.stage ≡ stages.Idle → AllSaw (SawNone (length start.bodies) since) (length d.process.inputs) d.process.inputs seen
+    → FirstOpen (length start.bodies) since d.process.inputs seen w → SeenBlocks start d seen
+dormant-seen start d seen since w idle saw first = (
   subst IsThoughtStage (sym idle) tt,
   λ ws all. subst (WordsBlock (length start.bodies) start.channels ws d) (sym idle) (
-    λ e input. (let s = block-in (length start.bodies) start.channels ws d seen (SawNone (length start.bodies) e) all (saw input.0 e (get-within d.process.inputs input.0 (From e) input.1) input.1) in ((s.2 e s.1.0).0 input).0 s.1.1),
-    (c, (i, is), (let s = block-in (length start.bodies) start.channels ws d seen (SawSender (length start.bodies) c) all there in ((s.2 c s.1.0).0 (i, is)).1 s.1.1)),
+    λ e input. (let s = block-in (length start.bodies) start.channels ws d seen (SawNone (length start.bodies) since e) all (saw input.0 e (get-within d.process.inputs input.0 (From e) input.1) input.1) in ((s.2 e s.1.0).0 input).0 s.1.1),
+    (first.connection, (first.input, first.at), (let s = block-in (length start.bodies) start.channels ws d seen (IsLook (length start.bodies) since first.connection w) all first.look in ((s.2 first.connection s.1.0).0 (first.input, first.at)).1 (subst (λ m. 0 < senders_in m) (sym s.1.1) first.opened))),
   ),
 )
 
 -- An idle process whose inputs were all seen empty, one of them with a sender, is dormant.
-pub dormant-there : {K : Type 0} (start : NetValue K) (d : BodyValue K) (seen : List Look) (n : ℕ) → length start.bodies ≡ n → d.process.stage ≡ stages.Idle → AllSaw (SawNone n) (length d.process.inputs) d.process.inputs seen → SawOne (SawSender n) d.process.inputs seen → SeenBlocks start d seen
-dormant-there start d seen n is idle none_in one =
-    let sawn = subst (λ m. AllSaw (SawNone m) (length d.process.inputs) d.process.inputs seen) (sym is) none_in in
-    let some_one = subst (λ m. SawOne (SawSender m) d.process.inputs seen) (sym is) one in
-    dormant-seen start d seen some_one.0 some_one.1 idle sawn some_one.2 some_one.3
+pub dormant-there : {K : Type 0} (start : NetValue K) (d : BodyValue K) (seen : List Look) (n since w : ℕ) → length start.bodies ≡ n → d.process.stage ≡ stages.Idle → AllSaw (SawNone n since) (length d.process.inputs) d.process.inputs seen
+    → FirstOpen n since d.process.inputs seen w → SeenBlocks start d seen
+dormant-there start d seen n since w is idle none_in first =
+    dormant-seen start d seen since w idle (subst (λ m. AllSaw (SawNone m since) (length d.process.inputs) d.process.inputs seen) (sym is) none_in) (subst (λ m. FirstOpen m since d.process.inputs seen w) (sym is) first)
 
 -- what was seen blocks a process that wishes to receive
-pub empty-seen : {K : Type 0} (start : NetValue K) (d : BodyValue K) (seen : List Look) (n c : ℕ) (port : Port) → length start.bodies ≡ n → d.process.stage ≡ stages.Wishing (wishes.Receive port) → slice_get d.process.inputs port.0 ≡ Some (From c)
-    → InSeen (λ look. (look.word ≡ n + c) × (level_in look.read ≡ 0) × (0 < senders_in look.read)) seen → SeenBlocks start d seen
-empty-seen start d seen n c port size stage is there = (
+pub empty-seen : {K : Type 0} (start : NetValue K) (d : BodyValue K) (seen : List Look) (n since c w : ℕ) (port : Port) → length start.bodies ≡ n → d.process.stage ≡ stages.Wishing (wishes.Receive port) → slice_get d.process.inputs port.0 ≡ Some (From c)
+    → InSeen (IsLook n since c w) seen → level_in w ≡ 0 → 0 < senders_in w → SeenBlocks start d seen
+empty-seen start d seen n since c w port size stage is there none_in opened = (
   subst IsThoughtStage (sym stage) tt,
   λ ws all. subst (WordsBlock (length start.bodies) start.channels ws d) (sym stage)
-      (let s = block-in (length start.bodies) start.channels ws d seen (λ look. (look.word ≡ n + c) × (level_in look.read ≡ 0) × (0 < senders_in look.read)) all there in
-      let b = (s.2 c (s.1.0 ∙ ap (λ m. m + c) (sym size))).0 (port.0, is) in (c, is, b.0 s.1.1, b.1 s.1.2)),
+      (let s = block-in (length start.bodies) start.channels ws d seen (IsLook n since c w) all there in
+      let b = (s.2 c (s.1.0 ∙ ap (λ m. m + c) (sym size))).0 (port.0, is) in (c, is, b.0 (ap level_in s.1.1 ∙ none_in), b.1 (subst (λ m. 0 < senders_in m) (sym s.1.1) opened))),
 )
 
 -- what was seen blocks a process that wishes to send
-pub full-seen : {K : Type 0} (start : NetValue K) (d : BodyValue K) (seen : List Look) (n c : ℕ) (port : Port) → length start.bodies ≡ n → c < length start.channels → SendsAt d.process.stage port → output_at d.process port.0 ≡ Some c
-    → InSeen (λ look. (look.word ≡ n + c) × (capacity_at start.channels c ≤ level_in look.read)) seen → SeenBlocks start d seen
-full-seen start d seen n c port size below stage is there = (
+pub full-seen : {K : Type 0} (start : NetValue K) (d : BodyValue K) (seen : List Look) (n since c w : ℕ) (port : Port) → length start.bodies ≡ n → c < length start.channels → SendsAt d.process.stage port → output_at d.process port.0 ≡ Some c
+    → InSeen (IsLook n since c w) seen → capacity_at start.channels c ≤ level_in w → SeenBlocks start d seen
+full-seen start d seen n since c w port size below stage is there full = (
   subst IsThoughtStage (sym stage.1) tt,
   λ ws all. subst (WordsBlock (length start.bodies) start.channels ws d) (sym stage.1)
-      (let s = block-in (length start.bodies) start.channels ws d seen (λ look. (look.word ≡ n + c) × (capacity_at start.channels c ≤ level_in look.read)) all there in
+      (let s = block-in (length start.bodies) start.channels ws d seen (IsLook n since c w) all there in
       let k = get-exists start.channels c below in
       let most : capacity_at start.channels c ≡ k.0.capacity = ap (λ (o : Option ChannelShown). unwrap_or (option_map (λ (x : ChannelShown). x.capacity) o) 0) k.1 in
-      (c, k.0, is, k.1, (s.2 c (s.1.0 ∙ ap (λ m. m + c) (sym size))).1 (port.0, is) k.0 k.1 (omega (arith, s.1.1, most)))),
+      (c, k.0, is, k.1, (s.2 c (s.1.0 ∙ ap (λ m. m + c) (sym size))).1 (port.0, is) k.0 k.1 (omega (arith, ap level_in s.1.1, full, most)))),
 )

@@ -16,10 +16,11 @@ use Rattle.flow_packet.specs.Held.{Held}
 use Rattle.flow_component.specs.declared.Answer.{Answer}
 use Rattle.flow_component.specs.declared.Shape.{Shape}
 use Rattle.flow_component.specs.Laws.{Outcome, Obeys, StaysReady, IsSteady}
-use Rattle.flow_model.specs.Events.{Event}
+use Rattle.flow_model.specs.Events.{Event, event_from}
 use Rattle.flow_model.specs.Schedules.{IsThoughtStage}
 use Rattle.flow_model.specs.Stands.{ChannelShown}
 use Rattle.flow_machine.specs.Values.{BodyValue, NetValue}
+use Rattle.flow_machine.specs.Nets.{looks_of}
 use Rattle.flow_machine.specs.Logs.{turns_made, Logged}
 use Rattle.flow_machine.specs.FitNets.{FitNet, IsWiredBody}
 use Rattle.flow_machine.proofs.FitLemmas.{level-fits, turns-most}
@@ -29,8 +30,8 @@ use Rattle.flow_floor.specs.declared.board.Slot.TheVariants as slot
 use Rattle.flow_floor.specs.declared.board.View.{View}
 use Rattle.flow_floor.specs.declared.board.Look.{Look}
 use Rattle.flow_floor.specs.Law.{IsTaken, IsFree, IsOver, Rests, Receives, Stands, Lies, SeenTrue, AllSeen, Grabs, Beside, turns_by}
-use Rattle.flow_floor.specs.Turning.{turned_body, with_body, turned_net, logged, GrabIn, Happens, At}
-use Rattle.flow_floor.specs.Waking.{counts, InList, WordsBlock, AllBlock, Keeps, Notes, Wakes, IsWiredAs, capacity_at}
+use Rattle.flow_floor.specs.Turning.{turned_body, with_body, turned_net, logged, GrabIn, Happens, At, MachineTurn, MachineTurnOf}
+use Rattle.flow_floor.specs.Waking.{counts, InList, IsDoneWord, IsRetired, WordsBlock, AllBlock, Keeps, Notes, Wakes, IsWiredAs, capacity_at}
 use Rattle.std.specs.Option.{option_map}
 use Rattle.std.specs.Prelude.{unwrap_or}
 use Rattle.flow_floor.specs.Rule.{Law}
@@ -38,6 +39,7 @@ use Rattle.flow_floor.specs.Plays.{Sat, Below, tail, turn_of, look_at, looked, s
 use Rattle.flow_floor.proofs.Seats.{put, at_inside, some_Some, get-exists, St, Homes, state}
 use Rattle.flow_floor.proofs.Channels.{one-receiver}
 use Rattle.flow_floor.proofs.Flows.{level-of, senders-of, level-held, senders-held, mine-holds, mine-grabs, flow-commit, flow-view, flow-claim, flow-leave, flow-grab, flow-release, flow-stamp}
+use Rattle.flow_floor.proofs.Retires.{low-undone, done-set, done-beyond, done-body}
 use Rattle.flow_floor.proofs.Wakes.{total_le, total_one, live-one, live-most, live-other}
 use Rattle.flow_floor.proofs.Wakings.{word-taken, body-below, look-blocks, wakes-commit, wakes-claim, wakes-leave, wakes-view, wakes-stamp, wakes-release, wakes-poke}
 
@@ -145,6 +147,7 @@ module _ {K : Type 0} (shape_of : K → Shape) (uses : K → ℕ → Bool) (read
         planned = r.planned;
         wakes = wakes-view shape_of uses ready next obeys stays steady start s g g s.words s.homes id v w f r.wakes at refl (λ q below. refl) refl (λ c below. (refl, refl)) (omega (arith, spare)) (λ z. z) held shares
             (record { spare = omega (arith, ks.spare, spare, shares); noted = λ e. noted ∙ ks.noted (sym held ∙ e); zero = λ z. ks.zero (sym zeros ∙ z); bare = λ e. (let n = ks.bare (sym shares ∙ e) in (held ∙ n.0, made ∙ n.1)) }) (λ q there. subst (InList q) (sym noted) there) blocks;
+        done = r.done;
       }
 
   -- a look that isn't kept
@@ -169,6 +172,7 @@ module _ {K : Type 0} (shape_of : K → Shape) (uses : K → ℕ → Bool) (read
     planned = r.planned;
     wakes = wakes-commit shape_of uses ready next obeys stays steady start s r.beside id p v w b d r.flow r.wakes at holds rests (ap (λ (y : View K). y.held) is) (ap (λ (y : View K). y.shares) is) (ap (λ (y : View K). y.spare) is) (ap (λ (y : View K). y.noted) is) (ap (λ (y : View K). y.read_zero) is)
         (ap (λ (y : View K). y.seen) is);
+    done = done-body s.words p d r.beside.now.bodies (word-taken shape_of uses ready next obeys stays steady start s r.beside id p v b r.flow at holds) r.done;
   }
 
   pub claims : (slots i id m : ℕ) (me : Sat K) → m ≡ C → i < P → me.0.held ≡ None → 0 < me.0.shares → Allows Rule slots id me i (λ n. either (n == 2) 1 n) (claimed m (step slots i 2 1 none) me)
@@ -182,7 +186,7 @@ module _ {K : Type 0} (shape_of : K → Shape) (uses : K → ℕ → Bool) (read
       (let there = get-exists g.now.bodies i (omega (arith, below, f.same.0)) in
       let b = there.0 in
       let free = holder-free s i b (g.holder i) (inr (inl e)) (f.each_process i b there.1) in
-      let w = claiming v i x b in
+      let w = claiming v i b in
       let ks = f.each_seat id v at in (
         w,
         takes i (slot.Body b),
@@ -192,6 +196,7 @@ module _ {K : Type 0} (shape_of : K → Shape) (uses : K → ℕ → Bool) (read
           flow = flow-claim shape_of uses ready next obeys stays steady start s g id i 1 v w b f at idle there.1 free.0 (inl refl) refl (ks.idle idle) refl refl;
           planned = r.planned;
           wakes = wakes-claim shape_of uses ready next obeys stays steady start s g id i (set s.homes i none) v w b f r.wakes at there.1 free.0 e share refl refl refl refl refl refl (put g.holder i (Some id));
+          done = done-set s.words i 1 g.now.bodies (omega (arith, below, f.wide)) (λ x at_i is. absurd (low-undone 1 (omega arith) is)) r.done;
         }),
         (λ _. (b, f.fit.whole i b there.1, subst (λ n. IsWiredBody n b) (f.same.1 ∙ sym count) (f.fit.wired i b there.1), refl), λ other. absurd (other e)),
       )))
@@ -254,6 +259,7 @@ module _ {K : Type 0} (shape_of : K → Shape) (uses : K → ℕ → Bool) (read
             (seen-true s r id p c v b look at holds no_grab place x_is, subst (λ (h : Option (ℕ × BodyValue K)). AllSeen P g.now h v.seen) holds (f.each_seat id v at).seen));
         planned = r.planned;
         wakes = grab-wakes s r id p c v w b look y at holds below (omega (arith, x_is)) place x_is refl refl refl refl refl refl refl (set s.homes (P + c) none) (put g.grabber c (Some id));
+        done = done-beyond s.words (P + c) y g.now.bodies (omega (arith, f.same.0)) r.done;
       } in (
         w,
         takes i (slot.Channel k),
@@ -303,10 +309,10 @@ module _ {K : Type 0} (shape_of : K → Shape) (uses : K → ℕ → Bool) (read
       at-head false rest = rest
 
   -- The clock is counted: the work that the held body did, and its turn, which the machine has.
-  pub stamps : (slots i id p : ℕ) (me : Sat K) (b d : BodyValue K) (e : Event) (h : BodyValue K → BodyValue K) → i ≡ P + C → me.0.held ≡ Some (p, b) → Rests next b d → h b ≡ d → At e me.0.grab
+  pub stamps : (slots i id p : ℕ) (me : Sat K) (b d : BodyValue K) (e : Event) (h : BodyValue K → BodyValue K) (o : NetValue K) → o ≡ start → i ≡ P + C → me.0.held ≡ Some (p, b) → Rests next b d → h b ≡ d → At e me.0.grab
       → Happens (FitNet shape_of uses ready) P C p d me.0.grab me.0.seen e
-      → Allows Rule slots id me i (λ x. (x + 1) % 2 ^ 64) (stamped e h (step slots i 1 0 none) me)
-  stamps slots i id p me b d e h place holds rests h_is on happens s r deep at fits =
+      → Allows Rule slots id me i (λ x. (x + 1) % 2 ^ 64) (stamped shape_of uses ready next o e h (step slots i 1 0 none) me)
+  stamps slots i id p me b d e h o opened place holds rests h_is on happens s r deep at fits =
       let v = me.0 in
       let v1 : View K = record v { held = Some (p, d) } in
       let s1 = state s.words s.homes (set s.views id v1) in
@@ -315,7 +321,7 @@ module _ {K : Type 0} (shape_of : K → Shape) (uses : K → ℕ → Bool) (read
       let f = r1.flow in
       let g = r1.beside in
       let x = get_or s.words i 0 in
-      let w = stamping v i x e h in
+      let w = stamping v x e h in
       let x_is : x ≡ get_or s.words (P + C) 0 = ap (λ n. get_or s.words n 0) place in
       let most = turns-most shape_of uses ready g.now f.fit in
       let clock = f.clock in
@@ -332,12 +338,27 @@ module _ {K : Type 0} (shape_of : K → Shape) (uses : K → ℕ → Bool) (read
         flow = flow-stamp shape_of uses ready next obeys stays steady start s1 g id p happened.0 x y v1 w d e f at1 refl happened.1 on x_is refl held refl refl made refl;
         planned = r1.planned;
         wakes = wakes-stamp shape_of uses ready next obeys stays steady start s1 g g' id p x y v1 w d e f r1.wakes at1 refl refl held refl refl refl refl refl;
+        done = done-beyond s.words (P + C) y g'.now.bodies (omega (arith, length-set g.now.bodies p (turned_body e x d), f.same.0)) (done-body s.words p (turned_body e x d) g.now.bodies (word-taken shape_of uses ready next obeys stays steady start s1 g id p v1 d f at1 refl) r1.done);
       } in (
         w,
         keeps,
         tt,
         subst (λ (z : ℕ × (ℕ × List (View K))). Rule (state (set s.words z.0 z.1.0) s.homes z.1.1)) (λ j. (sym place j, (sym up j, set-set s.views id v1 w j))) law,
-        (refl, subst (Below x) (sym ks.made) (below-turns id (turns_made start) g.by g.log f.seats x (omega (arith, x_is, clock, f.total))), omega (arith, x_is, clock, most)),
+        (
+          refl,
+          subst (Below x) (sym ks.made) (below-turns id (turns_made start) g.by g.log f.seats x (omega (arith, x_is, clock, f.total))),
+          omega (arith, x_is, clock, most),
+          subst (MachineTurnOf shape_of uses ready next o x h e) (sym holds) (subst (λ (z : NetValue K). MachineTurn shape_of uses ready next z x p (h b) e) (sym opened) (record {
+            now = g.now;
+            log = g.log;
+            goes = f.goes;
+            total = f.total;
+            clock = sym (x_is ∙ clock);
+            there = mine.1 ∙ ap (λ (z : BodyValue K). let t : Option (BodyValue K) = Some z in t) (sym h_is);
+            level = happened.0;
+            happens = subst (λ (z : BodyValue K). event_from (looks_of g.now.channels) z.process happened.0 ≡ Some e) (sym h_is) happened.1;
+          })),
+        ),
       )
     where
       grab-in : (g : Beside K) (j : ℕ) (gr : Option (ℕ × ChannelShown)) → Grabs g.grabber g.now j gr → GrabIn g.now gr
@@ -352,7 +373,7 @@ module _ {K : Type 0} (shape_of : K → Shape) (uses : K → ℕ → Bool) (read
       let f = r.flow in
       let g = r.beside in
       let x = get_or s.words i 0 in
-      let w = releasing v i x notes in
+      let w = releasing v notes in
       let home = some (slot.Channel k) in
       let mine = mine-grabs shape_of uses ready next obeys stays steady start s g id c v k f at grab in
       let lies = subst (Lies s P c k) mine.0 (f.each_channel c k mine.1) in
@@ -375,6 +396,7 @@ module _ {K : Type 0} (shape_of : K → Shape) (uses : K → ℕ → Bool) (read
                 | inr all ↦ inr all
               ];
             });
+        done = done-beyond s.words (P + c) y g.now.bodies (omega (arith, f.same.0)) r.done;
       } in (
         w,
         gives,
@@ -395,8 +417,8 @@ module _ {K : Type 0} (shape_of : K → Shape) (uses : K → ℕ → Bool) (read
   -- a held process is left: its body goes home
   law-leave : (s : St K) (id p y : ℕ) (v w : View K) (b d : BodyValue K) → Rule s → get_elem? s.views id ≡ some v → v.held ≡ Some (p, b) → Rests next b d → v.grab ≡ None → v.noted ≡ [] → IsFree y
       → w.held ≡ None → w.grab ≡ None → w.made ≡ v.made → w.shares ≡ v.shares → w.spare + counts y ≡ v.spare + 1 → w.spare ≤ w.shares → w.noted ≡ [] → w.read_zero ≡ v.read_zero
-      → (y ≡ 0 → (get_or s.words p 0 ≡ 1) × Blocks d v.seen) → Rule (state (set s.words p y) (set s.homes p (some (slot.Body d))) (set s.views id w))
-  law-leave s id p y v w b d r at holds rests no_grab no_notes free held grab made shares spare few noted zeros parks =
+      → (y ≡ 0 → (get_or s.words p 0 ≡ 1) × Blocks d v.seen) → (IsDoneWord y → IsRetired d) → Rule (state (set s.words p y) (set s.homes p (some (slot.Body d))) (set s.views id w))
+  law-leave s id p y v w b d r at holds rests no_grab no_notes free held grab made shares spare few noted zeros parks retired =
       let v1 : View K = record v { held = Some (p, d) } in
       let s1 = state s.words s.homes (set s.views id v1) in
       let r1 : Rule s1 = law-commit s id p v v1 b d r at holds rests refl in
@@ -414,6 +436,9 @@ module _ {K : Type 0} (shape_of : K → Shape) (uses : K → ℕ → Bool) (read
                 | inr note ↦ inr note
               ],
             ))) (put r1.beside.holder p None);
+        done = (let mine = mine-holds shape_of uses ready next obeys stays steady start s1 r1.beside id p v1 d r1.flow at1 refl in
+            let below = body-below shape_of uses ready next obeys stays steady start s1 r1.beside p d r1.flow mine.1 in
+            done-set s.words p y r1.beside.now.bodies (omega (arith, below, r1.flow.wide)) (λ x there is. subst IsRetired (some_Some d x (sym mine.1 ∙ there)) (retired is)) r1.done);
       } in
       subst (λ (vs : List (View K)). Rule (state (set s.words p y) hs' vs)) (set-set s.views id v1 w) law
 
@@ -425,27 +450,27 @@ module _ {K : Type 0} (shape_of : K → Shape) (uses : K → ℕ → Bool) (read
   leaves slots i id me b d more holds rests no_grab no_notes carried s r deep at fits =
       let v = me.0 in
       let x = get_or s.words i 0 in
-      let w = leaving v i x in
+      let w = leaving v in
       let ks = r.wakes.each id v at in (
         w,
         gives,
         tt,
         subst (λ (hs : Homes K). Rule (state (set s.words i 2) hs (set s.views id w))) (ap (λ (cs : List (ℕ × Slot K)). homes_after s.homes cs gives) (sym carried))
-            (law-leave s id i 2 v w b d r at holds rests no_grab no_notes (inr (inl refl)) refl no_grab refl refl (omega arith) ks.spare no_notes refl (λ e. absurd (omega (arith, e)))),
+            (law-leave s id i 2 v w b d r at holds rests no_grab no_notes (inr (inl refl)) refl no_grab refl refl (omega arith) ks.spare no_notes refl (λ e. absurd (omega (arith, e))) (λ e. absurd (low-undone 2 (omega arith) e))),
         refl,
       )
 
-  pub retires : (slots i id : ℕ) (me : Sat K) (b d : BodyValue K) (more : List (ℕ × Slot K)) → me.0.held ≡ Some (i, b) → Rests next b d → me.0.grab ≡ None → me.0.noted ≡ [] → me.0.spare ≡ 0 → 0 < me.0.shares → me.1 ≡ (i, slot.Body d) ∷ more
+  pub retires : (slots i id : ℕ) (me : Sat K) (b d : BodyValue K) (more : List (ℕ × Slot K)) → IsRetired d → me.0.held ≡ Some (i, b) → Rests next b d → me.0.grab ≡ None → me.0.noted ≡ [] → me.0.spare ≡ 0 → 0 < me.0.shares → me.1 ≡ (i, slot.Body d) ∷ more
       → Allows Rule slots id me i (λ _. 4) (retired (step slots i 4 0 none) me)
-  retires slots i id me b d more holds rests no_grab no_notes none_spare share carried s r deep at fits =
+  retires slots i id me b d more retired holds rests no_grab no_notes none_spare share carried s r deep at fits =
       let v = me.0 in
       let x = get_or s.words i 0 in
-      let w = parking v i x in (
+      let w = parking v in (
         w,
         gives,
         tt,
         subst (λ (hs : Homes K). Rule (state (set s.words i 4) hs (set s.views id w))) (ap (λ (cs : List (ℕ × Slot K)). homes_after s.homes cs gives) (sym carried))
-            (law-leave s id i 4 v w b d r at holds rests no_grab no_notes (inr (inr (inl refl))) refl no_grab refl refl (omega arith) (omega (arith, none_spare, share)) no_notes refl (λ e. absurd (omega (arith, e)))),
+            (law-leave s id i 4 v w b d r at holds rests no_grab no_notes (inr (inr (inl refl))) refl no_grab refl refl (omega arith) (omega (arith, none_spare, share)) no_notes refl (λ e. absurd (omega (arith, e))) (λ e. retired)),
         refl,
       )
 
@@ -456,12 +481,12 @@ module _ {K : Type 0} (shape_of : K → Shape) (uses : K → ℕ → Bool) (read
       let x = get_or s.words i 0 in
       dite (ℕ_discrete x 1)
       (λ e.
-      (let w = parking v i x in (
+      (let w = parking v in (
         w,
         gives,
         tt,
         subst (λ (z : ℕ × Homes K). Rule (state (set s.words i z.0) z.1 (set s.views id w))) (λ j. (sym (hit x 1 0 e) j, ap (λ (cs : List (ℕ × Slot K)). homes_after s.homes cs gives) (sym carried) j))
-            (law-leave s id i 0 v w b d r at holds rests no_grab no_notes (inl refl) refl no_grab refl refl (omega arith) (omega (arith, none_spare, share)) no_notes refl (λ _. (e, blocks))),
+            (law-leave s id i 0 v w b d r at holds rests no_grab no_notes (inl refl) refl no_grab refl refl (omega arith) (omega (arith, none_spare, share)) no_notes refl (λ _. (e, blocks)) (λ z. absurd (low-undone 0 (omega arith) z))),
         (λ _. refl, λ other. absurd (other e)),
       )))
       (λ other. (
@@ -495,6 +520,7 @@ module _ {K : Type 0} (shape_of : K → Shape) (uses : K → ℕ → Bool) (read
         wakes = wakes-view shape_of uses ready next obeys stays steady start s g g ws' s.homes id v w f r.wakes at refl (λ q below. other q (omega arith)) (live-other P L y s.words (omega arith))
             (λ c below. (let e = other (P + c) (omega arith) in (ap level_in e, ap senders_in e))) (omega (arith, here, live)) (λ z. here ∙ falls z) held shares
             (record { spare = few; noted = λ e. noted ∙ ks.noted (sym held ∙ e); zero = λ z. here ∙ zeros z; bare = λ e. (let n = ks.bare (sym shares ∙ e) in (held ∙ n.0, made ∙ n.1)) }) (λ q there. subst (InList q) (sym noted) there) (λ q z h all. subst (AllBlock P start.channels ws' z) (sym seen) all);
+        done = done-beyond s.words L y g.now.bodies (omega (arith, f.same.0)) r.done;
       }
 
   -- the process that a seat holds counts, so the live word isn't 0
@@ -522,7 +548,7 @@ module _ {K : Type 0} (shape_of : K → Shape) (uses : K → ℕ → Bool) (read
   raises slots i id p me b place holds none_spare share s r deep at fits =
       let v = me.0 in
       let x = get_or s.words i 0 in
-      let w = raising v i x in
+      let w = raising v in
       let x_is : x ≡ get_or s.words L 0 = ap (λ n. get_or s.words n 0) place in
       let up : (x + 1) % 2 ^ 64 ≡ x + 1 = omega (arith, x_is, live-few s r) in
       let some_live = live-held s r id p v b at holds in
@@ -539,7 +565,7 @@ module _ {K : Type 0} (shape_of : K → Shape) (uses : K → ℕ → Bool) (read
   lowers slots i id me place some_spare s r deep at fits =
       let v = me.0 in
       let x = get_or s.words i 0 in
-      let w = lowering v i x in
+      let w = lowering v in
       let x_is : x ≡ get_or s.words L 0 = ap (λ n. get_or s.words n 0) place in
       let one = total_one (λ (y : View K). y.spare) s.views id v at in
       let live = r.wakes.live in
@@ -581,36 +607,37 @@ module _ {K : Type 0} (shape_of : K → Shape) (uses : K → ℕ → Bool) (read
     free : IsFree x → IsFree (bit_or x 2)
     taken : IsTaken x → IsTaken (bit_or x 2)
     spare : cond (x == 0) 0 1 + counts (bit_or x 2) ≡ 1 + counts x
+    done : IsDoneWord (bit_or x 2) → IsDoneWord x
 
   poke-of : (x : ℕ) → IsFree x ⊎ IsTaken x → Poke x
-  poke-of x (inl (inl e)) = subst Poke (sym e) (record { high = omega arith; free = λ _. inr (inl refl); taken = λ t. absurd (no-taken 0 t (omega arith)); spare = refl })
+  poke-of x (inl (inl e)) = subst Poke (sym e) (record { high = omega arith; free = λ _. inr (inl refl); taken = λ t. absurd (no-taken 0 t (omega arith)); spare = refl; done = λ t. absurd (low-undone 2 (omega arith) t) })
     where
       no-taken : (w : ℕ) → IsTaken w → w ≡ 0 → ⊥
       no-taken w (inl a) b = omega (arith, a, b)
       no-taken w (inr a) b = omega (arith, a, b)
-  poke-of x (inl (inr (inl e))) = subst Poke (sym e) (record { high = omega arith; free = λ _. inr (inl refl); taken = λ t. absurd (no-taken 2 t refl); spare = refl })
+  poke-of x (inl (inr (inl e))) = subst Poke (sym e) (record { high = omega arith; free = λ _. inr (inl refl); taken = λ t. absurd (no-taken 2 t refl); spare = refl; done = λ t. absurd (low-undone 2 (omega arith) t) })
     where
       no-taken : (w : ℕ) → IsTaken w → w ≡ 2 → ⊥
       no-taken w (inl a) b = omega (arith, a, b)
       no-taken w (inr a) b = omega (arith, a, b)
-  poke-of x (inl (inr (inr (inl e)))) = subst Poke (sym e) (record { high = omega arith; free = λ _. inr (inr (inr refl)); taken = λ t. absurd (no-taken 4 t refl); spare = refl })
+  poke-of x (inl (inr (inr (inl e)))) = subst Poke (sym e) (record { high = omega arith; free = λ _. inr (inr (inr refl)); taken = λ t. absurd (no-taken 4 t refl); spare = refl; done = λ t. inl refl })
     where
       no-taken : (w : ℕ) → IsTaken w → w ≡ 4 → ⊥
       no-taken w (inl a) b = omega (arith, a, b)
       no-taken w (inr a) b = omega (arith, a, b)
-  poke-of x (inl (inr (inr (inr e)))) = subst Poke (sym e) (record { high = omega arith; free = λ _. inr (inr (inr refl)); taken = λ t. absurd (no-taken 6 t refl); spare = refl })
+  poke-of x (inl (inr (inr (inr e)))) = subst Poke (sym e) (record { high = omega arith; free = λ _. inr (inr (inr refl)); taken = λ t. absurd (no-taken 6 t refl); spare = refl; done = λ t. inr refl })
     where
       no-taken : (w : ℕ) → IsTaken w → w ≡ 6 → ⊥
       no-taken w (inl a) b = omega (arith, a, b)
       no-taken w (inr a) b = omega (arith, a, b)
-  poke-of x (inr (inl e)) = subst Poke (sym e) (record { high = omega arith; free = λ t. absurd (no-free 1 t refl); taken = λ _. inr refl; spare = refl })
+  poke-of x (inr (inl e)) = subst Poke (sym e) (record { high = omega arith; free = λ t. absurd (no-free 1 t refl); taken = λ _. inr refl; spare = refl; done = λ t. absurd (low-undone 3 (omega arith) t) })
     where
       no-free : (w : ℕ) → IsFree w → w ≡ 1 → ⊥
       no-free w (inl a) b = omega (arith, a, b)
       no-free w (inr (inl a)) b = omega (arith, a, b)
       no-free w (inr (inr (inl a))) b = omega (arith, a, b)
       no-free w (inr (inr (inr a))) b = omega (arith, a, b)
-  poke-of x (inr (inr e)) = subst Poke (sym e) (record { high = omega arith; free = λ t. absurd (no-free 3 t refl); taken = λ _. inr refl; spare = refl })
+  poke-of x (inr (inr e)) = subst Poke (sym e) (record { high = omega arith; free = λ t. absurd (no-free 3 t refl); taken = λ _. inr refl; spare = refl; done = λ t. absurd (low-undone 3 (omega arith) t) })
     where
       no-free : (w : ℕ) → IsFree w → w ≡ 3 → ⊥
       no-free w (inl a) b = omega (arith, a, b)
@@ -629,7 +656,7 @@ module _ {K : Type 0} (shape_of : K → Shape) (uses : K → ℕ → Bool) (read
       let g = r.beside in
       let x = get_or s.words i 0 in
       let y = bit_or x 2 in
-      let w = poking v i x in
+      let w = poking v x in
       let there = get-exists g.now.bodies i (omega (arith, below, f.same.0)) in
       let k = poke-of x (word-of s i there.0 (g.holder i) (f.each_process i there.0 there.1)) in
       let ks = f.each_seat id v at in
@@ -654,6 +681,7 @@ module _ {K : Type 0} (shape_of : K → Shape) (uses : K → ℕ → Bool) (read
               (λ q a b. get_or-set_other s.words i q y 0 (λ e. omega (arith, e, below, a))) refl refl refl refl ks.seen;
           planned = r.planned;
           wakes = wakes-poke shape_of uses ready next obeys stays steady start s g g id p i y s.homes v w b f r.wakes at holds refl below k.high (notes ∙ ap (λ (l : List ℕ). i ∷ l) (sym rest_is)) (omega (arith, spent, k.spare, one_spare)) (omega (arith, spent, low, share)) refl refl refl refl;
+          done = done-set s.words i y g.now.bodies (omega (arith, below, wide)) (λ z at_i is. r.done i z at_i (k.done is)) r.done;
         },
         refl,
       )

@@ -3,6 +3,7 @@ pub mod Going
 pub mod Seats
 pub mod Flows
 pub mod Wakes
+pub mod Retires
 pub mod Wakings
 pub mod Keeps
 pub mod Slots

@@ -4,7 +4,7 @@ use mathlib.Core.Logic.{dite}
 use native.Mathlib.Decide.{ℕ_discrete}
 use Rattle.std.proofs.lemmas.Bool.{lt-ltb, le-ltb}
 use Rattle.flow_machine.specs.Logs.{Logged}
-use Rattle.flow_floor.specs.Law.{turns_by, AllBelow}
+use Rattle.flow_floor.specs.Law.{turns_by, AllBelow, numbered}
 use Rattle.flow_floor.specs.Plays.{insert, merge, renamed}
 
 abbrev Above : ℕ → List (ℕ × ℕ) → Type 0
@@ -94,10 +94,10 @@ turns_by-none j m n (s ∷ by) [] all le = refl
 turns_by-none j m n (s ∷ by) (t ∷ log) all le = turns_by-skip j n s by t log (λ e. omega (arith, e, all.0, le)) ∙ turns_by-none j m (n + 1) by log all.1 le
 
 -- where one seat made all turns, its list is the log
-pub turns_by-all : (i m n : ℕ) (by : List ℕ) (log : List Logged) → length by ≡ length log → AllBelow m by → ((j : ℕ) → j < m → j ≢ i → turns_by j n by log ≡ []) → map (λ (e : ℕ × ℕ). e.1) (turns_by i n by log) ≡ map (λ (t : Logged). t.process) log
+pub turns_by-all : (i m n : ℕ) (by : List ℕ) (log : List Logged) → length by ≡ length log → AllBelow m by → ((j : ℕ) → j < m → j ≢ i → turns_by j n by log ≡ []) → turns_by i n by log ≡ numbered n log
 turns_by-all i m n [] [] len h none = refl
 turns_by-all i m n [] (t ∷ log) len h none = absurd (omega (arith, len))
 turns_by-all i m n (s ∷ by) [] len h none = absurd (omega (arith, len))
 turns_by-all i m n (s ∷ by) (t ∷ log) len h none = dite (ℕ_discrete s i)
-    (λ is. ap (map (λ (x : ℕ × ℕ). x.1)) (turns_by-head i n s by t log (sym is)) ∙ ap (λ l. t.process ∷ l) (turns_by-all i m (n + 1) by log (omega (arith, len)) h.1 (λ j l other. sym (turns_by-skip j n s by t log (λ z. other (z ∙ is))) ∙ none j l other)))
+    (λ is. turns_by-head i n s by t log (sym is) ∙ ap (λ l. (n, t.process) ∷ l) (turns_by-all i m (n + 1) by log (omega (arith, len)) h.1 (λ j l other. sym (turns_by-skip j n s by t log (λ z. other (z ∙ is))) ∙ none j l other)))
     (λ other. absurd (let z : (n, t.process) ∷ turns_by s (n + 1) by log ≡ [] = sym (turns_by-head s n s by t log refl) ∙ none s h.0 other in cc))

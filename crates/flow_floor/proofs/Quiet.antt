@@ -26,8 +26,8 @@ use Rattle.flow_machine.proofs.Standings.{get-map, process-in, happens-in}
 use Rattle.flow_machine.proofs.FitLemmas.{level-fits}
 use Rattle.flow_ring.specs.Words.{level_in, senders_in}
 use Rattle.flow_floor.specs.declared.board.View.{View}
-use Rattle.flow_floor.specs.Law.{IsTaken, Stands, Lies, Holds}
-use Rattle.flow_floor.specs.Waking.{counts, InList, IsNoted, WordsBlock}
+use Rattle.flow_floor.specs.Law.{IsTaken, IsFree, Stands, Lies, Holds}
+use Rattle.flow_floor.specs.Waking.{counts, InList, IsDoneWord, IsNoted, WordsBlock}
 use Rattle.flow_floor.specs.Rule.{Law}
 use Rattle.flow_floor.proofs.Seats.{some_Some, get-exists, get-within, St}
 use Rattle.flow_floor.proofs.Flows.{level-of, senders-of}
@@ -177,7 +177,21 @@ module _ {K : Type 0} (shape_of : K → Shape) (uses : K → ℕ → Bool) (read
   none-noted : (s : St K) (r : Rule s) → get_or s.words L 0 ≡ 0 → (q : ℕ) → IsNoted s.views q → ⊥
   none-noted s r z q (j, u, u_at, there) = subst (InList q) ((r.wakes.each j u u_at).noted (none-held-at-zero s r z j u u_at)) there
 
-  -- Where the live word is 0, each process is parked or done, and no parked one has a turn or a work to come.
+  -- Where the live word is 0, each process is parked or done.
+  pub free-at-zero : (s : St K) (r : Rule s) → get_or s.words L 0 ≡ 0 → (q : ℕ) (b : BodyValue K) → slice_get r.beside.now.bodies q ≡ Some b → (get_or s.words q 0 ≡ 0) ⊎ IsDoneWord (get_or s.words q 0)
+  free-at-zero s r z q b there = by (r.beside.holder q) (no-live s r z q (omega (arith, get-within r.beside.now.bodies q b there, r.flow.same.0))) (r.flow.each_process q b there)
+    where
+      free : (w : ℕ) → counts w ≡ 0 → IsFree w → (w ≡ 0) ⊎ IsDoneWord w
+      free w none (inl e) = inl e
+      free w none (inr (inl e)) = absurd (let t : counts w ≡ 1 = ap counts e in omega (arith, none, t))
+      free w none (inr (inr (inl e))) = inr (inl e)
+      free w none (inr (inr (inr e))) = inr (inr e)
+
+      by : (h : Option ℕ) → counts (get_or s.words q 0) ≡ 0 → Stands s q b h → (get_or s.words q 0 ≡ 0) ⊎ IsDoneWord (get_or s.words q 0)
+      by None none k = free (get_or s.words q 0) none k.0
+      by (Some j) none k = absurd (omega (arith, none, taken-live (get_or s.words q 0) k.0))
+
+  -- Where the live word is 0, no parked process has a turn or a work to come.
   pub parked-at-zero : (s : St K) (r : Rule s) → get_or s.words L 0 ≡ 0 → (q : ℕ) (b : BodyValue K) → slice_get r.beside.now.bodies q ≡ Some b → get_or s.words q 0 ≡ 0
       → IsThoughtStage b.process.stage × ((m : ℕ) → event_from (looks_of r.beside.now.channels) b.process m ≡ None)
   parked-at-zero s r z q b there empty =

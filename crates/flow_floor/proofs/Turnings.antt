@@ -42,23 +42,23 @@ module _ {K : Type 0} (next : K → Hands → Answer → Outcome K → Type 0) w
   pub rests-turned : (b d : BodyValue K) (e : Event) (r : ℕ) → BodyTurn b e r d → Rests next (turned_body e r b) d
   rests-turned b d e r turn = (inl (record { process = turn.process; dropped = turn.dropped }), record { stamps = turn.stamps; levels = turn.levels; leaving = turn.leaving })
 
-  pub agrees-turned : (w w' : Worker K) (h h' : Held K) (i r : ℕ) (e : Event) (f : BodyValue K → BodyValue K) → Agrees next w h → w'.seat.me.0 ≡ stamping w.seat.me.0 i r e f → ((b : BodyValue K) → f b ≡ h.body) → BodyTurn h.body e r h'.body → h'.process ≡ h.process → Agrees next w' h'
-  agrees-turned w w' h h' i r e f a view after turn process = record {
+  pub agrees-turned : (w w' : Worker K) (h h' : Held K) (r : ℕ) (e : Event) (f : BodyValue K → BodyValue K) → Agrees next w h → w'.seat.me.0 ≡ stamping w.seat.me.0 r e f → ((b : BodyValue K) → f b ≡ h.body) → BodyTurn h.body e r h'.body → h'.process ≡ h.process → Agrees next w' h'
+  agrees-turned w w' h h' r e f a view after turn process = record {
     base = turned_body e r h.body;
     held = ap (λ (v : View K). v.held) view ∙ ap (held_after e f r) a.held ∙ (λ j. let t : Option (ℕ × BodyValue K) = Some (sym process j, turned_body e r (after a.base j)) in t);
     rests = rests-turned h.body h'.body e r turn;
     whole = turn.leaving;
   }
 
-  pub grabbing-turned : (z : TableId) (n : ℕ) (w w' : Worker K) (h h' : Held K) (c : ℕ) (k k' : ChannelShown) (i r : ℕ) (e : Event) (f : BodyValue K → BodyValue K) → IsGrabbing next z n w h c k → w'.seat.table_id ≡ w.seat.table_id
-      → w'.seat.me.0 ≡ stamping w.seat.me.0 i r e f → w'.seat.me.1 ≡ w.seat.me.1 → ((b : BodyValue K) → f b ≡ h.body) → BodyTurn h.body e r h'.body → h'.process ≡ h.process → k' ≡ shown_after e k → length k'.packets < 65536 → k'.open_senders < 65536 → IsGrabbing next z n w' h' c k'
-  grabbing-turned z n w w' h h' c k k' i r e f g table view slots after turn process channel level senders = record {
+  pub grabbing-turned : (z : TableId) (n : ℕ) (w w' : Worker K) (h h' : Held K) (c : ℕ) (k k' : ChannelShown) (r : ℕ) (e : Event) (f : BodyValue K → BodyValue K) → IsGrabbing next z n w h c k → w'.seat.table_id ≡ w.seat.table_id
+      → w'.seat.me.0 ≡ stamping w.seat.me.0 r e f → w'.seat.me.1 ≡ w.seat.me.1 → ((b : BodyValue K) → f b ≡ h.body) → BodyTurn h.body e r h'.body → h'.process ≡ h.process → k' ≡ shown_after e k → length k'.packets < 65536 → k'.open_senders < 65536 → IsGrabbing next z n w' h' c k'
+  grabbing-turned z n w w' h h' c k k' r e f g table view slots after turn process channel level senders = record {
     table = table ∙ g.table;
     share = subst (λ m. 0 < m) (sym (ap (λ (v : View K). v.shares) view)) g.share;
     noted = ap (λ (v : View K). v.noted) view ∙ g.noted;
     spare = ap (λ (v : View K). v.spare) view ∙ g.spare;
     below = subst (λ m. m < n) (sym process) g.below;
-    agrees = agrees-turned w w' h h' i r e f g.agrees view after turn process;
+    agrees = agrees-turned w w' h h' r e f g.agrees view after turn process;
     grab = ap (λ (v : View K). v.grab) view ∙ ap (grab_after e) g.grab ∙ ap (λ (x : ChannelShown). let t : Option (ℕ × ChannelShown) = Some (c, x) in t) (sym channel);
     slots = slots ∙ g.slots ∙ ap (λ m. (n + c, slot.Vacant) ∷ (m, slot.Vacant) ∷ []) (sym process);
     level = level;
@@ -107,9 +107,9 @@ got-deed {K} b d port c r k k' packet e e_is first rest takes =
     (body-turn b d (effects.Got packet) r (Gets port c packet) takes refl refl, rest, omega (arith, ap (λ (xs : List Tree). length xs) first), ap (λ (x : ChannelShown). x.open_senders) rest)
 
 -- a connection was given back, and these processes are noted
-pub waking-after : {K : Type 0} (next : K → Hands → Answer → Outcome K → Type 0) (z : TableId) (n : ℕ) (w w' : Worker K) (h : Held K) (c i r : ℕ) (k : ChannelShown) (notes more : List ℕ) → IsGrabbing next z n w h c k → w'.seat.table_id ≡ w.seat.table_id → w'.seat.me.0 ≡ releasing w.seat.me.0 i r notes
+pub waking-after : {K : Type 0} (next : K → Hands → Answer → Outcome K → Type 0) (z : TableId) (n : ℕ) (w w' : Worker K) (h : Held K) (c : ℕ) (k : ChannelShown) (notes more : List ℕ) → IsGrabbing next z n w h c k → w'.seat.table_id ≡ w.seat.table_id → w'.seat.me.0 ≡ releasing w.seat.me.0 notes
     → w'.seat.me.1 ≡ (h.process, slot.Vacant) ∷ [] → notes ≡ more → IsWaking next z n w' h more
-waking-after {K} next z n w w' h c i r k notes more g table view slots told = record {
+waking-after {K} next z n w w' h c k notes more g table view slots told = record {
   table = table ∙ g.table;
   share = subst (λ m. 0 < m) (sym (ap (λ (v : View K). v.shares) view)) g.share;
   grab = ap (λ (v : View K). v.grab) view;
@@ -121,12 +121,12 @@ waking-after {K} next z n w w' h c i r k notes more g table view slots told = re
 }
 
 -- what a poke leaves of the seat's tokens
-pub poked-spare : {K : Type 0} (v w : View K) (i r : ℕ) → w ≡ poking v i r → (r ≡ 0 → ⊥) → w.spare ≡ v.spare
-poked-spare {K} v w i r is other = ap (λ (x : View K). x.spare) is ∙ (let z : nat_eq r 0 ≡ false = grind (arith, nat_tests) in ap (λ b. cond b (v.spare - 1) v.spare) z)
+pub poked-spare : {K : Type 0} (v w : View K) (r : ℕ) → w ≡ poking v r → (r ≡ 0 → ⊥) → w.spare ≡ v.spare
+poked-spare {K} v w r is other = ap (λ (x : View K). x.spare) is ∙ (let z : nat_eq r 0 ≡ false = grind (arith, nat_tests) in ap (λ b. cond b (v.spare - 1) v.spare) z)
 
 -- A poke that read 0 spends one of the spare counts.
-pub poked-spent : {K : Type 0} (v w : View K) (i r : ℕ) → w ≡ poking v i r → r ≡ 0 → w.spare ≡ v.spare - 1
-poked-spent {K} v w i r is none_there = ap (λ (x : View K). x.spare) is ∙ (let z : nat_eq r 0 ≡ true = grind (arith, nat_tests) in ap (λ b. cond b (v.spare - 1) v.spare) z)
+pub poked-spent : {K : Type 0} (v w : View K) (r : ℕ) → w ≡ poking v r → r ≡ 0 → w.spare ≡ v.spare - 1
+poked-spent {K} v w r is none_there = ap (λ (x : View K). x.spare) is ∙ (let z : nat_eq r 0 ≡ true = grind (arith, nat_tests) in ap (λ b. cond b (v.spare - 1) v.spare) z)
 
 -- one noted process was woken
 pub woken : {K : Type 0} (next : K → Hands → Answer → Outcome K → Type 0) (z : TableId) (n : ℕ) (w w' : Worker K) (h : Held K) (notes more : List ℕ) → IsWaking next z n w h notes → w'.seat.table_id ≡ w.seat.table_id → w'.seat.me.1 ≡ w.seat.me.1
@@ -143,9 +143,9 @@ woken next z n w w' h notes more q table slots shares grab held noted spare = re
 }
 
 -- a body took a turn at no connection
-pub held-turned : {K : Type 0} (next : K → Hands → Answer → Outcome K → Type 0) (z : TableId) (n : ℕ) (w w' : Worker K) (h h' : Held K) (i r : ℕ) (e : Event) (f : BodyValue K → BodyValue K) → IsHeldBy next z n w h → w'.seat.table_id ≡ w.seat.table_id → w'.seat.me.0 ≡ stamping w.seat.me.0 i r e f
+pub held-turned : {K : Type 0} (next : K → Hands → Answer → Outcome K → Type 0) (z : TableId) (n : ℕ) (w w' : Worker K) (h h' : Held K) (r : ℕ) (e : Event) (f : BodyValue K → BodyValue K) → IsHeldBy next z n w h → w'.seat.table_id ≡ w.seat.table_id → w'.seat.me.0 ≡ stamping w.seat.me.0 r e f
     → w'.seat.me.1 ≡ w.seat.me.1 → ((b : BodyValue K) → f b ≡ h.body) → BodyTurn h.body e r h'.body → h'.process ≡ h.process → IsHeldBy next z n w' h'
-held-turned next z n w w' h h' i r e f q table view slots after turn process = record {
+held-turned next z n w w' h h' r e f q table view slots after turn process = record {
   calm = record {
     table = table ∙ q.calm.table;
     share = subst (λ m. 0 < m) (sym (ap (λ (v : View _). v.shares) view)) q.calm.share;
@@ -154,7 +154,7 @@ held-turned next z n w w' h h' i r e f q table view slots after turn process = r
     spare = ap (λ (v : View _). v.spare) view ∙ q.calm.spare;
   };
   below = subst (λ m. m < n) (sym process) q.below;
-  agrees = agrees-turned next w w' h h' i r e f q.agrees view after turn process;
+  agrees = agrees-turned next w w' h h' r e f q.agrees view after turn process;
   slots = slots ∙ q.slots ∙ ap (λ m. (m, slot.Vacant) ∷ []) (sym process);
 }
 

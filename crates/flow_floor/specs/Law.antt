@@ -34,6 +34,11 @@ turns_by j n [] log = []
 turns_by j n (i ∷ seats) [] = []
 turns_by j n (i ∷ seats) (turn ∷ log) = if j == i then (n, turn.process) ∷ turns_by j (n + 1) seats log else turns_by j (n + 1) seats log
 
+-- All of these turns, the first of which has stamp n, each with its stamp and its process.
+abbrev pub numbered : ℕ → List Logged → List (ℕ × ℕ)
+numbered n [] = []
+numbered n (turn ∷ log) = (n, turn.process) ∷ numbered (n + 1) log
+
 -- Each of these numbers is below m.
 abbrev pub AllBelow : ℕ → List ℕ → Type 0
 AllBelow m [] = Unit {0}

@@ -5,7 +5,8 @@ pub mod Waking
 pub mod Rule
 pub mod Plays
 pub mod Workers
-pub mod Idle
+pub mod Looks
+pub mod Turns
 pub mod Shut
 pub mod Wiring
 pub mod Opening

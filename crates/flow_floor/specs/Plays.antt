@@ -4,6 +4,7 @@ use Rattle.atomic_table.specs.Table.{Me, Step, rest}
 use Rattle.flow_packet.specs.Held.{Held}
 use Rattle.flow_component.specs.declared.Answer.{Answer}
 use Rattle.flow_component.specs.declared.Shape.{Shape}
+use Rattle.flow_component.specs.Laws.{Outcome}
 use Rattle.flow_model.specs.Events.{Event}
 use Rattle.flow_model.specs.Stands.{ChannelShown}
 use Rattle.flow_machine.specs.Values.{BodyValue, NetValue}
@@ -13,7 +14,7 @@ use Rattle.flow_floor.specs.declared.board.Slot.{Slot}
 use Rattle.flow_floor.specs.declared.board.Slot.TheVariants as slot
 use Rattle.flow_floor.specs.declared.board.View.{View}
 use Rattle.flow_floor.specs.declared.board.Look.{Look}
-use Rattle.flow_floor.specs.Turning.{turned_body, grab_after}
+use Rattle.flow_floor.specs.Turning.{turned_body, grab_after, MachineTurnOf}
 
 -- A worker's seat at the table.
 abbrev pub Sat : Type 0 → Type 0
@@ -30,17 +31,24 @@ tail [] = []
 tail (x ∷ xs) = xs
 
 module _ {K : Type 0} where
+  -- What a step records that read r at word i, made by a seat with this view.
   abbrev pub look_at : View K → ℕ → ℕ → Look
   look_at v i r = record { word = i; read = r; holding = is_some v.grab; at = v.steps + 1 }
 
+  -- One step more was made.
+  abbrev pub counting : View K → View K
+  counting v = record v { steps = v.steps + 1 }
+
+  -- The step read r at word i, which is the seat's last look now: a claim that failed, a grab, a look, a park that failed, a reading of the live word.
   abbrev pub looked : View K → ℕ → ℕ → View K
-  looked v i r = record v { steps = v.steps + 1; look = look_at v i r }
+  looked v i r = record (counting v) { look = look_at v i r }
 
   abbrev pub seeing : View K → ℕ → ℕ → View K
   seeing v i r = record (looked v i r) { seen = look_at v i r ∷ v.seen }
 
-  abbrev pub claiming : View K → ℕ → ℕ → BodyValue K → View K
-  claiming v i r b = record (looked v i r) { held = Some (i, b); seen = [] }
+  -- Process p is held, with this body.
+  abbrev pub claiming : View K → ℕ → BodyValue K → View K
+  claiming v p b = record (counting v) { held = Some (p, b); seen = [] }
 
   abbrev pub grabbing : View K → ℕ → ℕ → ℕ → ChannelShown → View K
   grabbing v i r c k = record (seeing v i r) { grab = Some (c, k); word = r }
@@ -53,26 +61,26 @@ module _ {K : Type 0} where
   turn_of r (Some held) = (r, held.0) ∷ []
   turn_of r None = []
 
-  abbrev pub stamping : View K → ℕ → ℕ → Event → (BodyValue K → BodyValue K) → View K
-  stamping v i r e f = record (looked v i r) { held = held_after e f r v.held; grab = grab_after e v.grab; made = v.made ++ turn_of r v.held; seen = [] }
+  abbrev pub stamping : View K → ℕ → Event → (BodyValue K → BodyValue K) → View K
+  stamping v r e f = record (counting v) { held = held_after e f r v.held; grab = grab_after e v.grab; made = v.made ++ turn_of r v.held; seen = [] }
 
-  abbrev pub releasing : View K → ℕ → ℕ → List ℕ → View K
-  releasing v i r notes = record (looked v i r) { grab = None; noted = notes ++ v.noted }
+  abbrev pub releasing : View K → List ℕ → View K
+  releasing v notes = record (counting v) { grab = None; noted = notes ++ v.noted }
 
-  abbrev pub leaving : View K → ℕ → ℕ → View K
-  leaving v i r = record (looked v i r) { held = None; seen = [] }
+  abbrev pub leaving : View K → View K
+  leaving v = record (counting v) { held = None; seen = [] }
 
-  abbrev pub parking : View K → ℕ → ℕ → View K
-  parking v i r = record (leaving v i r) { spare = v.spare + 1 }
+  abbrev pub parking : View K → View K
+  parking v = record (leaving v) { spare = v.spare + 1 }
 
-  abbrev pub raising : View K → ℕ → ℕ → View K
-  raising v i r = record (looked v i r) { spare = v.spare + 1 }
+  abbrev pub raising : View K → View K
+  raising v = record (counting v) { spare = v.spare + 1 }
 
-  abbrev pub poking : View K → ℕ → ℕ → View K
-  poking v i r = record (looked v i r) { noted = tail v.noted; spare = if r == 0 then v.spare - 1 else v.spare }
+  abbrev pub poking : View K → ℕ → View K
+  poking v r = record (counting v) { noted = tail v.noted; spare = if r == 0 then v.spare - 1 else v.spare }
 
-  abbrev pub lowering : View K → ℕ → ℕ → View K
-  lowering v i r = record (looked v i r) { spare = v.spare - 1 }
+  abbrev pub lowering : View K → View K
+  lowering v = record (counting v) { spare = v.spare - 1 }
 
   abbrev pub reading : View K → ℕ → ℕ → View K
   reading v i r = record (looked v i r) { read_zero = v.read_zero || (r == 0) }
@@ -86,7 +94,7 @@ module _ {K : Type 0} where
   WasSo shape_of uses ready held c k = (now : NetValue K) × FitNet shape_of uses ready now × (slice_get now.channels c ≡ Some k) × HeldIn now held
 
   abbrev pub claimed : ℕ → Step (Slot K) → Sat K → ℕ → Sat K → Type 0
-  claimed n st m r m' = (r ≡ 2 → (b : BodyValue K) × (b.leaving ≡ None) × IsWiredBody n b × (m' ≡ (claiming m.0 st.word r b, (st.word, slot.Body b) ∷ m.1))) × (r ≢ 2 → m' ≡ (looked m.0 st.word r, m.1))
+  claimed n st m r m' = (r ≡ 2 → (b : BodyValue K) × (b.leaving ≡ None) × IsWiredBody n b × (m' ≡ (claiming m.0 st.word b, (st.word, slot.Body b) ∷ m.1))) × (r ≢ 2 → m' ≡ (looked m.0 st.word r, m.1))
 
   abbrev pub grabbed : (K → Shape) → (K → ℕ → Bool) → (K → Held → Answer → Type 0) → ℕ → ℕ → Step (Slot K) → Sat K → ℕ → Sat K → Type 0
   grabbed shape_of uses ready c most st m r m' =
@@ -96,29 +104,29 @@ module _ {K : Type 0} where
   abbrev pub saw : Step (Slot K) → Sat K → ℕ → Sat K → Type 0
   saw st m r m' = m' ≡ (seeing m.0 st.word r, m.1)
 
-  abbrev pub stamped : Event → (BodyValue K → BodyValue K) → Step (Slot K) → Sat K → ℕ → Sat K → Type 0
-  stamped e f st m r m' = (m' ≡ (stamping m.0 st.word r e f, m.1)) × Below r m.0.made × (r ≤ 1073741824)
+  abbrev pub stamped : (K → Shape) → (K → ℕ → Bool) → (K → Held → Answer → Type 0) → (K → Held → Answer → Outcome K → Type 0) → NetValue K → Event → (BodyValue K → BodyValue K) → Step (Slot K) → Sat K → ℕ → Sat K → Type 0
+  stamped shape_of uses ready next start e f st m r m' = (m' ≡ (stamping m.0 r e f, m.1)) × Below r m.0.made × (r ≤ 1073741824) × MachineTurnOf shape_of uses ready next start r f e m.0.held
 
   abbrev pub released : List ℕ → Step (Slot K) → Sat K → ℕ → Sat K → Type 0
-  released notes st m r m' = m' ≡ (releasing m.0 st.word r notes, rest m.1)
+  released notes st m r m' = m' ≡ (releasing m.0 notes, rest m.1)
 
   abbrev pub left : Step (Slot K) → Sat K → ℕ → Sat K → Type 0
-  left st m r m' = m' ≡ (leaving m.0 st.word r, rest m.1)
+  left st m r m' = m' ≡ (leaving m.0, rest m.1)
 
   abbrev pub parked : Step (Slot K) → Sat K → ℕ → Sat K → Type 0
-  parked st m r m' = (r ≡ 1 → m' ≡ (parking m.0 st.word r, rest m.1)) × (r ≢ 1 → (r ≡ 3) × (m' ≡ (looked m.0 st.word r, m.1)))
+  parked st m r m' = (r ≡ 1 → m' ≡ (parking m.0, rest m.1)) × (r ≢ 1 → (r ≡ 3) × (m' ≡ (looked m.0 st.word r, m.1)))
 
   abbrev pub retired : Step (Slot K) → Sat K → ℕ → Sat K → Type 0
-  retired st m r m' = m' ≡ (parking m.0 st.word r, rest m.1)
+  retired st m r m' = m' ≡ (parking m.0, rest m.1)
 
   abbrev pub raised : Step (Slot K) → Sat K → ℕ → Sat K → Type 0
-  raised st m r m' = m' ≡ (raising m.0 st.word r, m.1)
+  raised st m r m' = m' ≡ (raising m.0, m.1)
 
   abbrev pub poked : Step (Slot K) → Sat K → ℕ → Sat K → Type 0
-  poked st m r m' = m' ≡ (poking m.0 st.word r, m.1)
+  poked st m r m' = m' ≡ (poking m.0 r, m.1)
 
   abbrev pub lowered : Step (Slot K) → Sat K → ℕ → Sat K → Type 0
-  lowered st m r m' = m' ≡ (lowering m.0 st.word r, m.1)
+  lowered st m r m' = m' ≡ (lowering m.0, m.1)
 
   abbrev pub told_live : Step (Slot K) → Sat K → ℕ → Sat K → Type 0
   told_live st m r m' = m' ≡ (reading m.0 st.word r, m.1)

@@ -10,7 +10,7 @@ use Rattle.flow_machine.specs.Joins.{IsPlanned}
 use Rattle.flow_floor.specs.declared.board.Slot.{Slot}
 use Rattle.flow_floor.specs.declared.board.View.{View}
 use Rattle.flow_floor.specs.Law.{Beside, Flow}
-use Rattle.flow_floor.specs.Waking.{Wakes}
+use Rattle.flow_floor.specs.Waking.{Wakes, AllRetired}
 
 -- The rule, of a floor on which a net was opened, whose connections are a valid plan's.
 pub record Law {K : Type 0} (shape_of : K → Shape) (uses : K → ℕ → Bool) (ready : K → Held → Answer → Type 0) (next : K → Held → Answer → Outcome K → Type 0) (start : NetValue K) (s : State (Slot K) (View K)) : Type 0 where
@@ -18,3 +18,4 @@ pub record Law {K : Type 0} (shape_of : K → Shape) (uses : K → ℕ → Bool)
   pub planned : IsPlanned start
   pub flow : Flow shape_of uses ready next start s beside
   pub wakes : Wakes start s beside
+  pub done : AllRetired s.words beside.now.bodies

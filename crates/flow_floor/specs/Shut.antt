@@ -1,5 +1,5 @@
 -- What lies in the slots of a floor that is closed.
-use Rattle.std.specs.Prelude.{◌≡◌, ◌⊎◌, ℕ, ◌+◌, ◌<◌, Bool, true, List, length, map, Some, slice_get, slice_index}
+use Rattle.std.specs.Prelude.{◌≡◌, ℕ, ◌+◌, ◌<◌, ◌==◌, if◌then◌else◌, not, Bool, true, false, List, [], ◌∷◌, ◌++◌, All, length, Some, slice_get, slice_index}
 use mathlib.Core.Option.{some}
 use lib.ListN.{get_elem?}
 use Rattle.flow_packet.specs.Held.{Held}
@@ -9,14 +9,17 @@ use Rattle.flow_component.specs.Laws.{Outcome}
 use Rattle.flow_model.specs.declared.Stage.{Stage}
 use Rattle.flow_model.specs.declared.Stage.TheVariants as stages
 use Rattle.flow_model.specs.States.{State}
+use Rattle.flow_model.specs.Schedules.{IsThoughtStage}
 use Rattle.flow_model.specs.Verdicts.{Quiet}
 use Rattle.flow_model.specs.Stands.{ChannelShown, StandsForOpen}
 use Rattle.flow_machine.specs.Logs.{Logged, turns_made}
 use Rattle.flow_machine.specs.Solo.{GoesBy, reached}
-use Rattle.flow_floor.specs.declared.board.View.{View}
+use Rattle.flow_machine.specs.Thoughts.{IsUnset}
 use Rattle.flow_machine.specs.Values.{BodyValue, NetValue, shown_net}
 use Rattle.flow_floor.specs.declared.board.Slot.{Slot}
 use Rattle.flow_floor.specs.declared.board.Slot.TheVariants as slot
+use Rattle.flow_floor.specs.Law.{numbered}
+use Rattle.flow_floor.specs.Waking.{IsOverStage, InList}
 
 module _ {K : Type 0} where
   -- The first n slots have bodies; the slots from n on have channels.
@@ -33,22 +36,43 @@ module _ {K : Type 0} where
   abbrev pub ChannelsIn : ℕ → ℕ → List (Slot K) → List ChannelShown → Type 0
   ChannelsIn n m xs ks = (length ks ≡ m) × ((c : ℕ) (k : ChannelShown) → c < m → get_elem? xs (n + c) ≡ some (slot.Channel k) → slice_get ks c ≡ Some k)
 
--- The process at this stage is over.
-abbrev pub IsOverStage : Stage → Type 0
-IsOverStage stages.Ended = Unit {0}
-IsOverStage (stages.Failed cause) = Unit {0}
-IsOverStage stages.Idle = ⊥
-IsOverStage (stages.Told answer) = ⊥
-IsOverStage (stages.Wishing wish) = ⊥
-IsOverStage (stages.Closing i) = ⊥
+-- Whether the process at this stage is over.
+abbrev pub is_over_stage : Stage → Bool
+is_over_stage stages.Ended = true
+is_over_stage (stages.Failed cause) = true
+is_over_stage stages.Idle = false
+is_over_stage (stages.Told answer) = false
+is_over_stage (stages.Wishing wish) = false
+is_over_stage (stages.Closing i) = false
 
--- The net of a floor that was closed: the net with which it was opened goes on to it by the turns of the worker that is left, in the order of their
--- stamps; and where that worker read 0, and each process was parked or is over, it is quiet.
-pub record IsShut {K : Type 0} (shape_of : K → Shape) (uses : K → ℕ → Bool) (ready : K → Held → Answer → Type 0) (next : K → Held → Answer → Outcome K → Type 0) (start : NetValue K) (v : View K) (net : NetValue K) : Type 0 where
-  pub words : List ℕ
+-- Whether a process with this word, at this stage, is neither parked nor over.
+abbrev pub starves : ℕ → Stage → Bool
+starves word stage = if word == 0 then false else not (is_over_stage stage)
+
+-- A list with one more process, if it is to be listed.
+abbrev pub listed : List ℕ → ℕ → Bool → List ℕ
+listed starved process true = starved ++ process ∷ []
+listed starved process false = starved
+
+-- Each process that is listed is neither parked nor over, and each of those below m is listed.
+pub record ListsStarved {K : Type 0} (words : List ℕ) (bodies : List (BodyValue K)) (m : ℕ) (starved : List ℕ) : Type 0 where
+  pub each : All (λ p. (b : BodyValue K) × (slice_get bodies p ≡ Some b) × (starves (slice_index words p) b.process.stage ≡ true)) starved
+  pub all : (p : ℕ) (b : BodyValue K) → p < m → slice_get bodies p ≡ Some b → starves (slice_index words p) b.process.stage ≡ true → InList p starved
+
+-- Each of these processes of the net isn't set.
+abbrev pub AllUnset : {K : Type 0} → NetValue K → List ℕ → Type 0
+AllUnset {K} net starved = All (λ p. (b : BodyValue K) × (slice_get net.bodies p ≡ Some b) × IsUnset b) starved
+
+-- No work is pending in the net, and each state that it stands for is quiet.
+pub record IsQuietNet {K : Type 0} (net : NetValue K) : Type 0 where
+  pub thought : (p : ℕ) (b : BodyValue K) → slice_get net.bodies p ≡ Some b → IsThoughtStage b.process.stage
+  pub quiet : (t : State K) → StandsForOpen (shown_net net) t → Quiet t
+
+-- The net of a floor that was closed: the net with which it was opened goes on to it by the turns `made`, which have the stamps from the first one on,
+-- one after another; and it has the same processes.
+pub record IsShut {K : Type 0} (shape_of : K → Shape) (uses : K → ℕ → Bool) (ready : K → Held → Answer → Type 0) (next : K → Held → Answer → Outcome K → Type 0) (start : NetValue K) (made : List (ℕ × ℕ)) (net : NetValue K) : Type 0 where
   pub log : List Logged
   pub goes : GoesBy shape_of uses ready (reached next) start (turns_made start) log net
   pub len : length net.bodies ≡ length start.bodies
   pub total : turns_made net ≡ turns_made start + length log
-  pub turns : map (λ (e : ℕ × ℕ). e.1) v.made ≡ map (λ (t : Logged). t.process) log
-  pub quiet : v.read_zero ≡ true → ((p : ℕ) (b : BodyValue K) → slice_get net.bodies p ≡ Some b → (slice_index words p ≡ 0) ⊎ IsOverStage b.process.stage) → (t : State K) → StandsForOpen (shown_net net) t → Quiet t
+  pub turns : made ≡ numbered (turns_made start) log

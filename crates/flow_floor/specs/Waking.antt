@@ -11,6 +11,7 @@ use Rattle.flow_model.specs.States.{From, output_at}
 use Rattle.flow_model.specs.Schedules.{IsThoughtStage}
 use Rattle.flow_model.specs.Stands.{ChannelShown}
 use Rattle.flow_machine.specs.Values.{BodyValue, NetValue}
+use Rattle.flow_machine.specs.Thoughts.{IsUnset}
 use Rattle.flow_ring.specs.Words.{level_in, senders_in}
 use Rattle.flow_floor.specs.declared.board.Slot.{Slot}
 use Rattle.flow_floor.specs.declared.board.View.{View}
@@ -26,6 +27,19 @@ abbrev pub live_in : ℕ → List ℕ → ℕ
 live_in zero words = 0
 live_in (suc n) [] = 0
 live_in (suc n) (w ∷ words) = counts w + live_in n words
+
+-- The process at this stage is over.
+abbrev pub IsOverStage : Stage → Type 0
+IsOverStage stages.Ended = Unit {0}
+IsOverStage (stages.Failed cause) = Unit {0}
+IsOverStage stages.Idle = ⊥
+IsOverStage (stages.Told answer) = ⊥
+IsOverStage (stages.Wishing wish) = ⊥
+IsOverStage (stages.Closing i) = ⊥
+
+-- A process word that says that the process is done; it may have been poked since.
+abbrev pub IsDoneWord : ℕ → Type 0
+IsDoneWord w = (w ≡ 4) ⊎ (w ≡ 6)
 
 -- A number stands in a list.
 abbrev pub InList : ℕ → List ℕ → Type 0
@@ -67,6 +81,14 @@ module _ {K : Type 0} where
   abbrev pub AllBlock : ℕ → List ChannelShown → List ℕ → BodyValue K → List Look → Type 0
   AllBlock n channels words b [] = Unit {0}
   AllBlock n channels words b (look ∷ seen) = StillBlocks n channels words b look × AllBlock n channels words b seen
+
+  -- There is nothing to do with the body any more: it is over, or its thought found no memory, so that it isn't set.
+  abbrev pub IsRetired : BodyValue K → Type 0
+  IsRetired b = IsOverStage b.process.stage ⊎ IsUnset b
+
+  -- Q5. Each process whose word says that it is done has such a body.
+  abbrev pub AllRetired : List ℕ → List (BodyValue K) → Type 0
+  AllRetired words bodies = (q : ℕ) (b : BodyValue K) → slice_get bodies q ≡ Some b → IsDoneWord (slice_index words q) → IsRetired b
 
   -- What stays as it was when the floor was opened.
   pub record IsWiredAs (start now : NetValue K) : Type 0 where

@@ -6,6 +6,11 @@ use Rattle.flow_component.specs.declared.Answer.{Answer}
 use Rattle.flow_component.specs.Laws.{Outcome}
 use Rattle.flow_model.specs.Stands.{ChannelShown}
 use Rattle.flow_machine.specs.Values.{BodyValue, NetValue}
+use Rattle.flow_machine.specs.Thoughts.{IsUnset}
+use Rattle.flow_machine.specs.Nets.{HasFailed}
+use Rattle.flow_machine.specs.declared.answers.Over.{Over}
+use Rattle.flow_machine.specs.declared.answers.Over.TheVariants as overs
+use Rattle.flow_model.specs.declared.Stage.TheVariants as stages
 use Rattle.flow_floor.specs.declared.board.Slot.TheVariants as slot
 use Rattle.flow_floor.specs.declared.board.View.{View}
 use Rattle.flow_floor.specs.declared.floor.Worker.{Worker}
@@ -14,10 +19,6 @@ use Rattle.flow_floor.specs.declared.floor.Claim.{Claim}
 use Rattle.flow_floor.specs.declared.floor.Claim.TheVariants as claim
 use Rattle.flow_floor.specs.declared.floor.Grabbed.{Grabbed}
 use Rattle.flow_floor.specs.declared.floor.Grabbed.TheVariants as grabbed
-use Rattle.flow_floor.specs.declared.floor.Saw.{Saw}
-use Rattle.flow_floor.specs.declared.floor.Saw.TheVariants as saw
-use Rattle.flow_floor.specs.declared.floor.Turned.{Turned}
-use Rattle.flow_floor.specs.declared.floor.Turned.TheVariants as turned
 use Rattle.flow_component.specs.declared.Shape.{Shape}
 use Rattle.flow_ring.specs.Words.{level_in, senders_in}
 use Rattle.flow_model.specs.Schedules.{IsThoughtStage}
@@ -25,8 +26,6 @@ use Rattle.flow_floor.specs.declared.board.Look.{Look}
 use Rattle.flow_floor.specs.Waking.{AllBlock, WordsBlock}
 use Rattle.flow_floor.specs.Law.{Rests}
 use Rattle.flow_floor.specs.Plays.{WasSo, grabbing}
-use Rattle.flow_model.specs.Events.{Event}
-use Rattle.flow_machine.specs.Nets.{BodyTurn}
 
 module _ {K : Type 0} where
   abbrev pub view : Worker K → View K
@@ -86,15 +85,19 @@ module _ {K : Type 0} where
 
   -- The connection was just taken: the word that was found has the channel's level and open senders, and at that moment the machine had both this
   -- channel and the body that is held.
-  pub record HasGrabbed (shape_of : K → Shape) (uses : K → ℕ → Bool) (ready : K → Hands → Answer → Type 0) (old new : Worker K) (i c most : ℕ) (k : ChannelShown) : Type 0 where
-    pub word : ℕ
+  pub record HasGrabbed (shape_of : K → Shape) (uses : K → ℕ → Bool) (ready : K → Hands → Answer → Type 0) (old new : Worker K) (i c most word : ℕ) (k : ChannelShown) : Type 0 where
     pub level : level_in word ≡ length k.packets
     pub senders : senders_in word ≡ k.open_senders
     pub capacity : k.capacity ≡ most
     pub so : WasSo shape_of uses ready old.seat.me.0.held c k
     pub view : new.seat.me.0 ≡ grabbing old.seat.me.0 i word c k
 
-  -- The same with this many spare tokens, and nothing noted.
+  -- Beside the process at hand all stays: the worker's shares, and whether it has read 0.
+  pub record IsSameSeat (old new : View K) : Type 0 where
+    pub shares : new.shares ≡ old.shares
+    pub zero : new.read_zero ≡ old.read_zero
+
+  -- It holds nothing and has noted nobody, and has this many spare tokens.
   pub record IsDone (z : TableId) (w : Worker K) (tokens : ℕ) : Type 0 where
     pub table : w.seat.table_id ≡ z
     pub share : 0 < w.seat.me.0.shares
@@ -108,39 +111,17 @@ module _ {K : Type 0} where
   abbrev pub SeenBlocks : NetValue K → BodyValue K → List Look → Type 0
   SeenBlocks start d seen = IsThoughtStage d.process.stage × ((words : List ℕ) → AllBlock (length start.bodies) start.channels words d seen → WordsBlock (length start.bodies) start.channels words d d.process.stage)
 
-  -- The held body made a turn with this stamp, which is the last of its worker's.
-  abbrev pub IsMade : Held K → Worker K → Held K → Worker K → ℕ → Type 0
-  IsMade h w h' w' stamp = (h'.process ≡ h.process) × ((event : Event) × BodyTurn h.body event stamp h'.body) × (w'.seat.me.0.made ≡ w.seat.me.0.made ++ (stamp, h.process) ∷ [])
-
-  -- It made none, and is as it was.
-  abbrev pub IsUnmade : Held K → Worker K → Held K → Worker K → Type 0
-  IsUnmade h w h' w' = (h' ≡ h) × (w'.seat.me.0.made ≡ w.seat.me.0.made)
+  -- The body may be retired so: its process has ended, or has failed, or it isn't set, since its thought found no memory.
+  abbrev pub RetiresAs : Over → BodyValue K → Type 0
+  RetiresAs overs.Ended b = b.process.stage ≡ stages.Ended
+  RetiresAs overs.Failed b = HasFailed b.process.stage
+  RetiresAs overs.Starved b = IsUnset b
 
   abbrev pub MatchClaim : Claim K → (Held K → Type 0) → (ℕ → Type 0) → Type 0
   MatchClaim (claim.Held h) P Q = P h
   MatchClaim (claim.NotReady n) P Q = Q n
 
 -- What holds of an answer to a grab, by its cases.
-abbrev pub MatchGrabbed : Grabbed → (ℕ → Type 0) → (ChannelShown → Type 0) → Type 0
-MatchGrabbed (grabbed.Busy n) P Q = P n
-MatchGrabbed (grabbed.Got k) P Q = Q k
-
--- What a turn came to.
-abbrev pub MatchTurned : Turned → (ℕ → Type 0) → (ℕ → Type 0) → (ℕ → Type 0) → Type 0
-MatchTurned (turned.Made s) P Q R = P s
-MatchTurned (turned.Busy n) P Q R = Q n
-MatchTurned (turned.Blocked n) P Q R = R n
-MatchTurned turned.Over P Q R = ⊥
-
--- The same, where the process may be over.
-abbrev pub MatchCame : Turned → (ℕ → Type 0) → (ℕ → Type 0) → (ℕ → Type 0) → Type 0 → Type 0
-MatchCame (turned.Made s) P Q R S = P s
-MatchCame (turned.Busy n) P Q R S = Q n
-MatchCame (turned.Blocked n) P Q R S = R n
-MatchCame turned.Over P Q R S = S
-
--- What holds of an answer to a look, by its cases.
-abbrev pub MatchSaw : Saw → Type 0 → Type 0 → Type 0 → Type 0
-MatchSaw saw.Packet P Q R = P
-MatchSaw saw.Sender P Q R = Q
-MatchSaw saw.Over P Q R = R
+abbrev pub MatchGrabbed : Grabbed → (ℕ → Type 0) → (ℕ → ChannelShown → Type 0) → Type 0
+MatchGrabbed (grabbed.Busy w) P Q = P w
+MatchGrabbed (grabbed.Got w k) P Q = Q w k

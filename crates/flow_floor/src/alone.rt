@@ -9,15 +9,26 @@ ghost use Rattle.flow_machine.specs.Nets.{BodyTurn};
 ghost use Rattle.flow_machine.specs.FitNets.{FitNet};
 ghost use Rattle.flow_model.specs.States.{From, Text};
 ghost use Rattle.flow_machine.specs.Effects.{text_event};
-ghost use Rattle.flow_floor.specs.Workers.{view, IsHeldBy, MatchSaw};
-ghost use Rattle.flow_floor.specs.Idle.{SawPacket, SawNone, SawOver, SawSender, AllSaw, SawOne};
+ghost use Rattle.flow_floor.specs.Workers.{view, IsHeldBy, IsSameSeat};
+ghost use Rattle.flow_floor.specs.Looks.{Saws, first_open};
 ghost use Rattle.flow_floor.specs.Plays.{seeing, stamping, Below};
-ghost use Rattle.flow_floor.specs.Turning.{Happens};
+ghost use Rattle.flow_floor.specs.Turning.{Happens, MachineTurn};
 
 use crate::floor::{Floor, Held, Saw, Worker};
 use crate::plays::{Deed, Look};
 use flow_component::{Component, Port};
 use flow_machine::Effect;
+use flow_ring::{level, senders};
+
+/// The word that was found before, or else this one, if it has an open sender.
+fn first_open(found: Option<u64>, word: u64) -> Option<u64>
+    ensures { result ≡ first_open found word }
+{
+    match found {
+        Some(found) => Some(found),
+        None => { if senders(word) == 0 { None } else { Some(word) } }
+    }
+}
 
 impl<K: Component> Floor<K> {
     /// Reads the word of a connection, and keeps what it read.
@@ -39,27 +50,30 @@ impl<K: Component> Floor<K> {
         requires wired { (i c : ℕ) → slice_get held.now.body.process.inputs i ≡ Some (From c) → c < self.now.connections }
         ensures held { IsHeldBy K.next self.now.table.shared.table_id self.now.processes worker.new held.now }
         ensures made { (view worker.new).made ≡ (view worker.old).made }
-        ensures saw { MatchSaw result (SawOne (SawPacket self.now.processes) held.now.body.process.inputs (view worker.new).seen) (AllSaw (SawNone self.now.processes) (length held.now.body.process.inputs) held.now.body.process.inputs (view worker.new).seen × SawOne (SawSender self.now.processes) held.now.body.process.inputs (view worker.new).seen) (AllSaw (SawOver self.now.processes) (length held.now.body.process.inputs) held.now.body.process.inputs (view worker.new).seen) }
+        ensures seat { IsSameSeat (view worker.old) (view worker.new) }
+        ensures saw { Saws self.now.processes (view worker.old).steps held.now.body.process.inputs (view worker.new).seen result }
     {
-        let mut open = false;
+        let mut open = None;
         for i in 0..held.body.inputs() {
             if let Some(connection) = held.body.input(i) {
                 let word = self.look(worker, held, connection as usize);
-                if word % 65536 != 0 {
+                if level(word) != 0 {
                     return Saw::Packet;
                 }
-                if word / 65536 % 65536 != 0 {
-                    open = true;
-                }
+                open = first_open(open, word);
             }
         }
-        if open { Saw::Sender } else { Saw::Over }
+        match open {
+            Some(word) => Saw::Sender(word),
+            None => Saw::Over,
+        }
     }
 
     /// Starts.
-    pub(crate) fn start_as<D: Deed<K>>(&self, worker: &mut Worker<K>, held: &mut Held<K>) -> u64
+    pub(crate) fn start_as<D: Deed<K>>(&self, worker: &mut Worker<K>, held: &mut Held<K>) -> u32
         requires event { D.event ≡ Starts }
         requires after { (b : BodyValue _) → D.after b ≡ held.old.body }
+        requires start { D.start ≡ self.now.table.shared.key.value }
         requires held { IsHeldBy K.next self.now.table.shared.table_id self.now.processes worker.old held.old }
         requires stage { held.old.body.process.stage ≡ Idle }
         requires room { HasRoom held.old.body }
@@ -67,18 +81,20 @@ impl<K: Component> Floor<K> {
         ensures held { IsHeldBy K.next self.now.table.shared.table_id self.now.processes worker.new held.new }
         ensures process { held.new.process ≡ held.old.process }
         ensures body { BodyTurn held.old.body Starts result held.new.body }
-        ensures view { view worker.new ≡ stamping (view worker.old) (self.now.processes + self.now.connections) result D.event D.after }
+        ensures view { view worker.new ≡ stamping (view worker.old) result D.event D.after }
         ensures above { Below result (view worker.old).made }
+        ensures machine { MachineTurn K.shape_of K.uses K.ready K.next self.now.table.shared.key.value result held.old.process held.old.body D.event }
     {
         let stamp = self.stamp::<D>(worker, held);
-        held.body.effect(Effect::Start, stamp as u32);
+        held.body.effect(Effect::Start, stamp);
         stamp
     }
 
     /// Goes to its end.
-    pub(crate) fn finish_as<D: Deed<K>>(&self, worker: &mut Worker<K>, held: &mut Held<K>) -> u64
+    pub(crate) fn finish_as<D: Deed<K>>(&self, worker: &mut Worker<K>, held: &mut Held<K>) -> u32
         requires event { D.event ≡ Finishes }
         requires after { (b : BodyValue _) → D.after b ≡ held.old.body }
+        requires start { D.start ≡ self.now.table.shared.key.value }
         requires held { IsHeldBy K.next self.now.table.shared.table_id self.now.processes worker.old held.old }
         requires stage { held.old.body.process.stage ≡ Idle }
         requires room { HasRoom held.old.body }
@@ -86,11 +102,12 @@ impl<K: Component> Floor<K> {
         ensures held { IsHeldBy K.next self.now.table.shared.table_id self.now.processes worker.new held.new }
         ensures process { held.new.process ≡ held.old.process }
         ensures body { BodyTurn held.old.body Finishes result held.new.body }
-        ensures view { view worker.new ≡ stamping (view worker.old) (self.now.processes + self.now.connections) result D.event D.after }
+        ensures view { view worker.new ≡ stamping (view worker.old) result D.event D.after }
         ensures above { Below result (view worker.old).made }
+        ensures machine { MachineTurn K.shape_of K.uses K.ready K.next self.now.table.shared.key.value result held.old.process held.old.body D.event }
     {
         let stamp = self.stamp::<D>(worker, held);
-        held.body.effect(Effect::ToClosing, stamp as u32);
+        held.body.effect(Effect::ToClosing, stamp);
         stamp
     }
 
@@ -99,20 +116,22 @@ impl<K: Component> Floor<K> {
         &self,
         worker: &mut Worker<K>,
         held: &mut Held<K>,
-    ) -> u64
+    ) -> u32
         requires event { D.event ≡ Sleeps }
         requires after { (b : BodyValue _) → D.after b ≡ held.old.body }
+        requires start { D.start ≡ self.now.table.shared.key.value }
         requires held { IsHeldBy K.next self.now.table.shared.table_id self.now.processes worker.old held.old }
         requires stage { held.old.body.process.stage ≡ Wishing Deactivate }
         requires room { HasRoom held.old.body }
         ensures held { IsHeldBy K.next self.now.table.shared.table_id self.now.processes worker.new held.new }
         ensures process { held.new.process ≡ held.old.process }
         ensures body { BodyTurn held.old.body Sleeps result held.new.body }
-        ensures view { view worker.new ≡ stamping (view worker.old) (self.now.processes + self.now.connections) result D.event D.after }
+        ensures view { view worker.new ≡ stamping (view worker.old) result D.event D.after }
         ensures above { Below result (view worker.old).made }
+        ensures machine { MachineTurn K.shape_of K.uses K.ready K.next self.now.table.shared.key.value result held.old.process held.old.body D.event }
     {
         let stamp = self.stamp::<D>(worker, held);
-        held.body.effect(Effect::Deactivate, stamp as u32);
+        held.body.effect(Effect::Deactivate, stamp);
         stamp
     }
 
@@ -122,9 +141,10 @@ impl<K: Component> Floor<K> {
         worker: &mut Worker<K>,
         held: &mut Held<K>,
         port: Port,
-    ) -> u64
+    ) -> u32
         requires event { D.event ≡ text_event port.0 (is_fresh held.old.body.process port.0) (slice_get held.old.body.process.inputs port.0) }
         requires after { (b : BodyValue _) → D.after b ≡ held.old.body }
+        requires start { D.start ≡ self.now.table.shared.key.value }
         requires held { IsHeldBy K.next self.now.table.shared.table_id self.now.processes worker.old held.old }
         requires stage { held.old.body.process.stage ≡ Wishing (Receive port) }
         requires input { (text : List ℕ) × (slice_get held.old.body.process.inputs port.0 ≡ Some (Text text)) }
@@ -132,12 +152,13 @@ impl<K: Component> Floor<K> {
         ensures held { IsHeldBy K.next self.now.table.shared.table_id self.now.processes worker.new held.new }
         ensures process { held.new.process ≡ held.old.process }
         ensures body { BodyTurn held.old.body D.event result held.new.body }
-        ensures view { view worker.new ≡ stamping (view worker.old) (self.now.processes + self.now.connections) result D.event D.after }
+        ensures view { view worker.new ≡ stamping (view worker.old) result D.event D.after }
         ensures above { Below result (view worker.old).made }
+        ensures machine { MachineTurn K.shape_of K.uses K.ready K.next self.now.table.shared.key.value result held.old.process held.old.body D.event }
     {
         let _ = port;
         let stamp = self.stamp::<D>(worker, held);
-        held.body.effect(Effect::Initial, stamp as u32);
+        held.body.effect(Effect::Initial, stamp);
         stamp
     }
 }

@@ -1,17 +1,18 @@
 //! How a worker takes a process, and gives it back.
-ghost use Rattle.std.specs.Prelude.{◌≡◌, ◌≢◌, ℕ, ◌<◌, None, Some, true};
+ghost use Rattle.std.specs.Prelude.{◌≡◌, ◌≢◌, ℕ, ◌+◌, ◌<◌, ◌⊎◌, None, Some, true};
+ghost use Rattle.flow_floor.specs.Looks.{IsLook};
 ghost use Rattle.atomic_table.specs.Seated.{TableId};
 ghost use Rattle.flow_floor.specs.declared.floor.Worker.{Worker};
 ghost use Rattle.flow_machine.specs.Thoughts.{Thinks, KeepsTurns};
 ghost use Rattle.flow_machine.specs.FitNets.{IsWiredBody};
-ghost use Rattle.flow_floor.specs.Workers.{view, IsIdle, IsHeldBy, IsDone, SeenBlocks, MatchClaim};
-ghost use Rattle.flow_floor.specs.Plays.{looked, claiming, leaving};
+ghost use Rattle.flow_floor.specs.Workers.{view, IsIdle, IsHeldBy, IsDone, IsSameSeat, SeenBlocks, RetiresAs, MatchClaim};
+ghost use Rattle.flow_floor.specs.Plays.{looked, claiming, leaving, lowering, reading};
 
 use crate::board::Slot;
 use crate::floor::{Claim, Floor, Held, Worker};
 use crate::plays::{Leave, Live, Lower, Park, Retire, Spot, Take};
 use flow_component::{Component, Gate};
-use flow_machine::Thought;
+use flow_machine::{Over, Thought};
 use std::marker::Brand;
 
 const READY: u64 = 2;
@@ -27,7 +28,7 @@ impl<K: Component> Floor<K> {
         requires spot { S.connection ≡ self.now.connections }
         requires worker { IsIdle self.now.table.shared.table_id worker.old }
         requires range { process < self.now.processes }
-        ensures { MatchClaim result (λ h. (h.process ≡ process) × IsHeldBy K.next self.now.table.shared.table_id self.now.processes worker.new h × IsWiredBody self.now.connections h.body × (view worker.new ≡ claiming (view worker.old) process 2 h.body)) (λ n. (n ≢ 2) × IsIdle self.now.table.shared.table_id worker.new × (view worker.new ≡ looked (view worker.old) process n)) }
+        ensures { MatchClaim result (λ h. (h.process ≡ process) × IsHeldBy K.next self.now.table.shared.table_id self.now.processes worker.new h × IsWiredBody self.now.connections h.body × (view worker.new ≡ claiming (view worker.old) process h.body)) (λ n. (n ≢ 2) × IsIdle self.now.table.shared.table_id worker.new × (view worker.new ≡ looked (view worker.old) process n)) }
     {
         let shared = &self.table.shared;
         let found = shared.compare_exchange::<Take<S>>(&mut worker.seat, process, READY, HELD);
@@ -45,7 +46,7 @@ impl<K: Component> Floor<K> {
     pub fn claim(&self, worker: &mut Worker<K>, process: usize) -> Claim<K>
         requires worker { IsIdle self.now.table.shared.table_id worker.old }
         requires range { process < self.now.processes }
-        ensures { MatchClaim result (λ h. (h.process ≡ process) × IsHeldBy K.next self.now.table.shared.table_id self.now.processes worker.new h × IsWiredBody self.now.connections h.body × (view worker.new ≡ claiming (view worker.old) process 2 h.body)) (λ n. (n ≢ 2) × IsIdle self.now.table.shared.table_id worker.new × (view worker.new ≡ looked (view worker.old) process n)) }
+        ensures { MatchClaim result (λ h. (h.process ≡ process) × IsHeldBy K.next self.now.table.shared.table_id self.now.processes worker.new h × IsWiredBody self.now.connections h.body × (view worker.new ≡ claiming (view worker.old) process h.body)) (λ n. (n ≢ 2) × IsIdle self.now.table.shared.table_id worker.new × (view worker.new ≡ looked (view worker.old) process n)) }
     {
         self.claim_at::<Brand>(worker, process)
     }
@@ -54,7 +55,7 @@ impl<K: Component> Floor<K> {
     pub fn hand_back(&self, worker: &mut Worker<K>, held: Held<K>)
         requires { IsHeldBy K.next self.now.table.shared.table_id self.now.processes worker.old held }
         ensures idle { IsIdle self.now.table.shared.table_id worker.new }
-        ensures made { (view worker.new).made ≡ (view worker.old).made }
+        ensures view { view worker.new ≡ leaving (view worker.old) }
     {
         let Held { body, process } = held;
         let shared = &self.table.shared;
@@ -63,12 +64,15 @@ impl<K: Component> Floor<K> {
         shared.swap::<Leave>(&mut worker.seat, process, READY);
     }
 
-    /// The process is done.
-    pub fn retire(&self, worker: &mut Worker<K>, held: Held<K>)
-        requires { IsHeldBy K.next self.now.table.shared.table_id self.now.processes worker.old held }
+    /// The process is done: it is over, or its last thought found no memory.
+    pub fn retire(&self, worker: &mut Worker<K>, held: Held<K>, over: Over)
+        requires held { IsHeldBy K.next self.now.table.shared.table_id self.now.processes worker.old held }
+        requires over { RetiresAs over held.body }
         ensures idle { IsIdle self.now.table.shared.table_id worker.new }
         ensures made { (view worker.new).made ≡ (view worker.old).made }
+        ensures seat { IsSameSeat (view worker.old) (view worker.new) }
     {
+        let _ = over;
         let Held { body, process } = held;
         let shared = &self.table.shared;
         let old = shared.exchange(&mut worker.seat, process, Slot::Body(body));
@@ -82,7 +86,9 @@ impl<K: Component> Floor<K> {
         requires held { IsHeldBy K.next self.now.table.shared.table_id self.now.processes worker.old held }
         requires blocked { SeenBlocks self.now.table.shared.key.value held.body (view worker.old).seen }
         ensures idle { IsIdle self.now.table.shared.table_id worker.new }
+        ensures look { ((view worker.new).look ≡ (view worker.old).look) ⊎ IsLook 0 (view worker.old).steps held.process 3 (view worker.new).look }
         ensures made { (view worker.new).made ≡ (view worker.old).made }
+        ensures seat { IsSameSeat (view worker.old) (view worker.new) }
     {
         let Held { body, process } = held;
         let shared = &self.table.shared;
@@ -100,7 +106,7 @@ impl<K: Component> Floor<K> {
     fn lower(&self, worker: &mut Worker<K>)
         requires { IsDone self.now.table.shared.table_id worker.old 1 }
         ensures idle { IsIdle self.now.table.shared.table_id worker.new }
-        ensures made { (view worker.new).made ≡ (view worker.old).made }
+        ensures view { view worker.new ≡ lowering (view worker.old) }
     {
         self.table
             .shared
@@ -111,7 +117,7 @@ impl<K: Component> Floor<K> {
     pub fn live(&self, worker: &mut Worker<K>) -> u64
         requires { IsIdle self.now.table.shared.table_id worker.old }
         ensures idle { IsIdle self.now.table.shared.table_id worker.new }
-        ensures made { (view worker.new).made ≡ (view worker.old).made }
+        ensures view { view worker.new ≡ reading (view worker.old) (self.now.processes + self.now.connections + 1) result }
         ensures seen { result ≡ 0 → (view worker.new).read_zero ≡ true }
     {
         self.table

@@ -9,7 +9,7 @@ ghost use Rattle.std.specs.Prelude.{◌==◌, unwrap_or, [], true, All};
 use crate::board::{Lawful, Slot, View};
 use atomic_table::{Seat, Table};
 use flow_component::Component;
-use flow_machine::{Body, Channel, Net};
+use flow_machine::{Block, Body, Channel, Net, Over};
 use flow_net::Connection;
 use std::alloc::Global;
 use std::snapshot::Snapshot;
@@ -54,22 +54,27 @@ pub enum Claim<K: Component> {
     NotReady(u64),
 }
 
+/// What a grab came to, with the word that it read.
 pub(crate) enum Grabbed {
     Busy(u64),
-    Got(Channel),
+    Got(u64, Channel),
 }
 
-/// What a call for a turn came to: the stamp, the word that was found held, what blocks it, or that it is over.
+/// What a call for a turn came to. Nothing but `Made` changes the body.
 pub enum Turned {
-    Made(u64),
-    Busy(u64),
-    Blocked(u64),
-    Over,
+    /// One turn of the process was made, with this stamp, and every process that it may have unblocked was woken.
+    Made(u32),
+    /// Another worker holds this connection of the turn; the word that the call read there.
+    Busy(u32, u64),
+    /// What the process waits for, and the word that the call read of that connection; of a dormant process, that of its lowest connected input that has an open sender.
+    Blocked(Block, u64),
+    /// It has ended or failed.
+    Over(Over),
 }
 
-/// What an idle process saw at its inputs.
+/// What an idle process saw at its inputs: a packet; no packet, and this word of the lowest that has an open sender; or that all are over.
 pub(crate) enum Saw {
     Packet,
-    Sender,
+    Sender(u64),
     Over,
 }

@@ -1,9 +1,9 @@
 //! How a floor is opened, and closed.
 ghost use Rattle.std.specs.Prelude.{◌≡◌, ℕ, ◌+◌, ◌++◌, ◌<◌, ◌≤◌, [], length, map, All, IfOk, IfErr, IsTrue, true, false, ◌∷◌, vec_capacity, sum_by};
 ghost use Rattle.flow_floor.specs.declared.board.Slot.TheVariants as Slot;
-ghost use Rattle.flow_machine.specs.Solo.{ReachesNet};
-ghost use Rattle.flow_floor.specs.Opening.{FirstWords, FewSenders};
-ghost use Rattle.flow_floor.specs.Crew.{IsCrew};
+ghost use Rattle.flow_floor.specs.Opening.{FirstWords, FewSenders, HasRooms};
+ghost use Rattle.flow_floor.specs.Crew.{IsCrew, made_by};
+ghost use Rattle.flow_floor.specs.Shut.{IsShut, IsQuietNet, AllUnset};
 ghost use Rattle.flow_floor.specs.Wiring.{HasRows};
 ghost use Rattle.flow_floor.specs.Workers.{view, IsIdle};
 
@@ -12,7 +12,7 @@ use crate::floor::{Floor, Worker};
 use crate::wiring::rows_of;
 use atomic_table::Table;
 use flow_component::Component;
-use flow_machine::{Body, Channel, Net, Parts};
+use flow_machine::{Body, Channel, Closed, Net, Parts};
 use std::alloc::{AllocError, Global};
 use std::snapshot::Snapshot;
 
@@ -38,6 +38,7 @@ impl From<AllocError> for OpenStop {
 pub struct Rooms<K: Component> {
     pub(crate) bodies: Vec<Body<K>>,
     pub(crate) channels: Vec<Channel>,
+    pub(crate) starved: Vec<u32>,
 }
 
 /// A floor, its workers, and the room for its end.
@@ -129,7 +130,11 @@ fn discard_slots<K: Component>(slots: Vec<Slot<K>>) {
 fn discard_rooms<K: Component>(rooms: Rooms<K>)
     requires { (rooms.bodies.items ≡ []) × (rooms.channels.items ≡ []) }
 {
-    let Rooms { bodies, channels } = rooms;
+    let Rooms {
+        bodies,
+        channels,
+        starved: _,
+    } = rooms;
     bodies.destroy_empty();
     channels.destroy_empty();
 }
@@ -150,15 +155,19 @@ fn rooms_of<K: Component>(
     processes: usize,
     connections: usize,
 ) -> Result<Rooms<K>, AllocError>
-    ensures bodies { IfOk result (λ r. (r.bodies.items ≡ []) × (processes ≤ vec_capacity r.bodies)) }
-    ensures channels { IfOk result (λ r. (r.channels.items ≡ []) × (connections ≤ vec_capacity r.channels)) }
+    ensures { IfOk result (λ r. HasRooms processes connections r) }
 {
+    let starved = Vec::with_capacity(alloc, processes)?;
     let bodies = Vec::with_capacity(alloc, processes)?;
     let Ok(channels) = Vec::with_capacity(alloc, connections) else {
         bodies.destroy_empty();
         return Err(AllocError);
     };
-    Ok(Rooms { bodies, channels })
+    Ok(Rooms {
+        bodies,
+        channels,
+        starved,
+    })
 }
 
 /// Takes all that a floor needs.
@@ -169,8 +178,7 @@ fn lay<K: Component>(alloc: Global, net: &Net<K>, workers: usize) -> Result<Laid
     ensures senders { IfOk result (λ l. HasRows true net.now (map (λ w. w.items) l.senders.items)) }
     ensures crew { IfOk result (λ l. (l.crew.items ≡ []) × (workers ≤ vec_capacity l.crew)) }
     ensures slots { IfOk result (λ l. (l.slots.items ≡ []) × (length net.now.bodies + length net.now.channels ≤ vec_capacity l.slots)) }
-    ensures bodies { IfOk result (λ l. (l.rooms.bodies.items ≡ []) × (length net.now.bodies ≤ vec_capacity l.rooms.bodies)) }
-    ensures channels { IfOk result (λ l. (l.rooms.channels.items ≡ []) × (length net.now.channels ≤ vec_capacity l.rooms.channels)) }
+    ensures rooms { IfOk result (λ l. HasRooms (length net.now.bodies) (length net.now.channels) l.rooms) }
 {
     if net.connections() >= 65536 {
         return Err(OpenStop::TooWide);
@@ -212,12 +220,10 @@ fn begin<K: Component>(
     requires senders { HasRows true net (map (λ w. w.items) laid.senders.items) }
     requires crew { (laid.crew.items ≡ []) × (workers ≤ vec_capacity laid.crew) }
     requires slots { (laid.slots.items ≡ []) × (length net.bodies + length net.channels ≤ vec_capacity laid.slots) }
-    requires bodies { (laid.rooms.bodies.items ≡ []) × (length net.bodies ≤ vec_capacity laid.rooms.bodies) }
-    requires channels { (laid.rooms.channels.items ≡ []) × (length net.channels ≤ vec_capacity laid.rooms.channels) }
+    requires rooms { HasRooms (length net.bodies) (length net.channels) laid.rooms }
     ensures net { IfOk result (λ o. o.floor.table.shared.key.value ≡ net) }
     ensures crew { IfOk result (λ o. IsCrew o.floor.table.shared.table_id o.workers.items × (length o.workers.items ≡ workers)) }
-    ensures bodies { IfOk result (λ o. (o.rooms.bodies.items ≡ []) × (o.floor.processes ≤ vec_capacity o.rooms.bodies)) }
-    ensures channels { IfOk result (λ o. (o.rooms.channels.items ≡ []) × (o.floor.connections ≤ vec_capacity o.rooms.channels)) }
+    ensures rooms { IfOk result (λ o. HasRooms o.floor.processes o.floor.connections o.rooms) }
 {
     let Laid {
         words,
@@ -268,8 +274,7 @@ impl<K: Component> Floor<K> {
         requires workers { (0 < workers) × (workers ≤ 32) }
         ensures net { IfOk result (λ o. o.floor.table.shared.key.value ≡ net) }
         ensures crew { IfOk result (λ o. IsCrew o.floor.table.shared.table_id o.workers.items × (length o.workers.items ≡ workers)) }
-        ensures bodies { IfOk result (λ o. (o.rooms.bodies.items ≡ []) × (o.floor.processes ≤ vec_capacity o.rooms.bodies)) }
-        ensures channels { IfOk result (λ o. (o.rooms.channels.items ≡ []) × (o.floor.connections ≤ vec_capacity o.rooms.channels)) }
+        ensures rooms { IfOk result (λ o. HasRooms o.floor.processes o.floor.connections o.rooms) }
     {
         match lay(alloc, &net, workers) {
             Ok(laid) => begin(alloc, net, laid, workers),
@@ -305,7 +310,9 @@ impl<K: Component> Floor<K> {
     /// One worker takes in the turns of all others.
     fn gather(&self, mut first: Worker<K>, mut workers: Vec<Worker<K>>) -> Worker<K>
         requires { IsCrew self.now.table.shared.table_id (workers.items ++ first ∷ []) }
-        ensures { IsIdle self.now.table.shared.table_id result × ((view result).shares ≡ 32) }
+        ensures all { IsIdle self.now.table.shared.table_id result × ((view result).shares ≡ 32) }
+        ensures made { (view result).made ≡ made_by (workers.items ++ first ∷ []) }
+        ensures zero { (view first).read_zero ≡ true → (view result).read_zero ≡ true }
     {
         while let Some(worker) = workers.pop() {
             self.join(&mut first, worker);
@@ -313,19 +320,21 @@ impl<K: Component> Floor<K> {
         first
     }
 
-    /// Puts the net together again, from all workers. It is one that the opened net goes on to by turns and works.
-    pub fn close(self, workers: Vec<Worker<K>>, rooms: Rooms<K>) -> Net<K>
+    /// Puts the net together again, from all workers, each of which read 0. The opened net goes on to it by their turns. It is quiet where no process
+    /// found no memory. Takes no memory: the room for this was taken when the floor was opened.
+    pub fn close(self, workers: Vec<Worker<K>>, rooms: Rooms<K>) -> Closed<K>
         requires crew { IsCrew self.table.shared.table_id workers.items }
-        requires bodies { (rooms.bodies.items ≡ []) × (self.processes ≤ vec_capacity rooms.bodies) }
-        requires channels { (rooms.channels.items ≡ []) × (self.connections ≤ vec_capacity rooms.channels) }
-        ensures { ReachesNet K.shape_of K.uses K.ready K.next self.table.shared.key.value result }
+        requires zero { All (λ w. (view w).read_zero ≡ true) workers.items }
+        requires rooms { HasRooms self.processes self.connections rooms }
+        ensures net { IsShut K.shape_of K.uses K.ready K.next self.table.shared.key.value (made_by workers.items) result.net }
+        ensures starved { AllUnset result.net result.starved.items }
+        ensures quiet { result.starved.items ≡ [] → IsQuietNet result.net }
     {
         let mut workers = workers;
         let Some(last) = workers.pop() else {
             unreachable!()
         };
         let all = self.gather(last, workers);
-        let Rooms { bodies, channels } = rooms;
-        self.shut(all, bodies, channels)
+        self.shut(all, rooms)
     }
 }

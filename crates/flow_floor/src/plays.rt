@@ -21,22 +21,28 @@ impl Spot for Brand {
     ghost most = { 0 };
 }
 
-/// Which turn a step is, and what the held body has become of the one that the machine has. Each call picks it.
+/// Which turn a step is, what the held body has become of the one that the machine has, and the net that was opened. Each call picks it.
 pub trait Deed<T> {
     ghost use Rattle.flow_model.specs.Events.{Event};
-    ghost use Rattle.flow_machine.specs.Values.{BodyValue};
+    ghost use Rattle.flow_machine.specs.Values.{BodyValue, NetValue};
 
     ghost event: { Event };
 
     ghost after: { BodyValue T → BodyValue T };
+
+    ghost start: { NetValue T };
 }
 
 impl<T> Deed<T> for Brand {
     ghost use Rattle.flow_model.specs.Events.{Starts};
+    ghost use Rattle.flow_machine.specs.Values.{net_of};
+    ghost use Rattle.std.specs.Prelude.{[]};
 
     ghost event = { Starts };
 
     ghost after = { λ b. b };
+
+    ghost start = { net_of [] [] };
 }
 
 /// Whom a step notes for waking. Each call picks it.
@@ -79,7 +85,7 @@ pub struct Stamp<D> {
 }
 
 impl<K: Component, D: Deed<K>> Play<Slot<K>, View<K>> for Stamp<D> {
-    ghost then = { stamped D.event D.after };
+    ghost then = { stamped K.shape_of K.uses K.ready K.next D.start D.event D.after };
 }
 
 pub struct Release<N: Noting> {

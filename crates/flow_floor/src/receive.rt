@@ -9,11 +9,13 @@ ghost use Rattle.flow_machine.specs.Thoughts.{HasRoom};
 ghost use Rattle.flow_machine.specs.Nets.{BodyTurn};
 ghost use Rattle.flow_ring.specs.Words.{held_bit, level_in, senders_in};
 ghost use Rattle.flow_floor.specs.declared.board.Slot.TheVariants as Slot;
-ghost use Rattle.flow_floor.specs.Workers.{view, IsHeldBy, IsMade, IsUnmade, SeenBlocks, MatchTurned};
+ghost use Rattle.flow_floor.specs.Turns.{Turns};
+ghost use Rattle.flow_floor.specs.Workers.{view, IsHeldBy, IsSameSeat};
 ghost use Rattle.flow_floor.specs.Waking.{InList, IsOutput};
 
 use crate::floor::{Floor, Grabbed, Held, Turned, Worker};
 use flow_component::{Component, Port};
+use flow_machine::Block;
 use std::marker::Brand;
 
 impl<K: Component> Floor<K> {
@@ -22,7 +24,7 @@ impl<K: Component> Floor<K> {
         &self,
         worker: &mut Worker<K>,
         held: &mut Held<K>,
-        connection: usize,
+        connection: u32,
         port: Port,
         senders: &[u32],
     ) -> Turned
@@ -34,18 +36,19 @@ impl<K: Component> Floor<K> {
         requires senders { (q : ℕ) (b : BodyValue _) → slice_get self.now.table.shared.key.value.bodies q ≡ Some b → IsOutput b connection → InList q senders.now }
         requires below { All (λ q. q < self.now.processes) senders.now }
         ensures held { IsHeldBy K.next self.now.table.shared.table_id self.now.processes worker.new held.new }
-        ensures turned { MatchTurned result (IsMade held.old worker.old held.new worker.new) (λ w. IsUnmade held.old worker.old held.new worker.new) (λ w. IsUnmade held.old worker.old held.new worker.new × SeenBlocks self.now.table.shared.key.value held.new.body (view worker.new).seen) }
+        ensures turned { Turns K.shape_of K.uses K.ready K.next self.now.processes self.now.table.shared.key.value held.old worker.old held.new worker.new result }
+        ensures seat { IsSameSeat (view worker.old) (view worker.new) }
     {
-        match self.grab::<Brand>(worker, held, connection) {
-            Grabbed::Busy(word) => Turned::Busy(word),
-            Grabbed::Got(mut channel) => {
-                let open = channel.open_senders();
-                if channel.level() == 0 && open != 0 {
-                    self.give_back(worker, held, channel, connection, &[]);
-                    return Turned::Blocked(open as u64 * 65536);
+        let c = connection as usize;
+        match self.grab::<Brand>(worker, held, c) {
+            Grabbed::Busy(word) => Turned::Busy(connection, word),
+            Grabbed::Got(word, mut channel) => {
+                if channel.level() == 0 && channel.open_senders() != 0 {
+                    self.give_back(worker, held, channel, c, &[]);
+                    return Turned::Blocked(Block::Empty { connection, port }, word);
                 }
-                let stamp = self.receive_as::<Brand>(worker, held, &mut channel, connection, port);
-                self.give_back(worker, held, channel, connection, senders);
+                let stamp = self.receive_as::<Brand>(worker, held, &mut channel, c, port);
+                self.give_back(worker, held, channel, c, senders);
                 self.wake_all(worker, held, senders);
                 Turned::Made(stamp)
             }

@@ -7,12 +7,14 @@ ghost use Rattle.flow_machine.specs.Values.{BodyValue};
 ghost use Rattle.flow_machine.specs.Thoughts.{HasRoom};
 ghost use Rattle.flow_machine.specs.Nets.{SendsAt};
 ghost use Rattle.flow_machine.specs.Outlets.{connection_at};
-ghost use Rattle.flow_floor.specs.Workers.{view, IsHeldBy, IsMade, IsUnmade, SeenBlocks, MatchTurned};
+ghost use Rattle.flow_floor.specs.Turns.{Turns};
+ghost use Rattle.flow_floor.specs.Workers.{view, IsHeldBy, IsSameSeat};
 ghost use Rattle.flow_floor.specs.Waking.{InList};
 ghost use Rattle.flow_floor.specs.Law.{IsInput};
 
 use crate::floor::{Floor, Grabbed, Held, Turned, Worker};
 use flow_component::{Component, Port};
+use flow_machine::Block;
 use std::marker::Brand;
 
 impl<K: Component> Floor<K> {
@@ -21,7 +23,7 @@ impl<K: Component> Floor<K> {
         &self,
         worker: &mut Worker<K>,
         held: &mut Held<K>,
-        connection: usize,
+        connection: u32,
         port: Port,
         receivers: &[u32],
     ) -> Turned
@@ -33,18 +35,19 @@ impl<K: Component> Floor<K> {
         requires receivers { (q : ℕ) (b : BodyValue _) → slice_get self.now.table.shared.key.value.bodies q ≡ Some b → IsInput b connection → InList q receivers.now }
         requires below { All (λ q. q < self.now.processes) receivers.now }
         ensures held { IsHeldBy K.next self.now.table.shared.table_id self.now.processes worker.new held.new }
-        ensures turned { MatchTurned result (IsMade held.old worker.old held.new worker.new) (λ w. IsUnmade held.old worker.old held.new worker.new) (λ w. IsUnmade held.old worker.old held.new worker.new × SeenBlocks self.now.table.shared.key.value held.new.body (view worker.new).seen) }
+        ensures turned { Turns K.shape_of K.uses K.ready K.next self.now.processes self.now.table.shared.key.value held.old worker.old held.new worker.new result }
+        ensures seat { IsSameSeat (view worker.old) (view worker.new) }
     {
-        match self.grab::<Brand>(worker, held, connection) {
-            Grabbed::Busy(word) => Turned::Busy(word),
-            Grabbed::Got(mut channel) => {
-                let level = channel.level();
-                if level >= channel.capacity() as usize {
-                    self.give_back(worker, held, channel, connection, &[]);
-                    return Turned::Blocked(level as u64);
+        let c = connection as usize;
+        match self.grab::<Brand>(worker, held, c) {
+            Grabbed::Busy(word) => Turned::Busy(connection, word),
+            Grabbed::Got(word, mut channel) => {
+                if channel.level() >= channel.capacity() as usize {
+                    self.give_back(worker, held, channel, c, &[]);
+                    return Turned::Blocked(Block::Full { connection, port }, word);
                 }
-                let stamp = self.send_as::<Brand>(worker, held, &mut channel, connection, port);
-                self.give_back(worker, held, channel, connection, receivers);
+                let stamp = self.send_as::<Brand>(worker, held, &mut channel, c, port);
+                self.give_back(worker, held, channel, c, receivers);
                 self.wake_all(worker, held, receivers);
                 Turned::Made(stamp)
             }
@@ -56,7 +59,7 @@ impl<K: Component> Floor<K> {
         &self,
         worker: &mut Worker<K>,
         held: &mut Held<K>,
-        connection: usize,
+        connection: u32,
         port: Port,
     ) -> Turned
         requires held { IsHeldBy K.next self.now.table.shared.table_id self.now.processes worker.old held.old }
@@ -65,13 +68,15 @@ impl<K: Component> Floor<K> {
         requires output { output_at held.old.body.process port.0 ≡ Some connection }
         requires room { HasRoom held.old.body }
         ensures held { IsHeldBy K.next self.now.table.shared.table_id self.now.processes worker.new held.new }
-        ensures turned { MatchTurned result (IsMade held.old worker.old held.new worker.new) (λ w. IsUnmade held.old worker.old held.new worker.new) (λ w. IsUnmade held.old worker.old held.new worker.new × SeenBlocks self.now.table.shared.key.value held.new.body (view worker.new).seen) }
+        ensures turned { Turns K.shape_of K.uses K.ready K.next self.now.processes self.now.table.shared.key.value held.old worker.old held.new worker.new result }
+        ensures seat { IsSameSeat (view worker.old) (view worker.new) }
     {
-        match self.grab::<Brand>(worker, held, connection) {
-            Grabbed::Busy(word) => Turned::Busy(word),
-            Grabbed::Got(channel) => {
-                let stamp = self.learn_as::<Brand>(worker, held, &channel, connection, port);
-                self.give_back(worker, held, channel, connection, &[]);
+        let c = connection as usize;
+        match self.grab::<Brand>(worker, held, c) {
+            Grabbed::Busy(word) => Turned::Busy(connection, word),
+            Grabbed::Got(_, channel) => {
+                let stamp = self.learn_as::<Brand>(worker, held, &channel, c, port);
+                self.give_back(worker, held, channel, c, &[]);
                 Turned::Made(stamp)
             }
         }
@@ -82,7 +87,7 @@ impl<K: Component> Floor<K> {
         &self,
         worker: &mut Worker<K>,
         held: &mut Held<K>,
-        connection: usize,
+        connection: u32,
         place: u32,
         receivers: &[u32],
     ) -> Turned
@@ -94,13 +99,15 @@ impl<K: Component> Floor<K> {
         requires receivers { (q : ℕ) (b : BodyValue _) → slice_get self.now.table.shared.key.value.bodies q ≡ Some b → IsInput b connection → InList q receivers.now }
         requires below { All (λ q. q < self.now.processes) receivers.now }
         ensures held { IsHeldBy K.next self.now.table.shared.table_id self.now.processes worker.new held.new }
-        ensures turned { MatchTurned result (IsMade held.old worker.old held.new worker.new) (λ w. IsUnmade held.old worker.old held.new worker.new) (λ w. IsUnmade held.old worker.old held.new worker.new × SeenBlocks self.now.table.shared.key.value held.new.body (view worker.new).seen) }
+        ensures turned { Turns K.shape_of K.uses K.ready K.next self.now.processes self.now.table.shared.key.value held.old worker.old held.new worker.new result }
+        ensures seat { IsSameSeat (view worker.old) (view worker.new) }
     {
-        match self.grab::<Brand>(worker, held, connection) {
-            Grabbed::Busy(word) => Turned::Busy(word),
-            Grabbed::Got(mut channel) => {
-                let stamp = self.close_as::<Brand>(worker, held, &mut channel, connection, place);
-                self.give_back(worker, held, channel, connection, receivers);
+        let c = connection as usize;
+        match self.grab::<Brand>(worker, held, c) {
+            Grabbed::Busy(word) => Turned::Busy(connection, word),
+            Grabbed::Got(_, mut channel) => {
+                let stamp = self.close_as::<Brand>(worker, held, &mut channel, c, place);
+                self.give_back(worker, held, channel, c, receivers);
                 self.wake_all(worker, held, receivers);
                 Turned::Made(stamp)
             }

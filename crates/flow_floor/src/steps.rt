@@ -6,7 +6,7 @@ ghost use Rattle.flow_machine.specs.FitNets.{FitNet};
 ghost use Rattle.flow_ring.specs.Words.{held_bit, free_word, level_in, senders_in};
 ghost use Rattle.flow_floor.specs.Workers.{view, Agrees, IsHeldBy, IsGrabbing, IsWaking, HasGrabbed, MatchGrabbed};
 ghost use Rattle.flow_floor.specs.Plays.{seeing, stamping, releasing, Below};
-ghost use Rattle.flow_floor.specs.Turning.{At, Happens};
+ghost use Rattle.flow_floor.specs.Turning.{At, Happens, MachineTurn};
 ghost use Rattle.flow_floor.specs.Waking.{Notes, capacity_at};
 
 use crate::board::Slot;
@@ -30,7 +30,7 @@ impl<K: Component> Floor<K> {
         requires most { S.most ≡ capacity_at self.now.table.shared.key.value.channels connection }
         requires held { IsHeldBy K.next self.now.table.shared.table_id self.now.processes worker.old held.now }
         requires range { connection < self.now.connections }
-        ensures { MatchGrabbed result (λ w. (held_bit ≤ w) × IsHeldBy K.next self.now.table.shared.table_id self.now.processes worker.new held.now × (view worker.new ≡ seeing (view worker.old) (self.now.processes + connection) w)) (λ k. IsGrabbing K.next self.now.table.shared.table_id self.now.processes worker.new held.now connection k × HasGrabbed K.shape_of K.uses K.ready worker.old worker.new (self.now.processes + connection) connection (capacity_at self.now.table.shared.key.value.channels connection) k) }
+        ensures { MatchGrabbed result (λ w. (held_bit ≤ w) × IsHeldBy K.next self.now.table.shared.table_id self.now.processes worker.new held.now × (view worker.new ≡ seeing (view worker.old) (self.now.processes + connection) w)) (λ w k. IsGrabbing K.next self.now.table.shared.table_id self.now.processes worker.new held.now connection k × HasGrabbed K.shape_of K.uses K.ready worker.old worker.new (self.now.processes + connection) connection (capacity_at self.now.table.shared.key.value.channels connection) w k) }
     {
         let shared = &self.table.shared;
         let word = shared.fetch_or::<Grab<S>>(&mut worker.seat, self.processes + connection, HELD);
@@ -41,26 +41,30 @@ impl<K: Component> Floor<K> {
         let Slot::Channel(channel) = old else {
             unreachable!()
         };
-        Grabbed::Got(channel)
+        Grabbed::Got(word, channel)
     }
 
     /// Counts the clock. The turn takes effect at this step, and the pending work before it.
-    pub(crate) fn stamp<D: Deed<K>>(&self, worker: &mut Worker<K>, held: &Held<K>) -> u64
+    pub(crate) fn stamp<D: Deed<K>>(&self, worker: &mut Worker<K>, held: &Held<K>) -> u32
         requires table { worker.old.seat.table_id ≡ self.now.table.shared.table_id }
         requires body { Agrees K.next worker.old held.now }
         requires after { (b : BodyValue _) → D.after b ≡ held.now.body }
+        requires start { D.start ≡ self.now.table.shared.key.value }
         requires at { At D.event (view worker.old).grab }
         requires happens { Happens (FitNet K.shape_of K.uses K.ready) self.now.processes self.now.connections held.now.process held.now.body (view worker.old).grab (view worker.old).seen D.event }
         ensures table { worker.new.seat.table_id ≡ worker.old.seat.table_id }
-        ensures view { view worker.new ≡ stamping (view worker.old) (self.now.processes + self.now.connections) result D.event D.after }
+        ensures view { view worker.new ≡ stamping (view worker.old) result D.event D.after }
         ensures slots { worker.new.seat.me.1 ≡ worker.old.seat.me.1 }
         ensures above { Below result (view worker.old).made }
-        ensures small { result ≤ 1073741824 }
+        ensures machine { MachineTurn K.shape_of K.uses K.ready K.next self.now.table.shared.key.value result held.now.process held.now.body D.event }
     {
         let _ = held;
-        self.table
+        let clock = self.processes + self.connections;
+        let found = self
+            .table
             .shared
-            .fetch_add::<Stamp<D>>(&mut worker.seat, self.processes + self.connections, 1)
+            .fetch_add::<Stamp<D>>(&mut worker.seat, clock, 1);
+        found as u32
     }
 
     /// Gives the connection back, and notes the processes that may have a turn now.
@@ -77,7 +81,7 @@ impl<K: Component> Floor<K> {
         requires range { connection < self.now.connections }
         requires notes { Notes self.now.table.shared.key.value connection (view worker.old).word (free_word (length channel.packets) channel.open_senders) (N.notes ++ (view worker.old).noted) }
         ensures table { worker.new.seat.table_id ≡ worker.old.seat.table_id }
-        ensures view { (r : ℕ) × (view worker.new ≡ releasing (view worker.old) (self.now.processes + connection) r N.notes) }
+        ensures view { view worker.new ≡ releasing (view worker.old) N.notes }
         ensures slots { worker.new.seat.me.1 ≡ (held.now.process, Slot.Vacant) ∷ [] }
     {
         let _ = held;
@@ -109,8 +113,7 @@ impl<K: Component> Floor<K> {
         requires range { connection < self.now.connections }
         requires notes { Notes self.now.table.shared.key.value connection (view worker.old).word (free_word (length channel.packets) channel.open_senders) (notes.now ++ (view worker.old).noted) }
         ensures held { IsWaking K.next self.now.table.shared.table_id self.now.processes worker.new held.now notes.now }
-        ensures seen { (view worker.new).seen ≡ (view worker.old).seen }
-        ensures made { (view worker.new).made ≡ (view worker.old).made }
+        ensures view { view worker.new ≡ releasing (view worker.old) notes.now }
     {
         self.release::<Brand>(worker, held, channel, connection, notes);
     }

@@ -6,10 +6,10 @@ ghost use Rattle.flow_machine.specs.FitNets.{IsWiredBody};
 ghost use Rattle.flow_model.specs.declared.Stage.TheVariants.{Wishing};
 ghost use Rattle.flow_component.specs.declared.Wish.TheVariants.{Receive, Deactivate};
 ghost use Rattle.flow_model.specs.States.{Text};
-ghost use Rattle.flow_floor.specs.Shut.{IsOverStage};
 ghost use Rattle.flow_floor.specs.Law.{IsInput};
 ghost use Rattle.flow_floor.specs.Waking.{InList, IsOutput};
-ghost use Rattle.flow_floor.specs.Workers.{view, IsHeldBy, IsMade, IsUnmade, SeenBlocks, MatchCame, MatchTurned};
+ghost use Rattle.flow_floor.specs.Turns.{Turns};
+ghost use Rattle.flow_floor.specs.Workers.{view, IsHeldBy, IsSameSeat};
 
 use crate::floor::{Floor, Held, Turned, Worker};
 use flow_component::{Component, Port};
@@ -41,7 +41,8 @@ impl<K: Component> Floor<K> {
         requires stage { held.old.body.process.stage ≡ Wishing Deactivate }
         requires room { HasRoom held.old.body }
         ensures held { IsHeldBy K.next self.now.table.shared.table_id self.now.processes worker.new held.new }
-        ensures turned { MatchTurned result (IsMade held.old worker.old held.new worker.new) (λ w. IsUnmade held.old worker.old held.new worker.new) (λ w. IsUnmade held.old worker.old held.new worker.new × SeenBlocks self.now.table.shared.key.value held.new.body (view worker.new).seen) }
+        ensures turned { Turns K.shape_of K.uses K.ready K.next self.now.processes self.now.table.shared.key.value held.old worker.old held.new worker.new result }
+        ensures seat { IsSameSeat (view worker.old) (view worker.new) }
     {
         Turned::Made(self.deactivate_as::<Brand>(worker, held))
     }
@@ -53,7 +54,8 @@ impl<K: Component> Floor<K> {
         requires input { (text : List ℕ) × (slice_get held.old.body.process.inputs port.0 ≡ Some (Text text)) }
         requires room { HasRoom held.old.body }
         ensures held { IsHeldBy K.next self.now.table.shared.table_id self.now.processes worker.new held.new }
-        ensures turned { MatchTurned result (IsMade held.old worker.old held.new worker.new) (λ w. IsUnmade held.old worker.old held.new worker.new) (λ w. IsUnmade held.old worker.old held.new worker.new × SeenBlocks self.now.table.shared.key.value held.new.body (view worker.new).seen) }
+        ensures turned { Turns K.shape_of K.uses K.ready K.next self.now.processes self.now.table.shared.key.value held.old worker.old held.new worker.new result }
+        ensures seat { IsSameSeat (view worker.old) (view worker.new) }
     {
         Turned::Made(self.text_as::<Brand>(worker, held, port))
     }
@@ -65,31 +67,30 @@ impl<K: Component> Floor<K> {
         requires set { IsSet held.old.body }
         ensures held { IsHeldBy K.next self.now.table.shared.table_id self.now.processes worker.new held.new }
         ensures wired { IsWiredBody self.now.connections held.new.body }
-        ensures turned { MatchCame result (IsMade held.old worker.old held.new worker.new) (λ w. IsUnmade held.old worker.old held.new worker.new) (λ w. IsUnmade held.old worker.old held.new worker.new × SeenBlocks self.now.table.shared.key.value held.new.body (view worker.new).seen) (IsUnmade held.old worker.old held.new worker.new × IsOverStage held.new.body.process.stage) }
+        ensures turned { Turns K.shape_of K.uses K.ready K.next self.now.processes self.now.table.shared.key.value held.old worker.old held.new worker.new result }
+        ensures seat { IsSameSeat (view worker.old) (view worker.new) }
     {
         match held.body.case() {
             Case::Idle => self.idle_turn(worker, held),
             Case::Receive { connection, port } => {
-                let c = connection as usize;
-                self.receive_turn(worker, held, c, port, self.senders_of(c))
+                let senders = self.senders_of(connection as usize);
+                self.receive_turn(worker, held, connection, port, senders)
             }
             Case::Initial(port) => self.text_turn(worker, held, port),
             Case::Send { connection, port } => {
-                let c = connection as usize;
-                self.send_turn(worker, held, c, port, self.receivers_of(c))
+                let receivers = self.receivers_of(connection as usize);
+                self.send_turn(worker, held, connection, port, receivers)
             }
-            Case::Level { connection, port } => {
-                self.level_turn(worker, held, connection as usize, port)
-            }
+            Case::Level { connection, port } => self.level_turn(worker, held, connection, port),
             Case::Deactivate => self.sleep_turn(worker, held),
             Case::Close { connection } => {
-                let c = connection as usize;
                 let Stage::Closing(place) = held.body.stage() else {
                     unreachable!()
                 };
-                self.close_turn(worker, held, c, place, self.receivers_of(c))
+                let receivers = self.receivers_of(connection as usize);
+                self.close_turn(worker, held, connection, place, receivers)
             }
-            Case::Over(_) => Turned::Over,
+            Case::Over(over) => Turned::Over(over),
         }
     }
 }

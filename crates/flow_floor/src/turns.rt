@@ -11,7 +11,7 @@ ghost use Rattle.flow_machine.specs.Nets.{BodyTurn, GetsSound, SendsAt, packet_w
 ghost use Rattle.flow_machine.specs.Outlets.{connection_at};
 ghost use Rattle.flow_floor.specs.Workers.{view, IsGrabbing};
 ghost use Rattle.flow_floor.specs.Plays.{stamping, Below};
-ghost use Rattle.flow_floor.specs.Turning.{received_event, sent_event, closed_event};
+ghost use Rattle.flow_floor.specs.Turning.{MachineTurn, received_event, sent_event, closed_event};
 
 use crate::floor::{Floor, Held, Worker};
 use crate::plays::Deed;
@@ -27,9 +27,10 @@ impl<K: Component> Floor<K> {
         channel: &mut Channel,
         connection: usize,
         port: Port,
-    ) -> u64
+    ) -> u32
         requires event { D.event ≡ received_event port.0 connection channel.old.packets }
         requires after { (b : BodyValue _) → D.after b ≡ held.old.body }
+        requires start { D.start ≡ self.now.table.shared.key.value }
         requires held { IsGrabbing K.next self.now.table.shared.table_id self.now.processes worker.old held.old connection channel.old }
         requires stage { held.old.body.process.stage ≡ Wishing (Receive port) }
         requires input { slice_get held.old.body.process.inputs port.0 ≡ Some (From connection) }
@@ -40,16 +41,17 @@ impl<K: Component> Floor<K> {
         ensures process { held.new.process ≡ held.old.process }
         ensures body { BodyTurn held.old.body (received_event port.0 connection channel.old.packets) result held.new.body }
         ensures channel { channel.new ≡ shown_after (received_event port.0 connection channel.old.packets) channel.old }
-        ensures view { view worker.new ≡ stamping (view worker.old) (self.now.processes + self.now.connections) result D.event D.after }
+        ensures view { view worker.new ≡ stamping (view worker.old) result D.event D.after }
         ensures above { Below result (view worker.old).made }
+        ensures machine { MachineTurn K.shape_of K.uses K.ready K.next self.now.table.shared.key.value result held.old.process held.old.body D.event }
     {
         let stamp = self.stamp::<D>(worker, held);
         if channel.level() == 0 {
-            held.body.effect(Effect::End, stamp as u32);
+            held.body.effect(Effect::End, stamp);
             return stamp;
         }
         let packet = channel.take();
-        held.body.effect(Effect::Got(packet), stamp as u32);
+        held.body.effect(Effect::Got(packet), stamp);
         stamp
     }
 
@@ -61,9 +63,10 @@ impl<K: Component> Floor<K> {
         channel: &mut Channel,
         connection: usize,
         port: Port,
-    ) -> u64
+    ) -> u32
         requires event { D.event ≡ sent_event port.0 connection (packet_wished held.old.body.process) }
         requires after { (b : BodyValue _) → D.after b ≡ held.old.body }
+        requires start { D.start ≡ self.now.table.shared.key.value }
         requires held { IsGrabbing K.next self.now.table.shared.table_id self.now.processes worker.old held.old connection channel.old }
         requires stage { SendsAt held.old.body.process.stage port }
         requires output { output_at held.old.body.process port.0 ≡ Some connection }
@@ -76,13 +79,14 @@ impl<K: Component> Floor<K> {
         ensures process { held.new.process ≡ held.old.process }
         ensures body { BodyTurn held.old.body (sent_event port.0 connection (packet_wished held.old.body.process)) result held.new.body }
         ensures channel { channel.new ≡ shown_after (sent_event port.0 connection (packet_wished held.old.body.process)) channel.old }
-        ensures view { view worker.new ≡ stamping (view worker.old) (self.now.processes + self.now.connections) result D.event D.after }
+        ensures view { view worker.new ≡ stamping (view worker.old) result D.event D.after }
         ensures above { Below result (view worker.old).made }
+        ensures machine { MachineTurn K.shape_of K.uses K.ready K.next self.now.table.shared.key.value result held.old.process held.old.body D.event }
     {
         let stamp = self.stamp::<D>(worker, held);
         let packet = held.body.outgoing();
         channel.put(packet);
-        held.body.effect(Effect::Sent, stamp as u32);
+        held.body.effect(Effect::Sent, stamp);
         stamp
     }
 
@@ -94,9 +98,10 @@ impl<K: Component> Floor<K> {
         channel: &Channel,
         connection: usize,
         port: Port,
-    ) -> u64
+    ) -> u32
         requires event { D.event ≡ Learns port.0 (length channel.now.packets) }
         requires after { (b : BodyValue _) → D.after b ≡ held.old.body }
+        requires start { D.start ≡ self.now.table.shared.key.value }
         requires held { IsGrabbing K.next self.now.table.shared.table_id self.now.processes worker.old held.old connection channel.now }
         requires stage { held.old.body.process.stage ≡ Wishing (Level port) }
         requires output { output_at held.old.body.process port.0 ≡ Some connection }
@@ -105,14 +110,15 @@ impl<K: Component> Floor<K> {
         ensures held { IsGrabbing K.next self.now.table.shared.table_id self.now.processes worker.new held.new connection channel.now }
         ensures process { held.new.process ≡ held.old.process }
         ensures body { BodyTurn held.old.body (Learns port.0 (length channel.now.packets)) result held.new.body }
-        ensures view { view worker.new ≡ stamping (view worker.old) (self.now.processes + self.now.connections) result D.event D.after }
+        ensures view { view worker.new ≡ stamping (view worker.old) result D.event D.after }
         ensures above { Below result (view worker.old).made }
+        ensures machine { MachineTurn K.shape_of K.uses K.ready K.next self.now.table.shared.key.value result held.old.process held.old.body D.event }
     {
         let _ = connection;
         let _ = port;
         let stamp = self.stamp::<D>(worker, held);
         held.body
-            .effect(Effect::Level(channel.level() as u32), stamp as u32);
+            .effect(Effect::Level(channel.level() as u32), stamp);
         stamp
     }
 
@@ -124,9 +130,10 @@ impl<K: Component> Floor<K> {
         channel: &mut Channel,
         connection: usize,
         place: u32,
-    ) -> u64
+    ) -> u32
         requires event { D.event ≡ closed_event (slice_get (outlets held.old.body.process) place) }
         requires after { (b : BodyValue _) → D.after b ≡ held.old.body }
+        requires start { D.start ≡ self.now.table.shared.key.value }
         requires held { IsGrabbing K.next self.now.table.shared.table_id self.now.processes worker.old held.old connection channel.old }
         requires stage { held.old.body.process.stage ≡ Closing place }
         requires outlet { connection_at (outlets held.old.body.process) place ≡ Some connection }
@@ -136,14 +143,15 @@ impl<K: Component> Floor<K> {
         ensures process { held.new.process ≡ held.old.process }
         ensures body { BodyTurn held.old.body (closed_event (slice_get (outlets held.old.body.process) place)) result held.new.body }
         ensures channel { channel.new ≡ shown_after (closed_event (slice_get (outlets held.old.body.process) place)) channel.old }
-        ensures view { view worker.new ≡ stamping (view worker.old) (self.now.processes + self.now.connections) result D.event D.after }
+        ensures view { view worker.new ≡ stamping (view worker.old) result D.event D.after }
         ensures above { Below result (view worker.old).made }
+        ensures machine { MachineTurn K.shape_of K.uses K.ready K.next self.now.table.shared.key.value result held.old.process held.old.body D.event }
     {
         let _ = connection;
         let _ = place;
         let stamp = self.stamp::<D>(worker, held);
         channel.close_one();
-        held.body.effect(Effect::Closed, stamp as u32);
+        held.body.effect(Effect::Closed, stamp);
         stamp
     }
 }

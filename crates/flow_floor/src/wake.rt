@@ -1,6 +1,6 @@
 //! How noted processes are woken.
 ghost use Rattle.std.specs.Prelude.{◌≡◌, ℕ, ◌+◌, ◌<◌, [], length, drop, All, slice_index};
-ghost use Rattle.flow_floor.specs.Workers.{view, IsWaking, IsHeldBy};
+ghost use Rattle.flow_floor.specs.Workers.{view, IsWaking, IsHeldBy, IsSameSeat};
 
 use crate::floor::{Floor, Held, Worker};
 use crate::plays::{Lower, Poke, Raise};
@@ -16,6 +16,7 @@ impl<K: Component> Floor<K> {
         requires below { slice_index notes.now i < self.now.processes }
         ensures waking { IsWaking K.next self.now.table.shared.table_id self.now.processes worker.new held.now (drop (i + 1) notes.now) }
         ensures made { (view worker.new).made ≡ (view worker.old).made }
+        ensures seat { IsSameSeat (view worker.old) (view worker.new) }
     {
         let _ = held;
         let shared = &self.table.shared;
@@ -33,6 +34,7 @@ impl<K: Component> Floor<K> {
         requires below { All (λ q. q < self.now.processes) notes.now }
         ensures held { IsHeldBy K.next self.now.table.shared.table_id self.now.processes worker.new held.now }
         ensures made { (view worker.new).made ≡ (view worker.old).made }
+        ensures seat { IsSameSeat (view worker.old) (view worker.new) }
     {
         for i in 0..notes.len() {
             self.wake(worker, held, notes, i);

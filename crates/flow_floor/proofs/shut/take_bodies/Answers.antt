@@ -23,6 +23,7 @@ loop-p-preserved g c =
     record {
       same = h.0 ∙ inv.same;
       long = h.2 ∙ inv.long;
+      words = h.3 ∙ inv.words;
       gone = λ q lt. ap (λ fs. get_or fs q false) h.1 ∙ dite (ℕ_discrete q p) (λ e. ap (λ z. get_or (set fs₀ p false) z false) e ∙ get_or-set_same fs₀ p false false (omega (arith, k', inv.long, c.requires.range, c.loop-p-test.true)))
           (λ other. get_or-set_other fs₀ p q false false other ∙ inv.gone q (omega (arith, lt, other)));
       left = λ q low high. ap (λ fs. get_or fs q false) h.1 ∙ (get_or-set_other fs₀ p q false false (λ e. omega (arith, e, low)) ∙ inv.left q (omega (arith, low)) (omega (arith, high, ap (λ s. s) h.2)));

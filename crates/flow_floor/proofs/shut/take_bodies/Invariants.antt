@@ -7,6 +7,7 @@ abbrev pub invariant-loop-p : goal.invariant-loop-p
 invariant-loop-p g l = record {
   same : slots_items l.closed.slots ≡ slots_items l.fn.closed.slots;
   long : slots_len l.closed.slots ≡ slots_len l.fn.closed.slots;
+  words : l.closed.words ≡ l.fn.closed.words;
   gone : (k : ℕ) → k < l.p → slice_index_or (slots_filled l.closed.slots) k false ≡ false;
   left : (k : ℕ) → l.p ≤ k → k < slots_len l.closed.slots → slice_index_or (slots_filled l.closed.slots) k false ≡ true;
   room : l.fn.count ≤ vec_capacity l.bodies;

@@ -25,7 +25,7 @@ returns g c = let q = c.requires.worker in let e = c.compare_exchange-found.ensu
     let listed : (c.args.process, c.exchange-old.result) ∷ rest c.compare_exchange-found.new.seat.me.1 ≡ (c.args.process, slot.Body b) ∷ c.args.worker.now.seat.me.1 = sym x.2 ∙ ap (λ m. m.1) t.3 in
     let slot_is : c.exchange-old.result ≡ slot.Body b = head-is c.args.process c.exchange-old.result (slot.Body b) (rest c.compare_exchange-found.new.seat.me.1) c.args.worker.now.seat.me.1 listed in
     let body_is : b ≡ c.in-Body.body = body-is c.exchange-old.result b c.in-Body.body slot_is c.in-Body.is in
-    let me0 : c.exchange-old.new.seat.me.0 ≡ claiming c.args.worker.now.seat.me.0 c.args.process 2 b = ap (λ m. m.0) x.3 ∙ ap (λ m. m.0) t.3 ∙ ap (λ r. claiming c.args.worker.now.seat.me.0 c.args.process r b) c.if-found-ne-READY.false in
+    let me0 : c.exchange-old.new.seat.me.0 ≡ claiming c.args.worker.now.seat.me.0 c.args.process b = ap (λ m. m.0) x.3 ∙ ap (λ m. m.0) t.3 in
     let me1 : c.exchange-old.new.seat.me.1 ≡ (c.args.process, slot.Vacant) ∷ [] = ap (λ m. m.1) x.3 ∙ ap (λ cs. (c.args.process, slot.Vacant) ∷ rest cs) (ap (λ m. m.1) t.3) ∙ ap (λ cs. (c.args.process, slot.Vacant) ∷ cs) q.slots in (
       refl,
       record {
@@ -35,5 +35,5 @@ returns g c = let q = c.requires.worker in let e = c.compare_exchange-found.ensu
         slots = me1;
       },
       subst (λ z. IsWiredBody c.args.self.now.connections z) body_is (subst (λ n. IsWiredBody n b) c.requires.spot t.2),
-      me0 ∙ ap (λ z. claiming c.args.worker.now.seat.me.0 c.args.process 2 z) body_is,
+      me0 ∙ ap (λ z. claiming c.args.worker.now.seat.me.0 c.args.process z) body_is,
     )

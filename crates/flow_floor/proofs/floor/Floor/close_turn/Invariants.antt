@@ -9,4 +9,4 @@ abbrev pub ghosts-grab : goal.ghosts-grab
 ghosts-grab g a = record { connection = a.connection; most = capacity_at a.self.now.table.shared.key.value.channels a.connection }
 
 abbrev pub ghosts-close_as : goal.ghosts-close_as
-ghosts-close_as g a = record { event = closed_event (slice_get (outlets a.held.now.body.process) a.place); after = λ b. a.held.now.body }
+ghosts-close_as g a = record { event = closed_event (slice_get (outlets a.held.now.body.process) a.place); after = λ b. a.held.now.body; start = a.self.now.table.shared.key.value }

@@ -55,5 +55,5 @@ returns g c = let q = c.requires.held in let e = c.fetch_or-word.ensures in let 
         level = omega (arith, level);
         senders = omega (arith, senders);
       },
-      record { word = r; level = level; senders = senders; capacity = ap (λ z. z.capacity) (sym k_is) ∙ t.3 ∙ c.requires.most; so = rw (← k_is, ← c.requires.spot) t.4; view = me0 ∙ ap (λ z. grabbing old.0 i r c.args.connection z) k_is },
+      record { level = level; senders = senders; capacity = ap (λ z. z.capacity) (sym k_is) ∙ t.3 ∙ c.requires.most; so = rw (← k_is, ← c.requires.spot) t.4; view = me0 ∙ ap (λ z. grabbing old.0 i r c.args.connection z) k_is },
     )

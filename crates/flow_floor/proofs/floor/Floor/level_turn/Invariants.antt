@@ -8,4 +8,4 @@ abbrev pub ghosts-grab : goal.ghosts-grab
 ghosts-grab g a = record { connection = a.connection; most = capacity_at a.self.now.table.shared.key.value.channels a.connection }
 
 abbrev pub ghosts-learn_as : goal.ghosts-learn_as
-ghosts-learn_as g a = record { event = Learns a.port.0 (length a.channel.now.packets); after = λ b. a.held.now.body }
+ghosts-learn_as g a = record { event = Learns a.port.0 (length a.channel.now.packets); after = λ b. a.held.now.body; start = a.self.now.table.shared.key.value }

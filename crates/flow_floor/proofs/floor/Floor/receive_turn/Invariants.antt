@@ -7,4 +7,4 @@ ghosts-grab g a = record { connection = a.connection; most = capacity_at a.self.
 
 -- the turn that the packets in the connection lead to, of the body as it is
 abbrev pub ghosts-receive_as : goal.ghosts-receive_as
-ghosts-receive_as g a = record { event = received_event a.port.0 a.connection a.channel.now.packets; after = λ b. a.held.now.body }
+ghosts-receive_as g a = record { event = received_event a.port.0 a.connection a.channel.now.packets; after = λ b. a.held.now.body; start = a.self.now.table.shared.key.value }

@@ -18,7 +18,7 @@ effect-requires-clause-effect g c = may-finish c.args.held.now.body c.outgoing-p
 pub returns-clause-held : goal.returns-clause-held
 returns-clause-held g c = let f = c.args.self.now in let q = c.requires.held in let s = c.stamp-stamp.ensures in let o = c.outgoing-packet.ensures in
     let t = send-deed c.args.held.now.body c.outgoing-packet.new.self c.effect.new.self c.args.port c.args.connection c.stamp-stamp.result c.requires.stage.0 c.args.channel.now c.put.new.self c.outgoing-packet.result g.D.Deed.event c.requires.event c.requires.stage.1 o.packet o.left c.requires.space c.put.ensures c.effect.ensures in
-    grabbing-turned g.K.Component.next f.table.shared.table_id f.processes c.args.worker.now c.stamp-stamp.new.worker c.args.held.now _ c.args.connection c.args.channel.now c.put.new.self _ _ _ _ q s.table s.view s.slots c.requires.after t.0 refl t.1 (omega (arith, t.2, c.requires.most)) (omega (arith, t.3, q.senders))
+    grabbing-turned g.K.Component.next f.table.shared.table_id f.processes c.args.worker.now c.stamp-stamp.new.worker c.args.held.now _ c.args.connection c.args.channel.now c.put.new.self _ _ _ q s.table s.view s.slots c.requires.after t.0 refl t.1 (omega (arith, t.2, c.requires.most)) (omega (arith, t.3, q.senders))
 
 pub returns-clause-body : goal.returns-clause-body
 returns-clause-body g c = let o = c.outgoing-packet.ensures in

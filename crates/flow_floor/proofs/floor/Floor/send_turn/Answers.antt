@@ -1,23 +1,27 @@
-use Rattle.std.proofs.Common.{◌≡◌, ◌+◌, ◌≤◌, ◌∙◌, ◌∷◌, refl, sym, ap, subst, arith, inl}
-use Rattle.flow_floor.specs.Idle.{InSeen}
+use Rattle.std.proofs.Common.{◌≡◌, ◌+◌, ◌≤◌, ◌∙◌, ◌∷◌, refl, ap, arith}
 use Rattle.flow_floor.specs.Workers.{view}
 use Rattle.flow_floor.specs.Plays.{look_at}
 use Rattle.flow_floor.specs.Waking.{capacity_at}
 use Rattle.flow_ring.specs.Words.{level_in}
 use Rattle.flow_machine.specs.Nets.{packet_wished}
+use Rattle.flow_floor.proofs.Came.{kept-now, waits-full}
 use Rattle.flow_floor.proofs.Idles.{full-seen}
 use Rattle.flow_floor.proofs.Turnings.{send-notes}
 use Rattle.flow_floor.proofs.Sounds.{sent-grabbed}
 use Rattle.flow_floor.proofs.floor.Floor.send_turn.Goals as goal
 
 pub returns-then-level-capacity-clause-turned : goal.returns-then-level-capacity-clause-turned
-returns-then-level-capacity-clause-turned g c = let f = c.args.self.now in let h = c.in-Got.ensures.1 in let e = c.give_back.ensures in let start = f.table.shared.key.value in
-    let first = look_at (view c.args.worker.now) (f.processes + c.args.connection) h.word in
-    let seen : (view c.give_back.new.worker).seen ≡ first ∷ (view c.args.worker.now).seen = e.seen ∙ ap (λ v. v.seen) h.view in
-    let full = c.if-level-capacity.true in let level = c.level-level.ensures in let most = c.capacity.ensures in (
-      (refl, e.made ∙ ap (λ v. v.made) h.view),
-      full-seen start c.args.held.now.body (view c.give_back.new.worker).seen f.processes c.args.connection c.args.port f.bodies (omega (arith, f.channels, c.requires.range)) c.requires.stage c.requires.output
-          (subst (λ xs. InSeen (λ look. (look.word ≡ f.processes + c.args.connection) × (capacity_at start.channels c.args.connection ≤ level_in look.read)) xs) (sym seen) (inl (refl, omega (arith, full, level, most, h.level, h.capacity)))),
+returns-then-level-capacity-clause-turned g c = let f = c.args.self.now in let h = c.in-Got.ensures.1 in let e = c.give_back.ensures in let start = f.table.shared.key.value in let b = c.args.held.now.body in
+    let old = view c.args.worker.now in let new = view c.give_back.new.worker in
+    let seen : new.seen ≡ look_at old (f.processes + c.args.connection) c.in-Got.word ∷ old.seen = ap (λ v. v.seen) e.view ∙ ap (λ v. v.seen) h.view in
+    let kept = kept-now old new f.processes c.args.connection c.in-Got.word seen in
+    let full : capacity_at start.channels c.args.connection ≤ level_in c.in-Got.word = (let t = c.if-level-capacity.true in let level = c.level.ensures in let most = c.capacity.ensures in omega (arith, t, level, most, h.level, h.capacity)) in (
+      (refl, ap (λ v. v.made) e.view ∙ ap (λ v. v.made) h.view),
+      record {
+        waits = waits-full b.process c.args.port c.args.connection c.requires.stage c.requires.output;
+        read = (kept, full);
+        stays = full-seen start b new.seen f.processes old.steps c.args.connection c.in-Got.word c.args.port f.bodies (omega (arith, f.channels, c.requires.range)) c.requires.stage c.requires.output kept full;
+      },
     )
 
 pub send_as-stamp-requires-clause-most : goal.send_as-stamp-requires-clause-most

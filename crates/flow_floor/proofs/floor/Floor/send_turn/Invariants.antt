@@ -9,4 +9,4 @@ ghosts-grab g a = record { connection = a.connection; most = capacity_at a.self.
 
 -- the packet of its wish is sent
 abbrev pub ghosts-send_as : goal.ghosts-send_as
-ghosts-send_as g a = record { event = sent_event a.port.0 a.connection (packet_wished a.held.now.body.process); after = λ b. a.held.now.body }
+ghosts-send_as g a = record { event = sent_event a.port.0 a.connection (packet_wished a.held.now.body.process); after = λ b. a.held.now.body; start = a.self.now.table.shared.key.value }

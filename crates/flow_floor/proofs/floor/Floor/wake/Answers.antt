@@ -26,7 +26,7 @@ fetch_sub-requires g c = let f = c.args.self.now in let q = c.requires.waking in
   d.0 ∙ e.0 ∙ q.table,
   omega (arith, f.words),
   lowers g.K.Component.shape_of g.K.Component.uses g.K.Component.ready g.K.Component.next g.met.K.Component.obeys g.met.K.Component.stays_ready g.met.K.Component.steady f.table.shared.key.value _ _ _ _
-      (let e : f.processes + f.connections + 1 ≡ length f.table.shared.key.value.bodies + length f.table.shared.key.value.channels + 1 = omega (arith, f.bodies, f.channels) in e) (omega (arith, poked-spare c.fetch_add.new.seat.me.0 c.fetch_or-found.new.seat.me.0 _ c.fetch_or-found.result (ap (λ m. m.0) d.2) c.if-found-ne0.true, ap (λ m. m.0.spare) e.2, q.spare)),
+      (let e : f.processes + f.connections + 1 ≡ length f.table.shared.key.value.bodies + length f.table.shared.key.value.channels + 1 = omega (arith, f.bodies, f.channels) in e) (omega (arith, poked-spare c.fetch_add.new.seat.me.0 c.fetch_or-found.new.seat.me.0 c.fetch_or-found.result (ap (λ m. m.0) d.2) c.if-found-ne0.true, ap (λ m. m.0.spare) e.2, q.spare)),
 )
 
 pub returns-then-found-ne0-clause-waking : goal.returns-then-found-ne0-clause-waking
@@ -34,11 +34,11 @@ returns-then-found-ne0-clause-waking g c = let q = c.requires.waking in let e = 
     woken _ _ _ c.args.worker.now (record { seat = c.fetch_sub.new.seat }) c.args.held.now _ _ q (l.0 ∙ d.0 ∙ e.0) (ap (λ m. m.1) l.2 ∙ ap (λ m. m.1) d.2 ∙ ap (λ m. m.1) e.2)
     (ap (λ m. m.0.shares) l.2 ∙ ap (λ m. m.0.shares) d.2 ∙ ap (λ m. m.0.shares) e.2) (ap (λ m. m.0.grab) l.2 ∙ ap (λ m. m.0.grab) d.2 ∙ ap (λ m. m.0.grab) e.2) (ap (λ m. m.0.held) l.2 ∙ ap (λ m. m.0.held) d.2 ∙ ap (λ m. m.0.held) e.2)
     (ap (λ m. m.0.noted) l.2 ∙ ap (λ m. m.0.noted) d.2 ∙ ap (λ m. tail m.0.noted) e.2 ∙ ap tail (q.noted ∙ drop-head c.args.notes.now c.args.i c.requires.range))
-    (ap (λ m. m.0.spare) l.2 ∙ ap (λ n. n - 1) (poked-spare c.fetch_add.new.seat.me.0 c.fetch_or-found.new.seat.me.0 _ c.fetch_or-found.result (ap (λ m. m.0) d.2) c.if-found-ne0.true ∙ ap (λ m. m.0.spare) e.2 ∙ ap (λ n. n + 1) q.spare))
+    (ap (λ m. m.0.spare) l.2 ∙ ap (λ n. n - 1) (poked-spare c.fetch_add.new.seat.me.0 c.fetch_or-found.new.seat.me.0 c.fetch_or-found.result (ap (λ m. m.0) d.2) c.if-found-ne0.true ∙ ap (λ m. m.0.spare) e.2 ∙ ap (λ n. n + 1) q.spare))
 
 pub returns-else-found-ne0-clause-waking : goal.returns-else-found-ne0-clause-waking
 returns-else-found-ne0-clause-waking g c = let q = c.requires.waking in let e = c.fetch_add.ensures in let d = c.fetch_or-found.ensures in
     woken _ _ _ c.args.worker.now (record { seat = c.fetch_or-found.new.seat }) c.args.held.now _ _ q (d.0 ∙ e.0) (ap (λ m. m.1) d.2 ∙ ap (λ m. m.1) e.2)
     (ap (λ m. m.0.shares) d.2 ∙ ap (λ m. m.0.shares) e.2) (ap (λ m. m.0.grab) d.2 ∙ ap (λ m. m.0.grab) e.2) (ap (λ m. m.0.held) d.2 ∙ ap (λ m. m.0.held) e.2)
     (ap (λ m. m.0.noted) d.2 ∙ ap (λ m. tail m.0.noted) e.2 ∙ ap tail (q.noted ∙ drop-head c.args.notes.now c.args.i c.requires.range))
-    (poked-spent c.fetch_add.new.seat.me.0 c.fetch_or-found.new.seat.me.0 _ c.fetch_or-found.result (ap (λ m. m.0) d.2) c.if-found-ne0.false ∙ ap (λ n. n - 1) (ap (λ m. m.0.spare) e.2 ∙ ap (λ n. n + 1) q.spare))
+    (poked-spent c.fetch_add.new.seat.me.0 c.fetch_or-found.new.seat.me.0 c.fetch_or-found.result (ap (λ m. m.0) d.2) c.if-found-ne0.false ∙ ap (λ n. n - 1) (ap (λ m. m.0.spare) e.2 ∙ ap (λ n. n + 1) q.spare))

@@ -1,0 +1,96 @@
+-- What a call for a turn tells. Here n is the number of processes, `start` the net that was opened, and `old` and `new` are the worker's view before
+-- and after the call.
+use Rattle.std.specs.Prelude.{◌≡◌, ℕ, ◌<◌, ◌≤◌, Bool, false, List, [], ◌∷◌, ◌++◌, length, Option, Some, None}
+use Rattle.flow_packet.specs.Held.{Held as Hands}
+use Rattle.flow_component.specs.declared.Answer.{Answer}
+use Rattle.flow_component.specs.declared.Shape.{Shape}
+use Rattle.flow_component.specs.Laws.{Outcome}
+use Rattle.flow_model.specs.declared.Block.{Block}
+use Rattle.flow_model.specs.declared.Block.TheVariants as blocks
+use Rattle.flow_model.specs.States.{Input, output_at}
+use Rattle.flow_model.specs.Events.{Event, Starts, Finishes, Gets, Takes_text, Hears_end, Sends, Learns, Sleeps, Closes}
+use Rattle.flow_model.specs.Verdicts.{waits_for}
+use Rattle.flow_model.specs.Stands.{ChannelShown}
+use Rattle.flow_machine.specs.declared.answers.Case.{Case}
+use Rattle.flow_machine.specs.declared.answers.Case.TheVariants as cases
+use Rattle.flow_machine.specs.Answers.{case_of}
+use Rattle.flow_machine.specs.Nets.{BodyTurn}
+use Rattle.flow_machine.specs.Values.{BodyValue, NetValue}
+use Rattle.flow_ring.specs.Words.{level_in, senders_in, held_bit}
+use Rattle.flow_floor.specs.declared.board.Look.{Look}
+use Rattle.flow_floor.specs.declared.board.View.{View}
+use Rattle.flow_floor.specs.declared.floor.Held.{Held}
+use Rattle.flow_floor.specs.declared.floor.Worker.{Worker}
+use Rattle.flow_floor.specs.declared.floor.Turned.{Turned}
+use Rattle.flow_floor.specs.declared.floor.Turned.TheVariants as turned
+use Rattle.flow_floor.specs.Looks.{InSeen, IsLook, SawNone, AllSaw, FirstOpen}
+use Rattle.flow_floor.specs.Plays.{Below}
+use Rattle.flow_floor.specs.Turning.{MachineTurn}
+use Rattle.flow_floor.specs.Waking.{capacity_at}
+use Rattle.flow_floor.specs.Workers.{view, SeenBlocks}
+
+-- The connection from which a turn receives, to which it sends, whose level it asks, or which it closes.
+abbrev pub connection_of_case : Option Case → Option ℕ
+connection_of_case (Some (cases.Receive c port)) = Some c
+connection_of_case (Some (cases.Send c port)) = Some c
+connection_of_case (Some (cases.Level c port)) = Some c
+connection_of_case (Some (cases.Close c)) = Some c
+connection_of_case (Some cases.Idle) = None
+connection_of_case (Some (cases.Initial port)) = None
+connection_of_case (Some cases.Deactivate) = None
+connection_of_case (Some (cases.Over over)) = None
+connection_of_case None = None
+
+-- The words that were read after so many steps block a process so, and w is among them: the connection is empty and has an open sender; it is full; or
+-- each connected input is empty, and w is the word of the lowest one that has an open sender.
+abbrev pub ReadBlocks : ℕ → ℕ → List ChannelShown → List Input → List Look → Block → ℕ → Type 0
+ReadBlocks n since channels inputs seen (blocks.Empty c port) w = InSeen (IsLook n since c w) seen × (level_in w ≡ 0) × (0 < senders_in w)
+ReadBlocks n since channels inputs seen (blocks.Full c port) w = InSeen (IsLook n since c w) seen × (capacity_at channels c ≤ level_in w)
+ReadBlocks n since channels inputs seen blocks.Dormant w = AllSaw (SawNone n since) (length inputs) inputs seen × FirstOpen n since inputs seen w
+
+module _ {K : Type 0} where
+  -- The connection of this turn was held: the call's last look read its word, with the held bit, while this worker held no connection.
+  pub record IsBusy (n : ℕ) (b : BodyValue K) (old new : View K) (c w : ℕ) : Type 0 where
+    pub turn : connection_of_case (case_of b.process) ≡ Some c
+    pub look : IsLook n old.steps c w new.look
+    pub free : new.look.holding ≡ false
+    pub taken : held_bit ≤ w
+
+  -- The process waits for this, and by the words that the call read it has to.
+  pub record IsBlocked (n : ℕ) (start : NetValue K) (b : BodyValue K) (old new : View K) (block : Block) (w : ℕ) : Type 0 where
+    pub waits : waits_for b.process b.process.stage ≡ Some block
+    pub read : ReadBlocks n old.steps start.channels b.process.inputs new.seen block w
+    pub stays : SeenBlocks start b new.seen
+
+  -- A turn that asks for a level is told the one in the word that the call read, as its last look shows.
+  abbrev pub ToldLevel : ℕ → BodyValue K → View K → View K → Event → Type 0
+  ToldLevel n b old new (Learns port level) = (c : ℕ) × (w : ℕ) × (output_at b.process port ≡ Some c) × IsLook n old.steps c w new.look × (level ≡ level_in w)
+  ToldLevel n b old new Starts = Unit {0}
+  ToldLevel n b old new Finishes = Unit {0}
+  ToldLevel n b old new (Gets port c packet) = Unit {0}
+  ToldLevel n b old new (Takes_text port text) = Unit {0}
+  ToldLevel n b old new (Hears_end port) = Unit {0}
+  ToldLevel n b old new (Sends port c packet) = Unit {0}
+  ToldLevel n b old new Sleeps = Unit {0}
+  ToldLevel n b old new (Closes output c) = Unit {0}
+
+  -- The held body made the machine's turn of this stamp, which is above all stamps of its worker.
+  pub record IsMade (shape_of : K → Shape) (uses : K → ℕ → Bool) (ready : K → Hands → Answer → Type 0) (next : K → Hands → Answer → Outcome K → Type 0) (n : ℕ) (start : NetValue K) (h : Held K) (w : Worker K) (h' : Held K) (w' : Worker K) (stamp : ℕ) : Type 0 where
+    pub process : h'.process ≡ h.process
+    pub event : Event
+    pub turn : BodyTurn h.body event stamp h'.body
+    pub machine : MachineTurn shape_of uses ready next start stamp h.process h.body event
+    pub made : (view w').made ≡ (view w).made ++ (stamp, h.process) ∷ []
+    pub above : Below stamp (view w).made
+    pub level : ToldLevel n h.body (view w) (view w') event
+
+  -- It made none, and is as it was.
+  abbrev pub IsUnmade : Held K → Worker K → Held K → Worker K → Type 0
+  IsUnmade h w h' w' = (h' ≡ h) × ((view w').made ≡ (view w).made)
+
+  -- What holds of an answer: the turn was made; or none was, since its connection was held, the process is blocked, or it is over.
+  abbrev pub Turns : (K → Shape) → (K → ℕ → Bool) → (K → Hands → Answer → Type 0) → (K → Hands → Answer → Outcome K → Type 0) → ℕ → NetValue K → Held K → Worker K → Held K → Worker K → Turned → Type 0
+  Turns shape_of uses ready next n start h w h' w' (turned.Made stamp) = IsMade shape_of uses ready next n start h w h' w' stamp
+  Turns shape_of uses ready next n start h w h' w' (turned.Busy c word) = IsUnmade h w h' w' × IsBusy n h.body (view w) (view w') c word
+  Turns shape_of uses ready next n start h w h' w' (turned.Blocked block word) = IsUnmade h w h' w' × IsBlocked n start h.body (view w) (view w') block word
+  Turns shape_of uses ready next n start h w h' w' (turned.Over over) = IsUnmade h w h' w' × (case_of h.body.process ≡ Some (cases.Over over))
