@@ -1,9 +1,8 @@
 -- What a turn leaves of a body's connections, the connection of a turn, and what a call for a turn tells.
-use Rattle.std.proofs.Common.{◌≡◌, ℕ, zero, suc, ◌+◌, ◌<◌, ◌≤◌, arith, refl, inl, Bool, List, [], ◌∷◌, ◌++◌, length, Option, Some, None, slice_get, ap, sym, subst, ◌∙◌}
+use Rattle.std.proofs.Common.{◌≡◌, ℕ, zero, suc, ◌+◌, ◌<◌, ◌≤◌, arith, refl, inl, Bool, List, [], ◌∷◌, ◌++◌, Option, Some, None, slice_get, ap, sym, subst, ◌∙◌}
 use Rattle.std.specs.Option.{option_map}
 use Rattle.std.specs.Prelude.{option_and_then, is_some}
 use Rattle.atomic_table.specs.Seated.{TableId}
-use Rattle.flow_packet.specs.Tree.{Tree}
 use Rattle.flow_packet.specs.Held.{Held as Hands}
 use Rattle.flow_component.specs.declared.Answer.{Answer}
 use Rattle.flow_component.specs.declared.Port.{Port}
@@ -23,20 +22,19 @@ use Rattle.flow_machine.specs.FitNets.{IsWiredBody}
 use Rattle.flow_machine.specs.Outlets.{connection_at}
 use Rattle.flow_machine.specs.Nets.{BodyTurn, SendsAt}
 use Rattle.flow_machine.specs.Answers.{case_of, stage_case, receive_case, send_case, level_case, close_case}
-use Rattle.flow_machine.specs.declared.answers.Case.{Case}
 use Rattle.flow_machine.specs.declared.answers.Case.TheVariants as cases
 use Rattle.flow_machine.proofs.NetTurns.{case-is}
-use Rattle.flow_ring.specs.Words.{held_bit, level_in, senders_in}
+use Rattle.flow_ring.specs.Words.{held_bit}
 use Rattle.flow_floor.specs.declared.board.View.{View}
 use Rattle.flow_floor.specs.declared.floor.Worker.{Worker}
 use Rattle.flow_floor.specs.declared.floor.Held.{Held}
 use Rattle.flow_floor.specs.declared.floor.Turned.{Turned}
 use Rattle.flow_floor.specs.declared.floor.Turned.TheVariants as turned
 use Rattle.flow_floor.specs.Looks.{InSeen, IsLook}
-use Rattle.flow_floor.specs.Plays.{Below, look_at, seeing, grabbing, stamping, releasing, turn_of}
+use Rattle.flow_floor.specs.Plays.{Below, look_at, seeing, stamping, releasing, turn_of}
 use Rattle.flow_floor.specs.Turning.{MachineTurn, MachineTurnOf}
-use Rattle.flow_floor.specs.Turns.{Turns, IsMade, IsUnmade, IsBusy, IsBlocked, ToldLevel, connection_of_case}
-use Rattle.flow_floor.specs.Workers.{view, HasGrabbed, IsGrabbing, IsHeldBy, IsSameSeat}
+use Rattle.flow_floor.specs.Turns.{Turns, IsMade, IsBusy, ToldLevel, connection_of_case}
+use Rattle.flow_floor.specs.Workers.{view, HasGrabbed, IsGrabbing, IsHeldBy}
 use Rattle.flow_floor.proofs.Thinking.{wired-turn}
 use Rattle.flow_floor.proofs.Turnings.{closed-is}
 

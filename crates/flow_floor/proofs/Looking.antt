@@ -6,7 +6,7 @@ use Rattle.flow_model.specs.Order.{connection_of}
 use Rattle.flow_model.proofs.Lists.{same_or_not}
 use Rattle.flow_floor.specs.declared.board.Look.{Look}
 use Rattle.flow_ring.specs.Words.{level_in, senders_in}
-use Rattle.flow_floor.specs.Looks.{InSeen, IsLook, SawNone, SawOver, AllSaw, FirstOpen, FoundOpen, Looked, first_open}
+use Rattle.flow_floor.specs.Looks.{SawNone, SawOver, AllSaw, FoundOpen, Looked, first_open}
 use Rattle.flow_floor.proofs.Seats.{some_Some}
 
 pub saw-begin : (saw : ℕ → Look → Type 0) (inputs : List Input) (seen : List Look) → AllSaw saw 0 inputs seen

@@ -19,7 +19,7 @@ use Rattle.flow_machine.specs.Values.{BodyValue, NetValue, shown_net}
 use Rattle.flow_floor.specs.declared.board.Slot.{Slot}
 use Rattle.flow_floor.specs.declared.board.Slot.TheVariants as slot
 use Rattle.flow_floor.specs.Law.{numbered}
-use Rattle.flow_floor.specs.Waking.{IsOverStage, InList}
+use Rattle.flow_floor.specs.Waking.{InList}
 
 module _ {K : Type 0} where
   -- The first n slots have bodies; the slots from n on have channels.

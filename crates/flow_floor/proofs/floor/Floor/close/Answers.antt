@@ -1,4 +1,4 @@
-use Rattle.std.proofs.Common.{◌≡◌, ◌∷◌, ◌++◌, true, All, sym, ap, ◌∙◌, subst}
+use Rattle.std.proofs.Common.{◌≡◌, true, All, sym, ap, ◌∙◌, subst}
 use Rattle.flow_floor.specs.Crew.{IsCrew, made_by}
 use Rattle.flow_floor.specs.Shut.{IsShut}
 use Rattle.flow_floor.specs.Workers.{view}
