@@ -6,7 +6,7 @@ ghost use Rattle.flow_floor.specs.declared.floor.Worker.{Worker};
 ghost use Rattle.flow_machine.specs.Thoughts.{Thinks, KeepsTurns};
 ghost use Rattle.flow_machine.specs.FitNets.{IsWiredBody};
 ghost use Rattle.flow_floor.specs.Workers.{view, IsIdle, IsHeldBy, IsDone, IsSameSeat, SeenBlocks, RetiresAs, MatchClaim};
-ghost use Rattle.flow_floor.specs.Plays.{looked, claiming, leaving, lowering, reading};
+ghost use Rattle.flow_floor.specs.Plays.{looked, claiming, leaving, lowering, parking, reading};
 
 use crate::board::Slot;
 use crate::floor::{Claim, Floor, Held, Worker};
@@ -69,6 +69,7 @@ impl<K: Component> Floor<K> {
         requires held { IsHeldBy K.next self.now.table.shared.table_id self.now.processes worker.old held }
         requires over { RetiresAs over held.body }
         ensures idle { IsIdle self.now.table.shared.table_id worker.new }
+        ensures view { view worker.new ≡ lowering (parking (view worker.old)) }
         ensures made { (view worker.new).made ≡ (view worker.old).made }
         ensures seat { IsSameSeat (view worker.old) (view worker.new) }
     {
@@ -86,6 +87,7 @@ impl<K: Component> Floor<K> {
         requires held { IsHeldBy K.next self.now.table.shared.table_id self.now.processes worker.old held }
         requires blocked { SeenBlocks self.now.table.shared.key.value held.body (view worker.old).seen }
         ensures idle { IsIdle self.now.table.shared.table_id worker.new }
+        ensures view { (view worker.new ≡ lowering (parking (view worker.old))) ⊎ (view worker.new ≡ leaving (looked (view worker.old) held.process 3)) }
         ensures look { ((view worker.new).look ≡ (view worker.old).look) ⊎ IsLook 0 (view worker.old).steps held.process 3 (view worker.new).look }
         ensures made { (view worker.new).made ≡ (view worker.old).made }
         ensures seat { IsSameSeat (view worker.old) (view worker.new) }
