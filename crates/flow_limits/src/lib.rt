@@ -42,3 +42,6 @@ pub const SUBNET_PROCESS_LIMIT: usize = 512;
 
 /// The greatest number from which a network and its input are made; the least is 1.
 pub const NUMBER_LIMIT: u32 = 100;
+
+/// The most workers that run a network.
+pub const WORKER_LIMIT: u32 = 32;
