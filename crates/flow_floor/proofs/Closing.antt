@@ -36,7 +36,8 @@ use Rattle.flow_floor.specs.declared.board.View.{View}
 use Rattle.flow_floor.specs.Rule.{Law}
 use Rattle.flow_floor.specs.Law.{numbered}
 use Rattle.flow_floor.specs.Waking.{IsWiredAs, IsOverStage, IsDoneWord, IsRetired, AllRetired, InList}
-use Rattle.flow_floor.specs.Shut.{IsShut, IsQuietNet, ListsStarved, AllUnset, is_over_stage, starves, HasBodies, HasChannels, BodiesIn, ChannelsIn}
+use Rattle.flow_machine.specs.Quiet.{AllUnset, IsQuietNet}
+use Rattle.flow_floor.specs.Shut.{IsShut, ListsStarved, is_over_stage, starves, HasBodies, HasChannels, BodiesIn, ChannelsIn}
 use Rattle.flow_floor.proofs.Shutting.{same-lists}
 use Rattle.flow_floor.proofs.Seats.{St, get-exists, get-within}
 use Rattle.flow_floor.proofs.Ends.{closes}

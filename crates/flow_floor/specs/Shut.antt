@@ -8,14 +8,10 @@ use Rattle.flow_component.specs.declared.Shape.{Shape}
 use Rattle.flow_component.specs.Laws.{Outcome}
 use Rattle.flow_model.specs.declared.Stage.{Stage}
 use Rattle.flow_model.specs.declared.Stage.TheVariants as stages
-use Rattle.flow_model.specs.States.{State}
-use Rattle.flow_model.specs.Schedules.{IsThoughtStage}
-use Rattle.flow_model.specs.Verdicts.{Quiet}
-use Rattle.flow_model.specs.Stands.{ChannelShown, StandsForOpen}
+use Rattle.flow_model.specs.Stands.{ChannelShown}
 use Rattle.flow_machine.specs.Logs.{Logged, turns_made}
 use Rattle.flow_machine.specs.Solo.{GoesBy, reached}
-use Rattle.flow_machine.specs.Thoughts.{IsUnset}
-use Rattle.flow_machine.specs.Values.{BodyValue, NetValue, shown_net}
+use Rattle.flow_machine.specs.Values.{BodyValue, NetValue}
 use Rattle.flow_floor.specs.declared.board.Slot.{Slot}
 use Rattle.flow_floor.specs.declared.board.Slot.TheVariants as slot
 use Rattle.flow_floor.specs.Law.{numbered}
@@ -58,15 +54,6 @@ listed starved process false = starved
 pub record ListsStarved {K : Type 0} (words : List ℕ) (bodies : List (BodyValue K)) (m : ℕ) (starved : List ℕ) : Type 0 where
   pub each : All (λ p. (b : BodyValue K) × (slice_get bodies p ≡ Some b) × (starves (slice_index words p) b.process.stage ≡ true)) starved
   pub all : (p : ℕ) (b : BodyValue K) → p < m → slice_get bodies p ≡ Some b → starves (slice_index words p) b.process.stage ≡ true → InList p starved
-
--- Each of these processes of the net isn't set.
-abbrev pub AllUnset : {K : Type 0} → NetValue K → List ℕ → Type 0
-AllUnset {K} net starved = All (λ p. (b : BodyValue K) × (slice_get net.bodies p ≡ Some b) × IsUnset b) starved
-
--- No work is pending in the net, and each state that it stands for is quiet.
-pub record IsQuietNet {K : Type 0} (net : NetValue K) : Type 0 where
-  pub thought : (p : ℕ) (b : BodyValue K) → slice_get net.bodies p ≡ Some b → IsThoughtStage b.process.stage
-  pub quiet : (t : State K) → StandsForOpen (shown_net net) t → Quiet t
 
 -- The net of a floor that was closed: the net with which it was opened goes on to it by the turns `made`, which have the stamps from the first one on,
 -- one after another; and it has the same processes.

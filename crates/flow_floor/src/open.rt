@@ -3,7 +3,8 @@ ghost use Rattle.std.specs.Prelude.{◌≡◌, ℕ, ◌+◌, ◌++◌, ◌<◌, 
 ghost use Rattle.flow_floor.specs.declared.board.Slot.TheVariants as Slot;
 ghost use Rattle.flow_floor.specs.Opening.{FirstWords, FewSenders, HasRooms};
 ghost use Rattle.flow_floor.specs.Crew.{IsCrew, made_by};
-ghost use Rattle.flow_floor.specs.Shut.{IsShut, IsQuietNet, AllUnset};
+ghost use Rattle.flow_machine.specs.Quiet.{AllUnset, IsQuietNet};
+ghost use Rattle.flow_floor.specs.Shut.{IsShut};
 ghost use Rattle.flow_floor.specs.Wiring.{HasRows};
 ghost use Rattle.flow_floor.specs.Workers.{view, IsIdle};
 

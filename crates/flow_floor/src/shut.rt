@@ -2,7 +2,8 @@
 ghost use Rattle.std.specs.Prelude.{◌≡◌, ℕ, ◌+◌, ◌<◌, ◌≤◌, [], length, map, take, drop, Some, None, true, vec_len, vec_capacity, slice_index_or, false};
 ghost use Rattle.std.specs.Mem.Slots.{slots_items, slots_filled, slots_len, IsFull};
 ghost use Rattle.flow_floor.specs.Opening.{HasRooms};
-ghost use Rattle.flow_floor.specs.Shut.{HasBodies, HasChannels, BodiesIn, ChannelsIn, IsShut, IsQuietNet, ListsStarved, AllUnset, is_over_stage, starves, listed};
+ghost use Rattle.flow_machine.specs.Quiet.{AllUnset, IsQuietNet};
+ghost use Rattle.flow_floor.specs.Shut.{HasBodies, HasChannels, BodiesIn, ChannelsIn, IsShut, ListsStarved, is_over_stage, starves, listed};
 ghost use Rattle.flow_floor.specs.Workers.{view, IsIdle};
 
 use crate::board::Slot;

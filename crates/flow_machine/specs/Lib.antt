@@ -17,3 +17,4 @@ pub mod NetSteps
 pub mod Starts
 pub mod Solo
 pub mod Wires
+pub mod Quiet
