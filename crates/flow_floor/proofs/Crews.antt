@@ -1,14 +1,21 @@
 -- Lists of workers.
-use Rattle.std.proofs.Common.{◌≡◌, ℕ, zero, suc, ◌+◌, ◌<◌, List, [], ◌∷◌, ◌++◌, All, length, get_or, sym, ap, arith}
+use Rattle.std.proofs.Common.{◌≡◌, ℕ, zero, suc, ◌+◌, ◌<◌, List, [], ◌∷◌, ◌++◌, All, length, get_or, sym, ap, ◌∙◌, arith}
 use Rattle.std.specs.Prelude.{sum_by}
 use Rattle.std.proofs.lemmas.List.Elements.{All-append}
 use Rattle.std.proofs.lemmas.List.Sums.{sum_by-append}
 use Rattle.atomic_table.specs.Seated.{TableId}
 use Rattle.flow_floor.specs.declared.floor.Worker.{Worker}
-use Rattle.flow_floor.specs.Workers.{IsIdle}
-use Rattle.flow_floor.specs.Plays.{merge}
+use Rattle.flow_floor.specs.Workers.{view, IsIdle}
+use Rattle.flow_limits.specs.declared.TheConstants.{WORKER_LIMIT}
+use Rattle.flow_floor.specs.Floors.{IsNewWorker}
+use Rattle.flow_floor.specs.Plays.{cut, merge}
+use Rattle.flow_floor.specs.Seats.{newcomer}
 use Rattle.flow_floor.specs.Crew.{IsCrew, made_by}
 use Rattle.flow_floor.proofs.Shutting.{All-one, All-front, All-last}
+
+-- One more of which it holds.
+pub all-push : {X : Type 0} (P : X → Type 0) (xs : List X) (x : X) → All P xs → P x → All P (xs ++ x ∷ [])
+all-push P xs x a p = All-append P xs (x ∷ []) a (All-one P x p)
 
 module _ {K : Type 0} where
   shares : Worker K → ℕ
@@ -17,19 +24,23 @@ module _ {K : Type 0} where
   pub shares-push : (ws : List (Worker K)) (w : Worker K) → sum_by (λ (x : Worker K). x.seat.me.0.shares) (ws ++ w ∷ []) ≡ sum_by (λ (x : Worker K). x.seat.me.0.shares) ws + w.seat.me.0.shares
   shares-push ws w = let e = sum_by-append (λ (x : Worker K). x.seat.me.0.shares) ws (w ∷ []) in omega (arith, e)
 
-  pub idle-push : (z : TableId) (ws : List (Worker K)) (w : Worker K) → All (IsIdle z) ws → IsIdle z w → All (IsIdle z) (ws ++ w ∷ [])
-  idle-push z ws w a i = All-append (IsIdle z) ws (w ∷ []) a (All-one (IsIdle z) w i)
+  -- A worker that was split off is new, and the other is no less new than it was.
+  pub new-comer : (w : Worker K) (n : ℕ) → view w ≡ newcomer n → IsNewWorker w
+  new-comer w n is = (ap (λ v. v.made) is, ap (λ v. v.read_zero) is)
+
+  pub new-cut : (w w' : Worker K) → view w' ≡ cut (view w) → IsNewWorker w → IsNewWorker w'
+  new-cut w w' is new = (ap (λ v. v.made) is ∙ new.0, ap (λ v. v.read_zero) is ∙ new.1)
 
   pub crew-two : (z : TableId) (xs : List (Worker K)) (a b : Worker K) → IsCrew z ((xs ++ a ∷ []) ++ b ∷ []) → IsIdle z a × IsIdle z b
   crew-two z xs a b h = (All-last (IsIdle z) xs a (All-front (IsIdle z) (xs ++ a ∷ []) b h.0), All-last (IsIdle z) (xs ++ a ∷ []) b h.0)
 
   pub crew-pair : (z : TableId) (xs : List (Worker K)) (a b c : Worker K) → IsIdle z c → c.seat.me.0.shares ≡ b.seat.me.0.shares + a.seat.me.0.shares → IsCrew z ((xs ++ a ∷ []) ++ b ∷ []) → IsCrew z (xs ++ c ∷ [])
   crew-pair z xs a b c idle both h = (
-    idle-push z xs c (All-front (IsIdle z) xs a (All-front (IsIdle z) (xs ++ a ∷ []) b h.0)) idle,
+    all-push (IsIdle z) xs c (All-front (IsIdle z) xs a (All-front (IsIdle z) (xs ++ a ∷ []) b h.0)) idle,
     (let p = shares-push xs a in let q = shares-push (xs ++ a ∷ []) b in let r = shares-push xs c in omega (arith, p, q, r, both, h.1)),
   )
 
-  pub crew-one : (z : TableId) (a : Worker K) → IsCrew z (a ∷ []) → IsIdle z a × (a.seat.me.0.shares ≡ 32)
+  pub crew-one : (z : TableId) (a : Worker K) → IsCrew z (a ∷ []) → IsIdle z a × (a.seat.me.0.shares ≡ WORKER_LIMIT)
   crew-one z a h = (All-last (IsIdle z) [] a h.0, omega (arith, h.1))
 
   shares-each : (xs ys : List (Worker K)) → length ys ≡ length xs → ((i : ℕ) (d : Worker K) → i < length xs → (get_or ys i d).seat.me.0.shares ≡ (get_or xs i d).seat.me.0.shares) → sum_by (λ (x : Worker K). x.seat.me.0.shares) ys ≡ sum_by (λ (x : Worker K). x.seat.me.0.shares) xs

@@ -6,6 +6,7 @@ pub mod Wakes
 pub mod Retires
 pub mod Wakings
 pub mod Keeps
+pub mod Spacing
 pub mod Slots
 pub mod Turnings
 pub mod Sounds
@@ -22,3 +23,4 @@ pub mod Came
 pub mod Rows
 pub mod Crews
 pub mod Openings
+pub mod Backs

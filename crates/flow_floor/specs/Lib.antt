@@ -10,4 +10,6 @@ pub mod Turns
 pub mod Shut
 pub mod Wiring
 pub mod Opening
+pub mod Rooms
 pub mod Crew
+pub mod Floors

@@ -1,5 +1,5 @@
 -- What each step tells.
-use Rattle.std.specs.Prelude.{◌≡◌, ◌≢◌, ℕ, ◌+◌, ◌-◌, ◌<◌, ◌≤◌, ◌==◌, ◌||◌, if◌then◌else◌, Bool, List, [], ◌∷◌, ◌++◌, length, Option, Some, None, is_some, slice_get, nat_lt}
+use Rattle.std.specs.Prelude.{◌≡◌, ◌≢◌, ℕ, ◌+◌, ◌-◌, ◌/◌, ◌<◌, ◌≤◌, ◌==◌, ◌||◌, if◌then◌else◌, Bool, List, [], ◌∷◌, ◌++◌, length, Option, Some, None, is_some, slice_get, nat_lt}
 use Rattle.atomic_table.specs.Table.{Me, Step, rest}
 use Rattle.flow_packet.specs.Held.{Held}
 use Rattle.flow_component.specs.declared.Answer.{Answer}
@@ -9,6 +9,7 @@ use Rattle.flow_model.specs.Events.{Event}
 use Rattle.flow_model.specs.Stands.{ChannelShown}
 use Rattle.flow_machine.specs.Values.{BodyValue, NetValue}
 use Rattle.flow_machine.specs.FitNets.{FitNet, IsWiredBody}
+use Rattle.flow_ring.specs.declared.layout.TheConstants.{SPACING}
 use Rattle.flow_ring.specs.Words.{level_in, senders_in, held_bit}
 use Rattle.flow_floor.specs.declared.board.Slot.{Slot}
 use Rattle.flow_floor.specs.declared.board.Slot.TheVariants as slot
@@ -31,6 +32,10 @@ tail [] = []
 tail (x ∷ xs) = xs
 
 module _ {K : Type 0} where
+  -- The step, with its word by its number in their order.
+  abbrev pub ordered : Step (Slot K) → Step (Slot K)
+  ordered st = record st { word = st.word / SPACING }
+
   -- What a step records that read r at word i, made by a seat with this view.
   abbrev pub look_at : View K → ℕ → ℕ → Look
   look_at v i r = record { word = i; read = r; holding = is_some v.grab; at = v.steps + 1 }

@@ -39,9 +39,8 @@ impl<K: Component> Floor<K> {
         ensures view { view worker.new ≡ seeing (view worker.old) (self.now.processes + connection) result }
     {
         let _ = held;
-        self.table
-            .shared
-            .load::<Look>(&mut worker.seat, self.processes + connection)
+        let place = self.layout().connection_word(connection);
+        self.table.shared.load::<Look>(&mut worker.seat, place)
     }
 
     /// Looks at the connected inputs one by one, up to one that holds a packet.

@@ -1,5 +1,5 @@
-//! The table that the workers share. Words 0 to n - 1 are the processes', the next m the connections', then the clock and the live word. Slots lie in
-//! the same order.
+//! The table that the workers share. In their order the words are the n processes', the m connections', the clock and the live word; the layout says how
+//! far apart they lie. Slots lie in the same order, side by side.
 
 use atomic_table::TableRule;
 use flow_component::Component;
@@ -14,7 +14,7 @@ pub enum Slot<K: Component> {
     Channel(Channel),
 }
 
-/// What a step read: the word, the number, whether the seat held a connection then, and its number of steps after it.
+/// What a step read: the word by its number in their order, the number, whether the seat held a connection then, and its number of steps after it.
 pub struct Look {
     pub word: u64,
     pub read: u64,
@@ -48,10 +48,10 @@ pub struct View<K: Component> {
 pub struct Lawful;
 
 impl<K: Component> TableRule<Slot<K>, View<K>, Snapshot<Net<K>>> for Lawful {
-    ghost use Rattle.flow_floor.specs.Rule.{Law};
+    ghost use Rattle.flow_floor.specs.Rule.{TableLaw};
     ghost use Rattle.flow_floor.specs.Seats.{newcomer};
 
-    ghost holds = { λ key. Law K.shape_of K.uses K.ready K.next key.value };
+    ghost holds = { λ key. TableLaw K.shape_of K.uses K.ready K.next key.value };
 
     ghost first = { λ _. newcomer 32 };
 }

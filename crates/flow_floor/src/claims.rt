@@ -5,7 +5,8 @@ ghost use Rattle.atomic_table.specs.Seated.{TableId};
 ghost use Rattle.flow_floor.specs.declared.floor.Worker.{Worker};
 ghost use Rattle.flow_machine.specs.Thoughts.{Thinks, KeepsTurns};
 ghost use Rattle.flow_machine.specs.FitNets.{IsWiredBody};
-ghost use Rattle.flow_floor.specs.Workers.{view, IsIdle, IsHeldBy, IsDone, IsSameSeat, SeenBlocks, RetiresAs, MatchClaim};
+ghost use Rattle.flow_floor.specs.Floors.{process_count, connection_count, turns_of, HasReadZero, IsHeldAt, IsIdleAt, IsOverAs, IsSameWorker, IsStuckAt, IsWiredAt};
+ghost use Rattle.flow_floor.specs.Workers.{view, IsIdle, IsHeldBy, IsDone, MatchClaim};
 ghost use Rattle.flow_floor.specs.Plays.{looked, claiming, leaving, lowering, parking, reading};
 
 use crate::board::Slot;
@@ -31,11 +32,13 @@ impl<K: Component> Floor<K> {
         ensures { MatchClaim result (λ h. (h.process ≡ process) × IsHeldBy K.next self.now.table.shared.table_id self.now.processes worker.new h × IsWiredBody self.now.connections h.body × (view worker.new ≡ claiming (view worker.old) process h.body)) (λ n. (n ≢ 2) × IsIdle self.now.table.shared.table_id worker.new × (view worker.new ≡ looked (view worker.old) process n)) }
     {
         let shared = &self.table.shared;
-        let found = shared.compare_exchange::<Take<S>>(&mut worker.seat, process, READY, HELD);
+        let place = self.layout().process_word(process);
+        let found = shared.compare_exchange::<Take<S>>(&mut worker.seat, place, READY, HELD);
         if found != READY {
             return Claim::NotReady(found);
         }
-        let old = shared.exchange(&mut worker.seat, process, Slot::Vacant);
+        let slot = self.layout().body_slot(process);
+        let old = shared.exchange(&mut worker.seat, slot, Slot::Vacant);
         let Slot::Body(body) = old else {
             unreachable!()
         };
@@ -44,63 +47,69 @@ impl<K: Component> Floor<K> {
 
     /// Claims the process if it is ready. `NotReady` has what this call's exchange read.
     pub fn claim(&self, worker: &mut Worker<K>, process: usize) -> Claim<K>
-        requires worker { IsIdle self.now.table.shared.table_id worker.old }
-        requires range { process < self.now.processes }
-        ensures { MatchClaim result (λ h. (h.process ≡ process) × IsHeldBy K.next self.now.table.shared.table_id self.now.processes worker.new h × IsWiredBody self.now.connections h.body × (view worker.new ≡ claiming (view worker.old) process h.body)) (λ n. (n ≢ 2) × IsIdle self.now.table.shared.table_id worker.new × (view worker.new ≡ looked (view worker.old) process n)) }
+        requires worker { IsIdleAt self.now worker.old }
+        requires range { process < process_count self.now }
+        ensures { MatchClaim result (λ h. (h.process ≡ process) × IsHeldAt K.next self.now worker.new h × IsWiredAt self.now h × (view worker.new ≡ claiming (view worker.old) process h.body)) (λ n. (n ≢ 2) × IsIdleAt self.now worker.new × (view worker.new ≡ looked (view worker.old) process n)) }
     {
         self.claim_at::<Brand>(worker, process)
     }
 
     /// The process is ready again.
     pub fn hand_back(&self, worker: &mut Worker<K>, held: Held<K>)
-        requires { IsHeldBy K.next self.now.table.shared.table_id self.now.processes worker.old held }
-        ensures idle { IsIdle self.now.table.shared.table_id worker.new }
+        requires { IsHeldAt K.next self.now worker.old held }
+        ensures idle { IsIdleAt self.now worker.new }
         ensures view { view worker.new ≡ leaving (view worker.old) }
     {
         let Held { body, process } = held;
         let shared = &self.table.shared;
-        let old = shared.exchange(&mut worker.seat, process, Slot::Body(body));
+        let slot = self.layout().body_slot(process);
+        let old = shared.exchange(&mut worker.seat, slot, Slot::Body(body));
         let Slot::Vacant = old else { unreachable!() };
-        shared.swap::<Leave>(&mut worker.seat, process, READY);
+        let place = self.layout().process_word(process);
+        shared.swap::<Leave>(&mut worker.seat, place, READY);
     }
 
     /// The process is done: it is over, or its last thought found no memory.
     pub fn retire(&self, worker: &mut Worker<K>, held: Held<K>, over: Over)
-        requires held { IsHeldBy K.next self.now.table.shared.table_id self.now.processes worker.old held }
-        requires over { RetiresAs over held.body }
-        ensures idle { IsIdle self.now.table.shared.table_id worker.new }
+        requires held { IsHeldAt K.next self.now worker.old held }
+        requires over { IsOverAs over held }
+        ensures idle { IsIdleAt self.now worker.new }
         ensures view { view worker.new ≡ lowering (parking (view worker.old)) }
-        ensures made { (view worker.new).made ≡ (view worker.old).made }
-        ensures seat { IsSameSeat (view worker.old) (view worker.new) }
+        ensures made { turns_of worker.new ≡ turns_of worker.old }
+        ensures seat { IsSameWorker worker.old worker.new }
     {
         let _ = over;
         let Held { body, process } = held;
         let shared = &self.table.shared;
-        let old = shared.exchange(&mut worker.seat, process, Slot::Body(body));
+        let slot = self.layout().body_slot(process);
+        let old = shared.exchange(&mut worker.seat, slot, Slot::Body(body));
         let Slot::Vacant = old else { unreachable!() };
-        shared.swap::<Retire>(&mut worker.seat, process, DONE);
+        let place = self.layout().process_word(process);
+        shared.swap::<Retire>(&mut worker.seat, place, DONE);
         self.lower(worker);
     }
 
     /// The process is parked, unless it was poked since it was claimed. Then it is ready again.
     pub fn park(&self, worker: &mut Worker<K>, held: Held<K>)
-        requires held { IsHeldBy K.next self.now.table.shared.table_id self.now.processes worker.old held }
-        requires blocked { SeenBlocks self.now.table.shared.key.value held.body (view worker.old).seen }
-        ensures idle { IsIdle self.now.table.shared.table_id worker.new }
+        requires held { IsHeldAt K.next self.now worker.old held }
+        requires blocked { IsStuckAt self.now worker.old held }
+        ensures idle { IsIdleAt self.now worker.new }
         ensures view { (view worker.new ≡ lowering (parking (view worker.old))) ⊎ (view worker.new ≡ leaving (looked (view worker.old) held.process 3)) }
         ensures look { ((view worker.new).look ≡ (view worker.old).look) ⊎ IsLook 0 (view worker.old).steps held.process 3 (view worker.new).look }
-        ensures made { (view worker.new).made ≡ (view worker.old).made }
-        ensures seat { IsSameSeat (view worker.old) (view worker.new) }
+        ensures made { turns_of worker.new ≡ turns_of worker.old }
+        ensures seat { IsSameWorker worker.old worker.new }
     {
         let Held { body, process } = held;
         let shared = &self.table.shared;
-        let old = shared.exchange(&mut worker.seat, process, Slot::Body(body));
+        let slot = self.layout().body_slot(process);
+        let old = shared.exchange(&mut worker.seat, slot, Slot::Body(body));
         let Slot::Vacant = old else { unreachable!() };
-        let found = shared.compare_exchange::<Park>(&mut worker.seat, process, HELD, PARKED);
+        let place = self.layout().process_word(process);
+        let found = shared.compare_exchange::<Park>(&mut worker.seat, place, HELD, PARKED);
         if found == HELD {
             self.lower(worker);
         } else {
-            shared.swap::<Leave>(&mut worker.seat, process, READY);
+            shared.swap::<Leave>(&mut worker.seat, place, READY);
         }
     }
 
@@ -110,21 +119,21 @@ impl<K: Component> Floor<K> {
         ensures idle { IsIdle self.now.table.shared.table_id worker.new }
         ensures view { view worker.new ≡ lowering (view worker.old) }
     {
+        let live = self.layout().live();
         self.table
             .shared
-            .fetch_sub::<Lower>(&mut worker.seat, self.processes + self.connections + 1, 1);
+            .fetch_sub::<Lower>(&mut worker.seat, live, 1);
     }
 
     /// How many processes are ready or held, with the tokens on their way. At 0 no process but a starved one will ever have a turn again.
     pub fn live(&self, worker: &mut Worker<K>) -> u64
-        requires { IsIdle self.now.table.shared.table_id worker.old }
-        ensures idle { IsIdle self.now.table.shared.table_id worker.new }
-        ensures view { view worker.new ≡ reading (view worker.old) (self.now.processes + self.now.connections + 1) result }
-        ensures seen { result ≡ 0 → (view worker.new).read_zero ≡ true }
+        requires { IsIdleAt self.now worker.old }
+        ensures idle { IsIdleAt self.now worker.new }
+        ensures view { view worker.new ≡ reading (view worker.old) (process_count self.now + connection_count self.now + 1) result }
+        ensures seen { result ≡ 0 → HasReadZero worker.new }
     {
-        self.table
-            .shared
-            .load::<Live>(&mut worker.seat, self.processes + self.connections + 1)
+        let live = self.layout().live();
+        self.table.shared.load::<Live>(&mut worker.seat, live)
     }
 }
 

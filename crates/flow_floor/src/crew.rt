@@ -1,5 +1,8 @@
 //! How workers are made, and made one again.
-ghost use Rattle.std.specs.Prelude.{◌≡◌, ◌≢◌, ◌+◌, ◌-◌, ◌<◌, ◌||◌};
+ghost use Rattle.std.specs.Prelude.{◌≡◌, ◌≢◌, ◌+◌, ◌++◌, ◌-◌, ◌<◌, ◌≤◌, ◌||◌, [], ◌∷◌, All, length, sum_by, true, vec_capacity};
+ghost use Rattle.flow_limits.specs.declared.TheConstants.{WORKER_LIMIT};
+ghost use Rattle.flow_floor.specs.Crew.{made_by};
+ghost use Rattle.flow_floor.specs.Floors.{IsCrewOf, IsIdleAt, IsNewWorker, HasReadZero};
 ghost use Rattle.flow_floor.specs.Workers.{view, IsIdle};
 ghost use Rattle.flow_floor.specs.Plays.{cut, merged};
 ghost use Rattle.flow_floor.specs.Seats.{newcomer};
@@ -10,7 +13,7 @@ use flow_component::Component;
 
 impl<K: Component> Floor<K> {
     /// One worker more.
-    pub(crate) fn split(&self, worker: &mut Worker<K>) -> Worker<K>
+    fn split(&self, worker: &mut Worker<K>) -> Worker<K>
         requires idle { IsIdle self.now.table.shared.table_id worker.old }
         requires shares { 1 < (view worker.old).shares }
         ensures old { IsIdle self.now.table.shared.table_id worker.new × (view worker.new ≡ cut (view worker.old)) }
@@ -20,8 +23,32 @@ impl<K: Component> Floor<K> {
         Worker { seat }
     }
 
+    /// Splits off all other workers. The first one comes last.
+    pub(crate) fn hire(
+        &self,
+        mut crew: Vec<Worker<K>>,
+        mut first: Worker<K>,
+        workers: u32,
+    ) -> Vec<Worker<K>>
+        requires least { 1 ≤ workers }
+        requires most { workers ≤ WORKER_LIMIT }
+        requires crew { (crew.items ≡ []) × (workers ≤ vec_capacity crew) }
+        requires idle { IsIdleAt self.now first }
+        requires all { (view first).shares ≡ WORKER_LIMIT }
+        requires fresh { IsNewWorker first }
+        ensures crew { IsCrewOf self.now result.items × (length result.items ≡ workers) }
+        ensures fresh { All IsNewWorker result.items }
+    {
+        for _i in 1..workers {
+            let other = self.split(&mut first);
+            crew.push_reserved(other);
+        }
+        crew.push_reserved(first);
+        crew
+    }
+
     /// One worker takes in the turns of another.
-    pub(crate) fn join(&self, worker: &mut Worker<K>, other: Worker<K>)
+    fn join(&self, worker: &mut Worker<K>, other: Worker<K>)
         requires idle { IsIdle self.now.table.shared.table_id worker.old }
         requires other { IsIdle self.now.table.shared.table_id other }
         ensures idle { IsIdle self.now.table.shared.table_id worker.new }
@@ -29,5 +56,18 @@ impl<K: Component> Floor<K> {
     {
         let Worker { seat } = other;
         self.table.shared.join_seat::<Glue>(&mut worker.seat, seat);
+    }
+
+    /// One worker takes in the turns of all others.
+    pub(crate) fn gather(&self, mut first: Worker<K>, mut workers: Vec<Worker<K>>) -> Worker<K>
+        requires { IsCrewOf self.now (workers.items ++ first ∷ []) }
+        ensures all { IsIdleAt self.now result × ((view result).shares ≡ WORKER_LIMIT) }
+        ensures made { (view result).made ≡ made_by (workers.items ++ first ∷ []) }
+        ensures zero { HasReadZero first → HasReadZero result }
+    {
+        while let Some(worker) = workers.pop() {
+            self.join(&mut first, worker);
+        }
+        first
     }
 }

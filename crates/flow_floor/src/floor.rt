@@ -2,6 +2,7 @@
 ghost use Rattle.std.specs.Prelude.{◌≡◌, ℕ, ◌+◌, ◌<◌, length, Some, slice_get};
 ghost use Rattle.flow_machine.specs.Values.{BodyValue};
 ghost use Rattle.flow_model.specs.States.{From, output_at};
+ghost use Rattle.flow_ring.specs.Places.{slot_count, word_count};
 ghost use Rattle.std.specs.List.{list_any};
 ghost use Rattle.std.specs.Option.{option_map};
 ghost use Rattle.std.specs.Prelude.{◌==◌, unwrap_or, [], true, All};
@@ -19,8 +20,8 @@ pub struct Floor<K: Component> {
     pub(crate) table: Table<Slot<K>, View<K>, Snapshot<Net<K>>, Lawful, Global>,
     pub(crate) processes: usize,
     pub(crate) connections: usize,
-    pub ghost slots: { table.shared.table_id.slots ≡ processes + connections },
-    pub ghost words: { table.shared.table_id.words ≡ processes + connections + 2 },
+    pub ghost slots: { table.shared.table_id.slots ≡ slot_count processes connections },
+    pub ghost words: { table.shared.table_id.words ≡ word_count processes connections },
     pub ghost bodies: { length table.shared.key.value.bodies ≡ processes },
     pub ghost channels: { length table.shared.key.value.channels ≡ connections },
     pub ghost small: { processes + connections < 4294967296 },

@@ -2,6 +2,7 @@
 #![tactic(auto)]
 
 mod alone;
+mod back;
 mod board;
 mod claims;
 mod crew;
@@ -10,6 +11,7 @@ mod idle;
 mod open;
 mod plays;
 mod receive;
+mod rooms;
 mod send;
 mod shut;
 mod steps;
@@ -20,4 +22,5 @@ mod wiring;
 
 pub use board::{Lawful, Slot, View};
 pub use floor::{Claim, Floor, Held, Turned, Worker};
-pub use open::{OpenStop, Opened, Rooms};
+pub use open::{OpenStop, Opened};
+pub use rooms::Rooms;

@@ -1,69 +1,45 @@
-//! How a floor is opened, and closed.
-ghost use Rattle.std.specs.Prelude.{◌≡◌, ℕ, ◌+◌, ◌++◌, ◌<◌, ◌≤◌, [], length, map, All, IfOk, IfErr, IsTrue, true, false, ◌∷◌, vec_capacity, sum_by};
+//! How a floor is opened.
+ghost use Rattle.std.specs.Prelude.{◌≡◌, ℕ, ◌+◌, ◌++◌, ◌<◌, ◌≤◌, [], length, map, All, IfOk, IfErr, true, false, vec_capacity};
+ghost use Rattle.flow_limits.specs.declared.TheConstants.{WORKER_LIMIT};
+ghost use Rattle.flow_machine.specs.Joins.{Joins};
 ghost use Rattle.flow_floor.specs.declared.board.Slot.TheVariants as Slot;
-ghost use Rattle.flow_floor.specs.Opening.{FirstWords, FewSenders, HasRooms};
-ghost use Rattle.flow_floor.specs.Crew.{IsCrew, made_by};
-ghost use Rattle.flow_machine.specs.Quiet.{AllUnset, IsQuietNet};
-ghost use Rattle.flow_floor.specs.Shut.{IsShut};
+ghost use Rattle.flow_floor.specs.Opening.{FirstWords, FewSenders};
+ghost use Rattle.flow_floor.specs.Rooms.{HasRooms};
+ghost use Rattle.flow_floor.specs.Floors.{opened_net, process_count, HasRoomsFor, IsCrewOf, IsNewWorker};
 ghost use Rattle.flow_floor.specs.Wiring.{HasRows};
-ghost use Rattle.flow_floor.specs.Workers.{view, IsIdle};
 
+use crate::back::join_again;
 use crate::board::Slot;
 use crate::floor::{Floor, Worker};
+use crate::rooms::Rooms;
 use crate::wiring::rows_of;
 use atomic_table::Table;
 use flow_component::Component;
-use flow_machine::{Body, Channel, Closed, Net, Parts};
+use flow_machine::{Body, Channel, Net, Parts};
+use flow_ring::Layout;
 use std::alloc::{AllocError, Global};
 use std::snapshot::Snapshot;
 
-/// Why a net isn't opened. It is given up then.
-#[derive(Clone, Copy, Debug, PartialEq, Eq)]
-pub enum OpenStop {
-    NoMemory,
-    /// It has too many connections, or a connection with too many senders.
-    TooWide,
+/// A net that wasn't opened, for want of memory: it comes back as it was.
+pub struct OpenStop<K: Component> {
+    pub net: Net<K>,
 }
 
-impl From<AllocError> for OpenStop {
-    ghost use Rattle.flow_floor.specs.declared.open.OpenStop.TheVariants.{NoMemory};
-
-    ghost from_gives = { λ _ e. e ≡ NoMemory };
-
-    fn from(_: AllocError) -> Self {
-        OpenStop::NoMemory
-    }
-}
-
-/// The room in which the net is put together again.
-pub struct Rooms<K: Component> {
-    pub(crate) bodies: Vec<Body<K>>,
-    pub(crate) channels: Vec<Channel>,
-    pub(crate) starved: Vec<u32>,
-}
-
-/// A floor, its workers, and the room for its end.
+/// A floor, all its workers, and the room for its end. That lies apart from the floor: no worker touches it, and a floor that had it could be shared only
+/// where components can.
 pub struct Opened<K: Component> {
     pub floor: Floor<K>,
     pub workers: Vec<Worker<K>>,
     pub rooms: Rooms<K>,
 }
 
-/// No connection has too many senders.
-fn has_few_senders<K: Component>(net: &Net<K>) -> bool
-    requires few { length net.now.channels < 65536 }
-    ensures { result ≡ true → FewSenders net.now.channels }
+/// The same net. A net's invariant, that its connections and their senders are few, is told by its pieces alone.
+fn measured<K: Component>(net: Net<K>) -> Net<K>
+    ensures same { result ≡ net }
+    ensures few { length result.channels < 65536 }
+    ensures senders { FewSenders result.channels }
 {
-    for connection in 0..net.connections() {
-        let channel = net.channel(connection as u32);
-        if channel.open_senders() >= 65536 {
-            return false;
-        }
-        if channel.level() >= 65536 {
-            return false;
-        }
-    }
-    true
+    net.split().join()
 }
 
 /// The words at the start.
@@ -72,16 +48,18 @@ fn first_words<K: Component>(alloc: Global, net: &Net<K>) -> Result<Vec<u64>, Al
     requires senders { FewSenders net.now.channels }
     ensures { IfOk result (λ words. FirstWords net.now words.items) }
 {
-    let mut words = Vec::new(alloc);
-    for _process in 0..net.processes() {
-        words.push(2)?;
+    let layout = Layout::of(net.processes() as usize, net.connections());
+    let mut words = vec![in alloc; 0u64; layout.words()]?;
+    for process in 0..net.processes() {
+        words[layout.process_word(process as usize)] = 2;
     }
     for connection in 0..net.connections() {
         let channel = net.channel(connection as u32);
-        words.push(channel.level() as u64 + channel.open_senders() as u64 * 65536)?;
+        let word = channel.level() as u64 + channel.open_senders() as u64 * 65536;
+        words[layout.connection_word(connection)] = word;
     }
-    words.push(net.turns_made() as u64)?;
-    words.push(net.processes() as u64)?;
+    words[layout.clock()] = net.turns_made() as u64;
+    words[layout.live()] = net.processes() as u64;
     Ok(words)
 }
 
@@ -114,32 +92,6 @@ fn put_channels<K: Component>(channels: Vec<Channel>, mut slots: Vec<Slot<K>>) -
     slots
 }
 
-/// Gives up what lies in slots.
-fn discard_slots<K: Component>(slots: Vec<Slot<K>>) {
-    let mut slots = slots;
-    while let Some(slot) = slots.pop() {
-        match slot {
-            Slot::Vacant => {}
-            Slot::Body(body) => body.discard(),
-            Slot::Channel(channel) => channel.discard(),
-        }
-    }
-    slots.destroy_empty();
-}
-
-/// Gives up rooms in which nothing is.
-fn discard_rooms<K: Component>(rooms: Rooms<K>)
-    requires { (rooms.bodies.items ≡ []) × (rooms.channels.items ≡ []) }
-{
-    let Rooms {
-        bodies,
-        channels,
-        starved: _,
-    } = rooms;
-    bodies.destroy_empty();
-    channels.destroy_empty();
-}
-
 /// What is taken before a net is taken apart.
 struct Laid<K: Component> {
     words: Vec<u64>,
@@ -150,30 +102,10 @@ struct Laid<K: Component> {
     rooms: Rooms<K>,
 }
 
-/// The rooms of so many bodies and channels.
-fn rooms_of<K: Component>(
-    alloc: Global,
-    processes: usize,
-    connections: usize,
-) -> Result<Rooms<K>, AllocError>
-    ensures { IfOk result (λ r. HasRooms processes connections r) }
-{
-    let starved = Vec::with_capacity(alloc, processes)?;
-    let bodies = Vec::with_capacity(alloc, processes)?;
-    let Ok(channels) = Vec::with_capacity(alloc, connections) else {
-        bodies.destroy_empty();
-        return Err(AllocError);
-    };
-    Ok(Rooms {
-        bodies,
-        channels,
-        starved,
-    })
-}
-
 /// Takes all that a floor needs.
-fn lay<K: Component>(alloc: Global, net: &Net<K>, workers: usize) -> Result<Laid<K>, OpenStop>
-    ensures few { IfOk result (λ l. (length net.now.channels < 65536) × FewSenders net.now.channels) }
+fn lay<K: Component>(alloc: Global, net: &Net<K>, workers: u32) -> Result<Laid<K>, AllocError>
+    requires few { length net.now.channels < 65536 }
+    requires few_senders { FewSenders net.now.channels }
     ensures words { IfOk result (λ l. FirstWords net.now l.words.items) }
     ensures receivers { IfOk result (λ l. HasRows false net.now (map (λ w. w.items) l.receivers.items)) }
     ensures senders { IfOk result (λ l. HasRows true net.now (map (λ w. w.items) l.senders.items)) }
@@ -181,21 +113,15 @@ fn lay<K: Component>(alloc: Global, net: &Net<K>, workers: usize) -> Result<Laid
     ensures slots { IfOk result (λ l. (l.slots.items ≡ []) × (length net.now.bodies + length net.now.channels ≤ vec_capacity l.slots)) }
     ensures rooms { IfOk result (λ l. HasRooms (length net.now.bodies) (length net.now.channels) l.rooms) }
 {
-    if net.connections() >= 65536 {
-        return Err(OpenStop::TooWide);
-    }
-    if !has_few_senders(net) {
-        return Err(OpenStop::TooWide);
-    }
     let words = first_words(alloc, net)?;
     let receivers = rows_of(alloc, net, false)?;
     let senders = rows_of(alloc, net, true)?;
-    let crew = Vec::with_capacity(alloc, workers)?;
-    let rooms = rooms_of(alloc, net.processes() as usize, net.connections())?;
+    let crew = Vec::with_capacity(alloc, workers as usize)?;
+    let rooms = Rooms::new(alloc, net.processes() as usize, net.connections())?;
     let count = net.processes() as usize + net.connections();
     let Ok(slots) = Vec::with_capacity(alloc, count) else {
-        discard_rooms(rooms);
-        return Err(OpenStop::NoMemory);
+        rooms.discard();
+        return Err(AllocError);
     };
     Ok(Laid {
         words,
@@ -212,9 +138,10 @@ fn begin<K: Component>(
     alloc: Global,
     net: Net<K>,
     laid: Laid<K>,
-    workers: usize,
-) -> Result<Opened<K>, OpenStop>
-    requires workers { (0 < workers) × (workers ≤ 32) }
+    workers: u32,
+) -> Result<Opened<K>, OpenStop<K>>
+    requires least { 1 ≤ workers }
+    requires most { workers ≤ WORKER_LIMIT }
     requires few { (length net.channels < 65536) × FewSenders net.channels }
     requires words { FirstWords net laid.words.items }
     requires receivers { HasRows false net (map (λ w. w.items) laid.receivers.items) }
@@ -222,9 +149,11 @@ fn begin<K: Component>(
     requires crew { (laid.crew.items ≡ []) × (workers ≤ vec_capacity laid.crew) }
     requires slots { (laid.slots.items ≡ []) × (length net.bodies + length net.channels ≤ vec_capacity laid.slots) }
     requires rooms { HasRooms (length net.bodies) (length net.channels) laid.rooms }
-    ensures net { IfOk result (λ o. o.floor.table.shared.key.value ≡ net) }
-    ensures crew { IfOk result (λ o. IsCrew o.floor.table.shared.table_id o.workers.items × (length o.workers.items ≡ workers)) }
-    ensures rooms { IfOk result (λ o. HasRooms o.floor.processes o.floor.connections o.rooms) }
+    ensures opened { IfOk result (λ o. opened_net o.floor ≡ net) }
+    ensures crew { IfOk result (λ o. IsCrewOf o.floor o.workers.items × (length o.workers.items ≡ workers)) }
+    ensures fresh { IfOk result (λ o. All IsNewWorker o.workers.items) }
+    ensures rooms { IfOk result (λ o. HasRoomsFor o.floor o.rooms) }
+    ensures refused { IfErr result (λ stop. stop.net ≡ net) }
 {
     let Laid {
         words,
@@ -262,80 +191,44 @@ fn begin<K: Component>(
             })
         }
         Err(refused) => {
-            discard_slots(refused.slots);
-            discard_rooms(rooms);
-            Err(OpenStop::NoMemory)
+            let slots = refused.slots;
+            let net = join_again(&about, slots, rooms, plan, processes, connections);
+            Err(OpenStop { net })
         }
     }
 }
 
 impl<K: Component> Floor<K> {
-    /// Opens a net for so many workers. All processes are ready.
-    pub fn open(alloc: Global, net: Net<K>, workers: usize) -> Result<Opened<K>, OpenStop>
-        requires workers { (0 < workers) × (workers ≤ 32) }
-        ensures net { IfOk result (λ o. o.floor.table.shared.key.value ≡ net) }
-        ensures crew { IfOk result (λ o. IsCrew o.floor.table.shared.table_id o.workers.items × (length o.workers.items ≡ workers)) }
-        ensures rooms { IfOk result (λ o. HasRooms o.floor.processes o.floor.connections o.rooms) }
+    /// Opens a net. A worker's number is its place in the vector. All processes are ready, those that are over too. All memory that the floor ever takes
+    /// is taken here.
+    pub fn open(alloc: Global, net: Net<K>, workers: u32) -> Result<Opened<K>, OpenStop<K>>
+        requires least { 1 ≤ workers }
+        requires most { workers ≤ WORKER_LIMIT }
+        ensures opened { IfOk result (λ o. opened_net o.floor ≡ net) }
+        ensures crew { IfOk result (λ o. IsCrewOf o.floor o.workers.items × (length o.workers.items ≡ workers)) }
+        ensures fresh { IfOk result (λ o. All IsNewWorker o.workers.items) }
+        ensures rooms { IfOk result (λ o. HasRoomsFor o.floor o.rooms) }
+        ensures refused { IfErr result (λ stop. stop.net ≡ net) }
     {
+        let net = measured(net);
         match lay(alloc, &net, workers) {
             Ok(laid) => begin(alloc, net, laid, workers),
-            Err(stop) => {
-                net.discard();
-                Err(stop)
-            }
+            Err(AllocError) => Err(OpenStop { net }),
         }
+    }
+
+    /// Where its words and slots lie.
+    pub(crate) fn layout(&self) -> Layout
+        ensures processes { result.processes ≡ self.now.processes }
+        ensures connections { result.connections ≡ self.now.connections }
+    {
+        Layout::of(self.processes, self.connections)
     }
 
     /// How many processes it has.
     pub fn processes(&self) -> usize
-        ensures { result ≡ self.now.processes }
+        ensures { result ≡ process_count self.now }
     {
         self.processes
-    }
-
-    /// Splits off all other workers.
-    fn hire(&self, mut crew: Vec<Worker<K>>, mut first: Worker<K>, workers: usize) -> Vec<Worker<K>>
-        requires workers { (0 < workers) × (workers ≤ 32) }
-        requires crew { (crew.items ≡ []) × (workers ≤ vec_capacity crew) }
-        requires first { IsIdle self.now.table.shared.table_id first × ((view first).shares ≡ 32) }
-        ensures { IsCrew self.now.table.shared.table_id result.items × (length result.items ≡ workers) }
-    {
-        for _i in 1..workers {
-            let other = self.split(&mut first);
-            crew.push_reserved(other);
-        }
-        crew.push_reserved(first);
-        crew
-    }
-
-    /// One worker takes in the turns of all others.
-    fn gather(&self, mut first: Worker<K>, mut workers: Vec<Worker<K>>) -> Worker<K>
-        requires { IsCrew self.now.table.shared.table_id (workers.items ++ first ∷ []) }
-        ensures all { IsIdle self.now.table.shared.table_id result × ((view result).shares ≡ 32) }
-        ensures made { (view result).made ≡ made_by (workers.items ++ first ∷ []) }
-        ensures zero { (view first).read_zero ≡ true → (view result).read_zero ≡ true }
-    {
-        while let Some(worker) = workers.pop() {
-            self.join(&mut first, worker);
-        }
-        first
-    }
-
-    /// Puts the net together again, from all workers, each of which read 0. The opened net goes on to it by their turns. It is quiet where no process
-    /// found no memory. Takes no memory: the room for this was taken when the floor was opened.
-    pub fn close(self, workers: Vec<Worker<K>>, rooms: Rooms<K>) -> Closed<K>
-        requires crew { IsCrew self.table.shared.table_id workers.items }
-        requires zero { All (λ w. (view w).read_zero ≡ true) workers.items }
-        requires rooms { HasRooms self.processes self.connections rooms }
-        ensures net { IsShut K.shape_of K.uses K.ready K.next self.table.shared.key.value (made_by workers.items) result.net }
-        ensures starved { AllUnset result.net result.starved.items }
-        ensures quiet { result.starved.items ≡ [] → IsQuietNet result.net }
-    {
-        let mut workers = workers;
-        let Some(last) = workers.pop() else {
-            unreachable!()
-        };
-        let all = self.gather(last, workers);
-        self.shut(all, rooms)
     }
 }

@@ -1,5 +1,5 @@
 //! What each step tells.
-ghost use Rattle.flow_floor.specs.Plays.{claimed, grabbed, saw, stamped, released, left, parked, retired, raised, poked, lowered, told_live};
+ghost use Rattle.flow_floor.specs.Plays.{ordered, claimed, grabbed, saw, stamped, released, left, parked, retired, raised, poked, lowered, told_live};
 
 use crate::board::{Slot, View};
 use atomic_table::{Join, Play, Split};
@@ -63,7 +63,7 @@ pub struct Take<S: Spot> {
 }
 
 impl<K: Component, S: Spot> Play<Slot<K>, View<K>> for Take<S> {
-    ghost then = { claimed S.connection };
+    ghost then = { λ st. claimed S.connection (ordered st) };
 }
 
 pub struct Grab<S: Spot> {
@@ -71,13 +71,13 @@ pub struct Grab<S: Spot> {
 }
 
 impl<K: Component, S: Spot> Play<Slot<K>, View<K>> for Grab<S> {
-    ghost then = { grabbed K.shape_of K.uses K.ready S.connection S.most };
+    ghost then = { λ st. grabbed K.shape_of K.uses K.ready S.connection S.most (ordered st) };
 }
 
 pub struct Look;
 
 impl<K: Component> Play<Slot<K>, View<K>> for Look {
-    ghost then = { saw };
+    ghost then = { λ st. saw (ordered st) };
 }
 
 pub struct Stamp<D> {
@@ -105,7 +105,7 @@ impl<K: Component> Play<Slot<K>, View<K>> for Leave {
 pub struct Park;
 
 impl<K: Component> Play<Slot<K>, View<K>> for Park {
-    ghost then = { parked };
+    ghost then = { λ st. parked (ordered st) };
 }
 
 pub struct Retire;
@@ -135,7 +135,7 @@ impl<K: Component> Play<Slot<K>, View<K>> for Lower {
 pub struct Live;
 
 impl<K: Component> Play<Slot<K>, View<K>> for Live {
-    ghost then = { told_live };
+    ghost then = { λ st. told_live (ordered st) };
 }
 
 /// How a seat is cut in two.

@@ -1,17 +1,22 @@
 //! How a floor is taken apart.
-ghost use Rattle.std.specs.Prelude.{◌≡◌, ℕ, ◌+◌, ◌<◌, ◌≤◌, [], length, map, take, drop, Some, None, true, vec_len, vec_capacity, slice_index_or, false};
+ghost use Rattle.std.specs.Prelude.{◌≡◌, ℕ, ◌+◌, ◌<◌, ◌≤◌, All, [], length, map, take, drop, Some, None, true, vec_len, vec_capacity, slice_index_or, false};
 ghost use Rattle.std.specs.Mem.Slots.{slots_items, slots_filled, slots_len, IsFull};
-ghost use Rattle.flow_floor.specs.Opening.{HasRooms};
+ghost use Rattle.flow_ring.specs.Places.{word_count};
+ghost use Rattle.flow_ring.specs.Spaced.{ranked};
+ghost use Rattle.flow_limits.specs.declared.TheConstants.{WORKER_LIMIT};
+ghost use Rattle.flow_floor.specs.Crew.{made_by};
+ghost use Rattle.flow_floor.specs.Floors.{opened_net, HasReadZero, HasRoomsFor, IsCrewOf, IsIdleAt, turns_of};
 ghost use Rattle.flow_machine.specs.Quiet.{AllUnset, IsQuietNet};
 ghost use Rattle.flow_floor.specs.Shut.{HasBodies, HasChannels, BodiesIn, ChannelsIn, IsShut, ListsStarved, is_over_stage, starves, listed};
-ghost use Rattle.flow_floor.specs.Workers.{view, IsIdle};
+ghost use Rattle.flow_floor.specs.Workers.{view};
 
 use crate::board::Slot;
 use crate::floor::{Floor, Worker};
-use crate::open::Rooms;
+use crate::rooms::Rooms;
 use atomic_table::Closed;
 use flow_component::Component;
 use flow_machine::{Body, Channel, Closed as Shut, Parts, Stage};
+use flow_ring::Layout;
 use std::alloc::Global;
 
 /// Takes the bodies out of the first slots.
@@ -23,7 +28,7 @@ fn take_bodies<K: Component>(
     requires full { IsFull closed.old.slots }
     requires stocked { HasBodies count (slots_items closed.old.slots) }
     requires range { count ≤ slots_len closed.old.slots }
-    requires room { (bodies.items ≡ []) × (count ≤ vec_capacity bodies) }
+    requires room { (length bodies.items ≡ 0) × (count ≤ vec_capacity bodies) }
     ensures bodies { BodiesIn count (slots_items closed.old.slots) result.items }
     ensures same { (slots_items closed.new.slots ≡ slots_items closed.old.slots) × (slots_len closed.new.slots ≡ slots_len closed.old.slots) }
     ensures words { closed.new.words ≡ closed.old.words }
@@ -51,7 +56,7 @@ fn take_channels<K: Component>(
     requires left { (k : ℕ) → first ≤ k → k < slots_len closed.old.slots → slice_index_or (slots_filled closed.old.slots) k false ≡ true }
     requires stocked { HasChannels first count (slots_items closed.old.slots) }
     requires range { slots_len closed.old.slots ≡ first + count }
-    requires room { (channels.items ≡ []) × (count ≤ vec_capacity channels) }
+    requires room { (length channels.items ≡ 0) × (count ≤ vec_capacity channels) }
     ensures channels { ChannelsIn first count (slots_items closed.old.slots) result.items }
     ensures all { (k : ℕ) → k < slots_len closed.new.slots → slice_index_or (slots_filled closed.new.slots) k false ≡ false }
 {
@@ -101,38 +106,37 @@ fn with_starved(mut starved: Vec<u32>, process: u32, is: bool) -> Vec<u32>
 /// The processes that are neither parked nor over.
 fn list_starved<K: Component>(
     closed: &Closed<Slot<K>, Global>,
+    layout: Layout,
     bodies: &[Body<K>],
     mut starved: Vec<u32>,
 ) -> Vec<u32>
     requires full { IsFull closed.now.words }
-    requires range { length bodies.now ≤ slots_len closed.now.words }
+    requires bodies { length bodies.now ≡ layout.processes }
+    requires range { slots_len closed.now.words ≡ word_count layout.processes layout.connections }
     requires few { length bodies.now < 4294967296 }
-    requires room { (starved.items ≡ []) × (length bodies.now ≤ vec_capacity starved) }
-    ensures { ListsStarved (slots_items closed.now.words) bodies.now (length bodies.now) result.items }
+    requires room { (length starved.items ≡ 0) × (length bodies.now ≤ vec_capacity starved) }
+    ensures { ListsStarved (ranked (slots_items closed.now.words)) bodies.now (length bodies.now) result.items }
 {
     for process in 0..bodies.len() {
-        let is = starves(closed.word(process), &bodies[process]);
+        let word = closed.word(layout.process_word(process));
+        let is = starves(word, &bodies[process]);
         starved = with_starved(starved, process as u32, is);
     }
     starved
 }
 
 impl<K: Component> Floor<K> {
-    /// The net after all turns, from a worker that took in all others, and the processes that found no memory. The rooms were taken before.
-    pub(crate) fn shut(self, worker: Worker<K>, rooms: Rooms<K>) -> Shut<K>
-        requires worker { IsIdle self.table.shared.table_id worker }
-        requires all { (view worker).shares ≡ 32 }
-        requires rooms { HasRooms self.processes self.connections rooms }
-        ensures net { IsShut K.shape_of K.uses K.ready K.next self.table.shared.key.value (view worker).made result.net }
-        ensures starved { (view worker).read_zero ≡ true → AllUnset result.net result.starved.items }
-        ensures quiet { (view worker).read_zero ≡ true → result.starved.items ≡ [] → IsQuietNet result.net }
+    /// The net after all turns, from a worker that took in all others, and the processes that found no memory.
+    fn shut(self, worker: Worker<K>, rooms: Rooms<K>) -> Shut<K>
+        requires worker { IsIdleAt self worker }
+        requires all { (view worker).shares ≡ WORKER_LIMIT }
+        requires rooms { HasRoomsFor self rooms }
+        ensures net { IsShut K.shape_of K.uses K.ready K.next (opened_net self) (turns_of worker) result.net }
+        ensures starved { HasReadZero worker → AllUnset result.net result.starved.items }
+        ensures quiet { HasReadZero worker → result.starved.items ≡ [] → IsQuietNet result.net }
     {
         let Worker { seat } = worker;
-        let Rooms {
-            bodies,
-            channels,
-            starved,
-        } = rooms;
+        let layout = self.layout();
         let Floor {
             table,
             processes,
@@ -141,9 +145,14 @@ impl<K: Component> Floor<K> {
             receivers: _,
             senders: _,
         } = self;
+        let Rooms {
+            bodies,
+            channels,
+            starved,
+        } = rooms;
         let mut closed = table.close_with(seat);
         let bodies = take_bodies(&mut closed, processes, bodies);
-        let starved = list_starved(&closed, bodies.as_slice(), starved);
+        let starved = list_starved(&closed, layout, bodies.as_slice(), starved);
         let channels = take_channels(&mut closed, processes, connections, channels);
         closed.free();
         let parts = Parts {
@@ -155,5 +164,42 @@ impl<K: Component> Floor<K> {
             net: parts.join(),
             starved,
         }
+    }
+
+    /// Puts the net together again, whether or not the workers read 0.
+    fn rejoin(self, workers: Vec<Worker<K>>, rooms: Rooms<K>) -> Shut<K>
+        requires crew { IsCrewOf self workers.items }
+        requires rooms { HasRoomsFor self rooms }
+        ensures net { IsShut K.shape_of K.uses K.ready K.next (opened_net self) (made_by workers.items) result.net }
+        ensures starved { All HasReadZero workers.items → AllUnset result.net result.starved.items }
+        ensures quiet { All HasReadZero workers.items → result.starved.items ≡ [] → IsQuietNet result.net }
+    {
+        let mut workers = workers;
+        let Some(last) = workers.pop() else {
+            unreachable!()
+        };
+        let all = self.gather(last, workers);
+        self.shut(all, rooms)
+    }
+
+    /// Puts the net together again, from all workers, each of which read 0. The opened net goes on to it by their turns. It is quiet where no process
+    /// found no memory. Takes no memory: the room for this was taken when the floor was opened.
+    pub fn close(self, workers: Vec<Worker<K>>, rooms: Rooms<K>) -> Shut<K>
+        requires crew { IsCrewOf self workers.items }
+        requires rooms { HasRoomsFor self rooms }
+        requires zero { All HasReadZero workers.items }
+        ensures net { IsShut K.shape_of K.uses K.ready K.next (opened_net self) (made_by workers.items) result.net }
+        ensures starved { AllUnset result.net result.starved.items }
+        ensures quiet { result.starved.items ≡ [] → IsQuietNet result.net }
+    {
+        self.rejoin(workers, rooms)
+    }
+
+    /// Gives the run up, and spends all that the floor holds. The workers needn't have read 0. Takes no memory.
+    pub fn discard(self, workers: Vec<Worker<K>>, rooms: Rooms<K>)
+        requires crew { IsCrewOf self workers.items }
+        requires rooms { HasRoomsFor self rooms }
+    {
+        self.rejoin(workers, rooms).discard();
     }
 }

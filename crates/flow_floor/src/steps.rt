@@ -33,11 +33,13 @@ impl<K: Component> Floor<K> {
         ensures { MatchGrabbed result (λ w. (held_bit ≤ w) × IsHeldBy K.next self.now.table.shared.table_id self.now.processes worker.new held.now × (view worker.new ≡ seeing (view worker.old) (self.now.processes + connection) w)) (λ w k. IsGrabbing K.next self.now.table.shared.table_id self.now.processes worker.new held.now connection k × HasGrabbed K.shape_of K.uses K.ready worker.old worker.new (self.now.processes + connection) connection (capacity_at self.now.table.shared.key.value.channels connection) w k) }
     {
         let shared = &self.table.shared;
-        let word = shared.fetch_or::<Grab<S>>(&mut worker.seat, self.processes + connection, HELD);
+        let place = self.layout().connection_word(connection);
+        let word = shared.fetch_or::<Grab<S>>(&mut worker.seat, place, HELD);
         if word >= HELD {
             return Grabbed::Busy(word);
         }
-        let old = shared.exchange(&mut worker.seat, self.processes + connection, Slot::Vacant);
+        let slot = self.layout().channel_slot(connection);
+        let old = shared.exchange(&mut worker.seat, slot, Slot::Vacant);
         let Slot::Channel(channel) = old else {
             unreachable!()
         };
@@ -59,7 +61,7 @@ impl<K: Component> Floor<K> {
         ensures machine { MachineTurn K.shape_of K.uses K.ready K.next self.now.table.shared.key.value result held.now.process held.now.body D.event }
     {
         let _ = held;
-        let clock = self.processes + self.connections;
+        let clock = self.layout().clock();
         let found = self
             .table
             .shared
@@ -89,13 +91,11 @@ impl<K: Component> Floor<K> {
         let shared = &self.table.shared;
         let level = channel.level() as u64;
         let word = level + channel.open_senders() as u64 * 65536;
-        let old = shared.exchange(
-            &mut worker.seat,
-            self.processes + connection,
-            Slot::Channel(channel),
-        );
+        let slot = self.layout().channel_slot(connection);
+        let old = shared.exchange(&mut worker.seat, slot, Slot::Channel(channel));
         let Slot::Vacant = old else { unreachable!() };
-        shared.swap::<Release<N>>(&mut worker.seat, self.processes + connection, word);
+        let place = self.layout().connection_word(connection);
+        shared.swap::<Release<N>>(&mut worker.seat, place, word);
     }
 }
 

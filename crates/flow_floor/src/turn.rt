@@ -9,6 +9,7 @@ ghost use Rattle.flow_model.specs.States.{Text};
 ghost use Rattle.flow_floor.specs.Law.{IsInput};
 ghost use Rattle.flow_floor.specs.Waking.{InList, IsOutput};
 ghost use Rattle.flow_floor.specs.Turns.{Turns};
+ghost use Rattle.flow_floor.specs.Floors.{IsHeldAt, IsSameWorker, IsWiredAt, TurnsAt};
 ghost use Rattle.flow_floor.specs.Workers.{view, IsHeldBy, IsSameSeat};
 
 use crate::floor::{Floor, Held, Turned, Worker};
@@ -62,13 +63,13 @@ impl<K: Component> Floor<K> {
 
     /// A turn of the held body, if it has one now. Where it is blocked it may be parked. Takes no memory.
     pub fn turn(&self, worker: &mut Worker<K>, held: &mut Held<K>) -> Turned
-        requires held { IsHeldBy K.next self.now.table.shared.table_id self.now.processes worker.old held.old }
-        requires wired { IsWiredBody self.now.connections held.old.body }
+        requires held { IsHeldAt K.next self.now worker.old held.old }
+        requires wired { IsWiredAt self.now held.old }
         requires set { IsSet held.old.body }
-        ensures held { IsHeldBy K.next self.now.table.shared.table_id self.now.processes worker.new held.new }
-        ensures wired { IsWiredBody self.now.connections held.new.body }
-        ensures turned { Turns K.shape_of K.uses K.ready K.next self.now.processes self.now.table.shared.key.value held.old worker.old held.new worker.new result }
-        ensures seat { IsSameSeat (view worker.old) (view worker.new) }
+        ensures held { IsHeldAt K.next self.now worker.new held.new }
+        ensures wired { IsWiredAt self.now held.new }
+        ensures turned { TurnsAt K.shape_of K.uses K.ready K.next self.now held.old worker.old held.new worker.new result }
+        ensures seat { IsSameWorker worker.old worker.new }
     {
         match held.body.case() {
             Case::Idle => self.idle_turn(worker, held),

@@ -20,9 +20,10 @@ impl<K: Component> Floor<K> {
     {
         let _ = held;
         let shared = &self.table.shared;
-        let live = self.processes + self.connections + 1;
+        let live = self.layout().live();
         shared.fetch_add::<Raise>(&mut worker.seat, live, 1);
-        let found = shared.fetch_or::<Poke>(&mut worker.seat, notes[i] as usize, POKE);
+        let place = self.layout().process_word(notes[i] as usize);
+        let found = shared.fetch_or::<Poke>(&mut worker.seat, place, POKE);
         if found != 0 {
             shared.fetch_sub::<Lower>(&mut worker.seat, live, 1);
         }

@@ -1,4 +1,4 @@
--- How the floor's words read, and where its words and slots lie.
+-- How the floor's words read.
 use Rattle.std.specs.Prelude.{ℕ, ◌+◌, ◌*◌, ◌/◌, ◌%◌, Bool, if◌then◌else◌}
 
 -- A connection word: the level in bits 0 to 15, the open senders in bits 16 to 31, and whether a worker holds it in bit 63.
@@ -20,15 +20,3 @@ level_in word = word % 65536
 -- The open senders in a word.
 abbrev pub senders_in : ℕ → ℕ
 senders_in word = word / 65536 % 65536
-
--- Words: those of the processes, those of the connections, the clock, and the live word. Slots lie in the same order.
-abbrev pub connection_at : ℕ → ℕ → ℕ
-connection_at processes connection = processes + connection
-
--- The number of the clock word.
-abbrev pub clock_at : ℕ → ℕ → ℕ
-clock_at processes connections = processes + connections
-
--- The number of the live word.
-abbrev pub live_at : ℕ → ℕ → ℕ
-live_at processes connections = processes + connections + 1

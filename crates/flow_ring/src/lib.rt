@@ -1,8 +1,12 @@
 //! The floor's words and slots: where they lie, and how a word reads.
 #![tactic(auto)]
 
-ghost use Rattle.std.specs.Prelude.{◌≡◌, ◌+◌, ◌<◌, ◌≤◌, ◌^◌, ◌==◌, nat_le};
-ghost use Rattle.flow_ring.specs.Words.{packed, level_in, senders_in, held_bit, connection_at, clock_at, live_at};
+ghost use Rattle.std.specs.Prelude.{◌≡◌, ◌<◌, nat_le};
+ghost use Rattle.flow_ring.specs.Words.{packed, level_in, senders_in, held_bit};
+
+mod layout;
+
+pub use layout::{Layout, SPACING};
 
 const HELD: u64 = 1 << 63;
 
@@ -37,12 +41,4 @@ pub fn held(word: u64) -> bool
     ensures { result ≡ nat_le held_bit word }
 {
     word >= HELD
-}
-
-/// Where words and slots lie.
-#[derive(Clone, Copy)]
-pub struct Layout {
-    processes: usize,
-    connections: usize,
-    ghost small: { processes + connections < 2 ^ 32 },
 }

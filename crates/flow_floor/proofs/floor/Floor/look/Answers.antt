@@ -1,10 +1,20 @@
-use Rattle.std.proofs.Common.{◌+◌, ◌<◌, arith, sym, ap, ◌∙◌, subst}
+use Rattle.std.proofs.Common.{◌≡◌, ◌+◌, ◌/◌, ℕ, ◌<◌, arith, sym, ap, ◌∙◌, subst}
 use Rattle.flow_floor.proofs.Keeps.{looks}
+use Rattle.flow_floor.proofs.Spacing.{apart}
+use mathlib.Core.Option.{none}
+use Rattle.atomic_table.specs.Table.{step}
+use Rattle.flow_ring.specs.declared.layout.TheConstants.{SPACING}
+use Rattle.flow_floor.specs.Workers.{view}
+use Rattle.flow_floor.specs.Plays.{saw, seeing}
 use Rattle.flow_floor.proofs.floor.Floor.look.Goals as goal
 
 pub load-requires : goal.load-requires
-load-requires g c = let f = c.args.self.now in let q = c.requires.held in
-    (q.calm.table, omega (arith, f.words, c.requires.range), looks g.K.Component.shape_of g.K.Component.uses g.K.Component.ready g.K.Component.next g.met.K.Component.obeys g.met.K.Component.stays_ready g.met.K.Component.steady f.table.shared.key.value _ _ _ c.args.held.now.process c.args.connection _ q.agrees.base (ap (λ n. n + c.args.connection) (sym f.bodies)) q.agrees.held q.calm.grab)
+load-requires g c = let f = c.args.self.now in let q = c.requires.held in let s = c.args.worker.now.seat in let place = c.connection_word-place.ensures in (
+  q.calm.table,
+  omega (arith, f.words, c.layout.ensures.processes, place, c.requires.range),
+  apart g.K.Component.shape_of g.K.Component.uses g.K.Component.ready g.K.Component.next f.table.shared.key.value f.table.shared.table_id.slots s.id s.me (f.processes + c.args.connection) c.connection_word-place.result (λ n. n) (λ i. saw (step f.table.shared.table_id.slots i 0 0 none) s.me) (omega (arith, place, c.layout.ensures.processes))
+      (looks g.K.Component.shape_of g.K.Component.uses g.K.Component.ready g.K.Component.next g.met.K.Component.obeys g.met.K.Component.stays_ready g.met.K.Component.steady f.table.shared.key.value _ _ _ c.args.held.now.process c.args.connection _ q.agrees.base (ap (λ n. n + c.args.connection) (sym f.bodies)) q.agrees.held q.calm.grab),
+)
 
 pub returns-clause-held : goal.returns-clause-held
 returns-clause-held g c = let q = c.requires.held in let e = c.load.ensures in let v = ap (λ m. m.0) e.2 in record {
@@ -13,3 +23,8 @@ returns-clause-held g c = let q = c.requires.held in let e = c.load.ensures in l
   agrees = record { base = q.agrees.base; held = ap (λ x. x.held) v ∙ q.agrees.held; rests = q.agrees.rests; whole = q.agrees.whole };
   slots = ap (λ m. m.1) e.2 ∙ q.slots;
 }
+
+pub returns-clause-view : goal.returns-clause-view
+returns-clause-view g c = let f = c.args.self.now in let place = c.connection_word-place.ensures in
+    let order : c.connection_word-place.result / SPACING ≡ f.processes + c.args.connection = omega (arith, place, c.layout.ensures.processes) in
+    ap (λ m. m.0) c.load.ensures.2 ∙ ap (λ (i : ℕ). seeing (view c.args.worker.now) i c.load.result) order

@@ -1,0 +1,84 @@
+-- What callers of other crates say of a floor, its workers and what they hold.
+use Rattle.std.specs.Prelude.{◌≡◌, ℕ, Bool, true, false, List, []}
+use Rattle.flow_packet.specs.Held.{Held as Hands}
+use Rattle.flow_component.specs.declared.Answer.{Answer}
+use Rattle.flow_component.specs.declared.Shape.{Shape}
+use Rattle.flow_component.specs.Laws.{Outcome}
+use Rattle.flow_machine.specs.FitNets.{IsWiredBody}
+use Rattle.flow_machine.specs.Values.{NetValue}
+use Rattle.flow_machine.specs.declared.answers.Over.{Over}
+use Rattle.flow_floor.specs.declared.floor.Floor.{Floor}
+use Rattle.flow_floor.specs.declared.floor.Held.{Held}
+use Rattle.flow_floor.specs.declared.floor.Turned.{Turned}
+use Rattle.flow_floor.specs.declared.floor.Worker.{Worker}
+use Rattle.flow_floor.specs.declared.rooms.Rooms.{Rooms}
+use Rattle.flow_floor.specs.Crew.{IsCrew}
+use Rattle.flow_floor.specs.Rooms.{HasRooms}
+use Rattle.flow_floor.specs.Turns.{Turns}
+use Rattle.flow_floor.specs.Workers.{view, IsIdle, IsHeldBy, IsSameSeat, RetiresAs, SeenBlocks}
+
+module _ {K : Type 0} where
+  -- The net with which the floor was opened.
+  abbrev pub opened_net : Floor K → NetValue K
+  opened_net f = f.table.shared.key.value
+
+  -- How many processes it has.
+  abbrev pub process_count : Floor K → ℕ
+  process_count f = f.processes
+
+  -- How many connections it has.
+  abbrev pub connection_count : Floor K → ℕ
+  connection_count f = f.connections
+
+  -- There is room for all that lies on the floor, and for a list of its processes.
+  abbrev pub HasRoomsFor : Floor K → Rooms K → Type 0
+  HasRoomsFor f r = HasRooms (process_count f) (connection_count f) r
+
+  -- The turns that the worker made: the stamp and the process of each.
+  abbrev pub turns_of : Worker K → List (ℕ × ℕ)
+  turns_of w = (view w).made
+
+  -- The worker once read that no process is ready or held.
+  abbrev pub HasReadZero : Worker K → Type 0
+  HasReadZero w = (view w).read_zero ≡ true
+
+  -- The worker has made no turn, and hasn't read 0.
+  abbrev pub IsNewWorker : Worker K → Type 0
+  IsNewWorker w = (turns_of w ≡ []) × ((view w).read_zero ≡ false)
+
+  -- The worker is one of this floor's, and holds nothing.
+  abbrev pub IsIdleAt : Floor K → Worker K → Type 0
+  IsIdleAt f w = IsIdle f.table.shared.table_id w
+
+  -- These are all workers of this floor, and none of them holds anything.
+  abbrev pub IsCrewOf : Floor K → List (Worker K) → Type 0
+  IsCrewOf f ws = IsCrew f.table.shared.table_id ws
+
+  -- The worker is one of this floor's, and holds this body and nothing else.
+  abbrev pub IsHeldAt : (K → Hands → Answer → Outcome K → Type 0) → Floor K → Worker K → Held K → Type 0
+  IsHeldAt next f w h = IsHeldBy next f.table.shared.table_id (process_count f) w h
+
+  -- Each connection at a port of the held body is one of this floor's.
+  abbrev pub IsWiredAt : Floor K → Held K → Type 0
+  IsWiredAt f h = IsWiredBody (connection_count f) h.body
+
+  -- The worker has seen the body that it holds blocked: what it read since the claim, or since its last turn, leaves the process no turn, as long as the
+  -- words still say so; and the body owes no work.
+  abbrev pub IsStuckAt : Floor K → Worker K → Held K → Type 0
+  IsStuckAt f w h = SeenBlocks (opened_net f) h.body (view w).seen
+
+  -- What a call for a turn tells, where the worker and the body that it holds were `w` and `h`, and now are `w'` and `h'`.
+  abbrev pub TurnsAt : (K → Shape) → (K → ℕ → Bool) → (K → Hands → Answer → Type 0) → (K → Hands → Answer → Outcome K → Type 0) → Floor K → Held K → Worker K → Held K → Worker K → Turned → Type 0
+  TurnsAt shape_of uses ready next f h w h' w' turned = Turns shape_of uses ready next (process_count f) (opened_net f) h w h' w' turned
+
+  -- The held body may be retired so: its process has ended, or has failed, or its last thought found no memory.
+  abbrev pub IsOverAs : Over → Held K → Type 0
+  IsOverAs over h = RetiresAs over h.body
+
+  -- The worker has the same share of its floor.
+  abbrev pub HasSameShare : Worker K → Worker K → Type 0
+  HasSameShare old new = (view new).shares ≡ (view old).shares
+
+  -- It has the same share, and has read 0 just where it had before.
+  abbrev pub IsSameWorker : Worker K → Worker K → Type 0
+  IsSameWorker old new = IsSameSeat (view old) (view new)
