@@ -1,0 +1,33 @@
+-- What an attempt at a turn says of the process.
+use Rattle.std.proofs.Common.{◌≡◌, ap, sym, subst, ◌∙◌, Some}
+use Rattle.flow_machine.specs.Values.{BodyValue}
+use Rattle.flow_machine.specs.Answers.{case_of}
+use Rattle.flow_machine.specs.declared.answers.Over.{Over}
+use Rattle.flow_machine.specs.declared.answers.Over.TheVariants as overs
+use Rattle.flow_machine.specs.declared.answers.Case.TheVariants as cases
+use Rattle.flow_machine.proofs.NetTurns.{case-is}
+use Rattle.flow_floor.specs.declared.board.View.{View}
+use Rattle.flow_floor.specs.declared.floor.Floor.{Floor}
+use Rattle.flow_floor.specs.declared.floor.Worker.{Worker}
+use Rattle.flow_floor.specs.declared.floor.Held.{Held}
+use Rattle.flow_floor.specs.Floors.{IsStuckAt}
+use Rattle.flow_floor.specs.Workers.{RetiresAs, IsSameSeat}
+
+-- A process that has no further turn is over, and may be retired as such.
+pub over-as : {K : Type 0} (over : Over) (b : BodyValue K) → case_of b.process ≡ Some (cases.Over over) → RetiresAs over b
+over-as overs.Ended b is = case-is b.process (cases.Over overs.Ended) is
+over-as overs.Failed b is = case-is b.process (cases.Over overs.Failed) is
+over-as overs.Starved b is = absurd (case-is b.process (cases.Over overs.Starved) is)
+
+module _ {K : Type 0} where
+  -- What blocked a body still does after a call that left the body as it was.
+  pub stuck-still : (floor : Floor K) (w : Worker K) (h h' : Held K) → h' ≡ h → IsStuckAt floor w h → IsStuckAt floor w h'
+  stuck-still floor w h h' same stuck = subst (λ x. IsStuckAt floor w x) (sym same) stuck
+
+  -- A worker that is the same after one call and after the next is the same after both.
+  pub same-trans : (u v w : View K) → IsSameSeat u v → IsSameSeat v w → IsSameSeat u w
+  same-trans u v w a b = record { shares = b.shares ∙ a.shares; zero = b.zero ∙ a.zero }
+
+  -- A view that kept share and zero is the same worker's.
+  pub same-view : (u v w : View K) → w ≡ v → v.shares ≡ u.shares → v.read_zero ≡ u.read_zero → IsSameSeat u w
+  same-view u v w e s z = record { shares = ap (λ x. x.shares) e ∙ s; zero = ap (λ x. x.read_zero) e ∙ z }

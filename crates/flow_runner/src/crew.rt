@@ -1,0 +1,79 @@
+//! The workers together.
+ghost use Rattle.flow_floor.specs.Floors.{HasReadZero, HasSameShare, IsCrewOf, IsIdleAt};
+ghost use Rattle.flow_limits.specs.declared.TheConstants.{WORKER_LIMIT};
+ghost use Rattle.flow_machine.specs.Quiet.{AllUnset, IsQuietNet};
+ghost use Rattle.flow_machine.specs.Solo.{ReachesNet};
+ghost use Rattle.std.specs.Prelude.{◌≡◌, ◌≤◌, All, IfOk, []};
+
+use crate::serve::serve;
+use flow_component::{Component, Gate};
+use flow_floor::{Floor, OpenStop, Opened, Worker};
+use flow_limits::WORKER_LIMIT;
+use flow_machine::{Closed, Net};
+use std::alloc::Global;
+use std::sync::Wait;
+use std::thread;
+use std::thread::Threads;
+
+/// Why a network isn't run. It is given up then.
+#[derive(Clone, Copy, Debug, PartialEq, Eq)]
+pub enum RunStop {
+    NoMemory,
+}
+
+/// Has each worker make turns in a thread of its own.
+fn serve_all<K: Component + Send, G: Gate + Sync, R: Threads + Wait + Sync>(
+    rt: &R,
+    floor: &Floor<K>,
+    crew: &mut [Worker<K>],
+    workers: u32,
+    gate: &G,
+)
+    requires least { 1 ≤ workers }
+    requires crew { IsCrewOf floor.now crew.old }
+    ensures crew { IsCrewOf floor.now crew.new }
+    ensures zero { All HasReadZero crew.new }
+{
+    thread::for_each_mut(
+        rt,
+        crew,
+        workers as usize,
+        &|number: usize, worker: &mut Worker<K>|
+            requires { IsIdleAt floor.now worker.old }
+            ensures idle { IsIdleAt floor.entry.now worker.new }
+            ensures share { HasSameShare worker.old worker.new }
+            ensures zero { HasReadZero worker.new }
+        { serve(rt, floor, worker, number, gate) },
+    );
+}
+
+/// Runs a network by so many workers, each in a thread of its own, until no process will ever have a turn again. Takes memory for the floor and for
+/// what the components do, and none for a turn.
+pub fn run<K: Component + Send, G: Gate + Sync, R: Threads + Wait + Sync>(
+    rt: &R,
+    alloc: Global,
+    net: Net<K>,
+    workers: u32,
+    gate: &G,
+) -> Result<Closed<K>, RunStop>
+    requires least { 1 ≤ workers }
+    requires most { workers ≤ WORKER_LIMIT }
+    ensures reaches { IfOk result (λ closed. ReachesNet K.shape_of K.uses K.ready K.next net closed.net) }
+    ensures starved { IfOk result (λ closed. AllUnset closed.net closed.starved.items) }
+    ensures quiet { IfOk result (λ closed. closed.starved.items ≡ [] → IsQuietNet closed.net) }
+{
+    let opened = match Floor::open(alloc, net, workers) {
+        Ok(opened) => opened,
+        Err(OpenStop { net }) => {
+            net.discard();
+            return Err(RunStop::NoMemory);
+        }
+    };
+    let Opened {
+        floor,
+        workers: mut crew,
+        rooms,
+    } = opened;
+    serve_all(rt, &floor, crew.as_mut_slice(), workers, gate);
+    Ok(floor.close(crew, rooms))
+}

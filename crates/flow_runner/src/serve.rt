@@ -1,0 +1,86 @@
+//! What one worker does.
+ghost use Rattle.flow_floor.specs.Floors.{HasReadZero, HasSameShare, IsIdleAt, IsSameWorker, process_count};
+ghost use Rattle.std.specs.Prelude.{◌≡◌, ◌≤◌};
+
+use crate::work::tend;
+use crossbeam_utils::Backoff;
+use flow_component::{Component, Gate};
+use flow_floor::{Floor, Worker};
+use std::sync::Wait;
+
+/// The process at which the worker of this number begins, so that the workers start out apart.
+fn first_of(number: usize, processes: usize) -> usize
+    ensures { result ≤ processes }
+{
+    if processes == 0 {
+        0
+    } else {
+        number % processes
+    }
+}
+
+/// Tends the processes from one number up to another. False: nothing came of it.
+fn pass<K: Component, G: Gate>(
+    floor: &Floor<K>,
+    worker: &mut Worker<K>,
+    from: usize,
+    to: usize,
+    gate: &G,
+) -> bool
+    requires idle { IsIdleAt floor.now worker.old }
+    requires range { to ≤ process_count floor.now }
+    ensures idle { IsIdleAt floor.now worker.new }
+    ensures same { IsSameWorker worker.old worker.new }
+{
+    let mut tended = false;
+    for process in from..to {
+        if tend(floor, worker, process, gate) {
+            tended = true;
+        }
+    }
+    tended
+}
+
+/// Tends each process once, from this one on and round. False: nothing came of it.
+fn go_round<K: Component, G: Gate>(
+    floor: &Floor<K>,
+    worker: &mut Worker<K>,
+    first: usize,
+    gate: &G,
+) -> bool
+    requires idle { IsIdleAt floor.now worker.old }
+    requires first { first ≤ process_count floor.now }
+    ensures idle { IsIdleAt floor.now worker.new }
+    ensures same { IsSameWorker worker.old worker.new }
+{
+    let behind = pass(floor, worker, first, floor.processes(), gate);
+    let before = pass(floor, worker, 0, first, gate);
+    behind || before
+}
+
+/// Makes turns until no process will ever have one again. Where nothing comes of a round the other workers are given way.
+pub(crate) fn serve<K: Component, G: Gate, R: Wait>(
+    rt: &R,
+    floor: &Floor<K>,
+    worker: &mut Worker<K>,
+    number: usize,
+    gate: &G,
+)
+    requires idle { IsIdleAt floor.now worker.old }
+    ensures idle { IsIdleAt floor.now worker.new }
+    ensures share { HasSameShare worker.old worker.new }
+    ensures zero { HasReadZero worker.new }
+{
+    let first = first_of(number, floor.processes());
+    let backoff = Backoff::new();
+    for _ in rt.forever() {
+        if go_round(floor, worker, first, gate) {
+            backoff.reset();
+        } else if floor.live(worker) == 0 {
+            return;
+        } else {
+            backoff.snooze();
+        }
+    }
+    unreachable!()
+}
