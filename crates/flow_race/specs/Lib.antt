@@ -1,0 +1,4 @@
+pub mod Loaded
+pub mod LoadedLaws
+pub mod Sizes
+pub mod Runs
