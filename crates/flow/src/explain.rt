@@ -15,8 +15,9 @@ flow --journal FILE NETFILE  does so, and writes the journal of the run to FILE
 flow --check NETFILE         prints the canonical spelling of the file, and runs nothing
 flow --replay FILE NETFILE   makes the turns of the journal in FILE again
 flow --make N                runs the network that is made from N, a number from 1 to 100
-flow -- NETFILE              runs a file whose name begins with -
---workers isn't built yet.";
+flow --workers N NETFILE     runs the network by N workers, each in a thread of its own: 1 to 32, or 0
+                             for none; so do the other runs, with --journal or --make
+flow -- NETFILE              runs a file whose name begins with -";
 
 const OTHER_RUN: &str =
     "A journal is replayed with the network file and the input files of its own run.";
@@ -50,7 +51,7 @@ fn say<R: Eprint>(rt: &R, text: &str) {
 // The network file is read once more where it is a regular one: a pipe has nothing left to give.
 fn explain_refusal<R: Files + Eprint + Drop>(alloc: Global, rt: &R, words: &[String]) {
     let name = match command(alloc, words) {
-        Ok(Some(Command::Run { net, journal: _ })) => net,
+        Ok(Some(Command::Run { net, .. })) => net,
         Ok(Some(Command::Check(net))) => net,
         Ok(Some(Command::Replay { net, journal: _ })) => net,
         _ => return,

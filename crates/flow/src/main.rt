@@ -1,12 +1,14 @@
-//! The program `flow`, over real files: runs the network of a file and may keep the journal of the run, checks a network
-//! file, makes the turns of a journal again, or runs the network that is made from a number; and prints what comes of it.
+//! The program `flow`, over real files: runs the network of a file, by workers where it is asked for them, and may keep
+//! the journal of the run; checks a network file; makes the turns of a journal again; or runs the network that is made
+//! from a number; and prints what comes of it.
 #![tactic(auto)]
 
 mod explain;
 mod shown;
 
 use crate::explain::explain;
-use flow_cli::{Status, plain_top};
+use flow_cli::{Status, busy_top, needs_workers, plain_top};
+use flow_component::NoGate;
 use flow_text::{FileShelf, StdSink};
 use std::alloc::{AllocError, Global};
 use std::process::ExitCode;
@@ -32,9 +34,17 @@ fn main(rt: HostRuntime) -> ExitCode {
     let Ok(words) = words_of(alloc, env::args(&rt)) else {
         return ExitCode::from(Status::NoMemory.code());
     };
+    let Ok(needs) = needs_workers(alloc, &words) else {
+        return ExitCode::from(Status::NoMemory.code());
+    };
     let mut shelf = FileShelf::new(alloc, &rt);
     let mut out = StdSink::new(&rt);
-    let status = plain_top(alloc, &words, &mut shelf, &mut out).status;
+    let outcome = if needs {
+        busy_top(&rt, alloc, &words, &mut shelf, &mut out, &NoGate)
+    } else {
+        plain_top(alloc, &words, &mut shelf, &mut out)
+    };
+    let status = outcome.status;
     let reason = match out.reason() {
         Some(reason) => Some(reason),
         None => shelf.reason(),

@@ -72,6 +72,7 @@ module _ (words : List (String Global)) (o a n po pn : Outside) (run : Unwritten
     go (inl (w, p)) = inl (record {
       name = has.name;
       keeps = has.keeps;
+      workers = has.workers;
       asks = has.asks;
       report = has.leaves.told_is.report;
       whole = whole-run o a n words limit run has w;
@@ -83,7 +84,7 @@ module _ (words : List (String Global)) (o a n po pn : Outside) (run : Unwritten
   ran-well over = go did where
     well : WritesAll a n (outputs_of_run run) → Prints po pn (report_text has.leaves.told_is.report) (verdict_status has.leaves.told_is.report.verdict) status
         → ComesToEnd (call_of words o n po pn run.ran.journal status) limit
-    well w (inl p) = inl (has.name, has.keeps, has.asks, record { report = has.leaves.told_is.report; whole = whole-run o a n words limit run has w; printed = p.1; status = p.0 })
+    well w (inl p) = inl (has.name, has.keeps, has.workers, has.asks, record { report = has.leaves.told_is.report; whole = whole-run o a n words limit run has w; printed = p.1; status = p.0 })
     well w (inr p) = absurd (subst IsOver p.0 over)
 
     go : Finishes a n po pn run status → ComesToEnd (call_of words o n po pn run.ran.journal status) limit
@@ -134,7 +135,7 @@ module _ (words : List (String Global)) (o n po pn : Outside) (said : Said) (sta
   changes-none : Says (so_far words o n said.journal) limit said.text.items said.status → ChangesNoName (so_far words o n said.journal)
   changes-none (inl s) = record { asks = inl (s.name, s.asks); files = ap (λ (x : Outside). x.files) s.checked.shelf; created = ap (λ (x : Outside). x.created) s.checked.shelf }
   changes-none (inr (inl s)) = record { asks = inr (inl (s.name, s.kept, s.asks)); files = ap (λ (x : Outside). x.files) s.replayed.ready.reads; created = ap (λ (x : Outside). x.created) s.replayed.ready.reads }
-  changes-none (inr (inr s)) = record { asks = inr (inr (s.number, s.asks)); files = ap (λ (x : Outside). x.files) s.shelf; created = ap (λ (x : Outside). x.created) s.shelf }
+  changes-none (inr (inr s)) = record { asks = inr (inr (s.number, s.workers, s.asks)); files = ap (λ (x : Outside). x.files) s.shelf; created = ap (λ (x : Outside). x.created) s.shelf }
 
   pub said-meaning : LeavesMeaning (so_far words o n said.journal) limit
   said-meaning = inr (changes-none says)

@@ -1,5 +1,5 @@
 -- What a run leaves: its net stands for the machine's last state, so its report and its files are those of that state.
-use Rattle.std.proofs.Common.{◌≡◌, ℕ, zero, suc, ◌+◌, ◌≤◌, List, [], ◌∷◌, ◌++◌, length, map, Ok, Err, refl, sym, ◌∙◌, ap, subst, arith}
+use Rattle.std.proofs.Common.{◌≡◌, ℕ, zero, suc, ◌+◌, ◌<◌, ◌≤◌, List, [], ◌∷◌, ◌++◌, length, map, Ok, Err, refl, sym, ◌∙◌, ap, subst, arith}
 use Rattle.std.specs.Prelude.{IfOk, slice_get, unwrap_or, option_and_then, codes}
 use Rattle.std.specs.Fmt.{decimal}
 use Rattle.std.specs.List.{flat_map}
@@ -12,9 +12,10 @@ use Rattle.flow_plan.specs.Network.{Network}
 use Rattle.flow_model.specs.States.{Process, State}
 use Rattle.flow_model.specs.Fit.{Fit}
 use Rattle.flow_model.specs.Stands.{StandsForOpen}
+use Rattle.flow_machine.specs.Starts.{StartsNet}
 use Rattle.flow_machine.specs.Values.{BodyValue, NetValue, shown_net}
 use Rattle.flow_journal.specs.Files.{IsWritable}
-use Rattle.flow_model.specs.Plans.{start_of}
+use Rattle.flow_model.specs.Plans.{start_of, StartsWell}
 use Rattle.flow_journal.specs.Replays.{schedule_of, StopsFrom, StopsAtTurn}
 use Rattle.flow_journal.specs.declared.refusal.Refusal.{Refusal as NoTurn}
 use Rattle.flow_journal.specs.declared.refusal.ReplayStop.{ReplayStop}
@@ -23,7 +24,7 @@ use Rattle.flow_cli.specs.declared.stop.Stop.{Stop}
 use Rattle.flow_journal.specs.declared.merge.Journal.{Journal}
 use Rattle.flow_catalogue.specs.declared.standard.Std.{Std}
 use Rattle.flow_catalogue.specs.Std.{std_shape, std_uses, StdReady, StdNext, written_of}
-use Rattle.flow_runs.specs.Runs.{IsScheduled, ComesOfRun, ComesOfSchedule, SeesNoMoreThanTurns}
+use Rattle.flow_runs.specs.Runs.{IsScheduled, RoundsAreRuns, ReachesAreRuns, ComesOfRun, ComesOfSchedule, SeesNoMoreThanTurns}
 use Rattle.flow_report.specs.Of.{told_of}
 use Rattle.flow_report.specs.States.{ReportsTell}
 use Rattle.flow_report.proofs.Shown.{processes-shown}
@@ -31,6 +32,7 @@ use Rattle.flow_cli.specs.Networks.{IsStandardPlan}
 use Rattle.flow_cli.specs.Step.{Filled}
 use Rattle.flow_cli.specs.Components.{written_by}
 use Rattle.flow_cli.specs.Makes.{output_lines_at, output_lines_from}
+use Rattle.flow_cli.specs.Engines.{RanBy}
 use Rattle.flow_cli.specs.Runs.{IsToldOf, IsToldOfNet, IsJournalOfNet, Leaves, TellsAgain, MakesAgain, stop_of_replay, outputs_at, outputs_from}
 use Rattle.flow_cli.specs.declared.engine.Told.{Told}
 use Rattle.flow_cli.specs.declared.engine.Ran.{Ran}
@@ -80,9 +82,9 @@ has-file plan components net journal last sees schedule is = record {
   seen = sees plan components (schedule_of journal) last schedule;
 }
 
-leaves-one : (plan : Network) (components : List Std) (net : NetValue Std) (journal : Journal) (told : Told) → IsStandardPlan plan → ReportsTell std_shape std_uses StdReady → SeesNoMoreThanTurns StdNext
-    → ComesOfRun std_shape std_uses StdReady StdNext plan components (schedule_of journal) net → IsToldOfNet plan net told → IsJournalOfNet net journal → Leaves plan components net journal told
-leaves-one plan components net journal told standard tell sees comes is names =
+leaves-one : (workers : ℕ) (plan : Network) (components : List Std) (net : NetValue Std) (journal : Journal) (told : Told) → IsStandardPlan plan → ReportsTell std_shape std_uses StdReady → SeesNoMoreThanTurns StdNext
+    → ComesOfRun std_shape std_uses StdReady StdNext workers plan components (schedule_of journal) net → IsToldOfNet plan net told → IsJournalOfNet net journal → Leaves workers plan components net journal told
+leaves-one workers plan components net journal told standard tell sees comes is names =
     let last = comes.last in
     let procs = processes-shown last.past.dropped 0 net.bodies last.kept.processes (ap (λ v. v.bodies) comes.stands) in
     record {
@@ -94,13 +96,24 @@ leaves-one plan components net journal told standard tell sees comes is names =
     }
 
 -- whatever the account answers
-pub leaves : (plan : Network) (components : List Std) (net : NetValue Std) (result : Result Ran AllocError) → IsStandardPlan plan → ReportsTell std_shape std_uses StdReady → SeesNoMoreThanTurns StdNext
-    → ((journal : Journal) → IsJournalOfNet net journal → ComesOfRun std_shape std_uses StdReady StdNext plan components (schedule_of journal) net)
+pub leaves : (workers : ℕ) (plan : Network) (components : List Std) (net : NetValue Std) (result : Result Ran AllocError) → IsStandardPlan plan → ReportsTell std_shape std_uses StdReady → SeesNoMoreThanTurns StdNext
+    → ((journal : Journal) → IsJournalOfNet net journal → ComesOfRun std_shape std_uses StdReady StdNext workers plan components (schedule_of journal) net)
     → IfOk result (λ ran. ran.net ≡ net) → IfOk result (λ ran. IsToldOfNet plan net ran.told) → IfOk result (λ ran. IsJournalOfNet net ran.journal)
-    → IfOk result (λ ran. Leaves plan components ran.net ran.journal ran.told)
-leaves plan components net (Ok ran) standard tell sees comes same told names =
-    subst (λ (n : NetValue Std). Leaves plan components n ran.journal ran.told) (sym same) (leaves-one plan components net ran.journal ran.told standard tell sees (comes ran.journal names) told names)
-leaves plan components net (Err e) standard tell sees comes same told names = tt
+    → IfOk result (λ ran. Leaves workers plan components ran.net ran.journal ran.told)
+leaves workers plan components net (Ok ran) standard tell sees comes same told names =
+    subst (λ (n : NetValue Std). Leaves workers plan components n ran.journal ran.told) (sym same) (leaves-one workers plan components net ran.journal ran.told standard tell sees (comes ran.journal names) told names)
+leaves workers plan components net (Err e) standard tell sees comes same told names = tt
+
+-- A net that was run on from the start of a plan comes of a run, by one thread or by workers.
+pub comes-of-run : (workers : ℕ) (plan : Network) (components : List Std) (start net : NetValue Std) (journal : Journal)
+    → RoundsAreRuns std_shape std_uses StdReady StdNext → ReachesAreRuns std_shape std_uses StdReady StdNext
+    → StartsWell std_shape std_uses StdReady plan components → StartsNet plan components start → RanBy workers start net → IsJournalOfNet net journal
+    → ComesOfRun std_shape std_uses StdReady StdNext workers plan components (schedule_of journal) net
+comes-of-run zero plan components start net journal rounds reaches well starts ran is = rounds plan components start net journal.turns journal.seen well starts (ran.alone refl) is.turns is.seen
+comes-of-run (suc more) plan components start net journal rounds reaches well starts ran is =
+    let some : 0 < suc more = omega arith in
+    let one : 1 ≤ suc more = omega arith in
+    reaches (suc more) plan components start net journal.turns journal.seen some well starts (ran.reaches one) (ran.quiet one) is.turns is.seen
 
 -- What making a journal again tells of the net to which it led.
 pub told-again : (plan : Network) (components : List Std) (net : NetValue Std) (journal : Journal) (told : Told) → IsStandardPlan plan → ReportsTell std_shape std_uses StdReady

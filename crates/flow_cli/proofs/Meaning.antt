@@ -68,6 +68,7 @@ module _ (starts : StartsPlans std_shape std_uses StdReady) (composes : Finished
       inl (
         has.name,
         has.keeps,
+        has.workers,
         has.asks,
         record {
           plan = plan;

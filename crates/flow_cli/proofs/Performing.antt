@@ -77,10 +77,11 @@ module _ (o a : Outside) (words : List (String Global)) (limit : ℕ) (name kept
   again-stopped (TooLong read) stops journal empty = absurd stops
 
 -- a make
-module _ (o a : Outside) (words : List (String Global)) (limit number : ℕ) (asks : AsksMake o a words number) where
-  pub says-made : (said : Said) → SaysMadeRun number (Ok said) → Says (so_far words o a said.journal) limit said.text.items said.status
+module _ (o a : Outside) (words : List (String Global)) (limit number workers : ℕ) (asks : AsksMake o a words number workers) where
+  pub says-made : (said : Said) → SaysMadeRun number workers (Ok said) → Says (so_far words o a said.journal) limit said.text.items said.status
   says-made said s = inr (inr (record {
     number = number;
+    workers = workers;
     asks = asks.asks;
     report = s.0;
     plan = s.1;

@@ -18,7 +18,7 @@ use Rattle.flow_cli.specs.declared.stop.Stop.TheVariants.{Words, Refused, Journa
 use Rattle.flow_cli.proofs.Befores.{so_far}
 
 module _ (o a n : Outside) (words : List (String Global)) (limit : ℕ) (run : Unwritten) (has : HasRun o a words limit run) where
-  run-of : IsRunOf (so_far words o n run.ran.journal) limit has.name run.ran.plan has.leaves.last a
+  run-of : IsRunOf (so_far words o n run.ran.journal) limit has.name has.workers run.ran.plan has.leaves.last a
   run-of = record {
     components = has.components;
     ready = has.ready;
@@ -34,6 +34,7 @@ module _ (o a n : Outside) (words : List (String Global)) (limit : ℕ) (run : U
   fails written w = record {
     name = has.name;
     keeps = has.keeps;
+    workers = has.workers;
     asks = has.asks;
     plan = run.ran.plan;
     last = has.leaves.last;
@@ -48,6 +49,7 @@ module _ (o a n : Outside) (words : List (String Global)) (limit : ℕ) (run : U
   stops-writing NoMemory (inl w) = inr (inl (record {
     name = has.name;
     keeps = has.keeps;
+    workers = has.workers;
     asks = has.asks;
     plan = run.ran.plan;
     last = has.leaves.last;
@@ -63,7 +65,7 @@ module _ (o a n : Outside) (words : List (String Global)) (limit : ℕ) (run : U
   stops-writing (TooLong read) w = absurd w
 
   -- all files were written
-  pub whole-run : WritesAll a n (outputs_of_run run) → IsWhole (so_far words o n run.ran.journal) limit has.name has.keeps has.leaves.told_is.report
+  pub whole-run : WritesAll a n (outputs_of_run run) → IsWhole (so_far words o n run.ran.journal) limit has.name has.keeps has.workers has.leaves.told_is.report
   whole-run w = record {
     plan = run.ran.plan;
     last = has.leaves.last;

@@ -35,12 +35,12 @@ no-command : (words : List (String Global)) (name : Name) → command_of (map st
 no-command words name none is = let h : option_and_then file_of (command_of (map string_bytes words)) ≡ None = ap (λ c. option_and_then file_of c) none in cc
 
 -- a make is no command on a network file
-no-file : (words : List (String Global)) (name : Name) (number : ℕ) → Asks words (Make number) → IsCommand words name → ⊥
-no-file words name number asks is = let h : option_and_then file_of (command_of (map string_bytes words)) ≡ None = ap (λ c. option_and_then file_of c) asks in cc
+no-file : (words : List (String Global)) (name : Name) (number workers : ℕ) → Asks words (Make number workers) → IsCommand words name → ⊥
+no-file words name number workers asks is = let h : option_and_then file_of (command_of (map string_bytes words)) ≡ None = ap (λ c. option_and_then file_of c) asks in cc
 
 -- what is read between the network file and its inputs tells that turns are made
 makes-turns : (words : List (String Global)) (told : Option Files) (name : Name) (between : List Filled) → IsBetween words told name between → MakesTurns words name
-makes-turns words told name between (inl b) = inl (b.0, b.1)
+makes-turns words told name between (inl b) = inl (b.0, b.1, b.2)
 makes-turns words told name between (inr b) = inr (b.0, b.3)
 
 numbers-length : (numbers : List ℕ) → length (numbers_written numbers) ≡ 2 * length numbers
@@ -143,19 +143,19 @@ module _ (w : Work) (files : Files) (limit : ℕ) (told : w.before.files ≡ Som
   valid-stop one no_schedule apart (TooLong read) c reads writes = absurd (not-too-long (string_bytes read) c)
 
 -- a make is stopped by nothing else
-made-stop : (w : Work) (limit number : ℕ) (stop : Stop) → Asks w.words (Make number) → HasCause w limit stop
+made-stop : (w : Work) (limit number workers : ℕ) (stop : Stop) → Asks w.words (Make number workers) → HasCause w limit stop
     → (Rose w.before.read_faults w.after.read_faults → ⊥) → (Rose w.before.write_faults w.after.write_faults → ⊥) → stop ≡ NoMemory
-made-stop w limit number NoMemory asks c reads writes = refl
-made-stop w limit number (ReadFault read) asks c reads writes = absurd (reads c.shelf.rose)
-made-stop w limit number (WriteFault file) asks c reads writes = absurd (no-file w.words c.name number asks (on-file w.words (Run c.name c.keeps) c.name refl c.asks))
-made-stop w limit number Words asks c reads writes = let h = c.none in absurd cc
-made-stop w limit number (Refused refusal) asks c reads writes = absurd (no-file w.words c.name number asks c.command)
-made-stop w limit number (JournalRefused (Byte place)) asks c reads writes = absurd (no-file w.words c.name number asks (on-file w.words (Replay c.name c.kept) c.name refl c.asks))
-made-stop w limit number (JournalRefused (Turn place process refusal)) asks c reads writes = absurd (no-file w.words c.name number asks (on-file w.words (Replay c.name c.kept) c.name refl c.asks))
-made-stop w limit number (TooLong read) asks c reads writes = absurd (no-file w.words c.name number asks c.command)
+made-stop w limit number workers NoMemory asks c reads writes = refl
+made-stop w limit number workers (ReadFault read) asks c reads writes = absurd (reads c.shelf.rose)
+made-stop w limit number workers (WriteFault file) asks c reads writes = absurd (no-file w.words c.name number workers asks (on-file w.words (Run c.name c.keeps c.workers) c.name refl c.asks))
+made-stop w limit number workers Words asks c reads writes = let h = c.none in absurd cc
+made-stop w limit number workers (Refused refusal) asks c reads writes = absurd (no-file w.words c.name number workers asks c.command)
+made-stop w limit number workers (JournalRefused (Byte place)) asks c reads writes = absurd (no-file w.words c.name number workers asks (on-file w.words (Replay c.name c.kept) c.name refl c.asks))
+made-stop w limit number workers (JournalRefused (Turn place process refusal)) asks c reads writes = absurd (no-file w.words c.name number workers asks (on-file w.words (Replay c.name c.kept) c.name refl c.asks))
+made-stop w limit number workers (TooLong read) asks c reads writes = absurd (no-file w.words c.name number workers asks c.command)
 
 -- Where the words ask for a make or for what the files allow, and no count of faults of the shelf rose, a stop is want of memory.
 pub valid-at : AtMostOneOutcome StdNext → StopsAreNoSchedules StdNext → HasJournalOrFault → (w : Work) (files : Files) (limit : ℕ) (stop : Stop) → w.before.files ≡ Some files
     → HasCause w limit stop → IsValid files w.words limit → (Rose w.before.read_faults w.after.read_faults → ⊥) → (Rose w.before.write_faults w.after.write_faults → ⊥) → stop ≡ NoMemory
-valid-at one no_schedule apart w files limit stop told c (inl make) reads writes = made-stop w limit make.0 stop make.1 c reads writes
+valid-at one no_schedule apart w files limit stop told c (inl make) reads writes = made-stop w limit make.0 make.1 stop make.2 c reads writes
 valid-at one no_schedule apart w files limit stop told c (inr valid) reads writes = valid-stop w files limit told valid one no_schedule apart stop c reads writes

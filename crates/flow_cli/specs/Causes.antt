@@ -33,12 +33,12 @@ pub record Work : Type 0 where
   pub after : Outside
   pub journal : Journal
 
--- The network of the file of this name was run on what its input files gave. This is its plan, this is the state to which the journal leads, and so stood the
--- shelf when all was read. The journal has a file.
-pub record IsRunOf (w : Work) (limit : ℕ) (name : Name) (plan : Network) (last : State Std) (middle : Outside) : Type 0 where
+-- The network of the file of this name was run by so many workers on what its input files gave. This is its plan, this is the state to which the journal leads, and
+-- so stood the shelf when all was read. The journal has a file.
+pub record IsRunOf (w : Work) (limit : ℕ) (name : Name) (workers : ℕ) (plan : Network) (last : State Std) (middle : Outside) : Type 0 where
   pub components : List Std
   pub ready : IsReady w.before middle limit name [] plan components
-  pub run : RunsTo plan components w.journal last
+  pub run : RunsTo workers plan components w.journal last
   pub writable : IsWritable w.journal
 
 -- No turn was made, and no file was created.
@@ -126,22 +126,24 @@ pub record IsTooLong (w : Work) (limit : ℕ) (read : Name) : Type 0 where
 pub record IsWriteFault (w : Work) (limit : ℕ) (written : Name) : Type 0 where
   pub name : Name
   pub keeps : Option Name
-  pub asks : Asks w.words (Run name keeps)
+  pub workers : ℕ
+  pub asks : Asks w.words (Run name keeps workers)
   pub plan : Network
   pub last : State Std
   pub middle : Outside
-  pub run : IsRunOf w limit name plan last middle
+  pub run : IsRunOf w limit name workers plan last middle
   pub fails : FailsAt middle w.after (files_of_run plan last keeps w.journal) written
 
 -- A run was made, and memory was wanting before its last file was begun. Those that were begun were written whole.
 pub record IsCutOff (w : Work) (limit : ℕ) : Type 0 where
   pub name : Name
   pub keeps : Option Name
-  pub asks : Asks w.words (Run name keeps)
+  pub workers : ℕ
+  pub asks : Asks w.words (Run name keeps workers)
   pub plan : Network
   pub last : State Std
   pub middle : Outside
-  pub run : IsRunOf w limit name plan last middle
+  pub run : IsRunOf w limit name workers plan last middle
   pub ends : EndsAt middle w.after (files_of_run plan last keeps w.journal)
 
 -- Each stop has its cause. That of want of memory says only what stands: all files of a run stand only behind its report.

@@ -1,6 +1,7 @@
 pub mod After
 pub mod Causes
 pub mod Components
+pub mod Engines
 pub mod Makes
 pub mod Many
 pub mod Meant

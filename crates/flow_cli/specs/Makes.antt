@@ -42,14 +42,15 @@ output_lines_from wrote p (process ∷ processes) = output_lines_at wrote p proc
 abbrev pub make_text : ℕ → List ℕ → (ℕ → List ℕ) → Network → List ℕ
 make_text number report wrote plan = codes "make " ++ decimal number ++ codes " input " ++ decimal (length (made_input number)) ++ 10 ∷ report ++ output_lines_from wrote 0 plan.processes
 
--- The network that is made was run, its reader on the input that is made from this number. This is its plan, and this is the state to which the journal leads.
-pub record IsRunOfMade (number : ℕ) (plan : Network) (journal : Journal) (last : State Std) : Type 0 where
+-- The network that is made was run by so many workers, its reader on the input that is made from this number. This is its plan, and this is the state to which the
+-- journal leads.
+pub record IsRunOfMade (number workers : ℕ) (plan : Network) (journal : Journal) (last : State Std) : Type 0 where
   pub text : NetText
   pub holds : Holds (text_of network_lines) text plan
   pub standard : IsStandardPlan plan
   pub components : List Std
   pub given : GivesComponents plan (made_input number) components
-  pub run : RunsTo plan components journal last
+  pub run : RunsTo workers plan components journal last
 
 -- The made network of this number, ready to run, and how many bytes its input has. It is never refused.
 abbrev pub IsMadeJob : ℕ → Result MadeJob Stop → Type 0
@@ -57,11 +58,11 @@ IsMadeJob number (Ok made) = ((text : NetText) × Holds (text_of network_lines) 
     × GivesComponents made.job.plan (made_input number) made.job.components.items × (made.bytes ≡ length (made_input number))
 IsMadeJob number (Err stop) = stop ≡ NoMemory
 
--- What is said of the run of a made network. Nothing else stops it than want of memory.
-abbrev pub SaysMadeRun : ℕ → Result Said Stop → Type 0
-SaysMadeRun number (Ok said) = (report : Report) × (plan : Network) × (last : State Std) × IsRunOfMade number plan said.journal last × TellsOf plan last report
+-- What is said of the run of a made network by so many workers. Nothing else stops it than want of memory.
+abbrev pub SaysMadeRun : ℕ → ℕ → Result Said Stop → Type 0
+SaysMadeRun number workers (Ok said) = (report : Report) × (plan : Network) × (last : State Std) × IsRunOfMade number workers plan said.journal last × TellsOf plan last report
     × (said.text.items ≡ make_text number (report_text report) (bytes_in last) plan) × (said.status ≡ verdict_status report.verdict)
-SaysMadeRun number (Err stop) = stop ≡ NoMemory
+SaysMadeRun number workers (Err stop) = stop ≡ NoMemory
 
 -- The line of process p of a run was appended, if it writes a file.
 abbrev pub PutsOutput : List ℕ → List ℕ → Ran → ℕ → Type 0

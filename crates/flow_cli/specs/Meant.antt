@@ -26,10 +26,10 @@ pub record IsMeant (w : Work) (limit : ℕ) (name : Name) (keeps : Option Name) 
 
 -- Something else than a run was asked for, and no name has changed.
 pub record ChangesNoName (w : Work) : Type 0 where
-  pub asks : ((name : Name) × Asks w.words (Check name)) ⊎ ((name : Name) × (kept : Name) × Asks w.words (Replay name kept)) ⊎ ((number : ℕ) × Asks w.words (Make number))
+  pub asks : ((name : Name) × Asks w.words (Check name)) ⊎ ((name : Name) × (kept : Name) × Asks w.words (Replay name kept)) ⊎ ((number : ℕ) × (workers : ℕ) × Asks w.words (Make number workers))
   pub files : w.after.files ≡ w.before.files
   pub created : w.after.created ≡ w.before.created
 
 -- A run that finished left the files that its network means; a check, a replay and a make leave none.
 abbrev pub LeavesMeaning : Work → ℕ → Type 0
-LeavesMeaning w limit = ((name : Name) × (keeps : Option Name) × Asks w.words (Run name keeps) × IsMeant w limit name keeps) ⊎ ChangesNoName w
+LeavesMeaning w limit = ((name : Name) × (keeps : Option Name) × (workers : ℕ) × Asks w.words (Run name keeps workers) × IsMeant w limit name keeps) ⊎ ChangesNoName w

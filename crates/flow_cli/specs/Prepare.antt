@@ -4,7 +4,7 @@ use Rattle.std.specs.declared.alloc.Global.{Global}
 use Rattle.std.specs.declared.option.Option.{Option}
 use Rattle.std.specs.declared.result.Result.{Result}
 use Rattle.std.specs.Option.{option_map}
-use Rattle.flow_limits.specs.declared.TheConstants.{NUMBER_LIMIT}
+use Rattle.flow_limits.specs.declared.TheConstants.{NUMBER_LIMIT, WORKER_LIMIT}
 use Rattle.flow_text.specs.Edge.{Outside, Name}
 use Rattle.flow_plan.specs.Network.{Network}
 use Rattle.flow_words.specs.Words.{Run, Check, Replay, Make}
@@ -44,7 +44,8 @@ ReadsJournal old new name (Err stop) = StopsAtFile old new [] name stop JOURNAL_
 -- What reading the network file and then the files of its readers does to the shelf.
 abbrev pub ReadsInputs : Outside → Outside → Name → Result Job Stop → ℕ → Type 0
 ReadsInputs old new name (Ok job) limit = IsReady old new limit name [] job.plan job.components.items
-ReadsInputs old new name (Err stop) limit = (words : List (String Global)) (journal : Journal) (keeps : Option Name) → Asks words (Run name keeps) → IsEmptyJournal journal
+ReadsInputs old new name (Err stop) limit = (words : List (String Global)) (journal : Journal) (keeps : Option Name) (workers : ℕ)
+    → Asks words (Run name keeps workers) → IsEmptyJournal journal
     → HasCause (record { words = words; before = old; after = new; journal = journal }) limit stop
 
 -- All that a replay reads was read: the network of this file can run, and the file `kept` is that of this journal.
@@ -59,20 +60,27 @@ ReadsAgain old new name kept (Ok again) limit = IsReadyAgain old new limit name 
 ReadsAgain old new name kept (Err stop) limit = (words : List (String Global)) (journal : Journal) → Asks words (Replay name kept) → IsEmptyJournal journal
     → HasCause (record { words = words; before = old; after = new; journal = journal }) limit stop
 
--- A make is asked for, from a number within the bounds, and nothing was asked of the shelf.
-pub record AsksMake (old new : Outside) (words : List (String Global)) (number : ℕ) : Type 0 where
-  pub asks : Asks words (Make number)
+-- A run by so many workers is asked for, and the network can run.
+pub record AsksRun (old new : Outside) (words : List (String Global)) (limit : ℕ) (job : Job) (keeps : Option Name) (workers : ℕ) : Type 0 where
+  pub name : Name
+  pub asks : Asks words (Run name keeps workers)
+  pub few : workers ≤ WORKER_LIMIT
+  pub ready : IsReady old new limit name [] job.plan job.components.items
+
+-- A make by so many workers is asked for, from a number within the bounds, and nothing was asked of the shelf.
+pub record AsksMake (old new : Outside) (words : List (String Global)) (number workers : ℕ) : Type 0 where
+  pub asks : Asks words (Make number workers)
   pub least : 1 ≤ number
   pub most : number ≤ NUMBER_LIMIT
+  pub few : workers ≤ WORKER_LIMIT
   pub shelf : new ≡ old
 
 -- What the steps before a run, or before the printing of a check, do to the shelf.
 abbrev pub Prepares : Outside → Outside → List (String Global) → Result Task Stop → ℕ → Type 0
-Prepares old new words (Ok (tasks.Run job keeps)) limit = (name : Name) × Asks words (Run name (option_map (λ s. s.now) keeps))
-    × IsReady old new limit name [] job.plan job.components.items
+Prepares old new words (Ok (tasks.Run job keeps workers)) limit = AsksRun old new words limit job (option_map (λ s. s.now) keeps) workers
 Prepares old new words (Ok (tasks.Check text)) limit = (name : Name) × Asks words (Check name)
     × ((net : List ℕ) × (plan : Network) × OnlyReads old new (whole (name, net) ∷ []) × IsFile old.files limit name net text plan)
 Prepares old new words (Ok (tasks.Replay again)) limit = (name : Name) × (kept : Name) × Asks words (Replay name kept) × IsReadyAgain old new limit name kept again
-Prepares old new words (Ok (tasks.Make number)) limit = AsksMake old new words number
+Prepares old new words (Ok (tasks.Make number workers)) limit = AsksMake old new words number workers
 Prepares old new words (Err stop) limit = (journal : Journal) → IsEmptyJournal journal
     → HasCause (record { words = words; before = old; after = new; journal = journal }) limit stop

@@ -1,11 +1,12 @@
 -- What a call reads before a network runs, or is made to run again: the network file, a journal's file, the files of the network's readers.
-use Rattle.std.specs.Prelude.{◌≡◌, ◌⊎◌, ℕ, List, [], ◌∷◌, ◌++◌, map, Some, None, String, string_bytes}
+use Rattle.std.specs.Prelude.{◌≡◌, ◌⊎◌, ◌≤◌, ℕ, List, [], ◌∷◌, ◌++◌, map, Some, None, String, string_bytes}
 use Rattle.std.specs.declared.alloc.Global.{Global}
 use Rattle.std.specs.declared.option.Option.{Option}
 use Rattle.std.specs.Option.{option_and_then}
+use Rattle.flow_limits.specs.declared.TheConstants.{WORKER_LIMIT}
 use Rattle.flow_text.specs.Edge.{Outside, Name, Files}
 use Rattle.flow_plan.specs.Network.{Network}
-use Rattle.flow_words.specs.Words.{Asked, Run, Check, Replay, Make, command_of}
+use Rattle.flow_words.specs.Words.{Asked, Run, Check, Replay, Make, workers_asked, command_of}
 use Rattle.flow_parse.specs.declared.value.NetText.{NetText}
 use Rattle.flow_catalogue.specs.declared.standard.Std.{Std}
 use Rattle.flow_journal.specs.Files.{IsFileOf}
@@ -21,10 +22,20 @@ Asks words asked = command_of (map string_bytes words) ≡ Some asked
 
 -- The name of the network file of what is asked for. A make has none.
 abbrev pub file_of : Asked → Option Name
-file_of (Run name keeps) = Some name
+file_of (Run name keeps workers) = Some name
 file_of (Check name) = Some name
 file_of (Replay name kept) = Some name
-file_of (Make number) = None
+file_of (Make number workers) = None
+
+-- The words ask for workers: they are a run or a make by one worker or more.
+pub record AsksWorkers (words : List (String Global)) : Type 0 where
+  pub asked : Asked
+  pub asks : Asks words asked
+  pub least : 1 ≤ workers_asked asked
+
+-- Whatever the words ask for, the number of its workers is one of these, unless there are more than may be.
+abbrev pub IsServed : (ℕ → Type 0) → List (String Global) → Type 0
+IsServed serves words = (asked : Asked) → Asks words asked → workers_asked asked ≤ WORKER_LIMIT → serves (workers_asked asked)
 
 -- The words are a command line on this network file.
 abbrev pub IsCommand : List (String Global) → Name → Type 0
@@ -32,7 +43,7 @@ IsCommand words name = option_and_then file_of (command_of (map string_bytes wor
 
 -- The words ask that turns are made in the network of this file: in a run or in a replay.
 abbrev pub MakesTurns : List (String Global) → Name → Type 0
-MakesTurns words name = ((keeps : Option Name) × Asks words (Run name keeps)) ⊎ ((kept : Name) × Asks words (Replay name kept))
+MakesTurns words name = ((keeps : Option Name) × (workers : ℕ) × Asks words (Run name keeps workers)) ⊎ ((kept : Name) × Asks words (Replay name kept))
 
 -- No turn was made.
 abbrev pub IsEmptyJournal : Journal → Type 0
@@ -52,7 +63,7 @@ pub record IsJournalFile (told : Option Files) (name : Name) (bytes : List ℕ) 
 -- What a call with these words reads between the network file and the files of its network: nothing in a run, and in a replay the file of its journal.
 abbrev pub IsBetween : List (String Global) → Option Files → Name → List Filled → Type 0
 IsBetween words told name between =
-    ((keeps : Option Name) × Asks words (Run name keeps) × (between ≡ []))
+    ((keeps : Option Name) × (workers : ℕ) × Asks words (Run name keeps workers) × (between ≡ []))
     ⊎ ((kept : Name) × (bytes : List ℕ) × (journal : Journal) × Asks words (Replay name kept) × IsJournalFile told kept bytes journal × (between ≡ (kept, bytes) ∷ []))
 
 -- The network file was read, then these files, then those of the readers, in the order of the processes; each once, to its end, and nothing else. This is the

@@ -6,13 +6,10 @@ use Rattle.flow_text.specs.Edge.{Name}
 use Rattle.flow_plan.specs.declared.plan.Process.{Process}
 use Rattle.flow_plan.specs.Network.{Network}
 use Rattle.flow_catalogue.specs.declared.standard.Std.{Std}
-use Rattle.flow_catalogue.specs.Std.{std_shape, std_uses, StdReady, StdNext, written_of}
+use Rattle.flow_catalogue.specs.Std.{StdNext, written_of}
 use Rattle.flow_model.specs.States.{State}
 use Rattle.flow_model.specs.Plans.{start_of}
 use Rattle.flow_machine.specs.Values.{BodyValue, NetValue}
-use Rattle.flow_machine.specs.Starts.{StartsNet}
-use Rattle.flow_machine.specs.Solo.{Goes, round_robin}
-use Rattle.flow_machine.specs.Logs.{turns_made}
 use Rattle.flow_journal.specs.Files.{IsWritable, written}
 use Rattle.flow_journal.specs.Journals.{NamesTurns, NamesSeen}
 use Rattle.flow_journal.specs.declared.file.TheConstants.{RUN_LIMIT}
@@ -32,9 +29,9 @@ use Rattle.flow_cli.specs.declared.stop.JournalRefusal.TheVariants.{Turn}
 use Rattle.flow_cli.specs.declared.stop.Stop.{Stop}
 use Rattle.flow_cli.specs.declared.stop.Stop.TheVariants.{JournalRefused, NoMemory}
 
--- This is the journal of the run of a plan with these components, and this the state to which it leads.
-abbrev pub RunsTo : Network → List Std → Journal → State Std → Type 0
-RunsTo plan components journal last = IsRun StdNext plan components (schedule_of journal) last
+-- This is the journal of the run of a plan with these components by so many workers, of which none is one thread; and this the state to which it leads.
+abbrev pub RunsTo : ℕ → Network → List Std → Journal → State Std → Type 0
+RunsTo workers plan components journal last = IsRun StdNext workers plan components (schedule_of journal) last
 
 -- The file that a process writes, with its bytes, if it writes one; where `wrote` says what each process wrote.
 abbrev pub outputs_at : (ℕ → List ℕ) → ℕ → Process → List Filled
@@ -69,12 +66,6 @@ pub record IsToldOf (plan : Network) (last : State Std) (told : Told) : Type 0 w
   pub verdict : told.verdict ≡ report.verdict
   pub text : told.report.items ≡ report_text report
 
--- The network of this plan started with these components, and its processes took turns, round and round, until none could go on.
-pub record RanOn (plan : Network) (components : List Std) (net : NetValue Std) : Type 0 where
-  pub start : NetValue Std
-  pub starts : StartsNet plan components start
-  pub goes : Goes std_shape std_uses StdReady (round_robin StdNext) start (turns_made start) net (turns_made net)
-
 -- What is told is the report of the network.
 pub record IsToldOfNet (plan : Network) (net : NetValue Std) (told : Told) : Type 0 where
   pub verdict : told.verdict ≡ (told_of plan net).verdict
@@ -94,11 +85,11 @@ bytes_at bodies p = unwrap_or (option_and_then (λ (b : BodyValue Std). written_
 abbrev pub net_outputs : Network → NetValue Std → List Filled
 net_outputs plan net = outputs_from (bytes_at net.bodies) 0 plan.processes
 
--- A run has left a net, a journal, and what is told of it: the journal is that of the run, and has a file; the report is that of its last state, and each process
--- wrote the same there.
-pub record Leaves (plan : Network) (components : List Std) (net : NetValue Std) (journal : Journal) (told : Told) : Type 0 where
+-- A run by so many workers has left a net, a journal, and what is told of it: the journal is that of the run, and has a file; the report is that of its last state,
+-- and each process wrote the same there.
+pub record Leaves (workers : ℕ) (plan : Network) (components : List Std) (net : NetValue Std) (journal : Journal) (told : Told) : Type 0 where
   pub last : State Std
-  pub run : RunsTo plan components journal last
+  pub run : RunsTo workers plan components journal last
   pub told_is : IsToldOf plan last told
   pub wrote : (p : ℕ) → bytes_at net.bodies p ≡ bytes_in last p
   pub writable : IsWritable journal

@@ -42,13 +42,13 @@ use Rattle.flow_cli.specs.declared.status.Status.TheVariants.{Finished}
 use Rattle.flow_cli.specs.declared.stop.Stop.{Stop}
 use Rattle.flow_cli.specs.declared.stop.Stop.TheVariants.{NoMemory}
 
--- A run was made, and all its files were written whole: those of its writers, in the order of the processes, and then that of its journal, where one was named; and
+-- A run by so many workers was made, and all its files were written whole: those of its writers, in the order of the processes, and then that of its journal, where one was named; and
 -- nothing else. This report tells of its last state.
-pub record IsWhole (w : Work) (limit : ℕ) (name : Name) (keeps : Option Name) (report : Report) : Type 0 where
+pub record IsWhole (w : Work) (limit : ℕ) (name : Name) (keeps : Option Name) (workers : ℕ) (report : Report) : Type 0 where
   pub plan : Network
   pub last : State Std
   pub middle : Outside
-  pub run : IsRunOf w limit name plan last middle
+  pub run : IsRunOf w limit name workers plan last middle
   pub writes : WritesAll middle w.after (files_of_run plan last keeps w.journal)
   pub tells : TellsOf plan last report
 
@@ -95,11 +95,12 @@ pub record SaysAgain (w : Work) (limit : ℕ) (text : List ℕ) (status : Status
 -- A make says the report of its run, between a line on its input and lines on its writers' files, and its verdict is the status. Nothing was asked of the shelf.
 pub record SaysMade (w : Work) (text : List ℕ) (status : Status) : Type 0 where
   pub number : ℕ
-  pub asks : Asks w.words (Make number)
+  pub workers : ℕ
+  pub asks : Asks w.words (Make number workers)
   pub report : Report
   pub plan : Network
   pub last : State Std
-  pub run : IsRunOfMade number plan w.journal last
+  pub run : IsRunOfMade number workers plan w.journal last
   pub shelf : w.after ≡ w.before
   pub tells : TellsOf plan last report
   pub text_is : text ≡ make_text number (report_text report) (bytes_in last) plan
@@ -122,16 +123,17 @@ outputs_of_run run = net_outputs run.ran.plan run.ran.net ++ kept_file run.kept
 pub record HasRun (old new : Outside) (words : List (String Global)) (limit : ℕ) (run : Unwritten) : Type 0 where
   pub name : Name
   pub keeps : Option Name
-  pub asks : Asks words (Run name keeps)
+  pub workers : ℕ
+  pub asks : Asks words (Run name keeps workers)
   pub components : List Std
   pub ready : IsReady old new limit name [] run.ran.plan components
-  pub leaves : Leaves run.ran.plan components run.ran.net run.ran.journal run.ran.told
+  pub leaves : Leaves workers run.ran.plan components run.ran.net run.ran.journal run.ran.told
   pub kept : kept_file run.kept ≡ journal_file keeps run.ran.journal
 
--- A run of this plan with these components has left this, with the file of its journal where one was named.
-pub record KeepsRun (plan : Network) (components : List Std) (keeps : Option Name) (run : Unwritten) : Type 0 where
+-- A run of this plan with these components by so many workers has left this, with the file of its journal where one was named.
+pub record KeepsRun (workers : ℕ) (plan : Network) (components : List Std) (keeps : Option Name) (run : Unwritten) : Type 0 where
   pub plan_is : run.ran.plan ≡ plan
-  pub leaves : Leaves plan components run.ran.net run.ran.journal run.ran.told
+  pub leaves : Leaves workers plan components run.ran.net run.ran.journal run.ran.told
   pub kept : kept_file run.kept ≡ journal_file keeps run.ran.journal
 
 -- What is said of the turns of a journal that were made again, or why they couldn't be made.
@@ -190,9 +192,10 @@ call_of words shelf shelf_after out out_after journal status = record {
 pub record TellsRun (c : Call) (limit : ℕ) : Type 0 where
   pub name : Name
   pub keeps : Option Name
-  pub asks : Asks c.work.words (Run name keeps)
+  pub workers : ℕ
+  pub asks : Asks c.work.words (Run name keeps workers)
   pub report : Report
-  pub whole : IsWhole c.work limit name keeps report
+  pub whole : IsWhole c.work limit name keeps workers report
   pub prints : Prints c.out c.out_after (report_text report) (verdict_status report.verdict) c.status
 
 -- What a check, a replay or a make says was printed; or a first part of that, and the output failed.
@@ -212,14 +215,14 @@ pub record TellsStop (c : Call) (limit : ℕ) : Type 0 where
 abbrev pub IsCaused : Call → ℕ → Type 0
 IsCaused c limit = TellsRun c limit ⊎ TellsSaid c limit ⊎ TellsStop c limit
 
--- The headline. The network of the file of this name was run: its plan is a valid one over the standard kinds; the journal of the outcome is a schedule of the
--- machine from the plan's start and the round robin, after each of whose prefixes each packet is in one place and each connection is in order, and no process can
--- go on after the whole of it. The network file and the readers' files were read whole, in order, and nothing else; then the files of the state to which the
+-- The headline. The network of the file of this name was run by so many workers: its plan is a valid one over the standard kinds; the journal of the outcome is a
+-- schedule of the machine from the plan's start, after each of whose prefixes each packet is in one place and each connection is in order, and no process can
+-- go on after the whole of it; where there were no workers, it is the round robin of one thread. The network file and the readers' files were read whole, in order, and nothing else; then the files of the state to which the
 -- journal leads were written whole, in order, and then the journal's own, where one was named, and nothing else. Exactly the report of that state was printed, and
 -- the status is its verdict.
-pub record EndsWell (c : Call) (limit : ℕ) (name : Name) (keeps : Option Name) : Type 0 where
+pub record EndsWell (c : Call) (limit : ℕ) (name : Name) (keeps : Option Name) (workers : ℕ) : Type 0 where
   pub report : Report
-  pub whole : IsWhole c.work limit name keeps report
+  pub whole : IsWhole c.work limit name keeps workers report
   pub printed : c.out_after ≡ after_write c.out (report_text report)
   pub status : c.status ≡ verdict_status report.verdict
 
@@ -231,7 +234,8 @@ pub record SaysWell (c : Call) (limit : ℕ) : Type 0 where
 
 -- A call that came to its end: a run did, or a check, a replay or a make.
 abbrev pub ComesToEnd : Call → ℕ → Type 0
-ComesToEnd c limit = ((name : Name) × (keeps : Option Name) × Asks c.work.words (Run name keeps) × EndsWell c limit name keeps) ⊎ SaysWell c limit
+ComesToEnd c limit = ((name : Name) × (keeps : Option Name) × (workers : ℕ) × Asks c.work.words (Run name keeps workers) × EndsWell c limit name keeps workers)
+    ⊎ SaysWell c limit
 
 -- A network file of this name, with these contents, holds the network of this plan.
 pub record IsNetwork (files : Files) (name : Name) (plan : Network) : Type 0 where
@@ -265,7 +269,7 @@ pub record IsValidFor (files : Files) (words : List (String Global)) (limit : �
 
 -- The words ask for a make, or for what these files allow.
 abbrev pub IsValid : Files → List (String Global) → ℕ → Type 0
-IsValid files words limit = ((number : ℕ) × Asks words (Make number)) ⊎ IsValidFor files words limit
+IsValid files words limit = ((number : ℕ) × (workers : ℕ) × Asks words (Make number workers)) ⊎ IsValidFor files words limit
 
 -- No count of faults rose.
 pub record NoFaults (c : Call) : Type 0 where

@@ -31,14 +31,21 @@ pub struct Again {
 /// What is to be done.
 #[derive(Drop)]
 pub enum Task<'a> {
-    /// A network is to run, and its journal is to be kept in a file, where one is named.
-    Run { job: Job, journal: Option<&'a str> },
+    /// A network is to run by so many workers, or on one thread where there are none; and its journal is to be kept in a file, where one is named.
+    Run {
+        job: Job,
+        journal: Option<&'a str>,
+        workers: u32,
+    },
     /// The value of a network file is to be printed.
     Check(NetText),
     /// The turns of a journal are to be made again.
     Replay(Again),
-    /// The network that is made from this number is to run.
-    Make(u32),
+    /// The network that is made from this number is to run by so many workers, or on one thread where there are none.
+    Make {
+        number: u32,
+        workers: u32,
+    },
 }
 
 /// Reads the words, and what they name. The first stop comes in the order of these steps.
@@ -49,22 +56,33 @@ pub fn prepare<'a, F: Shelf>(
 ) -> Result<Task<'a>, Stop>
     ensures { Prepares (F.outside shelf.old) (F.outside shelf.new) words.entry.now result FILE_LIMIT }
 {
-    match command(alloc, words) {
-        Err(_) => Err(Stop::NoMemory),
-        Ok(None) => Err(Stop::Words),
-        Ok(Some(Command::Run { net, journal })) => match runnable(alloc, shelf, net) {
-            Ok(job) => Ok(Task::Run { job, journal }),
+    let asked = match command(alloc, words) {
+        Ok(Some(asked)) => asked,
+        Ok(None) => return Err(Stop::Words),
+        Err(_) => return Err(Stop::NoMemory),
+    };
+    match asked {
+        Command::Run {
+            net,
+            journal,
+            workers,
+        } => match runnable(alloc, shelf, net) {
+            Ok(job) => Ok(Task::Run {
+                job,
+                journal,
+                workers,
+            }),
             Err(stop) => Err(stop),
         },
-        Ok(Some(Command::Check(name))) => match load(alloc, shelf, name) {
+        Command::Check(name) => match load(alloc, shelf, name) {
             Ok(file) => Ok(Task::Check(file.text)),
             Err(stop) => Err(stop),
         },
-        Ok(Some(Command::Replay { net, journal })) => match replayable(alloc, shelf, net, journal) {
+        Command::Replay { net, journal } => match replayable(alloc, shelf, net, journal) {
             Ok(again) => Ok(Task::Replay(again)),
             Err(stop) => Err(stop),
         },
-        Ok(Some(Command::Make(number))) => Ok(Task::Make(number)),
+        Command::Make { number, workers } => Ok(Task::Make { number, workers }),
     }
 }
 

@@ -1,5 +1,6 @@
 //! The run of a network, and what it leaves.
 ghost use Rattle.std.specs.Prelude.{◌≡◌, ◌≤◌, ◌∷◌, [], length, IfOk, IfSome, IfNone, map, slice_get};
+ghost use Rattle.flow_cli.specs.Engines.{Runs};
 ghost use Rattle.flow_cli.specs.Many.{output_of};
 ghost use Rattle.flow_cli.specs.Components.{HasComponents, written_by};
 ghost use Rattle.flow_cli.specs.Networks.{IsStandardPlan};
@@ -11,13 +12,13 @@ use crate::many::Output;
 use crate::stop::{JournalRefusal, Stop};
 use flow_catalogue::{FileUse, Std, a_plan_over_the_table_is_standard, file_of};
 use flow_journal::{Journal, RUN_LIMIT, ReplayStop, replay};
-use flow_machine::{Closed, Net, solo};
+use flow_machine::{Closed, Net};
 use flow_net::Plan;
 use flow_ready::a_valid_plan_is_ready;
 use flow_report::{Report, Verdict, a_report_tells_of_its_state};
 use flow_runs::{
     a_replay_of_a_net_is_scheduled, a_round_of_a_net_is_a_run,
-    a_schedule_sees_no_more_than_its_turns,
+    a_schedule_sees_no_more_than_its_turns, what_workers_reach_is_a_run,
 };
 use std::alloc::{AllocError, Global};
 
@@ -43,27 +44,26 @@ struct Account {
     journal: Journal,
 }
 
-/// Runs a network on one thread until no process can go on, and makes its report.
-pub fn run_net(alloc: Global, job: Job) -> Result<Ran, AllocError>
+/// Runs a network by an engine until no process can go on, and makes its report.
+pub fn run_net<E>(alloc: Global, engine: &E, job: Job, workers: u32) -> Result<Ran, AllocError>
+where
+    E: Fn(Net<Std>, u32) -> Result<Closed<Std>, AllocError>,
     requires standard { IsStandardPlan job.plan }
     requires components { HasComponents job.plan job.components.items }
+    requires engine { Runs (E.pre engine.now) (E.post engine.now) workers }
     ensures plan { IfOk result (λ ran. ran.plan ≡ job.plan) }
-    ensures leaves { IfOk result (λ ran. Leaves job.plan job.components.items ran.net ran.journal ran.told) }
+    ensures leaves { IfOk result (λ ran. Leaves workers job.plan job.components.items ran.net ran.journal ran.told) }
 {
     a_plan_over_the_table_is_standard();
     a_valid_plan_is_ready::<Std>();
     a_round_of_a_net_is_a_run::<Std>();
+    what_workers_reach_is_a_run::<Std>();
     a_schedule_sees_no_more_than_its_turns::<Std>();
     a_report_tells_of_its_state::<Std>();
     let Job { plan, components } = job;
     let net = Net::start(alloc, &plan, components)?;
-    match solo(alloc, net) {
-        Ok(closed) => tell(alloc, plan, closed),
-        Err(closed) => {
-            closed.discard();
-            Err(AllocError)
-        }
-    }
+    let closed = engine(net, workers)?;
+    tell(alloc, plan, closed)
 }
 
 // The run with its report and its journal. Without memory it is given up.

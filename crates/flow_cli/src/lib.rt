@@ -1,9 +1,10 @@
-//! The top call: words in, files read and written, a report printed.
+//! The top calls: words in, files read and written, a report printed.
 #![tactic(auto)]
 
 mod after;
 mod before;
 mod components;
+mod crew;
 mod engine;
 mod made;
 mod many;
@@ -17,6 +18,7 @@ mod top;
 pub use after::{print, verdict_status, write_outputs};
 pub use before::{Again, Job, Task, prepare};
 pub use components::{FILE_LIMIT, JOURNAL_FILE_LIMIT, give_components, read_components};
+pub use crew::{run_alone, run_by_workers};
 pub use engine::{Ran, Told, replay_net, run_net};
 pub use made::run_made;
 pub use many::{Output, write_files};
@@ -25,7 +27,7 @@ pub use run::{Done, Kept, Said, Unwritten, perform};
 pub use status::Status;
 pub use step::{read_file, write_file};
 pub use stop::{JournalRefusal, Refusal, Stop, read_stop, write_stop};
-pub use top::{Outcome, plain_top};
+pub use top::{Outcome, busy_top, needs_workers, plain_top};
 
 #[cfg(test)]
 mod tests;

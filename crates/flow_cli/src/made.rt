@@ -2,6 +2,7 @@
 ghost use Rattle.std.specs.Prelude.{◌≡◌, ◌<◌, ◌≤◌, ◌++◌, ◌∷◌, [], IfOk, OnOk, codes, length};
 ghost use Rattle.std.specs.Fmt.{decimal};
 ghost use Rattle.flow_catalogue.specs.Processes.{IsStandard};
+ghost use Rattle.flow_cli.specs.Engines.{Runs};
 ghost use Rattle.flow_cli.specs.Makes.{IsMadeJob, PutsOutput, SaysMadeRun, made_input, make_text, output_lines_from};
 ghost use Rattle.flow_cli.specs.Networks.{IsStandardPlan};
 ghost use Rattle.flow_cli.specs.Runs.{bytes_at};
@@ -13,8 +14,9 @@ use crate::engine::{Ran, run_net, written_at, written_name};
 use crate::net_file::network;
 use crate::run::Said;
 use crate::stop::Stop;
-use flow_catalogue::a_plan_over_the_table_is_standard;
+use flow_catalogue::{Std, a_plan_over_the_table_is_standard};
 use flow_limits::NUMBER_LIMIT;
+use flow_machine::{Closed, Net};
 use flow_made::the_made_network_has_a_plan;
 use flow_make::make;
 use flow_text::put_decimal;
@@ -28,16 +30,19 @@ struct MadeJob {
 }
 
 /// Runs the network that is made from this number on the input that is made from it, and makes what is said of it. No file is read or written.
-pub fn run_made(alloc: Global, number: u32) -> Result<Said, Stop>
+pub fn run_made<E>(alloc: Global, engine: &E, number: u32, workers: u32) -> Result<Said, Stop>
+where
+    E: Fn(Net<Std>, u32) -> Result<Closed<Std>, AllocError>,
     requires least { 1 ≤ number }
     requires most { number ≤ NUMBER_LIMIT }
-    ensures { SaysMadeRun number result }
+    requires engine { Runs (E.pre engine.now) (E.post engine.now) workers }
+    ensures { SaysMadeRun number workers result }
 {
     let made = match job_of(alloc, number) {
         Ok(made) => made,
         Err(stop) => return Err(stop),
     };
-    let ran = run_net(alloc, made.job)?;
+    let ran = run_net(alloc, engine, made.job, workers)?;
     let text = text_of(alloc, number, made.bytes, &ran);
     let (told, journal) = ran.into_told();
     match text {

@@ -5,8 +5,9 @@ ghost use Rattle.std.specs.Option.{option_map};
 ghost use Rattle.flow_journal.specs.Files.{IsWritable};
 ghost use Rattle.flow_parse.specs.Canonical.{canonical};
 ghost use Rattle.flow_cli.specs.Components.{HasComponents};
+ghost use Rattle.flow_cli.specs.Engines.{Runs};
 ghost use Rattle.flow_cli.specs.Networks.{IsStandardPlan};
-ghost use Rattle.flow_cli.specs.Reads.{IsEmptyJournal};
+ghost use Rattle.flow_cli.specs.Reads.{IsEmptyJournal, IsServed};
 ghost use Rattle.flow_cli.specs.Runs.{journal_file};
 ghost use Rattle.flow_cli.specs.Top.{KeepsRun, Performs, SaysTurnsAgain, kept_file};
 ghost use Rattle.flow_cli.specs.declared.status.Status.TheVariants.{Finished};
@@ -18,8 +19,10 @@ use crate::engine::{Ran, replay_net, run_net};
 use crate::made::run_made;
 use crate::status::Status;
 use crate::stop::Stop;
+use flow_catalogue::Std;
 use flow_items::Items;
 use flow_journal::Journal;
+use flow_machine::{Closed, Net};
 use flow_parse::{NetText, print as spelled};
 use flow_text::Shelf;
 use std::alloc::{AllocError, Global};
@@ -57,45 +60,61 @@ pub enum Done<'a> {
 }
 
 /// Does all that comes before something is written or printed. No call is made on the shelf after its first fault.
-pub fn perform<'a, F: Shelf>(
+pub fn perform<'a, E, F: Shelf>(
     alloc: Global,
+    engine: &E,
     words: &'a [String],
     shelf: &mut F,
 ) -> Result<Done<'a>, Stop>
+where
+    E: Fn(Net<Std>, u32) -> Result<Closed<Std>, AllocError>,
+    requires { IsServed (Runs (E.pre engine.now) (E.post engine.now)) words.now }
     ensures { Performs (F.outside shelf.old) (F.outside shelf.new) words.entry.now result FILE_LIMIT }
 {
-    match prepare(alloc, words, shelf) {
-        Ok(Task::Run { job, journal }) => match run_and_keep(alloc, job, journal) {
+    let task = match prepare(alloc, words, shelf) {
+        Ok(task) => task,
+        Err(stop) => return Err(stop),
+    };
+    match task {
+        Task::Run {
+            job,
+            journal,
+            workers,
+        } => match run_and_keep(alloc, engine, job, journal, workers) {
             Ok(run) => Ok(Done::Ran(run)),
             Err(AllocError) => Err(Stop::NoMemory),
         },
-        Ok(Task::Check(text)) => match spelling(alloc, &text) {
+        Task::Check(text) => match spelling(alloc, &text) {
             Ok(said) => Ok(Done::Said(said)),
             Err(AllocError) => Err(Stop::NoMemory),
         },
-        Ok(Task::Replay(again)) => match run_again(alloc, again) {
+        Task::Replay(again) => match run_again(alloc, again) {
             Ok(said) => Ok(Done::Said(said)),
             Err(stop) => Err(stop),
         },
-        Ok(Task::Make(number)) => match run_made(alloc, number) {
+        Task::Make { number, workers } => match run_made(alloc, engine, number, workers) {
             Ok(said) => Ok(Done::Said(said)),
             Err(stop) => Err(stop),
         },
-        Err(stop) => Err(stop),
     }
 }
 
 // Runs a network, and makes the file of its journal where one is named.
-fn run_and_keep<'a>(
+fn run_and_keep<'a, E>(
     alloc: Global,
+    engine: &E,
     job: Job,
     name: Option<&'a str>,
+    workers: u32,
 ) -> Result<Unwritten<'a>, AllocError>
+where
+    E: Fn(Net<Std>, u32) -> Result<Closed<Std>, AllocError>,
     requires standard { IsStandardPlan job.plan }
     requires components { HasComponents job.plan job.components.items }
-    ensures { IfOk result (KeepsRun job.plan job.components.items (option_map (λ s. s.now) name.entry)) }
+    requires engine { Runs (E.pre engine.now) (E.post engine.now) workers }
+    ensures { IfOk result (KeepsRun workers job.plan job.components.items (option_map (λ s. s.now) name.entry)) }
 {
-    let ran = run_net(alloc, job)?;
+    let ran = run_net(alloc, engine, job, workers)?;
     match keep(alloc, &ran.journal, name) {
         Ok(kept) => Ok(Unwritten { ran, kept }),
         Err(AllocError) => {

@@ -1,6 +1,6 @@
 // Calls over files in memory: runs and checks to their last byte, refusals, and stops.
 use super::*;
-use flow_text::{MemShelf, MemSink};
+use flow_text::{MemShelf, MemSink, Shelf, Sink};
 use std::alloc::{AllocError, Global};
 use std::process::Abort;
 use std::test::Fail;
@@ -98,7 +98,7 @@ fn run_row(rt: &impl Abort, alloc: Global, row: Row) -> Result<(), Fail> {
     let mut shelf = MemShelf::new(alloc, files, row.piece, ROOM, read_fails, write_fails);
     let mut out = MemSink::new(alloc, row.piece, ROOM, Vec::new(alloc))?;
     let words = words(alloc, row.check)?;
-    let outcome = plain_top(alloc, &words, &mut shelf, &mut out);
+    let outcome = call(rt, alloc, &words, &mut shelf, &mut out)?;
     assert_eq!(rt; out.bytes(), row.printed);
     assert_eq!(rt; outcome.status.code(), row.status);
     assert_eq!(rt; outcome.journal.turns.len(), row.turns);
@@ -297,11 +297,23 @@ fn no_file_is_begun_behind_one_that_fails(rt: HostRuntime) -> Result<(), Fail> {
     let mut shelf = MemShelf::new(alloc, files, 64, ROOM, none, fails);
     let mut out = MemSink::new(alloc, 64, ROOM, Vec::new(alloc))?;
     let words = words(alloc, false)?;
-    let outcome = plain_top(alloc, &words, &mut shelf, &mut out);
+    let outcome = call(&rt, alloc, &words, &mut shelf, &mut out)?;
     assert_eq!(rt; outcome.status.code(), 7);
     assert_eq!(rt; out.bytes(), b"write fault: out\n".as_slice());
     assert!(rt; shelf.file("last").is_none());
     Ok(())
+}
+
+// What the program does with words that ask for no workers.
+fn call<F: Shelf, O: Sink>(
+    rt: &impl Abort,
+    alloc: Global,
+    words: &[String],
+    shelf: &mut F,
+    out: &mut O,
+) -> Result<Outcome, AllocError> {
+    assert!(rt; !needs_workers(alloc, words)?);
+    Ok(plain_top(alloc, words, shelf, out))
 }
 
 // Runs a network on this input.
@@ -320,7 +332,7 @@ fn run_long(
     let mut shelf = MemShelf::new(alloc, files, 1_048_576, ROOM, none, Vec::new(alloc));
     let mut out = MemSink::new(alloc, 64, ROOM, Vec::new(alloc))?;
     let words = words(alloc, false)?;
-    let outcome = plain_top(alloc, &words, &mut shelf, &mut out);
+    let outcome = call(rt, alloc, &words, &mut shelf, &mut out)?;
     assert_eq!(rt; out.bytes(), printed);
     assert_eq!(rt; outcome.status.code(), status);
     assert!(rt; shelf.file("out") == output);
@@ -396,7 +408,7 @@ fn other_words_are_refused(rt: HostRuntime) -> Result<(), Fail> {
         let none = Vec::new(alloc);
         let mut shelf = MemShelf::new(alloc, none, 1, ROOM, Vec::new(alloc), Vec::new(alloc));
         let mut out = MemSink::new(alloc, 9, ROOM, Vec::new(alloc))?;
-        let outcome = plain_top(alloc, words, &mut shelf, &mut out);
+        let outcome = call(&rt, alloc, words, &mut shelf, &mut out)?;
         assert_eq!(rt; outcome.status.code(), 2);
         assert_eq!(rt; out.bytes(), USAGE);
     }

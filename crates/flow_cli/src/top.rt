@@ -1,26 +1,35 @@
-//! The top call.
-ghost use Rattle.std.specs.Prelude.{◌≡◌};
+//! The top calls.
+ghost use Rattle.std.specs.Prelude.{◌≡◌, ◌≤◌, ◌↔◌, IfOk, IsTrue};
+ghost use Rattle.flow_cli.specs.Engines.{RanBy, Runs};
 ghost use Rattle.flow_cli.specs.Meant.{LeavesMeaning};
 ghost use Rattle.flow_cli.specs.Networks.{IsStandardPlan};
+ghost use Rattle.flow_cli.specs.Reads.{AsksWorkers, IsServed};
 ghost use Rattle.flow_cli.specs.Statuses.{IsFinished, IsOver};
 ghost use Rattle.flow_cli.specs.Top.{ComesToEnd, Concludes, Finishes, IsCaused, IsComplete, IsReplay, IsRunnable, PrintsStop, call_of};
 ghost use Rattle.flow_cli.specs.declared.status.Status.TheVariants.{Running};
 
 use crate::after::{print, verdict_status, write_outputs};
 use crate::components::FILE_LIMIT;
+use crate::crew::{run_alone, run_by_workers};
 use crate::run::{Done, Unwritten, no_journal, perform};
 use crate::status::Status;
 use crate::stop::Stop;
 use flow_catalogue::{
     Std, a_plan_over_the_table_is_standard, standard_components_come_to_one_outcome,
 };
+use flow_component::Gate;
 use flow_journal::{
     Journal, a_file_has_one_journal_or_one_fault, a_journal_that_stops_is_no_schedule,
 };
+use flow_limits::WORKER_LIMIT;
+use flow_machine::{Closed, Net};
 use flow_meanings::a_finished_network_composes_its_meanings;
 use flow_ready::a_valid_plan_is_ready;
 use flow_text::{Shelf, Sink};
-use std::alloc::Global;
+use flow_words::{Command, command};
+use std::alloc::{AllocError, Global};
+use std::sync::Wait;
+use std::thread::Threads;
 
 /// How a call ended.
 #[derive(Drop)]
@@ -31,14 +40,30 @@ pub struct Outcome {
     pub journal: Journal,
 }
 
-/// Does what the program does: runs the network that the words name on one thread, or the one that is made from a number, or makes the turns of a
-/// journal again in it, and prints the report; or checks the network file and prints its canonical spelling; or prints why it stopped.
+/// Whether the words ask for workers: then `busy_top` does what they ask for, and otherwise `plain_top`.
+pub fn needs_workers(alloc: Global, words: &[String]) -> Result<bool, AllocError>
+    ensures { IfOk result (λ needs. IsTrue needs ↔ AsksWorkers words.now) }
+{
+    match command(alloc, words)? {
+        Some(Command::Run { workers, .. }) => Ok(workers > 0),
+        Some(Command::Make { workers, .. }) => Ok(workers > 0),
+        Some(Command::Check(_)) => Ok(false),
+        Some(Command::Replay { .. }) => Ok(false),
+        None => Ok(false),
+    }
+}
+
+/// Does what the program does, and waits for nobody: runs the network that the words name on one thread, or the one that is made from a number,
+/// or makes the turns of a journal again in it, and prints the report; or checks the network file and prints its canonical spelling; or prints
+/// why it stopped.
 pub fn plain_top<F: Shelf, O: Sink>(
     alloc: Global,
     words: &[String],
     shelf: &mut F,
     out: &mut O,
 ) -> Outcome
+    requires { AsksWorkers words.now → ⊥ }
+
     // A run came to its end, or a check, a replay or a make did.
     ensures over { IsOver result.status → ComesToEnd (call_of words.now (F.outside shelf.old) (F.outside shelf.new) (O.outside out.old) (O.outside out.new) result.journal result.status) FILE_LIMIT }
 
@@ -55,13 +80,73 @@ pub fn plain_top<F: Shelf, O: Sink>(
     // Where no count rose and all is valid, the call comes to its end, or memory is wanting.
     ensures complete { IsComplete (call_of words.now (F.outside shelf.old) (F.outside shelf.new) (O.outside out.old) (O.outside out.new) result.journal result.status) FILE_LIMIT }
 {
+    let engine = |net: Net<Std>, workers: u32| -> Result<Closed<Std>, AllocError>
+        requires { workers ≡ 0 }
+        ensures { IfOk result (λ closed. RanBy workers net closed.net) }
+    { run_alone(alloc, net) };
+    carry_out(alloc, &engine, words, shelf, out)
+}
+
+/// Does what the program does where the words ask for workers: runs the network that they name, or the one that is made from a number, by so many
+/// workers, each in a thread of its own, and prints the report; or prints why it stopped. Its promises hold if it returns.
+pub fn busy_top<R: Threads + Wait + Sync, F: Shelf, O: Sink, G: Gate + Sync>(
+    rt: &R,
+    alloc: Global,
+    words: &[String],
+    shelf: &mut F,
+    out: &mut O,
+    gate: &G,
+) -> Outcome
+    requires { AsksWorkers words.now }
+
+    // A run came to its end, or a check, a replay or a make did.
+    ensures over { IsOver result.status → ComesToEnd (call_of words.now (F.outside shelf.old) (F.outside shelf.new) (O.outside out.old) (O.outside out.new) result.journal result.status) FILE_LIMIT }
+
+    // A run that finished left the files that its network means.
+    ensures meaning { IsFinished result.status
+        → LeavesMeaning (record { words = words.now; before = F.outside shelf.old; after = F.outside shelf.new; journal = result.journal }) FILE_LIMIT }
+
+    // Each status has the cause of what the call came to.
+    ensures cause { IsCaused (call_of words.now (F.outside shelf.old) (F.outside shelf.new) (O.outside out.old) (O.outside out.new) result.journal result.status) FILE_LIMIT }
+
+    // No call but a replay ends while its network can go on.
+    ensures status { result.status ≡ Running → IsReplay words.now }
+
+    // Where no count rose and all is valid, the call comes to its end, or memory is wanting.
+    ensures complete { IsComplete (call_of words.now (F.outside shelf.old) (F.outside shelf.new) (O.outside out.old) (O.outside out.new) result.journal result.status) FILE_LIMIT }
+{
+    let engine = |net: Net<Std>, workers: u32| -> Result<Closed<Std>, AllocError>
+        requires { (1 ≤ workers) × (workers ≤ WORKER_LIMIT) }
+        ensures { IfOk result (λ closed. RanBy workers net closed.net) }
+    { run_by_workers(rt, alloc, net, workers, gate) };
+    carry_out(alloc, &engine, words, shelf, out)
+}
+
+// Does what the words ask for by an engine that serves it.
+fn carry_out<E, F: Shelf, O: Sink>(
+    alloc: Global,
+    engine: &E,
+    words: &[String],
+    shelf: &mut F,
+    out: &mut O,
+) -> Outcome
+where
+    E: Fn(Net<Std>, u32) -> Result<Closed<Std>, AllocError>,
+    requires { IsServed (Runs (E.pre engine.now) (E.post engine.now)) words.now }
+    ensures over { IsOver result.status → ComesToEnd (call_of words.now (F.outside shelf.old) (F.outside shelf.new) (O.outside out.old) (O.outside out.new) result.journal result.status) FILE_LIMIT }
+    ensures meaning { IsFinished result.status
+        → LeavesMeaning (record { words = words.now; before = F.outside shelf.old; after = F.outside shelf.new; journal = result.journal }) FILE_LIMIT }
+    ensures cause { IsCaused (call_of words.now (F.outside shelf.old) (F.outside shelf.new) (O.outside out.old) (O.outside out.new) result.journal result.status) FILE_LIMIT }
+    ensures status { result.status ≡ Running → IsReplay words.now }
+    ensures complete { IsComplete (call_of words.now (F.outside shelf.old) (F.outside shelf.new) (O.outside out.old) (O.outside out.new) result.journal result.status) FILE_LIMIT }
+{
     a_plan_over_the_table_is_standard();
     a_valid_plan_is_ready::<Std>();
     a_finished_network_composes_its_meanings();
     standard_components_come_to_one_outcome();
     a_journal_that_stops_is_no_schedule::<Std>();
     a_file_has_one_journal_or_one_fault();
-    match perform(alloc, words, shelf) {
+    match perform(alloc, engine, words, shelf) {
         Ok(done) => conclude(alloc, shelf, out, done),
         Err(stop) => Outcome {
             status: print_stop(alloc, out, &stop),

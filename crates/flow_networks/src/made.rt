@@ -1,5 +1,5 @@
 //! The made network over the smallest made input.
-use flow_cli::plain_top;
+use crate::run::call_plain;
 use flow_make::make;
 use flow_text::{MemShelf, MemSink};
 use std::test::Fail;
@@ -19,7 +19,7 @@ fn a_made_network_finishes(rt: HostRuntime) -> Result<(), Fail> {
     let mut shelf = MemShelf::new(alloc, files, PIECE, ROOM, Vec::new(alloc), Vec::new(alloc));
     let mut out = MemSink::new(alloc, PIECE, ROOM, Vec::new(alloc))?;
     let words = vec![in alloc; String::from_str(alloc, "net")?]?;
-    let outcome = plain_top(alloc, &words, &mut shelf, &mut out);
+    let outcome = call_plain(&rt, alloc, &words, &mut shelf, &mut out)?;
     assert_eq!(rt; outcome.status.code(), 0);
     // Each word is in each file of lines, and behind it is a space or the end of a line, as in the input.
     for name in ["a", "b"] {

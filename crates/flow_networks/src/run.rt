@@ -1,9 +1,9 @@
 //! One run of a network over files in memory, against what it has to leave.
 ghost use Rattle.std.specs.Prelude.{◌≤◌};
 
-use flow_cli::plain_top;
+use flow_cli::{Outcome, needs_workers, plain_top};
 use flow_items::Items;
-use flow_text::{MemShelf, MemSink};
+use flow_text::{MemShelf, MemSink, Shelf, Sink};
 use std::alloc::{AllocError, Global};
 use std::process::Abort;
 use std::test::Fail;
@@ -85,6 +85,18 @@ fn words(alloc: Global, check: bool) -> Result<Vec<String>, AllocError> {
     Ok(words)
 }
 
+/// What the program does with words that ask for no workers.
+pub fn call_plain<F: Shelf, O: Sink>(
+    rt: &impl Abort,
+    alloc: Global,
+    words: &[String],
+    shelf: &mut F,
+    out: &mut O,
+) -> Result<Outcome, AllocError> {
+    assert!(rt; !needs_workers(alloc, words)?);
+    Ok(plain_top(alloc, words, shelf, out))
+}
+
 /// Runs the row's network, and returns the levels that were told on the way.
 pub fn run_row(rt: &impl Abort, alloc: Global, row: Row) -> Result<Items<u16>, Fail> {
     run_on(rt, alloc, row, NONE)
@@ -97,7 +109,7 @@ pub fn run_refused(rt: &impl Abort, alloc: Global, row: Row) -> Result<(), Fail>
     let fails = vec![in alloc; 1]?;
     let mut out = MemSink::new(alloc, row.piece, ROOM, fails)?;
     let words = words(alloc, row.check)?;
-    let outcome = plain_top(alloc, &words, &mut shelf, &mut out);
+    let outcome = call_plain(rt, alloc, &words, &mut shelf, &mut out)?;
     assert_eq!(rt; outcome.status.code(), row.status);
     assert!(rt; out.bytes().is_empty());
     for (name, bytes) in row.outputs {
@@ -119,7 +131,7 @@ pub fn run_on(
     let mut shelf = shelf_of(alloc, row, more)?;
     let mut out = MemSink::new(alloc, row.piece, ROOM, Vec::new(alloc))?;
     let words = words(alloc, row.check)?;
-    let outcome = plain_top(alloc, &words, &mut shelf, &mut out);
+    let outcome = call_plain(rt, alloc, &words, &mut shelf, &mut out)?;
     assert!(rt; out.bytes().starts_with(row.starts) && out.bytes().ends_with(row.ends));
     if let Some(printed) = row.printed {
         assert_eq!(rt; out.bytes(), printed);

@@ -1,11 +1,12 @@
--- A net that started, and then went round until it was quiet, comes of a run of its network.
-use Rattle.std.proofs.Common.{◌≡◌, ℕ, Bool, zero, suc, ◌+◌, List, [], ◌∷◌, ◌++◌, length, map, Some, refl, sym, ◌∙◌, ap, subst, arith, inl, inr, slice_get, length-set}
+-- A net that started, and then went on until it was quiet, comes of a run of its network.
+use Rattle.std.proofs.Common.{◌≡◌, ◌≢◌, ℕ, Bool, zero, suc, ◌+◌, List, [], ◌∷◌, ◌++◌, length, map, Some, refl, sym, ◌∙◌, ap, subst, arith, inl, inr, slice_get, length-set}
 use Rattle.std.specs.List.{sum_by}
 use Rattle.std.proofs.lemmas.List.{length-map}
 use Rattle.std.proofs.lemmas.List.Sums.{sum_by-cons}
 use Rattle.flow_packet.specs.Held.{Held}
 use Rattle.flow_component.specs.declared.Answer.{Answer}
 use Rattle.flow_component.specs.Laws.{Outcome}
+use Rattle.flow_model.specs.declared.Stage.{Stage}
 use Rattle.flow_model.specs.declared.Stage.TheVariants as stages
 use Rattle.flow_model.specs.States.{Process, State}
 use Rattle.flow_model.specs.Turns.{process_after}
@@ -18,10 +19,16 @@ use Rattle.flow_model.specs.Stands.{BodyShown, StandsForOpen, bodies_from, show_
 use Rattle.flow_component.specs.declared.Shape.{Shape}
 use Rattle.flow_model.specs.Schedules.{Leads}
 use Rattle.flow_model.specs.Robin.{RoundRobin}
-use Rattle.flow_model.specs.Laws.{KeepsPrefixes, RoundRobinLeads}
+use Rattle.flow_model.specs.Verdicts.{Quiet}
+use Rattle.flow_model.specs.Fit.{Fit}
+use Rattle.flow_model.specs.Plans.{StartsWell}
+use Rattle.flow_model.specs.Schedules.{journal_of as steps_journal}
+use Rattle.flow_model.specs.Laws.{KeepsPrefixes, RoundRobinLeads, TurnsAreSchedule}
 use Rattle.flow_model.proofs.Fits.{Fit-start}
 use Rattle.flow_machine.specs.Logs.{journal_of}
-use Rattle.flow_runs.specs.Runs.{RoundsAreRuns}
+use Rattle.flow_journal.specs.Journals.{NamesTurns, NamesSeen}
+use Rattle.flow_machine.specs.Starts.{StartsNet}
+use Rattle.flow_runs.specs.Runs.{ComesOfRun, ReachesAreRuns, RoundsAreRuns}
 use Rattle.flow_machine.specs.Values.{BodyValue, NetValue, shown_net, shown_body}
 use Rattle.flow_machine.specs.Logs.{Logged, IsLogOf, Remembers, stamps_of, levels_of, turns_made}
 
@@ -119,18 +126,31 @@ start-count plan p [] components same = refl
 start-count plan p (x ∷ xs) [] same = absurd (omega (arith, same))
 start-count plan p (x ∷ xs) (component ∷ components) same = omega (arith, start-count plan (p + 1) xs components (omega (arith, same)))
 
+-- a thought process has no work to do
+is-thought : (stage : Stage) → ((answer : Answer) → stage ≢ stages.Told answer) → IsThoughtStage stage
+is-thought (stages.Told answer) thought = absurd (thought answer refl)
+is-thought stages.Idle thought = tt
+is-thought (stages.Wishing wish) thought = tt
+is-thought (stages.Closing i) thought = tt
+is-thought stages.Ended thought = tt
+is-thought (stages.Failed cause) thought = tt
+
+-- so a quiet state has none pending
+quiet-closed : {K : Type 0} (s : State K) → Quiet s → IsClosed s
+quiet-closed s quiet p x there = is-thought x.stage (quiet.thought p x there)
+
 module _ {K : Type 0} (shape_of : K → Shape) (uses : K → ℕ → Bool) (ready : K → Held → Answer → Type 0) (next : K → Held → Answer → Outcome K → Type 0) where
-  pub round-is-run : KeepsPrefixes shape_of uses ready next → RoundRobinLeads next → RoundsAreRuns shape_of uses ready next
-  round-is-run keeps leads plan components start net turns seen well begins goes names_turns names_seen =
-      let log = goes.0 in
-      let by = goes.2 in
-      let states = by.states (start_of plan components) (Fit-start shape_of uses ready plan components well) begins.stands in
-      let last = states.0 in
-      let settled : states.1.0 ≡ start_of plan components = settled-start next plan components states.1.0 states.1.1 in
-      let robin : RoundRobin next (start_of plan components) (journal_of log) last = subst (λ t. RoundRobin next t (journal_of log) last) settled states.1.2 in
-      let schedule : Leads next (start_of plan components) (journal_of log) last = leads (start_of plan components) (journal_of log) last robin in
+  -- The turns of a net that started, which are a schedule to a quiet state that the net stands for, are those of a run, whose journal names them.
+  comes-of-run : KeepsPrefixes shape_of uses ready next → (workers : ℕ) (plan : Plan) (components : List K) (start net : NetValue K) (log : List Logged) (turns seen : List ℕ) (last : State K)
+      → StartsWell shape_of uses ready plan components → StartsNet plan components start
+      → Remembers (turns_made start) start.bodies log net.bodies → turns_made net ≡ turns_made start + length log
+      → Leads next (start_of plan components) (journal_of log) last → Quiet last → (workers ≡ 0 → RoundRobin next (start_of plan components) (journal_of log) last)
+      → Fit shape_of uses ready last → StandsForOpen (shown_net net) last
+      → NamesTurns net turns → NamesSeen net seen
+      → ComesOfRun shape_of uses ready next workers plan components (record { turns = turns; seen = seen }) net
+  comes-of-run keeps workers plan components start net log turns seen last well begins remembers total schedule quiet robin fit stands names_turns names_seen =
       let count = schedule-count next (start_of plan components) (journal_of log).turns (journal_of log).seen last schedule in
-      let logged : IsLogOf log net = all-logged plan components start log net last begins.stands begins.unmade by.remembers goes.1 states.3 count in
+      let logged : IsLogOf log net = all-logged plan components start log net last begins.stands begins.unmade remembers total stands count in
       let turns_are : turns ≡ (journal_of log).turns = names_turns log logged in
       let seen_are : seen ≡ (journal_of log).seen = names_seen log logged in
       let journal : Journal = record { turns = turns; seen = seen } in
@@ -140,10 +160,34 @@ module _ {K : Type 0} (shape_of : K → Shape) (uses : K → ℕ → Bool) (read
         last = last;
         run = record {
           schedule = record { leads = whole; prefixes = λ front mid prefix. keeps plan components journal front last mid well prefix };
-          robin = subst (λ j. RoundRobin next (start_of plan components) j last) same robin;
-          quiet = states.1.3;
+          quiet = quiet;
+          robin = λ none. subst (λ j. RoundRobin next (start_of plan components) j last) same (robin none);
         };
-        stands = states.3;
-        fit = states.2;
+        stands = stands;
+        fit = fit;
         count = count ∙ start-count plan 0 plan.processes components (sym well.one_each);
       }
+
+  pub round-is-run : KeepsPrefixes shape_of uses ready next → RoundRobinLeads next → RoundsAreRuns shape_of uses ready next
+  round-is-run keeps leads plan components start net turns seen well begins goes names_turns names_seen =
+      let log = goes.0 in
+      let by = goes.2 in
+      let states = by.states (start_of plan components) (Fit-start shape_of uses ready plan components well) begins.stands in
+      let last = states.0 in
+      let settled : states.1.0 ≡ start_of plan components = settled-start next plan components states.1.0 states.1.1 in
+      let robin : RoundRobin next (start_of plan components) (journal_of log) last = subst (λ t. RoundRobin next t (journal_of log) last) settled states.1.2 in
+      let schedule : Leads next (start_of plan components) (journal_of log) last = leads (start_of plan components) (journal_of log) last robin in
+      comes-of-run keeps 0 plan components start net log turns seen last well begins by.remembers goes.1 schedule states.1.3 (λ _. robin) states.2 states.3 names_turns names_seen
+
+  pub reach-is-run : KeepsPrefixes shape_of uses ready next → TurnsAreSchedule next → ReachesAreRuns shape_of uses ready next
+  reach-is-run keeps turns_are workers plan components start net turns seen some_workers well begins reaches is_quiet names_turns names_seen =
+      let log = reaches.goes.0 in
+      let by = reaches.goes.2 in
+      let states = by.states (start_of plan components) (Fit-start shape_of uses ready plan components well) begins.stands in
+      let last = states.0 in
+      let steps = states.1.0 in
+      let quiet : Quiet last = is_quiet.quiet last states.3 in
+      let done : SettlesAll next last last = record { works = []; lead = refl; closed = quiet-closed last quiet } in
+      let made : Leads next (start_of plan components) (steps_journal steps) last = turns_are (start_of plan components) steps last last (start-closed plan components) states.1.2 done in
+      let schedule : Leads next (start_of plan components) (journal_of log) last = subst (λ j. Leads next (start_of plan components) j last) (sym states.1.1) made in
+      comes-of-run keeps workers plan components start net log turns seen last well begins by.remembers reaches.goes.1 schedule quiet (λ none. absurd (omega (arith, none, some_workers))) states.2 states.3 names_turns names_seen

@@ -1,5 +1,5 @@
 -- A run: its journal, and the state to which that leads.
-use Rattle.std.specs.Prelude.{◌≡◌, ℕ, ◌≤◌, Bool, List, length}
+use Rattle.std.specs.Prelude.{◌≡◌, ℕ, ◌<◌, ◌≤◌, Bool, List, length}
 use Rattle.flow_packet.specs.Held.{Held}
 use Rattle.flow_component.specs.declared.Answer.{Answer}
 use Rattle.flow_component.specs.declared.Shape.{Shape}
@@ -16,7 +16,8 @@ use Rattle.flow_model.specs.Stands.{StandsForOpen}
 use Rattle.flow_model.specs.Fit.{Fit}
 use Rattle.flow_machine.specs.Values.{NetValue, shown_net}
 use Rattle.flow_machine.specs.Starts.{StartsNet}
-use Rattle.flow_machine.specs.Solo.{Goes, round_robin}
+use Rattle.flow_machine.specs.Solo.{Goes, ReachesNet, round_robin}
+use Rattle.flow_machine.specs.Quiet.{IsQuietNet}
 use Rattle.flow_machine.specs.Logs.{turns_made}
 use Rattle.flow_journal.specs.declared.merge.Journal.{Journal as ProgramJournal}
 use Rattle.flow_journal.specs.declared.refusal.Refusal.{Refusal}
@@ -30,22 +31,23 @@ pub record IsScheduled {K : Type 0} (next : K → Held → Answer → Outcome K 
   pub leads : Leads next (start_of plan components) journal last
   pub prefixes : (front : Journal) (mid : State K) → Prefix next (start_of plan components) journal last front mid → OnePlace mid × InOrder mid
 
--- A run on one thread to its end: its journal is a schedule, it is the round robin, and after it no process can go on. (Turns of several workers are a
--- schedule and no round robin, and what is made again from a part of a journal needn't end quiet.)
-pub record IsRun {K : Type 0} (next : K → Held → Answer → Outcome K → Type 0) (plan : Plan) (components : List K) (journal : Journal) (last : State K) : Type 0 where
+-- A run by so many workers to its end: its journal is a schedule, and after it no process can go on. Without workers one thread makes the turns, and then
+-- the journal is the round robin. (Turns of workers are a schedule and mostly no round robin, and what is made again from a part of a journal needn't end
+-- quiet.)
+pub record IsRun {K : Type 0} (next : K → Held → Answer → Outcome K → Type 0) (workers : ℕ) (plan : Plan) (components : List K) (journal : Journal) (last : State K) : Type 0 where
   pub schedule : IsScheduled next plan components journal last
-  pub robin : RoundRobin next (start_of plan components) journal last
   pub quiet : Quiet last
+  pub robin : workers ≡ 0 → RoundRobin next (start_of plan components) journal last
 
 -- The net has come out of such a run: it stands for the last state, in which each component still fits its process.
-pub record ComesOfRun {K : Type 0} (shape_of : K → Shape) (uses : K → ℕ → Bool) (ready : K → Held → Answer → Type 0) (next : K → Held → Answer → Outcome K → Type 0) (plan : Plan) (components : List K) (journal : Journal) (net : NetValue K) : Type 0 where
+pub record ComesOfRun {K : Type 0} (shape_of : K → Shape) (uses : K → ℕ → Bool) (ready : K → Held → Answer → Type 0) (next : K → Held → Answer → Outcome K → Type 0) (workers : ℕ) (plan : Plan) (components : List K) (journal : Journal) (net : NetValue K) : Type 0 where
   pub last : State K
-  pub run : IsRun next plan components journal last
+  pub run : IsRun next workers plan components journal last
   pub stands : StandsForOpen (shown_net net) last
   pub fit : Fit shape_of uses ready last
   pub count : length last.kept.processes ≡ length plan.processes
 
--- A net that started from a plan and went round until it was quiet has come out of a run, whose journal its turns and numbers are.
+-- A net that started from a plan and went round until it was quiet has come out of a run on one thread, whose journal its turns and numbers are.
 abbrev pub RoundsAreRuns : {K : Type 0} → (K → Shape) → (K → ℕ → Bool) → (K → Held → Answer → Type 0) → (K → Held → Answer → Outcome K → Type 0) → Type 0
 RoundsAreRuns {K} shape_of uses ready next =
     (plan : Plan) (components : List K) (start net : NetValue K) (turns seen : List ℕ)
@@ -54,7 +56,21 @@ RoundsAreRuns {K} shape_of uses ready next =
     → Goes shape_of uses ready (round_robin next) start (turns_made start) net (turns_made net)
     → NamesTurns net turns
     → NamesSeen net seen
-    → ComesOfRun shape_of uses ready next plan components (record { turns = turns; seen = seen }) net
+    → ComesOfRun shape_of uses ready next 0 plan components (record { turns = turns; seen = seen }) net
+
+-- A net that started from a plan, and went on by turns and works in some order until it was quiet, has come out of a run by workers, however many they
+-- were, whose journal its turns and numbers are.
+abbrev pub ReachesAreRuns : {K : Type 0} → (K → Shape) → (K → ℕ → Bool) → (K → Held → Answer → Type 0) → (K → Held → Answer → Outcome K → Type 0) → Type 0
+ReachesAreRuns {K} shape_of uses ready next =
+    (workers : ℕ) (plan : Plan) (components : List K) (start net : NetValue K) (turns seen : List ℕ)
+    → 0 < workers
+    → StartsWell shape_of uses ready plan components
+    → StartsNet plan components start
+    → ReachesNet shape_of uses ready next start net
+    → IsQuietNet net
+    → NamesTurns net turns
+    → NamesSeen net seen
+    → ComesOfRun shape_of uses ready next workers plan components (record { turns = turns; seen = seen }) net
 
 -- The net has come out of turns that are a schedule from the start of the plan: it stands for the state to which they lead, in which each component still
 -- fits its process. (That state needn't be quiet.)

@@ -1,11 +1,13 @@
-//! What a run on one thread is, and what a replay is, from the start of a network to its journal: the engine's contracts and the machine's laws,
-//! joined.
+//! What a run is, on one thread or by workers, and what a replay is, from the start of a network to its journal: the contracts of what makes the
+//! turns and the machine's laws, joined.
 #![tactic(auto)]
 
-ghost use Rattle.flow_runs.specs.Runs.{RoundsAreRuns, ReplaysAreScheduled, StopsAreFromTheStart, SeesNoMoreThanTurns};
+ghost use Rattle.flow_runs.specs.Runs.{RoundsAreRuns, ReachesAreRuns, ReplaysAreScheduled, StopsAreFromTheStart, SeesNoMoreThanTurns};
 
 use flow_component::Component;
-use flow_model::{every_schedule_keeps_the_packets, round_robins_are_schedules};
+use flow_model::{
+    every_schedule_keeps_the_packets, round_robins_are_schedules, turns_and_works_are_schedules,
+};
 
 /// Where a network started from a plan with components that fit, and went round until it was quiet, its journal is a schedule from the plan's
 /// start and the round robin, after each of whose prefixes each packet is in one place and each connection is in order; the network stands for
@@ -15,6 +17,16 @@ pub fn a_round_of_a_net_is_a_run<K: Component>()
 {
     every_schedule_keeps_the_packets::<K>();
     round_robins_are_schedules::<K>();
+}
+
+/// Where a network started from a plan with components that fit, and went on by turns and works in some order until no process could go on, its
+/// journal is a schedule from the plan's start, after each of whose prefixes each packet is in one place and each connection is in order; the network
+/// stands for the state to which the whole journal leads, in which no process can go on.
+pub fn what_workers_reach_is_a_run<K: Component>()
+    ensures { ReachesAreRuns K.shape_of K.uses K.ready K.next }
+{
+    every_schedule_keeps_the_packets::<K>();
+    turns_and_works_are_schedules::<K>();
 }
 
 /// Where a network started from a plan with components that fit, and made the turns of a journal again, that journal is a schedule from the

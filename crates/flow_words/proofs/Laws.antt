@@ -1,17 +1,17 @@
 -- What the lines of a command ask for.
-use Rattle.std.proofs.Common.{◌≡◌, refl, true, false, Bool, ℕ, List, [], ◌∷◌, ◌++◌, Some, None, Option, codes, inl, inr, sym, ◌∙◌, ap}
+use Rattle.std.proofs.Common.{◌≡◌, ◌≤◌, ◌+◌, ◌⊎◌, refl, true, false, ℕ, List, [], ◌∷◌, ◌++◌, Some, None, Option, codes, inl, inr, sym, ◌∙◌, ap, arith}
 use Rattle.std.specs.Fmt.{decimal}
-use Rattle.std.specs.Option.{option_map}
+use Rattle.std.specs.Option.{option_and_then, option_map}
 use Rattle.std.specs.Str.{bytes_eq}
 use Rattle.clap.specs.Lexer.{long_of, short_of}
 use Rattle.clap.specs.Faults.{fault_of, is_simple_and_free, turn_fault}
 use Rattle.clap.specs.Simple.{App, built, filled, is_simple, matches_of}
 use Rattle.clap.specs.Walk.{Held, Row, Rule, Text, Walk, idle, option, nothing_held, reacted, settled, plain_word, walk_from, walked, word_met}
 use Rattle.clap.proofs.OnLiterals.{clap_on_literals}
-use Rattle.flow_words.specs.Words.{Asked, Run, Check, Replay, Make, IsWithinBounds, asked_in, command_of, flag_rule, line_app}
-use Rattle.flow_words.specs.Numbers.{spelled_number}
+use Rattle.flow_limits.specs.declared.TheConstants.{NUMBER_LIMIT, WORKER_LIMIT}
+use Rattle.flow_words.specs.Words.{Asked, Run, Check, Replay, Make, IsWithinBounds, asked_in, command_of, flag_rule, given_workers, line_app, make_by}
 use Rattle.flow_words.proofs.Numbers.{own-number}
-use Rattle.flow_words.specs.Lines.{AskFor, IsBesideName, IsCheckFlag, IsName, IsOption, is_flag}
+use Rattle.flow_words.specs.Lines.{AreBoth, AskFor, IsBesideName, IsCheckFlag, IsName, IsOption, is_flag, joined}
 
 abbrev rules : List Rule
 rules = (built line_app).top.rules
@@ -67,7 +67,7 @@ name-free : (name : Text) → is_flag name ≡ false → fault_of line_app (name
 unfolding clap_on_literals
 name-free name plain = rw (name-walk name plain, name-turn name plain) refl
 
-name-rows : (name : Text) → is_flag name ≡ false → asked_in (matches_of line_app (name ∷ [])) ≡ Some (Run name None)
+name-rows : (name : Text) → is_flag name ≡ false → asked_in (matches_of line_app (name ∷ [])) ≡ Some (Run name None 0)
 unfolding clap_on_literals
 name-rows name plain = rw (name-walk name plain) refl
 
@@ -88,40 +88,106 @@ unfolding clap_on_literals
 after-rows name plain = rw (name-walk name plain) refl
 
 -- With no fault the rows are read.
+given : (words : List Text) (asked : Option Asked) → fault_of line_app words ≡ [] → asked_in (matches_of line_app words) ≡ asked → command_of words ≡ asked
+given words asked free rows = rw (free, rows) refl
+
 taken : (words : List Text) (asked : Asked) → fault_of line_app words ≡ [] → asked_in (matches_of line_app words) ≡ Some asked → command_of words ≡ Some asked
 taken words asked free rows = rw (free, rows) refl
 
--- A line for any names whatever, and for any number: the network file's name stands behind `--`, and a value behind `=`.
+-- What is asked for with these workers, once the number is known that the word of the workers spells.
+run-by : (net : Text) (journal : Option Text) (workers : ℕ) → workers ≤ WORKER_LIMIT → option_map (Run net journal) (given_workers (Some (decimal workers))) ≡ Some (Run net journal workers)
+run-by net journal workers few = ap (option_map (Run net journal)) (own-number 0 (WORKER_LIMIT + 1) workers (omega arith) (omega arith) (omega (arith, few)))
+
+made-by : (number workers : ℕ) → 1 ≤ number → number ≤ NUMBER_LIMIT → make_by (decimal number) workers ≡ Some (Make number workers)
+made-by number workers least most = ap (option_map (λ (n : ℕ). Make n workers)) (own-number 1 NUMBER_LIMIT number (omega arith) least (omega (arith, most)))
+
+make-by : (number workers : ℕ) → 1 ≤ number → number ≤ NUMBER_LIMIT → workers ≤ WORKER_LIMIT
+    → option_and_then (make_by (decimal number)) (given_workers (Some (decimal workers))) ≡ Some (Make number workers)
+make-by number workers least most few =
+    ap (option_and_then (make_by (decimal number))) (own-number 0 (WORKER_LIMIT + 1) workers (omega arith) (omega arith) (omega (arith, few))) ∙ made-by number workers least most
+
+-- A line for any names whatever, and for any number, where nothing is said of workers: the network file's name stands behind `--`, and a value behind `=`.
 abbrev full_line : Asked → List Text
-full_line (Run net None) = codes "--" ∷ net ∷ []
-full_line (Run net (Some journal)) = (codes "--journal" ++ codes "=" ++ journal) ∷ codes "--" ∷ net ∷ []
+full_line (Run net None workers) = codes "--" ∷ net ∷ []
+full_line (Run net (Some journal) workers) = joined (codes "--journal") journal ∷ codes "--" ∷ net ∷ []
 full_line (Check net) = codes "--check" ∷ codes "--" ∷ net ∷ []
-full_line (Replay net journal) = (codes "--replay" ++ codes "=" ++ journal) ∷ codes "--" ∷ net ∷ []
-full_line (Make number) = (codes "--make" ++ codes "=" ++ decimal number) ∷ []
+full_line (Replay net journal) = joined (codes "--replay") journal ∷ codes "--" ∷ net ∷ []
+full_line (Make number workers) = joined (codes "--make") (decimal number) ∷ []
+
+-- The same without its workers.
+abbrev alone : Asked → Asked
+alone (Run net journal workers) = Run net journal 0
+alone (Check net) = Check net
+alone (Replay net journal) = Replay net journal
+alone (Make number workers) = Make number 0
 
 full-free : (asked : Asked) → fault_of line_app (full_line asked) ≡ []
 unfolding clap_on_literals
-full-free (Run net None) = refl
-full-free (Run net (Some journal)) = refl
+full-free (Run net None workers) = refl
+full-free (Run net (Some journal) workers) = refl
 full-free (Check net) = refl
 full-free (Replay net journal) = refl
-full-free (Make number) = refl
+full-free (Make number workers) = refl
 
-full-rows : (asked : Asked) → IsWithinBounds asked → asked_in (matches_of line_app (full_line asked)) ≡ Some asked
+full-rows : (asked : Asked) → IsWithinBounds asked → asked_in (matches_of line_app (full_line asked)) ≡ Some (alone asked)
 unfolding clap_on_literals
-full-rows (Run net None) within = refl
-full-rows (Run net (Some journal)) within = refl
+full-rows (Run net None workers) within = refl
+full-rows (Run net (Some journal) workers) within = refl
 full-rows (Check net) within = refl
 full-rows (Replay net journal) within = refl
-full-rows (Make number) within = ap (option_map Make) (own-number number within.0 within.1)
+full-rows (Make number workers) within = made-by number 0 within.0 within.1
 
-full : (asked : Asked) → IsWithinBounds asked → command_of (full_line asked) ≡ Some asked
+full : (asked : Asked) → IsWithinBounds asked → command_of (full_line asked) ≡ Some (alone asked)
 full asked within = taken _ _ (full-free asked) (full-rows asked within)
 
--- The options that name a journal's file: that of a run, and that of a replay.
-abbrev kept : Bool → Text
-kept true = codes "journal"
-kept false = codes "replay"
+-- Lines with two options, each with its value behind `=`.
+both-free : (net journal : Text) (workers : ℕ) → fault_of line_app (joined (codes "--journal") journal ∷ joined (codes "--workers") (decimal workers) ∷ codes "--" ∷ net ∷ []) ≡ []
+unfolding clap_on_literals
+both-free net journal workers = refl
+
+both-rows : (net journal : Text) (workers : ℕ) → workers ≤ WORKER_LIMIT
+    → asked_in (matches_of line_app (joined (codes "--journal") journal ∷ joined (codes "--workers") (decimal workers) ∷ codes "--" ∷ net ∷ [])) ≡ Some (Run net (Some journal) workers)
+unfolding clap_on_literals
+both-rows net journal workers few = run-by net (Some journal) workers few
+
+other-free : (net journal : Text) (workers : ℕ) → fault_of line_app (joined (codes "--workers") (decimal workers) ∷ joined (codes "--journal") journal ∷ codes "--" ∷ net ∷ []) ≡ []
+unfolding clap_on_literals
+other-free net journal workers = refl
+
+other-rows : (net journal : Text) (workers : ℕ) → workers ≤ WORKER_LIMIT
+    → asked_in (matches_of line_app (joined (codes "--workers") (decimal workers) ∷ joined (codes "--journal") journal ∷ codes "--" ∷ net ∷ [])) ≡ Some (Run net (Some journal) workers)
+unfolding clap_on_literals
+other-rows net journal workers few = run-by net (Some journal) workers few
+
+make-both-free : (number workers : ℕ) → fault_of line_app (joined (codes "--make") (decimal number) ∷ joined (codes "--workers") (decimal workers) ∷ []) ≡ []
+unfolding clap_on_literals
+make-both-free number workers = refl
+
+make-both-rows : (number workers : ℕ) → 1 ≤ number → number ≤ NUMBER_LIMIT → workers ≤ WORKER_LIMIT
+    → asked_in (matches_of line_app (joined (codes "--make") (decimal number) ∷ joined (codes "--workers") (decimal workers) ∷ [])) ≡ Some (Make number workers)
+unfolding clap_on_literals
+make-both-rows number workers least most few = make-by number workers least most few
+
+make-other-free : (number workers : ℕ) → fault_of line_app (joined (codes "--workers") (decimal workers) ∷ joined (codes "--make") (decimal number) ∷ []) ≡ []
+unfolding clap_on_literals
+make-other-free number workers = refl
+
+make-other-rows : (number workers : ℕ) → 1 ≤ number → number ≤ NUMBER_LIMIT → workers ≤ WORKER_LIMIT
+    → asked_in (matches_of line_app (joined (codes "--workers") (decimal workers) ∷ joined (codes "--make") (decimal number) ∷ [])) ≡ Some (Make number workers)
+unfolding clap_on_literals
+make-other-rows number workers least most few = make-by number workers least most few
+
+-- The options that stand beside a name: the journal's file of a run, that of a replay, and the workers of a run.
+data Beside : Type 0 where
+  keeps : Beside
+  again : Beside
+  shared : Beside
+
+-- The name of the option.
+abbrev kept : Beside → Text
+kept keeps = codes "journal"
+kept again = codes "replay"
+kept shared = codes "workers"
 
 -- The walk stands behind an option, whose value is still to come.
 abbrev waits : Text → List Row → ℕ → Walk
@@ -147,130 +213,159 @@ value-met : (name : Text) (position : ℕ) (held : Held) (word : Text) → is_fl
 unfolding clap_on_literals
 value-met name position held word plain = rw (no-dashes word plain, no-long word plain, no-short word plain) refl
 
-value-walk : (keeps : Bool) (rows : List Row) (position : ℕ) (word : Text) → is_flag word ≡ false → walked rules [] (waits (kept keeps) rows position) word ≡ has_value (kept keeps) word rows position
+value-walk : (o : Beside) (rows : List Row) (position : ℕ) (word : Text) → is_flag word ≡ false → walked rules [] (waits (kept o) rows position) word ≡ has_value (kept o) word rows position
 unfolding clap_on_literals
-value-walk true rows position word plain = rw (value-met (codes "journal") position (waits (codes "journal") rows position).held word plain) refl
-value-walk false rows position word plain = rw (value-met (codes "replay") position (waits (codes "replay") rows position).held word plain) refl
+value-walk keeps rows position word plain = rw (value-met (codes "journal") position (waits (codes "journal") rows position).held word plain) refl
+value-walk again rows position word plain = rw (value-met (codes "replay") position (waits (codes "replay") rows position).held word plain) refl
+value-walk shared rows position word plain = rw (value-met (codes "workers") position (waits (codes "workers") rows position).held word plain) refl
 
-value-turn : (keeps : Bool) (rows : List Row) (position : ℕ) (word : Text) → is_flag word ≡ false → turn_fault (built line_app).top [] (waits (kept keeps) rows position) word ≡ []
+value-turn : (o : Beside) (rows : List Row) (position : ℕ) (word : Text) → is_flag word ≡ false → turn_fault (built line_app).top [] (waits (kept o) rows position) word ≡ []
 unfolding clap_on_literals
-value-turn true rows position word plain = rw (value-met (codes "journal") position (waits (codes "journal") rows position).held word plain, no-dashes word plain, no-long word plain, no-short word plain) refl
-value-turn false rows position word plain = rw (value-met (codes "replay") position (waits (codes "replay") rows position).held word plain, no-dashes word plain, no-long word plain, no-short word plain) refl
+value-turn keeps rows position word plain = rw (value-met (codes "journal") position (waits (codes "journal") rows position).held word plain, no-dashes word plain, no-long word plain, no-short word plain) refl
+value-turn again rows position word plain = rw (value-met (codes "replay") position (waits (codes "replay") rows position).held word plain, no-dashes word plain, no-long word plain, no-short word plain) refl
+value-turn shared rows position word plain = rw (value-met (codes "workers") position (waits (codes "workers") rows position).held word plain, no-dashes word plain, no-long word plain, no-short word plain) refl
 
-valued-walk : (keeps : Bool) (value name : Text) → is_flag name ≡ false
-    → walked rules [] (has_value (kept keeps) value [] 1) name ≡ with_name name (settled rules (has_value (kept keeps) value [] 1).held).rows
+valued-walk : (o : Beside) (value name : Text) → is_flag name ≡ false
+    → walked rules [] (has_value (kept o) value [] 1) name ≡ with_name name (settled rules (has_value (kept o) value [] 1).held).rows
 unfolding clap_on_literals
-valued-walk true value name plain = rw (name-met (has_value (codes "journal") value [] 1).held name plain) refl
-valued-walk false value name plain = rw (name-met (has_value (codes "replay") value [] 1).held name plain) refl
+valued-walk keeps value name plain = rw (name-met (has_value (codes "journal") value [] 1).held name plain) refl
+valued-walk again value name plain = rw (name-met (has_value (codes "replay") value [] 1).held name plain) refl
+valued-walk shared value name plain = rw (name-met (has_value (codes "workers") value [] 1).held name plain) refl
 
-valued-turn : (keeps : Bool) (value name : Text) → is_flag name ≡ false → turn_fault (built line_app).top [] (has_value (kept keeps) value [] 1) name ≡ []
+valued-turn : (o : Beside) (value name : Text) → is_flag name ≡ false → turn_fault (built line_app).top [] (has_value (kept o) value [] 1) name ≡ []
 unfolding clap_on_literals
-valued-turn true value name plain = rw (name-met (has_value (codes "journal") value [] 1).held name plain, no-dashes name plain, no-long name plain, no-short name plain) refl
-valued-turn false value name plain = rw (name-met (has_value (codes "replay") value [] 1).held name plain, no-dashes name plain, no-long name plain, no-short name plain) refl
+valued-turn keeps value name plain = rw (name-met (has_value (codes "journal") value [] 1).held name plain, no-dashes name plain, no-long name plain, no-short name plain) refl
+valued-turn again value name plain = rw (name-met (has_value (codes "replay") value [] 1).held name plain, no-dashes name plain, no-long name plain, no-short name plain) refl
+valued-turn shared value name plain = rw (name-met (has_value (codes "workers") value [] 1).held name plain, no-dashes name plain, no-long name plain, no-short name plain) refl
 
--- What a line with a journal's file asks for.
-abbrev with_journal : Bool → Text → Text → Asked
-with_journal true net journal = Run net (Some journal)
-with_journal false net journal = Replay net journal
+-- What a line with such an option and its value asks for.
+abbrev with_option : Beside → Text → Text → Option Asked
+with_option keeps net value = Some (Run net (Some value) 0)
+with_option again net value = Some (Replay net value)
+with_option shared net value = option_map (Run net None) (given_workers (Some value))
 
 -- The word of the option.
-abbrev flag_of : Bool → Text
-flag_of true = codes "--journal"
-flag_of false = codes "--replay"
+abbrev flag_of : Beside → Text
+flag_of keeps = codes "--journal"
+flag_of again = codes "--replay"
+flag_of shared = codes "--workers"
 
-before-journal-free : (keeps : Bool) (net journal : Text) → is_flag net ≡ false → is_flag journal ≡ false → fault_of line_app (flag_of keeps ∷ journal ∷ net ∷ []) ≡ []
+before-journal-free : (o : Beside) (net journal : Text) → is_flag net ≡ false → is_flag journal ≡ false → fault_of line_app (flag_of o ∷ journal ∷ net ∷ []) ≡ []
 unfolding clap_on_literals
-before-journal-free true net journal plain kept_plain = rw (value-walk true [] 1 journal kept_plain, value-turn true [] 1 journal kept_plain, valued-walk true journal net plain, valued-turn true journal net plain) refl
-before-journal-free false net journal plain kept_plain = rw (value-walk false [] 1 journal kept_plain, value-turn false [] 1 journal kept_plain, valued-walk false journal net plain, valued-turn false journal net plain) refl
+before-journal-free keeps net journal plain kept_plain = rw (value-walk keeps [] 1 journal kept_plain, value-turn keeps [] 1 journal kept_plain, valued-walk keeps journal net plain, valued-turn keeps journal net plain) refl
+before-journal-free again net journal plain kept_plain = rw (value-walk again [] 1 journal kept_plain, value-turn again [] 1 journal kept_plain, valued-walk again journal net plain, valued-turn again journal net plain) refl
+before-journal-free shared net journal plain kept_plain = rw (value-walk shared [] 1 journal kept_plain, value-turn shared [] 1 journal kept_plain, valued-walk shared journal net plain, valued-turn shared journal net plain) refl
 
-before-journal-rows : (keeps : Bool) (net journal : Text) → is_flag net ≡ false → is_flag journal ≡ false
-    → asked_in (matches_of line_app (flag_of keeps ∷ journal ∷ net ∷ [])) ≡ Some (with_journal keeps net journal)
+before-journal-rows : (o : Beside) (net journal : Text) → is_flag net ≡ false → is_flag journal ≡ false
+    → asked_in (matches_of line_app (flag_of o ∷ journal ∷ net ∷ [])) ≡ with_option o net journal
 unfolding clap_on_literals
-before-journal-rows true net journal plain kept_plain = rw (value-walk true [] 1 journal kept_plain, valued-walk true journal net plain) refl
-before-journal-rows false net journal plain kept_plain = rw (value-walk false [] 1 journal kept_plain, valued-walk false journal net plain) refl
+before-journal-rows keeps net journal plain kept_plain = rw (value-walk keeps [] 1 journal kept_plain, valued-walk keeps journal net plain) refl
+before-journal-rows again net journal plain kept_plain = rw (value-walk again [] 1 journal kept_plain, valued-walk again journal net plain) refl
+before-journal-rows shared net journal plain kept_plain = rw (value-walk shared [] 1 journal kept_plain, valued-walk shared journal net plain) refl
 
-journal-before : (keeps : Bool) (net journal : Text) → is_flag net ≡ false → is_flag journal ≡ false → command_of (flag_of keeps ∷ journal ∷ net ∷ []) ≡ Some (with_journal keeps net journal)
-journal-before keeps net journal plain kept_plain = taken _ _ (before-journal-free keeps net journal plain kept_plain) (before-journal-rows keeps net journal plain kept_plain)
+journal-before : (o : Beside) (net journal : Text) → is_flag net ≡ false → is_flag journal ≡ false → command_of (flag_of o ∷ journal ∷ net ∷ []) ≡ with_option o net journal
+journal-before o net journal plain kept_plain = given _ _ (before-journal-free o net journal plain kept_plain) (before-journal-rows o net journal plain kept_plain)
 
 -- What is held of a name that was used.
 abbrev named : Text → List Row
 named net = (settled rules (with_name net []).held).rows
 
-after-journal-free : (keeps : Bool) (net journal : Text) → is_flag net ≡ false → is_flag journal ≡ false → fault_of line_app (net ∷ flag_of keeps ∷ journal ∷ []) ≡ []
+after-journal-free : (o : Beside) (net journal : Text) → is_flag net ≡ false → is_flag journal ≡ false → fault_of line_app (net ∷ flag_of o ∷ journal ∷ []) ≡ []
 unfolding clap_on_literals
-after-journal-free true net journal plain kept_plain = rw (name-walk net plain, name-turn net plain, value-walk true (named net) 2 journal kept_plain, value-turn true (named net) 2 journal kept_plain) refl
-after-journal-free false net journal plain kept_plain = rw (name-walk net plain, name-turn net plain, value-walk false (named net) 2 journal kept_plain, value-turn false (named net) 2 journal kept_plain) refl
+after-journal-free keeps net journal plain kept_plain = rw (name-walk net plain, name-turn net plain, value-walk keeps (named net) 2 journal kept_plain, value-turn keeps (named net) 2 journal kept_plain) refl
+after-journal-free again net journal plain kept_plain = rw (name-walk net plain, name-turn net plain, value-walk again (named net) 2 journal kept_plain, value-turn again (named net) 2 journal kept_plain) refl
+after-journal-free shared net journal plain kept_plain = rw (name-walk net plain, name-turn net plain, value-walk shared (named net) 2 journal kept_plain, value-turn shared (named net) 2 journal kept_plain) refl
 
-after-journal-rows : (keeps : Bool) (net journal : Text) → is_flag net ≡ false → is_flag journal ≡ false
-    → asked_in (matches_of line_app (net ∷ flag_of keeps ∷ journal ∷ [])) ≡ Some (with_journal keeps net journal)
+after-journal-rows : (o : Beside) (net journal : Text) → is_flag net ≡ false → is_flag journal ≡ false
+    → asked_in (matches_of line_app (net ∷ flag_of o ∷ journal ∷ [])) ≡ with_option o net journal
 unfolding clap_on_literals
-after-journal-rows true net journal plain kept_plain = rw (name-walk net plain, value-walk true (named net) 2 journal kept_plain) refl
-after-journal-rows false net journal plain kept_plain = rw (name-walk net plain, value-walk false (named net) 2 journal kept_plain) refl
+after-journal-rows keeps net journal plain kept_plain = rw (name-walk net plain, value-walk keeps (named net) 2 journal kept_plain) refl
+after-journal-rows again net journal plain kept_plain = rw (name-walk net plain, value-walk again (named net) 2 journal kept_plain) refl
+after-journal-rows shared net journal plain kept_plain = rw (name-walk net plain, value-walk shared (named net) 2 journal kept_plain) refl
 
-journal-after : (keeps : Bool) (net journal : Text) → is_flag net ≡ false → is_flag journal ≡ false → command_of (net ∷ flag_of keeps ∷ journal ∷ []) ≡ Some (with_journal keeps net journal)
-journal-after keeps net journal plain kept_plain = taken _ _ (after-journal-free keeps net journal plain kept_plain) (after-journal-rows keeps net journal plain kept_plain)
+journal-after : (o : Beside) (net journal : Text) → is_flag net ≡ false → is_flag journal ≡ false → command_of (net ∷ flag_of o ∷ journal ∷ []) ≡ with_option o net journal
+journal-after o net journal plain kept_plain = given _ _ (after-journal-free o net journal plain kept_plain) (after-journal-rows o net journal plain kept_plain)
 
-full-journal : (keeps : Bool) (net journal : Text) → command_of ((flag_of keeps ++ codes "=" ++ journal) ∷ codes "--" ∷ net ∷ []) ≡ Some (with_journal keeps net journal)
-full-journal true net journal = full (Run net (Some journal)) tt
-full-journal false net journal = full (Replay net journal) tt
+full-option-free : (o : Beside) (net value : Text) → fault_of line_app (joined (flag_of o) value ∷ codes "--" ∷ net ∷ []) ≡ []
+unfolding clap_on_literals
+full-option-free keeps net value = refl
+full-option-free again net value = refl
+full-option-free shared net value = refl
+
+full-option-rows : (o : Beside) (net value : Text) → asked_in (matches_of line_app (joined (flag_of o) value ∷ codes "--" ∷ net ∷ [])) ≡ with_option o net value
+unfolding clap_on_literals
+full-option-rows keeps net value = refl
+full-option-rows again net value = refl
+full-option-rows shared net value = refl
+
+full-option : (o : Beside) (net value : Text) → command_of (joined (flag_of o) value ∷ codes "--" ∷ net ∷ []) ≡ with_option o net value
+full-option o net value = given _ _ (full-option-free o net value) (full-option-rows o net value)
 
 -- The walk stands behind an option that has its value in the same word.
 abbrev has_joined : Text → Text → Walk
 has_joined name value = record (has_value name value [] 1) { held = settled rules (has_value name value [] 1).held }
 
-joined-name : (keeps : Bool) (journal net : Text) → is_flag net ≡ false
-    → walked rules [] (has_joined (kept keeps) journal) net ≡ with_name net (has_joined (kept keeps) journal).held.rows
+joined-name : (o : Beside) (journal net : Text) → is_flag net ≡ false
+    → walked rules [] (has_joined (kept o) journal) net ≡ with_name net (has_joined (kept o) journal).held.rows
 unfolding clap_on_literals
-joined-name true journal net plain = rw (name-met (has_joined (codes "journal") journal).held net plain) refl
-joined-name false journal net plain = rw (name-met (has_joined (codes "replay") journal).held net plain) refl
+joined-name keeps journal net plain = rw (name-met (has_joined (codes "journal") journal).held net plain) refl
+joined-name again journal net plain = rw (name-met (has_joined (codes "replay") journal).held net plain) refl
+joined-name shared journal net plain = rw (name-met (has_joined (codes "workers") journal).held net plain) refl
 
-joined-turn : (keeps : Bool) (journal net : Text) → is_flag net ≡ false → turn_fault (built line_app).top [] (has_joined (kept keeps) journal) net ≡ []
+joined-turn : (o : Beside) (journal net : Text) → is_flag net ≡ false → turn_fault (built line_app).top [] (has_joined (kept o) journal) net ≡ []
 unfolding clap_on_literals
-joined-turn true journal net plain = rw (name-met (has_joined (codes "journal") journal).held net plain, no-dashes net plain, no-long net plain, no-short net plain) refl
-joined-turn false journal net plain = rw (name-met (has_joined (codes "replay") journal).held net plain, no-dashes net plain, no-long net plain, no-short net plain) refl
+joined-turn keeps journal net plain = rw (name-met (has_joined (codes "journal") journal).held net plain, no-dashes net plain, no-long net plain, no-short net plain) refl
+joined-turn again journal net plain = rw (name-met (has_joined (codes "replay") journal).held net plain, no-dashes net plain, no-long net plain, no-short net plain) refl
+joined-turn shared journal net plain = rw (name-met (has_joined (codes "workers") journal).held net plain, no-dashes net plain, no-long net plain, no-short net plain) refl
 
-joined-before-free : (keeps : Bool) (net journal : Text) → is_flag net ≡ false → fault_of line_app ((flag_of keeps ++ codes "=" ++ journal) ∷ net ∷ []) ≡ []
+joined-before-free : (o : Beside) (net journal : Text) → is_flag net ≡ false → fault_of line_app ((flag_of o ++ codes "=" ++ journal) ∷ net ∷ []) ≡ []
 unfolding clap_on_literals
-joined-before-free true net journal plain = rw (joined-name true journal net plain, joined-turn true journal net plain) refl
-joined-before-free false net journal plain = rw (joined-name false journal net plain, joined-turn false journal net plain) refl
+joined-before-free keeps net journal plain = rw (joined-name keeps journal net plain, joined-turn keeps journal net plain) refl
+joined-before-free again net journal plain = rw (joined-name again journal net plain, joined-turn again journal net plain) refl
+joined-before-free shared net journal plain = rw (joined-name shared journal net plain, joined-turn shared journal net plain) refl
 
-joined-before-rows : (keeps : Bool) (net journal : Text) → is_flag net ≡ false
-    → asked_in (matches_of line_app ((flag_of keeps ++ codes "=" ++ journal) ∷ net ∷ [])) ≡ Some (with_journal keeps net journal)
+joined-before-rows : (o : Beside) (net journal : Text) → is_flag net ≡ false
+    → asked_in (matches_of line_app ((flag_of o ++ codes "=" ++ journal) ∷ net ∷ [])) ≡ with_option o net journal
 unfolding clap_on_literals
-joined-before-rows true net journal plain = rw (joined-name true journal net plain) refl
-joined-before-rows false net journal plain = rw (joined-name false journal net plain) refl
+joined-before-rows keeps net journal plain = rw (joined-name keeps journal net plain) refl
+joined-before-rows again net journal plain = rw (joined-name again journal net plain) refl
+joined-before-rows shared net journal plain = rw (joined-name shared journal net plain) refl
 
-joined-before : (keeps : Bool) (net journal : Text) → is_flag net ≡ false → command_of ((flag_of keeps ++ codes "=" ++ journal) ∷ net ∷ []) ≡ Some (with_journal keeps net journal)
-joined-before keeps net journal plain = taken _ _ (joined-before-free keeps net journal plain) (joined-before-rows keeps net journal plain)
+joined-before : (o : Beside) (net journal : Text) → is_flag net ≡ false → command_of ((flag_of o ++ codes "=" ++ journal) ∷ net ∷ []) ≡ with_option o net journal
+joined-before o net journal plain = given _ _ (joined-before-free o net journal plain) (joined-before-rows o net journal plain)
 
-joined-after-free : (keeps : Bool) (net journal : Text) → is_flag net ≡ false → fault_of line_app (net ∷ (flag_of keeps ++ codes "=" ++ journal) ∷ []) ≡ []
+joined-after-free : (o : Beside) (net journal : Text) → is_flag net ≡ false → fault_of line_app (net ∷ (flag_of o ++ codes "=" ++ journal) ∷ []) ≡ []
 unfolding clap_on_literals
-joined-after-free true net journal plain = rw (name-walk net plain, name-turn net plain) refl
-joined-after-free false net journal plain = rw (name-walk net plain, name-turn net plain) refl
+joined-after-free keeps net journal plain = rw (name-walk net plain, name-turn net plain) refl
+joined-after-free again net journal plain = rw (name-walk net plain, name-turn net plain) refl
+joined-after-free shared net journal plain = rw (name-walk net plain, name-turn net plain) refl
 
-joined-after-rows : (keeps : Bool) (net journal : Text) → is_flag net ≡ false
-    → asked_in (matches_of line_app (net ∷ (flag_of keeps ++ codes "=" ++ journal) ∷ [])) ≡ Some (with_journal keeps net journal)
+joined-after-rows : (o : Beside) (net journal : Text) → is_flag net ≡ false
+    → asked_in (matches_of line_app (net ∷ (flag_of o ++ codes "=" ++ journal) ∷ [])) ≡ with_option o net journal
 unfolding clap_on_literals
-joined-after-rows true net journal plain = rw (name-walk net plain) refl
-joined-after-rows false net journal plain = rw (name-walk net plain) refl
+joined-after-rows keeps net journal plain = rw (name-walk net plain) refl
+joined-after-rows again net journal plain = rw (name-walk net plain) refl
+joined-after-rows shared net journal plain = rw (name-walk net plain) refl
 
-joined-after : (keeps : Bool) (net journal : Text) → is_flag net ≡ false → command_of (net ∷ (flag_of keeps ++ codes "=" ++ journal) ∷ []) ≡ Some (with_journal keeps net journal)
-joined-after keeps net journal plain = taken _ _ (joined-after-free keeps net journal plain) (joined-after-rows keeps net journal plain)
+joined-after : (o : Beside) (net journal : Text) → is_flag net ≡ false → command_of (net ∷ (flag_of o ++ codes "=" ++ journal) ∷ []) ≡ with_option o net journal
+joined-after o net journal plain = given _ _ (joined-after-free o net journal plain) (joined-after-rows o net journal plain)
 
 -- The value in a word of its own, and the name behind `--`.
-behind-free : (keeps : Bool) (net journal : Text) → is_flag journal ≡ false → fault_of line_app (flag_of keeps ∷ journal ∷ codes "--" ∷ net ∷ []) ≡ []
+behind-free : (o : Beside) (net journal : Text) → is_flag journal ≡ false → fault_of line_app (flag_of o ∷ journal ∷ codes "--" ∷ net ∷ []) ≡ []
 unfolding clap_on_literals
-behind-free true net journal plain = rw (value-walk true [] 1 journal plain, value-turn true [] 1 journal plain) refl
-behind-free false net journal plain = rw (value-walk false [] 1 journal plain, value-turn false [] 1 journal plain) refl
+behind-free keeps net journal plain = rw (value-walk keeps [] 1 journal plain, value-turn keeps [] 1 journal plain) refl
+behind-free again net journal plain = rw (value-walk again [] 1 journal plain, value-turn again [] 1 journal plain) refl
+behind-free shared net journal plain = rw (value-walk shared [] 1 journal plain, value-turn shared [] 1 journal plain) refl
 
-behind-rows : (keeps : Bool) (net journal : Text) → is_flag journal ≡ false
-    → asked_in (matches_of line_app (flag_of keeps ∷ journal ∷ codes "--" ∷ net ∷ [])) ≡ Some (with_journal keeps net journal)
+behind-rows : (o : Beside) (net journal : Text) → is_flag journal ≡ false
+    → asked_in (matches_of line_app (flag_of o ∷ journal ∷ codes "--" ∷ net ∷ [])) ≡ with_option o net journal
 unfolding clap_on_literals
-behind-rows true net journal plain = rw (value-walk true [] 1 journal plain) refl
-behind-rows false net journal plain = rw (value-walk false [] 1 journal plain) refl
+behind-rows keeps net journal plain = rw (value-walk keeps [] 1 journal plain) refl
+behind-rows again net journal plain = rw (value-walk again [] 1 journal plain) refl
+behind-rows shared net journal plain = rw (value-walk shared [] 1 journal plain) refl
 
-behind : (keeps : Bool) (net journal : Text) → is_flag journal ≡ false → command_of (flag_of keeps ∷ journal ∷ codes "--" ∷ net ∷ []) ≡ Some (with_journal keeps net journal)
-behind keeps net journal plain = taken _ _ (behind-free keeps net journal plain) (behind-rows keeps net journal plain)
+behind : (o : Beside) (net journal : Text) → is_flag journal ≡ false → command_of (flag_of o ∷ journal ∷ codes "--" ∷ net ∷ []) ≡ with_option o net journal
+behind o net journal plain = given _ _ (behind-free o net journal plain) (behind-rows o net journal plain)
 
 make-walk : (word : Text) → is_flag word ≡ false → walked rules [] (waits (codes "make") [] 1) word ≡ has_value (codes "make") word [] 1
 unfolding clap_on_literals
@@ -284,16 +379,15 @@ make-free : (word : Text) → is_flag word ≡ false → fault_of line_app (code
 unfolding clap_on_literals
 make-free word plain = rw (make-walk word plain, make-turn word plain) refl
 
-make-rows : (word : Text) → is_flag word ≡ false → asked_in (matches_of line_app (codes "--make" ∷ word ∷ [])) ≡ option_map Make (spelled_number word)
+make-rows : (word : Text) → is_flag word ≡ false → asked_in (matches_of line_app (codes "--make" ∷ word ∷ [])) ≡ make_by word 0
 unfolding clap_on_literals
 make-rows word plain = rw (make-walk word plain) refl
 
-make-plain : (number : ℕ) → IsWithinBounds (Make number) → is_flag (decimal number) ≡ false → command_of (codes "--make" ∷ decimal number ∷ []) ≡ Some (Make number)
-make-plain number within plain =
-    taken _ _ (make-free (decimal number) plain) (make-rows (decimal number) plain ∙ ap (option_map Make) (own-number number within.0 within.1))
+make-plain : (number : ℕ) → 1 ≤ number → number ≤ NUMBER_LIMIT → is_flag (decimal number) ≡ false → command_of (codes "--make" ∷ decimal number ∷ []) ≡ Some (Make number 0)
+make-plain number least most plain = taken _ _ (make-free (decimal number) plain) (make-rows (decimal number) plain ∙ made-by number 0 least most)
 
-name-line : (net : Text) (words : List Text) → IsName net words → command_of words ≡ Some (Run net None)
-name-line net words (inl is) = rw is (full (Run net None) tt)
+name-line : (net : Text) (words : List Text) → IsName net words → command_of words ≡ Some (Run net None 0)
+name-line net words (inl is) = rw is (full (Run net None 0) (omega arith))
 name-line net words (inr (plain, is)) = rw is (taken _ _ (name-free net plain) (name-rows net plain))
 
 check-line : (net : Text) (words : List Text) → IsBesideName IsCheckFlag net words → command_of words ≡ Some (Check net)
@@ -301,26 +395,54 @@ check-line net words (form, is_form, inl (name, inl is_name, is)) = rw (is, is_f
 check-line net words (form, is_form, inl (name, inr (plain, is_name), is)) = rw (is, is_form, is_name) (taken _ _ (before-free net plain) (before-rows net plain))
 check-line net words (form, is_form, inr (plain, is)) = rw (is, is_form) (taken _ _ (after-free net plain) (after-rows net plain))
 
-journal-line : (keeps : Bool) (net journal : Text) (words : List Text) → IsBesideName (IsOption (flag_of keeps) journal) net words → command_of words ≡ Some (with_journal keeps net journal)
-journal-line keeps net journal words (form, inl is_form, inl (name, inl is_name, is)) = rw (is, is_form, is_name) (full-journal keeps net journal)
-journal-line keeps net journal words (form, inl is_form, inl (name, inr (plain, is_name), is)) = rw (is, is_form, is_name) (joined-before keeps net journal plain)
-journal-line keeps net journal words (form, inr (kept_plain, is_form), inl (name, inl is_name, is)) = rw (is, is_form, is_name) (behind keeps net journal kept_plain)
-journal-line keeps net journal words (form, inr (kept_plain, is_form), inl (name, inr (plain, is_name), is)) =
-    rw (is, is_form, is_name) (journal-before keeps net journal plain kept_plain)
-journal-line keeps net journal words (form, inl is_form, inr (plain, is)) = rw (is, is_form) (joined-after keeps net journal plain)
-journal-line keeps net journal words (form, inr (kept_plain, is_form), inr (plain, is)) = rw (is, is_form) (journal-after keeps net journal plain kept_plain)
+option-line : (o : Beside) (net value : Text) (words : List Text) → IsBesideName (IsOption (flag_of o) value) net words → command_of words ≡ with_option o net value
+option-line o net value words (form, inl is_form, inl (name, inl is_name, is)) = rw (is, is_form, is_name) (full-option o net value)
+option-line o net value words (form, inl is_form, inl (name, inr (plain, is_name), is)) = rw (is, is_form, is_name) (joined-before o net value plain)
+option-line o net value words (form, inr (kept_plain, is_form), inl (name, inl is_name, is)) = rw (is, is_form, is_name) (behind o net value kept_plain)
+option-line o net value words (form, inr (kept_plain, is_form), inl (name, inr (plain, is_name), is)) =
+    rw (is, is_form, is_name) (journal-before o net value plain kept_plain)
+option-line o net value words (form, inl is_form, inr (plain, is)) = rw (is, is_form) (joined-after o net value plain)
+option-line o net value words (form, inr (kept_plain, is_form), inr (plain, is)) = rw (is, is_form) (journal-after o net value plain kept_plain)
 
-make-line : (number : ℕ) (words : List Text) → IsWithinBounds (Make number) → IsOption (codes "--make") (decimal number) words → command_of words ≡ Some (Make number)
-make-line number words within (inl is) = rw is (full (Make number) within)
-make-line number words within (inr (plain, is)) = rw is (make-plain number within plain)
+both-line : (net journal : Text) (workers : ℕ) → workers ≤ WORKER_LIMIT → (form words : List Text) → AreBoth (joined (codes "--journal") journal) (joined (codes "--workers") (decimal workers)) form
+    → words ≡ form ++ codes "--" ∷ net ∷ [] → command_of words ≡ Some (Run net (Some journal) workers)
+both-line net journal workers few form words (inl is_form) is = rw (is, is_form) (taken _ _ (both-free net journal workers) (both-rows net journal workers few))
+both-line net journal workers few form words (inr is_form) is = rw (is, is_form) (taken _ _ (other-free net journal workers) (other-rows net journal workers few))
+
+make-line : (number : ℕ) (words : List Text) → 1 ≤ number → number ≤ NUMBER_LIMIT → IsOption (codes "--make") (decimal number) words → command_of words ≡ Some (Make number 0)
+make-line number words least most (inl is) = rw is (full (Make number 0) (least, most, omega arith))
+make-line number words least most (inr (plain, is)) = rw is (make-plain number least most plain)
+
+made-line : (number workers : ℕ) (words : List Text) → IsWithinBounds (Make number workers) → AreBoth (joined (codes "--make") (decimal number)) (joined (codes "--workers") (decimal workers)) words
+    → command_of words ≡ Some (Make number workers)
+made-line number workers words within (inl is) = rw is (taken _ _ (make-both-free number workers) (make-both-rows number workers within.0 within.1 within.2))
+made-line number workers words within (inr is) = rw is (taken _ _ (make-other-free number workers) (make-other-rows number workers within.0 within.1 within.2))
+
+-- Nothing is said of workers, and there are none.
+run-line : (net : Text) (workers : ℕ) (words : List Text) → workers ≤ WORKER_LIMIT → (((workers ≡ 0) × IsName net words) ⊎ IsBesideName (IsOption (codes "--workers") (decimal workers)) net words)
+    → command_of words ≡ Some (Run net None workers)
+run-line net workers words few (inl (none, line)) = name-line net words line ∙ ap (λ w. Some (Run net None w)) (sym none)
+run-line net workers words few (inr line) = option-line shared net (decimal workers) words line ∙ run-by net None workers few
+
+kept-line : (net journal : Text) (workers : ℕ) (words : List Text) → workers ≤ WORKER_LIMIT → (((workers ≡ 0) × IsBesideName (IsOption (codes "--journal") journal) net words)
+    ⊎ ((form : List Text) × AreBoth (joined (codes "--journal") journal) (joined (codes "--workers") (decimal workers)) form × (words ≡ form ++ codes "--" ∷ net ∷ [])))
+    → command_of words ≡ Some (Run net (Some journal) workers)
+kept-line net journal workers words few (inl (none, line)) = option-line keeps net journal words line ∙ ap (λ w. Some (Run net (Some journal) w)) (sym none)
+kept-line net journal workers words few (inr (form, are, is)) = both-line net journal workers few form words are is
+
+make-lines : (number workers : ℕ) (words : List Text) → IsWithinBounds (Make number workers)
+    → (((workers ≡ 0) × IsOption (codes "--make") (decimal number) words) ⊎ AreBoth (joined (codes "--make") (decimal number)) (joined (codes "--workers") (decimal workers)) words)
+    → command_of words ≡ Some (Make number workers)
+make-lines number workers words within (inl (none, line)) = make-line number words within.0 within.1 line ∙ ap (λ w. Some (Make number w)) (sym none)
+make-lines number workers words within (inr are) = made-line number workers words within are
 
 -- The words of a line ask for it.
 pub asks : (asked : Asked) (words : List Text) → AskFor asked words → command_of words ≡ Some asked
-asks (Run net None) words line = name-line net words line
-asks (Run net (Some journal)) words line = journal-line true net journal words line
+asks (Run net None workers) words line = run-line net workers words line.0 line.1
+asks (Run net (Some journal) workers) words line = kept-line net journal workers words line.0 line.1
 asks (Check net) words line = check-line net words line
-asks (Replay net journal) words line = journal-line false net journal words line
-asks (Make number) words line = make-line number words line.0 line.1
+asks (Replay net journal) words line = option-line again net journal words line
+asks (Make number workers) words line = make-lines number workers words line.0 line.1
 
 -- What the matches of a parse ask for is what its words do.
 pub read-as : (app : App) (words : List Text) (rows : List Row) (found : Option Asked) → app ≡ line_app → (is_simple app ≡ true → rows ≡ matches_of app words)

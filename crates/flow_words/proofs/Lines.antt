@@ -27,14 +27,15 @@ pub checked-as : (found : Found) (source : Option ValueSource) → source ≡ op
 checked-as found source same = ap is_from_words (same ∙ source-rows found (codes "check"))
 
 -- What is given says what is asked for.
-pub given-as : (found : Found) (checked : Bool) (net journal replay number : Option Text) → checked ≡ is_checked (rows_of found) → net ≡ first_value found (codes "NETFILE")
+pub given-as : (found : Found) (checked : Bool) (net journal replay number workers : Option Text) → checked ≡ is_checked (rows_of found) → net ≡ first_value found (codes "NETFILE")
     → journal ≡ first_value found (codes "journal") → replay ≡ first_value found (codes "replay") → number ≡ first_value found (codes "make")
-    → form_of checked net journal replay number ≡ asked_in (rows_of found)
-given-as found checked net journal replay number flag is_net is_journal is_replay is_number =
+    → workers ≡ first_value found (codes "workers") → form_of checked net journal replay number workers ≡ asked_in (rows_of found)
+given-as found checked net journal replay number workers flag is_net is_journal is_replay is_number is_workers =
     let rows = rows_of found in
     let at : (id : Text) (given : Option Text) → given ≡ first_value found id → given ≡ first_of id rows = λ id given is. is ∙ first_value-rows found id in
-    ap (λ c. form_of c net journal replay number) flag
-    ∙ ap (λ n. form_of (is_checked rows) n journal replay number) (at (codes "NETFILE") net is_net)
-    ∙ ap (λ j. form_of (is_checked rows) (first_of (codes "NETFILE") rows) j replay number) (at (codes "journal") journal is_journal)
-    ∙ ap (λ r. form_of (is_checked rows) (first_of (codes "NETFILE") rows) (first_of (codes "journal") rows) r number) (at (codes "replay") replay is_replay)
-    ∙ ap (λ m. form_of (is_checked rows) (first_of (codes "NETFILE") rows) (first_of (codes "journal") rows) (first_of (codes "replay") rows) m) (at (codes "make") number is_number)
+    ap (λ c. form_of c net journal replay number workers) flag
+    ∙ ap (λ n. form_of (is_checked rows) n journal replay number workers) (at (codes "NETFILE") net is_net)
+    ∙ ap (λ j. form_of (is_checked rows) (first_of (codes "NETFILE") rows) j replay number workers) (at (codes "journal") journal is_journal)
+    ∙ ap (λ r. form_of (is_checked rows) (first_of (codes "NETFILE") rows) (first_of (codes "journal") rows) r number workers) (at (codes "replay") replay is_replay)
+    ∙ ap (λ m. form_of (is_checked rows) (first_of (codes "NETFILE") rows) (first_of (codes "journal") rows) (first_of (codes "replay") rows) m workers) (at (codes "make") number is_number)
+    ∙ ap (λ w. form_of (is_checked rows) (first_of (codes "NETFILE") rows) (first_of (codes "journal") rows) (first_of (codes "replay") rows) (first_of (codes "make") rows) w) (at (codes "workers") workers is_workers)

@@ -1,4 +1,4 @@
--- The number that a word spells, where it is within the bounds of a make.
+-- The number that a word spells, where it is one of so many.
 use Rattle.std.proofs.Common.{◌≡◌, ◌≢◌, ℕ, zero, suc, ◌+◌, ◌<◌, ◌≤◌, Bool, true, false, List, ◌∷◌, Some, None, refl, sym, ap, subst, ◌∙◌, arith}
 use Rattle.std.specs.Prelude.{find}
 use Rattle.std.specs.Fmt.{decimal}
@@ -9,10 +9,9 @@ use Rattle.std.proofs.lemmas.Fmt.{decimal-digits_value, decimal_injective}
 use Rattle.std.proofs.lemmas.Slice.Eq.{bytes_eq-Decides}
 use Rattle.std.proofs.lemmas.Str.Parse.{numerals_by_value, tells_digits}
 use Rattle.clap.specs.Walk.{Text}
-use Rattle.flow_limits.specs.declared.TheConstants.{NUMBER_LIMIT}
 use Rattle.flow_text.specs.Text.{IsPlain, number_of}
 use Rattle.flow_text.proofs.Decimals.{decimal_plain, decimal_number}
-use Rattle.flow_words.specs.Numbers.{spelled_number}
+use Rattle.flow_words.specs.Numbers.{spelled_in}
 
 found-first : (p : ℕ → Bool) (n first : ℕ) (rest : List ℕ) → p n ≡ true → (p first ≡ true → first ≡ n) → (first ≢ n → find p rest ≡ Some n) → (b : Bool) → p first ≡ b → find p (first ∷ rest) ≡ Some n
 found-first p n first rest here only later true is = rw is (ap Some (only is))
@@ -34,38 +33,40 @@ none-found p first zero never = refl
 none-found p first (suc count) never = none-first p first (range_with_len (first + 1) count) (λ passes. never first passes (omega arith) (omega arith))
     (none-found p (first + 1) count (λ m passes low high. never m passes (omega arith) (omega arith))) (p first) refl
 
--- The word spells a number within the bounds.
-abbrev pub IsSpelled : Text → Type 0
-IsSpelled word = IsPlain word × (1 ≤ number_of word) × (number_of word ≤ NUMBER_LIMIT)
+-- The word spells one of so many numbers, from the least on.
+abbrev pub IsSpelled : ℕ → ℕ → Text → Type 0
+IsSpelled least count word = IsPlain word × (least ≤ number_of word) × (number_of word < least + count)
 
 -- A plain word is the spelling of its number.
-plain-spelling : (word : Text) → IsSpelled word → decimal (number_of word) ≡ word
-plain-spelling word is = let most = is.2 in decimal-digits_value (numerals_by_value (AllDigits 10) tells_digits) word is.0.0.1 is.0.0.0 is.0.1 (omega (arith, most))
+plain-spelling : (least count : ℕ) (word : Text) → least + count < 1000 → IsSpelled least count word → decimal (number_of word) ≡ word
+plain-spelling least count word few is =
+    let most = is.2 in decimal-digits_value (numerals_by_value (AllDigits 10) tells_digits) word is.0.0.1 is.0.0.0 is.0.1 (omega (arith, most, few))
 
 -- Such a word has its number.
-pub spelled : (word : Text) → IsSpelled word → spelled_number word ≡ Some (number_of word)
-unfolding spelled_number
-spelled word is =
+pub spelled : (least count : ℕ) (word : Text) → least + count < 1000 → IsSpelled least count word → spelled_in least count word ≡ Some (number_of word)
+unfolding spelled_in
+spelled least count word few is =
     let low = is.1 in
     let high = is.2 in
-    let spelling : decimal (number_of word) ≡ word = plain-spelling word is in
-    found (λ m. bytes_eq (decimal m) word) (number_of word) 1 NUMBER_LIMIT ((bytes_eq-Decides (decimal (number_of word)) word).1 spelling)
-    (λ m passes below. decimal_injective m (number_of word) (omega (arith, below)) (omega (arith, high)) ((bytes_eq-Decides (decimal m) word).0 passes ∙ sym spelling))
-    low (omega (arith, high))
+    let spelling : decimal (number_of word) ≡ word = plain-spelling least count word few is in
+    found (λ m. bytes_eq (decimal m) word) (number_of word) least count ((bytes_eq-Decides (decimal (number_of word)) word).1 spelling)
+    (λ m passes below. decimal_injective m (number_of word) (omega (arith, below, few)) (omega (arith, high, few)) ((bytes_eq-Decides (decimal m) word).0 passes ∙ sym spelling))
+    low high
 
--- The spelling of a number within the bounds is such a word.
-own : (number : ℕ) → 1 ≤ number → number ≤ NUMBER_LIMIT → IsSpelled (decimal number)
-own number low high =
-    let is : number_of (decimal number) ≡ number = decimal_number number (omega (arith, high)) in
-    (decimal_plain number (omega (arith, high)), omega (arith, is, low), omega (arith, is, high))
+-- The spelling of one of the numbers is such a word.
+own : (least count number : ℕ) → least + count < 1000 → least ≤ number → number < least + count → IsSpelled least count (decimal number)
+own least count number few low high =
+    let is : number_of (decimal number) ≡ number = decimal_number number (omega (arith, high, few)) in
+    (decimal_plain number (omega (arith, high, few)), omega (arith, is, low), omega (arith, is, high))
 
 -- And it has this number.
-pub own-number : (number : ℕ) → 1 ≤ number → number ≤ NUMBER_LIMIT → spelled_number (decimal number) ≡ Some number
-own-number number low high = spelled (decimal number) (own number low high) ∙ ap Some (decimal_number number (omega (arith, high)))
+pub own-number : (least count number : ℕ) → least + count < 1000 → least ≤ number → number < least + count → spelled_in least count (decimal number) ≡ Some number
+own-number least count number few low high =
+    spelled least count (decimal number) few (own least count number few low high) ∙ ap Some (decimal_number number (omega (arith, high, few)))
 
 -- No other word has one.
-pub not-spelled : (word : Text) → (IsSpelled word → ⊥) → spelled_number word ≡ None
-unfolding spelled_number
-not-spelled word never =
-    none-found (λ m. bytes_eq (decimal m) word) 1 NUMBER_LIMIT
-    (λ m passes low high. never (subst IsSpelled ((bytes_eq-Decides (decimal m) word).0 passes) (own m low (omega (arith, high)))))
+pub not-spelled : (least count : ℕ) (word : Text) → least + count < 1000 → (IsSpelled least count word → ⊥) → spelled_in least count word ≡ None
+unfolding spelled_in
+not-spelled least count word few never =
+    none-found (λ m. bytes_eq (decimal m) word) least count
+    (λ m passes low high. never (subst (IsSpelled least count) ((bytes_eq-Decides (decimal m) word).0 passes) (own least count m few low high)))

@@ -26,10 +26,21 @@ abbrev pub IsBesideName : (List Text → Type 0) → Text → List Text → Type
 IsBesideName IsForm net words = (form : List Text) × IsForm form
     × (((name : List Text) × IsName net name × (words ≡ form ++ name)) ⊎ ((is_flag net ≡ false) × (words ≡ net ∷ form)))
 
--- The words of a line that asks for this.
+-- These two words, in either order.
+abbrev pub AreBoth : Text → Text → List Text → Type 0
+AreBoth one other words = (words ≡ one ∷ other ∷ []) ⊎ (words ≡ other ∷ one ∷ [])
+
+-- An option and its value in one word.
+abbrev pub joined : Text → Text → Text
+joined option value = option ++ codes "=" ++ value
+
+-- The words of a line that asks for this. Where there are no workers nothing needs to be said of them.
 abbrev pub AskFor : Asked → List Text → Type 0
-AskFor (Run net None) words = IsName net words
-AskFor (Run net (Some journal)) words = IsBesideName (IsOption (codes "--journal") journal) net words
+AskFor (Run net None workers) words = IsWithinBounds (Run net None workers) × (((workers ≡ 0) × IsName net words) ⊎ IsBesideName (IsOption (codes "--workers") (decimal workers)) net words)
+AskFor (Run net (Some journal) workers) words = IsWithinBounds (Run net (Some journal) workers)
+    × (((workers ≡ 0) × IsBesideName (IsOption (codes "--journal") journal) net words)
+    ⊎ ((form : List Text) × AreBoth (joined (codes "--journal") journal) (joined (codes "--workers") (decimal workers)) form × (words ≡ form ++ codes "--" ∷ net ∷ [])))
 AskFor (Check net) words = IsBesideName IsCheckFlag net words
 AskFor (Replay net journal) words = IsBesideName (IsOption (codes "--replay") journal) net words
-AskFor (Make number) words = IsWithinBounds (Make number) × IsOption (codes "--make") (decimal number) words
+AskFor (Make number workers) words = IsWithinBounds (Make number workers)
+    × (((workers ≡ 0) × IsOption (codes "--make") (decimal number) words) ⊎ AreBoth (joined (codes "--make") (decimal number)) (joined (codes "--workers") (decimal workers)) words)

@@ -9,30 +9,39 @@ use Rattle.clap.specs.Faults.{fault_of}
 use Rattle.clap.specs.declared.builder.action.ArgAction.TheVariants.{SetTrue}
 use Rattle.clap.specs.declared.parser.matches.ValueSource.{ValueSource}
 use Rattle.clap.specs.declared.parser.matches.ValueSource.TheVariants.{CommandLine}
-use Rattle.flow_limits.specs.declared.TheConstants.{NUMBER_LIMIT}
-use Rattle.flow_words.specs.Numbers.{spelled_number}
+use Rattle.flow_limits.specs.declared.TheConstants.{NUMBER_LIMIT, WORKER_LIMIT}
+use Rattle.flow_words.specs.Numbers.{spelled_number, spelled_workers}
 use Rattle.flow_words.specs.declared.asked.Command.{Command}
 use Rattle.flow_words.specs.declared.asked.Command.TheVariants as commands
 
--- A run of the network file of this name, with the name of a file for its journal, where there is one; a check of it; a replay of it, with the
--- name of the file that has the journal; or a make from a number.
+-- A run of the network file of this name, with the name of a file for its journal, where there is one, and with the number of its workers; a check of it;
+-- a replay of it, with the name of the file that has the journal; or a make from a number, with the number of its workers.
 pub data Asked : Type 0 where
-  Run : Text → Option Text → Asked
+  Run : Text → Option Text → ℕ → Asked
   Check : Text → Asked
   Replay : Text → Text → Asked
-  Make : ℕ → Asked
+  Make : ℕ → ℕ → Asked
 
 -- What a command asks for, with the texts of its names.
 abbrev pub asked_by : Command → Asked
-asked_by (commands.Run net journal) = Run net.now (option_map (λ s. s.now) journal)
+asked_by (commands.Run net journal workers) = Run net.now (option_map (λ s. s.now) journal) workers
 asked_by (commands.Check net) = Check net.now
 asked_by (commands.Replay net journal) = Replay net.now journal.now
-asked_by (commands.Make number) = Make number
+asked_by (commands.Make number workers) = Make number workers
 
--- The number of a make is from 1 to the greatest from which something is made; nothing is asked of the others.
+-- The number of a make is from 1 to the greatest from which something is made, and there are no more workers than may be.
 abbrev pub IsWithinBounds : Asked → Type 0
-IsWithinBounds (Make number) = (1 ≤ number) × (number ≤ NUMBER_LIMIT)
-IsWithinBounds _ = ⊤
+IsWithinBounds (Run net journal workers) = workers ≤ WORKER_LIMIT
+IsWithinBounds (Make number workers) = (1 ≤ number) × (number ≤ NUMBER_LIMIT) × (workers ≤ WORKER_LIMIT)
+IsWithinBounds (Check net) = ⊤
+IsWithinBounds (Replay net journal) = ⊤
+
+-- How many workers are asked for: those of a run or a make. A check and a replay have none.
+abbrev pub workers_asked : Asked → ℕ
+workers_asked (Run net journal workers) = workers
+workers_asked (Make number workers) = workers
+workers_asked (Check net) = 0
+workers_asked (Replay net journal) = 0
 
 -- The flag of this name takes no value.
 abbrev pub flag_rule : Text → Rule
@@ -43,9 +52,9 @@ abbrev pub option_rule : Text → Rule
 option_rule name = record (new_rule name) { long = Some name }
 
 -- What may stand in a line, each once: the network file's name, the flag of a check, and the options with the name of a run's journal file, with
--- that of a replay's, and with the number of a make.
+-- that of a replay's, with the number of a make, and with the number of workers.
 abbrev pub line_rules : List Rule
-line_rules = new_rule (codes "NETFILE") ∷ flag_rule (codes "check") ∷ option_rule (codes "journal") ∷ option_rule (codes "replay") ∷ option_rule (codes "make") ∷ []
+line_rules = new_rule (codes "NETFILE") ∷ flag_rule (codes "check") ∷ option_rule (codes "journal") ∷ option_rule (codes "replay") ∷ option_rule (codes "make") ∷ option_rule (codes "workers") ∷ []
 
 -- A command line has these and no others; its words begin after the program's name, and no flag asks for help.
 abbrev pub line_app : App
@@ -60,18 +69,28 @@ is_from_words _ = false
 abbrev pub is_checked : List Row → Bool
 is_checked rows = is_from_words (option_and_then (λ row. row.source) (find (λ row. bytes_eq row.id (codes "check")) rows))
 
--- What a line asks for by what is given in it: whether it has the flag `--check`, the network file's name, and the values of `--journal`, `--replay` and
--- `--make`. A line of any other form asks for nothing.
-abbrev pub form_of : Bool → Option Text → Option Text → Option Text → Option Text → Option Asked
-form_of false (Some net) journal None None = Some (Run net journal)
-form_of true (Some net) None None None = Some (Check net)
-form_of false (Some net) None (Some journal) None = Some (Replay net journal)
-form_of false None None None (Some word) = option_map Make (spelled_number word)
-form_of _ _ _ _ _ = None
+-- The number of workers that is given, and 0 where none is.
+abbrev pub given_workers : Option Text → Option ℕ
+given_workers None = Some 0
+given_workers (Some word) = spelled_workers word
+
+-- A make from the number that this word spells, with these workers.
+abbrev pub make_by : Text → ℕ → Option Asked
+make_by word workers = option_map (λ number. Make number workers) (spelled_number word)
+
+-- What a line asks for by what is given in it: whether it has the flag `--check`, the network file's name, and the values of `--journal`, `--replay`,
+-- `--make` and `--workers`. A line of any other form asks for nothing.
+abbrev pub form_of : Bool → Option Text → Option Text → Option Text → Option Text → Option Text → Option Asked
+form_of false (Some net) journal None None workers = option_map (Run net journal) (given_workers workers)
+form_of true (Some net) None None None None = Some (Check net)
+form_of false (Some net) None (Some journal) None None = Some (Replay net journal)
+form_of false None None None (Some word) workers = option_and_then (make_by word) (given_workers workers)
+form_of _ _ _ _ _ _ = None
 
 -- What the rows of a line ask for.
 abbrev pub asked_in : List Row → Option Asked
-asked_in rows = form_of (is_checked rows) (first_of (codes "NETFILE") rows) (first_of (codes "journal") rows) (first_of (codes "replay") rows) (first_of (codes "make") rows)
+asked_in rows = form_of (is_checked rows) (first_of (codes "NETFILE") rows) (first_of (codes "journal") rows) (first_of (codes "replay") rows)
+    (first_of (codes "make") rows) (first_of (codes "workers") rows)
 
 -- Words in which clap finds a fault ask for nothing, and all others for what their rows do.
 abbrev pub command_of : List Text → Option Asked

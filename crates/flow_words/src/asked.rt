@@ -3,10 +3,12 @@
 /// What a command line asks for. Files are named as they were given.
 #[derive(Clone, Copy, Debug, PartialEq, Eq)]
 pub enum Command<'a> {
-    /// Run the network of a file, and keep the journal of the run in a file, where one is named.
+    /// Run the network of a file, and keep the journal of the run in a file, where one is named. So many workers run
+    /// it; without any one thread does.
     Run {
         net: &'a str,
         journal: Option<&'a str>,
+        workers: u32,
     },
     /// Check the network of this file, and print its canonical spelling.
     Check(&'a str),
@@ -15,6 +17,10 @@ pub enum Command<'a> {
         net: &'a str,
         journal: &'a str,
     },
-    /// Run the network that is made from this number, on the input that is made from it.
-    Make(u32),
+    /// Run the network that is made from this number, on the input that is made from it. Workers run it as they do a
+    /// file's.
+    Make {
+        number: u32,
+        workers: u32,
+    },
 }

@@ -13,17 +13,27 @@ fn cut(alloc: Global, line: &str) -> Result<Vec<String>, Fail> {
     Ok(words)
 }
 
-// A run of this network file that keeps no journal.
+// A run of this network file.
+fn with<'a>(net: &'a str, journal: Option<&'a str>, workers: u32) -> Command<'a> {
+    Command::Run {
+        net,
+        journal,
+        workers,
+    }
+}
+
+// One on one thread that keeps no journal.
 fn run(net: &str) -> Command<'_> {
-    Command::Run { net, journal: None }
+    with(net, None, 0)
 }
 
 // One that keeps its journal.
 fn kept<'a>(net: &'a str, journal: &'a str) -> Command<'a> {
-    Command::Run {
-        net,
-        journal: Some(journal),
-    }
+    with(net, Some(journal), 0)
+}
+
+fn make<'a>(number: u32, workers: u32) -> Command<'a> {
+    Command::Make { number, workers }
 }
 
 fn replay<'a>(net: &'a str, journal: &'a str) -> Command<'a> {
@@ -49,9 +59,9 @@ fn lines_are_read(rt: HostRuntime) -> Result<(), Fail> {
         ("--check -- -net", Some(Command::Check("-net"))),
         ("net --replay j", Some(replay("net", "j"))),
         ("--replay=j net", Some(replay("net", "j"))),
-        ("--make 7", Some(Command::Make(7))),
-        ("--make=1", Some(Command::Make(1))),
-        ("--make=100", Some(Command::Make(100))),
+        ("--make 7", Some(make(7, 0))),
+        ("--make=1", Some(make(1, 0))),
+        ("--make=100", Some(make(100, 0))),
         ("", None),
         ("--", None),
         ("net net", None),
@@ -65,12 +75,26 @@ fn lines_are_read(rt: HostRuntime) -> Result<(), Fail> {
         ("--check --check net", None),
         ("--check=1 net", None),
         ("--chec net", None),
-        ("--workers 0 net", None),
-        ("--workers 3 net", None),
+        ("--workers 0 net", Some(run("net"))),
+        ("--workers 3 net", Some(with("net", None, 3))),
+        ("net --workers 32", Some(with("net", None, 32))),
+        (
+            "--journal j net --workers 2",
+            Some(with("net", Some("j"), 2)),
+        ),
         ("--workers 03 net", None),
         ("--workers 33 net", None),
-        ("--workers=2 net", None),
-        ("--make 7 --workers 4", None),
+        ("--workers=2 net", Some(with("net", None, 2))),
+        ("--make 7 --workers 4", Some(make(7, 4))),
+        ("--workers=4 --make=7", Some(make(7, 4))),
+        ("--workers 2", None),
+        ("--workers", None),
+        ("--workers= net", None),
+        ("--workers -1 net", None),
+        ("--workers 1 --workers 2 net", None),
+        ("--check --workers 2 net", None),
+        ("--replay j --workers 2 net", None),
+        ("--make 7 --workers 33", None),
         ("--journal j", None),
         ("--journal net", None),
         ("net --journal", None),

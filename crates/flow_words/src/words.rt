@@ -1,16 +1,16 @@
 //! How the words after the program's name are read.
-ghost use Rattle.std.specs.Prelude.{◌≡◌, IfOk, IfSome, false, map, string_bytes};
-ghost use Rattle.std.specs.Option.{option_map};
+ghost use Rattle.std.specs.Prelude.{◌≡◌, ◌≤◌, IfOk, IfSome, Some, false, map, string_bytes};
+ghost use Rattle.std.specs.Option.{option_and_then, option_map};
 ghost use Rattle.clap.specs.Words.{app_of, found_of, rows_of, rule_of};
 ghost use Rattle.flow_words.specs.Lines.{AskFor};
-ghost use Rattle.flow_words.specs.Numbers.{spelled_number};
-ghost use Rattle.flow_words.specs.Words.{Asked, IsWithinBounds, Make, asked_by, asked_in, command_of, flag_rule, form_of, is_checked, line_app, option_rule};
+ghost use Rattle.flow_words.specs.Numbers.{spelled_number, spelled_workers};
+ghost use Rattle.flow_words.specs.Words.{Asked, IsWithinBounds, Run, asked_by, asked_in, command_of, flag_rule, form_of, given_workers, is_checked, line_app, make_by, option_rule};
 
 use crate::asked::Command;
 use clap::error::ErrorKind;
 use clap::parser::ValueSource;
 use clap::{Arg, ArgAction, ArgMatches};
-use flow_limits::NUMBER_LIMIT;
+use flow_limits::{NUMBER_LIMIT, WORKER_LIMIT};
 use flow_text::decimal;
 use std::alloc::{AllocError, Global};
 
@@ -46,7 +46,8 @@ fn line<'a>(alloc: Global) -> Result<clap::Command<'a>, AllocError>
         .arg(flag(alloc, "check"))?
         .arg(option(alloc, "journal"))?
         .arg(option(alloc, "replay"))?
-        .arg(option(alloc, "make"))
+        .arg(option(alloc, "make"))?
+        .arg(option(alloc, "workers"))
 }
 
 // A flag, which takes no value.
@@ -76,6 +77,7 @@ fn asked_by_matches<'a>(matches: &ArgMatches<'a>) -> Option<Command<'a>>
         matches.get_str("journal"),
         matches.get_str("replay"),
         matches.get_str("make"),
+        matches.get_str("workers"),
     )
 }
 
@@ -86,27 +88,79 @@ fn form<'a>(
     journal: Option<&'a str>,
     replay: Option<&'a str>,
     number: Option<&'a str>,
+    workers: Option<&'a str>,
 ) -> Option<Command<'a>>
     ensures asks { option_map asked_by result ≡ form_of checked (option_map (λ s. s.now) net.entry) (option_map (λ s. s.now) journal.entry)
-        (option_map (λ s. s.now) replay.entry) (option_map (λ s. s.now) number.entry) }
+        (option_map (λ s. s.now) replay.entry) (option_map (λ s. s.now) number.entry) (option_map (λ s. s.now) workers.entry) }
     ensures bounds { IfSome result (λ command. IsWithinBounds (asked_by command)) }
 {
-    match (checked, net, journal, replay, number) {
-        (false, Some(net), journal, None, None) => Some(Command::Run { net, journal }),
-        (true, Some(net), None, None, None) => Some(Command::Check(net)),
-        (false, Some(net), None, Some(journal), None) => Some(Command::Replay { net, journal }),
-        (false, None, None, None, Some(word)) => make_of(word),
+    match (checked, net, journal, replay, number, workers) {
+        (false, Some(net), journal, None, None, workers) => run_of(net, journal, workers),
+        (true, Some(net), None, None, None, None) => Some(Command::Check(net)),
+        (false, Some(net), None, Some(journal), None, None) => {
+            Some(Command::Replay { net, journal })
+        }
+        (false, None, None, None, Some(word), workers) => make_of(word, workers),
         _ => None,
     }
 }
 
-// A make from the number that a word spells.
-fn make_of<'a>(word: &str) -> Option<Command<'a>>
-    ensures asks { option_map asked_by result ≡ option_map Make (spelled_number word.now) }
+// A run of this network file, with so many workers as are given.
+fn run_of<'a>(
+    net: &'a str,
+    journal: Option<&'a str>,
+    workers: Option<&'a str>,
+) -> Option<Command<'a>>
+    ensures asks { option_map asked_by result ≡ option_map (Run net.entry.now (option_map (λ s. s.now) journal.entry)) (given_workers (option_map (λ s. s.now) workers.entry)) }
     ensures bounds { IfSome result (λ command. IsWithinBounds (asked_by command)) }
 {
+    let workers = workers_of(workers)?;
+    Some(Command::Run {
+        net,
+        journal,
+        workers,
+    })
+}
+
+// A make from the number that a word spells, with so many workers as are given.
+fn make_of<'a>(word: &str, workers: Option<&str>) -> Option<Command<'a>>
+    ensures asks { option_map asked_by result ≡ option_and_then (make_by word.now) (given_workers (option_map (λ s. s.now) workers.entry)) }
+    ensures bounds { IfSome result (λ command. IsWithinBounds (asked_by command)) }
+{
+    let workers = workers_of(workers)?;
+    let number = number_of(word)?;
+    Some(Command::Make { number, workers })
+}
+
+// The number of a make that a word spells.
+fn number_of(word: &str) -> Option<u32>
+    ensures number { result ≡ spelled_number word.now }
+    ensures bounds { IfSome result (λ number. (1 ≤ number) × (number ≤ NUMBER_LIMIT)) }
+{
     match decimal(word.as_bytes(), 1, u64::from(NUMBER_LIMIT)) {
-        Some(number) => Some(Command::Make(number as u32)),
+        Some(number) => Some(number as u32),
+        None => None,
+    }
+}
+
+// The number of workers that is given. Where none is given there are none, and one thread runs the network.
+fn workers_of(word: Option<&str>) -> Option<u32>
+    ensures number { result ≡ given_workers (option_map (λ s. s.now) word.entry) }
+    ensures bounds { IfSome result (λ workers. workers ≤ WORKER_LIMIT) }
+{
+    match word {
+        None => Some(0),
+        Some(word) => spelled_workers(word),
+    }
+}
+
+// The number of workers that a word spells.
+fn spelled_workers(word: &str) -> Option<u32>
+    ensures number { result ≡ spelled_workers word.now }
+    ensures bounds { IfSome result (λ workers. workers ≤ WORKER_LIMIT) }
+{
+    match decimal(word.as_bytes(), 0, u64::from(WORKER_LIMIT)) {
+        Some(workers) => Some(workers as u32),
         None => None,
     }
 }

@@ -7,19 +7,20 @@ use Rattle.flow_cli.proofs.before.prepare.Goals as goal
 
 pub returns-in-Err-runnable : goal.returns-in-Err-runnable
 returns-in-Err-runnable g c = λ journal empty.
-    let run = c.in-Ok-Some-Run in
-    let some = run.field-0-is ∙ ap Some run.field-0-0-is in
-    c.in-Err-runnable.ensures c.args.words.now journal (option_map (λ s. s.now) run.journal) (asks-as c.args.words.now _ (commands.Run run.net run.journal) run.ensures.words some) empty
+    let run = c.in-Run in
+    let some = c.in-Ok-Some.field-0-is ∙ ap Some run.is in
+    c.in-Err-runnable.ensures c.args.words.now journal (option_map (λ s. s.now) run.journal) run.workers
+    (asks-as c.args.words.now _ (commands.Run run.net run.journal run.workers) c.in-Ok-Some.ensures.words some) empty
 
 pub returns-in-Err-load : goal.returns-in-Err-load
 returns-in-Err-load g c = λ journal empty.
-    let check = c.in-Ok-Some-Check in
-    let some = check.field-0-is ∙ ap Some check.field-0-0-is in
-    let asks = asks-as c.args.words.now _ (commands.Check check.name) check.ensures.words some in
+    let check = c.in-Check in
+    let some = c.in-Ok-Some.field-0-is ∙ ap Some check.is in
+    let asks = asks-as c.args.words.now _ (commands.Check check.name) c.in-Ok-Some.ensures.words some in
     c.in-Err-load.ensures c.args.words.now journal (on-file c.args.words.now (Check check.name.now) check.name.now refl asks) empty
 
 pub returns-in-Err-replayable : goal.returns-in-Err-replayable
 returns-in-Err-replayable g c = λ journal empty.
-    let replay = c.in-Ok-Some-Replay in
-    let some = replay.field-0-is ∙ ap Some replay.field-0-0-is in
-    c.in-Err-replayable.ensures c.args.words.now journal (asks-as c.args.words.now _ (commands.Replay replay.net replay.journal) replay.ensures.words some) empty
+    let replay = c.in-Replay in
+    let some = c.in-Ok-Some.field-0-is ∙ ap Some replay.is in
+    c.in-Err-replayable.ensures c.args.words.now journal (asks-as c.args.words.now _ (commands.Replay replay.net replay.journal) c.in-Ok-Some.ensures.words some) empty

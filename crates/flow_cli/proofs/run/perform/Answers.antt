@@ -1,4 +1,6 @@
 use Rattle.std.proofs.Common.{Ok, subst}
+use Rattle.std.specs.Option.{option_map}
+use Rattle.flow_words.specs.Words.{Run, Make}
 use Rattle.flow_cli.specs.Prepare.{Prepares}
 use Rattle.flow_cli.specs.declared.before.Task.{Task}
 use Rattle.flow_cli.specs.declared.components.TheConstants.{FILE_LIMIT}
@@ -9,19 +11,33 @@ pub returns-in-Ok-run_again : goal.returns-in-Ok-run_again
 returns-in-Ok-run_again g c =
     let o = g.F.Edge.outside c.args.shelf.now in
     let a = g.F.Edge.outside c.prepare.new.shelf in
-    let ready = subst (λ (t : Task). Prepares o a c.args.words.now (Ok t) FILE_LIMIT) c.in-Ok-Replay.field-0-is c.in-Ok-Replay.ensures in
-    says-again o a c.args.words.now FILE_LIMIT ready.0 ready.1 c.in-Ok-Replay.again ready.2 ready.3 c.in-Ok-run_again.said c.in-Ok-run_again.ensures
+    let ready = subst (λ (t : Task). Prepares o a c.args.words.now (Ok t) FILE_LIMIT) c.in-Replay.is c.in-Ok.ensures in
+    says-again o a c.args.words.now FILE_LIMIT ready.0 ready.1 c.in-Replay.again ready.2 ready.3 c.in-Ok-run_again.said c.in-Ok-run_again.ensures
 
-pub returns-in-Ok-Replay : goal.returns-in-Ok-Replay
-returns-in-Ok-Replay g c =
+pub returns-in-Replay : goal.returns-in-Replay
+returns-in-Replay g c =
     let o = g.F.Edge.outside c.args.shelf.now in
     let a = g.F.Edge.outside c.prepare.new.shelf in
-    let ready = subst (λ (t : Task). Prepares o a c.args.words.now (Ok t) FILE_LIMIT) c.in-Ok-Replay.field-0-is c.in-Ok-Replay.ensures in
-    again-stopped o a c.args.words.now FILE_LIMIT ready.0 ready.1 c.in-Ok-Replay.again ready.2 ready.3 c.in-Err-run_again.stop c.in-Err-run_again.ensures
+    let ready = subst (λ (t : Task). Prepares o a c.args.words.now (Ok t) FILE_LIMIT) c.in-Replay.is c.in-Ok.ensures in
+    again-stopped o a c.args.words.now FILE_LIMIT ready.0 ready.1 c.in-Replay.again ready.2 ready.3 c.in-Err-run_again.stop c.in-Err-run_again.ensures
 
 pub returns-in-Ok-run_made : goal.returns-in-Ok-run_made
 returns-in-Ok-run_made g c =
     let o = g.F.Edge.outside c.args.shelf.now in
     let a = g.F.Edge.outside c.prepare.new.shelf in
-    let asks = subst (λ (t : Task). Prepares o a c.args.words.now (Ok t) FILE_LIMIT) c.in-Ok-Make.field-0-is c.in-Ok-Make.ensures in
-    says-made o a c.args.words.now FILE_LIMIT c.in-Ok-Make.number asks c.in-Ok-run_made.said c.in-Ok-run_made.ensures
+    let asks = subst (λ (t : Task). Prepares o a c.args.words.now (Ok t) FILE_LIMIT) c.in-Make.is c.in-Ok.ensures in
+    says-made o a c.args.words.now FILE_LIMIT c.in-Make.number c.in-Make.workers asks c.in-Ok-run_made.said c.in-Ok-run_made.ensures
+
+pub run_and_keep-requires-clause-engine : goal.run_and_keep-requires-clause-engine
+run_and_keep-requires-clause-engine g c =
+    let o = g.F.Edge.outside c.args.shelf.now in
+    let a = g.F.Edge.outside c.prepare.new.shelf in
+    let asks = subst (λ (t : Task). Prepares o a c.args.words.now (Ok t) FILE_LIMIT) c.in-Run.is c.in-Ok.ensures in
+    c.requires (Run asks.name (option_map (λ s. s.now) c.in-Run.journal) c.in-Run.workers) asks.asks asks.few
+
+pub run_made-requires-clause-engine : goal.run_made-requires-clause-engine
+run_made-requires-clause-engine g c =
+    let o = g.F.Edge.outside c.args.shelf.now in
+    let a = g.F.Edge.outside c.prepare.new.shelf in
+    let asks = subst (λ (t : Task). Prepares o a c.args.words.now (Ok t) FILE_LIMIT) c.in-Make.is c.in-Ok.ensures in
+    c.requires (Make c.in-Make.number c.in-Make.workers) asks.asks asks.few

@@ -29,4 +29,6 @@ returns c =
     let replay : rule_of c.option-2.result ≡ option_rule (codes "replay") = c.option-2.ensures.rule in
     let four = added c.in_ok-arg-3.field-0 c.in_ok-arg-4.field-0 c.option-2.result _ _ three replay c.option-2.ensures.local c.in_ok-arg-4.ensures in
     let make : rule_of c.option-3.result ≡ option_rule (codes "make") = c.option-3.ensures.rule in
-    added-if c.in_ok-arg-4.field-0 c.arg-5.result c.option-3.result _ _ four make c.option-3.ensures.local c.arg-5.ensures
+    let five = added c.in_ok-arg-4.field-0 c.in_ok-arg-5.field-0 c.option-3.result _ _ four make c.option-3.ensures.local c.in_ok-arg-5.ensures in
+    let workers : rule_of c.option-4.result ≡ option_rule (codes "workers") = c.option-4.ensures.rule in
+    added-if c.in_ok-arg-5.field-0 c.arg-6.result c.option-4.result _ _ five workers c.option-4.ensures.local c.arg-6.ensures

@@ -2,7 +2,7 @@ use Rattle.flow_cli.specs.declared.components.TheConstants.{FILE_LIMIT}
 use Rattle.flow_cli.proofs.Tops.{stopped, stop-not-over, stop-not-running, stop-complete}
 use Rattle.flow_cli.proofs.Meaning.{finished-over}
 use Rattle.flow_cli.proofs.Concluding.{done-over, done-meaning, done-cause, done-status, done-complete}
-use Rattle.flow_cli.proofs.top.plain_top.Goals as goal
+use Rattle.flow_cli.proofs.top.carry_out.Goals as goal
 
 pub returns-in-Ok-clause-over : goal.returns-in-Ok-clause-over
 returns-in-Ok-clause-over g c = λ over.
