@@ -1,0 +1,109 @@
+//! Networks side by side, whose readers wait for one another at a gate: one thread alone can't bring them all there.
+use crate::called::{File, call};
+use flow_component::Gate;
+use std::sync::atomic::{AtomicU64, Ordering};
+use std::test::Fail;
+use std::thread;
+
+/// How often a process that waits looks whether the others have come.
+const LOOKS: u32 = 1_000_000;
+
+/// A gate that holds the first pass of each reader until a pass of every reader was reached. The readers are every second process, from
+/// process 0 on.
+#[derive(Drop)]
+struct Meeting {
+    readers: u64,
+    /// By reader, how often it has come.
+    come: [AtomicU64; 4],
+    /// How often a reader has gone on though not all had come.
+    alone: AtomicU64,
+}
+
+impl Meeting {
+    fn new(readers: u64) -> Self {
+        Meeting {
+            readers,
+            come: [
+                AtomicU64::new(0),
+                AtomicU64::new(0),
+                AtomicU64::new(0),
+                AtomicU64::new(0),
+            ],
+            alone: AtomicU64::new(0),
+        }
+    }
+
+    /// Whether every reader has come.
+    fn is_full(&self) -> bool {
+        let mut missing = self.readers;
+        for come in &self.come {
+            if come.load(Ordering::SeqCst) > 0 && missing > 0 {
+                missing -= 1;
+            }
+        }
+        missing == 0
+    }
+
+    /// Waits until every reader has come, and notes it where it has waited long enough.
+    fn wait(&self) {
+        for _look in 0..LOOKS {
+            if self.is_full() {
+                return;
+            }
+            thread::yield_now();
+        }
+        self.alone.fetch_add(1, Ordering::SeqCst);
+    }
+}
+
+impl Gate for Meeting {
+    fn pass(&self, process: u32) {
+        let reader = (process / 2) as usize;
+        if process % 2 == 0 && reader < self.come.len() {
+            let before = self.come[reader].fetch_add(1, Ordering::SeqCst);
+            if before == 0 {
+                self.wait();
+            }
+        }
+    }
+}
+
+const TWO: &[File] = &[
+    (
+        "net",
+        b"flow 1\n'i' -> FILE A(ReadLines)\nA OUT -> IN V(WriteLines)\n'v' -> FILE V\n'i' -> FILE B(ReadLines)\nB OUT -> IN W(WriteLines)\n'w' -> FILE W\n",
+    ),
+    ("i", b"x\ny\n"),
+];
+
+const FOUR: &[File] = &[
+    (
+        "net",
+        b"flow 1\n'i' -> FILE A(ReadLines)\nA OUT -> IN V(WriteLines)\n'v' -> FILE V\n'i' -> FILE B(ReadLines)\nB OUT -> IN W(WriteLines)\n'w' -> FILE W\n'i' -> FILE C(ReadLines)\nC OUT -> IN X(WriteLines)\n'x' -> FILE X\n'i' -> FILE D(ReadLines)\nD OUT -> IN Y(WriteLines)\n'y' -> FILE Y\n",
+    ),
+    ("i", b"x\ny\n"),
+];
+
+#[test]
+fn gate_holds_two(rt: HostRuntime) -> Result<(), Fail> {
+    let gate = Meeting::new(2);
+    let called = call(&rt, rt.alloc(), &["--workers", "2", "net"], TWO, &gate)?;
+    assert_eq!(rt; called.status, 0);
+    assert_eq!(rt; gate.alone.load(Ordering::SeqCst), 0);
+    for name in ["v", "w"] {
+        assert!(rt; called.shelf.file(name) == Some(b"x\ny\n".as_slice()));
+    }
+    Ok(())
+}
+
+#[test]
+fn gate_holds_four(rt: HostRuntime) -> Result<(), Fail> {
+    let gate = Meeting::new(4);
+    let called = call(&rt, rt.alloc(), &["--workers", "4", "net"], FOUR, &gate)?;
+    assert_eq!(rt; called.status, 0);
+    assert_eq!(rt; gate.alone.load(Ordering::SeqCst), 0);
+    for name in ["v", "w", "x", "y"] {
+        assert!(rt; called.shelf.file(name) == Some(b"x\ny\n".as_slice()));
+    }
+    Ok(())
+}

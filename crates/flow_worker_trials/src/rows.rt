@@ -1,0 +1,139 @@
+//! Networks whose files and printed lines are known from elsewhere, by one worker and by four.
+use crate::called::{File, call, call_alone};
+use flow_component::NoGate;
+use std::test::Fail;
+
+const ONE: &[&str] = &["--workers", "1", "net"];
+
+const FOUR: &[&str] = &["--workers", "4", "net"];
+
+const TELEGRAM: &[File] = &[
+    (
+        "net",
+        b"flow 1\n# the telegram problem\n'in.txt' -> FILE Read(ReadLines)\nRead OUT -> IN Words(Words)\nWords OUT->(20) IN Fill(Fill)\n'12' -> SIZE Fill\nFill OUT -> IN Write(WriteLines)\n'out.txt' -> FILE Write\n",
+    ),
+    ("in.txt", b"To be or not to be\nthat is the question\n"),
+];
+
+const TELEGRAM_REPORT: &[u8] =
+    b"verdict finished\nprocess Read ReadLines ended turns 6 made 2 dropped 0 left 0\nprocess Words Words ended turns 17 made 10 dropped 2 left 0\nprocess Fill Fill ended turns 19 made 4 dropped 10 left 0\nprocess Write WriteLines ended turns 8 made 0 dropped 4 left 0\nconnection Words.IN capacity 10 puts 2 takes 2 left 0\nconnection Fill.IN capacity 20 puts 10 takes 10 left 0\nconnection Write.IN capacity 10 puts 4 takes 4 left 0\ntotal turns 50 made 16 dropped 16 left 0\n";
+
+#[test]
+fn the_telegram_problem_by_workers(rt: HostRuntime) -> Result<(), Fail> {
+    for line in [ONE, FOUR] {
+        let called = call(&rt, rt.alloc(), line, TELEGRAM, &NoGate)?;
+        assert_eq!(rt; called.printed.as_slice(), TELEGRAM_REPORT);
+        assert_eq!(rt; called.status, 0);
+        assert_eq!(rt; called.turns, 50);
+        assert!(rt;
+            called.shelf.file("out.txt")
+                == Some(b"To be or not\nto be that\nis the\nquestion\n".as_slice())
+        );
+    }
+    Ok(())
+}
+
+const MERGED: &[File] = &[
+    (
+        "net",
+        b"flow 1\n'a' -> FILE A(ReadLines)\n'b' -> FILE B(ReadLines)\nA OUT -> IN Write(WriteLines)\nB OUT -> IN Write\n'o' -> FILE Write\n",
+    ),
+    ("a", b"a1\na2\n"),
+    ("b", b"b1\nb2\n"),
+];
+
+/// The merges that keep each reader's order.
+const MERGES: [&[u8]; 6] = [
+    b"a1\na2\nb1\nb2\n",
+    b"a1\nb1\na2\nb2\n",
+    b"a1\nb1\nb2\na2\n",
+    b"b1\na1\na2\nb2\n",
+    b"b1\na1\nb2\na2\n",
+    b"b1\nb2\na1\na2\n",
+];
+
+#[test]
+fn two_readers_are_merged_by_workers(rt: HostRuntime) -> Result<(), Fail> {
+    for line in [ONE, FOUR] {
+        let called = call(&rt, rt.alloc(), line, MERGED, &NoGate)?;
+        assert_eq!(rt; called.status, 0);
+        assert!(rt;
+            called
+                .printed
+                .ends_with(b"total turns 20 made 4 dropped 4 left 0\n")
+        );
+        let written = called.shelf.file("o");
+        assert!(rt; MERGES.into_iter().any(|merge| written == Some(merge)));
+    }
+    Ok(())
+}
+
+#[test]
+fn a_ring_is_stuck_for_workers_too(rt: HostRuntime) -> Result<(), Fail> {
+    let ring: &[File] = &[(
+        "net",
+        b"flow 1\nA(Passthru) OUT -> IN B(Passthru)\nB OUT -> IN A\n",
+    )];
+    for line in [ONE, FOUR] {
+        let called = call(&rt, rt.alloc(), line, ring, &NoGate)?;
+        assert_eq!(rt; called.status, 4);
+        assert_eq!(rt; called.turns, 0);
+        assert_eq!(rt;
+            called.printed.as_slice(),
+            b"verdict deadlock\nprocess A Passthru idle turns 0 made 0 dropped 0 left 0\nprocess B Passthru idle turns 0 made 0 dropped 0 left 0\nconnection B.IN capacity 10 puts 0 takes 0 left 0\nconnection A.IN capacity 10 puts 0 takes 0 left 0\nblocked A dormant\nblocked B dormant\ntotal turns 0 made 0 dropped 0 left 0\n".as_slice()
+        );
+    }
+    Ok(())
+}
+
+const BALANCED: &[File] = &[
+    (
+        "net",
+        b"flow 1\n'i' -> FILE Read(ReadLines)\nRead OUT -> IN Load(LoadBalance)\nLoad OUT[0] -> IN A(WriteLines)\nLoad OUT[1] -> IN B(WriteLines)\n'o' -> FILE A\n'p' -> FILE B\n",
+    ),
+    ("i", b"a\nb\nc\nd\n"),
+];
+
+/// Whether each of the lines is in one of the two files, and each file has the lines in their order.
+fn is_split(lines: &[u8], one: &[u8], other: &[u8]) -> bool {
+    let mut first = 0;
+    let mut second = 0;
+    for byte in lines.chunks(2) {
+        if first < one.len() && one[first..].starts_with(byte) {
+            first += byte.len();
+        } else if second < other.len() && other[second..].starts_with(byte) {
+            second += byte.len();
+        } else {
+            return false;
+        }
+    }
+    first == one.len() && second == other.len()
+}
+
+#[test]
+fn a_load_is_balanced_by_workers(rt: HostRuntime) -> Result<(), Fail> {
+    for line in [ONE, FOUR] {
+        let called = call(&rt, rt.alloc(), line, BALANCED, &NoGate)?;
+        assert_eq!(rt; called.status, 0);
+        let one = called.shelf.file("o").unwrap_or(b"?");
+        let other = called.shelf.file("p").unwrap_or(b"?");
+        assert!(rt; is_split(b"a\nb\nc\nd\n", one, other));
+    }
+    Ok(())
+}
+
+#[test]
+fn a_make_is_the_same_by_workers(rt: HostRuntime) -> Result<(), Fail> {
+    let alone = call_alone(&rt, rt.alloc(), &["--make", "7"], &[])?;
+    assert!(rt; alone.printed.ends_with(b"output C 6\n"));
+    let called = call(
+        &rt,
+        rt.alloc(),
+        &["--make", "7", "--workers", "4"],
+        &[],
+        &NoGate,
+    )?;
+    assert_eq!(rt; called.status, 0);
+    assert_eq!(rt; called.printed.as_slice(), alone.printed.as_slice());
+    Ok(())
+}
