@@ -1,0 +1,11 @@
+//! The batch update of a sorted master file by a sorted detail file.
+#![tactic(auto)]
+
+mod records;
+#[cfg(test)]
+mod tests;
+
+pub use records::{Posting, line, posted};
+
+/// The greatest amount of a record.
+pub const AMOUNT_LIMIT: u64 = 1_000_000_000_000_000;
