@@ -1,3 +1,6 @@
 pub mod Records
 pub mod Book
 pub mod Ledger
+pub mod Around
+pub mod Update
+pub mod UpdateLaws

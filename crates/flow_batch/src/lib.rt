@@ -4,8 +4,10 @@
 mod records;
 #[cfg(test)]
 mod tests;
+mod update;
 
-pub use records::{Posting, line, posted};
+pub use records::Posting;
+pub use update::Update;
 
 /// The greatest amount of a record.
 pub const AMOUNT_LIMIT: u64 = 1_000_000_000_000_000;
