@@ -4,3 +4,4 @@ pub mod Ledger
 pub mod Around
 pub mod Update
 pub mod UpdateLaws
+pub mod Updated

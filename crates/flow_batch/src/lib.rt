@@ -1,11 +1,13 @@
 //! The batch update of a sorted master file by a sorted detail file.
 #![tactic(auto)]
 
+mod meanings;
 mod records;
 #[cfg(test)]
 mod tests;
 mod update;
 
+pub use meanings::update_keeps_its_meaning;
 pub use records::Posting;
 pub use update::Update;
 
