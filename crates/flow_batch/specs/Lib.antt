@@ -5,3 +5,4 @@ pub mod Around
 pub mod Update
 pub mod UpdateLaws
 pub mod Updated
+pub mod Batch

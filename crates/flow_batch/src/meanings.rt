@@ -1,8 +1,16 @@
-//! What Update makes of its stream: the law is the contract of a function that does nothing.
+//! What Update makes of its stream, and what the batch update of sorted files comes to: each law is the contract of a function that
+//! does nothing.
+ghost use Rattle.flow_batch.specs.Batch.{BatchIsBook};
 ghost use Rattle.flow_batch.specs.Updated.{UpdateMeaning};
 
 /// What an Update that has come to its end has sent: to its first output the new master of each group that has a balance, and to its
 /// second one, if that is connected, what was refused.
 pub fn update_keeps_its_meaning()
     ensures { UpdateMeaning }
+{}
+
+/// What Update makes of the collation of sorted masters and sorted details is the book of the masters followed by the details: a line
+/// for each key that has an amount, in ascending order of keys, and what was refused in stable ascending order of its keys.
+pub fn a_batch_is_a_book()
+    ensures { BatchIsBook }
 {}
