@@ -14,7 +14,10 @@ use Rattle.flow_parts.specs.Count.{count_uses}
 use Rattle.flow_parts.specs.Meanings.{fresh_count}
 use Rattle.flow_streams.specs.declared.select.SelectPlace.TheVariants.{Waiting}
 use Rattle.flow_streams.specs.Select.{select_uses}
-use Rattle.flow_catalogue.specs.Processes.{is_connected}
+use Rattle.flow_batch.specs.Update.{update_uses}
+use Rattle.flow_batch.specs.Updated.{fresh_update}
+use Rattle.flow_text.specs.Text.{number_of}
+use Rattle.flow_catalogue.specs.Processes.{is_connected, option_text}
 use Rattle.flow_catalogue.proofs.Connected.{connected-sends}
 use Rattle.flow_catalogue.specs.Plans.{FirstFits}
 
@@ -58,6 +61,11 @@ select-used network p has zero used = has
 select-used network p has (suc zero) used = connected-sends network p 1 used
 select-used network p has (suc (suc o)) used = absurd (other-than o 0 1 (omega arith) (omega arith) (is_connected network p 1) used)
 
+update-used : (network : Network) (p keylen : ℕ) → HasSender network p 0 → (o : ℕ) → IsTrue (update_uses (fresh_update keylen (is_connected network p 1)) o) → HasSender network p o
+update-used network p keylen has zero used = has
+update-used network p keylen has (suc zero) used = connected-sends network p 1 used
+update-used network p keylen has (suc (suc o)) used = absurd (other-than o 0 1 (omega arith) (omega arith) (is_connected network p 1) used)
+
 -- The components that a plan begins with fit its processes.
 pub first-fits : FirstFits
 first-fits n p x kinds.ReadLines file is = record { inputs = sym is.inputs; outputs = sym is.outputs; uses = first-used n p (is.needed 0 refl); starts = λ held none. none }
@@ -81,3 +89,4 @@ first-fits n p x kinds.Hoard file is = record { inputs = sym is.inputs; outputs 
 first-fits n p x kinds.Count file is = record { inputs = sym is.inputs; outputs = sym is.outputs; uses = count-used n p (is.needed 1 refl); starts = λ held none. (refl, none) }
 first-fits n p x kinds.LoadBalance file is = record { inputs = sym is.inputs; outputs = refl; uses = λ o used. is.needed o (range-at 0 x.outputs o (below o x.outputs used)); starts = λ held none. (is.outputs.0, refl, none) }
 first-fits n p x kinds.Select file is = record { inputs = sym is.inputs; outputs = sym is.outputs; uses = select-used n p (is.needed 0 refl); starts = λ held none. (refl, none) }
+first-fits n p x kinds.Update file is = record { inputs = sym is.inputs; outputs = sym is.outputs; uses = update-used n p (number_of (option_text x.options)) (is.needed 0 refl); starts = λ held none. none }

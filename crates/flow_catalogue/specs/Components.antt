@@ -44,6 +44,9 @@ use Rattle.flow_streams.specs.LoadBalance.{LoadState, load_next, LoadReady, load
 use Rattle.flow_streams.specs.LoadBalanceLaws.{load_obeys, load_stays_ready, load_steady}
 use Rattle.flow_streams.specs.Select.{SelectState, select_next, SelectReady, select_shape, select_uses}
 use Rattle.flow_streams.specs.SelectLaws.{select_obeys, select_stays_ready, select_steady}
+use Rattle.flow_batch.specs.Around.{UpdateState}
+use Rattle.flow_batch.specs.Update.{update_next, UpdateReady, update_shape, update_uses}
+use Rattle.flow_batch.specs.UpdateLaws.{update_obeys, update_stays_ready, update_steady}
 use Rattle.flow_catalogue.specs.Kinded.{Kinded}
 
 -- Reads the lines of its file.
@@ -109,3 +112,7 @@ load_balance_kind = record { shape = load_shape; uses = load_uses; ready = LoadR
 -- Accepts packets whose text begins with a key.
 abbrev pub select_kind : Kinded SelectState
 select_kind = record { shape = λ _. select_shape; uses = select_uses; ready = SelectReady; next = select_next; written = λ _. None; obeys = select_obeys; stays_ready = select_stays_ready; steady = select_steady }
+
+-- Updates masters by details.
+abbrev pub update_kind : Kinded UpdateState
+update_kind = record { shape = λ _. update_shape; uses = update_uses; ready = UpdateReady; next = update_next; written = λ _. None; obeys = update_obeys; stays_ready = update_stays_ready; steady = update_steady }

@@ -18,6 +18,7 @@ use Rattle.flow_streams.specs.declared.unbundle.Unbundle.TheVariants as unbundle
 use Rattle.flow_streams.specs.declared.load_balance.LoadPlace.TheVariants as load_places
 use Rattle.flow_streams.specs.declared.select.SelectPlace.TheVariants as select_places
 use Rattle.flow_streams.specs.Meanings.{fresh_collate}
+use Rattle.flow_batch.specs.Updated.{fresh_update}
 use Rattle.flow_catalogue.specs.declared.table.StdKind.{StdKind}
 use Rattle.flow_catalogue.specs.declared.table.StdKind.TheVariants as kinds
 use Rattle.flow_catalogue.specs.declared.standard.Std.{Std}
@@ -88,6 +89,7 @@ first_component kinds.Hoard given file = components.Hoard (record {})
 first_component kinds.Count given file = components.Count (fresh_count (given.connected 0))
 first_component kinds.LoadBalance given file = components.LoadBalance (record { count = given.outputs; depth = 0; chosen = 0; place = load_places.Waiting })
 first_component kinds.Select given file = components.Select (record { rejects = given.connected 1; place = select_places.Waiting })
+first_component kinds.Update given file = components.Update (fresh_update (number_of given.option) (given.connected 1))
 
 -- The component is that of process p, in its first state on this file.
 pub record IsMade (network : Network) (p : ℕ) (process : Process) (file : List ℕ) (component : Std) : Type 0 where

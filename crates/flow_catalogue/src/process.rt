@@ -11,6 +11,7 @@ use crate::options::{fields, is_connected, number as number_in, option_text};
 use crate::plans::a_first_component_fits;
 use crate::standard::Std;
 use crate::table::StdKind;
+use flow_batch::Update;
 use flow_limits::TEXT_LIMIT;
 use flow_net::{Plan, PortClass, Process};
 use flow_parts::{Brackets, Count, Fill, ReadLines, Words, WriteLines};
@@ -55,6 +56,15 @@ fn line_size(process: &Process) -> u32
     ensures most { result ≤ TEXT_LIMIT }
 {
     number_in(option_text(process), 1, TEXT_LIMIT as u64) as u32
+}
+
+fn key_length(process: &Process) -> u32
+    requires { HasOption (Some (PortClass.Number 1 255)) process.now.options }
+    ensures length { result ≡ number_of (option_text process.now.options) }
+    ensures least { 1 ≤ result }
+    ensures most { result ≤ 255 }
+{
+    number_in(option_text(process), 1, 255) as u32
 }
 
 /// The file that a process reads or writes; none where its kind has none. Takes no memory.
@@ -109,6 +119,11 @@ fn first_component(
         StdKind::Count => Ok(Std::Count(Count::new(alloc, is_connected(plan, number, 0)))),
         StdKind::LoadBalance => Ok(Std::LoadBalance(LoadBalance::new(process.outputs))),
         StdKind::Select => Ok(Std::Select(Select::new(is_connected(plan, number, 1)))),
+        StdKind::Update => Ok(Std::Update(Update::new(
+            alloc,
+            key_length(process),
+            is_connected(plan, number, 1),
+        ))),
     }
 }
 

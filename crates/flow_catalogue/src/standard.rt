@@ -5,6 +5,7 @@ ghost use Rattle.std.specs.Option.{option_copied};
 ghost use Rattle.flow_component.specs.Laws.{AtMostOneOutcome};
 ghost use Rattle.flow_catalogue.specs.Std.{StdNext};
 
+use flow_batch::Update;
 use flow_component::{Answer, Component, Shape, Stop, Wish};
 use flow_packet::Hands;
 use flow_parts::{Brackets, Count, Fill, ReadLines, Words, WriteLines};
@@ -32,6 +33,7 @@ pub enum Std {
     Count(Count),
     LoadBalance(LoadBalance),
     Select(Select),
+    Update(Update),
 }
 
 impl Std {
@@ -87,6 +89,7 @@ impl Component for Std {
             Std::Count(component) => component.shape(),
             Std::LoadBalance(component) => component.shape(),
             Std::Select(component) => component.shape(),
+            Std::Update(component) => component.shape(),
         }
     }
 
@@ -108,6 +111,7 @@ impl Component for Std {
             Std::Count(component) => component.resume(hands, answer),
             Std::LoadBalance(component) => component.resume(hands, answer),
             Std::Select(component) => component.resume(hands, answer),
+            Std::Update(component) => component.resume(hands, answer),
         }
     }
 }

@@ -28,10 +28,11 @@ pub enum StdKind {
     Count,
     LoadBalance,
     Select,
+    Update,
 }
 
 // All kinds, in the order of the table.
-const ALL: [StdKind; 16] = [
+const ALL: [StdKind; 17] = [
     StdKind::ReadLines,
     StdKind::WriteLines,
     StdKind::Passthru,
@@ -48,6 +49,7 @@ const ALL: [StdKind; 16] = [
     StdKind::Count,
     StdKind::LoadBalance,
     StdKind::Select,
+    StdKind::Update,
 ];
 
 impl StdKind {
@@ -72,6 +74,7 @@ impl StdKind {
             StdKind::Count => b"Count",
             StdKind::LoadBalance => b"LoadBalance",
             StdKind::Select => b"Select",
+            StdKind::Update => b"Update",
         }
     }
 
@@ -253,6 +256,21 @@ fn collate(alloc: Global) -> Result<KindSpec, AllocError>
     kind(alloc, b"Collate", inputs, vec![in alloc; output]?)
 }
 
+fn update(alloc: Global) -> Result<KindSpec, AllocError>
+    ensures { IfOk result (λ kind. kind ≡ spec_of StdKind.Update) }
+{
+    let lengths = PortClass::Number {
+        least: 1,
+        most: 255,
+    };
+    let keylen = option(alloc, b"KEYLEN", lengths)?;
+    let input = stream(alloc, b"IN")?;
+    let output = stream(alloc, b"OUT")?;
+    let refused = optional(alloc, b"REP")?;
+    let inputs = vec![in alloc; keylen, input]?;
+    kind(alloc, b"Update", inputs, vec![in alloc; output, refused]?)
+}
+
 // The row of a kind.
 fn spec(alloc: Global, kind: StdKind) -> Result<KindSpec, AllocError>
     ensures { IfOk result (λ spec. spec ≡ spec_of kind) }
@@ -274,6 +292,7 @@ fn spec(alloc: Global, kind: StdKind) -> Result<KindSpec, AllocError>
         StdKind::Count => count(alloc),
         StdKind::LoadBalance => spreading(alloc, b"LoadBalance"),
         StdKind::Select => select(alloc),
+        StdKind::Update => update(alloc),
     }
 }
 

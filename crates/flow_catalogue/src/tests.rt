@@ -25,6 +25,7 @@ fn the_table_has_the_standard_kinds(rt: HostRuntime) -> Result<(), Fail> {
         b"Count".as_slice(),
         b"LoadBalance".as_slice(),
         b"Select".as_slice(),
+        b"Update".as_slice(),
     ]) {
         assert_eq!(rt; spec.name.as_slice(), name);
         assert!(rt; StdKind::named(name).is_some());

@@ -110,7 +110,8 @@ module _ {K : Type 0} (ready : K → Held → Answer → Type 0) (next : K → H
   pub end-heard : (component : K) (told : List Happening) → EndedRun ready next component told → (Leaves component → ⊥) → told ≢ [] → HeardEnd 0 told
   end-heard component told run not some = elim (heard-run told (fresh component run.maker) run.last tt run.runs run.idle some) [ inl h ↦ h | inr l ↦ absurd (not l) ]
 
-abbrev Never : {K : Type 0} → K → Type 0
+-- Nothing of it leaves before an end.
+abbrev pub Never : {K : Type 0} → K → Type 0
 Never component = ⊥
 
 -- A WriteLines that has run and ended has heard the end of its input.
@@ -149,8 +150,8 @@ hoard-hears {K} component told run some =
     (λ p port t q s l. elim l [ inl d ↦ (let c : Wishes q.component q.held q.wish ≡ Wishes p.component s.held receive_first = s.comes_to in cc) | inr n ↦ n ])
     (λ p port level q s l. s.is_ready) component told run (λ n. n) some
 
--- where the outcome goes on
-abbrev GoesOn : {K : Type 0} → Outcome K → Type 0
+-- The outcome goes on: it doesn't deactivate.
+abbrev pub GoesOn : {K : Type 0} → Outcome K → Type 0
 GoesOn (Wishes component held wish) = wish ≡ wishes.Deactivate → ⊥
 GoesOn (Fails component held cause) = Unit {0}
 

@@ -18,6 +18,7 @@ use Rattle.flow_meanings.proofs.Facts.{Facts}
 use Rattle.flow_meanings.proofs.LineKinds.{read_lines-facts, write_lines-facts, words-facts, fill-facts, brackets-facts, count-facts}
 use Rattle.flow_meanings.proofs.StreamKinds.{passthru-facts, copy-facts, concat-facts, collate-facts, discard-facts, bundle-facts, unbundle-facts, hoard-facts, load-facts}
 use Rattle.flow_meanings.proofs.SelectKind.{select-facts}
+use Rattle.flow_meanings.proofs.UpdateKind.{update-facts}
 
 -- The facts of each standard component.
 pub facts-of : (component : Std) → Facts component
@@ -37,6 +38,7 @@ facts-of (components.Hoard component) = hoard-facts component
 facts-of (components.Count state) = count-facts state
 facts-of (components.LoadBalance state) = load-facts state
 facts-of (components.Select state) = select-facts state
+facts-of (components.Update state) = update-facts state
 
 -- a text of fields has one at least
 some-fields : (text : List ℕ) → 1 ≤ length (fields_of text)
@@ -59,6 +61,7 @@ first-first kinds.Hoard given file = tt
 first-first kinds.Count given file = refl
 first-first kinds.LoadBalance given file = refl
 first-first kinds.Select given file = refl
+first-first kinds.Update given file = refl
 
 -- the component of a process in its first state is so by its meaning too
 pub made-first : (plan : Network) (p : ℕ) (process : Process) (file : List ℕ) (component : Std) → IsMade plan p process file component → IsFirst component

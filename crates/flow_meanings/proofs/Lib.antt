@@ -5,6 +5,7 @@ pub mod Facts
 pub mod LineKinds
 pub mod StreamKinds
 pub mod SelectKind
+pub mod UpdateKind
 pub mod Every
 pub mod Contents
 pub mod Composing

@@ -25,6 +25,8 @@ use Rattle.flow_streams.specs.Bundled.{bundled}
 use Rattle.flow_streams.specs.Unbundled.{unbundled}
 use Rattle.flow_streams.specs.Split.{IsSplit}
 use Rattle.flow_streams.specs.Selected.{IsSelected}
+use Rattle.flow_batch.specs.Around.{UpdateState}
+use Rattle.flow_batch.specs.Updated.{fresh_update, IsUpdated}
 use Rattle.flow_catalogue.specs.declared.standard.Std.{Std}
 use Rattle.flow_catalogue.specs.declared.standard.Std.TheVariants as components
 use Rattle.flow_meanings.specs.Meaning.{Meaning}
@@ -99,6 +101,10 @@ load_balance_meaning state = record { first = state ≡ fresh_load state.count; 
 abbrev pub select_meaning : SelectState → Meaning
 select_meaning state = record { first = state ≡ fresh_select state.rejects; loops = false; settled = true; makes = λ wrote x y. IsSelected state.rejects (x 0) (x 1) (y 0) (y 1) }
 
+-- An Update sends the new masters of the groups of its input, and to its second output, where that is connected, what is refused.
+abbrev pub update_meaning : UpdateState → Meaning
+update_meaning state = record { first = state ≡ fresh_update state.keylen state.rep; loops = true; settled = true; makes = λ wrote x y. IsUpdated state.keylen state.rep (x 0) (y 0) (y 1) }
+
 -- What a standard component means.
 abbrev pub meaning_of : Std → Meaning
 meaning_of (components.ReadLines left) = read_lines_meaning left
@@ -117,3 +123,4 @@ meaning_of (components.Hoard component) = silent_meaning
 meaning_of (components.Count state) = count_meaning state
 meaning_of (components.LoadBalance state) = load_balance_meaning state
 meaning_of (components.Select state) = select_meaning state
+meaning_of (components.Update state) = update_meaning state
