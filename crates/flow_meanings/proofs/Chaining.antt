@@ -41,8 +41,8 @@ same-sender p o sender a b =
     let u : nat_eq sender.output o ≡ true = grind (arith, nat_tests) in
     rw (t, u) refl
 
--- all that is on a connection with one sender is its
-own-stream : (plan : Plan) (ks : List Std) (wrote : ℕ → List ℕ) (m : Composes plan ks wrote) (p o c : ℕ) → sends_at plan p o ≡ Some c → ((q r : ℕ) → sends_at plan q r ≡ Some c → (q ≡ p) × (r ≡ o))
+-- All that is on a connection with one sender is its.
+pub own-stream : (plan : Plan) (ks : List Std) (wrote : ℕ → List ℕ) (m : Composes plan ks wrote) (p o c : ℕ) → sends_at plan p o ≡ Some c → ((q r : ℕ) → sends_at plan q r ≡ Some c → (q ≡ p) × (r ≡ o))
     → leaving m.on (record { process = p; output = o }) (sends_at plan p o) ≡ map (λ (sending : Sending). sending.content) (m.on c)
 own-stream plan ks wrote m p o c sends alone =
     let sender : Sender = record { process = p; output = o } in
@@ -73,12 +73,14 @@ map-same : {A B : Type 0} (f g : A → B) (xs : List A) → ((i : ℕ) (x : A) �
 map-same f g [] same = refl
 map-same f g (x ∷ xs) same = λ j. same 0 x refl j ∷ map-same f g xs (λ i y at. same (suc i) y at) j
 
-get-there : {A : Type 0} (xs : List A) (c : ℕ) (d : A) → c < length xs → slice_get xs c ≡ Some (get_or xs c d)
+-- What is within a list is there.
+pub get-there : {A : Type 0} (xs : List A) (c : ℕ) (d : A) → c < length xs → slice_get xs c ≡ Some (get_or xs c d)
 get-there [] c d l = absurd (omega arith)
 get-there (x ∷ xs) zero d l = refl
 get-there (x ∷ xs) (suc c) d l = get-there xs c d (omega arith)
 
-any-there : {A : Type 0} (test : A → Bool) (xs : List A) → list_any test xs ≡ true → (k : ℕ) × (y : A) × (slice_get xs k ≡ Some y) × (test y ≡ true)
+-- Where any passes a test, one that is there does.
+pub any-there : {A : Type 0} (test : A → Bool) (xs : List A) → list_any test xs ≡ true → (k : ℕ) × (y : A) × (slice_get xs k ≡ Some y) × (test y ≡ true)
 any-there {A} test [] is = absurd (cc)
 any-there {A} test (x ∷ xs) is = by (test x) refl (any-there test xs) is
   where

@@ -10,3 +10,5 @@ pub mod Every
 pub mod Contents
 pub mod Composing
 pub mod Chaining
+pub mod BatchParts
+pub mod Batching

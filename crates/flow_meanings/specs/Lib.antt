@@ -4,3 +4,4 @@ pub mod Means
 pub mod Composition
 pub mod Chains
 pub mod Outcomes
+pub mod Batches

@@ -5,6 +5,7 @@ mod outcomes;
 
 ghost use Rattle.flow_meanings.specs.Means.{KeepsMeanings};
 ghost use Rattle.flow_meanings.specs.Composition.{FinishedComposes};
+ghost use Rattle.flow_meanings.specs.Batches.{BatchMeans, EndedCollates};
 ghost use Rattle.flow_meanings.specs.Chains.{TelegramMeans};
 
 pub use outcomes::{
@@ -25,4 +26,15 @@ pub fn a_finished_network_composes_its_meanings()
 /// In a chain of a reader, a Words, a Fill and a writer, the writer has written the lines of the one filling of the words of what was read.
 pub fn a_telegram_is_the_filling_of_its_words()
     ensures { TelegramMeans }
+{}
+
+/// After every schedule each Collate that has ended has sent the collation of what its elements got.
+pub fn an_ended_collate_has_sent_the_collation()
+    ensures { EndedCollates }
+{}
+
+/// Where a network has a batch update of a sorted master file by a sorted detail file, its two writers have written the book of the
+/// masters followed by the details.
+pub fn a_batch_update_writes_its_book()
+    ensures { BatchMeans }
 {}
