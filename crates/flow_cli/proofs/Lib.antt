@@ -16,3 +16,4 @@ pub mod Tops
 pub mod Valid
 pub mod Writings
 pub mod Written
+pub mod Updating

@@ -37,7 +37,8 @@ finished-of s Deadlock is e = absurd e
 finished-of s Failed is e = absurd e
 finished-of s Running is e = absurd e
 
-are-first : (plan : Network) (given : List (List ℕ)) (ks : List Std) → AreComponents plan given ks → AreFirst ks
+-- The components of a run are in their first states as their meanings have it.
+pub are-first : (plan : Network) (given : List (List ℕ)) (ks : List Std) → AreComponents plan given ks → AreFirst ks
 are-first plan given ks are p component at = let is = are.each p component at in made-first plan p is.2.process is.0 component is.2.made
 
 -- A status of a finished run is that of a run that is over.

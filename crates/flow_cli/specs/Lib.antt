@@ -13,3 +13,4 @@ pub mod Statuses
 pub mod Step
 pub mod Stops
 pub mod Top
+pub mod Updates

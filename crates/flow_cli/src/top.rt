@@ -5,6 +5,7 @@ ghost use Rattle.flow_cli.specs.Meant.{LeavesMeaning};
 ghost use Rattle.flow_cli.specs.Networks.{IsStandardPlan};
 ghost use Rattle.flow_cli.specs.Reads.{AsksWorkers, IsServed};
 ghost use Rattle.flow_cli.specs.Statuses.{IsFinished, IsOver};
+ghost use Rattle.flow_cli.specs.Updates.{CollatesEach, LeavesBooks};
 ghost use Rattle.flow_cli.specs.Top.{ComesToEnd, Concludes, Finishes, IsCaused, IsComplete, IsReplay, IsRunnable, PrintsStop, call_of};
 ghost use Rattle.flow_cli.specs.declared.status.Status.TheVariants.{Running};
 
@@ -23,7 +24,10 @@ use flow_journal::{
 };
 use flow_limits::WORKER_LIMIT;
 use flow_machine::{Closed, Net};
-use flow_meanings::a_finished_network_composes_its_meanings;
+use flow_meanings::{
+    a_batch_update_writes_its_book, a_finished_network_composes_its_meanings,
+    an_ended_collate_has_sent_the_collation,
+};
 use flow_ready::a_valid_plan_is_ready;
 use flow_text::{Shelf, Sink};
 use flow_words::{Command, command};
@@ -71,6 +75,12 @@ pub fn plain_top<F: Shelf, O: Sink>(
     ensures meaning { IsFinished result.status
         → LeavesMeaning (record { words = words.now; before = F.outside shelf.old; after = F.outside shelf.new; journal = result.journal }) FILE_LIMIT }
 
+    // A run that finished left the book of each of its batch updates of sorted files.
+    ensures books { IsFinished result.status → LeavesBooks (record { words = words.now; before = F.outside shelf.old; after = F.outside shelf.new; journal = result.journal }) FILE_LIMIT }
+
+    // Wherever the run stood, a Collate that had ended had sent the collation of what its elements got.
+    ensures collated { CollatesEach (record { words = words.now; before = F.outside shelf.old; after = F.outside shelf.new; journal = result.journal }) FILE_LIMIT }
+
     // Each status has the cause of what the call came to.
     ensures cause { IsCaused (call_of words.now (F.outside shelf.old) (F.outside shelf.new) (O.outside out.old) (O.outside out.new) result.journal result.status) FILE_LIMIT }
 
@@ -106,6 +116,12 @@ pub fn busy_top<R: Threads + Wait + Sync, F: Shelf, O: Sink, G: Gate + Sync>(
     ensures meaning { IsFinished result.status
         → LeavesMeaning (record { words = words.now; before = F.outside shelf.old; after = F.outside shelf.new; journal = result.journal }) FILE_LIMIT }
 
+    // A run that finished left the book of each of its batch updates of sorted files.
+    ensures books { IsFinished result.status → LeavesBooks (record { words = words.now; before = F.outside shelf.old; after = F.outside shelf.new; journal = result.journal }) FILE_LIMIT }
+
+    // Wherever the run stood, a Collate that had ended had sent the collation of what its elements got.
+    ensures collated { CollatesEach (record { words = words.now; before = F.outside shelf.old; after = F.outside shelf.new; journal = result.journal }) FILE_LIMIT }
+
     // Each status has the cause of what the call came to.
     ensures cause { IsCaused (call_of words.now (F.outside shelf.old) (F.outside shelf.new) (O.outside out.old) (O.outside out.new) result.journal result.status) FILE_LIMIT }
 
@@ -136,6 +152,8 @@ where
     ensures over { IsOver result.status → ComesToEnd (call_of words.now (F.outside shelf.old) (F.outside shelf.new) (O.outside out.old) (O.outside out.new) result.journal result.status) FILE_LIMIT }
     ensures meaning { IsFinished result.status
         → LeavesMeaning (record { words = words.now; before = F.outside shelf.old; after = F.outside shelf.new; journal = result.journal }) FILE_LIMIT }
+    ensures books { IsFinished result.status → LeavesBooks (record { words = words.now; before = F.outside shelf.old; after = F.outside shelf.new; journal = result.journal }) FILE_LIMIT }
+    ensures collated { CollatesEach (record { words = words.now; before = F.outside shelf.old; after = F.outside shelf.new; journal = result.journal }) FILE_LIMIT }
     ensures cause { IsCaused (call_of words.now (F.outside shelf.old) (F.outside shelf.new) (O.outside out.old) (O.outside out.new) result.journal result.status) FILE_LIMIT }
     ensures status { result.status ≡ Running → IsReplay words.now }
     ensures complete { IsComplete (call_of words.now (F.outside shelf.old) (F.outside shelf.new) (O.outside out.old) (O.outside out.new) result.journal result.status) FILE_LIMIT }
@@ -143,6 +161,8 @@ where
     a_plan_over_the_table_is_standard();
     a_valid_plan_is_ready::<Std>();
     a_finished_network_composes_its_meanings();
+    an_ended_collate_has_sent_the_collation();
+    a_batch_update_writes_its_book();
     standard_components_come_to_one_outcome();
     a_journal_that_stops_is_no_schedule::<Std>();
     a_file_has_one_journal_or_one_fault();

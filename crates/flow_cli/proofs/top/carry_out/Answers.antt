@@ -2,6 +2,7 @@ use Rattle.flow_cli.specs.declared.components.TheConstants.{FILE_LIMIT}
 use Rattle.flow_cli.proofs.Tops.{stopped, stop-not-over, stop-not-running, stop-complete}
 use Rattle.flow_cli.proofs.Meaning.{finished-over}
 use Rattle.flow_cli.proofs.Concluding.{done-over, done-meaning, done-cause, done-status, done-complete}
+use Rattle.flow_cli.proofs.Updating.{collates-each, leaves-books}
 use Rattle.flow_cli.proofs.top.carry_out.Goals as goal
 
 pub returns-in-Ok-clause-over : goal.returns-in-Ok-clause-over
@@ -14,6 +15,16 @@ returns-in-Ok-clause-meaning g c = λ finished.
     done-meaning c.a_valid_plan_is_ready.ensures.starts c.a_finished_network_composes_its_meanings.ensures
     c.args.words.now (g.F.Edge.outside c.args.shelf.now) (g.F.Edge.outside c.perform.new.shelf) (g.F.Edge.outside c.conclude.new.shelf) (g.O.Edge.outside c.args.out.now) (g.O.Edge.outside c.conclude.new.out)
     c.in-Ok.done c.conclude.result FILE_LIMIT c.in-Ok.ensures c.conclude.ensures finished
+
+pub returns-in-Ok-clause-books : goal.returns-in-Ok-clause-books
+returns-in-Ok-clause-books g c = λ finished.
+    leaves-books c.a_batch_update_writes_its_book.ensures (record { words = c.args.words.now; before = g.F.Edge.outside c.args.shelf.now; after = g.F.Edge.outside c.conclude.new.shelf; journal = c.conclude.result.journal }) FILE_LIMIT
+    (done-meaning c.a_valid_plan_is_ready.ensures.starts c.a_finished_network_composes_its_meanings.ensures
+    c.args.words.now (g.F.Edge.outside c.args.shelf.now) (g.F.Edge.outside c.perform.new.shelf) (g.F.Edge.outside c.conclude.new.shelf) (g.O.Edge.outside c.args.out.now) (g.O.Edge.outside c.conclude.new.out)
+    c.in-Ok.done c.conclude.result FILE_LIMIT c.in-Ok.ensures c.conclude.ensures finished)
+
+pub returns-in-Ok-clause-collated : goal.returns-in-Ok-clause-collated
+returns-in-Ok-clause-collated g c = collates-each c.a_valid_plan_is_ready.ensures.starts c.an_ended_collate_has_sent_the_collation.ensures (record { words = c.args.words.now; before = g.F.Edge.outside c.args.shelf.now; after = g.F.Edge.outside c.conclude.new.shelf; journal = c.conclude.result.journal }) FILE_LIMIT
 
 pub returns-in-Ok-clause-cause : goal.returns-in-Ok-clause-cause
 returns-in-Ok-clause-cause g c =
@@ -38,6 +49,15 @@ returns-in-Err-clause-over g c = λ over.
 pub returns-in-Err-clause-meaning : goal.returns-in-Err-clause-meaning
 returns-in-Err-clause-meaning g c = λ finished.
     absurd (stop-not-over (g.O.Edge.outside c.args.out.now) (g.O.Edge.outside c.print_stop.new.out) c.in-Err.stop c.print_stop.result c.print_stop.ensures (finished-over c.print_stop.result finished))
+
+pub returns-in-Err-clause-books : goal.returns-in-Err-clause-books
+returns-in-Err-clause-books g c = λ finished.
+    absurd (stop-not-over (g.O.Edge.outside c.args.out.now) (g.O.Edge.outside c.print_stop.new.out) c.in-Err.stop c.print_stop.result c.print_stop.ensures (finished-over c.print_stop.result finished))
+
+pub returns-in-Err-clause-collated : goal.returns-in-Err-clause-collated
+returns-in-Err-clause-collated g c =
+    collates-each c.a_valid_plan_is_ready.ensures.starts c.an_ended_collate_has_sent_the_collation.ensures
+    (record { words = c.args.words.now; before = g.F.Edge.outside c.args.shelf.now; after = g.F.Edge.outside c.perform.new.shelf; journal = c.no_journal.result }) FILE_LIMIT
 
 pub returns-in-Err-clause-cause : goal.returns-in-Err-clause-cause
 returns-in-Err-clause-cause g c =

@@ -1,0 +1,30 @@
+-- What a run came to where its network collates, and where it updates a master file by a detail file.
+use Rattle.std.proofs.Common.{ℕ, List, inl, inr}
+use Rattle.flow_plan.specs.Network.{Network}
+use Rattle.flow_catalogue.specs.declared.standard.Std.{Std}
+use Rattle.flow_catalogue.specs.Std.{std_shape, std_uses, StdReady}
+use Rattle.flow_ready.specs.Ready.{StartsPlans}
+use Rattle.flow_meanings.specs.Batches.{EndedCollates, BatchMeans}
+use Rattle.flow_meanings.specs.Outcomes.{AreComponentsOf}
+use Rattle.flow_cli.specs.Causes.{Work}
+use Rattle.flow_cli.specs.Components.{AreComponents}
+use Rattle.flow_cli.specs.Meant.{LeavesMeaning}
+use Rattle.flow_cli.specs.Updates.{CollatesEach, LeavesBooks}
+use Rattle.flow_cli.proofs.Fitting.{components-fit}
+use Rattle.flow_cli.proofs.Meaning.{are-first}
+
+-- Wherever a run stood, its ended Collates had sent their collations.
+pub collates-each : StartsPlans std_shape std_uses StdReady → EndedCollates → (w : Work) (limit : ℕ) → CollatesEach w limit
+collates-each starts collates w limit name workers plan last middle run front mid prefix =
+    let of = run.ready in
+    collates plan run.components front mid (starts plan run.components of.file.standard.valid (components-fit plan run.components (of.given, of.are_components))) (are-first plan of.given run.components of.are_components) prefix.first
+
+of-plan : (plan : Network) (given : List (List ℕ)) (ks : List Std) → AreComponents plan given ks → AreComponentsOf plan ks
+of-plan plan given ks are p component at = let is = are.each p component at in record { process = is.2.process; there = is.2.there; file = is.0; made = is.2.made }
+
+-- A network that left what it means left its books.
+pub leaves-books : BatchMeans → (w : Work) (limit : ℕ) → LeavesMeaning w limit → LeavesBooks w limit
+leaves-books means w limit (inl l) =
+    let meant = l.4 in
+    inl (l.0, l.1, l.2, l.3, meant, means meant.plan meant.components meant.wrote (of-plan meant.plan meant.ready.given meant.components meant.ready.are_components) meant.composes)
+leaves-books means w limit (inr l) = inr l
