@@ -6,3 +6,4 @@ pub mod Sorting
 pub mod Collating
 pub mod Amounts
 pub mod UpdateStream
+pub mod Uniques

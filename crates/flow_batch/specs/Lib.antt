@@ -6,3 +6,4 @@ pub mod Update
 pub mod UpdateLaws
 pub mod Updated
 pub mod Batch
+pub mod One

@@ -7,7 +7,7 @@ mod records;
 mod tests;
 mod update;
 
-pub use meanings::{a_batch_is_a_book, update_keeps_its_meaning};
+pub use meanings::{a_batch_is_a_book, a_book_has_one_order, update_keeps_its_meaning};
 pub use records::Posting;
 pub use update::Update;
 
