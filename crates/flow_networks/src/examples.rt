@@ -130,6 +130,28 @@ fn the_examples_leave_what_is_expected(rt: HostRuntime) -> Result<(), Fail> {
             ],
             ..ROW
         },
+        Row {
+            net: b"# A master file is updated by a detail file, both in the order of their keys. A record is a key of KEYLEN bytes, a sign and an amount:\n# M and N set the amount of the key where it has none, + adds to it, - takes from it, X erases it. What can't be done goes to a report.\nflow 1\n'examples/batch/masters.txt' -> FILE Masters(ReadLines)\n'examples/batch/details.txt' -> FILE Details(ReadLines)\nMasters OUT -> IN[0] Collate(Collate)\nDetails OUT -> IN[1] Collate\n'4' -> FIELDS Collate\nCollate OUT -> IN Update(Update)\n'4' -> KEYLEN Update\nUpdate OUT -> IN New(WriteLines)\nUpdate REP -> IN Refused(WriteLines)\n'examples/batch/new.txt' -> FILE New\n'examples/batch/refused.txt' -> FILE Refused\n",
+            inputs: [
+                (
+                    "examples/batch/masters.txt",
+                    b"ann:M120\nbob:M75\ncid:M300\ndot:M40\n",
+                ),
+                (
+                    "examples/batch/details.txt",
+                    b"ann:+30\nann:-50\nbob:-80\nbob:+10\ndot:X40\neve:N200\neve:+5\nfay:+9\n",
+                ),
+                NONE,
+            ],
+            outputs: [
+                (
+                    "examples/batch/new.txt",
+                    b"ann:M100\nbob:M85\ncid:M300\neve:M205\n",
+                ),
+                ("examples/batch/refused.txt", b"bob:-80\nfay:+9\n"),
+            ],
+            ..ROW
+        },
     ];
     for row in rows {
         run_row(&rt, rt.alloc(), row)?;

@@ -80,6 +80,26 @@ fn ports_are_those_of_their_kind(rt: HostRuntime) -> Result<(), Fail> {
             b"flow 1\n'i' -> FILE R(ReadLines)\nR OUT -> IN S(Select)\n'a' -> KEY S\nS REJ -> IN A\n'a' -> FILE A(WriteLines)\n",
             b"network refused: port missing S.ACC\n",
         ),
+        // An Update's OUT has to be connected, its REP may be left open;
+        refused(
+            b"flow 1\n'i' -> FILE R(ReadLines)\nR OUT -> IN U(Update)\n'2' -> KEYLEN U\nU REP -> IN A\n'a' -> FILE A(WriteLines)\n",
+            b"network refused: port missing U.OUT\n",
+        ),
+        // it needs the length of its keys,
+        refused(
+            b"flow 1\n'i' -> FILE R(ReadLines)\nR OUT -> IN U(Update)\nU OUT -> IN A\n'a' -> FILE A(WriteLines)\n",
+            b"network refused: port missing U.KEYLEN\n",
+        ),
+        // which is at least 1
+        refused(
+            b"flow 1\n'i' -> FILE R(ReadLines)\nR OUT -> IN U(Update)\n'0' -> KEYLEN U\nU OUT -> IN A\n'a' -> FILE A(WriteLines)\n",
+            b"network refused: bad option U.KEYLEN\n",
+        ),
+        // and at most 255.
+        refused(
+            b"flow 1\n'i' -> FILE R(ReadLines)\nR OUT -> IN U(Update)\n'256' -> KEYLEN U\nU OUT -> IN A\n'a' -> FILE A(WriteLines)\n",
+            b"network refused: bad option U.KEYLEN\n",
+        ),
     ];
     for row in rows {
         run_row(&rt, rt.alloc(), row)?;

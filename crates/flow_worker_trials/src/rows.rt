@@ -86,6 +86,32 @@ fn a_ring_is_stuck_for_workers_too(rt: HostRuntime) -> Result<(), Fail> {
     Ok(())
 }
 
+const BATCH: &[File] = &[
+    (
+        "net",
+        b"flow 1\n'm' -> FILE Masters(ReadLines)\n'd' -> FILE Details(ReadLines)\nMasters OUT -> IN[0] Collate(Collate)\nDetails OUT -> IN[1] Collate\n'2' -> FIELDS Collate\nCollate OUT -> IN Update(Update)\n'2' -> KEYLEN Update\nUpdate OUT -> IN New(WriteLines)\nUpdate REP -> IN Rep(WriteLines)\n'n' -> FILE New\n'r' -> FILE Rep\n",
+    ),
+    ("m", b"k1M10\nk2M5\n"),
+    ("d", b"k1+7\nk2-9\nk3N4\n"),
+];
+
+#[test]
+fn masters_are_updated_by_workers(rt: HostRuntime) -> Result<(), Fail> {
+    for line in [ONE, FOUR] {
+        let called = call(&rt, rt.alloc(), line, BATCH, &NoGate)?;
+        assert_eq!(rt; called.status, 0);
+        assert_eq!(rt; called.turns, 68);
+        assert!(rt;
+            called
+                .printed
+                .ends_with(b"total turns 68 made 14 dropped 14 left 0\n")
+        );
+        assert!(rt; called.shelf.file("n") == Some(b"k1M17\nk2M5\nk3M4\n".as_slice()));
+        assert!(rt; called.shelf.file("r") == Some(b"k2-9\n".as_slice()));
+    }
+    Ok(())
+}
+
 const BALANCED: &[File] = &[
     (
         "net",
