@@ -39,7 +39,8 @@ at_three P a b c pa pb pc (suc zero) x h = subst (P 1) (let e : b ≡ x = cc in 
 at_three P a b c pa pb pc (suc (suc zero)) x h = subst (P 2) (let e : c ≡ x = cc in e) pc
 at_three P a b c pa pb pc (suc (suc (suc k))) x h = absurd (cc)
 
-abbrev process_at : ℕ → List Process → Process
+-- The process at a place, and one without anything where there is none.
+abbrev pub process_at : ℕ → List Process → Process
 process_at p [] = record { name = []; kind = []; options = []; initials = []; inputs = 0; outputs = 0 }
 process_at zero (x ∷ xs) = x
 process_at (suc p) (x ∷ xs) = process_at p xs

@@ -1,3 +1,4 @@
 pub mod Fitting
 pub mod Named
 pub mod Composed
+pub mod Nights

@@ -2,3 +2,4 @@ pub mod Asker
 pub mod Askers
 pub mod Networks
 pub mod Telegram
+pub mod Nightly

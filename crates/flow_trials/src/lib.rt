@@ -11,6 +11,7 @@ mod levels;
 #[cfg(test)]
 mod loads;
 mod network;
+mod nightly;
 #[cfg(test)]
 mod replays;
 mod starting;
@@ -18,5 +19,6 @@ mod telegram;
 
 pub use asker::Asker;
 pub use network::{TrialStop, plan_of_text};
+pub use nightly::the_nightly_network_is_a_batch_update;
 pub use starting::{askers, standard_components, started};
 pub use telegram::the_telegram_composes;
