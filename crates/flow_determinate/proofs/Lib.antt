@@ -1,0 +1,6 @@
+pub mod Moves
+pub mod Commuting
+pub mod Staying
+pub mod Calm
+pub mod Diamond
+pub mod Standards

@@ -1,0 +1,81 @@
+-- Of the standard components a LoadBalance alone asks for a level, so a determinate plan of them has one outcome.
+use Rattle.std.proofs.Common.{◌≡◌, ◌≢◌, ℕ, Bool, true, false, List, Some, refl, sym, ap, ◌∙◌, subst, slice_get}
+use Rattle.flow_packet.specs.Held.{Held}
+use Rattle.flow_component.specs.declared.Answer.{Answer}
+use Rattle.flow_component.specs.declared.Answer.TheVariants as answers
+use Rattle.flow_component.specs.Laws.{Outcome, Wishes, Fails, component_after, AtMostOneOutcome}
+use Rattle.flow_component.specs.Outcomes.{outcome_as}
+use Rattle.flow_plan.specs.Network.{Network as Plan}
+use Rattle.flow_plan.specs.declared.plan.Process.{Process as PlanProcess}
+use Rattle.flow_catalogue.specs.declared.standard.Std.{Std}
+use Rattle.flow_catalogue.specs.declared.standard.Std.TheVariants as components
+use Rattle.flow_catalogue.specs.declared.table.StdKind.{StdKind}
+use Rattle.flow_catalogue.specs.declared.table.StdKind.TheVariants as kinds
+use Rattle.flow_catalogue.specs.Kinds.{name_of}
+use Rattle.flow_catalogue.specs.Components.{read_lines_kind, write_lines_kind, words_kind, fill_kind, brackets_kind, passthru_kind, copy_kind, concat_kind, collate_kind, discard_kind, bundle_kind, unbundle_kind, hoard_kind, count_kind, select_kind}
+use Rattle.flow_catalogue.specs.Processes.{Given, given, first_component, IsMade}
+use Rattle.flow_catalogue.specs.Std.{std_shape, std_uses, std_next, StdReady, StdNext}
+use Rattle.flow_determinate.specs.Determinate.{OnlyTheseAsk, NoneMayAsk, HasOneOutcome}
+use Rattle.flow_determinate.specs.Standard.{IsDeterminate, is_balance, IsFirstOf, AreFirstOf, DeterminatePlansHaveOneOutcome}
+
+told-none : (component : Std) (held : Held) (level : ℕ) → is_balance component ≡ false → StdReady component held (answers.Level level) → ⊥
+told-none (components.LoadBalance state) held level is ready = absurd (cc)
+told-none (components.ReadLines left) held level is ready = ready
+told-none (components.WriteLines bytes) held level is ready = ready
+told-none (components.Words component) held level is ready = ready
+told-none (components.Fill state) held level is ready = ready
+told-none (components.Brackets component) held level is ready = ready
+told-none (components.Passthru component) held level is ready = ready
+told-none (components.Copy state) held level is ready = ready
+told-none (components.Concat state) held level is ready = ready
+told-none (components.Collate state) held level is ready = ready
+told-none (components.Discard component) held level is ready = ready
+told-none (components.Bundle component) held level is ready = ready
+told-none (components.Unbundle component) held level is ready = ready
+told-none (components.Hoard component) held level is ready = ready
+told-none (components.Count state) held level is ready = ready
+told-none (components.Select state) held level is ready = ready
+
+-- what a component of a kind comes to is of that kind
+kind-stays : {K : Type 0} (within : K → Std) → ((component : K) → is_balance (within component) ≡ false) → (outcome : Outcome K) → is_balance (component_after (outcome_as within outcome)) ≡ false
+kind-stays within none (Wishes component held wish) = none component
+kind-stays within none (Fails component held cause) = none component
+
+next-stays : (component : Std) (held : Held) (answer : Answer) → is_balance component ≡ false → is_balance (component_after (std_next component held answer)) ≡ false
+next-stays (components.LoadBalance state) held answer is = absurd (cc)
+next-stays (components.ReadLines left) held answer is = kind-stays components.ReadLines (λ k. refl) (read_lines_kind.next left held answer)
+next-stays (components.WriteLines bytes) held answer is = kind-stays components.WriteLines (λ k. refl) (write_lines_kind.next bytes held answer)
+next-stays (components.Words component) held answer is = kind-stays components.Words (λ k. refl) (words_kind.next component held answer)
+next-stays (components.Fill state) held answer is = kind-stays components.Fill (λ k. refl) (fill_kind.next state held answer)
+next-stays (components.Brackets component) held answer is = kind-stays components.Brackets (λ k. refl) (brackets_kind.next component held answer)
+next-stays (components.Passthru component) held answer is = kind-stays components.Passthru (λ k. refl) (passthru_kind.next component held answer)
+next-stays (components.Copy state) held answer is = kind-stays components.Copy (λ k. refl) (copy_kind.next state held answer)
+next-stays (components.Concat state) held answer is = kind-stays components.Concat (λ k. refl) (concat_kind.next state held answer)
+next-stays (components.Collate state) held answer is = kind-stays components.Collate (λ k. refl) (collate_kind.next state held answer)
+next-stays (components.Discard component) held answer is = kind-stays components.Discard (λ k. refl) (discard_kind.next component held answer)
+next-stays (components.Bundle component) held answer is = kind-stays components.Bundle (λ k. refl) (bundle_kind.next component held answer)
+next-stays (components.Unbundle component) held answer is = kind-stays components.Unbundle (λ k. refl) (unbundle_kind.next component held answer)
+next-stays (components.Hoard component) held answer is = kind-stays components.Hoard (λ k. refl) (hoard_kind.next component held answer)
+next-stays (components.Count state) held answer is = kind-stays components.Count (λ k. refl) (count_kind.next state held answer)
+next-stays (components.Select state) held answer is = kind-stays components.Select (λ k. refl) (select_kind.next state held answer)
+
+only-balances : OnlyTheseAsk StdReady StdNext is_balance
+only-balances = record {
+  told_none = told-none;
+  stays = λ component held answer outcome is comes. ap (λ (o : Outcome Std). is_balance (component_after o)) comes ∙ next-stays component held answer is;
+}
+
+first-none : (kind : StdKind) (g : Given) (file : List ℕ) → name_of kind ≢ name_of kinds.LoadBalance → is_balance (first_component kind g file) ≡ false
+first-none kinds.LoadBalance g file other = absurd (other refl)
+first-none kind g file other = refl
+
+none-balances : (plan : Plan) (ks : List Std) → IsDeterminate plan → AreFirstOf plan ks → NoneMayAsk is_balance ks
+none-balances plan ks determinate are p component at =
+    let is = are p component at in
+    let made = is.made in
+    subst (λ (k : Std). is_balance k ≡ false) (sym made.is) (first-none made.kind (given plan p is.process) is.file (λ same. determinate.no_balance p is.process is.there (made.named ∙ same)))
+
+-- with the laws of standard components, a determinate plan has one outcome
+pub standard-outcome : AtMostOneOutcome StdNext → HasOneOutcome std_shape std_uses StdReady StdNext → DeterminatePlansHaveOneOutcome
+standard-outcome one law plan ks determinate well are journal other s t leads quiet leads' quiet' =
+    law one is_balance only-balances plan ks well determinate.unmerged (none-balances plan ks determinate are) journal other s t leads quiet leads' quiet'

@@ -1,0 +1,56 @@
+-- Plans of standard components whose quiet schedules all end in one state. (This project's own.)
+use Rattle.std.specs.Prelude.{◌≡◌, ◌≢◌, ℕ, Bool, true, false, List, Some, slice_get}
+use Rattle.flow_plan.specs.Network.{Network as Plan}
+use Rattle.flow_plan.specs.declared.plan.Process.{Process as PlanProcess}
+use Rattle.flow_model.specs.States.{State}
+use Rattle.flow_model.specs.Schedules.{Journal, Leads}
+use Rattle.flow_model.specs.Verdicts.{Quiet}
+use Rattle.flow_model.specs.Plans.{start_of, StartsWell}
+use Rattle.flow_catalogue.specs.declared.standard.Std.{Std}
+use Rattle.flow_catalogue.specs.declared.standard.Std.TheVariants as components
+use Rattle.flow_catalogue.specs.declared.table.StdKind.TheVariants as kinds
+use Rattle.flow_catalogue.specs.Kinds.{name_of}
+use Rattle.flow_catalogue.specs.Processes.{IsMade}
+use Rattle.flow_catalogue.specs.Std.{std_shape, std_uses, StdReady, StdNext}
+use Rattle.flow_determinate.specs.Determinate.{IsUnmerged, SameEnd}
+
+-- A determinate plan: no connection has two senders, and no process is a LoadBalance.
+pub record IsDeterminate (plan : Plan) : Type 0 where
+  pub unmerged : IsUnmerged plan
+  pub no_balance : (p : ℕ) (process : PlanProcess) → slice_get plan.processes p ≡ Some process → process.kind ≢ name_of kinds.LoadBalance
+
+-- A LoadBalance. It alone of the standard components asks for a level.
+abbrev pub is_balance : Std → Bool
+is_balance (components.LoadBalance state) = true
+is_balance (components.ReadLines left) = false
+is_balance (components.WriteLines bytes) = false
+is_balance (components.Words component) = false
+is_balance (components.Fill state) = false
+is_balance (components.Brackets component) = false
+is_balance (components.Passthru component) = false
+is_balance (components.Copy state) = false
+is_balance (components.Concat state) = false
+is_balance (components.Collate state) = false
+is_balance (components.Discard component) = false
+is_balance (components.Bundle component) = false
+is_balance (components.Unbundle component) = false
+is_balance (components.Hoard component) = false
+is_balance (components.Count state) = false
+is_balance (components.Select state) = false
+
+-- The component of process p of the plan, in its first state, on this file where it reads one.
+pub record IsFirstOf (plan : Plan) (p : ℕ) (component : Std) : Type 0 where
+  pub process : PlanProcess
+  pub there : slice_get plan.processes p ≡ Some process
+  pub file : List ℕ
+  pub made : IsMade plan p process file component
+
+-- The components are those of the plan's processes, in their first states.
+abbrev pub AreFirstOf : Plan → List Std → Type 0
+AreFirstOf plan ks = (p : ℕ) (component : Std) → slice_get ks p ≡ Some component → IsFirstOf plan p component
+
+-- All quiet schedules of a determinate plan, from its start on the same files, end in the same state.
+abbrev pub DeterminatePlansHaveOneOutcome : Type 0
+DeterminatePlansHaveOneOutcome =
+    (plan : Plan) (ks : List Std) → IsDeterminate plan → StartsWell std_shape std_uses StdReady plan ks → AreFirstOf plan ks
+    → (journal other : Journal) (s t : State Std) → Leads StdNext (start_of plan ks) journal s → Quiet s → Leads StdNext (start_of plan ks) other t → Quiet t → SameEnd journal s other t

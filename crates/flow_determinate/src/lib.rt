@@ -1,0 +1,55 @@
+//! Networks whose quiet schedules all end in one state.
+#![tactic(auto)]
+
+ghost use Rattle.std.specs.Prelude.{◌≡◌, ◌≤◌, ◌↔◌, IsTrue, length};
+ghost use Rattle.flow_catalogue.specs.declared.table.StdKind.TheVariants as kinds;
+ghost use Rattle.flow_catalogue.specs.Kinds.{name_of};
+ghost use Rattle.flow_determinate.specs.Determinate.{HasOneOutcome};
+ghost use Rattle.flow_determinate.specs.Standard.{IsDeterminate, DeterminatePlansHaveOneOutcome};
+
+use flow_catalogue::{Std, standard_components_come_to_one_outcome};
+use flow_component::Component;
+use flow_net::{Connection, Plan, Process};
+
+/// Where components come to one outcome, no connection has two senders and no component asks for a level, all quiet schedules from one
+/// start end in the same state, whatever they end in, and have as many turns of each process.
+pub fn quiet_schedules_end_in_one_state<K: Component>()
+    ensures { HasOneOutcome K.shape_of K.uses K.ready K.next }
+{}
+
+/// All quiet schedules of a determinate plan of standard components, from its start on the same files, end in the same state.
+pub fn a_determinate_plan_has_one_outcome()
+    ensures { DeterminatePlansHaveOneOutcome }
+{
+    standard_components_come_to_one_outcome();
+    quiet_schedules_end_in_one_state::<Std>();
+}
+
+// Whether the connection has one sender at most.
+fn has_one_sender(connection: &Connection) -> bool
+    ensures { IsTrue result ↔ length connection.now.senders ≤ 1 }
+{
+    connection.senders.as_slice().len() <= 1
+}
+
+// Whether the process is a LoadBalance.
+fn is_load_balance(process: &Process) -> bool
+    ensures { IsTrue result ↔ process.now.kind ≡ name_of kinds.LoadBalance }
+{
+    process.kind.as_slice() == b"LoadBalance".as_slice()
+}
+
+/// Whether the plan is determinate: no connection has two senders, and no process is a LoadBalance. Takes no memory.
+///
+/// Where it is so, all schedules after which no process can go on end in the same state. Where it isn't so, they still may.
+pub fn determinate(plan: &Plan) -> bool
+    ensures { IsTrue result ↔ IsDeterminate plan.now }
+{
+    plan.connections()
+        .iter()
+        .all(|connection| has_one_sender(connection))
+        && !plan
+            .processes()
+            .iter()
+            .any(|process| is_load_balance(process))
+}
