@@ -1,6 +1,6 @@
 -- What holds along every schedule of a determinate plan: the state is fit, no process asks for a level, and no connection has two senders.
-use Rattle.std.proofs.Common.{◌≡◌, ◌≢◌, ℕ, ◌+◌, ◌≤◌, Bool, true, false, List, [], ◌∷◌, length, map, Option, Some, None, refl, sym, ap, ◌∙◌, subst, cond, ◌==◌, nat_lt, arith, inl, inr, slice_get, slice_set, slice_index, zero, suc, get_or, ◌<◌}
-use Rattle.std.specs.Prelude.{option_and_then, position}
+use Rattle.std.proofs.Common.{◌≡◌, ℕ, ◌+◌, ◌≤◌, Bool, false, List, [], ◌∷◌, length, map, Option, Some, None, refl, sym, ap, ◌∙◌, subst, arith, inl, inr, slice_get, slice_set, zero, suc, get_or, ◌<◌}
+use Rattle.std.specs.Prelude.{option_and_then}
 use Rattle.std.specs.List.{list_any, range_with_len}
 use Rattle.std.proofs.lemmas.List.Quantifiers.{position-Some}
 use Rattle.flow_packet.specs.Held.{Held}
@@ -17,7 +17,7 @@ use Rattle.flow_model.specs.Events.{Event, Learns, event_of}
 use Rattle.flow_model.specs.Turns.{process_after}
 use Rattle.flow_model.specs.Works.{worked}
 use Rattle.flow_model.specs.Schedules.{WholeTurn}
-use Rattle.flow_model.specs.Plans.{comes_from, sends_at, processes_at_start, process_at_start, start_of, StartsWell}
+use Rattle.flow_model.specs.Plans.{sends_at, processes_at_start, process_at_start, start_of, StartsWell}
 use Rattle.flow_model.specs.Order.{output_of}
 use Rattle.flow_model.specs.Valid.{ReadyAt}
 use Rattle.flow_model.specs.Fit.{Fit}
@@ -30,7 +30,7 @@ use Rattle.flow_model.proofs.Leaving.{open-place}
 use Rattle.flow_model.proofs.Rising.{found-set}
 use Rattle.flow_model.proofs.Fits.{Fit-start, Fit-turn, Fit-settles}
 use Rattle.flow_determinate.specs.Determinate.{IsUnmerged, OnlyTheseAsk, NoneMayAsk}
-use Rattle.flow_determinate.proofs.Moves.{one-of, ComesTo, Move, whole-move}
+use Rattle.flow_determinate.proofs.Moves.{one-of, ComesTo, whole-move}
 use Rattle.flow_determinate.proofs.Staying.{OneWriter}
 
 module _ {K : Type 0} (ready : K → Held → Answer → Type 0) (next : K → Held → Answer → Outcome K → Type 0) (may_ask : K → Bool) (only : OnlyTheseAsk ready next may_ask) where

@@ -1,8 +1,7 @@
 -- What the turns of two processes change of connections and of the past, in either order.
-use Rattle.std.proofs.Common.{◌≡◌, ◌≢◌, ℕ, Bool, true, false, List, [], ◌∷◌, ◌++◌, drop, map, length, Option, Some, None, refl, sym, ap, ◌∙◌, subst, cond, ◌==◌, nat_eq, arith, ◌⊎◌, inl, inr, slice_get, slice_set, zero, suc, if◌then◌else◌}
+use Rattle.std.proofs.Common.{◌≡◌, ◌≢◌, ℕ, Bool, true, false, List, [], ◌∷◌, ◌++◌, Option, Some, None, refl, sym, ap, ◌∙◌, subst, cond, nat_eq, arith, ◌⊎◌, inl, inr, slice_get, slice_set, zero, suc}
 use Rattle.std.proofs.lemmas.Bool.Decides.{nat_tests}
 use Rattle.flow_packet.specs.Tree.{Tree}
-use Rattle.flow_plan.specs.declared.plan.Sender.{Sender}
 use Rattle.flow_model.specs.States.{Channel, Put, entry_of, change_at, changed}
 use Rattle.flow_model.specs.Events.{Event, Starts, Finishes, Gets, Takes_text, Hears_end, Sends, Learns, Sleeps, Closes}
 use Rattle.flow_model.specs.Turns.{channel_after, channels_after, put_after, add_at}

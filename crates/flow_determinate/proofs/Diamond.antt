@@ -1,6 +1,5 @@
 -- Two whole turns of two processes may come in either order, and two of one process are one. So two quiet schedules end in one state.
-use Rattle.std.proofs.Common.{◌≡◌, ◌≢◌, ℕ, ◌+◌, Bool, true, false, List, [], ◌∷◌, ◌++◌, drop, Option, Some, None, refl, sym, ap, ◌∙◌, subst, cond, nat_eq, ◌&&◌, arith, inl, inr, slice_get, slice_set, zero, suc}
-use Rattle.std.proofs.lemmas.Bool.Decides.{nat_tests}
+use Rattle.std.proofs.Common.{◌≡◌, ◌≢◌, ℕ, ◌+◌, Bool, true, false, List, [], ◌∷◌, ◌++◌, drop, Some, None, refl, sym, ap, ◌∙◌, subst, cond, nat_eq, arith, inl, inr, slice_get}
 use Rattle.flow_packet.specs.Tree.{Tree}
 use Rattle.flow_packet.specs.Held.{Held}
 use Rattle.flow_packet.specs.Ids.{times}
@@ -9,9 +8,9 @@ use Rattle.flow_component.specs.declared.Shape.{Shape}
 use Rattle.flow_component.specs.Laws.{Outcome, Obeys, StaysReady, IsSteady, AtMostOneOutcome}
 use Rattle.flow_plan.specs.Network.{Network as Plan}
 use Rattle.flow_plan.specs.declared.plan.Sender.{Sender}
-use Rattle.flow_model.specs.States.{is_sender, without_sender, Process, Channel, Kept, Past, State}
+use Rattle.flow_model.specs.States.{is_sender, without_sender, Process, Channel, Kept, State}
 use Rattle.flow_model.specs.Events.{Event, Starts, Finishes, Gets, Takes_text, Hears_end, Sends, Learns, Sleeps, Closes, event_of, seen_by}
-use Rattle.flow_model.specs.Turns.{channel_after, channels_after, heard}
+use Rattle.flow_model.specs.Turns.{channel_after, heard}
 use Rattle.flow_model.specs.Schedules.{Journal, WholeTurn, LeadsBy, Leads}
 use Rattle.flow_model.specs.Verdicts.{Quiet}
 use Rattle.flow_model.specs.Robin.{IsExact, ExactTurn}
@@ -23,7 +22,7 @@ use Rattle.flow_model.proofs.Senders.{both-true}
 use Rattle.flow_model.proofs.OneRobin.{same-exact}
 use Rattle.flow_determinate.specs.Determinate.{IsUnmerged, OnlyTheseAsk, NoneMayAsk, SameEnd}
 use Rattle.flow_determinate.proofs.Moves.{one-of, moved, Move, whole-move, move-whole}
-use Rattle.flow_determinate.proofs.Commuting.{set-commute, touches, Touching, gets, sends, closes, touching, CommuteAt, channels-commute, grow-commute, not-twice, SendApart, puts-commute}
+use Rattle.flow_determinate.proofs.Commuting.{set-commute, Touching, gets, sends, closes, touching, CommuteAt, channels-commute, grow-commute, not-twice, SendApart, puts-commute}
 use Rattle.flow_determinate.proofs.Staying.{OneWriter, no-get, no-send, turn-stays}
 use Rattle.flow_determinate.proofs.Calm.{Settled, settled-start, settled-whole, no-level}
 

@@ -1,11 +1,10 @@
 -- A whole turn as one move of its process: what it leaves of the process, of the connections and of the past.
-use Rattle.std.proofs.Common.{◌≡◌, ◌≢◌, ℕ, Bool, true, false, List, [], ◌∷◌, ◌++◌, append-nil, Option, Some, refl, sym, ap, ◌∙◌, subst, cond, ◌==◌, nat_eq, ◌⊎◌, inl, inr, slice_get, slice_set, zero, suc, if◌then◌else◌}
+use Rattle.std.proofs.Common.{◌≡◌, ℕ, Bool, true, false, List, [], ◌∷◌, ◌++◌, append-nil, Some, refl, sym, ap, ◌∙◌, subst, cond, ◌==◌, nat_eq, ◌⊎◌, inl, inr, slice_get, slice_set, zero, suc, if◌then◌else◌}
 use Rattle.flow_packet.specs.Held.{Held}
 use Rattle.flow_component.specs.declared.Answer.{Answer}
 use Rattle.flow_component.specs.Laws.{Outcome, held_after}
-use Rattle.flow_model.specs.declared.Stage.{Stage}
 use Rattle.flow_model.specs.declared.Stage.TheVariants as stages
-use Rattle.flow_model.specs.States.{Process, Channel, Kept, Past, State}
+use Rattle.flow_model.specs.States.{Process, State}
 use Rattle.flow_model.specs.Events.{Event, event_of}
 use Rattle.flow_model.specs.Turns.{process_after, channels_after, heard, put_after, past_after, Turn}
 use Rattle.flow_model.specs.Works.{worked, dropped_by, past_worked}

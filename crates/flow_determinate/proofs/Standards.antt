@@ -1,22 +1,21 @@
 -- Of the standard components a LoadBalance alone asks for a level, so a determinate plan of them has one outcome.
-use Rattle.std.proofs.Common.{◌≡◌, ◌≢◌, ℕ, Bool, true, false, List, Some, refl, sym, ap, ◌∙◌, subst, slice_get}
+use Rattle.std.proofs.Common.{◌≡◌, ◌≢◌, ℕ, false, List, refl, sym, ap, ◌∙◌, subst}
 use Rattle.flow_packet.specs.Held.{Held}
 use Rattle.flow_component.specs.declared.Answer.{Answer}
 use Rattle.flow_component.specs.declared.Answer.TheVariants as answers
 use Rattle.flow_component.specs.Laws.{Outcome, Wishes, Fails, component_after, AtMostOneOutcome}
 use Rattle.flow_component.specs.Outcomes.{outcome_as}
 use Rattle.flow_plan.specs.Network.{Network as Plan}
-use Rattle.flow_plan.specs.declared.plan.Process.{Process as PlanProcess}
 use Rattle.flow_catalogue.specs.declared.standard.Std.{Std}
 use Rattle.flow_catalogue.specs.declared.standard.Std.TheVariants as components
 use Rattle.flow_catalogue.specs.declared.table.StdKind.{StdKind}
 use Rattle.flow_catalogue.specs.declared.table.StdKind.TheVariants as kinds
 use Rattle.flow_catalogue.specs.Kinds.{name_of}
 use Rattle.flow_catalogue.specs.Components.{read_lines_kind, write_lines_kind, words_kind, fill_kind, brackets_kind, passthru_kind, copy_kind, concat_kind, collate_kind, discard_kind, bundle_kind, unbundle_kind, hoard_kind, count_kind, select_kind}
-use Rattle.flow_catalogue.specs.Processes.{Given, given, first_component, IsMade}
+use Rattle.flow_catalogue.specs.Processes.{Given, given, first_component}
 use Rattle.flow_catalogue.specs.Std.{std_shape, std_uses, std_next, StdReady, StdNext}
 use Rattle.flow_determinate.specs.Determinate.{OnlyTheseAsk, NoneMayAsk, HasOneOutcome}
-use Rattle.flow_determinate.specs.Standard.{IsDeterminate, is_balance, IsFirstOf, AreFirstOf, DeterminatePlansHaveOneOutcome}
+use Rattle.flow_determinate.specs.Standard.{IsDeterminate, is_balance, AreFirstOf, DeterminatePlansHaveOneOutcome}
 
 told-none : (component : Std) (held : Held) (level : ℕ) → is_balance component ≡ false → StdReady component held (answers.Level level) → ⊥
 told-none (components.LoadBalance state) held level is ready = absurd (cc)

@@ -1,5 +1,5 @@
 -- A turn of one process leaves each other process the turn that it had.
-use Rattle.std.proofs.Common.{◌≡◌, ◌≢◌, ℕ, ◌<◌, ◌≤◌, Bool, true, false, List, [], ◌∷◌, ◌++◌, drop, map, not, length, length-append, length-drop, Option, Some, None, refl, sym, ap, ◌∙◌, subst, cond, ◌==◌, nat_eq, nat_lt, ◌&&◌, ◌||◌, arith, inl, inr, slice_get, zero, suc}
+use Rattle.std.proofs.Common.{◌≡◌, ◌≢◌, ℕ, ◌<◌, Bool, true, false, List, [], ◌∷◌, ◌++◌, not, length, length-drop, Some, None, refl, sym, ap, ◌∙◌, cond, ◌==◌, nat_lt, ◌&&◌, ◌||◌, arith, inl, inr, slice_get, zero, suc}
 use Rattle.std.specs.Prelude.{option_map, option_and_then}
 use Rattle.std.specs.List.{list_any, list_all}
 use Rattle.std.proofs.lemmas.Bool.Decides.{nat_tests}
@@ -10,16 +10,16 @@ use Rattle.flow_component.specs.declared.Port.{Port}
 use Rattle.flow_component.specs.declared.Wish.TheVariants as wishes
 use Rattle.flow_model.specs.declared.Stage.{Stage}
 use Rattle.flow_model.specs.declared.Stage.TheVariants as stages
-use Rattle.flow_model.specs.States.{Input, From, Text, Process, Channel, Kept, Outlet, outlets, output_at}
-use Rattle.flow_model.specs.Events.{Event, Starts, Finishes, Gets, Takes_text, Hears_end, Sends, Learns, Sleeps, Closes, Look, look, looks, passes, holds_packet, is_empty, is_over, is_connected, has_packet, has_ended, can_start, idle_event, received, received_from, receive_event, is_fresh, sent, wish_event, stage_event, event_of}
+use Rattle.flow_model.specs.States.{Input, From, Text, Process, Channel, Kept, Outlet, output_at}
+use Rattle.flow_model.specs.Events.{Event, Starts, Finishes, Gets, Takes_text, Hears_end, Sends, Learns, Sleeps, Closes, look, looks, passes, holds_packet, is_empty, is_over, is_connected, has_packet, has_ended, can_start, received, received_from, receive_event, is_fresh, sent, stage_event, event_of}
 use Rattle.flow_plan.specs.declared.plan.Sender.{Sender}
 use Rattle.flow_model.specs.Turns.{channel_after, channels_after}
 use Rattle.flow_model.specs.Valid.{OneReceiver, SendersOpen}
 use Rattle.flow_model.specs.Order.{connection_of, input_of, output_of}
 use Rattle.flow_model.proofs.Inverse.{explains}
-use Rattle.flow_model.proofs.Exhausting.{IsDry, HoldsSome, Exhausted, dry, taken, FirstInput, first-input, starts-can, finishes-all, finishes-cannot, all-dry, hears-exhausted, dry-after, some-after}
+use Rattle.flow_model.proofs.Exhausting.{IsDry, HoldsSome, Exhausted, dry, taken, first-input, starts-can, finishes-all, finishes-cannot, all-dry, hears-exhausted, dry-after, some-after}
 use Rattle.flow_determinate.proofs.Moves.{one-of}
-use Rattle.flow_determinate.proofs.Commuting.{touches, Touching, gets, sends, closes, touching, after-turn}
+use Rattle.flow_determinate.proofs.Commuting.{Touching, gets, sends, closes, touching, after-turn}
 
 -- What a process sees of a connection that is there.
 look-at : (channels : List Channel) (c : ℕ) (channel : Channel) → slice_get channels c ≡ Some channel → slice_get (looks channels) c ≡ Some (look channel)

@@ -1,6 +1,6 @@
 -- Networks whose quiet schedules all end in one state. (Kahn's process networks: a process that waits at one input at a time sends what
 -- it sends whatever the schedule. That the whole state is the same, of deadlocks and failures too, is this project's own.)
-use Rattle.std.specs.Prelude.{◌≡◌, ℕ, ◌≤◌, Bool, true, false, List, length, Some, slice_get}
+use Rattle.std.specs.Prelude.{◌≡◌, ℕ, ◌≤◌, Bool, false, List, length, Some, slice_get}
 use Rattle.flow_packet.specs.Held.{Held}
 use Rattle.flow_packet.specs.Ids.{times}
 use Rattle.flow_component.specs.declared.Answer.{Answer}

@@ -1,0 +1,101 @@
+-- The waiting cycle as it is found in a running net, which counts the open senders of a connection: in a deadlock a sender is open where
+-- its process hasn't ended. (This project's own.)
+use Rattle.std.specs.Prelude.{ℕ, ◌+◌, ◌||◌, not, if◌then◌else◌, Bool, true, false, List, [], ◌∷◌, length, Option, Some, None, slice_get, is_some, position, option_map, option_and_then, find}
+use Rattle.std.specs.List.{list_all}
+use Rattle.flow_component.specs.declared.Answer.{Answer}
+use Rattle.flow_component.specs.declared.Shape.{Shape}
+use Rattle.flow_component.specs.Laws.{Outcome}
+use Rattle.flow_packet.specs.Held.{Held}
+use Rattle.flow_plan.specs.Network.{Network as Plan}
+use Rattle.flow_plan.specs.declared.plan.Sender.{Sender}
+use Rattle.flow_plan.specs.declared.plan.Connection.{Connection as PlanConnection}
+use Rattle.flow_model.specs.declared.Stage.{Stage}
+use Rattle.flow_model.specs.declared.Stage.TheVariants as stages
+use Rattle.flow_model.specs.declared.Block.{Block}
+use Rattle.flow_model.specs.declared.Block.TheVariants as blocks
+use Rattle.flow_model.specs.States.{Input, From, Text, Process, State}
+use Rattle.flow_model.specs.Schedules.{Journal, Leads}
+use Rattle.flow_model.specs.Verdicts.{block_of, IsDeadlock}
+use Rattle.flow_model.specs.Plans.{start_of, StartsWell}
+use Rattle.flow_model.specs.Stands.{StandsForOpen}
+use Rattle.flow_machine.specs.Values.{BodyValue, NetValue, shown_net}
+use Rattle.flow_machine.specs.Nets.{looks_of}
+use Rattle.flow_cycle.specs.declared.Waits.{Waits}
+use Rattle.flow_cycle.specs.Waiting.{waits_for_sender, waits_for_receiver, or_else, walk, IsWaitingCycle}
+
+-- The process at this stage has ended.
+abbrev pub has_ended : Stage → Bool
+has_ended stages.Ended = true
+has_ended stages.Idle = false
+has_ended (stages.Told answer) = false
+has_ended (stages.Wishing wish) = false
+has_ended (stages.Closing place) = false
+has_ended (stages.Failed cause) = false
+
+-- The process has a work that is still to come.
+abbrev pub owes_work : Stage → Bool
+owes_work (stages.Told answer) = true
+owes_work stages.Idle = false
+owes_work (stages.Wishing wish) = false
+owes_work (stages.Closing place) = false
+owes_work stages.Ended = false
+owes_work (stages.Failed cause) = false
+
+-- The process is there and hasn't ended.
+abbrev pub goes_on : {K : Type 0} → Option (BodyValue K) → Bool
+goes_on (Some b) = not (has_ended b.process.stage)
+goes_on None = false
+
+-- The first sender of a connection whose process hasn't ended.
+abbrev pub first_on : {K : Type 0} → List (BodyValue K) → Option PlanConnection → Option Sender
+first_on bodies (Some connection) = find (λ (s : Sender). goes_on (slice_get bodies s.process)) connection.senders
+first_on bodies None = None
+
+-- What a dormant process with these inputs waits for.
+abbrev pub wakes_in : {K : Type 0} → Plan → List (BodyValue K) → ℕ → List Input → Option Waits
+wakes_in plan bodies p [] = None
+wakes_in plan bodies p (From c ∷ inputs) = or_else (option_map (waits_for_sender p c) (first_on bodies (slice_get plan.connections c))) (wakes_in plan bodies p inputs)
+wakes_in plan bodies p (Text text ∷ inputs) = wakes_in plan bodies p inputs
+
+-- What a process that is blocked so waits for.
+abbrev pub waits_in_by : {K : Type 0} → Plan → List (BodyValue K) → ℕ → Process K → Block → Option Waits
+waits_in_by plan bodies p x (blocks.Full c port) = option_map (waits_for_receiver p c) (slice_get plan.connections c)
+waits_in_by plan bodies p x (blocks.Empty c port) = option_map (waits_for_sender p c) (first_on bodies (slice_get plan.connections c))
+waits_in_by plan bodies p x blocks.Dormant = wakes_in plan bodies p x.inputs
+
+-- What this body waits for, if it is blocked.
+abbrev pub waits_of_body : {K : Type 0} → Plan → NetValue K → ℕ → BodyValue K → Option Waits
+waits_of_body plan net p b = option_and_then (waits_in_by plan net.bodies p b.process) (block_of (looks_of net.channels) b.process)
+
+-- What process p of the net waits for.
+abbrev pub waits_in : {K : Type 0} → Plan → NetValue K → ℕ → Option Waits
+waits_in plan net p = option_and_then (waits_of_body plan net p) (slice_get net.bodies p)
+
+-- The process is blocked.
+abbrev pub is_blocked : {K : Type 0} → NetValue K → BodyValue K → Bool
+is_blocked net b = is_some (block_of (looks_of net.channels) b.process)
+
+-- Each process has ended or is blocked.
+abbrev pub is_stuck : {K : Type 0} → NetValue K → Bool
+is_stuck net = list_all (λ b. has_ended b.process.stage || is_blocked net b) net.bodies
+
+-- The cycle that is come to from the lowest blocked process. It has come back once all processes are on the way.
+abbrev pub cycle_in : {K : Type 0} → Plan → NetValue K → Option (List Waits)
+cycle_in plan net = if is_stuck net then option_and_then (walk (waits_in plan net) (length net.bodies + 1) []) (position (is_blocked net) net.bodies) else None
+
+-- The net stands for this state, which a schedule reaches from a start of the plan.
+pub record IsReached {K : Type 0} (shape_of : K → Shape) (uses : K → ℕ → Bool) (ready : K → Held → Answer → Type 0) (next : K → Held → Answer → Outcome K → Type 0) (plan : Plan) (net : NetValue K) (s : State K) : Type 0 where
+  pub components : List K
+  pub well : StartsWell shape_of uses ready plan components
+  pub journal : Journal
+  pub leads : Leads next (start_of plan components) journal s
+  pub stands : StandsForOpen (shown_net net) s
+
+-- What is found in a net is the waiting cycle of the state that it stands for; and nothing is found exactly where that is no deadlock.
+abbrev pub IsCycleOf : {K : Type 0} → Plan → State K → Option (List Waits) → Type 0
+IsCycleOf plan s (Some cycle) = IsDeadlock s × IsWaitingCycle plan s.kept cycle
+IsCycleOf plan s None = IsDeadlock s → ⊥
+
+-- So it is for each state that the net stands for and a schedule reaches.
+abbrev pub FindsCycles : {K : Type 0} → (K → Shape) → (K → ℕ → Bool) → (K → Held → Answer → Type 0) → (K → Held → Answer → Outcome K → Type 0) → Type 0
+FindsCycles {K} shape_of uses ready next = (plan : Plan) (net : NetValue K) (s : State K) → IsReached shape_of uses ready next plan net s → IsCycleOf plan s (cycle_in plan net)

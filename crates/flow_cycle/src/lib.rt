@@ -1,0 +1,30 @@
+//! Who waits for whom in a deadlock, and the cycle in which they wait.
+#![tactic(auto)]
+
+mod find;
+
+ghost use Rattle.flow_cycle.specs.Laws.{DeadlocksWait};
+ghost use Rattle.flow_cycle.specs.Nets.{FindsCycles};
+
+pub use find::cycle;
+use flow_component::Component;
+
+/// A process that can't go on, the connection at which it waits, and the process that it waits for.
+#[derive(Clone, Copy, Debug, PartialEq, Eq)]
+pub struct Waits {
+    pub process: u32,
+    pub connection: u32,
+    pub to: u32,
+}
+
+/// In every deadlock that a schedule reaches from the start of a plan whose components fit, each process that is blocked waits for one
+/// that is blocked, and whoever follows for whom each waits, from the lowest one on, comes to one cycle.
+pub fn every_deadlock_has_its_waiting_cycle<K: Component>()
+    ensures { DeadlocksWait K.shape_of K.uses K.ready K.next }
+{}
+
+/// What `cycle` finds in a net is the waiting cycle of each state that the net stands for and a schedule reaches, and it finds none
+/// exactly where that is no deadlock.
+pub fn a_net_tells_its_waiting_cycle<K: Component>()
+    ensures { FindsCycles K.shape_of K.uses K.ready K.next }
+{}
