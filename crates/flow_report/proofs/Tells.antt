@@ -1,13 +1,14 @@
 -- The report of a net tells of each state that the net stands for.
 use Rattle.flow_limits.specs.declared.TheConstants.{PROCESS_LIMIT}
-use Rattle.std.proofs.Common.{◌≡◌, ℕ, zero, suc, ◌+◌, ◌*◌, ◌-◌, ◌^◌, ◌<◌, ◌≤◌, Bool, List, [], ◌∷◌, ◌++◌, map, length, Some, refl, sym, ◌∙◌, ap, subst, arith, slice_get}
-use Rattle.std.specs.Prelude.{sum_by}
+use Rattle.std.proofs.Common.{◌≡◌, ℕ, zero, suc, ◌+◌, ◌*◌, ◌-◌, ◌^◌, ◌<◌, ◌≤◌, Bool, List, [], ◌∷◌, ◌++◌, map, length, Option, Some, None, refl, sym, ◌∙◌, ap, subst, arith, slice_get}
+use Rattle.std.specs.Prelude.{sum_by, unwrap_or}
 use Rattle.std.specs.List.{list_all, list_any, flat_map}
 use Rattle.std.proofs.lemmas.List.Sums.{sum_by-cons}
 use Rattle.flow_packet.specs.Held.{Held, held_ids}
 use Rattle.flow_packet.specs.Tree.{all_ids}
 use Rattle.flow_component.specs.declared.Answer.{Answer}
 use Rattle.flow_component.specs.declared.Shape.{Shape}
+use Rattle.flow_component.specs.Laws.{Outcome}
 use Rattle.flow_model.specs.States.{Process, Channel, Put, State}
 use Rattle.flow_model.specs.Events.{Look, looks}
 use Rattle.flow_model.specs.Places.{places, ids_in_hands, ids_in_transit, ids_dropped, TotalsAddUp}
@@ -17,10 +18,12 @@ use Rattle.flow_model.proofs.Totals.{totals-add_up}
 use Rattle.flow_machine.specs.Values.{BodyValue}
 use Rattle.flow_machine.specs.Nets.{looks_of}
 use Rattle.flow_plan.specs.Network.{Network}
+use Rattle.flow_cycle.specs.declared.Waits.{Waits}
+use Rattle.flow_cycle.specs.Nets.{cycle_in, IsCycleOf, FindsCycles}
 use Rattle.flow_report.specs.declared.report.LeftPacket.{LeftPacket}
 use Rattle.flow_report.specs.declared.report.Place.TheVariants.{InHands, InConnection}
 use Rattle.flow_report.specs.Of.{has_ended, has_failed, goes_on, totals_in, told_from, block_told, failure_told, hands_told, transit_told, connection_told, processes_of, left_of}
-use Rattle.flow_report.specs.States.{connection_in, transit_in, ReportsTell}
+use Rattle.flow_report.specs.States.{connection_in, transit_in, TellsWaits, ReportsTell}
 use Rattle.flow_report.proofs.LeftLists.{ids_told, ids_told-append, ids-left_at, length-told}
 use Rattle.flow_report.proofs.Shown.{processes-shown, lines-shown, sum-processes, all-processes, any-processes, dropped_from, dropped-all, dropped-shown}
 use Rattle.flow_report.proofs.Verdicts.{verdict-tells}
@@ -50,9 +53,15 @@ sum-below : {K : Type 0} (f : Process K → ℕ) (m : ℕ) (xs : List (Process K
 sum-below f m [] each = omega arith
 sum-below f m (x ∷ xs) each = omega (arith, sum_by-cons f x xs, each 0 x refl, sum-below f m xs (λ k y there. each (suc k) y there))
 
--- The report of a net tells of each state that the net stands for.
-pub reports-tell : {K : Type 0} (shape_of : K → Shape) (uses : K → ℕ → Bool) (ready : K → Held → Answer → Type 0) → ReportsTell shape_of uses ready
-reports-tell {K} shape_of uses ready plan net s fit few stands =
+-- what is found in a net is told
+waits-tell : {K : Type 0} (plan : Network) (s : State K) (found : Option (List Waits)) → IsCycleOf plan s found → TellsWaits plan s (unwrap_or found [])
+waits-tell plan s (Some cycle) is = record { cycle = λ deadlock. is.1; none = λ not. absurd (not is.0) }
+waits-tell plan s None is = record { cycle = λ deadlock. absurd (is deadlock); none = λ not. refl }
+
+-- The report of a net tells of each state that the net stands for and a schedule reaches.
+pub reports-tell : {K : Type 0} (shape_of : K → Shape) (uses : K → ℕ → Bool) (ready : K → Held → Answer → Type 0) (next : K → Held → Answer → Outcome K → Type 0) → FindsCycles shape_of uses ready next → ReportsTell shape_of uses ready next
+reports-tell {K} shape_of uses ready next finds plan net s fit few reached =
+    let stands = reached.stands in
     let xs = s.kept.processes in
     let cs = s.kept.channels in
     let n = length xs in
@@ -93,6 +102,7 @@ reports-tell {K} shape_of uses ready plan net s fit few stands =
       processes = lines-shown plan s.past.dropped 0 bodies xs shown small;
       connections = ap (λ (l : List ChannelShown). told_from (connection_told plan) 0 l) channels ∙ connections-shown plan s.past.put 0 cs;
       blocked = ap (λ (ls : List Look). told_from (block_told plan ls) 0 (processes_of bodies)) looked ∙ ap (λ (l : List (Process K)). told_from (block_told plan (looks cs)) 0 l) procs;
+      waits = waits-tell plan s (cycle_in plan net) (finds plan net s reached);
       failed = ap (λ (l : List (Process K)). told_from (failure_told plan) 0 l) procs;
       left = left;
       each_place = each_place;

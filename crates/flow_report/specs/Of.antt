@@ -1,5 +1,5 @@
 -- What a report tells of a net.
-use Rattle.std.specs.Prelude.{◌==◌, ◌+◌, ◌-◌, ◌^◌, ◌++◌, ◌&&◌, ◌||◌, not, ℕ, min, Bool, true, false, List, [], ◌∷◌, map, length, sum_by, Option, Some, None, if◌then◌else◌}
+use Rattle.std.specs.Prelude.{◌==◌, ◌+◌, ◌-◌, ◌^◌, ◌++◌, ◌&&◌, ◌||◌, not, ℕ, min, Bool, true, false, List, [], ◌∷◌, map, length, sum_by, Option, Some, None, unwrap_or, if◌then◌else◌}
 use Rattle.std.specs.List.{list_all, list_any}
 use Rattle.std.specs.Option.{is_none}
 use Rattle.flow_packet.specs.Tree.{Tree, all_ids}
@@ -18,6 +18,7 @@ use Rattle.flow_machine.specs.Answers.{status_of}
 use Rattle.flow_machine.specs.Values.{BodyValue, NetValue}
 use Rattle.flow_machine.specs.Nets.{looks_of}
 use Rattle.flow_plan.specs.Network.{Network}
+use Rattle.flow_cycle.specs.Nets.{cycle_in}
 use Rattle.flow_report.specs.declared.of.Totals.{Totals}
 use Rattle.flow_report.specs.declared.report.Verdict.{Verdict}
 use Rattle.flow_report.specs.declared.report.Verdict.TheVariants.{Finished, FinishedLeft, Deadlock, Failed, Running}
@@ -186,6 +187,7 @@ told_of plan net = record {
   processes = told_from (process_told plan) 0 net.bodies;
   connections = told_from (connection_told plan) 0 net.channels;
   blocked = told_from (block_told plan (looks_of net.channels)) 0 (processes_of net.bodies);
+  waits = unwrap_or (cycle_in plan net) [];
   failed = told_from (failure_told plan) 0 (processes_of net.bodies);
   left = left_of net;
   turns = (totals_in net.bodies).turns;

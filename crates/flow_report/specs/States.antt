@@ -4,13 +4,16 @@ use Rattle.std.specs.Prelude.{◌≡◌, ◌≢◌, ℕ, ◌≤◌, ◌+◌, ◌
 use Rattle.flow_packet.specs.Held.{Held}
 use Rattle.flow_component.specs.declared.Answer.{Answer}
 use Rattle.flow_component.specs.declared.Shape.{Shape}
+use Rattle.flow_component.specs.Laws.{Outcome}
 use Rattle.flow_model.specs.States.{Process, Channel, Put, State}
 use Rattle.flow_model.specs.Events.{looks}
 use Rattle.flow_model.specs.Places.{places, ids_dropped}
 use Rattle.flow_model.specs.Verdicts.{IsFinished, IsFailed, IsDeadlock, IsRunning}
-use Rattle.flow_model.specs.Stands.{StandsForOpen}
 use Rattle.flow_model.specs.Fit.{Fit}
-use Rattle.flow_machine.specs.Values.{NetValue, shown_net}
+use Rattle.flow_machine.specs.Values.{NetValue}
+use Rattle.flow_cycle.specs.declared.Waits.{Waits}
+use Rattle.flow_cycle.specs.Waiting.{IsWaitingCycle}
+use Rattle.flow_cycle.specs.Nets.{IsReached}
 use Rattle.flow_plan.specs.Network.{Network}
 use Rattle.flow_report.specs.declared.report.Verdict.{Verdict}
 use Rattle.flow_report.specs.declared.report.Verdict.TheVariants.{Finished, FinishedLeft, Deadlock, Failed, Running}
@@ -42,8 +45,14 @@ connection_in plan put c x = line_of_connection plan c x.capacity (length (put c
 abbrev pub transit_in : ℕ → Channel → List LeftPacket
 transit_in c x = left_at (InConnection c) x.packets
 
+-- The cycle in which processes wait for one another in a deadlock, and none in any other state.
+pub record TellsWaits {K : Type 0} (plan : Network) (s : State K) (waits : List Waits) : Type 0 where
+  pub cycle : IsDeadlock s → IsWaitingCycle plan s.kept waits
+  pub none : (IsDeadlock s → ⊥) → waits ≡ []
+
 -- A report tells of a state: its verdict; of every process its status, its turns, and the packets that it made, dropped and holds; of every connection its
--- capacity, its puts and takes, and the packets in it; every process that has a block and every one that failed, each named with its port; every packet
+-- capacity, its puts and takes, and the packets in it; every process that has a block and every one that failed, each named with its port; in a deadlock the
+-- cycle of those that wait for one another; every packet
 -- that is left, with its place: first those in the hands of each process, then those in each connection, each followed by its tree; and how many turns
 -- were made, how many packets, and how many of these were dropped. All these stand in the order of the processes and of the connections. What was made
 -- is what was dropped and what is left.
@@ -52,6 +61,7 @@ pub record TellsOf {K : Type 0} (plan : Network) (s : State K) (told : Told) : T
   pub processes : told.processes ≡ told_from (process_in plan s.past.dropped) 0 s.kept.processes
   pub connections : told.connections ≡ told_from (connection_in plan s.past.put) 0 s.kept.channels
   pub blocked : told.blocked ≡ told_from (block_told plan (looks s.kept.channels)) 0 s.kept.processes
+  pub waits : TellsWaits plan s told.waits
   pub failed : told.failed ≡ told_from (failure_told plan) 0 s.kept.processes
   pub left : told.left ≡ told_from hands_told 0 s.kept.processes ++ told_from transit_in 0 s.kept.channels
   pub each_place : map (λ l. l.packet) told.left ≡ places s
@@ -60,9 +70,9 @@ pub record TellsOf {K : Type 0} (plan : Network) (s : State K) (told : Told) : T
   pub dropped : told.dropped ≡ length (ids_dropped s.past.dropped (length s.kept.processes))
   pub adds_up : told.made ≡ told.dropped + length told.left
 
--- The report of a net tells of every state that the net stands for, whether or not a process can go on there.
-abbrev pub ReportsTell : {K : Type 0} → (K → Shape) → (K → ℕ → Bool) → (K → Held → Answer → Type 0) → Type 0
-ReportsTell {K} shape_of uses ready =
+-- The report of a net tells of every state that the net stands for and a schedule reaches from a start of the plan, whether or not a process can go on there.
+abbrev pub ReportsTell : {K : Type 0} → (K → Shape) → (K → ℕ → Bool) → (K → Held → Answer → Type 0) → (K → Held → Answer → Outcome K → Type 0) → Type 0
+ReportsTell {K} shape_of uses ready next =
     (plan : Network) (net : NetValue K) (s : State K)
-    → Fit shape_of uses ready s → length s.kept.processes ≤ PROCESS_LIMIT → StandsForOpen (shown_net net) s
+    → Fit shape_of uses ready s → length s.kept.processes ≤ PROCESS_LIMIT → IsReached shape_of uses ready next plan net s
     → TellsOf plan s (told_of plan net)

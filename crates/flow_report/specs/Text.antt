@@ -6,6 +6,7 @@ use Rattle.std.specs.Fmt.{decimal}
 use Rattle.flow_packet.specs.Ids.{maker_of, ordinal_of}
 use Rattle.flow_machine.specs.declared.answers.Status.{Status}
 use Rattle.flow_machine.specs.declared.answers.Status.TheVariants as statuses
+use Rattle.flow_cycle.specs.declared.Waits.{Waits}
 use Rattle.flow_report.specs.declared.report.Verdict.{Verdict}
 use Rattle.flow_report.specs.declared.report.Verdict.TheVariants.{Finished, FinishedLeft, Deadlock, Failed, Running}
 use Rattle.flow_report.specs.declared.report.ProcessLine.{ProcessLine}
@@ -20,13 +21,14 @@ use Rattle.flow_report.specs.declared.report.LeftPacket.{LeftPacket}
 use Rattle.flow_report.specs.declared.report.Place.{Place}
 use Rattle.flow_report.specs.declared.report.Place.TheVariants.{InHands, InConnection, InChain}
 
--- What a report tells: the verdict; each process and each connection; who can't go on; who failed; every packet that is left; and how many turns,
--- packets made and packets dropped there were in all.
+-- What a report tells: the verdict; each process and each connection; who can't go on; the cycle of those that wait for one another in a deadlock; who
+-- failed; every packet that is left; and how many turns, packets made and packets dropped there were in all.
 pub record Told : Type 0 where
   pub verdict : Verdict
   pub processes : List ProcessLine
   pub connections : List ConnectionLine
   pub blocked : List Blocked
+  pub waits : List Waits
   pub failed : List Failure
   pub left : List LeftPacket
   pub turns : ℕ
@@ -102,6 +104,10 @@ connection_line c =
 abbrev pub blocked_line : Blocked → List ℕ
 blocked_line b = codes "blocked " ++ b.name ++ codes " " ++ wait_text b.wait
 
+-- The line of a process that waits for another, in the cycle of a deadlock.
+abbrev pub waits_line : List ProcessLine → List ConnectionLine → Waits → List ℕ
+waits_line processes connections w = codes "waits " ++ process_name processes w.process ++ codes " for " ++ process_name processes w.to ++ codes " at " ++ connection_name connections w.connection
+
 -- The line of a process that failed.
 abbrev pub failed_line : Failure → List ℕ
 failed_line f = codes "failed " ++ f.name ++ codes " " ++ cause_text f.cause
@@ -115,13 +121,15 @@ abbrev pub total_line : ℕ → ℕ → ℕ → ℕ → List ℕ
 total_line turns made dropped left =
     codes "total turns " ++ decimal turns ++ codes " made " ++ decimal made ++ codes " dropped " ++ decimal dropped ++ codes " left " ++ decimal left
 
--- The lines of a report: the verdict; each process; each connection; each process that can't go on; each that failed; each packet that is left; the totals.
+-- The lines of a report: the verdict; each process; each connection; each process that can't go on; each that waits in the cycle of a deadlock; each that
+-- failed; each packet that is left; the totals.
 abbrev pub report_lines : Told → List (List ℕ)
 report_lines r =
     (verdict_line r.verdict ∷ [])
     ++ map process_line r.processes
     ++ map connection_line r.connections
     ++ map blocked_line r.blocked
+    ++ map (waits_line r.processes r.connections) r.waits
     ++ map failed_line r.failed
     ++ map (left_line r.processes r.connections) r.left
     ++ (total_line r.turns r.made r.dropped (length r.left) ∷ [])

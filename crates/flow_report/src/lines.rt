@@ -2,11 +2,12 @@
 ghost use Rattle.std.specs.Prelude.{◌≡◌, ◌++◌, OnOk};
 ghost use Rattle.std.specs.List.{flat_map};
 ghost use Rattle.std.specs.Fmt.{decimal};
-ghost use Rattle.flow_report.specs.Text.{ended, verdict_line, process_line, connection_line, status_text, wait_text, cause_text, blocked_line, failed_line, left_line, packet_text, place_text, process_name, connection_name, total_line};
+ghost use Rattle.flow_report.specs.Text.{ended, verdict_line, process_line, connection_line, status_text, wait_text, cause_text, blocked_line, waits_line, failed_line, left_line, packet_text, place_text, process_name, connection_name, total_line};
 
 use crate::report::{
     Blocked, Cause, ConnectionLine, Failure, LeftPacket, Place, ProcessLine, Verdict, Wait,
 };
+use flow_cycle::Waits;
 use flow_machine::Status;
 use flow_packet::PacketId;
 use flow_text::put_decimal;
@@ -112,6 +113,39 @@ fn put_wait(text: &mut Vec<u8>, wait: &Wait) -> Result<(), AllocError>
         Wait::Full(port) => put_two(text, b"full ", port.as_slice()),
         Wait::Dormant => text.extend_from_slice(b"dormant"),
     }
+}
+
+/// Appends a line for each process that waits in the cycle of a deadlock.
+pub fn put_waits(
+    text: &mut Vec<u8>,
+    processes: &[ProcessLine],
+    connections: &[ConnectionLine],
+    waits: &[Waits],
+) -> Result<(), AllocError>
+    ensures { OnOk result (text.new.items ≡ text.old.items ++ flat_map (λ w. ended (waits_line processes.now connections.now w)) waits.now) }
+{
+    for wait in waits {
+        put_waits_for(text, processes, connections, *wait)?;
+    }
+    Ok(())
+}
+
+fn put_waits_for(
+    text: &mut Vec<u8>,
+    processes: &[ProcessLine],
+    connections: &[ConnectionLine],
+    wait: Waits,
+) -> Result<(), AllocError>
+    ensures { OnOk result (text.new.items ≡ text.old.items ++ ended (waits_line processes.now connections.now wait)) }
+{
+    put_two(text, b"waits ", process_name(processes, wait.process))?;
+    put_two(text, b" for ", process_name(processes, wait.to))?;
+    put_two(
+        text,
+        b" at ",
+        connection_name(connections, wait.connection),
+    )?;
+    text.extend_from_slice(b"\n")
 }
 
 /// Appends a line for each process that failed.

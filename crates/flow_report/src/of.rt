@@ -1,13 +1,15 @@
 //! What a report tells of a net as a whole: its sums, its verdict, who can't go on and who failed.
-ghost use Rattle.std.specs.Prelude.{◌≡◌, ◌<◌, ◌++◌, ◌==◌, ◌||◌, length, OnOk, IfOk, IfSome, slice_get};
+ghost use Rattle.std.specs.Prelude.{◌≡◌, ◌<◌, ◌++◌, ◌==◌, ◌||◌, length, OnOk, IfOk, IfSome, [], slice_get, unwrap_or};
 ghost use Rattle.std.specs.List.{list_all, list_any};
 ghost use Rattle.std.specs.Option.{is_none};
 ghost use Rattle.flow_machine.specs.Nets.{block_at, looks_of};
+ghost use Rattle.flow_cycle.specs.Nets.{cycle_in};
 ghost use Rattle.flow_report.specs.Of.{totals_in, with_process, verdict_by, has_ended, has_failed, goes_on, is_open, cause_at, failed_at, named_block, block_told, failure_told, told_from, processes_of};
 
 use crate::names::{input_text, name_text, output_text};
 use crate::report::{Blocked, Cause, Failure, LeftPacket, Verdict, Wait};
 use flow_component::{Component, Fail};
+use flow_cycle::{Waits, cycle};
 use flow_items::{Items, Text};
 use flow_machine::{Block, Body, Net, Stage};
 use flow_net::Plan;
@@ -253,6 +255,20 @@ pub fn all_blocked<K: Component>(
         add_blocked(alloc, &mut blocked, plan, process, block)?;
     }
     Ok(blocked)
+}
+
+/// Who waits for whom in the cycle of a deadlock, and nobody where there is none.
+pub fn all_waits<K: Component>(
+    alloc: Global,
+    plan: &Plan,
+    net: &Net<K>,
+) -> Result<Items<Waits>, AllocError>
+    ensures { IfOk result (λ waits. waits ≡ unwrap_or (cycle_in plan.now net.now) []) }
+{
+    match cycle(alloc, plan, net)? {
+        Some(waits) => Ok(Items::of(waits)),
+        None => Ok(Items::new(alloc)),
+    }
 }
 
 /// Why all processes that failed did.

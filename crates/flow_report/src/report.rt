@@ -3,10 +3,12 @@ ghost use Rattle.std.specs.Prelude.{◌≡◌, IfOk};
 
 use crate::lines::{
     put_blocked, put_connections, put_failed, put_left, put_processes, put_total, put_verdict,
+    put_waits,
 };
-use crate::of::{all_blocked, all_failed, totals_of, verdict_of};
+use crate::of::{all_blocked, all_failed, all_waits, totals_of, verdict_of};
 use crate::rows::{all_connections, all_processes};
 use flow_component::Component;
+use flow_cycle::Waits;
 use flow_items::{Items, Text};
 use flow_machine::{Closed, Status};
 use flow_net::Plan;
@@ -107,8 +109,8 @@ pub struct LeftPacket {
     pub place: Place,
 }
 
-/// What a run came to: the verdict, the processes and the connections, who can't go on, who failed, every packet
-/// that is left, and the totals.
+/// What a run came to: the verdict, the processes and the connections, who can't go on, the cycle of those that wait
+/// for one another in a deadlock, who failed, every packet that is left, and the totals.
 #[derive(Drop)]
 pub struct Report {
     pub(crate) alloc: Global,
@@ -116,6 +118,7 @@ pub struct Report {
     pub(crate) processes: Items<ProcessLine>,
     pub(crate) connections: Items<ConnectionLine>,
     pub(crate) blocked: Items<Blocked>,
+    pub(crate) waits: Items<Waits>,
     pub(crate) failed: Items<Failure>,
     pub(crate) left: Items<LeftPacket>,
     pub(crate) turns: u64,
@@ -133,6 +136,7 @@ impl Model for Report {
       processes = r.processes;
       connections = r.connections;
       blocked = r.blocked;
+      waits = r.waits;
       failed = r.failed;
       left = r.left;
       turns = r.turns;
@@ -159,6 +163,7 @@ impl Report {
         let processes = all_processes(alloc, &mut left, plan, net)?;
         let connections = all_connections(alloc, &mut left, plan, net)?;
         let blocked = all_blocked(alloc, plan, net)?;
+        let waits = all_waits(alloc, plan, net)?;
         let failed = all_failed(alloc, plan, net)?;
         let totals = totals_of(net);
         Ok(Report {
@@ -167,6 +172,7 @@ impl Report {
             processes,
             connections,
             blocked,
+            waits,
             failed,
             left,
             turns: totals.turns,
@@ -193,6 +199,7 @@ impl Report {
         put_processes(&mut text, processes)?;
         put_connections(&mut text, connections)?;
         put_blocked(&mut text, self.blocked.as_slice())?;
+        put_waits(&mut text, processes, connections, self.waits.as_slice())?;
         put_failed(&mut text, self.failed.as_slice())?;
         put_left(&mut text, processes, connections, left)?;
         put_total(
