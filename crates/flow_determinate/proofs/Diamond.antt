@@ -12,7 +12,6 @@ use Rattle.flow_model.specs.States.{is_sender, without_sender, Process, Channel,
 use Rattle.flow_model.specs.Events.{Event, Starts, Finishes, Gets, Takes_text, Hears_end, Sends, Learns, Sleeps, Closes, event_of, seen_by}
 use Rattle.flow_model.specs.Turns.{channel_after, heard}
 use Rattle.flow_model.specs.Schedules.{Journal, WholeTurn, LeadsBy, Leads}
-use Rattle.flow_model.specs.Verdicts.{Quiet}
 use Rattle.flow_model.specs.Robin.{IsExact, ExactTurn}
 use Rattle.flow_model.specs.Plans.{start_of, StartsWell}
 use Rattle.flow_model.specs.Valid.{OneReceiver, SendersOpen}
@@ -20,7 +19,7 @@ use Rattle.flow_model.proofs.Lists.{slice_get-set_other, same_or_not}
 use Rattle.flow_model.proofs.Inverse.{explains}
 use Rattle.flow_model.proofs.Senders.{both-true}
 use Rattle.flow_model.proofs.OneRobin.{same-exact}
-use Rattle.flow_determinate.specs.Determinate.{IsUnmerged, OnlyTheseAsk, NoneMayAsk, SameEnd}
+use Rattle.flow_determinate.specs.Determinate.{IsUnmerged, OnlyTheseAsk, NoneMayAsk, IsStill, SameEnd}
 use Rattle.flow_determinate.proofs.Moves.{one-of, moved, Move, whole-move, move-whole}
 use Rattle.flow_determinate.proofs.Commuting.{set-commute, Touching, gets, sends, closes, touching, CommuteAt, channels-commute, grow-commute, not-twice, SendApart, puts-commute}
 use Rattle.flow_determinate.proofs.Staying.{OneWriter, no-get, no-send, turn-stays}
@@ -169,10 +168,10 @@ module _ {K : Type 0} (shape_of : K → Shape) (uses : K → ℕ → Bool) (read
           }
 
   -- a quiet state has no turn
-  no-turn : (s : State K) (p : ℕ) (e : Event) (a : State K) → Quiet s → WholeTurn next s p e a → ⊥
+  no-turn : (s : State K) (p : ℕ) (e : Event) (a : State K) → IsStill s → WholeTurn next s p e a → ⊥
   no-turn s p e a quiet whole =
       let turn = whole.1.kept in
-      (let h : Some e ≡ None = sym turn.happens ∙ quiet.still p turn.before turn.level turn.there in cc)
+      (let h : Some e ≡ None = sym turn.happens ∙ quiet p turn.before turn.level turn.there in cc)
 
   -- A schedule that goes on from the state after a turn: where another went, with one turn of that process fewer.
   record GoesOn (p : ℕ) (a : State K) (turns : List ℕ) (t : State K) : Type 0 where
@@ -182,8 +181,8 @@ module _ {K : Type 0} (shape_of : K → Shape) (uses : K → ℕ → Bool) (read
     counts : (r : ℕ) → times r turns ≡ times r (p ∷ []) + times r turns_left
 
   -- whatever turn comes first, a quiet schedule comes to its end after it
-  goes-on : (turns seen : List ℕ) (s : State K) (p : ℕ) (e : Event) (a t : State K) → Good s → WholeTurn next s p e a → LeadsBy next s turns seen t → Quiet t → GoesOn p a turns t
-  goes-on [] seen s p e a t good first leads quiet = absurd (no-turn s p e a (subst Quiet leads.1 quiet) first)
+  goes-on : (turns seen : List ℕ) (s : State K) (p : ℕ) (e : Event) (a t : State K) → Good s → WholeTurn next s p e a → LeadsBy next s turns seen t → IsStill t → GoesOn p a turns t
+  goes-on [] seen s p e a t good first leads quiet = absurd (no-turn s p e a (subst IsStill leads.1 quiet) first)
   goes-on (q ∷ turns) seen s p e a t good first leads quiet = elim (same_or_not p q) as (λ _. GoesOn p a (q ∷ turns) t) [
     | inl same ↦ (let here : WholeTurn next s p leads.0 leads.1 = subst (λ (k : ℕ). WholeTurn next s k leads.0 leads.1) (sym same) leads.3 in
         let state : leads.1 ≡ a = same-whole s p leads.0 e leads.1 a good here first in
@@ -204,9 +203,9 @@ module _ {K : Type 0} (shape_of : K → Shape) (uses : K → ℕ → Bool) (read
   ]
 
   -- two quiet schedules from one state end in one state, with as many turns of each process
-  same-end : (turns seen turns' seen' : List ℕ) (s a b : State K) → Good s → LeadsBy next s turns seen a → Quiet a → LeadsBy next s turns' seen' b → Quiet b → ((r : ℕ) → times r turns ≡ times r turns') × (a ≡ b)
+  same-end : (turns seen turns' seen' : List ℕ) (s a b : State K) → Good s → LeadsBy next s turns seen a → IsStill a → LeadsBy next s turns' seen' b → IsStill b → ((r : ℕ) → times r turns ≡ times r turns') × (a ≡ b)
   same-end [] seen [] seen' s a b good first still second still' = ((λ r. refl), first.1 ∙ sym second.1)
-  same-end [] seen (q ∷ turns') seen' s a b good first still second still' = absurd (no-turn s q second.0 second.1 (subst Quiet first.1 still) second.3)
+  same-end [] seen (q ∷ turns') seen' s a b good first still second still' = absurd (no-turn s q second.0 second.1 (subst IsStill first.1 still) second.3)
   same-end (p ∷ turns) seen turns' seen' s a b good first still second still' =
       let more = goes-on turns' seen' s p first.0 first.1 b good first.3 second still' in
       let rest = same-end turns first.2 more.turns_left more.seen_left first.1 a b (good-whole s p first.0 first.1 first.3 good) first.5 still more.leads still' in
@@ -214,7 +213,7 @@ module _ {K : Type 0} (shape_of : K → Shape) (uses : K → ℕ → Bool) (read
 
   -- all quiet schedules from a start of a plan without merges end in one state
   pub one-end : (plan : Plan) (components : List K) → StartsWell shape_of uses ready plan components → IsUnmerged plan → NoneMayAsk may_ask components
-      → (journal other : Journal) (s t : State K) → Leads next (start_of plan components) journal s → Quiet s → Leads next (start_of plan components) other t → Quiet t → SameEnd journal s other t
+      → (journal other : Journal) (s t : State K) → Leads next (start_of plan components) journal s → IsStill s → Leads next (start_of plan components) other t → IsStill t → SameEnd journal s other t
   one-end plan components well unmerged none journal other s t leads quiet leads' quiet' =
       let good = settled-start shape_of uses ready next obeys stays steady may_ask only plan components well unmerged none in
       let same = same-end journal.turns journal.seen other.turns other.seen (start_of plan components) s t good leads quiet leads' quiet' in

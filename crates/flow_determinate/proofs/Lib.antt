@@ -3,4 +3,5 @@ pub mod Commuting
 pub mod Staying
 pub mod Calm
 pub mod Diamond
+pub mod Robins
 pub mod Standards

@@ -14,8 +14,13 @@ use Rattle.flow_catalogue.specs.Kinds.{name_of}
 use Rattle.flow_catalogue.specs.Components.{read_lines_kind, write_lines_kind, words_kind, fill_kind, brackets_kind, passthru_kind, copy_kind, concat_kind, collate_kind, discard_kind, bundle_kind, unbundle_kind, hoard_kind, count_kind, select_kind}
 use Rattle.flow_catalogue.specs.Processes.{Given, given, first_component}
 use Rattle.flow_catalogue.specs.Std.{std_shape, std_uses, std_next, StdReady, StdNext}
+use Rattle.flow_model.specs.States.{State}
+use Rattle.flow_model.specs.Robin.{RoundRobin}
+use Rattle.flow_model.specs.Laws.{HasRoundRobin, RoundRobinLeads}
+use Rattle.flow_model.specs.Plans.{start_of}
+use Rattle.flow_determinate.proofs.Robins.{robin-still}
 use Rattle.flow_determinate.specs.Determinate.{OnlyTheseAsk, NoneMayAsk, HasOneOutcome}
-use Rattle.flow_determinate.specs.Standard.{IsDeterminate, is_balance, AreFirstOf, DeterminatePlansHaveOneOutcome}
+use Rattle.flow_determinate.specs.Standard.{IsDeterminate, is_balance, AreFirstOf, DeterminatePlansHaveOneOutcome, DeterminatePlansEndAsAlone}
 
 told-none : (component : Std) (held : Held) (level : ℕ) → is_balance component ≡ false → StdReady component held (answers.Level level) → ⊥
 told-none (components.LoadBalance state) held level is ready = absurd (cc)
@@ -78,3 +83,10 @@ none-balances plan ks determinate are p component at =
 pub standard-outcome : AtMostOneOutcome StdNext → HasOneOutcome std_shape std_uses StdReady StdNext → DeterminatePlansHaveOneOutcome
 standard-outcome one law plan ks determinate well are journal other s t leads quiet leads' quiet' =
     law one is_balance only-balances plan ks well determinate.unmerged (none-balances plan ks determinate are) journal other s t leads quiet leads' quiet'
+
+-- and it ends as it does on one thread
+pub standard-alone : DeterminatePlansHaveOneOutcome → HasRoundRobin std_shape std_uses StdReady StdNext → RoundRobinLeads StdNext → DeterminatePlansEndAsAlone
+standard-alone one some leads_so plan ks determinate well are journal s leads still =
+    let robin = some plan ks well in
+    let same = one plan ks determinate well are robin.0 journal robin.1 s (leads_so (start_of plan ks) robin.0 robin.1 robin.2) (robin-still StdNext (start_of plan ks) robin.0 robin.1 robin.2) leads still in
+    (robin.0, subst (λ (t : State Std). RoundRobin StdNext (start_of plan ks) robin.0 t) same.state robin.2)

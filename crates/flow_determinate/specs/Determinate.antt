@@ -11,7 +11,7 @@ use Rattle.flow_plan.specs.Network.{Network as Plan}
 use Rattle.flow_plan.specs.declared.plan.Connection.{Connection as PlanConnection}
 use Rattle.flow_model.specs.States.{State}
 use Rattle.flow_model.specs.Schedules.{Journal, Leads}
-use Rattle.flow_model.specs.Verdicts.{Quiet}
+use Rattle.flow_model.specs.Verdicts.{HasNoTurn}
 use Rattle.flow_model.specs.Plans.{start_of, StartsWell}
 
 -- No connection of the plan has two senders.
@@ -28,16 +28,20 @@ pub record OnlyTheseAsk {K : Type 0} (ready : K → Held → Answer → Type 0) 
 abbrev pub NoneMayAsk : {K : Type 0} → (K → Bool) → List K → Type 0
 NoneMayAsk {K} may_ask components = (p : ℕ) (component : K) → slice_get components p ≡ Some component → may_ask component ≡ false
 
+-- No process has a turn.
+abbrev pub IsStill : {K : Type 0} → State K → Type 0
+IsStill s = (p : ℕ) → HasNoTurn s.kept p
+
 -- Two schedules have as many turns of each process, and end in the same state: the same of each process and connection, and the same past.
 pub record SameEnd {K : Type 0} (journal : Journal) (s : State K) (other : Journal) (t : State K) : Type 0 where
   pub turns : (p : ℕ) → times p journal.turns ≡ times p other.turns
   pub state : s ≡ t
 
--- Where components come to one outcome, no connection has two senders and no component asks for a level, all quiet schedules from one
--- start end in the same state. (A level that is told may be any number from the packets there to the capacity; two senders of a
+-- Where components come to one outcome, no connection has two senders and no component asks for a level, all schedules from one start
+-- after which no process has a turn end in the same state. (A level that is told may be any number from the packets there to the capacity; two senders of a
 -- connection put in the order of their turns. Nothing else of a turn depends on when it comes.)
 abbrev pub HasOneOutcome : {K : Type 0} → (K → Shape) → (K → ℕ → Bool) → (K → Held → Answer → Type 0) → (K → Held → Answer → Outcome K → Type 0) → Type 0
 HasOneOutcome {K} shape_of uses ready next =
     AtMostOneOutcome next → (may_ask : K → Bool) → OnlyTheseAsk ready next may_ask
     → (plan : Plan) (components : List K) → StartsWell shape_of uses ready plan components → IsUnmerged plan → NoneMayAsk may_ask components
-    → (journal other : Journal) (s t : State K) → Leads next (start_of plan components) journal s → Quiet s → Leads next (start_of plan components) other t → Quiet t → SameEnd journal s other t
+    → (journal other : Journal) (s t : State K) → Leads next (start_of plan components) journal s → IsStill s → Leads next (start_of plan components) other t → IsStill t → SameEnd journal s other t

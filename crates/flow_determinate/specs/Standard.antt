@@ -4,7 +4,7 @@ use Rattle.flow_plan.specs.Network.{Network as Plan}
 use Rattle.flow_plan.specs.declared.plan.Process.{Process as PlanProcess}
 use Rattle.flow_model.specs.States.{State}
 use Rattle.flow_model.specs.Schedules.{Journal, Leads}
-use Rattle.flow_model.specs.Verdicts.{Quiet}
+use Rattle.flow_model.specs.Robin.{RoundRobin}
 use Rattle.flow_model.specs.Plans.{start_of, StartsWell}
 use Rattle.flow_catalogue.specs.declared.standard.Std.{Std}
 use Rattle.flow_catalogue.specs.declared.standard.Std.TheVariants as components
@@ -12,7 +12,7 @@ use Rattle.flow_catalogue.specs.declared.table.StdKind.TheVariants as kinds
 use Rattle.flow_catalogue.specs.Kinds.{name_of}
 use Rattle.flow_catalogue.specs.Processes.{IsMade}
 use Rattle.flow_catalogue.specs.Std.{std_shape, std_uses, StdReady, StdNext}
-use Rattle.flow_determinate.specs.Determinate.{IsUnmerged, SameEnd}
+use Rattle.flow_determinate.specs.Determinate.{IsUnmerged, IsStill, SameEnd}
 
 -- A determinate plan: no connection has two senders, and no process is a LoadBalance.
 pub record IsDeterminate (plan : Plan) : Type 0 where
@@ -53,4 +53,10 @@ AreFirstOf plan ks = (p : ℕ) (component : Std) → slice_get ks p ≡ Some com
 abbrev pub DeterminatePlansHaveOneOutcome : Type 0
 DeterminatePlansHaveOneOutcome =
     (plan : Plan) (ks : List Std) → IsDeterminate plan → StartsWell std_shape std_uses StdReady plan ks → AreFirstOf plan ks
-    → (journal other : Journal) (s t : State Std) → Leads StdNext (start_of plan ks) journal s → Quiet s → Leads StdNext (start_of plan ks) other t → Quiet t → SameEnd journal s other t
+    → (journal other : Journal) (s t : State Std) → Leads StdNext (start_of plan ks) journal s → IsStill s → Leads StdNext (start_of plan ks) other t → IsStill t → SameEnd journal s other t
+
+-- Whatever the schedule, a determinate plan on the same files ends in the state in which the round robin of one thread does.
+abbrev pub DeterminatePlansEndAsAlone : Type 0
+DeterminatePlansEndAsAlone =
+    (plan : Plan) (ks : List Std) → IsDeterminate plan → StartsWell std_shape std_uses StdReady plan ks → AreFirstOf plan ks
+    → (journal : Journal) (s : State Std) → Leads StdNext (start_of plan ks) journal s → IsStill s → (robin : Journal) × RoundRobin StdNext (start_of plan ks) robin s

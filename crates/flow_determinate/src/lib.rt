@@ -5,24 +5,35 @@ ghost use Rattle.std.specs.Prelude.{◌≡◌, ◌≤◌, ◌↔◌, IsTrue, len
 ghost use Rattle.flow_catalogue.specs.declared.table.StdKind.TheVariants as kinds;
 ghost use Rattle.flow_catalogue.specs.Kinds.{name_of};
 ghost use Rattle.flow_determinate.specs.Determinate.{HasOneOutcome};
-ghost use Rattle.flow_determinate.specs.Standard.{IsDeterminate, DeterminatePlansHaveOneOutcome};
+ghost use Rattle.flow_determinate.specs.Standard.{IsDeterminate, DeterminatePlansHaveOneOutcome, DeterminatePlansEndAsAlone};
 
 use flow_catalogue::{Std, standard_components_come_to_one_outcome};
 use flow_component::Component;
+use flow_model::{every_start_has_a_round_robin, round_robins_are_schedules};
 use flow_net::{Connection, Plan, Process};
 
-/// Where components come to one outcome, no connection has two senders and no component asks for a level, all quiet schedules from one
-/// start end in the same state, whatever they end in, and have as many turns of each process.
+/// Where components come to one outcome, no connection has two senders and no component asks for a level, all schedules from one start
+/// after which no process has a turn end in the same state, whatever they end in, and have as many turns of each process.
 pub fn quiet_schedules_end_in_one_state<K: Component>()
     ensures { HasOneOutcome K.shape_of K.uses K.ready K.next }
 {}
 
-/// All quiet schedules of a determinate plan of standard components, from its start on the same files, end in the same state.
+/// All schedules of a determinate plan of standard components, from its start on the same files, after which no process has a turn
+/// end in the same state.
 pub fn a_determinate_plan_has_one_outcome()
     ensures { DeterminatePlansHaveOneOutcome }
 {
     standard_components_come_to_one_outcome();
     quiet_schedules_end_in_one_state::<Std>();
+}
+
+/// Whatever the schedule, such a plan ends in the state in which the round robin of one thread does.
+pub fn a_determinate_plan_ends_as_on_one_thread()
+    ensures { DeterminatePlansEndAsAlone }
+{
+    a_determinate_plan_has_one_outcome();
+    every_start_has_a_round_robin::<Std>();
+    round_robins_are_schedules::<Std>();
 }
 
 // Whether the connection has one sender at most.
