@@ -11,9 +11,9 @@ use Rattle.flow_plan.specs.declared.plan.Process.{Process as NetProcess}
 use Rattle.flow_plan.specs.Network.{Network}
 use Rattle.flow_model.specs.States.{Process, State}
 use Rattle.flow_model.specs.Fit.{Fit}
-use Rattle.flow_model.specs.Stands.{StandsForOpen}
 use Rattle.flow_machine.specs.Starts.{StartsNet}
-use Rattle.flow_machine.specs.Values.{BodyValue, NetValue, shown_net}
+use Rattle.flow_machine.specs.Values.{BodyValue, NetValue}
+use Rattle.flow_cycle.specs.Nets.{IsReached}
 use Rattle.flow_journal.specs.Files.{IsWritable}
 use Rattle.flow_model.specs.Plans.{start_of, StartsWell}
 use Rattle.flow_journal.specs.Replays.{schedule_of, StopsFrom, StopsAtTurn}
@@ -63,13 +63,13 @@ lines-same one other same p (x ∷ xs) =
     ap (λ (l : List ℕ). l ++ output_lines_from one (p + 1) xs) first ∙ ap (λ (l : List ℕ). output_lines_at other p x ++ l) rest
 
 -- what is told of a net that stands for a state is the report of that
-told-of : (plan : Network) (net : NetValue Std) (last : State Std) (told : Told) → IsStandardPlan plan → ReportsTell std_shape std_uses StdReady
-    → Fit std_shape std_uses StdReady last → length last.kept.processes ≡ length plan.processes → StandsForOpen (shown_net net) last → IsToldOfNet plan net told → IsToldOf plan last told
-told-of plan net last told standard tell fit count stands is =
+told-of : (plan : Network) (net : NetValue Std) (last : State Std) (told : Told) → IsStandardPlan plan → ReportsTell std_shape std_uses StdReady StdNext
+    → Fit std_shape std_uses StdReady last → length last.kept.processes ≡ length plan.processes → IsReached std_shape std_uses StdReady StdNext plan net last → IsToldOfNet plan net told → IsToldOf plan last told
+told-of plan net last told standard tell fit count reached is =
     let few : length last.kept.processes ≤ PROCESS_LIMIT = omega (arith, count, standard.valid.wired.few_processes) in
     record {
       report = told_of plan net;
-      tells = tell plan net last fit few stands;
+      tells = tell plan net last fit few reached;
       verdict = is.verdict;
       text = is.report;
     }
@@ -82,27 +82,27 @@ has-file plan components net journal last sees schedule is = record {
   seen = sees plan components (schedule_of journal) last schedule;
 }
 
-leaves-one : (workers : ℕ) (plan : Network) (components : List Std) (net : NetValue Std) (journal : Journal) (told : Told) → IsStandardPlan plan → ReportsTell std_shape std_uses StdReady → SeesNoMoreThanTurns StdNext
-    → ComesOfRun std_shape std_uses StdReady StdNext workers plan components (schedule_of journal) net → IsToldOfNet plan net told → IsJournalOfNet net journal → Leaves workers plan components net journal told
-leaves-one workers plan components net journal told standard tell sees comes is names =
+leaves-one : (workers : ℕ) (plan : Network) (components : List Std) (net : NetValue Std) (journal : Journal) (told : Told) → IsStandardPlan plan → ReportsTell std_shape std_uses StdReady StdNext → SeesNoMoreThanTurns StdNext
+    → StartsWell std_shape std_uses StdReady plan components → ComesOfRun std_shape std_uses StdReady StdNext workers plan components (schedule_of journal) net → IsToldOfNet plan net told → IsJournalOfNet net journal → Leaves workers plan components net journal told
+leaves-one workers plan components net journal told standard tell sees well comes is names =
     let last = comes.last in
     let procs = processes-shown last.past.dropped 0 net.bodies last.kept.processes (ap (λ v. v.bodies) comes.stands) in
     record {
       last = last;
       run = comes.run;
-      told_is = told-of plan net last told standard tell comes.fit comes.count comes.stands is;
+      told_is = told-of plan net last told standard tell comes.fit comes.count (record { components = components; well = well; journal = schedule_of journal; leads = comes.run.schedule.leads; stands = comes.stands }) is;
       wrote = λ p. bytes-same net.bodies last.kept.processes p procs;
       writable = has-file plan components net journal last sees comes.run.schedule names;
     }
 
 -- whatever the account answers
-pub leaves : (workers : ℕ) (plan : Network) (components : List Std) (net : NetValue Std) (result : Result Ran AllocError) → IsStandardPlan plan → ReportsTell std_shape std_uses StdReady → SeesNoMoreThanTurns StdNext
-    → ((journal : Journal) → IsJournalOfNet net journal → ComesOfRun std_shape std_uses StdReady StdNext workers plan components (schedule_of journal) net)
+pub leaves : (workers : ℕ) (plan : Network) (components : List Std) (net : NetValue Std) (result : Result Ran AllocError) → IsStandardPlan plan → ReportsTell std_shape std_uses StdReady StdNext → SeesNoMoreThanTurns StdNext
+    → StartsWell std_shape std_uses StdReady plan components → ((journal : Journal) → IsJournalOfNet net journal → ComesOfRun std_shape std_uses StdReady StdNext workers plan components (schedule_of journal) net)
     → IfOk result (λ ran. ran.net ≡ net) → IfOk result (λ ran. IsToldOfNet plan net ran.told) → IfOk result (λ ran. IsJournalOfNet net ran.journal)
     → IfOk result (λ ran. Leaves workers plan components ran.net ran.journal ran.told)
-leaves workers plan components net (Ok ran) standard tell sees comes same told names =
-    subst (λ (n : NetValue Std). Leaves workers plan components n ran.journal ran.told) (sym same) (leaves-one workers plan components net ran.journal ran.told standard tell sees (comes ran.journal names) told names)
-leaves workers plan components net (Err e) standard tell sees comes same told names = tt
+leaves workers plan components net (Ok ran) standard tell sees well comes same told names =
+    subst (λ (n : NetValue Std). Leaves workers plan components n ran.journal ran.told) (sym same) (leaves-one workers plan components net ran.journal ran.told standard tell sees well (comes ran.journal names) told names)
+leaves workers plan components net (Err e) standard tell sees well comes same told names = tt
 
 -- A net that was run on from the start of a plan comes of a run, by one thread or by workers.
 pub comes-of-run : (workers : ℕ) (plan : Network) (components : List Std) (start net : NetValue Std) (journal : Journal)
@@ -116,12 +116,12 @@ comes-of-run (suc more) plan components start net journal rounds reaches well st
     reaches (suc more) plan components start net journal.turns journal.seen some well starts (ran.reaches one) (ran.quiet one) is.turns is.seen
 
 -- What making a journal again tells of the net to which it led.
-pub told-again : (plan : Network) (components : List Std) (net : NetValue Std) (journal : Journal) (told : Told) → IsStandardPlan plan → ReportsTell std_shape std_uses StdReady
-    → ComesOfSchedule std_shape std_uses StdReady StdNext plan components (schedule_of journal) net → IsToldOfNet plan net told → TellsAgain plan components journal told
-told-again plan components net journal told standard tell comes is = record {
+pub told-again : (plan : Network) (components : List Std) (net : NetValue Std) (journal : Journal) (told : Told) → IsStandardPlan plan → ReportsTell std_shape std_uses StdReady StdNext
+    → StartsWell std_shape std_uses StdReady plan components → ComesOfSchedule std_shape std_uses StdReady StdNext plan components (schedule_of journal) net → IsToldOfNet plan net told → TellsAgain plan components journal told
+told-again plan components net journal told standard tell well comes is = record {
   last = comes.last;
   schedule = comes.schedule;
-  told_is = told-of plan net comes.last told standard tell comes.fit comes.count comes.stands is;
+  told_is = told-of plan net comes.last told standard tell comes.fit comes.count (record { components = components; well = well; journal = schedule_of journal; leads = comes.schedule.leads; stands = comes.stands }) is;
 }
 
 -- A replay that stops has stopped from the start of the plan.

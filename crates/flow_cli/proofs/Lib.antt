@@ -17,3 +17,4 @@ pub mod Valid
 pub mod Writings
 pub mod Written
 pub mod Updating
+pub mod Alone

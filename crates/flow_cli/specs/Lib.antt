@@ -14,3 +14,4 @@ pub mod Step
 pub mod Stops
 pub mod Top
 pub mod Updates
+pub mod Alone

@@ -144,7 +144,7 @@ fn networks_run(rt: HostRuntime) -> Result<(), Fail> {
             net: CIRCLE,
             status: 4,
             output: None,
-            printed: b"verdict deadlock\nprocess A Passthru idle turns 0 made 0 dropped 0 left 0\nprocess B Passthru idle turns 0 made 0 dropped 0 left 0\nconnection B.IN capacity 10 puts 0 takes 0 left 0\nconnection A.IN capacity 10 puts 0 takes 0 left 0\nblocked A dormant\nblocked B dormant\ntotal turns 0 made 0 dropped 0 left 0\n",
+            printed: b"verdict deadlock\nprocess A Passthru idle turns 0 made 0 dropped 0 left 0\nprocess B Passthru idle turns 0 made 0 dropped 0 left 0\nconnection B.IN capacity 10 puts 0 takes 0 left 0\nconnection A.IN capacity 10 puts 0 takes 0 left 0\nblocked A dormant\nblocked B dormant\nwaits A for B at A.IN\nwaits B for A at B.IN\ntotal turns 0 made 0 dropped 0 left 0\n",
             turns: 0,
             ..ROW
         },

@@ -1,5 +1,6 @@
 //! The top calls.
 ghost use Rattle.std.specs.Prelude.{◌≡◌, ◌≤◌, ◌↔◌, IfOk, IsTrue};
+ghost use Rattle.flow_cli.specs.Alone.{HasOneOutcome};
 ghost use Rattle.flow_cli.specs.Engines.{RanBy, Runs};
 ghost use Rattle.flow_cli.specs.Meant.{LeavesMeaning};
 ghost use Rattle.flow_cli.specs.Networks.{IsStandardPlan};
@@ -19,6 +20,7 @@ use flow_catalogue::{
     Std, a_plan_over_the_table_is_standard, standard_components_come_to_one_outcome,
 };
 use flow_component::Gate;
+use flow_determinate::a_determinate_plan_ends_as_on_one_thread;
 use flow_journal::{
     Journal, a_file_has_one_journal_or_one_fault, a_journal_that_stops_is_no_schedule,
 };
@@ -71,6 +73,9 @@ pub fn plain_top<F: Shelf, O: Sink>(
     // A run came to its end, or a check, a replay or a make did.
     ensures over { IsOver result.status → ComesToEnd (call_of words.now (F.outside shelf.old) (F.outside shelf.new) (O.outside out.old) (O.outside out.new) result.journal result.status) FILE_LIMIT }
 
+    // A run of a determinate plan ends as on one thread, whatever its workers did.
+    ensures one_outcome { IsOver result.status → HasOneOutcome (call_of words.now (F.outside shelf.old) (F.outside shelf.new) (O.outside out.old) (O.outside out.new) result.journal result.status) FILE_LIMIT }
+
     // A run that finished left the files that its network means.
     ensures meaning { IsFinished result.status
         → LeavesMeaning (record { words = words.now; before = F.outside shelf.old; after = F.outside shelf.new; journal = result.journal }) FILE_LIMIT }
@@ -112,6 +117,9 @@ pub fn busy_top<R: Threads + Wait + Sync, F: Shelf, O: Sink, G: Gate + Sync>(
     // A run came to its end, or a check, a replay or a make did.
     ensures over { IsOver result.status → ComesToEnd (call_of words.now (F.outside shelf.old) (F.outside shelf.new) (O.outside out.old) (O.outside out.new) result.journal result.status) FILE_LIMIT }
 
+    // A run of a determinate plan ends as on one thread, whatever its workers did.
+    ensures one_outcome { IsOver result.status → HasOneOutcome (call_of words.now (F.outside shelf.old) (F.outside shelf.new) (O.outside out.old) (O.outside out.new) result.journal result.status) FILE_LIMIT }
+
     // A run that finished left the files that its network means.
     ensures meaning { IsFinished result.status
         → LeavesMeaning (record { words = words.now; before = F.outside shelf.old; after = F.outside shelf.new; journal = result.journal }) FILE_LIMIT }
@@ -150,6 +158,7 @@ where
     E: Fn(Net<Std>, u32) -> Result<Closed<Std>, AllocError>,
     requires { IsServed (Runs (E.pre engine.now) (E.post engine.now)) words.now }
     ensures over { IsOver result.status → ComesToEnd (call_of words.now (F.outside shelf.old) (F.outside shelf.new) (O.outside out.old) (O.outside out.new) result.journal result.status) FILE_LIMIT }
+    ensures one_outcome { IsOver result.status → HasOneOutcome (call_of words.now (F.outside shelf.old) (F.outside shelf.new) (O.outside out.old) (O.outside out.new) result.journal result.status) FILE_LIMIT }
     ensures meaning { IsFinished result.status
         → LeavesMeaning (record { words = words.now; before = F.outside shelf.old; after = F.outside shelf.new; journal = result.journal }) FILE_LIMIT }
     ensures books { IsFinished result.status → LeavesBooks (record { words = words.now; before = F.outside shelf.old; after = F.outside shelf.new; journal = result.journal }) FILE_LIMIT }
@@ -163,6 +172,7 @@ where
     a_finished_network_composes_its_meanings();
     an_ended_collate_has_sent_the_collation();
     a_batch_update_writes_its_book();
+    a_determinate_plan_ends_as_on_one_thread();
     standard_components_come_to_one_outcome();
     a_journal_that_stops_is_no_schedule::<Std>();
     a_file_has_one_journal_or_one_fault();

@@ -58,7 +58,7 @@ fn copies_are_put_behind_one_another(rt: HostRuntime) -> Result<(), Fail> {
             inputs: [("i", b"a\nb\nc\n"), NONE, NONE],
             status: 4,
             printed: Some(
-                b"verdict deadlock\nprocess Read ReadLines ended turns 7 made 3 dropped 0 left 0\nprocess Copy Copy active turns 6 made 2 dropped 0 left 1\nprocess Concat Concat active turns 5 made 0 dropped 0 left 0\nprocess Write WriteLines active turns 3 made 0 dropped 2 left 0\nconnection Copy.IN capacity 10 puts 3 takes 2 left 1\nconnection Concat.IN[0] capacity 1 puts 2 takes 2 left 0\nconnection Concat.IN[1] capacity 1 puts 1 takes 0 left 1\nconnection Write.IN capacity 10 puts 2 takes 2 left 0\nblocked Copy full OUT[1]\nblocked Concat empty IN[0]\nblocked Write empty IN\nleft Read:1 in hands of Copy\nleft Read:2 in Copy.IN\nleft Read:0 in Concat.IN[1]\ntotal turns 21 made 5 dropped 2 left 3\n",
+                b"verdict deadlock\nprocess Read ReadLines ended turns 7 made 3 dropped 0 left 0\nprocess Copy Copy active turns 6 made 2 dropped 0 left 1\nprocess Concat Concat active turns 5 made 0 dropped 0 left 0\nprocess Write WriteLines active turns 3 made 0 dropped 2 left 0\nconnection Copy.IN capacity 10 puts 3 takes 2 left 1\nconnection Concat.IN[0] capacity 1 puts 2 takes 2 left 0\nconnection Concat.IN[1] capacity 1 puts 1 takes 0 left 1\nconnection Write.IN capacity 10 puts 2 takes 2 left 0\nblocked Copy full OUT[1]\nblocked Concat empty IN[0]\nblocked Write empty IN\nwaits Copy for Concat at Concat.IN[1]\nwaits Concat for Copy at Concat.IN[0]\nleft Read:1 in hands of Copy\nleft Read:2 in Copy.IN\nleft Read:0 in Concat.IN[1]\ntotal turns 21 made 5 dropped 2 left 3\n",
             ),
             outputs: [("o", b"a\nb\n"), NONE],
             ..ROW

@@ -7,6 +7,8 @@ mod by_hand;
 #[cfg(test)]
 mod circle;
 #[cfg(test)]
+mod determined;
+#[cfg(test)]
 mod levels;
 #[cfg(test)]
 mod loads;

@@ -80,7 +80,7 @@ fn a_ring_is_stuck_for_workers_too(rt: HostRuntime) -> Result<(), Fail> {
         assert_eq!(rt; called.turns, 0);
         assert_eq!(rt;
             called.printed.as_slice(),
-            b"verdict deadlock\nprocess A Passthru idle turns 0 made 0 dropped 0 left 0\nprocess B Passthru idle turns 0 made 0 dropped 0 left 0\nconnection B.IN capacity 10 puts 0 takes 0 left 0\nconnection A.IN capacity 10 puts 0 takes 0 left 0\nblocked A dormant\nblocked B dormant\ntotal turns 0 made 0 dropped 0 left 0\n".as_slice()
+            b"verdict deadlock\nprocess A Passthru idle turns 0 made 0 dropped 0 left 0\nprocess B Passthru idle turns 0 made 0 dropped 0 left 0\nconnection B.IN capacity 10 puts 0 takes 0 left 0\nconnection A.IN capacity 10 puts 0 takes 0 left 0\nblocked A dormant\nblocked B dormant\nwaits A for B at A.IN\nwaits B for A at B.IN\ntotal turns 0 made 0 dropped 0 left 0\n".as_slice()
         );
     }
     Ok(())

@@ -14,7 +14,7 @@ returns-in-Ok c =
     let components = c.args.job.components.items in
     let well = c.a_valid_plan_is_ready.ensures.starts plan components c.requires.standard.valid (components-fit plan components c.requires.components) in
     let comes = c.a_replay_of_a_net_is_scheduled.ensures.scheduled plan components c.in_ok-net.net c.in-Ok.closed.net c.args.journal.now well c.in_ok-net.ensures c.in-Ok.ensures.replays in
-    told-again plan components c.in-Ok.closed.net c.args.journal.now c.in_ok-told-in-Ok.field-0 c.requires.standard c.a_report_tells_of_its_state.ensures comes c.in_ok-told-in-Ok.ensures
+    told-again plan components c.in-Ok.closed.net c.args.journal.now c.in_ok-told-in-Ok.field-0 c.requires.standard c.a_report_tells_of_its_state.ensures well comes c.in_ok-told-in-Ok.ensures
 
 pub returns : goal.returns
 returns c =

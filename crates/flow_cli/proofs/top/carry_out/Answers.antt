@@ -3,12 +3,21 @@ use Rattle.flow_cli.proofs.Tops.{stopped, stop-not-over, stop-not-running, stop-
 use Rattle.flow_cli.proofs.Meaning.{finished-over}
 use Rattle.flow_cli.proofs.Concluding.{done-over, done-meaning, done-cause, done-status, done-complete}
 use Rattle.flow_cli.proofs.Updating.{collates-each, leaves-books}
+use Rattle.flow_cli.specs.Top.{call_of}
+use Rattle.flow_cli.proofs.Alone.{alone}
 use Rattle.flow_cli.proofs.top.carry_out.Goals as goal
 
 pub returns-in-Ok-clause-over : goal.returns-in-Ok-clause-over
 returns-in-Ok-clause-over g c = λ over.
     done-over c.args.words.now (g.F.Edge.outside c.args.shelf.now) (g.F.Edge.outside c.perform.new.shelf) (g.F.Edge.outside c.conclude.new.shelf) (g.O.Edge.outside c.args.out.now) (g.O.Edge.outside c.conclude.new.out)
     c.in-Ok.done c.conclude.result FILE_LIMIT c.in-Ok.ensures c.conclude.ensures over
+
+pub returns-in-Ok-clause-one_outcome : goal.returns-in-Ok-clause-one_outcome
+returns-in-Ok-clause-one_outcome g c = λ over.
+    alone c.a_valid_plan_is_ready.ensures.starts c.a_determinate_plan_ends_as_on_one_thread.ensures
+    (call_of c.args.words.now (g.F.Edge.outside c.args.shelf.now) (g.F.Edge.outside c.conclude.new.shelf) (g.O.Edge.outside c.args.out.now) (g.O.Edge.outside c.conclude.new.out) c.conclude.result.journal c.conclude.result.status) FILE_LIMIT
+    (done-over c.args.words.now (g.F.Edge.outside c.args.shelf.now) (g.F.Edge.outside c.perform.new.shelf) (g.F.Edge.outside c.conclude.new.shelf) (g.O.Edge.outside c.args.out.now) (g.O.Edge.outside c.conclude.new.out)
+    c.in-Ok.done c.conclude.result FILE_LIMIT c.in-Ok.ensures c.conclude.ensures over)
 
 pub returns-in-Ok-clause-meaning : goal.returns-in-Ok-clause-meaning
 returns-in-Ok-clause-meaning g c = λ finished.
@@ -44,6 +53,10 @@ returns-in-Ok-clause-complete g c =
 
 pub returns-in-Err-clause-over : goal.returns-in-Err-clause-over
 returns-in-Err-clause-over g c = λ over.
+    absurd (stop-not-over (g.O.Edge.outside c.args.out.now) (g.O.Edge.outside c.print_stop.new.out) c.in-Err.stop c.print_stop.result c.print_stop.ensures over)
+
+pub returns-in-Err-clause-one_outcome : goal.returns-in-Err-clause-one_outcome
+returns-in-Err-clause-one_outcome g c = λ over.
     absurd (stop-not-over (g.O.Edge.outside c.args.out.now) (g.O.Edge.outside c.print_stop.new.out) c.in-Err.stop c.print_stop.result c.print_stop.ensures over)
 
 pub returns-in-Err-clause-meaning : goal.returns-in-Err-clause-meaning
