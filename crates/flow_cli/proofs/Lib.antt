@@ -18,3 +18,4 @@ pub mod Writings
 pub mod Written
 pub mod Updating
 pub mod Alone
+pub mod Making
