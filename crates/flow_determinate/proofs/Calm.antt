@@ -29,7 +29,7 @@ use Rattle.flow_model.proofs.Start.{start-process, port-at, no_connection}
 use Rattle.flow_model.proofs.Leaving.{open-place}
 use Rattle.flow_model.proofs.Rising.{found-set}
 use Rattle.flow_model.proofs.Fits.{Fit-start, Fit-turn, Fit-settles}
-use Rattle.flow_determinate.specs.Determinate.{IsUnmerged, OnlyTheseAsk, NoneMayAsk}
+use Rattle.flow_determinate.specs.Determinate.{EachHasOneSender, OnlyTheseAsk, NoneMayAsk}
 use Rattle.flow_determinate.proofs.Moves.{one-of, ComesTo, whole-move}
 use Rattle.flow_determinate.proofs.Staying.{OneWriter}
 
@@ -90,7 +90,7 @@ get-there (x ∷ xs) zero d l = refl
 get-there (x ∷ xs) (suc c) d l = get-there xs c d (omega (arith, l))
 
 -- where no connection has two senders, no two outputs send to one
-one-writer : {K : Type 0} (plan : Plan) (components : List K) → IsUnmerged plan → OneWriter (start_of plan components).kept.processes
+one-writer : {K : Type 0} (plan : Plan) (components : List K) → EachHasOneSender plan → OneWriter (start_of plan components).kept.processes
 one-writer plan components unmerged p q o k c is at =
     let a : Sender = record { process = p; output = o } in
     let b : Sender = record { process = q; output = k } in
@@ -114,7 +114,7 @@ module _ {K : Type 0} (shape_of : K → Shape) (uses : K → ℕ → Bool) (read
     pub writers : OneWriter s.kept.processes
 
   -- it holds at the start
-  pub settled-start : (plan : Plan) (components : List K) → StartsWell shape_of uses ready plan components → IsUnmerged plan → NoneMayAsk may_ask components → Settled (start_of plan components)
+  pub settled-start : (plan : Plan) (components : List K) → StartsWell shape_of uses ready plan components → EachHasOneSender plan → NoneMayAsk may_ask components → Settled (start_of plan components)
   settled-start plan components well unmerged none = record {
     fit = Fit-start shape_of uses ready plan components well;
     asks = λ p x is. none p x.component (component-at plan 0 plan.processes components p x is);

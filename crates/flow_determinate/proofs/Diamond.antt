@@ -19,7 +19,7 @@ use Rattle.flow_model.proofs.Lists.{slice_get-set_other, same_or_not}
 use Rattle.flow_model.proofs.Inverse.{explains}
 use Rattle.flow_model.proofs.Senders.{both-true}
 use Rattle.flow_model.proofs.OneRobin.{same-exact}
-use Rattle.flow_determinate.specs.Determinate.{IsUnmerged, OnlyTheseAsk, NoneMayAsk, IsStill, SameEnd}
+use Rattle.flow_determinate.specs.Determinate.{EachHasOneSender, OnlyTheseAsk, NoneMayAsk, IsStill, SameEnd}
 use Rattle.flow_determinate.proofs.Moves.{one-of, moved, Move, whole-move, move-whole}
 use Rattle.flow_determinate.proofs.Commuting.{set-commute, Touching, gets, sends, closes, touching, CommuteAt, channels-commute, grow-commute, not-twice, SendApart, puts-commute}
 use Rattle.flow_determinate.proofs.Staying.{OneWriter, no-get, no-send, turn-stays}
@@ -212,7 +212,7 @@ module _ {K : Type 0} (shape_of : K → Shape) (uses : K → ℕ → Bool) (read
       ((λ r. (let h = more.counts r in let k = rest.0 r in omega (arith, h, k))), rest.1)
 
   -- all quiet schedules from a start of a plan without merges end in one state
-  pub one-end : (plan : Plan) (components : List K) → StartsWell shape_of uses ready plan components → IsUnmerged plan → NoneMayAsk may_ask components
+  pub one-end : (plan : Plan) (components : List K) → StartsWell shape_of uses ready plan components → EachHasOneSender plan → NoneMayAsk may_ask components
       → (journal other : Journal) (s t : State K) → Leads next (start_of plan components) journal s → IsStill s → Leads next (start_of plan components) other t → IsStill t → SameEnd journal s other t
   one-end plan components well unmerged none journal other s t leads quiet leads' quiet' =
       let good = settled-start shape_of uses ready next obeys stays steady may_ask only plan components well unmerged none in

@@ -82,7 +82,7 @@ none-balances plan ks determinate are p component at =
 -- with the laws of standard components, a determinate plan has one outcome
 pub standard-outcome : AtMostOneOutcome StdNext → HasOneOutcome std_shape std_uses StdReady StdNext → DeterminatePlansHaveOneOutcome
 standard-outcome one law plan ks determinate well are journal other s t leads quiet leads' quiet' =
-    law one is_balance only-balances plan ks well determinate.unmerged (none-balances plan ks determinate are) journal other s t leads quiet leads' quiet'
+    law one is_balance only-balances plan ks well determinate.one_sender (none-balances plan ks determinate are) journal other s t leads quiet leads' quiet'
 
 -- and it ends as it does on one thread
 pub standard-alone : DeterminatePlansHaveOneOutcome → HasRoundRobin std_shape std_uses StdReady StdNext → RoundRobinLeads StdNext → DeterminatePlansEndAsAlone

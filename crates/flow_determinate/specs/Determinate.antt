@@ -15,8 +15,8 @@ use Rattle.flow_model.specs.Verdicts.{HasNoTurn}
 use Rattle.flow_model.specs.Plans.{start_of, StartsWell}
 
 -- No connection of the plan has two senders.
-abbrev pub IsUnmerged : Plan → Type 0
-IsUnmerged plan = (c : ℕ) (connection : PlanConnection) → slice_get plan.connections c ≡ Some connection → length connection.senders ≤ 1
+abbrev pub EachHasOneSender : Plan → Type 0
+EachHasOneSender plan = (c : ℕ) (connection : PlanConnection) → slice_get plan.connections c ≡ Some connection → length connection.senders ≤ 1
 
 -- Only those components are ever ready to be told a level that the test names, so only those ever ask for one; and no other becomes one
 -- of them.
@@ -43,5 +43,5 @@ pub record SameEnd {K : Type 0} (journal : Journal) (s : State K) (other : Journ
 abbrev pub HasOneOutcome : {K : Type 0} → (K → Shape) → (K → ℕ → Bool) → (K → Held → Answer → Type 0) → (K → Held → Answer → Outcome K → Type 0) → Type 0
 HasOneOutcome {K} shape_of uses ready next =
     AtMostOneOutcome next → (may_ask : K → Bool) → OnlyTheseAsk ready next may_ask
-    → (plan : Plan) (components : List K) → StartsWell shape_of uses ready plan components → IsUnmerged plan → NoneMayAsk may_ask components
+    → (plan : Plan) (components : List K) → StartsWell shape_of uses ready plan components → EachHasOneSender plan → NoneMayAsk may_ask components
     → (journal other : Journal) (s t : State K) → Leads next (start_of plan components) journal s → IsStill s → Leads next (start_of plan components) other t → IsStill t → SameEnd journal s other t

@@ -12,11 +12,11 @@ use Rattle.flow_catalogue.specs.declared.table.StdKind.TheVariants as kinds
 use Rattle.flow_catalogue.specs.Kinds.{name_of}
 use Rattle.flow_catalogue.specs.Processes.{IsMade}
 use Rattle.flow_catalogue.specs.Std.{std_shape, std_uses, StdReady, StdNext}
-use Rattle.flow_determinate.specs.Determinate.{IsUnmerged, IsStill, SameEnd}
+use Rattle.flow_determinate.specs.Determinate.{EachHasOneSender, IsStill, SameEnd}
 
 -- A determinate plan: no connection has two senders, and no process is a LoadBalance.
 pub record IsDeterminate (plan : Plan) : Type 0 where
-  pub unmerged : IsUnmerged plan
+  pub one_sender : EachHasOneSender plan
   pub no_balance : (p : ℕ) (process : PlanProcess) → slice_get plan.processes p ≡ Some process → process.kind ≢ name_of kinds.LoadBalance
 
 -- A LoadBalance. It alone of the standard components asks for a level.

@@ -27,7 +27,8 @@ use Rattle.flow_meanings.specs.Composition.{Sending, coming, activated, inputs_o
 use Rattle.flow_model.specs.Rising.{LeadsOn}
 use Rattle.flow_model.proofs.Rising.{finished-leads_on}
 use Rattle.flow_meanings.specs.Chains.{RunsComponent, LeadsTo, TelegramMeans}
-use Rattle.flow_meanings.specs.Outcomes.{AreSettled, IsUnmerged, OneOutcome, SameFiles, MergesAndBalancesNothing, PlanSameFiles}
+use Rattle.flow_determinate.specs.Standard.{IsDeterminate}
+use Rattle.flow_meanings.specs.Outcomes.{AreSettled, IsUnmerged, OneOutcome, SameFiles, PlanSameFiles}
 use Rattle.flow_meanings.proofs.Every.{facts-of, components-first, made-settled}
 use Rattle.flow_meanings.proofs.Composing.{start-there, length-ports, finished-composes}
 
@@ -200,7 +201,7 @@ among plan p o c sends =
     (x, at.0, at.1, get-there plan.connections c no_connection pos.0, at.2, sym who.0, sym who.1)
 
 -- A plan that merges and balances nothing has no connection with two senders.
-pub unmerged-plan : (plan : Plan) → MergesAndBalancesNothing plan → IsUnmerged plan
+pub unmerged-plan : (plan : Plan) → IsDeterminate plan → IsUnmerged plan
 unmerged-plan plan none c p o q r one two =
     let a = among plan p o c one in
     let b = among plan q r c two in

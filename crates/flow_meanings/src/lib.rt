@@ -10,7 +10,6 @@ ghost use Rattle.flow_meanings.specs.Chains.{TelegramMeans};
 
 pub use outcomes::{
     a_network_without_merges_means_one_outcome, components_of_a_plan_are_first,
-    merges_and_balances_nothing,
 };
 
 /// After every schedule each process of a standard kind that has ended has made of its streams what its kind means.

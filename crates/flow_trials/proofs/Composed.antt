@@ -20,7 +20,7 @@ use Rattle.flow_model.proofs.Lists.{map-found}
 use Rattle.flow_meanings.specs.Means.{Means}
 use Rattle.flow_meanings.specs.Composition.{Sending, activated, inputs_of, arriving, leaving, Composes}
 use Rattle.flow_meanings.specs.Chains.{LeadsTo, IsTelegram}
-use Rattle.flow_meanings.specs.Outcomes.{AreComponentsOf, IsComponentOf, MergesAndBalancesNothing}
+use Rattle.flow_determinate.specs.Standard.{AreFirstOf, IsFirstOf, IsDeterminate}
 use Rattle.flow_meanings.proofs.Every.{components-first}
 use Rattle.flow_meanings.proofs.Chaining.{unmerged-plan, telegram-means}
 use Rattle.flow_trials.specs.Telegram.{telegram, telegram_input, telegram_components, telegram_on, telegram_wrote, texts_from, sent_by, link}
@@ -49,9 +49,9 @@ abbrev process : ℕ → Process
 process p = process_at p telegram.processes
 
 -- The components of the worked run are those of its processes.
-pub are-components : AreComponentsOf telegram telegram_components
+pub are-components : AreFirstOf telegram telegram_components
 are-components p component at =
-    at_four (λ q k. IsComponentOf telegram q k) (components.ReadLines telegram_input) (components.Words words_parts.Waiting) (components.Fill (fresh_fill 12)) (components.WriteLines [])
+    at_four (λ q k. IsFirstOf telegram q k) (components.ReadLines telegram_input) (components.Words words_parts.Waiting) (components.Fill (fresh_fill 12)) (components.WriteLines [])
     (record { process = process 0; there = refl; file = codes "To be or not to be\nthat is the question\n"; made = record { kind = kinds.ReadLines; named = refl; is = refl } })
     (record { process = process 1; there = refl; file = []; made = record { kind = kinds.Words; named = refl; is = refl } })
     (record { process = process 2; there = refl; file = []; made = record { kind = kinds.Fill; named = refl; is = refl } })
@@ -111,7 +111,7 @@ composed = (record { one_each = refl; first = components-first telegram telegram
 
 -- There is no other file
 
-no-merge : MergesAndBalancesNothing telegram
+no-merge : IsDeterminate telegram
 no-merge = record {
   one_sender = λ c connection is. at_three (λ _ (x : Connection). length x.senders ≤ 1) (link 0 1 10) (link 1 2 20) (link 2 3 10) (omega arith) (omega arith) (omega arith) c connection is;
   no_balance = λ p x is. at_four (λ _ (y : Process). y.kind ≡ name_of kinds.LoadBalance → ⊥) (process 0) (process 1) (process 2) (process 3) (λ h. cc) (λ h. cc) (λ h. cc) (λ h. cc) p x is;

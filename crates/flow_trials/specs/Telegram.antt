@@ -19,7 +19,7 @@ use Rattle.flow_catalogue.specs.Kinds.{std_kinds}
 use Rattle.flow_catalogue.specs.declared.standard.Std.{Std}
 use Rattle.flow_catalogue.specs.declared.standard.Std.TheVariants as components
 use Rattle.flow_meanings.specs.Composition.{Sending, Composes}
-use Rattle.flow_meanings.specs.Outcomes.{AreComponentsOf}
+use Rattle.flow_determinate.specs.Standard.{AreFirstOf}
 
 -- A port that is named without an element.
 abbrev pub port_named : List ℕ → PortRef
@@ -100,7 +100,7 @@ telegram_wrote (suc (suc (suc (suc p)))) = []
 -- which the writer has that file; and in each composition it has that file.
 pub record TelegramComposes : Type 0 where
   pub planned : ComesTo std_kinds telegram_component (Ok telegram)
-  pub are_components : AreComponentsOf telegram telegram_components
+  pub are_components : AreFirstOf telegram telegram_components
   pub composes : Composes telegram telegram_components telegram_wrote
   pub streams : composes.on ≡ telegram_on
   pub only : (wrote : ℕ → List ℕ) → Composes telegram telegram_components wrote → wrote 3 ≡ codes "To be or not\nto be that\nis the\nquestion\n"
