@@ -34,11 +34,13 @@ module _ {K : Type 0} (next : K → Held → Answer → Outcome K → Type 0) wh
       let seen = front-empty pass.0.seen pass.1.seen (ap (λ (k : Journal). k.seen) whole) in
       let front = pass-still n s pass.0 pass.2 (same-journal pass.0 no_turns turns.0 seen.0) pass.4 in
       let back = burst-still n pass.2 pass.1 s' (same-journal pass.1 no_turns turns.1 seen.1) pass.5 in
-      let same : s' ≡ s = back.0 ∙ front.0 in
-      (same, λ p below. elim (same_or_not p n) as (λ _. HasNoTurn s.kept p) [
+      let same : s' ≡ s = back.0 ∙ front.0 in (
+        same,
+        λ p below. elim (same_or_not p n) as (λ _. HasNoTurn s.kept p) [
           | inl here ↦ subst (λ (k : ℕ). HasNoTurn s.kept k) (sym here) (subst (λ (t : State K). HasNoTurn t.kept n) same back.1)
           | inr other ↦ front.1 p (below-other p n below other)
-        ])
+        ],
+      )
     where
       below-other : (p n : ℕ) → p < suc n → (p ≡ n → ⊥) → p < n
       below-other p n below other = grind (arith)

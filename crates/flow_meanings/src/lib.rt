@@ -8,9 +8,7 @@ ghost use Rattle.flow_meanings.specs.Composition.{FinishedComposes};
 ghost use Rattle.flow_meanings.specs.Batches.{BatchMeans, EndedCollates};
 ghost use Rattle.flow_meanings.specs.Chains.{TelegramMeans};
 
-pub use outcomes::{
-    a_network_without_merges_means_one_outcome, components_of_a_plan_are_first,
-};
+pub use outcomes::{a_network_without_merges_means_one_outcome, components_of_a_plan_are_first};
 
 /// After every schedule each process of a standard kind that has ended has made of its streams what its kind means.
 pub fn every_ended_process_has_its_meaning()

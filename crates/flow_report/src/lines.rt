@@ -140,11 +140,7 @@ fn put_waits_for(
 {
     put_two(text, b"waits ", process_name(processes, wait.process))?;
     put_two(text, b" for ", process_name(processes, wait.to))?;
-    put_two(
-        text,
-        b" at ",
-        connection_name(connections, wait.connection),
-    )?;
+    put_two(text, b" at ", connection_name(connections, wait.connection))?;
     text.extend_from_slice(b"\n")
 }
 

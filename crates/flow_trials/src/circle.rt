@@ -53,6 +53,9 @@ fn a_circle_stays_dormant(rt: HostRuntime) -> Result<(), Fail> {
     let Some(waits) = found? else {
         return Err("no cycle".into());
     };
-    assert_eq!(rt; waits.as_slice(), [round(0, 1, 1), round(1, 0, 0)].as_slice());
+    assert_eq!(rt;
+        waits.as_slice(),
+        [round(0, 1, 1), round(1, 0, 0)].as_slice()
+    );
     Ok(())
 }
