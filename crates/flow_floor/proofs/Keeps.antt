@@ -50,10 +50,10 @@ top_set : (x : ℕ) → 9223372036854775808 ≤ x → x < 18446744073709551616 �
 top_set x low high = let r = x - 9223372036854775808 in let split : x ≡ 1 * 2 ^ 63 + r = omega arith in
     ap (λ z. bit_or z 9223372036854775808) split ∙ (or_block 63 1 1 r 0 (omega arith) (omega arith) ∙ (ap (λ z. 9223372036854775808 + z) (or_zero_r r) ∙ (let t : 9223372036854775808 + r ≡ x = omega arith in t)))
 
-hit : (n old new : ℕ) → n ≡ old → either (n == old) new n ≡ new
+pub hit : (n old new : ℕ) → n ≡ old → either (n == old) new n ≡ new
 hit n old new e = ap (λ b. either b new n) (eq-eqb n old e)
 
-miss : (n old new : ℕ) → n ≢ old → either (n == old) new n ≡ n
+pub miss : (n old new : ℕ) → n ≢ old → either (n == old) new n ≡ n
 miss n old new ne = ap (λ b. either b new n) (ne_eqb n old ne)
 
 module _ {K : Type 0} (shape_of : K → Shape) (uses : K → ℕ → Bool) (ready : K → Held → Answer → Type 0) (next : K → Held → Answer → Outcome K → Type 0)
@@ -134,7 +134,7 @@ module _ {K : Type 0} (shape_of : K → Shape) (uses : K → ℕ → Bool) (read
   same-words ws i = set-get_or ws i 0
 
   -- A step that changes no word, and of the view nothing but looks.
-  law-look : (s : St K) (id : ℕ) (v w : View K) (r : Rule s) → get_elem? s.views id ≡ some v → w.shares ≡ v.shares → w.held ≡ v.held → w.grab ≡ v.grab → w.word ≡ v.word → w.made ≡ v.made → w.spare ≡ v.spare → w.noted ≡ v.noted → w.read_zero ≡ v.read_zero
+  pub law-look : (s : St K) (id : ℕ) (v w : View K) (r : Rule s) → get_elem? s.views id ≡ some v → w.shares ≡ v.shares → w.held ≡ v.held → w.grab ≡ v.grab → w.word ≡ v.word → w.made ≡ v.made → w.spare ≡ v.spare → w.noted ≡ v.noted → w.read_zero ≡ v.read_zero
       → AllSeen P r.beside.now w.held w.seen → ((q : ℕ) (b : BodyValue K) → v.held ≡ Some (q, b) → AllBlock P start.channels s.words b v.seen → AllBlock P start.channels s.words b w.seen)
       → Rule (state s.words s.homes (set s.views id w))
   law-look s id v w r at shares held grab word made spare noted zeros seen blocks =
@@ -645,7 +645,7 @@ module _ {K : Type 0} (shape_of : K → Shape) (uses : K → ℕ → Bool) (read
       no-free w (inr (inr (inl a))) b = omega (arith, a, b)
       no-free w (inr (inr (inr a))) b = omega (arith, a, b)
 
-  word-of : (s : St K) (q : ℕ) (b : BodyValue K) (h : Option ℕ) → Stands s q b h → IsFree (get_or s.words q 0) ⊎ IsTaken (get_or s.words q 0)
+  pub word-of : (s : St K) (q : ℕ) (b : BodyValue K) (h : Option ℕ) → Stands s q b h → IsFree (get_or s.words q 0) ⊎ IsTaken (get_or s.words q 0)
   word-of s q b None k = inl k.0
   word-of s q b (Some j) k = inr k.0
 

@@ -24,3 +24,4 @@ pub mod Rows
 pub mod Crews
 pub mod Openings
 pub mod Backs
+pub mod Strikes

@@ -34,7 +34,7 @@ use Rattle.flow_floor.specs.Turning.{turned_body, grab_after, GrabIn, Happens, A
 use Rattle.flow_floor.specs.Waking.{InList, Notes}
 use Rattle.flow_floor.specs.Law.{IsInput}
 use Rattle.flow_ring.specs.Words.{level_in, free_word}
-use Rattle.flow_floor.specs.Plays.{stamping, releasing, poking, held_after}
+use Rattle.flow_floor.specs.Plays.{tail, counting, striking, stamping, releasing, poking, held_after}
 use Rattle.flow_floor.specs.Workers.{Agrees, IsHeldBy, IsGrabbing, IsWaking}
 
 module _ {K : Type 0} (next : K → Hands → Answer → Outcome K → Type 0) where
@@ -141,6 +141,16 @@ woken next z n w w' h notes more q table slots shares grab held noted spare = re
   agrees = record { base = q.agrees.base; held = held ∙ q.agrees.held; rests = q.agrees.rests; whole = q.agrees.whole };
   slots = slots ∙ q.slots;
 }
+
+-- the first noted process was struck off
+pub struck : {K : Type 0} (next : K → Hands → Answer → Outcome K → Type 0) (z : TableId) (n : ℕ) (w w' : Worker K) (h : Held K) (notes more : List ℕ) → IsWaking next z n w h notes → w'.seat.table_id ≡ w.seat.table_id → w'.seat.me ≡ (striking w.seat.me.0, w.seat.me.1) → tail notes ≡ more → IsWaking next z n w' h more
+struck next z n w w' h notes more q table view rest =
+    woken next z n w w' h notes more q table (ap (λ m. m.1) view) (ap (λ m. m.0.shares) view) (ap (λ m. m.0.grab) view) (ap (λ m. m.0.held) view) (ap (λ m. m.0.noted) view ∙ ap tail q.noted ∙ rest) (ap (λ m. m.0.spare) view ∙ q.spare)
+
+-- a step was only counted
+pub unstruck : {K : Type 0} (next : K → Hands → Answer → Outcome K → Type 0) (z : TableId) (n : ℕ) (w w' : Worker K) (h : Held K) (notes : List ℕ) → IsWaking next z n w h notes → w'.seat.table_id ≡ w.seat.table_id → w'.seat.me ≡ (counting w.seat.me.0, w.seat.me.1) → IsWaking next z n w' h notes
+unstruck next z n w w' h notes q table view =
+    woken next z n w w' h notes notes q table (ap (λ m. m.1) view) (ap (λ m. m.0.shares) view) (ap (λ m. m.0.grab) view) (ap (λ m. m.0.held) view) (ap (λ m. m.0.noted) view ∙ q.noted) (ap (λ m. m.0.spare) view ∙ q.spare)
 
 -- a body took a turn at no connection
 pub held-turned : {K : Type 0} (next : K → Hands → Answer → Outcome K → Type 0) (z : TableId) (n : ℕ) (w w' : Worker K) (h h' : Held K) (r : ℕ) (e : Event) (f : BodyValue K → BodyValue K) → IsHeldBy next z n w h → w'.seat.table_id ≡ w.seat.table_id → w'.seat.me.0 ≡ stamping w.seat.me.0 r e f

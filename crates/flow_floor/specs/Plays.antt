@@ -81,6 +81,10 @@ module _ {K : Type 0} where
   abbrev pub raising : View K → View K
   raising v = record (counting v) { spare = v.spare + 1 }
 
+  -- The first noted process is struck off.
+  abbrev pub striking : View K → View K
+  striking v = record (counting v) { noted = tail v.noted }
+
   abbrev pub poking : View K → ℕ → View K
   poking v r = record (counting v) { noted = tail v.noted; spare = if r == 0 then v.spare - 1 else v.spare }
 
@@ -123,6 +127,14 @@ module _ {K : Type 0} where
 
   abbrev pub retired : Step (Slot K) → Sat K → ℕ → Sat K → Type 0
   retired st m r m' = m' ≡ (parking m.0, rest m.1)
+
+  -- The first noted process is struck off where its word says that it is ready, poked or done.
+  abbrev pub glanced : Step (Slot K) → Sat K → ℕ → Sat K → Type 0
+  glanced st m r m' = (1 < r → m' ≡ (striking m.0, m.1)) × (r ≤ 1 → m' ≡ (counting m.0, m.1))
+
+  -- It is struck off unless it was parked: where it was held it is poked now.
+  abbrev pub nudged : Step (Slot K) → Sat K → ℕ → Sat K → Type 0
+  nudged st m r m' = (r ≢ 0 → m' ≡ (striking m.0, m.1)) × (r ≡ 0 → m' ≡ (counting m.0, m.1))
 
   abbrev pub raised : Step (Slot K) → Sat K → ℕ → Sat K → Type 0
   raised st m r m' = m' ≡ (raising m.0, m.1)

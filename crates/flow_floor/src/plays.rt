@@ -1,5 +1,5 @@
 //! What each step tells.
-ghost use Rattle.flow_floor.specs.Plays.{ordered, claimed, grabbed, saw, stamped, released, left, parked, retired, raised, poked, lowered, told_live};
+ghost use Rattle.flow_floor.specs.Plays.{ordered, claimed, grabbed, saw, stamped, released, left, parked, retired, glanced, nudged, raised, poked, lowered, told_live};
 
 use crate::board::{Slot, View};
 use atomic_table::{Join, Play, Split};
@@ -112,6 +112,18 @@ pub struct Retire;
 
 impl<K: Component> Play<Slot<K>, View<K>> for Retire {
     ghost then = { retired };
+}
+
+pub struct Glance;
+
+impl<K: Component> Play<Slot<K>, View<K>> for Glance {
+    ghost then = { glanced };
+}
+
+pub struct Nudge;
+
+impl<K: Component> Play<Slot<K>, View<K>> for Nudge {
+    ghost then = { nudged };
 }
 
 pub struct Raise;
