@@ -1,2 +1,4 @@
 pub mod Attempts
 pub mod Crews
+pub mod Fairs
+pub mod Lined

@@ -1,0 +1,142 @@
+//! The calls of the ready line.
+ghost use Rattle.flow_limits.specs.declared.TheConstants.{PROCESS_LIMIT, WORKER_LIMIT};
+ghost use Rattle.flow_runner.specs.Fair.{times};
+ghost use Rattle.flow_runner.specs.Lines.{IsPassAt, IsAlone, IsNewPass, AreAllPasses, pushes_of, pops_of, line_room, parts_of, WasLast, WasFirst, WasFull, WasEmpty};
+ghost use Rattle.std.specs.Prelude.{◌≡◌, ℕ, ◌+◌, ◌<◌, ◌≤◌, ◌++◌, ◌∷◌, [], All, IfOk, IsFalse, IsTrue, MatchOption, length, sum_by, vec_capacity};
+
+use crate::line::{Begin, Cut, Line, LinePass, Puts, Size, Takes};
+use crossbeam_queue::RuledArrayQueue;
+use std::alloc::{AllocError, Global};
+use std::marker::Brand;
+use std::sync::Wait;
+
+impl Line {
+    /// Cuts the first pass into one for each worker. The first one comes last.
+    fn cut(&self, mut passes: Vec<LinePass>, mut first: LinePass, workers: u32) -> Vec<LinePass>
+        requires workers { (1 ≤ workers) × (workers ≤ WORKER_LIMIT) }
+        requires room { (passes.items ≡ []) × (workers ≤ vec_capacity passes) }
+        requires first { IsPassAt self.now first × IsNewPass first × IsAlone first }
+        ensures all { AreAllPasses self.now result.items }
+        ensures new { All IsNewPass result.items }
+        ensures count { length result.items ≡ workers }
+    {
+        for _i in 1..workers {
+            let pass = self.queue.another::<Cut>(&mut first.pass);
+            passes.push_reserved(LinePass { pass });
+        }
+        passes.push_reserved(first);
+        passes
+    }
+
+    fn open_as<S: Size>(
+        alloc: Global,
+        processes: u32,
+        workers: u32,
+    ) -> Result<(Line, Vec<LinePass>), AllocError>
+        requires size { S.most ≡ processes }
+        requires processes { (1 ≤ processes) × (processes ≤ PROCESS_LIMIT) }
+        requires workers { (1 ≤ workers) × (workers ≤ WORKER_LIMIT) }
+        ensures room { IfOk result (λ r. line_room r.0 ≡ processes) }
+        ensures all { IfOk result (λ r. AreAllPasses r.0 r.1.items) }
+        ensures new { IfOk result (λ r. All IsNewPass r.1.items) }
+        ensures count { IfOk result (λ r. length r.1.items ≡ workers) }
+    {
+        let left = Vec::with_capacity(alloc, processes as usize)?;
+        let passes = Vec::with_capacity(alloc, workers as usize)?;
+        let (queue, mut pass) = RuledArrayQueue::ruled(alloc, processes as usize)?;
+        let _ = queue.another::<Begin<S>>(&mut pass);
+        let line = Line {
+            queue,
+            processes,
+            left,
+        };
+        let passes = line.cut(passes, LinePass { pass }, workers);
+        Ok((line, passes))
+    }
+
+    /// An empty line for so many processes, and a pass for each worker.
+    pub fn open(
+        alloc: Global,
+        processes: u32,
+        workers: u32,
+    ) -> Result<(Line, Vec<LinePass>), AllocError>
+        requires processes { (1 ≤ processes) × (processes ≤ PROCESS_LIMIT) }
+        requires workers { (1 ≤ workers) × (workers ≤ WORKER_LIMIT) }
+        ensures room { IfOk result (λ r. line_room r.0 ≡ processes) }
+        ensures all { IfOk result (λ r. AreAllPasses r.0 r.1.items) }
+        ensures new { IfOk result (λ r. All IsNewPass r.1.items) }
+        ensures count { IfOk result (λ r. length r.1.items ≡ workers) }
+    {
+        Line::open_as::<Brand>(alloc, processes, workers)
+    }
+
+    /// The number becomes the last. False only where this call's step found the line full, and then nothing changed.
+    pub fn push<R: Wait>(&self, rt: &R, pass: &mut LinePass, process: u32) -> bool
+        requires pass { IsPassAt self.now pass.old }
+        requires range { process < line_room self.now }
+        ensures pass { IsPassAt self.now pass.new × (parts_of pass.new ≡ parts_of pass.old) }
+        ensures pushed { IsTrue result → (pushes_of pass.new ≡ pushes_of pass.old ++ process ∷ []) × (pops_of pass.new ≡ pops_of pass.old) × WasLast self.now process pass.new }
+        ensures full { IsFalse result → (pushes_of pass.new ≡ pushes_of pass.old) × (pops_of pass.new ≡ pops_of pass.old) × WasFull self.now pass.old }
+        ensures alone { IsAlone pass.old → (IsFalse result → length (pushes_of pass.old) ≡ length (pops_of pass.old) + line_room self.now) × (IsTrue result → length (pushes_of pass.old) < length (pops_of pass.old) + line_room self.now) }
+    {
+        match self.queue.push_as::<Puts, R>(rt, &mut pass.pass, process) {
+            Ok(()) => true,
+            Err(_) => false,
+        }
+    }
+
+    /// The first number, which leaves the line. `None` only where this call found the line empty at a moment.
+    pub fn pop<R: Wait>(&self, rt: &R, pass: &mut LinePass) -> Option<u32>
+        requires pass { IsPassAt self.now pass.old }
+        ensures pass { IsPassAt self.now pass.new × (parts_of pass.new ≡ parts_of pass.old) }
+        ensures popped { MatchOption result ((pushes_of pass.new ≡ pushes_of pass.old) × (pops_of pass.new ≡ pops_of pass.old) × WasEmpty self.now pass.old) (λ q. (q < line_room self.now) × (pushes_of pass.new ≡ pushes_of pass.old) × (pops_of pass.new ≡ pops_of pass.old ++ q ∷ []) × WasFirst self.now q pass.old) }
+        ensures alone { IsAlone pass.old → MatchOption result (length (pushes_of pass.old) ≡ length (pops_of pass.old)) (λ _. length (pops_of pass.old) < length (pushes_of pass.old)) }
+    {
+        self.queue.pop_as::<Takes, R>(rt, &mut pass.pass)
+    }
+
+    /// One pass takes in all others.
+    fn gather(&self, mut first: LinePass, mut passes: Vec<LinePass>) -> LinePass
+        requires all { AreAllPasses self.now (passes.items ++ first ∷ []) }
+        ensures pass { IsPassAt self.now result × IsAlone result }
+        ensures put { (q : ℕ) → times q (pushes_of result) ≡ sum_by (λ p. times q (pushes_of p)) (passes.items ++ first ∷ []) }
+        ensures taken { (q : ℕ) → times q (pops_of result) ≡ sum_by (λ p. times q (pops_of p)) (passes.items ++ first ∷ []) }
+    {
+        while let Some(LinePass { pass }) = passes.pop() {
+            self.queue.absorb::<Cut>(&mut first.pass, pass);
+        }
+        first
+    }
+
+    /// Pops until the line is empty. The pass is the only one.
+    fn drain<R: Wait>(self, rt: &R, mut only: LinePass) -> Vec<u32>
+        requires pass { IsPassAt self only × IsAlone only }
+        ensures { (q : ℕ) → times q (pushes_of only) ≡ times q (pops_of only) + times q result.items }
+    {
+        let Line {
+            queue,
+            processes: _,
+            mut left,
+        } = self;
+        queue.learn_as::<Takes>(&mut only.pass);
+        for _ in rt.forever() {
+            match queue.pop_as::<Takes, R>(rt, &mut only.pass) {
+                Some(process) => left.push_reserved(process),
+                None => return left,
+            }
+        }
+        unreachable!()
+    }
+
+    /// Ends the line, and gives what is left in it, in order: of each process what all passes pushed is what they popped and this.
+    pub fn close<R: Wait>(self, rt: &R, mut passes: Vec<LinePass>) -> Vec<u32>
+        requires all { AreAllPasses self passes.items }
+        ensures { (q : ℕ) → sum_by (λ p. times q (pushes_of p)) passes.items ≡ sum_by (λ p. times q (pops_of p)) passes.items + times q result.items }
+    {
+        let Some(first) = passes.pop() else {
+            unreachable!()
+        };
+        let only = self.gather(first, passes);
+        self.drain(rt, only)
+    }
+}
