@@ -1,6 +1,6 @@
 -- What a floor leaves when it is closed.
 use Rattle.std.proofs.lemmas.List.{length-map}
-use Rattle.std.specs.Prelude.{not}
+use Rattle.std.specs.Prelude.{not, ◌||◌}
 use Rattle.std.proofs.lemmas.Bool.Decides.{nat_tests}
 use Rattle.std.proofs.Common.{◌≡◌, ℕ, ◌+◌, ◌<◌, nat_eq, cond, Bool, true, false, List, [], length, arith, map, get_or, refl, ap, sym, subst, ◌∙◌, Some, None, slice_get, ◌⊎◌, inl, inr}
 use lib.ListN.{get_elem?}
@@ -68,22 +68,30 @@ not-over (stages.Told answer) is over = over
 not-over (stages.Wishing wish) is over = over
 not-over (stages.Closing i) is over = over
 
--- Who is neither parked nor over, and who is one of these.
-starves-true : (w : ℕ) (stage : Stage) → starves w stage ≡ true → (w ≡ 0 → ⊥) × (is_over_stage stage ≡ false)
-starves-true w stage is = by (nat_eq w 0) refl (is_over_stage stage) refl is
+-- Who is done and not over, and who isn't.
+starves-true : (w : ℕ) (stage : Stage) → starves w stage ≡ true → IsDoneWord w × (is_over_stage stage ≡ false)
+starves-true w stage is = by (nat_eq w 4) refl (nat_eq w 6) refl (is_over_stage stage) refl is
   where
-    by : (a : Bool) → nat_eq w 0 ≡ a → (b : Bool) → is_over_stage stage ≡ b → cond a false (not b) ≡ true → (w ≡ 0 → ⊥) × (is_over_stage stage ≡ false)
-    by true z b o is = absurd (let e : false ≡ true = is in cc)
-    by false z true o is = absurd (let e : false ≡ true = is in cc)
-    by false z false o is = (λ e. (let t : 0 < w = grind (arith, nat_tests) in omega (arith, t, e)), o)
+    by : (a : Bool) → nat_eq w 4 ≡ a → (b : Bool) → nat_eq w 6 ≡ b → (o : Bool) → is_over_stage stage ≡ o → cond (a || b) (not o) false ≡ true → IsDoneWord w × (is_over_stage stage ≡ false)
+    by true z b y false o is = (inl (let t : w ≡ 4 = grind (arith, nat_tests) in t), o)
+    by true z b y true o is = absurd (let e : false ≡ true = is in cc)
+    by false z true y false o is = (inr (let t : w ≡ 6 = grind (arith, nat_tests) in t), o)
+    by false z true y true o is = absurd (let e : false ≡ true = is in cc)
+    by false z false y b o is = absurd (let e : false ≡ true = is in cc)
 
-starves-false : (w : ℕ) (stage : Stage) → starves w stage ≡ false → (w ≡ 0) ⊎ IsOverStage stage
-starves-false w stage is = by (nat_eq w 0) refl (is_over_stage stage) refl is
+starves-false : (w : ℕ) (stage : Stage) → starves w stage ≡ false → IsDoneWord w → IsOverStage stage
+starves-false w stage is done = by (nat_eq w 4) refl (nat_eq w 6) refl (is_over_stage stage) refl is
   where
-    by : (a : Bool) → nat_eq w 0 ≡ a → (b : Bool) → is_over_stage stage ≡ b → cond a false (not b) ≡ false → (w ≡ 0) ⊎ IsOverStage stage
-    by true z b o is = inl (let t : w ≡ 0 = grind (arith, nat_tests) in t)
-    by false z true o is = inr (over-is stage o)
-    by false z false o is = absurd (let e : true ≡ false = is in cc)
+    by : (a : Bool) → nat_eq w 4 ≡ a → (b : Bool) → nat_eq w 6 ≡ b → (o : Bool) → is_over_stage stage ≡ o → cond (a || b) (not o) false ≡ false → IsOverStage stage
+    by true z b y true o is = over-is stage o
+    by true z b y false o is = absurd (let e : true ≡ false = is in cc)
+    by false z true y true o is = over-is stage o
+    by false z true y false o is = absurd (let e : true ≡ false = is in cc)
+    by false z false y b o is = absurd (neither done)
+      where
+        neither : IsDoneWord w → ⊥
+        neither (inl e) = (let t : nat_eq w 4 ≡ true = grind (arith, nat_tests) in let u : false ≡ true = sym z ∙ t in cc)
+        neither (inr e) = (let t : nat_eq w 6 ≡ true = grind (arith, nat_tests) in let u : false ≡ true = sym y ∙ t in cc)
 
 module _ {K : Type 0} (shape_of : K → Shape) (uses : K → ℕ → Bool) (ready : K → Held → Answer → Type 0) (next : K → Held → Answer → Outcome K → Type 0) (start : NetValue K) where
   abbrev Rule : St K → Type 0
@@ -170,32 +178,32 @@ module _ {K : Type 0} (shape_of : K → Shape) (uses : K → ℕ → Bool) (read
   pub is-shut : (v : View K) (ws : List ℕ) (xs : List (Slot K)) (net : NetValue K) (c : Closes v ws xs) → c.now ≡ net → IsShut shape_of uses ready next start v.made net
   is-shut v ws xs net c is = subst (IsShut shape_of uses ready next start v.made) is (record { log = c.log; goes = c.goes; len = c.sizes.0; total = c.total; turns = c.turns })
 
-  -- where the worker read 0, the processes that are listed aren't set
-  pub starved-unset : (v : View K) (ws : List ℕ) (xs : List (Slot K)) (net : NetValue K) (m : ℕ) (starved : List ℕ) (c : Closes v ws xs) → c.now ≡ net → ListsStarved ws net.bodies m starved → v.read_zero ≡ true → AllUnset net starved
-  starved-unset v ws xs net m starved c is lists zero_read =
+  -- the processes that are listed aren't set
+  pub starved-unset : (v : View K) (ws : List ℕ) (xs : List (Slot K)) (net : NetValue K) (m : ℕ) (starved : List ℕ) (c : Closes v ws xs) → c.now ≡ net → ListsStarved ws net.bodies m starved → AllUnset net starved
+  starved-unset v ws xs net m starved c is lists =
       subst (λ (n : NetValue K). ListsStarved ws n.bodies m starved → AllUnset n starved) is
-      (λ l k d low. (let p = get_or starved k d in let a = l.each k d low in let t = starves-true (get_or ws p 0) a.0.process.stage a.2 in (a.0, a.1, unset p a.0 a.1 t.0 t.1 (c.words zero_read p a.0 a.1)))) lists
+      (λ l k d low. (let p = get_or starved k d in let a = l.each k d low in let t = starves-true (get_or ws p 0) a.0.process.stage a.2 in (a.0, a.1, retired a.0 t.1 (c.done p a.0 a.1 t.0)))) lists
     where
       retired : (b : BodyValue K) → is_over_stage b.process.stage ≡ false → IsRetired b → IsUnset b
       retired b left (inl over) = absurd (not-over b.process.stage left over)
       retired b left (inr unset) = unset
 
-      unset : (p : ℕ) (b : BodyValue K) → slice_get c.now.bodies p ≡ Some b → (get_or ws p 0 ≡ 0 → ⊥) → is_over_stage b.process.stage ≡ false → (get_or ws p 0 ≡ 0) ⊎ IsDoneWord (get_or ws p 0) → IsUnset b
-      unset p b there high left (inl parked) = absurd (high parked)
-      unset p b there high left (inr done) = retired b left (c.done p b there done)
-
-  -- where it read 0, and none is listed, the net is quiet
+  -- where the worker read 0, and none is listed, the net is quiet
   pub quiet-none : (v : View K) (ws : List ℕ) (xs : List (Slot K)) (net : NetValue K) (starved : List ℕ) (c : Closes v ws xs) → c.now ≡ net → ListsStarved ws net.bodies (length net.bodies) starved → v.read_zero ≡ true → starved ≡ [] → IsQuietNet net
   quiet-none v ws xs net starved c is lists zero_read none =
       subst (λ (n : NetValue K). ListsStarved ws n.bodies (length n.bodies) starved → IsQuietNet n) is
       (λ l. record {
-        thought = λ p b there. thought p b there (rests l p b there (starves (get_or ws p 0) b.process.stage) refl);
-        quiet = c.quiet zero_read (λ p b there. rests l p b there (starves (get_or ws p 0) b.process.stage) refl);
+        thought = λ p b there. thought p b there (rests l p b there (c.words zero_read p b there));
+        quiet = c.quiet zero_read (λ p b there. rests l p b there (c.words zero_read p b there));
       }) lists
     where
-      rests : ListsStarved ws c.now.bodies (length c.now.bodies) starved → (p : ℕ) (b : BodyValue K) → slice_get c.now.bodies p ≡ Some b → (is : Bool) → starves (get_or ws p 0) b.process.stage ≡ is → (get_or ws p 0 ≡ 0) ⊎ IsOverStage b.process.stage
-      rests l p b there true is = absurd (subst (InList p) none (l.all p b (get-within c.now.bodies p b there) there is))
-      rests l p b there false is = starves-false (get_or ws p 0) b.process.stage is
+      over : ListsStarved ws c.now.bodies (length c.now.bodies) starved → (p : ℕ) (b : BodyValue K) → slice_get c.now.bodies p ≡ Some b → (is : Bool) → starves (get_or ws p 0) b.process.stage ≡ is → IsDoneWord (get_or ws p 0) → IsOverStage b.process.stage
+      over l p b there true is done = absurd (subst (InList p) none (l.all p b (get-within c.now.bodies p b there) there is))
+      over l p b there false is done = starves-false (get_or ws p 0) b.process.stage is done
+
+      rests : ListsStarved ws c.now.bodies (length c.now.bodies) starved → (p : ℕ) (b : BodyValue K) → slice_get c.now.bodies p ≡ Some b → (get_or ws p 0 ≡ 0) ⊎ IsDoneWord (get_or ws p 0) → (get_or ws p 0 ≡ 0) ⊎ IsOverStage b.process.stage
+      rests l p b there (inl parked) = inl parked
+      rests l p b there (inr done) = inr (over l p b there (starves (get_or ws p 0) b.process.stage) refl done)
 
       thought : (p : ℕ) (b : BodyValue K) → slice_get c.now.bodies p ≡ Some b → (get_or ws p 0 ≡ 0) ⊎ IsOverStage b.process.stage → IsThoughtStage b.process.stage
       thought p b there (inl parked) = c.thought zero_read p b there parked

@@ -1,6 +1,7 @@
 -- Lists of workers.
-use Rattle.std.proofs.Common.{◌≡◌, ℕ, zero, suc, ◌+◌, ◌<◌, List, [], ◌∷◌, ◌++◌, All, length, get_or, sym, ap, ◌∙◌, arith}
-use Rattle.std.specs.Prelude.{sum_by}
+use Rattle.std.proofs.Common.{◌≡◌, ℕ, zero, suc, ◌+◌, ◌<◌, Bool, true, false, List, [], ◌∷◌, ◌++◌, All, length, get_or, refl, sym, ap, ◌∙◌, arith}
+use Rattle.std.specs.Prelude.{sum_by, ◌||◌}
+use Rattle.std.specs.List.{list_any}
 use Rattle.std.proofs.lemmas.List.Elements.{All-append}
 use Rattle.std.proofs.lemmas.List.Sums.{sum_by-append}
 use Rattle.atomic_table.specs.Seated.{TableId}
@@ -16,6 +17,12 @@ use Rattle.flow_floor.proofs.Shutting.{All-one, All-front, All-last}
 -- One more of which it holds.
 pub all-push : {X : Type 0} (P : X → Type 0) (xs : List X) (x : X) → All P xs → P x → All P (xs ++ x ∷ [])
 all-push P xs x a p = All-append P xs (x ∷ []) a (All-one P x p)
+
+either-way : (a b : Bool) → (a || (b || false)) ≡ ((b || a) || false)
+either-way true true = refl
+either-way true false = refl
+either-way false true = refl
+either-way false false = refl
 
 module _ {K : Type 0} where
   shares : Worker K → ℕ
@@ -57,3 +64,24 @@ module _ {K : Type 0} where
   made-pair [] a b c is = sym is
   made-pair (x ∷ []) a b c is = ap (merge x.seat.me.0.made) (sym is)
   made-pair (x ∷ y ∷ xs) a b c is = ap (merge x.seat.me.0.made) (made-pair (y ∷ xs) a b c is)
+
+  -- Whether some of these workers once read 0.
+  abbrev pub some_zero : List (Worker K) → Bool
+  some_zero ws = list_any (λ (w : Worker K). w.seat.me.0.read_zero) ws
+
+  -- Some of two read 0 where the one that took in the other has it so.
+  pub zero-pair : (xs : List (Worker K)) (a b c : Worker K) → c.seat.me.0.read_zero ≡ (b.seat.me.0.read_zero || a.seat.me.0.read_zero) → some_zero ((xs ++ a ∷ []) ++ b ∷ []) ≡ some_zero (xs ++ c ∷ [])
+  zero-pair [] a b c is = either-way a.seat.me.0.read_zero b.seat.me.0.read_zero ∙ ap (λ z. z || false) (sym is)
+  zero-pair (x ∷ xs) a b c is = ap (λ z. x.seat.me.0.read_zero || z) (zero-pair xs a b c is)
+
+  pub zero-one : (a : Worker K) → some_zero (a ∷ []) ≡ true → a.seat.me.0.read_zero ≡ true
+  zero-one a is = by a.seat.me.0.read_zero is
+    where
+      by : (z : Bool) → (z || false) ≡ true → z ≡ true
+      by true e = refl
+      by false e = e
+
+  -- Where each of them read 0 some did, since all together have shares.
+  pub zero-each : (z : TableId) (ws : List (Worker K)) → IsCrew z ws → All (λ (w : Worker K). w.seat.me.0.read_zero ≡ true) ws → some_zero ws ≡ true
+  zero-each z [] crew each = absurd (omega (arith, crew.1))
+  zero-each z (w ∷ ws) crew each = ap (λ b. b || some_zero ws) (each 0 w (omega arith))

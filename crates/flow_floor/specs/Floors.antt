@@ -1,5 +1,6 @@
 -- What callers of other crates say of a floor, its workers and what they hold.
 use Rattle.std.specs.Prelude.{◌≡◌, ℕ, Bool, true, false, List, []}
+use Rattle.std.specs.List.{list_any}
 use Rattle.flow_packet.specs.Held.{Held as Hands}
 use Rattle.flow_component.specs.declared.Answer.{Answer}
 use Rattle.flow_component.specs.declared.Shape.{Shape}
@@ -41,6 +42,10 @@ module _ {K : Type 0} where
   -- The worker once read that no process is ready or held.
   abbrev pub HasReadZero : Worker K → Type 0
   HasReadZero w = (view w).read_zero ≡ true
+
+  -- Some of these workers once read so.
+  abbrev pub SomeReadZero : List (Worker K) → Type 0
+  SomeReadZero ws = list_any (λ w. (view w).read_zero) ws ≡ true
 
   -- The worker has made no turn, and hasn't read 0.
   abbrev pub IsNewWorker : Worker K → Type 0

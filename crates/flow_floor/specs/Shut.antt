@@ -1,5 +1,5 @@
 -- What lies in the slots of a floor that is closed.
-use Rattle.std.specs.Prelude.{◌≡◌, ℕ, ◌+◌, ◌<◌, ◌==◌, if◌then◌else◌, not, Bool, true, false, List, [], ◌∷◌, ◌++◌, All, length, Some, slice_get, slice_index}
+use Rattle.std.specs.Prelude.{◌≡◌, ℕ, ◌+◌, ◌<◌, ◌==◌, ◌||◌, if◌then◌else◌, not, Bool, true, false, List, [], ◌∷◌, ◌++◌, All, length, Some, slice_get, slice_index}
 use mathlib.Core.Option.{some}
 use lib.ListN.{get_elem?}
 use Rattle.flow_packet.specs.Held.{Held}
@@ -41,16 +41,16 @@ is_over_stage (stages.Told answer) = false
 is_over_stage (stages.Wishing wish) = false
 is_over_stage (stages.Closing i) = false
 
--- Whether a process with this word, at this stage, is neither parked nor over.
+-- Whether a process with this word, at this stage, is done and yet not over: it was retired since its thought found no memory.
 abbrev pub starves : ℕ → Stage → Bool
-starves word stage = if word == 0 then false else not (is_over_stage stage)
+starves word stage = if (word == 4) || (word == 6) then not (is_over_stage stage) else false
 
 -- A list with one more process, if it is to be listed.
 abbrev pub listed : List ℕ → ℕ → Bool → List ℕ
 listed starved process true = starved ++ process ∷ []
 listed starved process false = starved
 
--- Each process that is listed is neither parked nor over, and each of those below m is listed.
+-- Each process that is listed is done and not over, and each of those below m is listed.
 pub record ListsStarved {K : Type 0} (words : List ℕ) (bodies : List (BodyValue K)) (m : ℕ) (starved : List ℕ) : Type 0 where
   pub each : All (λ p. (b : BodyValue K) × (slice_get bodies p ≡ Some b) × (starves (slice_index words p) b.process.stage ≡ true)) starved
   pub all : (p : ℕ) (b : BodyValue K) → p < m → slice_get bodies p ≡ Some b → starves (slice_index words p) b.process.stage ≡ true → InList p starved

@@ -2,7 +2,7 @@
 ghost use Rattle.std.specs.Prelude.{◌≡◌, ◌≢◌, ◌+◌, ◌++◌, ◌-◌, ◌<◌, ◌≤◌, ◌||◌, [], ◌∷◌, All, length, sum_by, true, vec_capacity};
 ghost use Rattle.flow_limits.specs.declared.TheConstants.{WORKER_LIMIT};
 ghost use Rattle.flow_floor.specs.Crew.{made_by};
-ghost use Rattle.flow_floor.specs.Floors.{IsCrewOf, IsIdleAt, IsNewWorker, HasReadZero};
+ghost use Rattle.flow_floor.specs.Floors.{IsCrewOf, IsIdleAt, IsNewWorker, HasReadZero, SomeReadZero};
 ghost use Rattle.flow_floor.specs.Workers.{view, IsIdle};
 ghost use Rattle.flow_floor.specs.Plays.{cut, merged};
 ghost use Rattle.flow_floor.specs.Seats.{newcomer};
@@ -63,7 +63,7 @@ impl<K: Component> Floor<K> {
         requires { IsCrewOf self.now (workers.items ++ first ∷ []) }
         ensures all { IsIdleAt self.now result × ((view result).shares ≡ WORKER_LIMIT) }
         ensures made { (view result).made ≡ made_by (workers.items ++ first ∷ []) }
-        ensures zero { HasReadZero first → HasReadZero result }
+        ensures zero { SomeReadZero (workers.items ++ first ∷ []) → HasReadZero result }
     {
         while let Some(worker) = workers.pop() {
             self.join(&mut first, worker);

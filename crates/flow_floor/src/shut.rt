@@ -5,7 +5,7 @@ ghost use Rattle.flow_ring.specs.Places.{word_count};
 ghost use Rattle.flow_ring.specs.Spaced.{ranked};
 ghost use Rattle.flow_limits.specs.declared.TheConstants.{WORKER_LIMIT};
 ghost use Rattle.flow_floor.specs.Crew.{made_by};
-ghost use Rattle.flow_floor.specs.Floors.{opened_net, HasReadZero, HasRoomsFor, IsCrewOf, IsIdleAt, turns_of};
+ghost use Rattle.flow_floor.specs.Floors.{opened_net, HasReadZero, SomeReadZero, HasRoomsFor, IsCrewOf, IsIdleAt, turns_of};
 ghost use Rattle.flow_machine.specs.Quiet.{AllUnset, IsQuietNet};
 ghost use Rattle.flow_floor.specs.Shut.{HasBodies, HasChannels, BodiesIn, ChannelsIn, IsShut, ListsStarved, is_over_stage, starves, listed};
 ghost use Rattle.flow_floor.specs.Workers.{view};
@@ -18,6 +18,10 @@ use flow_component::Component;
 use flow_machine::{Body, Channel, Closed as Shut, Parts, Stage};
 use flow_ring::Layout;
 use std::alloc::Global;
+
+const DONE: u64 = 4;
+
+const DONE_POKED: u64 = 6;
 
 /// Takes the bodies out of the first slots.
 fn take_bodies<K: Component>(
@@ -84,11 +88,15 @@ fn is_over<K: Component>(body: &Body<K>) -> bool
     }
 }
 
-/// A process with this word is neither parked nor over.
+/// A process with this word is done, and not over. One that is ready isn't starved: a floor may be paused.
 fn starves<K: Component>(word: u64, body: &Body<K>) -> bool
     ensures { result ≡ starves word body.now.process.stage }
 {
-    if word == 0 { false } else { !is_over(body) }
+    if word == DONE || word == DONE_POKED {
+        !is_over(body)
+    } else {
+        false
+    }
 }
 
 /// Lists the process, if it is to be listed.
@@ -103,7 +111,7 @@ fn with_starved(mut starved: Vec<u32>, process: u32, is: bool) -> Vec<u32>
     starved
 }
 
-/// The processes that are neither parked nor over.
+/// The processes that are done and not over.
 fn list_starved<K: Component>(
     closed: &Closed<Slot<K>, Global>,
     layout: Layout,
@@ -132,7 +140,7 @@ impl<K: Component> Floor<K> {
         requires all { (view worker).shares ≡ WORKER_LIMIT }
         requires rooms { HasRoomsFor self rooms }
         ensures net { IsShut K.shape_of K.uses K.ready K.next (opened_net self) (turns_of worker) result.net }
-        ensures starved { HasReadZero worker → AllUnset result.net result.starved.items }
+        ensures starved { AllUnset result.net result.starved.items }
         ensures quiet { HasReadZero worker → result.starved.items ≡ [] → IsQuietNet result.net }
     {
         let Worker { seat } = worker;
@@ -171,8 +179,8 @@ impl<K: Component> Floor<K> {
         requires crew { IsCrewOf self workers.items }
         requires rooms { HasRoomsFor self rooms }
         ensures net { IsShut K.shape_of K.uses K.ready K.next (opened_net self) (made_by workers.items) result.net }
-        ensures starved { All HasReadZero workers.items → AllUnset result.net result.starved.items }
-        ensures quiet { All HasReadZero workers.items → result.starved.items ≡ [] → IsQuietNet result.net }
+        ensures starved { AllUnset result.net result.starved.items }
+        ensures quiet { SomeReadZero workers.items → result.starved.items ≡ [] → IsQuietNet result.net }
     {
         let mut workers = workers;
         let Some(last) = workers.pop() else {
@@ -191,6 +199,18 @@ impl<K: Component> Floor<K> {
         ensures net { IsShut K.shape_of K.uses K.ready K.next (opened_net self) (made_by workers.items) result.net }
         ensures starved { AllUnset result.net result.starved.items }
         ensures quiet { result.starved.items ≡ [] → IsQuietNet result.net }
+    {
+        self.rejoin(workers, rooms)
+    }
+
+    /// Puts the net together again, from all workers, whether or not they read 0. The opened net goes on to it by their turns, and it may be opened again.
+    /// It is quiet where some worker read 0 and no process found no memory. Takes no memory.
+    pub fn pause(self, workers: Vec<Worker<K>>, rooms: Rooms<K>) -> Shut<K>
+        requires crew { IsCrewOf self workers.items }
+        requires rooms { HasRoomsFor self rooms }
+        ensures net { IsShut K.shape_of K.uses K.ready K.next (opened_net self) (made_by workers.items) result.net }
+        ensures starved { AllUnset result.net result.starved.items }
+        ensures quiet { SomeReadZero workers.items → result.starved.items ≡ [] → IsQuietNet result.net }
     {
         self.rejoin(workers, rooms)
     }

@@ -1,8 +1,7 @@
 use Rattle.std.proofs.Common.{rules, ◌≡◌, ◌∙◌, [], ◌∷◌, ◌++◌, ap, sym, subst}
-use Rattle.std.specs.Prelude.{◌||◌}
-use Rattle.flow_floor.specs.Workers.{view, IsIdle}
+use Rattle.flow_floor.specs.Workers.{IsIdle}
 use Rattle.flow_floor.specs.Crew.{IsCrew, made_by}
-use Rattle.flow_floor.proofs.Crews.{crew-two, crew-pair, crew-one, made-pair}
+use Rattle.flow_floor.proofs.Crews.{crew-two, crew-pair, crew-one, made-pair, some_zero, zero-pair, zero-one}
 use Rattle.flow_floor.proofs.floor.Floor.gather.Goals as goal
 use Rattle.flow_floor.proofs.floor.Floor.gather.Goals.{In-Some}
 
@@ -21,7 +20,7 @@ loop-worker-preserved g c = let e = c.join.ensures in let i = c.loop-worker.inva
   crew-pair c.args.self.now.table.shared.table_id c.pop.new.self.items c.in-Some.worker c.loop-worker.first c.join.new.worker e.idle (ap (λ v. v.shares) e.both)
       (subst (λ xs. IsCrew c.args.self.now.table.shared.table_id (xs ++ c.loop-worker.first ∷ [])) c.in-Some.ensures.items i.0),
   sym (ap (λ xs. made_by (xs ++ c.loop-worker.first ∷ [])) c.in-Some.ensures.items ∙ made-pair c.pop.new.self.items c.in-Some.worker c.loop-worker.first c.join.new.worker (ap (λ v. v.made) e.both)) ∙ i.1,
-  λ zero_read. ap (λ v. v.read_zero) e.both ∙ ap (λ z. z || (view c.in-Some.worker).read_zero) (i.2 zero_read),
+  sym (ap (λ xs. some_zero (xs ++ c.loop-worker.first ∷ [])) c.in-Some.ensures.items ∙ zero-pair c.pop.new.self.items c.in-Some.worker c.loop-worker.first c.join.new.worker (ap (λ v. v.read_zero) e.both)) ∙ i.2,
 )
 
 pub returns-clause-all : goal.returns-clause-all
@@ -31,3 +30,7 @@ returns-clause-all g c = let e : c.loop-worker.workers.items ≡ [] = search rul
 pub returns-clause-made : goal.returns-clause-made
 returns-clause-made g c = let e : c.loop-worker.workers.items ≡ [] = search rules in
     ap (λ xs. made_by (xs ++ c.loop-worker.first ∷ [])) (sym e) ∙ c.loop-worker.invariant.1
+
+pub returns-clause-zero : goal.returns-clause-zero
+returns-clause-zero g c zero_read = let e : c.loop-worker.workers.items ≡ [] = search rules in
+    zero-one c.loop-worker.first (ap (λ xs. some_zero (xs ++ c.loop-worker.first ∷ [])) (sym e) ∙ c.loop-worker.invariant.2 ∙ zero_read)
