@@ -32,6 +32,10 @@ module _ {K : Type 0} where
     zero = subst HasReadZero left zero;
   }
 
+  -- A call that left a worker in the place of another, which holds nothing and has the other's share.
+  pub has-kept : (floor : Floor K) (old new before after : Worker K) → before ≡ old → after ≡ new → IsIdleAt floor after → HasSameShare before after → IsIdleAt floor new × HasSameShare old new
+  has-kept floor old new before after was left idle share = (subst (IsIdleAt floor) left idle, subst (λ w. HasSameShare old w) left (subst (λ w. HasSameShare w after) was share))
+
   -- Where each worker has served they are still all of the floor's.
   pub crew-served : (floor : Floor K) (xs ys : List (Worker K)) → IsCrewOf floor xs → length ys ≡ length xs → ((i : ℕ) (d : Worker K) → i < length xs → HasServed floor (get_or xs i d) (get_or ys i d)) → IsCrewOf floor ys
   crew-served floor xs ys crew same each = crew-each floor.table.shared.table_id xs ys crew same (λ i d lt. let h = each i d lt in (h.idle, h.share))

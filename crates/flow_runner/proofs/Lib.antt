@@ -2,3 +2,4 @@ pub mod Attempts
 pub mod Crews
 pub mod Fairs
 pub mod Lined
+pub mod Budgets

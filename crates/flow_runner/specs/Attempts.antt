@@ -1,8 +1,9 @@
 -- What an attempt at a turn says of the process.
+use Rattle.std.specs.Prelude.{◌≡◌, ℕ, ◌+◌, ◌≤◌, ◌⊎◌, List, length}
 use Rattle.flow_floor.specs.declared.floor.Floor.{Floor}
 use Rattle.flow_floor.specs.declared.floor.Worker.{Worker}
 use Rattle.flow_floor.specs.declared.floor.Held.{Held}
-use Rattle.flow_floor.specs.Floors.{IsStuckAt, IsOverAs}
+use Rattle.flow_floor.specs.Floors.{IsStuckAt, IsOverAs, HasReadZero, turns_of}
 use Rattle.flow_runner.specs.declared.work.Attempt.{Attempt}
 use Rattle.flow_runner.specs.declared.work.Attempt.TheVariants as attempts
 
@@ -13,3 +14,23 @@ module _ {K : Type 0} where
   MayGo floor w h (attempts.Over over) = IsOverAs over h
   MayGo floor w h attempts.Made = Unit {0}
   MayGo floor w h attempts.Busy = Unit {0}
+
+-- The turns of a worker before an attempt and after it: one more where one was made, and else the same.
+abbrev pub Adds : Attempt → List (ℕ × ℕ) → List (ℕ × ℕ) → Type 0
+Adds attempts.Made old new = length new ≡ length old + 1
+Adds attempts.Busy old new = new ≡ old
+Adds attempts.Blocked old new = new ≡ old
+Adds (attempts.Over over) old new = new ≡ old
+
+-- Each turn that was made is one less that is left.
+abbrev pub Spends : List (ℕ × ℕ) → ℕ → List (ℕ × ℕ) → ℕ → Type 0
+Spends old left new left' = length new + left' ≡ length old + left
+
+module _ {K : Type 0} where
+  -- The worker made so many turns, or has read 0 before that.
+  abbrev pub HasSpent : ℕ → Worker K → Worker K → Type 0
+  HasSpent budget old new = (length (turns_of new) ≤ length (turns_of old) + budget) × (HasReadZero new ⊎ (length (turns_of new) ≡ length (turns_of old) + budget))
+
+  -- The same of a worker that was new.
+  abbrev pub HasMade : ℕ → Worker K → Type 0
+  HasMade budget w = (length (turns_of w) ≤ budget) × (HasReadZero w ⊎ (length (turns_of w) ≡ budget))

@@ -4,8 +4,10 @@
 mod calls;
 mod crew;
 mod line;
+mod paused;
 mod serve;
 mod work;
 
 pub use crew::{RunStop, run};
 pub use line::{Line, LinePass};
+pub use paused::run_for;

@@ -1,5 +1,6 @@
 //! What one worker does.
-ghost use Rattle.flow_floor.specs.Floors.{HasReadZero, HasSameShare, IsIdleAt, IsSameWorker, process_count};
+ghost use Rattle.flow_floor.specs.Floors.{HasReadZero, HasSameShare, IsIdleAt, IsSameWorker, process_count, turns_of};
+ghost use Rattle.flow_runner.specs.Attempts.{Spends};
 ghost use Rattle.std.specs.Prelude.{◌≡◌, ◌≤◌};
 
 use crate::work::tend;
@@ -9,7 +10,7 @@ use flow_floor::{Floor, Worker};
 use std::sync::Wait;
 
 /// The process at which the worker of this number begins, so that the workers start out apart.
-fn first_of(number: usize, processes: usize) -> usize
+pub(crate) fn first_of(number: usize, processes: usize) -> usize
     ensures { result ≤ processes }
 {
     if processes == 0 {
@@ -26,15 +27,17 @@ fn pass<K: Component, G: Gate>(
     from: usize,
     to: usize,
     gate: &G,
+    left: &mut u64,
 ) -> bool
     requires idle { IsIdleAt floor.now worker.old }
     requires range { to ≤ process_count floor.now }
     ensures idle { IsIdleAt floor.now worker.new }
     ensures same { IsSameWorker worker.old worker.new }
+    ensures spends { Spends (turns_of worker.old) left.old (turns_of worker.new) left.new }
 {
     let mut tended = false;
     for process in from..to {
-        if tend(floor, worker, process, gate) {
+        if tend(floor, worker, process, gate, left) {
             tended = true;
         }
     }
@@ -42,19 +45,21 @@ fn pass<K: Component, G: Gate>(
 }
 
 /// Tends each process once, from this one on and round. False: nothing came of it.
-fn go_round<K: Component, G: Gate>(
+pub(crate) fn go_round<K: Component, G: Gate>(
     floor: &Floor<K>,
     worker: &mut Worker<K>,
     first: usize,
     gate: &G,
+    left: &mut u64,
 ) -> bool
     requires idle { IsIdleAt floor.now worker.old }
     requires first { first ≤ process_count floor.now }
     ensures idle { IsIdleAt floor.now worker.new }
     ensures same { IsSameWorker worker.old worker.new }
+    ensures spends { Spends (turns_of worker.old) left.old (turns_of worker.new) left.new }
 {
-    let behind = pass(floor, worker, first, floor.processes(), gate);
-    let before = pass(floor, worker, 0, first, gate);
+    let behind = pass(floor, worker, first, floor.processes(), gate, left);
+    let before = pass(floor, worker, 0, first, gate, left);
     behind || before
 }
 
@@ -74,7 +79,8 @@ pub(crate) fn serve<K: Component, G: Gate, R: Wait>(
     let first = first_of(number, floor.processes());
     let backoff = Backoff::new();
     for _ in rt.forever() {
-        if go_round(floor, worker, first, gate) {
+        let mut left = u64::MAX;
+        if go_round(floor, worker, first, gate, &mut left) {
             backoff.reset();
         } else if floor.live(worker) == 0 {
             return;

@@ -1,6 +1,6 @@
 //! What a worker does with one process.
-ghost use Rattle.flow_floor.specs.Floors.{IsHeldAt, IsIdleAt, IsSameWorker, IsWiredAt, process_count};
-ghost use Rattle.flow_runner.specs.Attempts.{MayGo};
+ghost use Rattle.flow_floor.specs.Floors.{IsHeldAt, IsIdleAt, IsSameWorker, IsWiredAt, process_count, turns_of};
+ghost use Rattle.flow_runner.specs.Attempts.{Adds, MayGo, Spends};
 ghost use Rattle.std.specs.Prelude.{◌≡◌, ◌<◌};
 
 use flow_component::{Component, Gate};
@@ -35,6 +35,7 @@ fn try_turn<K: Component, G: Gate>(
     ensures wired { IsWiredAt floor.now held.new }
     ensures may { MayGo floor.now worker.new held.new result }
     ensures same { IsSameWorker worker.old worker.new }
+    ensures adds { Adds result (turns_of worker.old) (turns_of worker.new) }
 {
     match held.think(gate) {
         Thought::Wishing => match floor.turn(worker, held) {
@@ -48,22 +49,27 @@ fn try_turn<K: Component, G: Gate>(
     }
 }
 
-/// Makes turns of the held process, up to a burst, while it has them.
+/// Makes turns of the held process, up to a burst and no more than are left, while it has them.
 fn work<K: Component, G: Gate>(
     floor: &Floor<K>,
     worker: &mut Worker<K>,
     held: &mut Held<K>,
     gate: &G,
+    left: &mut u64,
 ) -> Attempt
     requires held { IsHeldAt K.next floor.now worker.old held.old }
     requires wired { IsWiredAt floor.now held.old }
     ensures held { IsHeldAt K.next floor.now worker.new held.new }
     ensures may { MayGo floor.now worker.new held.new result }
     ensures same { IsSameWorker worker.old worker.new }
+    ensures spends { Spends (turns_of worker.old) left.old (turns_of worker.new) left.new }
 {
     for _turn in 0..BURST {
+        if *left == 0 {
+            return Attempt::Made;
+        }
         match try_turn(floor, worker, held, gate) {
-            Attempt::Made => {}
+            Attempt::Made => *left -= 1,
             Attempt::Busy => return Attempt::Busy,
             Attempt::Blocked => return Attempt::Blocked,
             Attempt::Over(over) => return Attempt::Over(over),
@@ -78,6 +84,7 @@ fn let_go<K: Component>(floor: &Floor<K>, worker: &mut Worker<K>, held: Held<K>,
     requires may { MayGo floor.now worker.old held last }
     ensures idle { IsIdleAt floor.now worker.new }
     ensures same { IsSameWorker worker.old worker.new }
+    ensures made { turns_of worker.new ≡ turns_of worker.old }
 {
     match last {
         Attempt::Made => floor.hand_back(worker, held),
@@ -93,15 +100,17 @@ pub(crate) fn tend<K: Component, G: Gate>(
     worker: &mut Worker<K>,
     process: usize,
     gate: &G,
+    left: &mut u64,
 ) -> bool
     requires idle { IsIdleAt floor.now worker.old }
     requires range { process < process_count floor.now }
     ensures idle { IsIdleAt floor.now worker.new }
     ensures same { IsSameWorker worker.old worker.new }
+    ensures spends { Spends (turns_of worker.old) left.old (turns_of worker.new) left.new }
 {
     match floor.claim(worker, process) {
         Claim::Held(mut held) => {
-            let last = work(floor, worker, &mut held, gate);
+            let last = work(floor, worker, &mut held, gate, left);
             let waits = matches!(&last, Attempt::Busy);
             let_go(floor, worker, held, last);
             !waits

@@ -1,0 +1,15 @@
+use Rattle.std.proofs.Common.{◌<◌, length, arith}
+use Rattle.flow_floor.proofs.Crews.{crew-each}
+use Rattle.flow_runner.proofs.Budgets.{made-new}
+use Rattle.flow_runner.proofs.Crews.{has-kept}
+use Rattle.flow_runner.proofs.paused.serve_all_for.Goals as goal
+
+pub returns-clause-crew : goal.returns-clause-crew
+returns-clause-crew g c = (
+  crew-each c.args.floor.now.table.shared.table_id c.args.crew.now c.for_each_mut.new.s c.requires.crew c.for_each_mut.auto.s
+      (λ i d lt. let at = (c.for_each_mut.ensures i d lt).1 in has-kept c.args.floor.now _ _ at.argument.now at.after_call.now at.argument_is at.left at.call.0 at.call.1.0),
+  c.for_each_mut.auto.s,
+)
+
+pub returns-clause-spent : goal.returns-clause-spent
+returns-clause-spent g c k d lt = let below : k < length c.args.crew.now = omega (arith, lt, c.for_each_mut.auto.s) in let at = (c.for_each_mut.ensures k d below).1 in made-new c.args.budget _ _ at.argument.now at.after_call.now at.argument_is at.left (c.requires.new k d below) at.call.1.1
