@@ -35,7 +35,7 @@ use Rattle.flow_floor.specs.Waking.{counts, InList, IsDoneWord, IsRetired, Words
 use Rattle.std.specs.Option.{option_map}
 use Rattle.std.specs.Prelude.{unwrap_or}
 use Rattle.flow_floor.specs.Rule.{Law}
-use Rattle.flow_floor.specs.Plays.{Sat, Below, tail, turn_of, look_at, looked, seeing, claiming, grabbing, held_after, stamping, releasing, leaving, parking, raising, poking, lowering, reading, HeldIn, claimed, grabbed, saw, stamped, released, left, parked, retired, raised, poked, lowered, told_live}
+use Rattle.flow_floor.specs.Plays.{Sat, Below, tail, turn_of, look_at, looked, seeing, claiming, refusing, grabbing, held_after, stamping, releasing, leaving, parking, raising, poking, lowering, reading, HeldIn, claimed, grabbed, saw, stamped, released, left, parked, retired, raised, poked, lowered, told_live}
 use Rattle.flow_floor.proofs.Seats.{put, at_inside, some_Some, get-exists, St, Homes, state}
 use Rattle.flow_floor.proofs.Channels.{one-receiver}
 use Rattle.flow_floor.proofs.Flows.{level-of, senders-of, level-held, senders-held, mine-holds, mine-grabs, flow-commit, flow-view, flow-claim, flow-leave, flow-grab, flow-release, flow-stamp}
@@ -201,10 +201,11 @@ module _ {K : Type 0} (shape_of : K → Shape) (uses : K → ℕ → Bool) (read
         (λ _. (b, f.fit.whole i b there.1, subst (λ n. IsWiredBody n b) (f.same.1 ∙ sym count) (f.fit.wired i b there.1), refl), λ other. absurd (other e)),
       )))
       (λ other. (
-        looked v i x,
+        refusing v i x,
         keeps,
         tt,
-        subst (λ (ws : List ℕ). Rule (state ws s.homes (set s.views id (looked v i x)))) (sym (ap (set s.words i) (miss x 2 1 other) ∙ same-words s.words i)) (law-looked s id i x v r at),
+        subst (λ (ws : List ℕ). Rule (state ws s.homes (set s.views id (refusing v i x)))) (sym (ap (set s.words i) (miss x 2 1 other) ∙ same-words s.words i))
+            (law-look s id v (refusing v i x) r at refl refl refl refl refl refl refl refl (r.flow.each_seat id v at).seen (λ q b h all. all)),
         (λ e. absurd (other e), λ _. refl),
       ))
 

@@ -26,10 +26,14 @@ abbrev pub Below : ℕ → List (ℕ × ℕ) → Type 0
 Below n [] = Unit {0}
 Below n (turn ∷ turns) = (turn.0 < n) × Below n turns
 
--- A list without its first member.
+-- A list without its first member, and the first one alone.
 abbrev pub tail : List ℕ → List ℕ
 tail [] = []
 tail (x ∷ xs) = xs
+
+abbrev pub first : List ℕ → List ℕ
+first [] = []
+first (x ∷ xs) = x ∷ []
 
 module _ {K : Type 0} where
   -- The step, with its word by its number in their order.
@@ -53,7 +57,11 @@ module _ {K : Type 0} where
 
   -- Process p is held, with this body.
   abbrev pub claiming : View K → ℕ → BodyValue K → View K
-  claiming v p b = record (counting v) { held = Some (p, b); seen = [] }
+  claiming v p b = record (counting v) { held = Some (p, b); seen = []; asked = v.asked ++ p ∷ [] }
+
+  -- Process p was asked for, and its word was r.
+  abbrev pub refusing : View K → ℕ → ℕ → View K
+  refusing v p r = record (looked v p r) { asked = v.asked ++ p ∷ [] }
 
   abbrev pub grabbing : View K → ℕ → ℕ → ℕ → ChannelShown → View K
   grabbing v i r c k = record (seeing v i r) { grab = Some (c, k); word = r }
@@ -72,11 +80,16 @@ module _ {K : Type 0} where
   abbrev pub releasing : View K → List ℕ → View K
   releasing v notes = record (counting v) { grab = None; noted = notes ++ v.noted }
 
+  -- The process that is held, in a list.
+  abbrev pub held_one : Option (ℕ × BodyValue K) → List ℕ
+  held_one (Some held) = held.0 ∷ []
+  held_one None = []
+
   abbrev pub leaving : View K → View K
-  leaving v = record (counting v) { held = None; seen = [] }
+  leaving v = record (counting v) { held = None; seen = []; readied = v.readied ++ held_one v.held }
 
   abbrev pub parking : View K → View K
-  parking v = record (leaving v) { spare = v.spare + 1 }
+  parking v = record (counting v) { held = None; seen = []; spare = v.spare + 1 }
 
   abbrev pub raising : View K → View K
   raising v = record (counting v) { spare = v.spare + 1 }
@@ -86,7 +99,7 @@ module _ {K : Type 0} where
   striking v = record (counting v) { noted = tail v.noted }
 
   abbrev pub poking : View K → ℕ → View K
-  poking v r = record (counting v) { noted = tail v.noted; spare = if r == 0 then v.spare - 1 else v.spare }
+  poking v r = record (counting v) { noted = tail v.noted; spare = if r == 0 then v.spare - 1 else v.spare; readied = if r == 0 then v.readied ++ first v.noted else v.readied }
 
   abbrev pub lowering : View K → View K
   lowering v = record (counting v) { spare = v.spare - 1 }
@@ -103,7 +116,7 @@ module _ {K : Type 0} where
   WasSo shape_of uses ready held c k = (now : NetValue K) × FitNet shape_of uses ready now × (slice_get now.channels c ≡ Some k) × HeldIn now held
 
   abbrev pub claimed : ℕ → Step (Slot K) → Sat K → ℕ → Sat K → Type 0
-  claimed n st m r m' = (r ≡ 2 → (b : BodyValue K) × (b.leaving ≡ None) × IsWiredBody n b × (m' ≡ (claiming m.0 st.word b, (st.word, slot.Body b) ∷ m.1))) × (r ≢ 2 → m' ≡ (looked m.0 st.word r, m.1))
+  claimed n st m r m' = (r ≡ 2 → (b : BodyValue K) × (b.leaving ≡ None) × IsWiredBody n b × (m' ≡ (claiming m.0 st.word b, (st.word, slot.Body b) ∷ m.1))) × (r ≢ 2 → m' ≡ (refusing m.0 st.word r, m.1))
 
   abbrev pub grabbed : (K → Shape) → (K → ℕ → Bool) → (K → Held → Answer → Type 0) → ℕ → ℕ → Step (Slot K) → Sat K → ℕ → Sat K → Type 0
   grabbed shape_of uses ready c most st m r m' =

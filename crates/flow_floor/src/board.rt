@@ -43,6 +43,9 @@ pub struct View<K: Component> {
     pub read_zero: bool,
     pub steps: u64,
     pub look: Look,
+    /// The processes that it asked for, each time that it claimed one, and those that it made ready.
+    pub asked: LinkedList<u64>,
+    pub readied: LinkedList<u64>,
 }
 
 pub struct Lawful;

@@ -7,7 +7,7 @@ ghost use Rattle.flow_machine.specs.Thoughts.{Thinks, KeepsTurns};
 ghost use Rattle.flow_machine.specs.FitNets.{IsWiredBody};
 ghost use Rattle.flow_floor.specs.Floors.{process_count, connection_count, turns_of, HasReadZero, IsHeldAt, IsIdleAt, IsOverAs, IsSameWorker, IsStuckAt, IsWiredAt};
 ghost use Rattle.flow_floor.specs.Workers.{view, IsIdle, IsHeldBy, IsDone, MatchClaim};
-ghost use Rattle.flow_floor.specs.Plays.{looked, claiming, leaving, lowering, parking, reading};
+ghost use Rattle.flow_floor.specs.Plays.{looked, refusing, claiming, leaving, lowering, parking, reading};
 
 use crate::board::Slot;
 use crate::floor::{Claim, Floor, Held, Worker};
@@ -29,7 +29,7 @@ impl<K: Component> Floor<K> {
         requires spot { S.connection ≡ self.now.connections }
         requires worker { IsIdle self.now.table.shared.table_id worker.old }
         requires range { process < self.now.processes }
-        ensures { MatchClaim result (λ h. (h.process ≡ process) × IsHeldBy K.next self.now.table.shared.table_id self.now.processes worker.new h × IsWiredBody self.now.connections h.body × (view worker.new ≡ claiming (view worker.old) process h.body)) (λ n. (n ≢ 2) × IsIdle self.now.table.shared.table_id worker.new × (view worker.new ≡ looked (view worker.old) process n)) }
+        ensures { MatchClaim result (λ h. (h.process ≡ process) × IsHeldBy K.next self.now.table.shared.table_id self.now.processes worker.new h × IsWiredBody self.now.connections h.body × (view worker.new ≡ claiming (view worker.old) process h.body)) (λ n. (n ≢ 2) × IsIdle self.now.table.shared.table_id worker.new × (view worker.new ≡ refusing (view worker.old) process n)) }
     {
         let shared = &self.table.shared;
         let place = self.layout().process_word(process);
@@ -49,7 +49,7 @@ impl<K: Component> Floor<K> {
     pub fn claim(&self, worker: &mut Worker<K>, process: usize) -> Claim<K>
         requires worker { IsIdleAt self.now worker.old }
         requires range { process < process_count self.now }
-        ensures { MatchClaim result (λ h. (h.process ≡ process) × IsHeldAt K.next self.now worker.new h × IsWiredAt self.now h × (view worker.new ≡ claiming (view worker.old) process h.body)) (λ n. (n ≢ 2) × IsIdleAt self.now worker.new × (view worker.new ≡ looked (view worker.old) process n)) }
+        ensures { MatchClaim result (λ h. (h.process ≡ process) × IsHeldAt K.next self.now worker.new h × IsWiredAt self.now h × (view worker.new ≡ claiming (view worker.old) process h.body)) (λ n. (n ≢ 2) × IsIdleAt self.now worker.new × (view worker.new ≡ refusing (view worker.old) process n)) }
     {
         self.claim_at::<Brand>(worker, process)
     }
