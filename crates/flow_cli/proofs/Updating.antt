@@ -5,7 +5,7 @@ use Rattle.flow_catalogue.specs.declared.standard.Std.{Std}
 use Rattle.flow_catalogue.specs.Std.{std_shape, std_uses, StdReady}
 use Rattle.flow_ready.specs.Ready.{StartsPlans}
 use Rattle.flow_meanings.specs.Batches.{EndedCollates, BatchMeans}
-use Rattle.flow_meanings.specs.Outcomes.{AreComponentsOf}
+use Rattle.flow_determinate.specs.Standard.{AreFirstOf}
 use Rattle.flow_cli.specs.Causes.{Work}
 use Rattle.flow_cli.specs.Components.{AreComponents}
 use Rattle.flow_cli.specs.Meant.{LeavesMeaning}
@@ -19,7 +19,7 @@ collates-each starts collates w limit name workers plan last middle run front mi
     let of = run.ready in
     collates plan run.components front mid (starts plan run.components of.file.standard.valid (components-fit plan run.components (of.given, of.are_components))) (are-first plan of.given run.components of.are_components) prefix.first
 
-of-plan : (plan : Network) (given : List (List ℕ)) (ks : List Std) → AreComponents plan given ks → AreComponentsOf plan ks
+of-plan : (plan : Network) (given : List (List ℕ)) (ks : List Std) → AreComponents plan given ks → AreFirstOf plan ks
 of-plan plan given ks are p component at = let is = are.each p component at in record { process = is.2.process; there = is.2.there; file = is.0; made = is.2.made }
 
 -- A network that left what it means left its books.

@@ -26,7 +26,7 @@ use Rattle.flow_plan.specs.declared.plan.Sender.{Sender}
 use Rattle.flow_plan.specs.declared.plan.Process.{Process as PlanProcess}
 use Rattle.flow_plan.specs.declared.plan.Connection.{Connection as PlanConnection}
 use Rattle.flow_meanings.specs.Batches.{HasKind, HasNumber}
-use Rattle.flow_meanings.specs.Outcomes.{AreComponentsOf}
+use Rattle.flow_determinate.specs.Standard.{AreFirstOf}
 use Rattle.flow_meanings.proofs.Chaining.{get-there, any-there}
 
 -- digits have no space among them
@@ -72,7 +72,7 @@ connected-at plan p o c sends =
     same-number : (m n : ℕ) → m ≡ n → nat_eq m n ≡ true
     same-number m n e = grind (arith, nat_tests)
 
-module _ (plan : Plan) (ks : List Std) (are : AreComponentsOf plan ks) (each : length ks ≡ length plan.processes) where
+module _ (plan : Plan) (ks : List Std) (are : AreFirstOf plan ks) (each : length ks ≡ length plan.processes) where
   -- the component of a process, by its kind
   made-as : (p : ℕ) (kind : StdKind) (h : HasKind plan p kind) → (component : Std) × (file : List ℕ) × (slice_get ks p ≡ Some component) × (component ≡ first_component kind (given plan p h.process) file)
   made-as p kind h =

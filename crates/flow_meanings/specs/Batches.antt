@@ -21,7 +21,7 @@ use Rattle.flow_plan.specs.Network.{Network as Plan}
 use Rattle.flow_plan.specs.declared.plan.Process.{Process as PlanProcess}
 use Rattle.flow_meanings.specs.Means.{contents}
 use Rattle.flow_meanings.specs.Composition.{Composes, AreFirst}
-use Rattle.flow_meanings.specs.Outcomes.{AreComponentsOf}
+use Rattle.flow_determinate.specs.Standard.{AreFirstOf}
 
 -- Each Collate among these components that has ended has sent the collation of what its elements got.
 abbrev pub AreCollated : List Std → State Std → Type 0
@@ -91,4 +91,4 @@ WritesBooks plan ks wrote =
 
 -- So it is in each composition of a plan's components.
 abbrev pub BatchMeans : Type 0
-BatchMeans = (plan : Plan) (ks : List Std) (wrote : ℕ → List ℕ) → AreComponentsOf plan ks → Composes plan ks wrote → WritesBooks plan ks wrote
+BatchMeans = (plan : Plan) (ks : List Std) (wrote : ℕ → List ℕ) → AreFirstOf plan ks → Composes plan ks wrote → WritesBooks plan ks wrote

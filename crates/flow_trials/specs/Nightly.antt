@@ -8,7 +8,7 @@ use Rattle.flow_catalogue.specs.declared.standard.Std.{Std}
 use Rattle.flow_catalogue.specs.declared.standard.Std.TheVariants as components
 use Rattle.flow_meanings.specs.Batches.{IsBatch}
 use Rattle.flow_meanings.specs.Composition.{Composes}
-use Rattle.flow_meanings.specs.Outcomes.{AreComponentsOf}
+use Rattle.flow_determinate.specs.Standard.{AreFirstOf}
 use Rattle.flow_trials.specs.Telegram.{plain_row}
 
 -- A connection from an output of a process to an input of another.
@@ -52,5 +52,5 @@ details = codes "k1+7" ∷ codes "k2-9" ∷ codes "k3N4" ∷ []
 -- The network is a batch update; and in each composition of its components in which its readers have these lines, its writers have these files.
 pub record NightlyMeans : Type 0 where
   pub is_batch : IsBatch nightly 2 0 1 4 5
-  pub files : (ks : List Std) (wrote : ℕ → List ℕ) → AreComponentsOf nightly ks → Composes nightly ks wrote → slice_get ks 0 ≡ Some (components.ReadLines masters) → slice_get ks 1 ≡ Some (components.ReadLines details)
+  pub files : (ks : List Std) (wrote : ℕ → List ℕ) → AreFirstOf nightly ks → Composes nightly ks wrote → slice_get ks 0 ≡ Some (components.ReadLines masters) → slice_get ks 1 ≡ Some (components.ReadLines details)
       → (wrote 4 ≡ codes "k1M17\nk2M5\nk3M4\n") × (wrote 5 ≡ codes "k2-9\n")
