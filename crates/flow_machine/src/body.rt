@@ -177,6 +177,7 @@ impl<K: Component> Body<K> {
     }
 
     /// The kind of turn that its status and wish ask for.
+    #[inline(always)]
     pub fn case(&self) -> Case
         requires whole { self.now.leaving ≡ None }
         requires thought { IsThoughtStage self.now.process.stage }
@@ -195,6 +196,7 @@ impl<K: Component> Body<K> {
         }
     }
 
+    #[inline(always)]
     fn wish_case(&self, wish: Wish) -> Case
         requires whole { self.now.leaving ≡ None }
         requires wishes { self.now.process.stage ≡ Wishing wish }
@@ -222,6 +224,7 @@ impl<K: Component> Body<K> {
     }
 
     /// The packet of its wish leaves the hands. Only the effect of the send may follow.
+    #[inline(always)]
     pub fn outgoing(&mut self) -> Packet
         requires whole { self.old.leaving ≡ None }
         requires sends { WishesSend self.old.process.stage }

@@ -92,6 +92,7 @@ impl<K: Component> Net<K> {
     }
 
     /// Does the pending work of a process, if any, and takes the room of its next turn.
+    #[inline(always)]
     pub fn think<G: Gate>(&mut self, process: u32, gate: &G) -> Thought
         requires { process < length self.old.bodies }
         ensures { ThinksNet K.next self.old process result self.new }
@@ -100,6 +101,7 @@ impl<K: Component> Net<K> {
     }
 
     /// A turn of a process, if it has one. A level turn sees the exact length. Takes no memory.
+    #[inline(always)]
     pub fn turn(&mut self, process: u32, stamp: u32) -> Turn
         requires in_range { process < length self.old.bodies }
         requires set { IsSetIn self.old process }

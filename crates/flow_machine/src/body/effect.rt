@@ -149,6 +149,7 @@ impl<K: Component> Body<K> {
         self.stage = limited_stage(self.stamps.len(), stage);
     }
 
+    #[inline(always)]
     pub(crate) fn get(&mut self, packet: Packet, stamp: u32)
         requires room { HasRoom self.old }
         requires effect { IsEffectFor self.old.process self.old.leaving (Effect.Got packet) }
@@ -169,6 +170,8 @@ impl<K: Component> Body<K> {
         self.stage = limited_stage(self.stamps.len(), Stage::Told(Answer::End));
     }
 
+    #[cold]
+    #[inline(never)]
     pub(crate) fn receive_text(&mut self, stamp: u32)
         requires room { HasRoom self.old }
         requires effect { IsEffectFor self.old.process self.old.leaving Effect.Initial }
@@ -189,6 +192,7 @@ impl<K: Component> Body<K> {
         }
     }
 
+    #[inline(always)]
     pub(crate) fn finish_send(&mut self, stamp: u32)
         requires room { HasRoom self.old }
         requires effect { IsEffectFor self.old.process self.old.leaving Effect.Sent }
@@ -201,6 +205,8 @@ impl<K: Component> Body<K> {
         self.stage = limited_stage(self.stamps.len(), Stage::Told(Answer::Sent));
     }
 
+    #[cold]
+    #[inline(never)]
     pub(crate) fn learn(&mut self, level: u32, stamp: u32)
         requires room { HasRoom self.old }
         requires effect { IsEffectFor self.old.process self.old.leaving (Effect.Level level) }
@@ -211,6 +217,8 @@ impl<K: Component> Body<K> {
         self.stage = limited_stage(self.stamps.len(), Stage::Told(Answer::Level(level)));
     }
 
+    #[cold]
+    #[inline(never)]
     pub(crate) fn deactivate(&mut self, stamp: u32)
         requires room { HasRoom self.old }
         requires effect { IsEffectFor self.old.process self.old.leaving Effect.Deactivate }
@@ -221,6 +229,8 @@ impl<K: Component> Body<K> {
         self.stage = limited_stage(self.stamps.len(), Stage::Idle);
     }
 
+    #[cold]
+    #[inline(never)]
     pub(crate) fn close(&mut self, stamp: u32)
         requires room { HasRoom self.old }
         requires effect { IsEffectFor self.old.process self.old.leaving Effect.Closed }

@@ -46,6 +46,7 @@ fn judged_stage(depths: &[u32], hands: &Hands, wish: Wish) -> Stage
 impl<K: Component> Body<K> {
     /// Does the pending work, if any, and takes the room of the next turn. Without memory the same thought may be had again; an ended process finds what it needs. The gate is passed
     /// before each resume of the component.
+    #[inline(always)]
     pub fn think<G: Gate>(&mut self, gate: &G) -> Thought
         requires { self.old.leaving ≡ None }
         ensures thinks { Thinks K.next self.old result self.new }
@@ -82,6 +83,7 @@ impl<K: Component> Body<K> {
     }
 
     /// Does the pending work. False: there was no memory, and nothing has changed.
+    #[inline(always)]
     fn work(&mut self, answer: Answer) -> bool
         requires whole { self.old.leaving ≡ None }
         requires told { self.old.process.stage ≡ Told answer }

@@ -16,6 +16,7 @@ use flow_component::{Component, Port};
 use flow_model::Block;
 
 /// A receive takes the oldest packet; where there is none and no sender is open, it hears the end.
+#[inline(always)]
 pub(crate) fn receive<K: Component>(
     body: &mut Body<K>,
     channel: &mut Channel,
@@ -42,6 +43,7 @@ pub(crate) fn receive<K: Component>(
 }
 
 /// A send puts the packet of the wish where the connection has fewer packets than it takes.
+#[inline(always)]
 pub(crate) fn send<K: Component>(
     body: &mut Body<K>,
     channel: &mut Channel,
@@ -65,6 +67,8 @@ pub(crate) fn send<K: Component>(
 }
 
 /// An idle process starts, or goes to its end, or is dormant.
+#[cold]
+#[inline(never)]
 pub(crate) fn wake<K: Component>(body: &mut Body<K>, channels: &[Channel], stamp: u32) -> Turn
     requires whole { body.old.leaving ≡ None }
     requires stage { body.old.process.stage ≡ Idle }

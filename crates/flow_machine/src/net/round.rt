@@ -34,6 +34,7 @@ impl<K: Component> Closed<K> {
 
 impl<K: Component> Net<K> {
     /// Makes a turn of a process, if it has one. Takes no memory.
+    #[inline(always)]
     fn make_turn(&mut self, process: u32, stamp: u32) -> bool
         requires in_range { process < length self.old.bodies }
         requires set { IsSetIn self.old process }
@@ -51,6 +52,7 @@ impl<K: Component> Net<K> {
     }
 
     /// Does the pending work of a process, and takes the room of its next turn. False: there was no memory.
+    #[inline(always)]
     fn settle(&mut self, process: u32) -> bool
         requires { process < length self.old.bodies }
         ensures settles { OnTrue result (SettlesNet K.next self.old process self.new) }

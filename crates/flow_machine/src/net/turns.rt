@@ -12,6 +12,7 @@ use crate::channel::Channel;
 use flow_component::Component;
 
 /// A turn of a process, if it has one, where a level turn sees the exact length.
+#[inline(always)]
 pub(crate) fn turn_of<K: Component>(
     bodies: &mut [Body<K>],
     channels: &mut [Channel],
