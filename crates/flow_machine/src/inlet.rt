@@ -1,5 +1,5 @@
 //! What stands at the inputs of a process.
-ghost use Rattle.std.specs.Prelude.{◌≡◌, length, map, false, slice_get, unwrap_or, IfOk, OnErr, ◌≢◌, None};
+ghost use Rattle.std.specs.Prelude.{◌≡◌, length, map, false, slice_get, unwrap_or, IfOk, OnOk, OnErr, ◌≢◌, None};
 ghost use Rattle.std.specs.Option.{option_map};
 ghost use Rattle.flow_model.specs.Events.{is_connected, has_packet, has_ended, passes, holds_packet, is_over};
 ghost use Rattle.flow_model.specs.Stands.{look_shown};
@@ -91,10 +91,8 @@ pub(crate) fn is_fresh(fresh: &[bool], port: Port) -> bool
     fresh.get(port.0 as usize).copied().unwrap_or(false)
 }
 
-/// A copy of the initial text at a port, where it is fresh. Few turns receive a text, so it stands apart from what every turn does.
-#[cold]
-#[inline(never)]
-pub(crate) fn next_text(
+/// A copy of the initial text at a port, where it is fresh.
+fn next_text(
     inlets: &[Inlet],
     fresh: &[bool],
     port: Port,
@@ -110,4 +108,21 @@ pub(crate) fn next_text(
         Some(Inlet::Connection(_)) => Ok(None),
         None => Ok(None),
     }
+}
+
+/// Takes a copy of the initial text at a port, where it is fresh. Few turns receive a text, so it stands apart from what every turn does.
+#[cold]
+#[inline(never)]
+pub(crate) fn take_text(
+    copy: &mut Option<Vec<u8>>,
+    inlets: &[Inlet],
+    fresh: &[bool],
+    port: Port,
+) -> Result<(), AllocError>
+    ensures copy { OnOk result (option_map (λ text. text.items) copy.new ≡ text_taken (unwrap_or (slice_get fresh.now port.0) false) (slice_get (map input_shown inlets.now) port.0)) }
+    ensures stays { OnErr result (copy.new ≡ copy.old) }
+    ensures refused { OnErr result (text_taken (unwrap_or (slice_get fresh.now port.0) false) (slice_get (map input_shown inlets.now) port.0) ≢ None) }
+{
+    *copy = next_text(inlets, fresh, port)?;
+    Ok(())
 }

@@ -17,17 +17,27 @@ use flow_limits::TURN_LIMIT;
 use flow_model::Stage;
 use flow_packet::{Kind, Packet};
 
-/// A process that made its last turn fails by it, unless it has ended.
-fn limited_stage(turns: usize, stage: Stage) -> Stage
-    ensures { result ≡ limited turns stage }
+/// It has failed by its last turn.
+#[cold]
+#[inline(never)]
+fn fail_by_limit(stage: &mut Stage)
+    ensures { stage.new ≡ Stage.Failed Fail.TurnLimit }
 {
-    match stage {
-        Stage::Ended => Stage::Ended,
+    *stage = Stage::Failed(Fail::TurnLimit);
+}
+
+/// It comes to a stage by a turn. A process that made its last turn fails by it, unless it has ended.
+#[inline(always)]
+fn enter(stage: &mut Stage, turns: usize, next: Stage)
+    ensures { stage.new ≡ limited turns next }
+{
+    match next {
+        Stage::Ended => *stage = next,
         _ => {
             if turns == TURN_LIMIT {
-                Stage::Failed(Fail::TurnLimit)
+                fail_by_limit(stage);
             } else {
-                stage
+                *stage = next;
             }
         }
     }
@@ -136,7 +146,7 @@ impl<K: Component> Body<K> {
     {
         freshen(&mut self.fresh, &self.inlets);
         add_stamp(&mut self.stamps, stamp);
-        self.stage = limited_stage(self.stamps.len(), Stage::Told(Answer::Start));
+        enter(&mut self.stage, self.stamps.len(), Stage::Told(Answer::Start));
     }
 
     pub(crate) fn begin_closing(&mut self, stamp: u32)
@@ -146,7 +156,7 @@ impl<K: Component> Body<K> {
     {
         add_stamp(&mut self.stamps, stamp);
         let stage = closing_stage(&self.outputs, 0);
-        self.stage = limited_stage(self.stamps.len(), stage);
+        enter(&mut self.stage, self.stamps.len(), stage);
     }
 
     #[inline(always)]
@@ -158,7 +168,7 @@ impl<K: Component> Body<K> {
         let id = packet.id();
         self.hands.put(packet);
         add_stamp(&mut self.stamps, stamp);
-        self.stage = limited_stage(self.stamps.len(), Stage::Told(Answer::Got(id)));
+        enter(&mut self.stage, self.stamps.len(), Stage::Told(Answer::Got(id)));
     }
 
     pub(crate) fn hear_end(&mut self, stamp: u32)
@@ -167,7 +177,7 @@ impl<K: Component> Body<K> {
         ensures { TakesTurn self.old Effect.End stamp self.new }
     {
         add_stamp(&mut self.stamps, stamp);
-        self.stage = limited_stage(self.stamps.len(), Stage::Told(Answer::End));
+        enter(&mut self.stage, self.stamps.len(), Stage::Told(Answer::End));
     }
 
     #[cold]
@@ -183,11 +193,11 @@ impl<K: Component> Body<K> {
                 let id = self.hands.make_normal(text);
                 use_up(&mut self.fresh, port);
                 add_stamp(&mut self.stamps, stamp);
-                self.stage = limited_stage(self.stamps.len(), Stage::Told(Answer::Got(id)));
+                enter(&mut self.stage, self.stamps.len(), Stage::Told(Answer::Got(id)));
             }
             None => {
                 add_stamp(&mut self.stamps, stamp);
-                self.stage = limited_stage(self.stamps.len(), Stage::Told(Answer::End));
+                enter(&mut self.stage, self.stamps.len(), Stage::Told(Answer::End));
             }
         }
     }
@@ -202,7 +212,7 @@ impl<K: Component> Body<K> {
         deepen(&mut self.depths, port, self.leaving);
         self.leaving = None;
         add_stamp(&mut self.stamps, stamp);
-        self.stage = limited_stage(self.stamps.len(), Stage::Told(Answer::Sent));
+        enter(&mut self.stage, self.stamps.len(), Stage::Told(Answer::Sent));
     }
 
     #[cold]
@@ -214,7 +224,7 @@ impl<K: Component> Body<K> {
     {
         add_level(&mut self.levels, stamp, level as u16);
         add_stamp(&mut self.stamps, stamp);
-        self.stage = limited_stage(self.stamps.len(), Stage::Told(Answer::Level(level)));
+        enter(&mut self.stage, self.stamps.len(), Stage::Told(Answer::Level(level)));
     }
 
     #[cold]
@@ -226,7 +236,7 @@ impl<K: Component> Body<K> {
     {
         self.has_run = true;
         add_stamp(&mut self.stamps, stamp);
-        self.stage = limited_stage(self.stamps.len(), Stage::Idle);
+        enter(&mut self.stage, self.stamps.len(), Stage::Idle);
     }
 
     #[cold]
@@ -242,6 +252,6 @@ impl<K: Component> Body<K> {
             unreachable!()
         };
         let next = closing_stage(&self.outputs, place + 1);
-        self.stage = limited_stage(self.stamps.len(), next);
+        enter(&mut self.stage, self.stamps.len(), next);
     }
 }

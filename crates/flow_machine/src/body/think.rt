@@ -9,37 +9,55 @@ ghost use Rattle.flow_machine.specs.Thoughts.{Thinks, KeepsTurns, HasRoom, Worke
 
 use super::Body;
 use crate::answers::Thought;
-use crate::inlet::{is_fresh, next_text};
-use flow_component::{Answer, Component, Fail, Gate, Stop, Wish};
+use crate::inlet::{is_fresh, take_text};
+use flow_component::{Answer, Component, Fail, Gate, Port, Stop, Wish};
 use flow_limits::HANDS_LIMIT;
 use flow_model::Stage;
 use flow_packet::{Hands, Kind};
 use std::alloc::AllocError;
 
-/// The packets that hands may hold at their root.
+/// It fails, since its hands are full.
+#[cold]
+#[inline(never)]
+fn fail_by_hands(stage: &mut Stage)
+    ensures { stage.new ≡ Stage.Failed Fail.HandsLimit }
+{
+    *stage = Stage::Failed(Fail::HandsLimit);
+}
+
+/// It fails, since it would close what isn't open.
+#[cold]
+#[inline(never)]
+fn fail_unnested(stage: &mut Stage, port: Port)
+    ensures { stage.new ≡ Stage.Failed (Fail.Unnested port) }
+{
+    *stage = Stage::Failed(Fail::Unnested(port));
+}
+
 /// Where a wish leaves a process: it can't send a close packet at depth 0, and can't receive while its hands are full.
-fn judged_stage(depths: &[u32], hands: &Hands, wish: Wish) -> Stage
+#[inline(always)]
+fn judge(stage: &mut Stage, depths: &[u32], hands: &Hands, wish: Wish)
     requires { SendsHeld hands.now.packets wish }
-    ensures { result ≡ judged depths.now (held_of hands.now) wish }
+    ensures { stage.new ≡ judged depths.now (held_of hands.now) wish }
 {
     match wish {
         Wish::Receive(_) => {
             if hands.packets().len() < HANDS_LIMIT {
-                Stage::Wishing(wish)
+                *stage = Stage::Wishing(wish);
             } else {
-                Stage::Failed(Fail::HandsLimit)
+                fail_by_hands(stage);
             }
         }
         Wish::Send(port, id) => {
             let depth = depths.get(port.0 as usize).copied().unwrap_or(0);
             if depth == 0 && hands.kind(id) == Kind::Close {
-                Stage::Failed(Fail::Unnested(port))
+                fail_unnested(stage, port);
             } else {
-                Stage::Wishing(wish)
+                *stage = Stage::Wishing(wish);
             }
         }
-        Wish::Level(_) => Stage::Wishing(wish),
-        Wish::Deactivate => Stage::Wishing(wish),
+        Wish::Level(_) => *stage = Stage::Wishing(wish),
+        Wish::Deactivate => *stage = Stage::Wishing(wish),
     }
 }
 
@@ -93,7 +111,7 @@ impl<K: Component> Body<K> {
     {
         match self.component.resume(&mut self.hands, answer) {
             Ok(wish) => {
-                self.stage = judged_stage(&self.depths, &self.hands, wish);
+                judge(&mut self.stage, &self.depths, &self.hands, wish);
                 true
             }
             Err(Stop::Fail(cause)) => {
@@ -121,7 +139,7 @@ impl<K: Component> Body<K> {
         self.levels.reserve(1)?;
         if let Stage::Wishing(Wish::Receive(port)) = self.stage {
             if is_fresh(&self.fresh, port) {
-                self.copy = next_text(&self.inlets, &self.fresh, port)?;
+                take_text(&mut self.copy, &self.inlets, &self.fresh, port)?;
             }
         }
         Ok(())

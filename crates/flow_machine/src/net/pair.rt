@@ -59,8 +59,8 @@ pub(crate) fn send<K: Component>(
 {
     if channel.has_room() {
         let packet = body.outgoing();
-        channel.put(packet);
         body.finish_send(stamp);
+        channel.put(packet);
         return Turn::Made(stamp);
     }
     Turn::Blocked(Block::Full { connection, port })

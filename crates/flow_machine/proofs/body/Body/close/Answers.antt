@@ -21,5 +21,5 @@ invariant_of-self g c =
     let x : Process g.row.K.Denot = process_shown c.self.inside in
     let none : c.self.inside.leaving ≡ None = ap (λ (b : BodyValue g.row.K.Denot). b.leaving) c.self.view_is ∙ c.requires.effect.0 in
     let well : StandsWell g.K.Component.shape_of g.K.Component.uses g.K.Component.ready x = subst (IsBody g.K.Component.shape_of g.K.Component.uses g.K.Component.ready x) none c.self.invariant in
-    rw (none, c.limited_stage-self-inside.ensures, c.closing_stage-next.ensures, c.deref.ensures.value, c.len.ensures, c.add_stamp.ensures.len)
+    rw (none, c.enter.ensures, c.closing_stage-next.ensures, c.deref.ensures.value, c.len.ensures, c.add_stamp.ensures.len)
     (stands-closing g.K.Component.shape_of g.K.Component.uses g.K.Component.ready x _ (c.in-Closing.place + 1) well (turn-left g.K.Component.shape_of g.K.Component.uses g.K.Component.ready x well (ap least_left c.in-Closing.is)) refl)

@@ -19,4 +19,4 @@ invariant_of-self g c =
     let port : c.wished_port-port.result.0 ≡ c.requires.effect.1.0.0 = c.wished_port-port.ensures ∙ ap port_at stage in
     let after = stands-text g.K.Component.shape_of g.K.Component.uses g.K.Component.ready x c.requires.effect.1.0 c.in-Some.text.items well stage in
     let fresh = with_items_is c.self.inside.fresh c.use_up.new.fresh (search rules) in
-    rw (none, c.limited_stage-self-inside.ensures, c.len.ensures, c.add_stamp.ensures.len, c.make_normal-id.ensures.id, c.make_normal-id.ensures.made, fresh, c.use_up.ensures, c.deref_mut.ensures.value, port) after
+    rw (none, c.enter.ensures, c.len.ensures, c.add_stamp.ensures.len, c.make_normal-id.ensures.id, c.make_normal-id.ensures.made, fresh, c.use_up.ensures, c.deref_mut.ensures.value, port) after

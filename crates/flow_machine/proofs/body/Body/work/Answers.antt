@@ -18,7 +18,7 @@ invariant_of-self g c =
     let well : StandsWell g.K.Component.shape_of g.K.Component.uses g.K.Component.ready x = subst (IsBody g.K.Component.shape_of g.K.Component.uses g.K.Component.ready x) none c.self.invariant in
     let told : x.stage ≡ stages.Told c.args.answer = ap (λ (b : BodyValue g.row.K.Denot). b.process.stage) c.self.view_is ∙ c.requires.told in
     let outcome : Outcome g.row.K.Denot = Wishes c.resume.new.self (held_of c.resume.new.hands) c.in-Ok.wish in
-    let stage : c.judged_stage-self-inside.result ≡ judged c.self.inside.depths.items (held_of c.resume.new.hands) c.in-Ok.wish = c.judged_stage-self-inside.ensures ∙ ap (λ (ds : List ℕ). judged ds (held_of c.resume.new.hands) c.in-Ok.wish) c.deref.ensures.value in
+    let stage : c.judge.new.stage ≡ judged c.self.inside.depths.items (held_of c.resume.new.hands) c.in-Ok.wish = c.judge.ensures ∙ ap (λ (ds : List ℕ). judged ds (held_of c.resume.new.hands) c.in-Ok.wish) c.deref.ensures.value in
     let after : StandsWell g.K.Component.shape_of g.K.Component.uses g.K.Component.ready (worked x outcome) = stands-worked g.K.Component.shape_of g.K.Component.uses g.K.Component.ready g.K.Component.next g.met.K.Component.obeys g.met.K.Component.stays_ready g.met.K.Component.steady x c.args.answer outcome told c.in-Ok.ensures.0 well in
     rw (none, stage) after
 
@@ -40,7 +40,7 @@ returns-in-Ok-clause-worked g c =
     let well : StandsWell g.K.Component.shape_of g.K.Component.uses g.K.Component.ready x = subst (IsBody g.K.Component.shape_of g.K.Component.uses g.K.Component.ready x) none c.self.invariant in
     let told : x.stage ≡ stages.Told c.args.answer = ap (λ (b : BodyValue g.row.K.Denot). b.process.stage) c.self.view_is ∙ c.requires.told in
     let outcome : Outcome g.row.K.Denot = Wishes c.resume.new.self (held_of c.resume.new.hands) c.in-Ok.wish in
-    let stage : c.judged_stage-self-inside.result ≡ judged c.self.inside.depths.items (held_of c.resume.new.hands) c.in-Ok.wish = c.judged_stage-self-inside.ensures ∙ ap (λ (ds : List ℕ). judged ds (held_of c.resume.new.hands) c.in-Ok.wish) c.deref.ensures.value in
+    let stage : c.judge.new.stage ≡ judged c.self.inside.depths.items (held_of c.resume.new.hands) c.in-Ok.wish = c.judge.ensures ∙ ap (λ (ds : List ℕ). judged ds (held_of c.resume.new.hands) c.in-Ok.wish) c.deref.ensures.value in
     (rw (← c.self.view_is) (record { answer = c.args.answer; outcome = outcome; told = told; comes = c.in-Ok.ensures.0; process = rw stage refl; dropped = c.in-Ok.ensures.1 }), rw stage (thought-worked x outcome))
 
 pub returns-in-Err-Fail-clause-worked : goal.returns-in-Err-Fail-clause-worked
