@@ -93,6 +93,7 @@ impl Component for Std {
         }
     }
 
+    #[inline(always)]
     fn resume(&mut self, hands: &mut Hands, answer: Answer) -> Result<Wish, Stop> {
         match self {
             Std::ReadLines(component) => component.resume(hands, answer),
