@@ -36,11 +36,11 @@ same-numbers (x ∷ xs) (y ∷ ys) few less same =
 
 -- Bytes are the file of one journal at most.
 pub one-journal : HasOneJournal
-one-journal bytes j k few less first second =
+one-journal bytes j k first second =
     let a = parts-of j bytes first in
     let b = parts-of k bytes second in
     let cut = same-front j.turns k.turns (numbers_written j.seen) (numbers_written k.seen) (sym a.turns ∙ b.turns) (sym a.rest ∙ b.rest) in
-    (cut.0, same-numbers j.seen k.seen few less cut.1)
+    (cut.0, same-numbers j.seen k.seen first.numbers second.numbers cut.1)
 
 -- Bytes that are the file of a journal have no fault.
 pub journal-or-fault : HasJournalOrFault

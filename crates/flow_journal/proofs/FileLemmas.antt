@@ -1,5 +1,6 @@
 -- Numbers in bytes, and the parts of a journal file.
-use Rattle.std.proofs.Common.{◌≡◌, ℕ, ◌+◌, ◌*◌, ◌<◌, ◌≤◌, List, [], ◌∷◌, ◌++◌, length, take, drop, get_or, slice_get, Some, suc, zero, refl, ap, sym, ◌∙◌, arith, subst, append_assoc, append-nil, length-append}
+use Rattle.std.proofs.Common.{◌≡◌, ℕ, ◌+◌, ◌*◌, ◌<◌, ◌≤◌, ◌^◌, List, [], ◌∷◌, ◌++◌, length, take, drop, get_or, slice_get, Some, suc, zero, refl, ap, sym, ◌∙◌, arith, subst, append_assoc, append-nil, length-append}
+use Rattle.std.specs.Prelude.{All}
 use Rattle.std.specs.Int.{w16, w32, to_le_bytes, from_le_bytes}
 use Rattle.std.proofs.lemmas.List.{drop-drop, take-append-drop, length-take, length-drop}
 use Rattle.std.proofs.lemmas.Nat.{le_bytes_2, le_bytes_4, from_le_bytes-to_le_bytes_4}
@@ -111,8 +112,8 @@ numbers-done numbers (b ∷ rest) bytes count read less even = absurd (omega (ar
 
 -- what a whole file holds behind its header is the file of these turns and numbers
 pub file-of-parts : (bytes turns seen : List ℕ) → AreBytes bytes → HasHeader bytes → length bytes ≡ whole_length bytes → turns ≡ take (number_at bytes 8) (drop 16 bytes) → numbers_written seen ≡ drop (number_at bytes 8) (drop 16 bytes) → length seen ≡ number_at bytes 12
-    → IsFileOf (record { turns = turns; seen = seen }) bytes
-file-of-parts bytes turns seen small header whole turns_are seen_are count =
+    → All (λ n. n < 2 ^ 16) seen → IsFileOf (record { turns = turns; seen = seen }) bytes
+file-of-parts bytes turns seen small header whole turns_are seen_are count numbers =
     let m : ℕ = number_at bytes 8 in
     let n : ℕ = number_at bytes 12 in
     let turns_count : length turns ≡ m = ap length turns_are ∙ omega (arith, whole, length-take m (drop 16 bytes), length-drop 16 bytes) in
@@ -124,4 +125,4 @@ file-of-parts bytes turns seen small header whole turns_are seen_are count =
     let journal : Journal = record { turns = turns; seen = seen } in
     let same : bytes ≡ written journal =
     sym (take-append-drop 8 bytes) ∙ (λ i. header.turns.begins i ++ sym first i) ∙ ap (λ (xs : List ℕ). name ++ (to_le_bytes w32 (length turns) ++ xs)) (sym second) ∙ ap (λ (xs : List ℕ). name ++ (to_le_bytes w32 (length turns) ++ (to_le_bytes w32 (length seen) ++ xs))) (sym third) in
-    record { writable = record { turns = omega (arith, turns_count, header.turns.few); seen = omega (arith, turns_count, count, header.few) }; is = same }
+    record { writable = record { turns = omega (arith, turns_count, header.turns.few); seen = omega (arith, turns_count, count, header.few) }; numbers = numbers; is = same }

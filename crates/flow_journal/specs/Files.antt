@@ -25,9 +25,10 @@ pub record IsWritable (journal : Journal) : Type 0 where
   pub turns : length journal.turns ≤ RUN_LIMIT
   pub seen : length journal.seen ≤ length journal.turns
 
--- These bytes are the file of the journal.
+-- These bytes are the file of the journal, whose seen numbers fit into two bytes each.
 pub record IsFileOf (journal : Journal) (bytes : List ℕ) : Type 0 where
   pub writable : IsWritable journal
+  pub numbers : All (λ n. n < 2 ^ 16) journal.seen
   pub is : bytes ≡ written journal
 
 -- The number in the four bytes from a place on.
@@ -90,9 +91,9 @@ abbrev pub StopsReading : List ℕ → JournalStop → Type 0
 StopsReading bytes (Fault fault) = IsFault bytes fault.place
 StopsReading bytes NoMemory = Unit {0}
 
--- A file is that of one journal, where numbers of two bytes were seen.
+-- A file is that of one journal.
 abbrev pub HasOneJournal : Type 0
-HasOneJournal = (bytes : List ℕ) (j k : Journal) → All (λ n. n < 2 ^ 16) j.seen → All (λ n. n < 2 ^ 16) k.seen → IsFileOf j bytes → IsFileOf k bytes → (j.turns ≡ k.turns) × (j.seen ≡ k.seen)
+HasOneJournal = (bytes : List ℕ) (j k : Journal) → IsFileOf j bytes → IsFileOf k bytes → (j.turns ≡ k.turns) × (j.seen ≡ k.seen)
 
 -- The file of a journal has no fault.
 abbrev pub HasJournalOrFault : Type 0

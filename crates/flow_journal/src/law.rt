@@ -5,7 +5,7 @@ ghost use Rattle.flow_journal.specs.Replays.{StopsAreNoSchedules};
 use flow_component::Component;
 use flow_model::schedules_lead_to_one_state;
 
-/// A journal has one file, by its definition; a file is that of one journal, with numbers of two bytes. What has a fault is the file of no journal, and has
+/// A journal has one file, by its definition; a file is that of one journal. What has a fault is the file of no journal, and has
 /// that one fault.
 pub fn a_file_has_one_journal_or_one_fault()
     ensures journal { HasOneJournal }

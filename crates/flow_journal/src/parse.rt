@@ -1,5 +1,5 @@
 //! The journal of a file.
-ghost use Rattle.std.specs.Prelude.{◌≡◌, ◌+◌, ◌*◌, ◌<◌, ◌≤◌, ℕ, length, take, drop, slice_range, IfOk, IfErr, MatchOption};
+ghost use Rattle.std.specs.Prelude.{◌≡◌, ◌+◌, ◌*◌, ◌<◌, ◌≤◌, ◌^◌, ℕ, All, length, take, drop, slice_range, IfOk, IfErr, MatchOption};
 ghost use Rattle.flow_journal.specs.Files.{BeginsWithName, HasHeader, IsFileOf, IsFault, StopsReading, StraysFromName, number_at, numbers_written, whole_length};
 
 use crate::fault::{JournalFault, JournalStop};
@@ -84,7 +84,8 @@ fn parts_of(bytes: &[u8]) -> Result<(&[u8], &[u8]), JournalFault>
 
 /// Numbers of two bytes.
 fn numbers_of(alloc: Global, bytes: &[u8]) -> Result<Vec<u16>, AllocError>
-    ensures { (count : ℕ) → length bytes.now ≡ 2 * count → IfOk result (λ numbers. (numbers_written numbers.items ≡ bytes.now) × (length numbers.items ≡ count)) }
+    ensures written { (count : ℕ) → length bytes.now ≡ 2 * count → IfOk result (λ numbers. (numbers_written numbers.items ≡ bytes.now) × (length numbers.items ≡ count)) }
+    ensures small { IfOk result (λ numbers. All (λ n. n < 2 ^ 16) numbers.items) }
 {
     let mut numbers = Vec::with_capacity(alloc, bytes.len() / 2)?;
     let mut rest = bytes;
