@@ -26,10 +26,10 @@ unstuck b len (suc n) h e some = omega arith
 -- what a write to the created file does to the outside
 pub outside-write : (old : Shelved) (f : Folded) (n : ℕ) (bytes : List ℕ) → f ≡ record { files = f.files; created = old.created; room = old.room }
     → held f.files ≡ appended_to old.created bytes (held old.files) → taken_of old.created (held f.files) ≡ taken_of old.created (held old.files) ++ bytes
-    → outside_of (record old { files = f.files; created = f.created; room = f.room; writes = n; created_files = last_moved (length bytes) false old.created_files }) ≡ after_write (outside_of old) bytes
+    → outside_of (record old { files = f.files; created = f.created; room = f.room; writes = n; created_files = last_moved bytes false old.created_files }) ≡ after_write (outside_of old) bytes
 outside-write old f n bytes state grown taken =
-    ap (λ (g : Folded). outside_of (record old { files = g.files; created = g.created; room = g.room; writes = n; created_files = last_moved (length bytes) false old.created_files })) state
-    ∙ ap₂ (λ t files. record (outside_of old) { taken = Some t; files = Some files; created = last_moved (length bytes) false old.created_files }) taken grown
+    ap (λ (g : Folded). outside_of (record old { files = g.files; created = g.created; room = g.room; writes = n; created_files = last_moved bytes false old.created_files })) state
+    ∙ ap₂ (λ t files. record (outside_of old) { taken = Some t; files = Some files; created = last_moved bytes false old.created_files }) taken grown
 
 -- what a read gave, and what is left behind it
 pub read-part : (l buf new : List ℕ) (at n : ℕ) → n ≤ length l - at → at ≤ length l → new ≡ take n (drop at l)

@@ -1,15 +1,16 @@
-//! The files that a shelf opened or created, in order, and how much each of them gave or took.
+//! The files that a shelf opened or created, in order, and what each of them gave or took.
 ghost use Rattle.std.specs.Prelude.{◌≡◌, List, ◌∷◌, ◌++◌, [], OnOk, OnErr};
-ghost use Rattle.flow_text.specs.Edge.{Logged, begun, counted_on, last_moved, meets_end};
+ghost use Rattle.flow_text.specs.Edge.{Logged, begun, last_moved, meets_end};
 
+use crate::history::History;
 use std::alloc::{AllocError, Global};
 use std::marker::Model;
 
-/// A file of a log. Its count stands still at the end of its type.
+/// A file of a log. What it gave or took is a history that takes no memory.
 #[derive(Drop)]
 pub struct Entry {
     name: String,
-    bytes: u64,
+    given: History,
     ended: bool,
 }
 
@@ -48,7 +49,7 @@ impl Log {
         let name = String::from_str(self.alloc, name)?;
         self.files.push(Entry {
             name,
-            bytes: 0,
+            given: History::none(),
             ended: false,
         })?;
         Ok(())
@@ -61,25 +62,18 @@ impl Log {
         let _ = self.files.pop();
     }
 
-    /// The newest file gave or took so many bytes more, and may be at its end.
-    pub fn advance(&mut self, bytes: usize, ended: bool)
-        ensures { self.new ≡ last_moved bytes ended self.old }
+    /// The newest file gave or took these bytes more, and may be at its end.
+    pub fn advance(&mut self, bytes: &[u8], ended: bool)
+        ensures { self.new ≡ last_moved bytes.now ended self.old }
     {
         let count = self.files.len();
         if count == 0 {
             return;
         }
         let file = &mut self.files[count - 1];
-        file.bytes = counted_on(file.bytes, bytes);
+        file.given = file.given.and(bytes);
         file.ended = file.ended || ended;
     }
-}
-
-/// So many more, up to the end of the count's type.
-pub fn counted_on(count: u64, more: usize) -> u64
-    ensures { result ≡ counted_on count more }
-{
-    count.saturating_add(more as u64)
 }
 
 /// Whether a read into this buffer that gave so many bytes met the end.

@@ -4,7 +4,6 @@ ghost use Rattle.flow_text.specs.Edge.{Writes};
 
 use crate::edge::{Edge, Fault, Sink};
 use crate::folder::extend_within;
-use crate::log::counted_on;
 use crate::mem::{is_listed, is_stuck};
 use std::alloc::{AllocError, Global};
 use std::marker::Model;
@@ -18,7 +17,6 @@ pub struct MemSink {
     write_fails: Vec<u64>,
     writes: u64,
     write_faults: u64,
-    count: u64,
 }
 
 impl Model for MemSink {
@@ -34,7 +32,6 @@ impl Model for MemSink {
       writes = s.writes;
       write_fails = s.write_fails.items;
       write_faults = s.write_faults;
-      count = s.count;
     } };
 
     ghost invariant = { λ s. (1 ≤ s.piece) × (s.room ≤ vec_capacity s.bytes) };
@@ -60,7 +57,6 @@ impl MemSink {
             write_fails,
             writes: 0,
             write_faults: 0,
-            count: 0,
         })
     }
 
@@ -93,7 +89,6 @@ impl Sink for MemSink {
             return Err(Fault);
         }
         extend_within(&mut self.bytes, &bytes[..n]);
-        self.count = counted_on(self.count, n);
         Ok(n)
     }
 }

@@ -26,11 +26,9 @@ returns-clause-writes c =
     let n = c.saturating_add-self-inside.result in
     let f = c.append.new.self in
     let old = the_view c.self.inside in
-    let size : length written ≡ c.min-n.result = grind (arith, common_steps, length-take-le) in
-    let state = subst (λ (k : ℕ). outside_of (record old { files = f.files; created = f.created; room = f.room; writes = n; created_files = last_moved k false old.created_files }) ≡ after_write (outside_of old) written)
-    size (outside-write old f n written c.append.ensures.state c.append.ensures.grown c.append.ensures.taken) in (
+    let state = outside-write old f n written c.append.ensures.state c.append.ensures.grown c.append.ensures.taken in (
       ap (λ (files : List Logged). outside_of (record old { files = f.files; created = f.created; room = f.room; writes = n; created_files = files })) c.advance.ensures
-          ∙ subst (λ (s : Shelved). outside_of (record old { files = f.files; created = f.created; room = f.room; writes = n; created_files = last_moved c.min-n.result false old.created_files }) ≡ after_write (outside_of s) written)
+          ∙ subst (λ (s : Shelved). outside_of (record old { files = f.files; created = f.created; room = f.room; writes = n; created_files = last_moved written false old.created_files }) ≡ after_write (outside_of s) written)
           c.self.view_is state,
       grind (arith, common_steps),
       unstuck c.is_stuck.result (length bytes) c.min-n.result c.is_stuck.ensures.1 c.if-is_stuck.false,

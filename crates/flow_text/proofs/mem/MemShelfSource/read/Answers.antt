@@ -15,16 +15,16 @@ returns-clause-reads c =
     let new = c.copy_from_slice.new.self in
     let number = c.saturating_add-self-inside.result in
     let end = meets_end n (new ++ drop n c.args.buf.now) in
-    let moved : c.advance.new.self ≡ last_moved n end c.self.inside.opened =
-    c.advance.ensures ∙ ap (λ e. last_moved n e c.self.inside.opened) c.meets_end-ended.ensures in
+    let moved : c.advance.new.self ≡ last_moved (take n (new ++ drop n c.args.buf.now)) end c.self.inside.opened =
+    c.advance.ensures ∙ ap (λ e. last_moved (take n (new ++ drop n c.args.buf.now)) e c.self.inside.opened) c.meets_end-ended.ensures in
     let count : at + n - at ≡ n = omega arith in
     let is : new ≡ take n (drop at l) =
     c.copy_from_slice.ensures.after
     ∙ ap (λ k. take k (drop at c.deref-2.result.now)) count
     ∙ ap (λ (xs : List ℕ). take n (drop at xs)) c.deref-2.ensures.value in (
       ap (λ (files : List Logged). outside_of (record old { left = drop (at + n) l; reads = number; opened_files = files })) moved
-          ∙ subst (λ (s : Shelved). outside_of (record old { left = drop (at + n) l; reads = number; opened_files = last_moved n end old.opened_files })
-          ≡ after_read (outside_of s) (Some (drop (at + n) l)) n end) c.self.view_is refl,
+          ∙ subst (λ (s : Shelved). outside_of (record old { left = drop (at + n) l; reads = number; opened_files = last_moved (take n (new ++ drop n c.args.buf.now)) end old.opened_files })
+          ≡ after_read (outside_of s) (Some (drop (at + n) l)) (take n (new ++ drop n c.args.buf.now)) end) c.self.view_is refl,
       subst (λ (s : Shelved). s.left ≡ take n (new ++ drop n c.args.buf.now) ++ drop (at + n) l)
           c.self.view_is (read-part l c.args.buf.now new at n (grind (arith, common_steps)) c.self.invariant.1 is),
       grind (arith, common_steps),
