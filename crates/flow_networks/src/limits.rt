@@ -1,9 +1,10 @@
 //! The limits as the documents tell them. Code and definitions both cite the constants, so no contract refuses another number.
-use flow_cli::FILE_LIMIT;
+use flow_cli::{FILE_LIMIT, JOURNAL_FILE_LIMIT};
+use flow_journal::RUN_LIMIT;
 use flow_limits::{
     CAPACITY_LIMIT, CAPACITY_SUM_LIMIT, CONNECTION_LIMIT, ELEMENT_LIMIT, HANDS_LIMIT, LAST_ELEMENT,
     NUMBER_LIMIT, PORT_LIMIT, PROCESS_LIMIT, SENDER_LIMIT, STATEMENT_LIMIT, SUBNET_PROCESS_LIMIT,
-    TEXT_LIMIT, TURN_LIMIT,
+    TEXT_LIMIT, TURN_LIMIT, WORKER_LIMIT,
 };
 
 #[test]
@@ -23,7 +24,10 @@ fn the_limits_are_those_that_are_told(rt: HostRuntime) {
         (STATEMENT_LIMIT, 4_096),
         (SUBNET_PROCESS_LIMIT, 512),
         (NUMBER_LIMIT as usize, 100),
+        (WORKER_LIMIT as usize, 32),
         (FILE_LIMIT as usize, 16_777_216),
+        (JOURNAL_FILE_LIMIT as usize, 3_221_225_488),
+        (RUN_LIMIT, 1_073_741_824),
     ] {
         assert_eq!(rt; limit, told);
     }
