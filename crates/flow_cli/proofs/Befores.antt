@@ -13,7 +13,7 @@ use Rattle.flow_words.specs.Words.{Asked, Replay, asked_by, command_of}
 use Rattle.flow_parse.specs.declared.value.NetText.{NetText}
 use Rattle.flow_journal.specs.declared.merge.Journal.{Journal}
 use Rattle.flow_catalogue.specs.declared.standard.Std.{Std}
-use Rattle.flow_cli.specs.Step.{Filled, OnlyReads, FailsToRead, MayRead, Unended, IsRead, HoldsMore, whole, partly}
+use Rattle.flow_cli.specs.Step.{Filled, OnlyReads, FailsToRead, MayRead, Unended, IsRead, GivesMore, HoldsMore, whole}
 use Rattle.flow_cli.specs.Networks.{ReadsAs}
 use Rattle.flow_cli.specs.Components.{inputs_of, AreRead, IsNext, StopsAtFile, ReadsComponents}
 use Rattle.flow_cli.specs.Reads.{Asks, file_of, IsCommand, IsEmptyJournal, IsFile, IsJournalFile, IsBetween, IsReady, IsNextFile}
@@ -25,7 +25,7 @@ use Rattle.flow_cli.specs.declared.stop.JournalRefusal.TheVariants.{Byte, Turn}
 use Rattle.flow_cli.specs.declared.stop.Stop.{Stop}
 use Rattle.flow_cli.specs.declared.stop.Stop.TheVariants.{Words, Refused, JournalRefused, ReadFault, WriteFault, TooLong, NoMemory}
 use Rattle.flow_cli.proofs.Steps.{may-read, MayRead-trans}
-use Rattle.flow_cli.proofs.Readings.{OnlyReads-trans, FailsToRead-after, OnlyReads-files}
+use Rattle.flow_cli.proofs.Readings.{OnlyReads-trans, FailsToRead-after, GivesMore-after, OnlyReads-files}
 
 -- a call before it prints, up to some step
 abbrev pub so_far : List (String Global) → Outside → Outside → Journal → Work
@@ -64,7 +64,7 @@ file-stopped old new name (TooLong read) limit s = λ words journal command empt
   most = limit;
   next = inl (s.0, refl, refl);
   more = subst (λ (n : Name). HoldsMore old.files n limit) (sym s.0) s.2;
-  shelf = subst (λ (n : Name). OnlyReads old new (partly (limit + 1) n ∷ [])) (sym s.0) s.1;
+  shelf = subst (λ (n : Name). GivesMore old new [] n limit) (sym s.0) s.1;
   journal = empty;
 }
 file-stopped old new name NoMemory limit s = λ words journal command empty. inl (untouched (so_far words old new journal) s empty)
@@ -145,8 +145,8 @@ module _ (old mid new : Outside) (name kept net : Name) (text : NetText) (plan :
     most = JOURNAL_FILE_LIMIT;
     next = behind words asks (string_bytes read) r.0;
     more = subst (λ (n : Name). HoldsMore old.files n JOURNAL_FILE_LIMIT) (sym r.0) (subst (λ (t : Option Files). HoldsMore t kept JOURNAL_FILE_LIMIT) told r.2);
-    shelf = subst (λ (n : Name). OnlyReads old new (whole (name, net) ∷ partly (JOURNAL_FILE_LIMIT + 1) n ∷ [])) (sym r.0)
-        (OnlyReads-trans old mid new (whole (name, net) ∷ []) (partly (JOURNAL_FILE_LIMIT + 1) kept ∷ []) only r.1);
+    shelf = subst (λ (n : Name). GivesMore old new (whole (name, net) ∷ []) n JOURNAL_FILE_LIMIT) (sym r.0)
+        (GivesMore-after old mid new (whole (name, net) ∷ []) [] kept JOURNAL_FILE_LIMIT only r.1);
     journal = empty;
   }
   journal-stopped NoMemory may words journal asks empty = inl (untouched (so_far words old new journal) (MayRead-trans old mid new (may-read old mid _ only) may) empty)
@@ -225,9 +225,9 @@ module _ (old mid new : Outside) (name net : Name) (between : List Filled) (text
     most = limit;
     next = behind-between words is_between r.0 r.1 (string_bytes read) r.3.0 r.2;
     more = subst (λ (n : Name). HoldsMore old.files n limit) (sym r.3.0) (subst (λ (t : Option Files). HoldsMore t r.1 limit) told-between r.3.2);
-    shelf = subst (λ (n : Name). OnlyReads old new (map whole ((name, net) ∷ (between ++ r.0)) ++ partly (limit + 1) n ∷ [])) (sym r.3.0)
-        (subst (λ (l : List Logged). OnlyReads old new l) (opened-all r.0 (partly (limit + 1) r.1 ∷ []))
-        (OnlyReads-trans old mid new (map whole ((name, net) ∷ between)) (map whole r.0 ++ partly (limit + 1) r.1 ∷ []) only r.3.1));
+    shelf = subst (λ (n : Name). GivesMore old new (map whole ((name, net) ∷ (between ++ r.0))) n limit) (sym r.3.0)
+        (subst (λ (l : List Logged). GivesMore old new l r.1 limit) (all-read r.0)
+        (GivesMore-after old mid new (map whole ((name, net) ∷ between)) (map whole r.0) r.1 limit only r.3.1));
     journal = empty;
   }
   inputs-stopped NoMemory may words journal command is_between empty = inl (untouched (so_far words old new journal) (MayRead-trans old mid new (may-read old mid _ only) may) empty)

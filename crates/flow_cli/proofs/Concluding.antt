@@ -5,9 +5,10 @@ use Rattle.std.specs.declared.alloc.Global.{Global}
 use Rattle.flow_text.specs.Edge.{Outside}
 use Rattle.flow_component.specs.Laws.{AtMostOneOutcome}
 use Rattle.flow_catalogue.specs.Std.{std_shape, std_uses, StdReady, StdNext}
-use Rattle.flow_journal.specs.Files.{HasJournalOrFault}
+use Rattle.flow_journal.specs.Files.{HasJournalOrFault, HasOneJournal}
 use Rattle.flow_journal.specs.Replays.{StopsAreNoSchedules}
 use Rattle.flow_journal.specs.declared.merge.Journal.{Journal}
+use Rattle.flow_model.specs.Rising.{FinishedLeadsOn}
 use Rattle.flow_meanings.specs.Composition.{FinishedComposes}
 use Rattle.flow_ready.specs.Ready.{StartsPlans}
 use Rattle.flow_cli.specs.Meant.{LeavesMeaning}
@@ -37,11 +38,11 @@ done-over words o a n po pn (HasSaid said) outcome limit says did over =
     (said-well words o n po pn said outcome.status limit (says-behind words o a n said limit did.0 says) did.1 over)
 
 -- A finished one left what its network means.
-pub done-meaning : StartsPlans std_shape std_uses StdReady → FinishedComposes → (words : List (String Global)) (o a n po pn : Outside) (done : Done) (outcome : Outcome) (limit : ℕ) → Performs o a words (Ok done) limit
+pub done-meaning : StartsPlans std_shape std_uses StdReady → FinishedComposes → FinishedLeadsOn std_shape std_uses StdReady StdNext → (words : List (String Global)) (o a n po pn : Outside) (done : Done) (outcome : Outcome) (limit : ℕ) → Performs o a words (Ok done) limit
     → Concludes a n po pn done outcome → IsFinished outcome.status → LeavesMeaning (so_far words o n outcome.journal) limit
-done-meaning starts composes words o a n po pn (HasRan run) outcome limit has did finished =
-    subst (λ (j : Journal). LeavesMeaning (so_far words o n j) limit) (sym did.1) (meant starts composes words o a n po pn run outcome.status limit has did.0 finished)
-done-meaning starts composes words o a n po pn (HasSaid said) outcome limit says did finished =
+done-meaning starts composes rises words o a n po pn (HasRan run) outcome limit has did finished =
+    subst (λ (j : Journal). LeavesMeaning (so_far words o n j) limit) (sym did.1) (meant starts composes rises words o a n po pn run outcome.status limit has did.0 finished)
+done-meaning starts composes rises words o a n po pn (HasSaid said) outcome limit says did finished =
     subst (λ (j : Journal). LeavesMeaning (so_far words o n j) limit) (sym did.2)
     (said-meaning words o n po pn said outcome.status limit (says-behind words o a n said limit did.0 says) did.1)
 
@@ -61,12 +62,12 @@ done-status words o a n po pn (HasRan run) outcome limit has did is = ran-status
 done-status words o a n po pn (HasSaid said) outcome limit says did is =
     said-status words o n po pn said outcome.status limit (says-behind words o a n said limit did.0 says) did.1 is
 
--- Where no count rose and all is valid, it came to its end, or memory was wanting.
-pub done-complete : AtMostOneOutcome StdNext → StopsAreNoSchedules StdNext → HasJournalOrFault
+-- Where no count rose and all that was read is valid, it came to its end, or memory was wanting.
+pub done-complete : AtMostOneOutcome StdNext → StopsAreNoSchedules StdNext → HasJournalOrFault → HasOneJournal
     → (words : List (String Global)) (o a n po pn : Outside) (done : Done) (outcome : Outcome) (limit : ℕ) → Performs o a words (Ok done) limit → Concludes a n po pn done outcome
     → IsComplete (call_of words o n po pn outcome.journal outcome.status) limit
-done-complete one no_schedule apart words o a n po pn (HasRan run) outcome limit has did =
-    subst (λ (j : Journal). IsComplete (call_of words o n po pn j outcome.status) limit) (sym did.1) (ran-complete words o a n po pn run outcome.status limit has did.0 one no_schedule apart)
-done-complete one no_schedule apart words o a n po pn (HasSaid said) outcome limit says did =
+done-complete one no_schedule apart single words o a n po pn (HasRan run) outcome limit has did =
+    subst (λ (j : Journal). IsComplete (call_of words o n po pn j outcome.status) limit) (sym did.1) (ran-complete words o a n po pn run outcome.status limit has did.0 one no_schedule apart single)
+done-complete one no_schedule apart single words o a n po pn (HasSaid said) outcome limit says did =
     subst (λ (j : Journal). IsComplete (call_of words o n po pn j outcome.status) limit) (sym did.2)
     (said-complete words o n po pn said outcome.status limit (says-behind words o a n said limit did.0 says) did.1)

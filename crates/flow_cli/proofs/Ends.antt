@@ -3,13 +3,13 @@ use Rattle.std.proofs.Common.{◌≡◌, ◌⊎◌, ℕ, List, Some, None, inl, 
 use Rattle.std.specs.Prelude.{◌≢◌, String, IfSome}
 use Rattle.std.specs.declared.alloc.Global.{Global}
 use Rattle.std.specs.declared.option.Option.{Option}
-use Rattle.flow_text.specs.Edge.{Outside, Files, Rose}
+use Rattle.flow_text.specs.Edge.{Outside, Rose}
 use Rattle.flow_component.specs.Laws.{AtMostOneOutcome}
 use Rattle.flow_catalogue.specs.declared.standard.Std.{Std}
 use Rattle.flow_catalogue.specs.Std.{StdNext}
 use Rattle.flow_model.specs.States.{State}
 use Rattle.flow_model.specs.Verdicts.{Quiet}
-use Rattle.flow_journal.specs.Files.{HasJournalOrFault}
+use Rattle.flow_journal.specs.Files.{HasJournalOrFault, HasOneJournal}
 use Rattle.flow_journal.specs.Replays.{StopsAreNoSchedules}
 use Rattle.flow_report.specs.Text.{report_text}
 use Rattle.flow_report.specs.declared.report.Verdict.{Verdict}
@@ -19,7 +19,7 @@ use Rattle.flow_cli.specs.After.{Prints, verdict_status}
 use Rattle.flow_cli.specs.Many.{WritesAll}
 use Rattle.flow_cli.specs.Meant.{LeavesMeaning, ChangesNoName}
 use Rattle.flow_cli.specs.Statuses.{IsOver}
-use Rattle.flow_cli.specs.Top.{call_of, outputs_of_run, HasRun, Says, Finishes, IsReplay, IsCaused, ComesToEnd, IsValid, IsComplete}
+use Rattle.flow_cli.specs.Top.{call_of, outputs_of_run, HasRun, Says, Finishes, IsReplay, IsCaused, ComesToEnd, IsComplete}
 use Rattle.flow_cli.specs.declared.run.Said.{Said}
 use Rattle.flow_cli.specs.declared.run.Unwritten.{Unwritten}
 use Rattle.flow_cli.specs.declared.status.Status.{Status}
@@ -48,11 +48,10 @@ quiet-not-running s verdicts.Running quiet is e = absurd (is quiet)
 own-not-running : (po pn : Outside) (text : List ℕ) (own status : Status) → own ≢ statuses.Running → Prints po pn text own status → status ≢ statuses.Running
 own-not-running po pn text own status other p is = by-status po pn text own status (λ s. s ≡ statuses.Running) p other (λ x. cc) is
 
-own-complete : (told : Option Files) (P : Files → Type 0) (po pn : Outside) (text : List ℕ) (own status : Status) → IsOver own → Prints po pn text own status
-    → (Rose po.write_faults pn.write_faults → ⊥) → IfSome told (λ files. P files → IsOver status ⊎ (status ≡ statuses.NoMemory))
-own-complete None P po pn text own status over p quiet = tt
-own-complete (Some files) P po pn text own status over (inl p) quiet = λ valid. inl (subst IsOver (sym p.0) over)
-own-complete (Some files) P po pn text own status over (inr p) quiet = λ valid. absurd (quiet p.1.1.rose)
+own-complete : (po pn : Outside) (text : List ℕ) (own status : Status) → IsOver own → Prints po pn text own status
+    → (Rose po.write_faults pn.write_faults → ⊥) → IsOver status ⊎ (status ≡ statuses.NoMemory)
+own-complete po pn text own status over (inl p) quiet = inl (subst IsOver (sym p.0) over)
+own-complete po pn text own status over (inr p) quiet = absurd (quiet p.1.1.rose)
 
 -- a run, and what was written and printed of it
 module _ (words : List (String Global)) (o a n po pn : Outside) (run : Unwritten) (status : Status) (limit : ℕ) (has : HasRun o a words limit run) (did : Finishes a n po pn run status) where
@@ -94,11 +93,11 @@ module _ (words : List (String Global)) (o a n po pn : Outside) (run : Unwritten
   pub ran-status : status ≡ statuses.Running → IsReplay words
   ran-status is = absurd (ran-not-running is)
 
-  pub ran-complete : AtMostOneOutcome StdNext → StopsAreNoSchedules StdNext → HasJournalOrFault → IsComplete (call_of words o n po pn run.ran.journal status) limit
-  ran-complete one no_schedule apart quiet = go did where
-    go : Finishes a n po pn run status → IfSome o.files (λ files. IsValid files words limit → IsOver status ⊎ (status ≡ statuses.NoMemory))
-    go (inl (w, p)) = own-complete o.files (λ files. IsValid files words limit) po pn run.ran.told.report.items (verdict_status run.ran.told.verdict) status (over-any run.ran.told.verdict) p quiet.prints
-    go (inr (stop, w, p)) = stop-complete one no_schedule apart words o n po pn run.ran.journal status limit stop (stops-writing o a n words limit run has stop w) p quiet
+  pub ran-complete : AtMostOneOutcome StdNext → StopsAreNoSchedules StdNext → HasJournalOrFault → HasOneJournal → IsComplete (call_of words o n po pn run.ran.journal status) limit
+  ran-complete one no_schedule apart single quiet valid = go did where
+    go : Finishes a n po pn run status → IsOver status ⊎ (status ≡ statuses.NoMemory)
+    go (inl (w, p)) = own-complete po pn run.ran.told.report.items (verdict_status run.ran.told.verdict) status (over-any run.ran.told.verdict) p quiet.prints
+    go (inr (stop, w, p)) = stop-complete one no_schedule apart single words o n po pn run.ran.journal status limit stop (stops-writing o a n words limit run has stop w) p quiet valid
 
 -- what a call says that writes no file, and what was printed of it
 module _ (words : List (String Global)) (o n po pn : Outside) (said : Said) (status : Status) (limit : ℕ)
@@ -130,7 +129,7 @@ module _ (words : List (String Global)) (o n po pn : Outside) (said : Said) (sta
   own-over (inr (inr s)) = subst IsOver (sym s.status_is) (over-any s.report.verdict)
 
   pub said-complete : IsComplete (call_of words o n po pn said.journal status) limit
-  said-complete quiet = own-complete o.files (λ files. IsValid files words limit) po pn said.text.items said.status status (own-over says) p quiet.prints
+  said-complete quiet valid = own-complete po pn said.text.items said.status status (own-over says) p quiet.prints
 
   changes-none : Says (so_far words o n said.journal) limit said.text.items said.status → ChangesNoName (so_far words o n said.journal)
   changes-none (inl s) = record { asks = inl (s.name, s.asks); files = ap (λ (x : Outside). x.files) s.checked.shelf; created = ap (λ (x : Outside). x.created) s.checked.shelf }

@@ -5,14 +5,15 @@ use Rattle.std.specs.declared.alloc.Global.{Global}
 use Rattle.flow_text.specs.Edge.{Outside}
 use Rattle.flow_plan.specs.Network.{Network}
 use Rattle.flow_catalogue.specs.declared.standard.Std.{Std}
-use Rattle.flow_catalogue.specs.Std.{std_shape, std_uses, StdReady}
+use Rattle.flow_catalogue.specs.Std.{std_shape, std_uses, StdReady, StdNext}
 use Rattle.flow_model.specs.States.{State}
+use Rattle.flow_model.specs.Rising.{FinishedLeadsOn}
 use Rattle.flow_model.specs.Verdicts.{IsFinished}
 use Rattle.flow_ready.specs.Ready.{StartsPlans}
 use Rattle.flow_report.specs.declared.report.Verdict.{Verdict}
 use Rattle.flow_report.specs.declared.report.Verdict.TheVariants.{Finished, FinishedLeft, Deadlock, Failed, Running}
 use Rattle.flow_report.specs.States.{IsVerdict}
-use Rattle.flow_meanings.specs.Composition.{AreFirst, FinishedComposes, wrote_in}
+use Rattle.flow_meanings.specs.Composition.{AreFirst, FinishedComposes}
 use Rattle.flow_meanings.proofs.Every.{made-first}
 use Rattle.flow_cli.specs.Components.{AreComponents}
 use Rattle.flow_cli.specs.After.{Prints, verdict_status}
@@ -57,7 +58,7 @@ finished-over statuses.TooLong is = absurd is
 finished-over statuses.Running is = absurd is
 
 -- with the laws of plans and of meanings, a run that finished left what its network means
-module _ (starts : StartsPlans std_shape std_uses StdReady) (composes : FinishedComposes) (words : List (String Global)) (o a n po pn : Outside) (run : Unwritten) (status : Status) (limit : ℕ)
+module _ (starts : StartsPlans std_shape std_uses StdReady) (composes : FinishedComposes) (rises : FinishedLeadsOn std_shape std_uses StdReady StdNext) (words : List (String Global)) (o a n po pn : Outside) (run : Unwritten) (status : Status) (limit : ℕ)
     (has : HasRun o a words limit run) where
   left : WritesAll a n (outputs_of_run run) → Prints po pn run.ran.told.report.items (verdict_status run.ran.told.verdict) status → IsFinishedStatus status
       → LeavesMeaning (so_far words o n run.ran.journal) limit
@@ -72,13 +73,17 @@ module _ (starts : StartsPlans std_shape std_uses StdReady) (composes : Finished
         has.workers,
         has.asks,
         record {
-          plan = plan;
-          middle = a;
-          components = has.components;
-          ready = of;
-          wrote = wrote_in has.leaves.last;
+          report = has.leaves.told_is.report;
+          whole = record {
+            plan = plan;
+            last = has.leaves.last;
+            middle = a;
+            run = record { components = has.components; ready = of; run = has.leaves.run; writable = has.leaves.writable };
+            writes = subst (λ (l : List Filled). WritesAll a n l) (files o a n words limit run has) w;
+            tells = has.leaves.told_is.tells;
+          };
           composes = composes plan has.components (schedule_of run.ran.journal) has.leaves.last well (are-first plan of.given has.components of.are_components) has.leaves.run.schedule.leads ends;
-          writes = subst (λ (l : List Filled). WritesAll a n l) (files o a n words limit run has) w;
+          leads_on = rises plan has.components (schedule_of run.ran.journal) has.leaves.last well has.leaves.run.schedule.leads ends;
         },
       )
   left w (inr p) finished = absurd (subst IsFinishedStatus p.0 finished)

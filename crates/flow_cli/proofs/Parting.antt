@@ -1,6 +1,7 @@
 -- The components of a plan, one after another, and the steps before a run.
 use Rattle.std.proofs.Common.{◌≡◌, ◌⊎◌, inl, inr, ℕ, zero, suc, ◌+◌, List, [], ◌∷◌, ◌++◌, length, map, Some, Ok, Err, refl, sym, ◌∙◌, ap, subst, arith, length-append}
 use Rattle.std.proofs.lemmas.List.{map-append}
+use mathlib.Core.List.{append-nil}
 use Rattle.std.specs.Prelude.{slice_get}
 use Rattle.std.specs.declared.option.Option.{Option}
 use Rattle.flow_text.specs.Edge.{Outside, Name, Files, Logged}
@@ -9,13 +10,13 @@ use Rattle.flow_text.specs.declared.all.ReadStop.TheVariants as reads
 use Rattle.flow_plan.specs.declared.plan.Process.{Process}
 use Rattle.flow_plan.specs.Network.{Network}
 use Rattle.flow_catalogue.specs.declared.standard.Std.{Std}
-use Rattle.flow_cli.specs.Step.{Filled, OnlyReads, HoldsMore, ReadsFile, whole}
+use Rattle.flow_cli.specs.Step.{Filled, OnlyReads, GivesMore, HoldsMore, ReadsFile, whole}
 use Rattle.flow_cli.specs.Stops.{IsReadStop}
 use Rattle.flow_cli.specs.Components.{read_by, input_of, inputs_of, AreRead, IsComponent, IsNext, StopsAtFile, ReadsComponent, ReadsComponents}
 use Rattle.flow_cli.specs.declared.stop.Stop.{Stop}
 use Rattle.flow_cli.specs.declared.stop.Stop.TheVariants.{Words, Refused, JournalRefused, ReadFault, WriteFault, TooLong, NoMemory}
 use Rattle.flow_cli.proofs.Steps.{no-reads, may-read, may-fail-to-read, MayRead-trans}
-use Rattle.flow_cli.proofs.Readings.{OnlyReads-trans, FailsToRead-after, OnlyReads-files, are-read-append, none-read, inputs-none, inputs-more, get-more, get-last}
+use Rattle.flow_cli.proofs.Readings.{OnlyReads-trans, FailsToRead-after, GivesMore-after, OnlyReads-files, are-read-append, none-read, inputs-none, inputs-more, get-more, get-last}
 
 -- the stop of a read is that of its file
 pub read-stopped : (old new : Outside) (name : Name) (why : ReadStop) (stop : Stop) (limit : ℕ) → ReadsFile old new (Err why) name limit → IsReadStop why name stop
@@ -24,7 +25,7 @@ read-stopped old new name reads.Fault (ReadFault read) limit r is = (is, r)
 read-stopped old new name (reads.TooLong told) (TooLong read) limit r is = (is, r.0, r.1)
 read-stopped old new name reads.NoMemory NoMemory limit r is = r
 read-stopped old new name reads.Fault NoMemory limit r is = may-fail-to-read old new r.0 name r.2
-read-stopped old new name (reads.TooLong told) NoMemory limit r is = may-read old new _ r.0
+read-stopped old new name (reads.TooLong told) NoMemory limit r is = may-read old new _ r.0.2
 read-stopped old new name reads.Fault Words limit r is = absurd is
 read-stopped old new name reads.Fault (Refused refusal) limit r is = absurd is
 read-stopped old new name reads.Fault (JournalRefused refusal) limit r is = absurd is
@@ -107,7 +108,7 @@ stopped-behind : (old mid new : Outside) (earlier : List Filled) (name : Name) (
 stopped-behind old mid new earlier name (ReadFault read) limit r s = (s.0, (s.1.0, s.1.1, FailsToRead-after old mid new (map whole earlier) s.1.0 name r s.1.2))
 stopped-behind old mid new earlier name (TooLong read) limit r s = (
   s.0,
-  OnlyReads-trans old mid new (map whole earlier) _ r s.1,
+  subst (λ (l : List Logged). GivesMore old new l name limit) (append-nil (map whole earlier)) (GivesMore-after old mid new (map whole earlier) [] name limit r s.1),
   subst (λ (t : Option Files). HoldsMore t name limit) (OnlyReads-files old mid (map whole earlier) r) s.2,
 )
 stopped-behind old mid new earlier name NoMemory limit r s = MayRead-trans old mid new (may-read old mid (map whole earlier) r) s

@@ -5,7 +5,7 @@ use Rattle.std.specs.Prelude.{slice_get}
 use Rattle.std.specs.declared.option.Option.{Option}
 use Rattle.flow_text.specs.Edge.{Outside, Name, Files, Logged, Rose}
 use Rattle.flow_plan.specs.declared.plan.Process.{Process}
-use Rattle.flow_cli.specs.Step.{Filled, OnlyReads, FailsToRead, IsRead}
+use Rattle.flow_cli.specs.Step.{Filled, OnlyReads, FailsToRead, IsRead, GivesMore, partly}
 use Rattle.flow_cli.specs.Components.{input_of, inputs_of, AreRead}
 
 -- what was opened before and after
@@ -23,6 +23,14 @@ FailsToRead-after a b c xs ys name p q = record {
       ∙ ap (λ l. record a { open_name = c.open_name; left = c.left; opened = l; read_faults = c.read_faults; last_read_fault = Some name }) (append_assoc a.opened xs ys);
   rose = subst (λ (n : ℕ). Rose n c.read_faults) (ap (λ (o : Outside). o.read_faults) p) q.rose;
 }
+
+-- A file that gives more than it may gives so behind others that were read.
+pub GivesMore-after : (a b c : Outside) (xs ys : List Logged) (name : Name) (limit : ℕ) → OnlyReads a b xs → GivesMore b c ys name limit → GivesMore a c (xs ++ ys) name limit
+GivesMore-after a b c xs ys name limit p q = (
+  q.0,
+  q.1,
+  subst (λ (l : List Logged). OnlyReads a c l) (sym (append_assoc xs ys (partly q.0 name ∷ []))) (OnlyReads-trans a b c xs (ys ++ partly q.0 name ∷ []) p q.2),
+)
 
 -- Reading keeps all contents.
 pub OnlyReads-files : (a b : Outside) (xs : List Logged) → OnlyReads a b xs → b.files ≡ a.files

@@ -8,7 +8,7 @@ use Rattle.std.specs.declared.alloc.Global.{Global}
 use Rattle.std.specs.declared.option.Option.{Option}
 use Rattle.std.specs.declared.result.Result.{Result}
 use Rattle.std.specs.Io.KnownBytes.{Consumes, IsAtEnd}
-use Rattle.flow_text.specs.Edge.{Outside, Name, Files, Logged, Rose, begun, counted_on, last_moved, replaced, appended_at, appended_to, IsHeld, after_open, after_create, after_finish, after_read, after_read_fault, after_write, after_write_fault}
+use Rattle.flow_text.specs.Edge.{Outside, Name, Files, Logged, Rose, begun, last_moved, replaced, appended_at, appended_to, IsHeld, after_open, after_create, after_finish, after_read, after_read_fault, after_write, after_write_fault}
 use Rattle.flow_text.specs.Shelf.{FailsToWrite as FailedWrite}
 use Rattle.flow_text.specs.ReadAll.{ReadsAll}
 use Rattle.flow_text.specs.WriteAll.{WritesAll}
@@ -17,7 +17,6 @@ use Rattle.flow_text.specs.declared.all.ReadStop.TheVariants as reads
 use Rattle.flow_text.specs.declared.all.WriteStop.{WriteStop}
 use Rattle.flow_text.specs.declared.all.WriteStop.TheVariants as writes
 use Rattle.flow_text.specs.declared.edge.ShelfStop.TheVariants as shelf
-use Rattle.std.proofs.lemmas.List.{length-take-le}
 use Rattle.flow_text.proofs.Writes.{replaced-same, replaced-replaced}
 use Rattle.flow_text.proofs.Logs.{last_moved-push}
 use Rattle.flow_cli.specs.Step.{OnlyReads, FailsToRead, MayRead, OnlyWrites, FailsToWrite, HoldsMore, ReadsFile, WritesFile, whole, partly}
@@ -81,9 +80,9 @@ pub MayRead-trans : (a b c : Outside) → MayRead a b → MayRead b c → MayRea
 MayRead-trans a b c p q = q
     ∙ ap (λ (o : Outside). record o { open_name = c.open_name; left = c.left; opened = c.opened; read_faults = c.read_faults; last_read_fault = c.last_read_fault }) p
 
--- a file that begins gives or takes so many bytes
-pub moved-begun : (name : Name) (n : ℕ) (e : Bool) (files : List Logged)
-    → last_moved n e (files ++ begun name ∷ []) ≡ files ++ record { name = name; bytes = counted_on 0 n; ended = e } ∷ []
+-- a file that begins gives or takes these bytes
+pub moved-begun : (name : Name) (n : List ℕ) (e : Bool) (files : List Logged)
+    → last_moved n e (files ++ begun name ∷ []) ≡ files ++ record { name = name; bytes = n; ended = e } ∷ []
 moved-begun name n e files = last_moved-push n e files (begun name)
 
 -- what a source gave of what the name holds
@@ -105,15 +104,15 @@ held-more (Some files) name (Some xs) (Some ys) bytes limit held gives size =
 
 -- a file that was opened, and then read
 module _ (old mid new : Outside) (name : Name) (opens : mid ≡ after_open old name mid.left) where
-  opened : (n : ℕ) (e : Bool) → new ≡ after_read mid new.left n e
+  opened : (n : List ℕ) (e : Bool) → new ≡ after_read mid new.left n e
       → new ≡ record old { open_name = Some name; left = new.left; opened = last_moved n e (old.opened ++ begun name ∷ []) }
   opened n e is = is ∙ ap (λ o. after_read o new.left n e) opens
 
-  gave : (n : ℕ) (e : Bool) → new ≡ after_read mid new.left n e → OnlyReads old new (record { name = name; bytes = counted_on 0 n; ended = e } ∷ [])
+  gave : (n : List ℕ) (e : Bool) → new ≡ after_read mid new.left n e → OnlyReads old new (record { name = name; bytes = n; ended = e } ∷ [])
   gave n e is = fit-reads old new (Some name) new.left (last_moved n e (old.opened ++ begun name ∷ []))
-      (record { name = name; bytes = counted_on 0 n; ended = e } ∷ []) (opened n e is) (moved-begun name n e old.opened)
+      (record { name = name; bytes = n; ended = e } ∷ []) (opened n e is) (moved-begun name n e old.opened)
 
-  failed : (n : ℕ) → new ≡ after_read_fault (after_read mid new.left n false) mid.open_name new.read_faults → Rose mid.read_faults new.read_faults
+  failed : (n : List ℕ) → new ≡ after_read_fault (after_read mid new.left n false) mid.open_name new.read_faults → Rose mid.read_faults new.read_faults
       → FailsToRead old new (partly n name ∷ []) name
   failed n is rose = fit-failed-read old new (Some name) new.left (last_moved n false (old.opened ++ begun name ∷ [])) (partly n name ∷ []) name
       (is ∙ ap (λ o. after_read_fault (after_read o new.left n false) o.open_name new.read_faults) opens)
@@ -122,15 +121,15 @@ module _ (old mid new : Outside) (name : Name) (opens : mid ≡ after_open old n
 
   pub read-whole : (r : Result (Vec ℕ Global) ReadStop) (limit : ℕ) → IsHeld old.files name mid.left → ReadsAll mid new r limit → ReadsFile old new r name limit
   read-whole (Ok v) limit held a = (
-    gave (length v.items) true a.0.state,
+    gave v.items true a.0.state,
     record { short = a.2; held = held-all old.files name mid.left new.left v.items held a.0.given a.1 },
   )
-  read-whole (Err reads.Fault) limit held a = (partly (length a.0) name ∷ [], inr (length a.0, refl), failed (length a.0) a.1.state a.1.rose)
+  read-whole (Err reads.Fault) limit held a = (partly a.0 name ∷ [], inr (a.0, refl), failed a.0 a.1.state a.1.rose)
   read-whole (Err (reads.TooLong told)) limit held a = (
-    subst (λ (n : ℕ). OnlyReads old new (partly n name ∷ [])) a.1.2 (gave (length a.1.0) false a.1.1.state),
+    (a.1.0, a.1.2, gave a.1.0 false a.1.1.state),
     held-more old.files name mid.left new.left a.1.0 limit held a.1.1.given a.1.2,
   )
-  read-whole (Err reads.NoMemory) limit held a = may-read old new _ (gave (length a.0) a.1 a.2.state)
+  read-whole (Err reads.NoMemory) limit held a = may-read old new _ (gave a.0 a.1 a.2.state)
 
 -- a file that couldn't be opened
 pub unopened : (old new : Outside) (name : Name) (limit : ℕ) → new ≡ after_read_fault old (Some name) new.read_faults → Rose old.read_faults new.read_faults
@@ -159,7 +158,7 @@ module _ (old mid : Outside) (name : Name) (creates : mid ≡ after_create old n
     created_name = Some name;
     taken = (after_write (after_create old name) bytes).taken;
     files = option_map (appended_to (Some name) bytes) (option_map (replaced name []) old.files);
-    created = last_moved (length bytes) false (old.created ++ begun name ∷ []);
+    created = last_moved bytes false (old.created ++ begun name ∷ []);
   }
   at new bytes is = is ∙ ap (λ o. after_write o bytes) creates
 
@@ -168,11 +167,13 @@ module _ (old mid : Outside) (name : Name) (creates : mid ≡ after_create old n
 
   pub written : (done new : Outside) (bytes : List ℕ) → done ≡ after_write mid bytes → new ≡ after_finish done → WritesFile {T = Unit {0}} old new (Ok tt) (name, bytes)
   written done new bytes wrote ends =
-      let log : last_moved 0 true (last_moved (length bytes) false (old.created ++ begun name ∷ [])) ≡ old.created ++ whole (name, bytes) ∷ [] =
-      ap (λ l. last_moved 0 true l) (moved-begun name (length bytes) false old.created) ∙ last_moved-push 0 true old.created (partly (length bytes) name) in (
+      let log : last_moved [] true (last_moved bytes false (old.created ++ begun name ∷ [])) ≡ old.created ++ whole (name, bytes) ∷ [] =
+      ap (λ l. last_moved [] true l) (moved-begun name bytes false old.created)
+      ∙ last_moved-push [] true old.created (partly bytes name)
+      ∙ ap (λ (took : List ℕ). old.created ++ whole (name, took) ∷ []) (append-nil bytes) in (
         fit-writes old new (Some name) (after_write (after_create old name) bytes).taken
             (option_map (appended_to (Some name) bytes) (option_map (replaced name []) old.files))
-            (last_moved 0 true (last_moved (length bytes) false (old.created ++ begun name ∷ []))) (whole (name, bytes) ∷ [])
+            (last_moved [] true (last_moved bytes false (old.created ++ begun name ∷ []))) (whole (name, bytes) ∷ [])
             (ends ∙ ap (λ o. after_finish o) (at done bytes wrote)) log,
         files-at new bytes (ap (λ o. o.files) ends ∙ ap (λ o. o.files) wrote),
       )
@@ -182,12 +183,12 @@ module _ (old mid : Outside) (name : Name) (creates : mid ≡ after_create old n
       → new ≡ after_write_fault done done.created_name new.write_faults → Rose done.write_faults new.write_faults
       → WritesFile {T = Unit {0}} old new (Err shelf.Fault) (name, bytes)
   cut new bytes n within done wrote fails rose =
-      let log = moved-begun name (length (take n bytes)) false old.created ∙ ap (λ m. old.created ++ partly m name ∷ []) (length-take-le n bytes within) in
+      let log = moved-begun name (take n bytes) false old.created in
       let is = at done (take n bytes) wrote in (
-        partly n name ∷ [],
+        partly (take n bytes) name ∷ [],
         fit-failed-write old new (Some name) (after_write (after_create old name) (take n bytes)).taken
             (option_map (appended_to (Some name) (take n bytes)) (option_map (replaced name []) old.files))
-            (last_moved (length (take n bytes)) false (old.created ++ begun name ∷ [])) (partly n name ∷ []) name
+            (last_moved (take n bytes) false (old.created ++ begun name ∷ [])) (partly (take n bytes) name ∷ []) name
             (fails ∙ ap (λ o. after_write_fault o o.created_name new.write_faults) is) log
             (subst (λ (m : ℕ). Rose m new.write_faults) (ap (λ (o : Outside). o.write_faults) is) rose),
         inr (n, within, refl, files-at new (take n bytes) (ap (λ o. o.files) fails ∙ ap (λ o. o.files) wrote)),

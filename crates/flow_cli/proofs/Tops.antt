@@ -1,19 +1,18 @@
 -- What a call came to, and what was printed of it: stops.
-use Rattle.std.proofs.Common.{◌≡◌, ◌⊎◌, ℕ, List, Some, None, inl, inr, refl, ◌∙◌, ap, subst}
-use Rattle.std.specs.Prelude.{◌≢◌, String, string_bytes, IfSome}
+use Rattle.std.proofs.Common.{◌≡◌, ◌⊎◌, ℕ, List, inl, inr, refl, ◌∙◌, ap, subst}
+use Rattle.std.specs.Prelude.{◌≢◌, String, string_bytes}
 use Rattle.std.specs.declared.alloc.Global.{Global}
-use Rattle.std.specs.declared.option.Option.{Option}
-use Rattle.flow_text.specs.Edge.{Outside, Files, Rose}
+use Rattle.flow_text.specs.Edge.{Outside, Rose}
 use Rattle.flow_component.specs.Laws.{AtMostOneOutcome}
 use Rattle.flow_catalogue.specs.Std.{StdNext}
-use Rattle.flow_journal.specs.Files.{HasJournalOrFault}
+use Rattle.flow_journal.specs.Files.{HasJournalOrFault, HasOneJournal}
 use Rattle.flow_journal.specs.Replays.{StopsAreNoSchedules}
 use Rattle.flow_journal.specs.declared.merge.Journal.{Journal}
 use Rattle.flow_cli.specs.After.{Prints}
 use Rattle.flow_cli.specs.Statuses.{IsOver}
 use Rattle.flow_cli.specs.Stops.{status_of, text_of}
 use Rattle.flow_cli.specs.Causes.{Work, HasCause}
-use Rattle.flow_cli.specs.Top.{call_of, PrintsStop, TellsStop, IsCaused, IsValid, IsComplete}
+use Rattle.flow_cli.specs.Top.{call_of, PrintsStop, TellsStop, IsCaused, IsComplete}
 use Rattle.flow_cli.specs.declared.status.Status.{Status}
 use Rattle.flow_cli.specs.declared.status.Status.TheVariants as statuses
 use Rattle.flow_cli.specs.declared.stop.JournalRefusal.TheVariants.{Byte, Turn}
@@ -30,7 +29,7 @@ as-memory w limit (Refused refusal) c = inl (untouched w (may-read w.before w.af
 as-memory w limit (JournalRefused (Byte place)) c = inl (untouched w (may-read w.before w.after _ c.shelf) c.journal)
 as-memory w limit (JournalRefused (Turn place process refusal)) c = inl (untouched w (may-read w.before w.after _ c.ready.reads) c.journal)
 as-memory w limit (ReadFault read) c = inl (untouched w (may-fail-to-read w.before w.after _ _ c.shelf) c.journal)
-as-memory w limit (TooLong read) c = inl (untouched w (may-read w.before w.after _ c.shelf) c.journal)
+as-memory w limit (TooLong read) c = inl (untouched w (may-read w.before w.after _ c.shelf.2) c.journal)
 as-memory w limit (WriteFault written) c = inr (inr (string_bytes written, c))
 as-memory w limit NoMemory c = c
 
@@ -84,10 +83,8 @@ own-or-memory po pn stop status (inr (inl p)) is quiet = p.0
 own-or-memory po pn stop status (inr (inr p)) is quiet = absurd (quiet p.1.1.rose)
 
 -- What a stopped call says of its cause is complete.
-pub stop-complete : AtMostOneOutcome StdNext → StopsAreNoSchedules StdNext → HasJournalOrFault
+pub stop-complete : AtMostOneOutcome StdNext → StopsAreNoSchedules StdNext → HasJournalOrFault → HasOneJournal
     → (words : List (String Global)) (o n po pn : Outside) (journal : Journal) (status : Status) (limit : ℕ) (stop : Stop)
     → HasCause (so_far words o n journal) limit stop → PrintsStop po pn stop status → IsComplete (call_of words o n po pn journal status) limit
-stop-complete one no_schedule apart words o n po pn journal status limit stop cause prints quiet = go o.files refl where
-  go : (told : Option Files) → o.files ≡ told → IfSome told (λ files. IsValid files words limit → IsOver status ⊎ (status ≡ statuses.NoMemory))
-  go None is = tt
-  go (Some files) is = λ valid. inr (own-or-memory po pn stop status prints (valid-at one no_schedule apart (so_far words o n journal) files limit stop is cause valid quiet.reads quiet.writes) quiet.prints)
+stop-complete one no_schedule apart single words o n po pn journal status limit stop cause prints quiet valid =
+    inr (own-or-memory po pn stop status prints (valid-at one no_schedule apart single (so_far words o n journal) limit stop cause valid quiet.reads quiet.writes) quiet.prints)

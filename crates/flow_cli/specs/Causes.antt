@@ -14,7 +14,7 @@ use Rattle.flow_journal.specs.Files.{IsFault, IsWritable}
 use Rattle.flow_journal.specs.Replays.{schedule_of, StopsAtTurn}
 use Rattle.flow_journal.specs.declared.merge.Journal.{Journal}
 use Rattle.flow_journal.specs.declared.refusal.Refusal.{Refusal as NoTurn}
-use Rattle.flow_cli.specs.Step.{Filled, OnlyReads, FailsToRead, Unended, IsRead, HoldsMore, whole, partly}
+use Rattle.flow_cli.specs.Step.{Filled, OnlyReads, FailsToRead, Unended, IsRead, GivesMore, HoldsMore, whole}
 use Rattle.flow_cli.specs.Many.{FailsAt, EndsAt}
 use Rattle.flow_cli.specs.Networks.{RefusedFor}
 use Rattle.flow_cli.specs.Reads.{Asks, IsCommand, IsEmptyJournal, IsFile, IsJournalFile, IsReady, IsNextFile}
@@ -79,8 +79,8 @@ pub record IsFaulty (w : Work) (limit place : ℕ) : Type 0 where
   pub shelf : OnlyReads w.before w.after (map whole ((name, net) ∷ (kept, bytes) ∷ []))
   pub journal : IsEmptyJournal w.journal
 
--- All that a replay reads was read, and the journal of the file is no schedule from the start of the network: this is the first of its turns that isn't defined, and
--- why.
+-- All that a replay reads was read, and the journal of the file, which is the one that it is the file of, is no schedule from the start of the network: this is the
+-- first of its turns that isn't defined, and why.
 pub record IsNoSchedule (w : Work) (limit place process : ℕ) (refusal : NoTurn) : Type 0 where
   pub name : Name
   pub kept : Name
@@ -119,7 +119,7 @@ pub record IsTooLong (w : Work) (limit : ℕ) (read : Name) : Type 0 where
   pub most : ℕ
   pub next : IsNextFile w.words w.before.files limit name earlier read most
   pub more : HoldsMore w.before.files read most
-  pub shelf : OnlyReads w.before w.after (map whole earlier ++ partly (most + 1) read ∷ [])
+  pub shelf : GivesMore w.before w.after (map whole earlier) read most
   pub journal : IsEmptyJournal w.journal
 
 -- A run was made, and writing one of its files failed: this one. Those before it were written whole.

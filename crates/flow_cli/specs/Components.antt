@@ -9,7 +9,7 @@ use Rattle.flow_plan.specs.declared.plan.Process.{Process}
 use Rattle.flow_plan.specs.Network.{Network}
 use Rattle.flow_catalogue.specs.declared.standard.Std.{Std}
 use Rattle.flow_catalogue.specs.Processes.{IsMade, Fits}
-use Rattle.flow_cli.specs.Step.{Filled, OnlyReads, FailsToRead, MayRead, Unended, IsRead, HoldsMore, whole, partly}
+use Rattle.flow_cli.specs.Step.{Filled, OnlyReads, FailsToRead, MayRead, Unended, IsRead, GivesMore, HoldsMore, whole}
 use Rattle.flow_cli.specs.declared.stop.Stop.{Stop}
 use Rattle.flow_cli.specs.declared.stop.Stop.TheVariants.{ReadFault, TooLong, NoMemory}
 
@@ -79,7 +79,7 @@ abbrev pub StopsAtFile : Outside → Outside → List Filled → Name → Stop �
 StopsAtFile old new earlier name (ReadFault read) limit = (string_bytes read ≡ name)
     × ((files : List Logged) × Unended name files × FailsToRead old new (map whole earlier ++ files) name)
 StopsAtFile old new earlier name (TooLong read) limit = (string_bytes read ≡ name)
-    × OnlyReads old new (map whole earlier ++ partly (limit + 1) name ∷ []) × HoldsMore old.files name limit
+    × GivesMore old new (map whole earlier) name limit × HoldsMore old.files name limit
 StopsAtFile old new earlier name NoMemory limit = MayRead old new
 StopsAtFile old new earlier name other limit = ⊥
 

@@ -1,9 +1,9 @@
 -- What the top call does.
-use Rattle.std.specs.Prelude.{◌≡◌, ◌⊎◌, ℕ, ◌≤◌, List, [], ◌∷◌, ◌++◌, length, Some, None, Ok, Err, IfSome, String, ⊤}
+use Rattle.std.specs.Prelude.{◌≡◌, ◌⊎◌, ℕ, ◌≤◌, List, [], ◌∷◌, ◌++◌, length, map, drop, slice_get, Some, None, Ok, Err, String, ⊤}
 use Rattle.std.specs.declared.alloc.Global.{Global}
 use Rattle.std.specs.declared.option.Option.{Option}
 use Rattle.std.specs.declared.result.Result.{Result}
-use Rattle.flow_text.specs.Edge.{Outside, Name, Files, Rose, after_write}
+use Rattle.flow_text.specs.Edge.{Outside, Name, Logged, Rose, after_write}
 use Rattle.flow_plan.specs.Network.{Network}
 use Rattle.flow_words.specs.Words.{Run, Check, Replay, Make}
 use Rattle.flow_parse.specs.declared.value.NetText.{NetText}
@@ -20,16 +20,17 @@ use Rattle.flow_runs.specs.Runs.{IsScheduled}
 use Rattle.flow_report.specs.Text.{Told as Report, report_text}
 use Rattle.flow_report.specs.States.{TellsOf}
 use Rattle.flow_cli.specs.Step.{Filled, OnlyReads, whole}
-use Rattle.flow_cli.specs.Components.{inputs_of, AreRead, AreComponents, IsInput}
+use Rattle.flow_cli.specs.Components.{inputs_of, AreComponents}
 use Rattle.flow_cli.specs.Networks.{Holds, IsStandardPlan}
 use Rattle.flow_cli.specs.Many.{WritesAll, WritesFiles}
 use Rattle.flow_cli.specs.After.{Prints, verdict_status}
 use Rattle.flow_cli.specs.Runs.{Leaves, TellsAgain, MakesAgain, net_outputs, bytes_in, files_of_run, journal_file}
-use Rattle.flow_cli.specs.Reads.{Asks, IsCommand, MakesTurns, IsEmptyJournal, IsFile, IsJournalFile, IsReady}
+use Rattle.flow_cli.specs.Reads.{Asks, IsCommand, IsEmptyJournal, IsFile, IsJournalFile, IsReady}
 use Rattle.flow_cli.specs.Statuses.{IsOver}
 use Rattle.flow_cli.specs.Stops.{status_of, text_of}
 use Rattle.flow_cli.specs.Causes.{Work, IsRunOf, HasCause}
 use Rattle.flow_cli.specs.Makes.{make_text, IsRunOfMade}
+use Rattle.flow_cli.specs.declared.components.TheConstants.{JOURNAL_FILE_LIMIT}
 use Rattle.flow_cli.specs.declared.engine.Told.{Told}
 use Rattle.flow_cli.specs.declared.run.Kept.{Kept}
 use Rattle.flow_cli.specs.declared.run.Said.{Said}
@@ -237,39 +238,32 @@ abbrev pub ComesToEnd : Call → ℕ → Type 0
 ComesToEnd c limit = ((name : Name) × (keeps : Option Name) × (workers : ℕ) × Asks c.work.words (Run name keeps workers) × EndsWell c limit name keeps workers)
     ⊎ SaysWell c limit
 
--- A network file of this name, with these contents, holds the network of this plan.
-pub record IsNetwork (files : Files) (name : Name) (plan : Network) : Type 0 where
-  pub net : List ℕ
-  pub held : files name ≡ Some net
-  pub text : NetText
-  pub holds : Holds net text plan
+-- The file at this place among those that were opened was read to its end, and gave these bytes.
+abbrev pub GaveAt : List Logged → ℕ → List ℕ → Type 0
+GaveAt read place bytes = (name : Name) × (slice_get read place ≡ Some (whole (name, bytes)))
 
--- A name that a call with these words reads: a check reads the network file alone, a run and a replay the input files of its network too.
-abbrev pub IsReadFor : List (String Global) → Files → Name → Name → Type 0
-IsReadFor words files name read = (read ≡ name) ⊎ (MakesTurns words name × ((plan : Network) × IsNetwork files name plan × IsInput plan read))
+-- How many bytes the file at this place may give, in a call with these words. That of a journal, which a replay reads behind the network file, has its own limit.
+abbrev pub IsMost : List (String Global) → ℕ → ℕ → ℕ → Type 0
+IsMost words limit place most = ((place ≡ 1) × IsReplay words × (most ≡ JOURNAL_FILE_LIMIT)) ⊎ ((place ≡ 1 → IsReplay words → ⊥) × (most ≡ limit))
 
--- The file of this name is that of a journal, and what it tells is a schedule from the start of the plan, on what the input files hold.
-pub record HasSchedule (files : Files) (limit : ℕ) (plan : Network) (kept : Name) : Type 0 where
-  pub bytes : List ℕ
-  pub held : files kept ≡ Some bytes
+-- These bytes are the file of a journal, and what it tells is a schedule from the start of the plan, on what the files behind it gave.
+pub record HasSchedule (read : List Logged) (plan : Network) (bytes : List ℕ) : Type 0 where
   pub journal : Journal
   pub is : IsFileOf journal bytes
-  pub leads : (tells : Journal) (given : List (List ℕ)) (components : List Std) → IsFileOf tells bytes → AreRead (Some files) limit (inputs_of plan.processes given) → AreComponents plan given components
-      → (last : State Std) × Leads StdNext (start_of plan components) (schedule_of tells) last
+  pub leads : (given : List (List ℕ)) (components : List Std) → drop 2 read ≡ map whole (inputs_of plan.processes given) → AreComponents plan given components
+      → (last : State Std) × Leads StdNext (start_of plan components) (schedule_of journal) last
 
--- The words name a network file, which holds a value with a plan; no file that is read is longer than the limit; and where the words name a journal's file, it holds
--- a schedule of that network.
-pub record IsValidFor (files : Files) (words : List (String Global)) (limit : ℕ) : Type 0 where
-  pub name : Name
-  pub command : IsCommand words name
-  pub plan : Network
-  pub network : IsNetwork files name plan
-  pub short : (read bytes : List ℕ) → IsReadFor words files name read → files read ≡ Some bytes → length bytes ≤ limit
-  pub schedule : (kept : Name) → Asks words (Replay name kept) → HasSchedule files limit plan kept
+-- What the files gave that were read in a call with these words, in order, is valid: the network file holds a value with a plan; no file gave more than it may; and
+-- in a replay the journal's file holds a schedule of that network.
+pub record AreValid (words : List (String Global)) (read : List Logged) (limit : ℕ) : Type 0 where
+  pub network : (net : List ℕ) → GaveAt read 0 net → (text : NetText) × (plan : Network) × Holds net text plan
+  pub short : (place most : ℕ) (file : Logged) → slice_get read place ≡ Some file → IsMost words limit place most → length file.bytes ≤ most
+  pub schedule : (net : List ℕ) (text : NetText) (plan : Network) (bytes : List ℕ) → IsReplay words → GaveAt read 0 net → Holds net text plan → GaveAt read 1 bytes → HasSchedule read plan bytes
 
--- The words ask for a make, or for what these files allow.
-abbrev pub IsValid : Files → List (String Global) → ℕ → Type 0
-IsValid files words limit = ((number : ℕ) × (workers : ℕ) × Asks words (Make number workers)) ⊎ IsValidFor files words limit
+-- The words ask for a make; or they name a network file, and what was read is valid, whatever that was.
+abbrev pub IsValid : Work → ℕ → Type 0
+IsValid w limit = ((number : ℕ) × (workers : ℕ) × Asks w.words (Make number workers))
+    ⊎ ((name : Name) × IsCommand w.words name × ((read : List Logged) → w.after.opened ≡ w.before.opened ++ read → AreValid w.words read limit))
 
 -- No count of faults rose.
 pub record NoFaults (c : Call) : Type 0 where
@@ -277,6 +271,6 @@ pub record NoFaults (c : Call) : Type 0 where
   pub writes : Rose c.work.before.write_faults c.work.after.write_faults → ⊥
   pub prints : Rose c.out.write_faults c.out_after.write_faults → ⊥
 
--- Where no count of faults rose and all is valid, a call comes to its end, or memory was wanting.
+-- Where no count of faults rose and all that was read is valid, a call comes to its end, or memory was wanting.
 abbrev pub IsComplete : Call → ℕ → Type 0
-IsComplete c limit = NoFaults c → IfSome c.work.before.files (λ files. IsValid files c.work.words limit → IsOver c.status ⊎ (c.status ≡ status_of NoMemory))
+IsComplete c limit = NoFaults c → IsValid c.work limit → IsOver c.status ⊎ (c.status ≡ status_of NoMemory)

@@ -30,6 +30,7 @@ use flow_meanings::{
     a_batch_update_writes_its_book, a_finished_network_composes_its_meanings,
     an_ended_collate_has_sent_the_collation,
 };
+use flow_model::a_finished_network_leads_on;
 use flow_ready::a_valid_plan_is_ready;
 use flow_text::{Shelf, Sink};
 use flow_words::{Command, command};
@@ -92,7 +93,7 @@ pub fn plain_top<F: Shelf, O: Sink>(
     // No call but a replay ends while its network can go on.
     ensures status { result.status ≡ Running → IsReplay words.now }
 
-    // Where no count rose and all is valid, the call comes to its end, or memory is wanting.
+    // Where no count rose and all that was read is valid, the call comes to its end, or memory is wanting.
     ensures complete { IsComplete (call_of words.now (F.outside shelf.old) (F.outside shelf.new) (O.outside out.old) (O.outside out.new) result.journal result.status) FILE_LIMIT }
 {
     let engine = |net: Net<Std>, workers: u32| -> Result<Closed<Std>, AllocError>
@@ -136,7 +137,7 @@ pub fn busy_top<R: Threads + Wait + Sync, F: Shelf, O: Sink, G: Gate + Sync>(
     // No call but a replay ends while its network can go on.
     ensures status { result.status ≡ Running → IsReplay words.now }
 
-    // Where no count rose and all is valid, the call comes to its end, or memory is wanting.
+    // Where no count rose and all that was read is valid, the call comes to its end, or memory is wanting.
     ensures complete { IsComplete (call_of words.now (F.outside shelf.old) (F.outside shelf.new) (O.outside out.old) (O.outside out.new) result.journal result.status) FILE_LIMIT }
 {
     let engine = |net: Net<Std>, workers: u32| -> Result<Closed<Std>, AllocError>
@@ -173,6 +174,7 @@ where
     an_ended_collate_has_sent_the_collation();
     a_batch_update_writes_its_book();
     a_determinate_plan_ends_as_on_one_thread();
+    a_finished_network_leads_on::<Std>();
     standard_components_come_to_one_outcome();
     a_journal_that_stops_is_no_schedule::<Std>();
     a_file_has_one_journal_or_one_fault();

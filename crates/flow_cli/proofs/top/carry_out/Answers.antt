@@ -21,7 +21,7 @@ returns-in-Ok-clause-one_outcome g c = λ over.
 
 pub returns-in-Ok-clause-meaning : goal.returns-in-Ok-clause-meaning
 returns-in-Ok-clause-meaning g c = λ finished.
-    done-meaning c.a_valid_plan_is_ready.ensures.starts c.a_finished_network_composes_its_meanings.ensures
+    done-meaning c.a_valid_plan_is_ready.ensures.starts c.a_finished_network_composes_its_meanings.ensures c.a_finished_network_leads_on.ensures
     c.args.words.now (g.F.Edge.outside c.args.shelf.now) (g.F.Edge.outside c.perform.new.shelf) (g.F.Edge.outside c.conclude.new.shelf) (g.O.Edge.outside c.args.out.now) (g.O.Edge.outside c.conclude.new.out)
     c.in-Ok.done c.conclude.result FILE_LIMIT c.in-Ok.ensures c.conclude.ensures finished
 
@@ -47,7 +47,7 @@ returns-in-Ok-clause-status g c = λ is.
 
 pub returns-in-Ok-clause-complete : goal.returns-in-Ok-clause-complete
 returns-in-Ok-clause-complete g c =
-    done-complete c.standard_components_come_to_one_outcome.ensures c.a_journal_that_stops_is_no_schedule.ensures c.a_file_has_one_journal_or_one_fault.ensures.apart
+    done-complete c.standard_components_come_to_one_outcome.ensures c.a_journal_that_stops_is_no_schedule.ensures c.a_file_has_one_journal_or_one_fault.ensures.apart c.a_file_has_one_journal_or_one_fault.ensures.journal
     c.args.words.now (g.F.Edge.outside c.args.shelf.now) (g.F.Edge.outside c.perform.new.shelf) (g.F.Edge.outside c.conclude.new.shelf) (g.O.Edge.outside c.args.out.now) (g.O.Edge.outside c.conclude.new.out)
     c.in-Ok.done c.conclude.result FILE_LIMIT c.in-Ok.ensures c.conclude.ensures
 
@@ -83,6 +83,6 @@ returns-in-Err-clause-status g c = λ is.
 
 pub returns-in-Err-clause-complete : goal.returns-in-Err-clause-complete
 returns-in-Err-clause-complete g c =
-    stop-complete c.standard_components_come_to_one_outcome.ensures c.a_journal_that_stops_is_no_schedule.ensures c.a_file_has_one_journal_or_one_fault.ensures.apart
+    stop-complete c.standard_components_come_to_one_outcome.ensures c.a_journal_that_stops_is_no_schedule.ensures c.a_file_has_one_journal_or_one_fault.ensures.apart c.a_file_has_one_journal_or_one_fault.ensures.journal
     c.args.words.now (g.F.Edge.outside c.args.shelf.now) (g.F.Edge.outside c.perform.new.shelf) (g.O.Edge.outside c.args.out.now) (g.O.Edge.outside c.print_stop.new.out)
     c.no_journal.result c.print_stop.result FILE_LIMIT c.in-Err.stop (c.in-Err.ensures c.no_journal.result c.no_journal.ensures) c.print_stop.ensures
