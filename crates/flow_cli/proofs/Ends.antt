@@ -1,8 +1,7 @@
 -- What a call came to that wasn't stopped before, and what was written and printed of it.
-use Rattle.std.proofs.Common.{◌≡◌, ◌⊎◌, ℕ, List, Some, None, inl, inr, sym, ap, subst}
-use Rattle.std.specs.Prelude.{◌≢◌, String, IfSome}
+use Rattle.std.proofs.Common.{◌≡◌, ◌⊎◌, ℕ, List, inl, inr, sym, ap, subst}
+use Rattle.std.specs.Prelude.{◌≢◌, String}
 use Rattle.std.specs.declared.alloc.Global.{Global}
-use Rattle.std.specs.declared.option.Option.{Option}
 use Rattle.flow_text.specs.Edge.{Outside, Rose}
 use Rattle.flow_component.specs.Laws.{AtMostOneOutcome}
 use Rattle.flow_catalogue.specs.declared.standard.Std.{Std}

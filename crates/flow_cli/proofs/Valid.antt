@@ -1,5 +1,5 @@
 -- Where no count of faults rose and all that was read is valid, a stop is want of memory.
-use Rattle.std.proofs.Common.{◌≡◌, ℕ, List, [], ◌∷◌, ◌++◌, length, Some, None, inl, inr, arith, refl, sym, ap, subst}
+use Rattle.std.proofs.Common.{◌≡◌, ℕ, List, [], ◌∷◌, ◌++◌, length, None, inl, inr, arith, refl, sym, ap, subst}
 use mathlib.Core.Path.{ap₂}
 use Rattle.std.proofs.lemmas.List.{length-map}
 use Rattle.std.specs.Prelude.{String, string_bytes, map}
@@ -52,12 +52,12 @@ most-at words told limit name earlier read most (inr (inl next)) =
     subst (λ (l : List Filled). IsMost words limit (length (map whole l)) most) (sym next.earlier_are) (inl (refl, (name, read, next.asks), next.most_is))
 most-at words told limit name earlier read most (inr (inr next)) =
     subst (λ (l : List Filled). IsMost words limit (length (map whole l)) most) (sym next.earlier_are) (inr (far next.is_between, next.most_is)) where
-  far : IsBetween words told name next.between → length (map whole ((name, next.net) ∷ (next.between ++ next.inputs))) ≡ 1 → IsReplay words → ⊥
-  far (inl b) one replay = no-replay words name b.0 b.1 b.2 replay
-  far (inr b) one replay =
-      let count : length (next.between ++ next.inputs) ≡ length (((b.0, b.1) ∷ []) ++ next.inputs) = ap (λ (l : List Filled). length (l ++ next.inputs)) b.5 in
-      let mapped = length-map (next.between ++ next.inputs) whole in
-      omega (arith, one, count, mapped)
+      far : IsBetween words told name next.between → length (map whole ((name, next.net) ∷ (next.between ++ next.inputs))) ≡ 1 → IsReplay words → ⊥
+      far (inl b) one replay = no-replay words name b.0 b.1 b.2 replay
+      far (inr b) one replay =
+          let count : length (next.between ++ next.inputs) ≡ length (((b.0, b.1) ∷ []) ++ next.inputs) = ap (λ (l : List Filled). length (l ++ next.inputs)) b.5 in
+          let mapped = length-map (next.between ++ next.inputs) whole in
+          omega (arith, one, count, mapped)
 
 module _ (w : Work) (limit : ℕ) (valid : (read : List Logged) → w.after.opened ≡ w.before.opened ++ read → AreValid w.words read limit) where
   -- what was read is valid
