@@ -7,7 +7,7 @@ use flow_parse::{NetFault, Reason};
 use flow_text::FileShelf;
 use flow_words::{Command, command};
 use std::alloc::Global;
-use std::fs::Files;
+use std::fs::{File, Files};
 use std::io;
 
 const HELP: &str = "flow NETFILE                 runs the network of the file, and prints a report
@@ -24,7 +24,7 @@ const OTHER_RUN: &str =
 
 /// Explains a status, where there is more to say than its line on the standard output. What can't be said, for want of
 /// memory or of a standard error, is left out.
-pub fn explain<R: Files + Eprint + Drop>(
+pub fn explain<R: Files<File = File> + Eprint + Drop>(
     alloc: Global,
     rt: &R,
     words: &[String],
@@ -49,7 +49,7 @@ fn say<R: Eprint>(rt: &R, text: &str) {
 }
 
 // The network file is read once more where it is a regular one: a pipe has nothing left to give.
-fn explain_refusal<R: Files + Eprint + Drop>(alloc: Global, rt: &R, words: &[String]) {
+fn explain_refusal<R: Files<File = File> + Eprint + Drop>(alloc: Global, rt: &R, words: &[String]) {
     let name = match command(alloc, words) {
         Ok(Some(Command::Run { net, .. })) => net,
         Ok(Some(Command::Check(net))) => net,

@@ -2,23 +2,28 @@
 ghost use Rattle.std.specs.Prelude.{◌≤◌, length};
 ghost use Rattle.std.specs.Io.{WritesAtMost};
 
+use crate::access::keep_access;
+use crate::place::{Place, place_of};
 use std::alloc::{AllocError, Global};
-use std::fs::{File, Files, Metadata, OpenFile, OpenOptions};
+use std::fs::{File, Files, Metadata, OpenOptions};
 use std::io;
-use std::io::{ErrorKind, Write};
-use std::os::unix::fs::MetadataExt;
+use std::io::{ErrorKind, Seek, SeekFrom, Write};
+use std::os::unix::fs::{MetadataExt, OpenOptionsExt};
 use std::path::PathBuf;
-
-/// A chain of more symbolic links than this isn't followed, as in the system's own calls.
-const LINKS: u32 = 40;
 
 /// So many temporary names are tried, which earlier calls that were killed may have left.
 const TEMPORARY_NAMES: u32 = 65_536;
 
+/// The mode of a file that is to replace another one, until it is whole: its owner's alone.
+const PRIVATE: u32 = 0o600;
+
+/// The mode of a file that replaces none, less what the umask takes.
+const SHARED: u32 = 0o666;
+
 /// A file that is being written.
 #[derive(Drop)]
-pub struct Output<F: Drop> {
-    file: F,
+pub struct Output {
+    file: File,
     replacing: Option<Replacing>,
 }
 
@@ -27,6 +32,15 @@ pub struct Output<F: Drop> {
 struct Replacing {
     temporary: PathBuf,
     target: PathBuf,
+    /// What has the name so far, open for writing.
+    old: Option<File>,
+}
+
+/// Why a file isn't begun.
+#[derive(Clone, Copy, Debug)]
+pub enum OutputError {
+    Io(io::Error),
+    NoMemory,
 }
 
 impl From<AllocError> for OutputError {
@@ -41,121 +55,127 @@ impl From<io::Error> for OutputError {
     }
 }
 
-/// Why a file isn't begun.
-#[derive(Clone, Copy, Debug)]
-pub enum OutputError {
-    Io(io::Error),
-    NoMemory,
-}
-
 /// A duplicate of an open file, whose descriptor is above those of the standard streams. Where one of those was
 /// closed, the system gives its descriptor to the next file that is opened, and what is meant for the stream would
 /// land there.
-fn above_streams<F: OpenFile + Drop>(file: F) -> io::Result<F> {
+fn above_streams(file: File) -> io::Result<File> {
     file.try_clone()
 }
 
 /// A file that is to be read.
-pub fn open_input<R: Files>(rt: &R, name: &str) -> io::Result<R::File> {
+pub fn open_input<R: Files<File = File>>(rt: &R, name: &str) -> io::Result<File> {
     above_streams(File::open(rt, name)?)
 }
 
 /// Begins a file. A regular or absent one is written under a temporary name until it is whole. A device, a pipe
-/// and the like is written in place.
-pub fn begin<R: Files>(alloc: Global, rt: &R, name: &str) -> Result<Output<R::File>, OutputError> {
-    match rt.metadata(name) {
-        Ok(found) if found.is_file() => replace(alloc, rt, name, &found),
-        Ok(_) => Ok(Output {
-            file: above_streams(writable(rt, name)?)?,
-            replacing: None,
-        }),
-        Err(error) if error.kind() == ErrorKind::NotFound => beside(alloc, rt, name),
+/// and the like is written in place, and so is what a descriptor's name leads to.
+pub fn begin<R: Files<File = File>>(
+    alloc: Global,
+    rt: &R,
+    name: &str,
+) -> Result<Output, OutputError> {
+    match OpenOptions::new().write(true).open(rt, name) {
+        // A file that may not be written isn't replaced either.
+        Ok(old) => begin_over(alloc, rt, name, above_streams(old)?),
+        Err(error) if error.kind() == ErrorKind::NotFound => match place_of(alloc, rt, name)? {
+            Place::Name(target) => beside(alloc, rt, target, None),
+            Place::Descriptor => Err(OutputError::Io(error)),
+        },
         Err(error) => Err(OutputError::Io(error)),
     }
 }
 
-/// What the name holds, opened for writing with all that it holds.
-fn writable<R: Files>(rt: &R, name: &str) -> io::Result<R::File> {
-    OpenOptions::new().write(true).open(rt, name)
-}
-
-/// Begins the file that is to stand for a regular one, with its mode, and with its owner and group where this
-/// process may give them.
-fn replace<R: Files>(
+/// Begins a file whose name holds this one so far.
+fn begin_over<R: Files<File = File>>(
     alloc: Global,
     rt: &R,
     name: &str,
-    found: &Metadata,
-) -> Result<Output<R::File>, OutputError> {
-    if is_standard_output(rt, found) {
-        return Err(OutputError::Io(io::Error::from(ErrorKind::InvalidInput)));
+    old: File,
+) -> Result<Output, OutputError> {
+    let found = old.metadata()?;
+    if !found.is_file() {
+        return Ok(in_place(old));
     }
-    // A file that may not be written isn't replaced either.
-    let old = writable(rt, name)?;
-    drop(old);
-    let output = beside(alloc, rt, name)?;
-    match keep_access(rt, &output, found) {
-        Ok(()) => Ok(output),
-        Err(error) => {
-            output.abandon(rt);
-            Err(OutputError::Io(error))
+    if is_stream(rt, "/dev/stdout", &found) {
+        let reason = "the standard output goes to this file";
+        return Err(OutputError::Io(io::Error::new(
+            ErrorKind::InvalidInput,
+            reason,
+        )));
+    }
+    match place_of(alloc, rt, name)? {
+        Place::Name(target) if !is_stream(rt, "/dev/stderr", &found) => {
+            beside(alloc, rt, target, Some(old))
         }
+        _ => Ok(in_place(at_end(rt, name)?)),
     }
 }
 
-/// Whether this regular file is the one to which the standard output goes: its report would be lost with it.
-fn is_standard_output<R: Files>(rt: &R, found: &Metadata) -> bool {
-    match rt.metadata("/dev/stdout") {
+fn in_place(file: File) -> Output {
+    Output {
+        file,
+        replacing: None,
+    }
+}
+
+/// What the name holds, to be written behind its end: who has it open too loses nothing.
+fn at_end<R: Files<File = File>>(rt: &R, name: &str) -> io::Result<File> {
+    above_streams(OpenOptions::new().append(true).open(rt, name)?)
+}
+
+/// Whether this is the file to which a standard stream goes: what is printed there would be lost with it.
+fn is_stream<R: Files<File = File>>(rt: &R, stream: &str, found: &Metadata) -> bool {
+    match rt.metadata(stream) {
         Ok(stream) => stream.dev() == found.dev() && stream.ino() == found.ino(),
         Err(_) => false,
     }
 }
 
-/// Gives the file the access that the one has which it replaces.
-fn keep_access<R: Files>(rt: &R, output: &Output<R::File>, found: &Metadata) -> io::Result<()> {
-    if let Some(replacing) = &output.replacing {
-        let name = replacing.temporary.as_str();
-        // Only root sets the owner, and a member of the group may still set that.
-        unless_denied(rt.chown(name, None, Some(found.gid())))?;
-        unless_denied(rt.chown(name, Some(found.uid()), None))?;
-    }
-    output.file.set_permissions(found.permissions())
-}
-
-fn unless_denied(outcome: io::Result<()>) -> io::Result<()> {
-    match outcome {
-        Err(error) if error.kind() == ErrorKind::PermissionDenied => Ok(()),
-        other => other,
-    }
-}
-
-/// Begins a file under a temporary name in the folder of what the name leads to.
-fn beside<R: Files>(alloc: Global, rt: &R, name: &str) -> Result<Output<R::File>, OutputError> {
-    let target = target_of(alloc, rt, name)?;
+/// Begins a file under a temporary name in the folder of its target.
+fn beside<R: Files<File = File>>(
+    alloc: Global,
+    rt: &R,
+    target: PathBuf,
+    old: Option<File>,
+) -> Result<Output, OutputError> {
+    let mode = if old.is_some() { PRIVATE } else { SHARED };
     for number in 0..TEMPORARY_NAMES {
         let temporary = temporary_name(alloc, &target, number)?;
-        match create_new(rt, temporary.as_str()) {
-            Ok(first) => return moved(rt, first, Replacing { temporary, target }),
+        match create_new(rt, temporary.as_str(), mode) {
+            Ok(first) => {
+                let replacing = Replacing {
+                    temporary,
+                    target,
+                    old,
+                };
+                return moved(rt, first, replacing);
+            }
             Err(error) if error.kind() == ErrorKind::AlreadyExists => {}
             Err(error) => return Err(OutputError::Io(error)),
         }
     }
-    Err(OutputError::Io(io::Error::from(ErrorKind::AlreadyExists)))
+    Err(OutputError::Io(io::Error::new(
+        ErrorKind::AlreadyExists,
+        "no temporary name is left in the folder",
+    )))
 }
 
-fn create_new<R: Files>(rt: &R, name: &str) -> io::Result<R::File> {
+/// Creates a file of this mode, and follows no link for it.
+fn create_new<R: Files<File = File>>(rt: &R, name: &str, mode: u32) -> io::Result<File> {
     OpenOptions::new()
+        .read(true)
         .write(true)
         .create_new(true)
+        .mode(mode)
         .open(rt, name)
 }
 
 /// The file that was created, above the standard streams. Where that fails, it is removed.
-fn moved<R: Files>(
+fn moved<R: Files<File = File>>(
     rt: &R,
-    first: R::File,
+    first: File,
     replacing: Replacing,
-) -> Result<Output<R::File>, OutputError> {
+) -> Result<Output, OutputError> {
     match above_streams(first) {
         Ok(file) => Ok(Output {
             file,
@@ -176,26 +196,70 @@ fn temporary_name(alloc: Global, target: &PathBuf, number: u32) -> Result<PathBu
     Ok(path)
 }
 
-/// The name to which a chain of symbolic links leads: of a name that is no link, the name itself. What it names
-/// may be absent.
-fn target_of<R: Files>(alloc: Global, rt: &R, name: &str) -> Result<PathBuf, OutputError> {
-    let mut path = PathBuf::from_str(alloc, name)?;
-    for _ in 0..LINKS {
-        match rt.read_link(alloc, path.as_str()) {
-            Ok(next) => {
-                path.pop();
-                path.push(next.as_str())?;
-            }
-            Err(error) if error.kind() == ErrorKind::OutOfMemory => {
-                return Err(OutputError::NoMemory);
-            }
-            Err(_) => return Ok(path),
-        }
+/// Opens the folder of a file, where it may be read.
+fn open_folder<R: Files<File = File>>(
+    alloc: Global,
+    rt: &R,
+    file: &PathBuf,
+) -> io::Result<Option<File>> {
+    let mut folder = PathBuf::from_str(alloc, file.as_str())?;
+    folder.pop();
+    if folder.as_str().is_empty() {
+        folder.push(".")?;
     }
-    Err(OutputError::Io(io::Error::from(ErrorKind::FilesystemLoop)))
+    match File::open(rt, folder.as_str()) {
+        Ok(folder) => Ok(Some(folder)),
+        Err(error) if error.kind() == ErrorKind::PermissionDenied => Ok(None),
+        Err(error) => Err(error),
+    }
 }
 
-impl<F: Write + OpenFile + Drop> Output<F> {
+/// Has the names of a folder kept, where its file system can promise that.
+fn sync_folder(folder: Option<File>) -> io::Result<()> {
+    match folder {
+        None => Ok(()),
+        Some(folder) => match folder.sync_all() {
+            Err(error) if error.kind() == ErrorKind::InvalidInput => Ok(()),
+            synced => synced,
+        },
+    }
+}
+
+/// Gives a whole file its name, and what it replaces is gone. Answers the folder, which is still to be kept.
+fn give_name<R: Files<File = File>>(
+    alloc: Global,
+    rt: &R,
+    file: &File,
+    replacing: &Replacing,
+) -> io::Result<Option<File>> {
+    if let Some(old) = &replacing.old {
+        keep_access(file, old)?;
+    }
+    file.sync_all()?;
+    let folder = open_folder(alloc, rt, &replacing.target)?;
+    let temporary = replacing.temporary.as_str();
+    match rt.rename(temporary, replacing.target.as_str()) {
+        Ok(()) => Ok(folder),
+        Err(error) => match &replacing.old {
+            Some(old) if error.kind() == ErrorKind::ResourceBusy => {
+                pour(file, old)?;
+                rt.remove_file(temporary)?;
+                Ok(folder)
+            }
+            _ => Err(error),
+        },
+    }
+}
+
+/// Makes the second file hold what the first one holds: a file that is mounted keeps its name for good.
+fn pour(mut whole: &File, mut old: &File) -> io::Result<()> {
+    whole.seek(SeekFrom::Start(0))?;
+    old.set_len(0)?;
+    io::copy(&mut whole, &mut old)?;
+    old.sync_all()
+}
+
+impl Output {
     /// One write.
     pub fn write(&mut self, bytes: &[u8]) -> io::Result<usize>
         ensures bound { WritesAtMost result bytes.now }
@@ -203,37 +267,29 @@ impl<F: Write + OpenFile + Drop> Output<F> {
         self.file.write(bytes)
     }
 
-    /// Closes the file. One with a temporary name is flushed to the disk before, and takes its own name after;
-    /// at a fault it is removed instead. What stood under its own name is whole at all times.
-    pub fn finish<R: Files>(self, rt: &R) -> io::Result<()> {
+    /// Closes the file. One with a temporary name is given the access of what it replaces, is flushed to the disk, and
+    /// takes its own name; at a fault it is removed instead. What stood under its own name is whole at all times, but
+    /// where that is mounted.
+    pub fn finish<R: Files<File = File>>(self, alloc: Global, rt: &R) -> io::Result<()> {
         let Output { file, replacing } = self;
-        let Some(Replacing { temporary, target }) = replacing else {
+        let Some(replacing) = replacing else {
             return Ok(());
         };
-        let flushed = file.sync_all();
-        drop(file);
-        let named = match flushed {
-            Ok(()) => rt.rename(temporary.as_str(), target.as_str()),
-            Err(error) => Err(error),
-        };
-        if named.is_err() {
-            let _ = rt.remove_file(temporary.as_str());
+        match give_name(alloc, rt, &file, &replacing) {
+            Ok(folder) => sync_folder(folder),
+            Err(error) => {
+                let _ = rt.remove_file(replacing.temporary.as_str());
+                Err(error)
+            }
         }
-        named
     }
 
     /// Closes the file, and removes it where it has a temporary name.
-    pub fn abandon<R: Files>(self, rt: &R) {
+    pub fn abandon<R: Files<File = File>>(self, rt: &R) {
         let Output { file, replacing } = self;
         drop(file);
-        if let Some(
-            Replacing {
-                temporary,
-                target: _,
-            },
-        ) = replacing
-        {
-            let _ = rt.remove_file(temporary.as_str());
+        if let Some(replacing) = replacing {
+            let _ = rt.remove_file(replacing.temporary.as_str());
         }
     }
 }

@@ -1,0 +1,78 @@
+//! Where the name of an output leads to.
+use crate::system::OutputError;
+use std::alloc::Global;
+use std::fs::{File, Files};
+use std::io;
+use std::io::ErrorKind;
+use std::path::PathBuf;
+
+/// A chain of more symbolic links than this isn't followed, as in the system's own calls.
+const LINKS: u32 = 40;
+
+/// The folder below which the system tells of processes. Nothing in it can be replaced.
+const PROCESSES: &str = "/proc/";
+
+/// Where a chain of symbolic links leads to.
+#[derive(Drop)]
+pub enum Place {
+    /// To this name, which is no link. What it names may be absent.
+    Name(PathBuf),
+    /// To an open descriptor, or to something else that the system tells of a process.
+    Descriptor,
+}
+
+/// Where the name leads to: of a name that is no link, to itself.
+pub fn place_of<R: Files<File = File>>(
+    alloc: Global,
+    rt: &R,
+    name: &str,
+) -> Result<Place, OutputError> {
+    let mut path = PathBuf::from_str(alloc, name)?;
+    // The last look finds that the chain ends.
+    for _ in 0..=LINKS {
+        if is_of_process(alloc, rt, &path)? {
+            return Ok(Place::Descriptor);
+        }
+        match rt.read_link(alloc, path.as_str()) {
+            Ok(next) => {
+                path.pop();
+                path.push(next.as_str())?;
+            }
+            Err(error) if is_no_link(error) => return Ok(Place::Name(path)),
+            Err(error) => return Err(or_no_memory(error)),
+        }
+    }
+    Err(OutputError::Io(io::Error::from(ErrorKind::FilesystemLoop)))
+}
+
+/// Whether the system says that a name is none of a link: what it names is something else, or absent.
+fn is_no_link(error: io::Error) -> bool {
+    error.kind() == ErrorKind::InvalidInput || error.kind() == ErrorKind::NotFound
+}
+
+/// Whether the folder of this name lies below that of the processes.
+fn is_of_process<R: Files<File = File>>(
+    alloc: Global,
+    rt: &R,
+    path: &PathBuf,
+) -> Result<bool, OutputError> {
+    let mut folder = PathBuf::from_str(alloc, path.as_str())?;
+    folder.pop();
+    if folder.as_str().is_empty() {
+        folder.push(".")?;
+    }
+    match rt.canonicalize(alloc, folder.as_str()) {
+        Ok(folder) => Ok(folder.as_str().starts_with(PROCESSES)),
+        Err(error) if error.kind() == ErrorKind::OutOfMemory => Err(OutputError::NoMemory),
+        // What can't be found is no folder of the system's.
+        Err(_) => Ok(false),
+    }
+}
+
+fn or_no_memory(error: io::Error) -> OutputError {
+    if error.kind() == ErrorKind::OutOfMemory {
+        OutputError::NoMemory
+    } else {
+        OutputError::Io(error)
+    }
+}
