@@ -98,10 +98,7 @@ fn begin_over<R: Files<File = File>>(
     }
     if is_stream(rt, "/dev/stdout", &found) {
         let reason = "the standard output goes to this file";
-        return Err(OutputError::Io(io::Error::new(
-            ErrorKind::InvalidInput,
-            reason,
-        )));
+        return Err(OutputError::Io(io::Error::new(ErrorKind::InvalidInput, reason)));
     }
     match place_of(alloc, rt, name)? {
         Place::Name(target) if !is_stream(rt, "/dev/stderr", &found) => {
