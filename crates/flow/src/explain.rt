@@ -22,6 +22,9 @@ flow -- NETFILE              runs a file whose name begins with -";
 const OTHER_RUN: &str =
     "A journal is replayed with the network file and the input files of its own run.";
 
+const KINDS: &str =
+    "The kinds are Brackets, Bundle, Collate, Concat, Copy, Count, Discard, Fill, Hoard, LoadBalance, Passthru, ReadLines, Select, Unbundle, Words and WriteLines.";
+
 /// Explains a status, where there is more to say than its line on the standard output. What can't be said, for want of
 /// memory or of a standard error, is left out.
 pub fn explain<R: Files<File = File> + Eprint + Drop>(
@@ -99,19 +102,69 @@ fn sentence(reason: Reason) -> &'static str {
     }
 }
 
-// Shows the first statement that names what the fault is about, where it names something.
+// Shows the statement that is at fault, where the fault is about a process.
 fn explain_network<R: Eprint>(alloc: Global, rt: &R, net: &[u8], fault: &ExpandFault) {
     let Some(name) = name_of(fault) else {
         return;
     };
-    let name = first_word(name);
+    let (first, part) = match part_of(fault) {
+        Some(part) if first_word(name).len() == name.len() => (name, part),
+        // Inside a subnet a port or a kind is told of another process than the statement names.
+        _ => (first_word(name), b"".as_slice()),
+    };
+    let wanted: u64 = if is_taken(fault) { 2 } else { 1 };
+    if !show_statement(alloc, rt, net, first, part, wanted) {
+        show_statement(alloc, rt, net, first, b"", 1);
+    }
+    if let ExpandFault::Plan(PlanFault::UnknownKind(_, _)) = fault {
+        say(rt, KINDS);
+    }
+}
+
+// Shows the statement that is the wanted one of those that have both words, and says whether there is one.
+fn show_statement<R: Eprint>(
+    alloc: Global,
+    rt: &R,
+    net: &[u8],
+    name: &[u8],
+    part: &[u8],
+    wanted: u64,
+) -> bool {
     let mut number: u64 = 0;
+    let mut found: u64 = 0;
     for line in net.split(|byte| *byte == b'\n') {
         number = number.saturating_add(1);
-        if !is_remark(line) && mentions(line, name) {
-            show_line(alloc, rt, number, line);
-            return;
+        if !is_remark(line) && mentions(line, name) && (part.is_empty() || mentions(line, part)) {
+            found = found.saturating_add(1);
+            if found == wanted {
+                show_line(alloc, rt, number, line);
+                return true;
+            }
         }
+    }
+    false
+}
+
+// The port or the kind that a fault is about, where a statement names it.
+fn part_of(fault: &ExpandFault) -> Option<&[u8]> {
+    let part = match fault {
+        ExpandFault::OuterPort(_, port) => &port.name,
+        ExpandFault::Plan(PlanFault::UnknownKind(_, kind)) => kind,
+        ExpandFault::Plan(PlanFault::PortUnknown(_, port)) => &port.name,
+        ExpandFault::Plan(PlanFault::NeedsInitial(_, port)) => &port.name,
+        ExpandFault::Plan(PlanFault::PortTaken(_, port)) => &port.name,
+        ExpandFault::Plan(PlanFault::BadOption(_, port)) => &port.name,
+        ExpandFault::Plan(PlanFault::ElementGap(_, port, _)) => port,
+        _ => return None,
+    };
+    Some(part.as_slice())
+}
+
+// Whether the fault is a port that has its connection or text already: its second statement is at fault.
+fn is_taken(fault: &ExpandFault) -> bool {
+    match fault {
+        ExpandFault::Plan(PlanFault::PortTaken(_, _)) => true,
+        _ => false,
     }
 }
 
