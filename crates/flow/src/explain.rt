@@ -22,6 +22,18 @@ flow -- NETFILE              runs a file whose name begins with -";
 const OTHER_RUN: &str =
     "A journal is replayed with the network file and the input files of its own run.";
 
+const FORMS: &str =
+    "The line is none of the forms, or one that may not stand there. A line says one thing, as
+  A(ReadLines)              a process and its kind
+  A OUT -> (20) IN B        a connection, maybe with a capacity
+  'in.txt' -> FILE A        a text or a number, always in quotes
+  subnet S, inport IN -> IN B, outport B OUT -> OUT, end
+A remark stands in a line of its own, which begins with #.";
+
+const OPTIONS: &str =
+    "A SIZE is a number from 1 to 1048576; FIELDS are one to eight numbers from 1 to 255 with one space between two;
+a FILE is a name of 1 to 255 bytes that is UTF-8 and has no byte 0.";
+
 const KINDS: &str =
     "The kinds are Brackets, Bundle, Collate, Concat, Copy, Count, Discard, Fill, Hoard, LoadBalance, Passthru, ReadLines, Select, Unbundle, Words and WriteLines.";
 
@@ -90,7 +102,7 @@ fn sentence(reason: Reason) -> &'static str {
         Reason::Header => "The first line that is no remark has to be: flow 1",
         Reason::Byte => "A byte outside of a quoted text begins no word, number or sign.",
         Reason::Quote => "A quoted text isn't closed in its line; two quotes stand for one in it.",
-        Reason::Form => "The line is none of the forms, or one that may not stand there.",
+        Reason::Form => FORMS,
         Reason::Name =>
             "A name begins with a letter, has letters, digits and _, at most 64 of them, and is no word of the language.",
         Reason::Number =>
@@ -116,8 +128,10 @@ fn explain_network<R: Eprint>(alloc: Global, rt: &R, net: &[u8], fault: &ExpandF
     if !show_statement(alloc, rt, net, first, part, wanted) {
         show_statement(alloc, rt, net, first, b"", 1);
     }
-    if let ExpandFault::Plan(PlanFault::UnknownKind(_, _)) = fault {
-        say(rt, KINDS);
+    match fault {
+        ExpandFault::Plan(PlanFault::UnknownKind(_, _)) => say(rt, KINDS),
+        ExpandFault::Plan(PlanFault::BadOption(_, _)) => say(rt, OPTIONS),
+        _ => {}
     }
 }
 
