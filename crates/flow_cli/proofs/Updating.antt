@@ -9,6 +9,7 @@ use Rattle.flow_determinate.specs.Standard.{AreFirstOf}
 use Rattle.flow_cli.specs.Causes.{Work}
 use Rattle.flow_cli.specs.Components.{AreComponents}
 use Rattle.flow_cli.specs.Meant.{LeavesMeaning}
+use Rattle.flow_cli.specs.Runs.{bytes_in}
 use Rattle.flow_cli.specs.Updates.{CollatesEach, LeavesBooks}
 use Rattle.flow_cli.proofs.Fitting.{components-fit}
 use Rattle.flow_cli.proofs.Meaning.{are-first}
@@ -26,5 +27,6 @@ of-plan plan given ks are p component at = let is = are.each p component at in r
 pub leaves-books : BatchMeans → (w : Work) (limit : ℕ) → LeavesMeaning w limit → LeavesBooks w limit
 leaves-books means w limit (inl l) =
     let meant = l.4 in
-    inl (l.0, l.1, l.2, l.3, meant, means meant.plan meant.components meant.wrote (of-plan meant.plan meant.ready.given meant.components meant.ready.are_components) meant.composes)
+    let run = meant.whole.run in
+    inl (l.0, l.1, l.2, l.3, meant, means meant.whole.plan run.components (bytes_in meant.whole.last) (of-plan meant.whole.plan run.ready.given run.components run.ready.are_components) meant.composes)
 leaves-books means w limit (inr l) = inr l

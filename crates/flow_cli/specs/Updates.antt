@@ -14,6 +14,7 @@ use Rattle.flow_meanings.specs.Batches.{AreCollated, WritesBooks}
 use Rattle.flow_cli.specs.Causes.{Work, IsRunOf}
 use Rattle.flow_cli.specs.Meant.{IsMeant, ChangesNoName}
 use Rattle.flow_cli.specs.Reads.{Asks}
+use Rattle.flow_cli.specs.Runs.{bytes_in}
 
 -- Wherever a run stood, each Collate that had ended there had sent the collation of what its elements got.
 abbrev pub CollatesEach : Work → ℕ → Type 0
@@ -24,4 +25,4 @@ CollatesEach w limit =
 -- A run that finished left what its network means, and so the book of each batch update of sorted files; a check, a replay and a make leave none.
 abbrev pub LeavesBooks : Work → ℕ → Type 0
 LeavesBooks w limit =
-    ((name : Name) × (keeps : Option Name) × (workers : ℕ) × Asks w.words (Run name keeps workers) × (meant : IsMeant w limit name keeps) × WritesBooks meant.plan meant.components meant.wrote) ⊎ ChangesNoName w
+    ((name : Name) × (keeps : Option Name) × (workers : ℕ) × Asks w.words (Run name keeps workers) × (meant : IsMeant w limit name keeps workers) × WritesBooks meant.whole.plan meant.whole.run.components (bytes_in meant.whole.last)) ⊎ ChangesNoName w

@@ -28,7 +28,7 @@ returns-in-Ok-clause-meaning g c = λ finished.
 pub returns-in-Ok-clause-books : goal.returns-in-Ok-clause-books
 returns-in-Ok-clause-books g c = λ finished.
     leaves-books c.a_batch_update_writes_its_book.ensures (record { words = c.args.words.now; before = g.F.Edge.outside c.args.shelf.now; after = g.F.Edge.outside c.conclude.new.shelf; journal = c.conclude.result.journal }) FILE_LIMIT
-    (done-meaning c.a_valid_plan_is_ready.ensures.starts c.a_finished_network_composes_its_meanings.ensures
+    (done-meaning c.a_valid_plan_is_ready.ensures.starts c.a_finished_network_composes_its_meanings.ensures c.a_finished_network_leads_on.ensures
     c.args.words.now (g.F.Edge.outside c.args.shelf.now) (g.F.Edge.outside c.perform.new.shelf) (g.F.Edge.outside c.conclude.new.shelf) (g.O.Edge.outside c.args.out.now) (g.O.Edge.outside c.conclude.new.out)
     c.in-Ok.done c.conclude.result FILE_LIMIT c.in-Ok.ensures c.conclude.ensures finished)
 
