@@ -9,7 +9,7 @@ use std::thread;
 const LOOKS: u32 = 1_000_000;
 
 /// A gate that holds the first pass of each reader until a pass of every reader was reached. The readers are every second process, from
-/// process 0 on.
+/// process 0 on. A run whose workers never pass it isn't full at the end, and one that runs them one after another has a reader that waits in vain.
 #[derive(Drop)]
 struct Meeting {
     readers: u64,
@@ -89,6 +89,7 @@ fn gate_holds_two(rt: HostRuntime) -> Result<(), Fail> {
     let gate = Meeting::new(2);
     let called = call(&rt, rt.alloc(), &["--workers", "2", "net"], TWO, &gate)?;
     assert_eq!(rt; called.status, 0);
+    assert!(rt; gate.is_full());
     assert_eq!(rt; gate.alone.load(Ordering::SeqCst), 0);
     for name in ["v", "w"] {
         assert!(rt; called.shelf.file(name) == Some(b"x\ny\n".as_slice()));
@@ -101,6 +102,7 @@ fn gate_holds_four(rt: HostRuntime) -> Result<(), Fail> {
     let gate = Meeting::new(4);
     let called = call(&rt, rt.alloc(), &["--workers", "4", "net"], FOUR, &gate)?;
     assert_eq!(rt; called.status, 0);
+    assert!(rt; gate.is_full());
     assert_eq!(rt; gate.alone.load(Ordering::SeqCst), 0);
     for name in ["v", "w", "x", "y"] {
         assert!(rt; called.shelf.file(name) == Some(b"x\ny\n".as_slice()));
