@@ -1,10 +1,10 @@
 //! What the program says besides on the standard error: what a person needs to find a fault. No contract speaks of it.
 use crate::shown::show_line;
 use flow_cli::{FILE_LIMIT, Refusal, Status, Stop, network, read_file};
+use flow_files::FileShelf;
 use flow_flat::ExpandFault;
 use flow_net::PlanFault;
 use flow_parse::{NetFault, Reason};
-use flow_text::FileShelf;
 use flow_words::{Command, command};
 use std::alloc::Global;
 use std::fs::{File, Files};

@@ -9,7 +9,7 @@ mod shown;
 use crate::explain::explain;
 use flow_cli::{Status, busy_top, needs_workers, plain_top};
 use flow_component::NoGate;
-use flow_text::{FileShelf, StdSink};
+use flow_files::{FileShelf, StdSink};
 use std::alloc::{AllocError, Global};
 use std::process::ExitCode;
 use std::{env, io};

@@ -32,6 +32,7 @@ impl Model for Log {
 }
 
 impl Log {
+    /// No file so far.
     pub fn new(alloc: Global) -> Self
         ensures { result ≡ [] }
     {

@@ -1,7 +1,7 @@
 use Rattle.std.proofs.Common.{sym, ap, arith}
-use Rattle.flow_text.specs.Real.{untold}
+use Rattle.flow_files.specs.Real.{untold}
 use Rattle.flow_text.proofs.Logs.{last_moved-nil}
-use Rattle.flow_text.proofs.real.FileShelfSink.write.Goals as goal
+use Rattle.flow_files.proofs.shelf.FileShelfSink.write.Goals as goal
 
 pub returns-then-is_empty : goal.returns-then-is_empty
 returns-then-is_empty g c =

@@ -1,0 +1,15 @@
+//! What stands outside a program over the real system: its files as a shelf, and the standard output as a sink.
+#![tactic(auto)]
+
+mod access;
+mod again;
+mod place;
+mod shelf;
+mod stdout;
+mod system;
+
+pub use shelf::FileShelf;
+pub use stdout::StdSink;
+
+#[cfg(test)]
+mod tests;

@@ -1,0 +1,68 @@
+//! The standard output as a sink. What it took stands in its log: that the system did what it answered is trusted.
+ghost use Rattle.std.specs.Prelude.{◌≡◌, []};
+
+use crate::again::print_again;
+use flow_text::{Edge, Fault, History, Sink};
+use std::io;
+use std::marker::Model;
+
+/// The standard output.
+#[derive(Drop)]
+pub struct StdSink<R: Print + Drop> {
+    rt: R,
+    write_faults: u64,
+    given: History,
+    reason: Option<io::Error>,
+}
+
+impl<R: Print + Drop> Model for StdSink<R> {
+    ghost use Rattle.flow_files.specs.Real.{Streamed};
+
+    ghost Value = { Streamed };
+
+    ghost view = { λ s. record { write_faults = s.write_faults; given = s.given.bytes } };
+}
+
+impl<R: Print + Drop> StdSink<R> {
+    /// The output that the runtime gives, without a fault so far.
+    pub fn new(rt: R) -> Self
+        ensures { result ≡ record { write_faults = 0; given = [] } }
+    {
+        StdSink {
+            rt,
+            write_faults: 0,
+            given: History::none(),
+            reason: None,
+        }
+    }
+
+    /// What the system answered at the last fault.
+    pub fn reason(&self) -> Option<io::Error> {
+        self.reason
+    }
+}
+
+impl<R: Print + Drop> Edge for StdSink<R> {
+    ghost use Rattle.flow_files.specs.Real.{untold_sink};
+
+    ghost outside = { untold_sink };
+}
+
+impl<R: Print + Drop> Sink for StdSink<R> {
+    fn write(&mut self, bytes: &[u8]) -> Result<usize, Fault> {
+        if bytes.is_empty() {
+            return Ok(0);
+        }
+        match print_again(&self.rt, bytes) {
+            Ok(n) => {
+                self.given = self.given.and(&bytes[..n]);
+                Ok(n)
+            }
+            Err(error) => {
+                self.reason = Some(error);
+                self.write_faults = self.write_faults.saturating_add(1);
+                Err(Fault)
+            }
+        }
+    }
+}
