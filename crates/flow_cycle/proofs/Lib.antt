@@ -4,4 +4,5 @@ pub mod Walking
 pub mod Deadlocks
 pub mod Firsts
 pub mod Nets
+pub mod Marks
 pub mod Steps

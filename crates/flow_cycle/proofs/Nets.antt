@@ -32,7 +32,7 @@ use Rattle.flow_machine.specs.Values.{BodyValue, NetValue, shown_body, shown_net
 use Rattle.flow_machine.specs.Nets.{looks_of}
 use Rattle.flow_cycle.specs.declared.Waits.{Waits}
 use Rattle.flow_cycle.specs.Waiting.{first_open_sender, waits_for_sender, or_else, waits_to_wake, waits_by, waits_of, waits_at, lowest_blocked, walk, IsWaitingCycle}
-use Rattle.flow_cycle.specs.Nets.{has_ended, goes_on, first_on, wakes_in, waits_in_by, waits_of_body, waits_in, is_blocked, is_stuck, cycle_in, IsReached, IsCycleOf}
+use Rattle.flow_cycle.specs.Nets.{has_ended, not_ended, first_on, wakes_in, waits_in_by, waits_of_body, waits_in, is_blocked, is_stuck, cycle_in, IsReached, IsCycleOf}
 use Rattle.flow_cycle.proofs.Blocked.{one-of, is-there, there-below, BlockedSo, empty, full, dormant, blocked-so, block-waits, fit, channels}
 use Rattle.flow_cycle.proofs.Deadlocks.{ended-or, some-true, get-there, blocks-too, lowest, found, is-cycle}
 use Rattle.flow_cycle.proofs.Channels.{ChannelsOf}
@@ -112,14 +112,14 @@ close-any {K} ls x some j = of (block_of ls x) refl some
     of (Some b) at some = by b (blocked-so x b (block-waits ls x b at))
     of None at some = absurd (cc)
 
-not-ended : (stage : Stage) (j : ℕ) → HasToClose stage j ⊎ IsFailedStage stage → not (has_ended stage) ≡ true
-not-ended stages.Ended j (inl has) = absurd has
-not-ended stages.Ended j (inr failed) = absurd failed
-not-ended stages.Idle j left = refl
-not-ended (stages.Told answer) j left = refl
-not-ended (stages.Wishing wish) j left = refl
-not-ended (stages.Closing i) j left = refl
-not-ended (stages.Failed cause) j left = refl
+left-on : (stage : Stage) (j : ℕ) → HasToClose stage j ⊎ IsFailedStage stage → not (has_ended stage) ≡ true
+left-on stages.Ended j (inl has) = absurd has
+left-on stages.Ended j (inr failed) = absurd failed
+left-on stages.Idle j left = refl
+left-on (stages.Told answer) j left = refl
+left-on (stages.Wishing wish) j left = refl
+left-on (stages.Closing i) j left = refl
+left-on (stages.Failed cause) j left = refl
 
 module _ {K : Type 0} (net : NetValue K) (s : State K) (stands : StandsForOpen (shown_net net) s) where
   same-processes : map (λ (b : BodyValue K). b.process) net.bodies ≡ s.kept.processes
@@ -191,15 +191,15 @@ module _ {K : Type 0} (shape_of : K → Shape) (uses : K → ℕ → Bool) (read
     blocks-now = blocks-too shape_of uses ready next obeys stays steady plan reached.components reached.journal s reached.well reached.leads deadlock
 
     -- an open sender's process hasn't ended
-    open-on : (c : ℕ) (channel : Channel) (sender : Sender) → slice_get s.kept.channels c ≡ Some channel → IsOpenSender sender channel.open_senders → goes_on (slice_get net.bodies sender.process) ≡ true
+    open-on : (c : ℕ) (channel : Channel) (sender : Sender) → slice_get s.kept.channels c ≡ Some channel → IsOpenSender sender channel.open_senders → not_ended (slice_get net.bodies sender.process) ≡ true
     open-on c channel sender there is =
         let left = (fit shape_of uses ready next obeys stays steady plan reached.components reached.journal s reached.well reached.leads deadlock).senders.only c channel sender there is in
         let b = body-at net s reached.stands sender.process left.process left.there in
-        ap goes_on b.1 ∙ ap (λ (x : Process K). not (has_ended x.stage)) b.2 ∙ not-ended left.process.stage left.place left.left
+        ap not_ended b.1 ∙ ap (λ (x : Process K). not (has_ended x.stage)) b.2 ∙ left-on left.process.stage left.place left.left
 
     -- a sender whose process hasn't ended is open
     on-open : (c : ℕ) (connection : PlanConnection) (channel : Channel) (sender : Sender) → slice_get plan.connections c ≡ Some connection → slice_get s.kept.channels c ≡ Some channel → IsOpenSender sender connection.senders
-        → goes_on (slice_get net.bodies sender.process) ≡ true → IsOpenSender sender channel.open_senders
+        → not_ended (slice_get net.bodies sender.process) ≡ true → IsOpenSender sender channel.open_senders
     on-open c connection channel sender at there is on =
         let p = sender.process in
         let o = sender.output in
@@ -210,7 +210,7 @@ module _ {K : Type 0} (shape_of : K → Shape) (uses : K → ℕ → Bool) (read
         )) in
         let now = sends-now shape_of uses ready next plan reached.components reached.journal s reached.well reached.leads p o c sends in
         let b = body-at net s reached.stands p now.0 now.1 in
-        let alive : not (has_ended now.0.stage) ≡ true = sym (ap goes_on b.1 ∙ ap (λ (x : Process K). not (has_ended x.stage)) b.2) ∙ on in
+        let alive : not (has_ended now.0.stage) ≡ true = sym (ap not_ended b.1 ∙ ap (λ (x : Process K). not (has_ended x.stage)) b.2) ∙ on in
         let some = blocks-now p now.0 now.1 (λ over. (let h : false ≡ true = sym (ap (λ (st : Stage). not (has_ended st)) over) ∙ alive in cc)) in
         by now.0 now.1 (close-any (looks s.kept.channels) now.0 some) (slice_get now.0.outputs o) refl now.2
       where
@@ -249,7 +249,7 @@ module _ {K : Type 0} (shape_of : K → Shape) (uses : K → ℕ → Bool) (read
             let channel = is-there s.kept.channels c (omega (arith, below, those.as_many)) in
             let different : AllDifferent connection.senders =
             (OpenSendersTell-start shape_of uses ready plan reached.components reached.well).once c (channel_at_start connection) (slice_get-map channel_at_start plan.connections c ∙ ap (option_map channel_at_start) at) in
-            first-among (λ (t : Sender). goes_on (slice_get net.bodies t.process)) channel.0.open_senders connection.senders (those.senders c channel.0 connection channel.1 at) different
+            first-among (λ (t : Sender). not_ended (slice_get net.bodies t.process)) channel.0.open_senders connection.senders (those.senders c channel.0 connection channel.1 at) different
             (λ t is. open-on c channel.0 t channel.1 is) (λ t is on. on-open c connection channel.0 t at channel.1 is on)
             ∙ sym (ap first_open_sender channel.1)
 

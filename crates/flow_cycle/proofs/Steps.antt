@@ -144,3 +144,9 @@ walk-back waits (suc n) way p rest some is = ap (λ r. went r (waits p) (λ w. w
 pub walk-on : (waits : ℕ → Option Waits) (n m : ℕ) (way : List Waits) (p : ℕ) (w : Waits) → n ≡ suc m → rest_from p way ≡ None → waits p ≡ Some w → walk waits n way p ≡ walk waits m (way ++ w ∷ []) w.to
 walk-on waits n m way p w one is at =
     ap (λ k. walk waits k way p) one ∙ ap (λ r. went r (waits p) (λ v. walk waits m (way ++ v ∷ []) v.to)) is ∙ ap (λ r. went None r (λ v. walk waits m (way ++ v ∷ []) v.to)) at
+
+-- And one that has nowhere to go.
+pub walk-none : (waits : ℕ → Option Waits) (n : ℕ) (way : List Waits) (p : ℕ) → rest_from p way ≡ None → waits p ≡ None → walk waits n way p ≡ None
+walk-none waits zero way p is at = refl
+walk-none waits (suc n) way p is at =
+    ap (λ r. went r (waits p) (λ v. walk waits n (way ++ v ∷ []) v.to)) is ∙ ap (λ r. went None r (λ v. walk waits n (way ++ v ∷ []) v.to)) at

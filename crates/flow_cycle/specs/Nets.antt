@@ -1,6 +1,6 @@
 -- The waiting cycle as it is found in a running net, which counts the open senders of a connection: in a deadlock a sender is open where
 -- its process hasn't ended. (This project's own.)
-use Rattle.std.specs.Prelude.{ℕ, ◌+◌, ◌||◌, not, if◌then◌else◌, Bool, true, false, List, [], ◌∷◌, length, Option, Some, None, slice_get, is_some, position, option_map, option_and_then, find}
+use Rattle.std.specs.Prelude.{◌≡◌, ℕ, ◌+◌, ◌||◌, not, if◌then◌else◌, Bool, true, false, List, [], ◌∷◌, length, Option, Some, None, slice_get, is_some, position, option_map, option_and_then, find}
 use Rattle.std.specs.List.{list_all}
 use Rattle.flow_component.specs.declared.Answer.{Answer}
 use Rattle.flow_component.specs.declared.Shape.{Shape}
@@ -21,7 +21,7 @@ use Rattle.flow_model.specs.Stands.{StandsForOpen}
 use Rattle.flow_machine.specs.Values.{BodyValue, NetValue, shown_net}
 use Rattle.flow_machine.specs.Nets.{looks_of}
 use Rattle.flow_cycle.specs.declared.Waits.{Waits}
-use Rattle.flow_cycle.specs.Waiting.{waits_for_sender, waits_for_receiver, or_else, walk, IsWaitingCycle}
+use Rattle.flow_cycle.specs.Waiting.{waits_for_sender, waits_for_receiver, or_else, rest_from, walk, IsWaitingCycle}
 
 -- The process at this stage has ended.
 abbrev pub has_ended : Stage → Bool
@@ -42,13 +42,13 @@ owes_work stages.Ended = false
 owes_work (stages.Failed cause) = false
 
 -- The process is there and hasn't ended.
-abbrev pub goes_on : {K : Type 0} → Option (BodyValue K) → Bool
-goes_on (Some b) = not (has_ended b.process.stage)
-goes_on None = false
+abbrev pub not_ended : {K : Type 0} → Option (BodyValue K) → Bool
+not_ended (Some b) = not (has_ended b.process.stage)
+not_ended None = false
 
 -- The first sender of a connection whose process hasn't ended.
 abbrev pub first_on : {K : Type 0} → List (BodyValue K) → Option PlanConnection → Option Sender
-first_on bodies (Some connection) = find (λ (s : Sender). goes_on (slice_get bodies s.process)) connection.senders
+first_on bodies (Some connection) = find (λ (s : Sender). not_ended (slice_get bodies s.process)) connection.senders
 first_on bodies None = None
 
 -- What a dormant process with these inputs waits for.
@@ -82,6 +82,10 @@ is_stuck net = list_all (λ b. has_ended b.process.stage || is_blocked net b) ne
 -- The cycle that is come to from the lowest blocked process. It has come back once all processes are on the way.
 abbrev pub cycle_in : {K : Type 0} → Plan → NetValue K → Option (List Waits)
 cycle_in plan net = if is_stuck net then option_and_then (walk (waits_in plan net) (length net.bodies + 1) []) (position (is_blocked net) net.bodies) else None
+
+-- Each process that stands on the way and has a mark has it set.
+abbrev pub AllMarked : List Bool → List Waits → Type 0
+AllMarked marks way = (p : ℕ) → slice_get marks p ≡ Some false → rest_from p way ≡ None
 
 -- The net stands for this state, which a schedule reaches from a start of the plan.
 pub record IsReached {K : Type 0} (shape_of : K → Shape) (uses : K → ℕ → Bool) (ready : K → Held → Answer → Type 0) (next : K → Held → Answer → Outcome K → Type 0) (plan : Plan) (net : NetValue K) (s : State K) : Type 0 where

@@ -1,11 +1,11 @@
 //! The waiting cycle of a running net.
-ghost use Rattle.std.specs.Prelude.{◌≡◌, ◌<◌, ◌+◌, ◌||◌, [], drop, length, IfOk, IfSome, Some, None, slice_get, option_map, option_and_then, position, find};
+ghost use Rattle.std.specs.Prelude.{◌≡◌, ◌<◌, ◌+◌, ◌||◌, ◌↔◌, [], true, false, drop, length, IfOk, IfSome, IsTrue, Some, None, slice_get, slice_set, option_map, option_and_then, position, find};
 ghost use Rattle.std.specs.List.{list_all};
 ghost use Rattle.flow_model.specs.States.{State};
 ghost use Rattle.flow_machine.specs.Nets.{block_at};
 ghost use Rattle.flow_plan.specs.declared.plan.Sender.{Sender};
 ghost use Rattle.flow_cycle.specs.Waiting.{waits_for_sender, waits_for_receiver, rest_from, walk};
-ghost use Rattle.flow_cycle.specs.Nets.{has_ended, owes_work, goes_on, first_on, wakes_in, waits_in, is_blocked, is_stuck, cycle_in, IsReached, IsCycleOf};
+ghost use Rattle.flow_cycle.specs.Nets.{has_ended, owes_work, not_ended, first_on, wakes_in, waits_in, is_blocked, is_stuck, cycle_in, AllMarked, IsReached, IsCycleOf};
 
 use crate::Waits;
 use flow_component::Component;
@@ -45,8 +45,8 @@ fn block_of<K: Component>(net: &Net<K>, process: u32) -> Option<Block>
 }
 
 // The process is there and hasn't ended.
-fn goes_on<K: Component>(net: &Net<K>, process: u32) -> bool
-    ensures { result ≡ goes_on (slice_get net.now.bodies process) }
+fn not_ended<K: Component>(net: &Net<K>, process: u32) -> bool
+    ensures { result ≡ not_ended (slice_get net.now.bodies process) }
 {
     if process < net.processes() {
         !has_ended(net.body(process).stage())
@@ -57,10 +57,10 @@ fn goes_on<K: Component>(net: &Net<K>, process: u32) -> bool
 
 // The first of these senders whose process hasn't ended.
 fn first_of<K: Component>(net: &Net<K>, senders: &[Sender]) -> Option<Sender>
-    ensures { result ≡ find (λ (s : Sender). goes_on (slice_get net.now.bodies s.process)) senders.now }
+    ensures { result ≡ find (λ (s : Sender). not_ended (slice_get net.now.bodies s.process)) senders.now }
 {
     for sender in senders {
-        if goes_on(net, sender.process) {
+        if not_ended(net, sender.process) {
             return Some(*sender);
         }
     }
@@ -180,6 +180,37 @@ fn rest(alloc: Global, way: &[Waits], place: usize) -> Result<Vec<Waits>, AllocE
     Ok(rest)
 }
 
+// There is a mark for the process, and it isn't set.
+fn is_unmarked(marks: &[bool], process: u32) -> bool
+    ensures { IsTrue result ↔ slice_get marks.now process ≡ Some false }
+{
+    match marks.get(process as usize) {
+        Some(mark) => !*mark,
+        None => false,
+    }
+}
+
+// Sets the mark of the process, if there is one.
+fn mark(marks: &mut Vec<bool>, process: u32)
+    ensures { marks.new.items ≡ slice_set marks.old.items process true }
+{
+    if (process as usize) < marks.len() {
+        marks[process as usize] = true;
+    }
+}
+
+// Where on the way the process stands first, if it does. Only one with a mark is looked for, so that the whole walk looks once.
+fn come_back(marks: &[bool], way: &[Waits], process: u32) -> Option<usize>
+    requires { AllMarked marks.now way.now }
+    ensures within { IfSome result (λ place. place < length way.now) }
+    ensures rest { rest_from process way.now ≡ option_map (λ place. drop place way.now) result }
+{
+    if is_unmarked(marks, process) {
+        return None;
+    }
+    place_of(way, process)
+}
+
 // The cycle to which the way from this process leads.
 fn walk<K: Component>(
     alloc: Global,
@@ -190,15 +221,17 @@ fn walk<K: Component>(
     ensures { IfOk result (λ found. option_map (λ cycle. cycle.items) found ≡ walk (waits_in plan.now net.now) (length net.now.bodies + 1) [] first) }
 {
     let steps = net.processes() + 1;
+    let mut marks = vec![in alloc; false; net.processes() as usize]?;
     let mut way = Vec::new(alloc);
     let mut process = first;
     'steps: for _ in 0..steps {
-        if let Some(place) = place_of(&way, process) {
+        if let Some(place) = come_back(marks.as_slice(), &way, process) {
             return Ok(Some(rest(alloc, &way, place)?));
         }
         let Some(next) = waits(plan, net, process) else {
             return Ok(None);
         };
+        mark(&mut marks, process);
         way.push(next)?;
         process = next.to;
     }
