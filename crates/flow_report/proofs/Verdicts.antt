@@ -16,7 +16,8 @@ use Rattle.flow_model.specs.Places.{places}
 use Rattle.flow_model.specs.Fit.{Fit}
 use Rattle.flow_model.specs.Verdicts.{exact_level, block_of, Quiet}
 use Rattle.flow_model.proofs.Blocks.{IsOverOrOwes, turn-or-block, block-no_turn}
-use Rattle.flow_report.specs.Of.{has_ended, has_failed, goes_on, verdict_by}
+use Rattle.flow_cycle.specs.Nets.{has_ended}
+use Rattle.flow_report.specs.Of.{has_failed, goes_on, verdict_by}
 use Rattle.flow_report.specs.States.{IsVerdict}
 use Rattle.flow_report.proofs.Tests.{all-each, any-some, any-none, any-there, all-not}
 

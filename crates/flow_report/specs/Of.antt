@@ -18,7 +18,7 @@ use Rattle.flow_machine.specs.Answers.{status_of}
 use Rattle.flow_machine.specs.Values.{BodyValue, NetValue}
 use Rattle.flow_machine.specs.Nets.{looks_of}
 use Rattle.flow_plan.specs.Network.{Network}
-use Rattle.flow_cycle.specs.Nets.{cycle_in}
+use Rattle.flow_cycle.specs.Nets.{cycle_in, has_ended}
 use Rattle.flow_report.specs.declared.of.Totals.{Totals}
 use Rattle.flow_report.specs.declared.report.Verdict.{Verdict}
 use Rattle.flow_report.specs.declared.report.Verdict.TheVariants.{Finished, FinishedLeft, Deadlock, Failed, Running}
@@ -39,15 +39,6 @@ use Rattle.flow_report.specs.Text.{Told}
 abbrev pub capped : ℕ → ℕ
 capped n = min n (2 ^ 64 - 1)
 
--- The process has ended.
-abbrev pub has_ended : Stage → Bool
-has_ended stages.Ended = true
-has_ended stages.Idle = false
-has_ended (stages.Told answer) = false
-has_ended (stages.Wishing wish) = false
-has_ended (stages.Closing place) = false
-has_ended (stages.Failed cause) = false
-
 -- The process has failed.
 abbrev pub has_failed : Stage → Bool
 has_failed (stages.Failed cause) = true
@@ -56,15 +47,6 @@ has_failed (stages.Told answer) = false
 has_failed (stages.Wishing wish) = false
 has_failed (stages.Closing place) = false
 has_failed stages.Ended = false
-
--- The process has a work that is still to come.
-abbrev pub is_open : Stage → Bool
-is_open (stages.Told answer) = true
-is_open stages.Idle = false
-is_open (stages.Wishing wish) = false
-is_open (stages.Closing place) = false
-is_open stages.Ended = false
-is_open (stages.Failed cause) = false
 
 -- A process that has neither ended nor failed goes on where it isn't blocked: it has a turn, or a work that is still to come.
 abbrev pub goes_on : {K : Type 0} → List Look → Process K → Bool

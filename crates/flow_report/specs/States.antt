@@ -70,6 +70,10 @@ pub record TellsOf {K : Type 0} (plan : Network) (s : State K) (told : Told) : T
   pub dropped : told.dropped ≡ length (ids_dropped s.past.dropped (length s.kept.processes))
   pub adds_up : told.made ≡ told.dropped + length told.left
 
+-- One report at most tells of this state of a network.
+abbrev pub HasOneReport : {K : Type 0} → State K → Type 0
+HasOneReport s = (plan : Network) (told other : Told) → TellsOf plan s told → TellsOf plan s other → told ≡ other
+
 -- The report of a net tells of every state that the net stands for and a schedule reaches from a start of the plan, whether or not a process can go on there.
 abbrev pub ReportsTell : {K : Type 0} → (K → Shape) → (K → ℕ → Bool) → (K → Held → Answer → Type 0) → (K → Held → Answer → Outcome K → Type 0) → Type 0
 ReportsTell {K} shape_of uses ready next =

@@ -12,4 +12,4 @@ mod states;
 pub use report::{
     Blocked, Cause, ConnectionLine, Failure, LeftPacket, Place, ProcessLine, Report, Verdict, Wait,
 };
-pub use states::a_report_tells_of_its_state;
+pub use states::{a_report_tells_of_its_state, a_state_has_one_report};

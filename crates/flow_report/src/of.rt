@@ -3,8 +3,8 @@ ghost use Rattle.std.specs.Prelude.{◌≡◌, ◌<◌, ◌++◌, ◌==◌, ◌|
 ghost use Rattle.std.specs.List.{list_all, list_any};
 ghost use Rattle.std.specs.Option.{is_none};
 ghost use Rattle.flow_machine.specs.Nets.{block_at, looks_of};
-ghost use Rattle.flow_cycle.specs.Nets.{cycle_in};
-ghost use Rattle.flow_report.specs.Of.{totals_in, with_process, verdict_by, has_ended, has_failed, goes_on, is_open, cause_at, failed_at, named_block, block_told, failure_told, told_from, processes_of};
+ghost use Rattle.flow_cycle.specs.Nets.{cycle_in, has_ended, owes_work};
+ghost use Rattle.flow_report.specs.Of.{totals_in, with_process, verdict_by, has_failed, goes_on, cause_at, failed_at, named_block, block_told, failure_told, told_from, processes_of};
 
 use crate::names::{input_text, name_text, output_text};
 use crate::report::{Blocked, Cause, Failure, LeftPacket, Verdict, Wait};
@@ -42,8 +42,8 @@ fn has_failed(stage: Stage) -> bool
 }
 
 // Its work after an answer is still to come.
-fn is_open(stage: Stage) -> bool
-    ensures { result ≡ is_open stage }
+fn owes_work(stage: Stage) -> bool
+    ensures { result ≡ owes_work stage }
 {
     match stage {
         Stage::Told(_) => true,
@@ -85,7 +85,7 @@ fn block_of<K: Component>(net: &Net<K>, process: u32) -> Option<Block>
     requires { process < length net.now.bodies }
     ensures { result ≡ block_at net.now process }
 {
-    if is_open(net.body(process).stage()) {
+    if owes_work(net.body(process).stage()) {
         None
     } else {
         net.block(process)

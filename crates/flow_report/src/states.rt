@@ -1,5 +1,6 @@
 //! What a report tells of the network machine.
-ghost use Rattle.flow_report.specs.States.{ReportsTell};
+ghost use Rattle.flow_model.specs.States.{State};
+ghost use Rattle.flow_report.specs.States.{HasOneReport, ReportsTell};
 
 use flow_component::Component;
 
@@ -8,4 +9,9 @@ use flow_component::Component;
 /// told, and the totals are the state's.
 pub fn a_report_tells_of_its_state<K: Component>()
     ensures { ReportsTell K.shape_of K.uses K.ready K.next }
+{}
+
+/// One report at most tells of a state of the machine: so two networks that stand for one state, and two runs that end in it, have one report.
+pub fn a_state_has_one_report<K: Component>()
+    ensures { (s : State K) → HasOneReport s }
 {}
