@@ -131,24 +131,24 @@ fn the_examples_leave_what_is_expected(rt: HostRuntime) -> Result<(), Fail> {
             ..ROW
         },
         Row {
-            net: b"# A master file is updated by a detail file, both in the order of their keys. A record is a key of KEYLEN bytes, a sign and an amount:\n# M and N set the amount of the key where it has none, + adds to it, - takes from it, X erases it. What can't be done goes to a report.\nflow 1\n'examples/batch/masters.txt' -> FILE Masters(ReadLines)\n'examples/batch/details.txt' -> FILE Details(ReadLines)\nMasters OUT -> IN[0] Collate(Collate)\nDetails OUT -> IN[1] Collate\n'4' -> FIELDS Collate\nCollate OUT -> IN Update(Update)\n'4' -> KEYLEN Update\nUpdate OUT -> IN New(WriteLines)\nUpdate REP -> IN Refused(WriteLines)\n'examples/batch/new.txt' -> FILE New\n'examples/batch/refused.txt' -> FILE Refused\n",
+            net: b"# The stock of a shop, kept by one batch a night: the records of the day, in the order of their keys, update the masters.\n# A record is a key of 8 bytes (here a name, filled up with blanks), a sign and an amount. M and N set the amount of a key that has none,\n# + adds to it, - takes from it, X strikes the key out where it has just this amount. What can't be done is refused, into a file of its own.\nflow 1\n'examples/batch/masters.txt' -> FILE Masters(ReadLines)\n'examples/batch/details.txt' -> FILE Details(ReadLines)\nMasters OUT -> IN[0] Collate(Collate)\nDetails OUT -> IN[1] Collate\n'8' -> FIELDS Collate\nCollate OUT -> IN Update(Update)\n'8' -> KEYLEN Update\nUpdate OUT -> IN New(WriteLines)\nUpdate REP -> IN Refused(WriteLines)\n'examples/batch/new.txt' -> FILE New\n'examples/batch/refused.txt' -> FILE Refused\n",
             inputs: [
                 (
                     "examples/batch/masters.txt",
-                    b"ann:M120\nbob:M75\ncid:M300\ndot:M40\n",
+                    b"apples  M120\nbread   M75\ncheese  M300\ndates   M40\n",
                 ),
                 (
                     "examples/batch/details.txt",
-                    b"ann:+30\nann:-50\nbob:-80\nbob:+10\ndot:X40\neve:N200\neve:+5\nfay:+9\n",
+                    b"apples  +30\napples  -50\nbread   -80\nbread   +10\ndates   X40\neggs    N200\neggs    +5\nfigs    +9\n",
                 ),
                 NONE,
             ],
             outputs: [
                 (
                     "examples/batch/new.txt",
-                    b"ann:M100\nbob:M85\ncid:M300\neve:M205\n",
+                    b"apples  M100\nbread   M85\ncheese  M300\neggs    M205\n",
                 ),
-                ("examples/batch/refused.txt", b"bob:-80\nfay:+9\n"),
+                ("examples/batch/refused.txt", b"bread   -80\nfigs    +9\n"),
             ],
             ..ROW
         },
