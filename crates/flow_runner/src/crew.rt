@@ -5,6 +5,7 @@ ghost use Rattle.flow_machine.specs.Quiet.{AllUnset, IsQuietNet};
 ghost use Rattle.flow_machine.specs.Solo.{ReachesNet};
 ghost use Rattle.std.specs.Prelude.{◌≡◌, ◌≤◌, All, IfOk, []};
 
+use crate::rest::Bell;
 use crate::serve::serve;
 use flow_component::{Component, Gate};
 use flow_floor::{Floor, OpenStop, Opened, Worker};
@@ -34,6 +35,7 @@ fn serve_all<K: Component + Send, G: Gate + Sync, R: Threads + Wait + Sync>(
     ensures crew { IsCrewOf floor.now crew.new }
     ensures zero { All HasReadZero crew.new }
 {
+    let bell = Bell::new();
     thread::for_each_mut(
         rt,
         crew,
@@ -43,7 +45,7 @@ fn serve_all<K: Component + Send, G: Gate + Sync, R: Threads + Wait + Sync>(
             ensures idle { IsIdleAt floor.entry.now worker.new }
             ensures share { HasSameShare worker.old worker.new }
             ensures zero { HasReadZero worker.new }
-        { serve(rt, floor, worker, number, gate) },
+        { serve(rt, floor, worker, number, gate, &bell) },
     );
 }
 

@@ -5,6 +5,7 @@ mod calls;
 mod crew;
 mod line;
 mod paused;
+mod rest;
 mod serve;
 mod work;
 

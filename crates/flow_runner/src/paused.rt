@@ -8,8 +8,8 @@ ghost use Rattle.flow_runner.specs.Attempts.{HasMade, HasSpent};
 ghost use Rattle.std.specs.Prelude.{◌≡◌, ◌+◌, ◌*◌, ◌≤◌, ◌⊎◌, All, IfOk, [], length};
 
 use crate::crew::RunStop;
+use crate::rest::{Bell, Rest};
 use crate::serve::{first_of, go_round};
-use crossbeam_utils::Backoff;
 use flow_component::{Component, Gate};
 use flow_floor::{Floor, OpenStop, Opened, Worker};
 use flow_limits::WORKER_LIMIT;
@@ -26,6 +26,7 @@ fn serve_for<K: Component, G: Gate, R: Wait>(
     worker: &mut Worker<K>,
     number: usize,
     gate: &G,
+    bell: &Bell,
     budget: u64,
 )
     requires idle { IsIdleAt floor.now worker.old }
@@ -34,18 +35,19 @@ fn serve_for<K: Component, G: Gate, R: Wait>(
     ensures spent { HasSpent budget worker.old worker.new }
 {
     let first = first_of(number, floor.processes());
-    let backoff = Backoff::new();
+    let mut rest = Rest::new();
     let mut left = budget;
     for _ in rt.forever() {
         if left == 0 {
             return;
         }
         if go_round(floor, worker, first, gate, &mut left) {
-            backoff.reset();
+            rest.end();
         } else if floor.live(worker) == 0 {
+            bell.ring();
             return;
         } else {
-            backoff.snooze();
+            rest.go_on(rt, bell);
         }
     }
     unreachable!()
@@ -66,6 +68,7 @@ fn serve_all_for<K: Component + Send, G: Gate + Sync, R: Threads + Wait + Sync>(
     ensures crew { IsCrewOf floor.now crew.new × (length crew.new ≡ length crew.old) }
     ensures spent { All (HasMade budget) crew.new }
 {
+    let bell = Bell::new();
     thread::for_each_mut(
         rt,
         crew,
@@ -75,7 +78,7 @@ fn serve_all_for<K: Component + Send, G: Gate + Sync, R: Threads + Wait + Sync>(
             ensures idle { IsIdleAt floor.entry.now worker.new }
             ensures share { HasSameShare worker.old worker.new }
             ensures spent { HasSpent budget worker.old worker.new }
-        { serve_for(rt, floor, worker, number, gate, budget) },
+        { serve_for(rt, floor, worker, number, gate, &bell, budget) },
     );
 }
 

@@ -3,8 +3,8 @@ ghost use Rattle.flow_floor.specs.Floors.{HasReadZero, HasSameShare, IsIdleAt, I
 ghost use Rattle.flow_runner.specs.Attempts.{Spends};
 ghost use Rattle.std.specs.Prelude.{◌≡◌, ◌≤◌};
 
+use crate::rest::{Bell, Rest};
 use crate::work::tend;
-use crossbeam_utils::Backoff;
 use flow_component::{Component, Gate};
 use flow_floor::{Floor, Worker};
 use std::sync::Wait;
@@ -63,13 +63,14 @@ pub(crate) fn go_round<K: Component, G: Gate>(
     behind || before
 }
 
-/// Makes turns until no process will ever have one again. Where nothing comes of a round the other workers are given way.
+/// Makes turns until no process will ever have one again. Where nothing comes of a round the worker rests.
 pub(crate) fn serve<K: Component, G: Gate, R: Wait>(
     rt: &R,
     floor: &Floor<K>,
     worker: &mut Worker<K>,
     number: usize,
     gate: &G,
+    bell: &Bell,
 )
     requires idle { IsIdleAt floor.now worker.old }
     ensures idle { IsIdleAt floor.now worker.new }
@@ -77,15 +78,16 @@ pub(crate) fn serve<K: Component, G: Gate, R: Wait>(
     ensures zero { HasReadZero worker.new }
 {
     let first = first_of(number, floor.processes());
-    let backoff = Backoff::new();
+    let mut rest = Rest::new();
     for _ in rt.forever() {
         let mut left = u64::MAX;
         if go_round(floor, worker, first, gate, &mut left) {
-            backoff.reset();
+            rest.end();
         } else if floor.live(worker) == 0 {
+            bell.ring();
             return;
         } else {
-            backoff.snooze();
+            rest.go_on(rt, bell);
         }
     }
     unreachable!()
