@@ -3,9 +3,11 @@
 
 mod access;
 mod again;
+mod known;
 mod place;
 mod shelf;
 mod stdout;
+mod streams;
 mod system;
 
 pub use shelf::FileShelf;

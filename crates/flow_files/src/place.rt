@@ -12,13 +12,17 @@ const LINKS: u32 = 40;
 /// The folder below which the system tells of processes. Nothing in it can be replaced.
 const PROCESSES: &str = "/proc/";
 
+/// The folder of the devices. What stands in it itself isn't replaced, and nothing is created there: a shared
+/// memory's folder below it is one as any other.
+const DEVICES: &str = "/dev";
+
 /// Where a chain of symbolic links leads to.
 #[derive(Drop)]
 pub enum Place {
     /// To this name, which is no link. What it names may be absent.
     Name(PathBuf),
-    /// To an open descriptor, or to something else that the system tells of a process.
-    Descriptor,
+    /// To an open descriptor, to something else that the system tells of a process, or to a name among the devices.
+    System,
 }
 
 /// Where the name leads to: of a name that is no link, to itself.
@@ -30,8 +34,8 @@ pub fn place_of<R: Files<File = File>>(
     let mut path = PathBuf::from_str(alloc, name)?;
     // The last look finds that the chain ends.
     for _ in 0..=LINKS {
-        if is_of_process(alloc, rt, &path)? {
-            return Ok(Place::Descriptor);
+        if is_of_system(alloc, rt, &path)? {
+            return Ok(Place::System);
         }
         match rt.read_link(alloc, path.as_str()) {
             Ok(next) => {
@@ -50,8 +54,8 @@ fn is_no_link(error: io::Error) -> bool {
     error.kind() == ErrorKind::InvalidInput || error.kind() == ErrorKind::NotFound
 }
 
-/// Whether the folder of this name lies below that of the processes.
-fn is_of_process<R: Files<File = File>>(
+/// Whether the folder of this name lies below that of the processes, or is that of the devices.
+fn is_of_system<R: Files<File = File>>(
     alloc: Global,
     rt: &R,
     path: &PathBuf,
@@ -62,7 +66,10 @@ fn is_of_process<R: Files<File = File>>(
         folder.push(".")?;
     }
     match rt.canonicalize(alloc, folder.as_str()) {
-        Ok(folder) => Ok(folder.as_str().starts_with(PROCESSES)),
+        Ok(folder) => {
+            let folder = folder.as_str();
+            Ok(folder.starts_with(PROCESSES) || folder == DEVICES)
+        }
         Err(error) if error.kind() == ErrorKind::OutOfMemory => Err(OutputError::NoMemory),
         // What can't be found is no folder of the system's.
         Err(_) => Ok(false),

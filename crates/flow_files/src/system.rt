@@ -3,12 +3,14 @@ ghost use Rattle.std.specs.Prelude.{◌≤◌, length};
 ghost use Rattle.std.specs.Io.{WritesAtMost};
 
 use crate::access::keep_access;
+use crate::known::Known;
 use crate::place::{Place, place_of};
+use crate::streams::Stream;
 use std::alloc::{AllocError, Global};
 use std::fs::{File, Files, Metadata, OpenOptions};
 use std::io;
 use std::io::{ErrorKind, Seek, SeekFrom, Write};
-use std::os::unix::fs::{MetadataExt, OpenOptionsExt};
+use std::os::unix::fs::OpenOptionsExt;
 use std::path::PathBuf;
 
 /// So many temporary names are tried, which earlier calls that were killed may have left.
@@ -68,18 +70,25 @@ pub fn open_input<R: Files<File = File>>(rt: &R, name: &str) -> io::Result<File>
 }
 
 /// Begins a file. A regular or absent one is written under a temporary name until it is whole. A device, a pipe
-/// and the like is written in place, and so is what a descriptor's name leads to.
-pub fn begin<R: Files<File = File>>(
+/// and the like is written in place, and so is what a descriptor's name leads to. What may not be written over, with
+/// these files known, is a fault.
+pub fn begin<R: Files<File = File> + Eprint>(
     alloc: Global,
     rt: &R,
+    known: &Known,
     name: &str,
 ) -> Result<Output, OutputError> {
+    known.admit_journal(rt)?;
     match OpenOptions::new().write(true).open(rt, name) {
         // A file that may not be written isn't replaced either.
-        Ok(old) => begin_over(alloc, rt, name, above_streams(old)?),
+        Ok(old) => {
+            let old = above_streams(old)?;
+            known.admit(rt, name, &old)?;
+            begin_over(alloc, rt, name, old)
+        }
         Err(error) if error.kind() == ErrorKind::NotFound => match place_of(alloc, rt, name)? {
             Place::Name(target) => beside(alloc, rt, target, None),
-            Place::Descriptor => Err(OutputError::Io(error)),
+            Place::System => Err(OutputError::Io(error)),
         },
         Err(error) => Err(OutputError::Io(error)),
     }
@@ -92,18 +101,16 @@ fn begin_over<R: Files<File = File>>(
     name: &str,
     old: File,
 ) -> Result<Output, OutputError> {
-    let found = old.metadata()?;
-    if !found.is_file() {
+    if !old.metadata()?.is_file() {
         return Ok(in_place(old));
     }
-    if is_stream(rt, "/dev/stdout", &found) {
+    if Stream::Output.goes_to(&old)? {
         let reason = "the standard output goes to this file";
         return Err(OutputError::Io(io::Error::new(ErrorKind::InvalidInput, reason)));
     }
+    let is_shared = Stream::Error.goes_to(&old)?;
     match place_of(alloc, rt, name)? {
-        Place::Name(target) if !is_stream(rt, "/dev/stderr", &found) => {
-            beside(alloc, rt, target, Some(old))
-        }
+        Place::Name(target) if !is_shared => beside(alloc, rt, target, Some(old)),
         _ => Ok(in_place(at_end(rt, name)?)),
     }
 }
@@ -118,14 +125,6 @@ fn in_place(file: File) -> Output {
 /// What the name holds, to be written behind its end: who has it open too loses nothing.
 fn at_end<R: Files<File = File>>(rt: &R, name: &str) -> io::Result<File> {
     above_streams(OpenOptions::new().append(true).open(rt, name)?)
-}
-
-/// Whether this is the file to which a standard stream goes: what is printed there would be lost with it.
-fn is_stream<R: Files<File = File>>(rt: &R, stream: &str, found: &Metadata) -> bool {
-    match rt.metadata(stream) {
-        Ok(stream) => stream.dev() == found.dev() && stream.ino() == found.ino(),
-        Err(_) => false,
-    }
 }
 
 /// Begins a file under a temporary name in the folder of its target.
@@ -257,6 +256,11 @@ fn pour(mut whole: &File, mut old: &File) -> io::Result<()> {
 }
 
 impl Output {
+    /// What the system tells of the file that takes the writes.
+    pub fn metadata(&self) -> io::Result<Metadata> {
+        self.file.metadata()
+    }
+
     /// One write.
     pub fn write(&mut self, bytes: &[u8]) -> io::Result<usize>
         ensures bound { WritesAtMost result bytes.now }

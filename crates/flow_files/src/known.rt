@@ -1,0 +1,134 @@
+//! Which files of a call are one file: told by device and number, whatever their names are.
+use crate::system::Output;
+use std::alloc::{AllocError, Global};
+use std::fs::{File, Files, Metadata};
+use std::io;
+use std::io::ErrorKind;
+use std::os::unix::fs::MetadataExt;
+
+/// A regular file, as the system tells it from others.
+#[derive(Clone, Copy, PartialEq, Eq)]
+struct Identity {
+    device: u64,
+    number: u64,
+}
+
+impl Identity {
+    /// Of a device, a pipe and the like none: it isn't replaced.
+    fn of(found: io::Result<Metadata>) -> Option<Identity> {
+        match found {
+            Ok(found) if found.is_file() => Some(Identity {
+                device: found.dev(),
+                number: found.ino(),
+            }),
+            _ => None,
+        }
+    }
+}
+
+/// What a file was in the call so far.
+#[derive(Clone, Copy)]
+enum Part {
+    Network,
+    Input,
+    Output,
+}
+
+/// The files of a call so far.
+#[derive(Drop)]
+pub struct Known {
+    /// The name of the journal's file, which is written last.
+    journal: Option<String>,
+    /// Those that were opened to be read, that of the network first.
+    read: Vec<Option<Identity>>,
+    written: Vec<Option<Identity>>,
+}
+
+impl Known {
+    pub fn new(alloc: Global) -> Known {
+        Known {
+            journal: None,
+            read: Vec::new(alloc),
+            written: Vec::new(alloc),
+        }
+    }
+
+    pub fn expect_journal(&mut self, name: String) {
+        self.journal = Some(name);
+    }
+
+    pub fn add_read(&mut self, file: &File) -> Result<(), AllocError> {
+        self.read.push(Identity::of(file.metadata()))?;
+        Ok(())
+    }
+
+    pub fn add_written(&mut self, output: &Output) -> Result<(), AllocError> {
+        self.written.push(Identity::of(output.metadata()))?;
+        Ok(())
+    }
+
+    /// Before anything is written: a journal that would be written over the network or over an input is a fault. Its
+    /// file isn't open yet, so it is asked by its name, and once more when it is open.
+    pub fn admit_journal<R: Files>(&self, rt: &R) -> io::Result<()> {
+        let Some(journal) = &self.journal else {
+            return Ok(());
+        };
+        if !self.written.is_empty() {
+            return Ok(());
+        }
+        self.admit_as_journal(Identity::of(rt.metadata(journal.as_str())))
+    }
+
+    fn admit_as_journal(&self, file: Option<Identity>) -> io::Result<()> {
+        match self.part_of(file) {
+            Some(Part::Network) => Err(refused("the journal's file is the network file")),
+            Some(Part::Input) => Err(refused("the journal's file is an input")),
+            _ => Ok(()),
+        }
+    }
+
+    /// Whether an open file may be written over. The network file may not. Of what is another file of this call the
+    /// standard error tells.
+    pub fn admit<R: Eprint>(&self, rt: &R, name: &str, file: &File) -> io::Result<()> {
+        let file = Identity::of(file.metadata());
+        if self.is_journal(name) {
+            self.admit_as_journal(file)?;
+        }
+        match self.part_of(file) {
+            None => {}
+            Some(Part::Network) => return Err(refused("this file is the network file")),
+            Some(Part::Input) => {
+                let _ = eprintln!(rt; "{name:?} is an input too, and is written over");
+            }
+            Some(Part::Output) => {
+                let _ = eprintln!(rt; "{name:?} is written twice, and keeps what comes last");
+            }
+        }
+        Ok(())
+    }
+
+    fn is_journal(&self, name: &str) -> bool {
+        match &self.journal {
+            Some(journal) => journal.as_str() == name,
+            None => false,
+        }
+    }
+
+    /// A number may be given anew once its file is gone, so those that were written are looked through first: they are
+    /// there now.
+    fn part_of(&self, file: Option<Identity>) -> Option<Part> {
+        let _known = file?;
+        if self.written.contains(&file) {
+            return Some(Part::Output);
+        }
+        match self.read.iter().position(|read| *read == file) {
+            Some(0) => Some(Part::Network),
+            Some(_) => Some(Part::Input),
+            None => None,
+        }
+    }
+}
+
+fn refused(reason: &'static str) -> io::Error {
+    io::Error::new(ErrorKind::InvalidInput, reason)
+}
