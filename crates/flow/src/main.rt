@@ -10,6 +10,7 @@ use crate::explain::explain;
 use flow_cli::{Status, busy_top, needs_workers, plain_top};
 use flow_component::NoGate;
 use flow_files::{FileShelf, StdSink};
+use flow_words::{Command, command};
 use std::alloc::{AllocError, Global};
 use std::process::ExitCode;
 use std::{env, io};
@@ -29,6 +30,19 @@ fn words_of(alloc: Global, args: io::Result<env::Args>) -> Result<Vec<String>, A
     }
 }
 
+// The name of the file to which the run's journal goes.
+fn journal_of(alloc: Global, words: &[String]) -> Result<Option<String>, AllocError> {
+    match command(alloc, words)? {
+        Some(
+            Command::Run {
+                journal: Some(name),
+                ..
+            },
+        ) => Ok(Some(String::from_str(alloc, name)?)),
+        _ => Ok(None),
+    }
+}
+
 fn main(rt: HostRuntime) -> ExitCode {
     let alloc = rt.alloc();
     let Ok(words) = words_of(alloc, env::args(&rt)) else {
@@ -37,7 +51,13 @@ fn main(rt: HostRuntime) -> ExitCode {
     let Ok(needs) = needs_workers(alloc, &words) else {
         return ExitCode::from(Status::NoMemory.code());
     };
+    let Ok(journal) = journal_of(alloc, &words) else {
+        return ExitCode::from(Status::NoMemory.code());
+    };
     let mut shelf = FileShelf::new(alloc, &rt);
+    if let Some(name) = journal {
+        shelf.expect_journal(name);
+    }
     let mut out = StdSink::new(&rt);
     let outcome = if needs {
         busy_top(&rt, alloc, &words, &mut shelf, &mut out, &NoGate)
