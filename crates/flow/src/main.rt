@@ -3,8 +3,22 @@
 //! from a number; and prints what comes of it.
 #![tactic(auto)]
 
+mod bytes;
 mod explain;
+mod forms;
+mod found;
+mod kinds;
+mod line;
+mod near;
+mod net;
+mod outer;
+mod pieces;
+mod place;
+mod ports;
+mod refused;
+mod said;
 mod shown;
+mod words;
 
 use crate::explain::explain;
 use flow_cli::{Status, busy_top, needs_workers, plain_top};

@@ -1,0 +1,266 @@
+//! Lines of a network file that are looked for, each in its part: the main part, or a subnet.
+use crate::kinds::Side;
+use crate::said::{Mention, Said, Tag, said_by};
+use flow_limits::LAST_ELEMENT;
+use flow_text::decimal;
+use std::alloc::{AllocError, Global};
+
+/// What is looked for in the lines of a part.
+#[derive(Clone, Copy)]
+pub enum Wanted<'a> {
+    /// The line with this number.
+    Number(u64),
+    /// A line that mentions this process.
+    Process(&'a [u8]),
+    /// One that gives it a kind.
+    Kind(&'a [u8]),
+    /// One that mentions this port of it before the arrow, or behind it.
+    Output(&'a [u8], &'a [u8]),
+    Input(&'a [u8], &'a [u8]),
+    /// Another line than the one of this number, with the same element of a port on this side.
+    Other(u64, Mention<'a>, Side),
+    /// One that mentions an element of an array that is behind this one.
+    Behind(&'a [u8], &'a [u8], u32),
+    /// One that gives a text to a port of this process.
+    Text(&'a [u8]),
+    /// One that gives a connection to this input a capacity.
+    Capacity(Mention<'a>),
+    /// The beginning of a subnet of this name.
+    Subnet(&'a [u8]),
+    /// A process of this kind, and one in a subnet.
+    Of(&'a [u8]),
+    InnerOf(&'a [u8]),
+}
+
+/// A line of a file: its number from 1, the subnet in which it stands, and what it says.
+#[derive(Clone, Copy)]
+pub struct Found<'a> {
+    pub number: u64,
+    pub part: Option<&'a [u8]>,
+    pub line: &'a [u8],
+    pub said: Said<'a>,
+}
+
+/// A line without the byte 13 that may stand at its end.
+pub fn bare(line: &[u8]) -> &[u8] {
+    match line.split_last() {
+        Some((b'\r', before)) => before,
+        _ => line,
+    }
+}
+
+/// Whether two parts are the same one.
+pub fn is_same_part(one: Option<&[u8]>, other: Option<&[u8]>) -> bool {
+    match (one, other) {
+        (None, None) => true,
+        (Some(one), Some(other)) => one == other,
+        _ => false,
+    }
+}
+
+/// Whether two mentions of a port mean one element of it.
+pub fn is_same_port(one: &Mention<'_>, other: &Mention<'_>) -> bool {
+    one.process == other.process
+        && one.port == other.port
+        && one.element.unwrap_or(b"0") == other.element.unwrap_or(b"0")
+}
+
+fn is_port(mention: Option<Mention<'_>>, process: &[u8], port: &[u8]) -> bool {
+    match mention {
+        Some(mention) => mention.process == process && mention.port == port,
+        None => false,
+    }
+}
+
+fn is_process(mention: Option<Mention<'_>>, process: &[u8]) -> bool {
+    match mention {
+        Some(mention) => mention.process == process,
+        None => false,
+    }
+}
+
+fn gives_kind(mention: Option<Mention<'_>>, process: &[u8]) -> bool {
+    match mention {
+        Some(mention) => mention.process == process && mention.kind.is_some(),
+        None => false,
+    }
+}
+
+fn is_of(mention: Option<Mention<'_>>, kind: &[u8]) -> bool {
+    match mention {
+        Some(mention) => mention.kind == Some(kind),
+        None => false,
+    }
+}
+
+fn is_same(mention: Option<Mention<'_>>, other: &Mention<'_>) -> bool {
+    match mention {
+        Some(mention) => is_same_port(&mention, other),
+        None => false,
+    }
+}
+
+fn is_behind(mention: Option<Mention<'_>>, process: &[u8], port: &[u8], element: u32) -> bool {
+    let Some(mention) = mention else {
+        return false;
+    };
+    match decimal(mention.element.unwrap_or(b"0"), 0, u64::from(LAST_ELEMENT)) {
+        Some(found) => {
+            mention.process == process && mention.port == port && found > u64::from(element)
+        }
+        None => false,
+    }
+}
+
+fn gives_capacity(said: &Said<'_>, input: &Mention<'_>) -> bool {
+    match (said.capacity, said.to) {
+        (Some(_), Some(to)) => is_same_port(&to, input),
+        _ => false,
+    }
+}
+
+fn is_wanted(found: &Found<'_>, wanted: &Wanted<'_>) -> bool {
+    let said = &found.said;
+    match wanted {
+        Wanted::Number(line) => found.number == *line,
+        Wanted::Process(process) => {
+            is_process(said.from, process) || is_process(said.to, process)
+        }
+        Wanted::Kind(process) => gives_kind(said.from, process) || gives_kind(said.to, process),
+        Wanted::Output(process, port) => is_port(said.from, process, port),
+        Wanted::Input(process, port) => is_port(said.to, process, port),
+        Wanted::Other(number, mention, Side::Output) => {
+            found.number != *number && is_same(said.from, mention)
+        }
+        Wanted::Other(number, mention, Side::Input) => {
+            found.number != *number && is_same(said.to, mention)
+        }
+        Wanted::Behind(process, port, element) => {
+            is_behind(said.from, process, port, *element)
+                || is_behind(said.to, process, port, *element)
+        }
+        Wanted::Text(process) => said.tag == Tag::Initial && is_process(said.to, process),
+        Wanted::Capacity(input) => gives_capacity(said, input),
+        Wanted::Subnet(name) => said.tag == Tag::Subnet && said.name == *name,
+        Wanted::Of(kind) => is_of(said.from, kind) || is_of(said.to, kind),
+        Wanted::InnerOf(kind) => {
+            found.part.is_some() && (is_of(said.from, kind) || is_of(said.to, kind))
+        }
+    }
+}
+
+/// A walk over the lines of a file.
+#[derive(Drop)]
+pub struct Walk<'a> {
+    pub number: u64,
+    pub part: Option<&'a [u8]>,
+}
+
+impl<'a> Walk<'a> {
+    pub fn new() -> Self {
+        Walk {
+            number: 0,
+            part: None,
+        }
+    }
+
+    /// The next line. The lines that begin and end a subnet belong to it.
+    pub fn next_line(&mut self, alloc: Global, line: &'a [u8]) -> Result<Found<'a>, AllocError> {
+        self.number = self.number.saturating_add(1);
+        let line = bare(line);
+        let said = said_by(alloc, line)?;
+        if said.tag == Tag::Subnet {
+            self.part = Some(said.name);
+        }
+        let part = self.part;
+        if said.tag == Tag::End {
+            self.part = None;
+        }
+        Ok(Found {
+            number: self.number,
+            part,
+            line,
+            said,
+        })
+    }
+}
+
+/// The first line of a part that is wanted.
+pub fn find_in<'a>(
+    alloc: Global,
+    net: &'a [u8],
+    part: Option<&[u8]>,
+    wanted: &Wanted<'_>,
+) -> Result<Option<Found<'a>>, AllocError> {
+    let mut walk = Walk::new();
+    for line in net.split(|byte| *byte == b'\n') {
+        let found = walk.next_line(alloc, line)?;
+        if is_same_part(found.part, part) && is_wanted(&found, wanted) {
+            return Ok(Some(found));
+        }
+    }
+    Ok(None)
+}
+
+/// The first line of the file that is wanted, in whichever part.
+pub fn find<'a>(
+    alloc: Global,
+    net: &'a [u8],
+    wanted: &Wanted<'_>,
+) -> Result<Option<Found<'a>>, AllocError> {
+    let mut walk = Walk::new();
+    for line in net.split(|byte| *byte == b'\n') {
+        let found = walk.next_line(alloc, line)?;
+        if is_wanted(&found, wanted) {
+            return Ok(Some(found));
+        }
+    }
+    Ok(None)
+}
+
+/// The kind that a line gives a process.
+pub fn kind_given<'a>(said: &Said<'a>, process: &[u8]) -> Option<&'a [u8]> {
+    if let Some(mention) = said.from {
+        if mention.process == process && mention.kind.is_some() {
+            return mention.kind;
+        }
+    }
+    match said.to {
+        Some(mention) if mention.process == process => mention.kind,
+        _ => None,
+    }
+}
+
+/// A process in its part, as a flat name tells it.
+#[derive(Clone, Copy)]
+pub struct Home<'a> {
+    pub part: Option<&'a [u8]>,
+    pub process: &'a [u8],
+}
+
+// The kind of a process of a part.
+pub fn kind_of<'a>(
+    alloc: Global,
+    net: &'a [u8],
+    part: Option<&[u8]>,
+    process: &[u8],
+) -> Result<Option<&'a [u8]>, AllocError> {
+    match find_in(alloc, net, part, &Wanted::Kind(process))? {
+        Some(found) => Ok(kind_given(&found.said, process)),
+        None => Ok(None),
+    }
+}
+
+/// The part in which a process stands that has this flat name, and its name there: the name begins with those of the
+/// subnet processes around it.
+pub fn home_of<'a>(alloc: Global, net: &'a [u8], flat: &'a [u8]) -> Result<Home<'a>, AllocError> {
+    let mut part = None;
+    let mut process: &'a [u8] = b"";
+    for name in flat.split(|byte| *byte == b'.') {
+        if !process.is_empty() {
+            part = kind_of(alloc, net, part, process)?;
+        }
+        process = name;
+    }
+    Ok(Home { part, process })
+}

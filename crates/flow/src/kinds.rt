@@ -1,0 +1,195 @@
+//! What the table of kinds says of a kind, its ports and their options, in sentences.
+use crate::found::Walk;
+use crate::near::nearest;
+use crate::net::Net;
+use crate::said::Tag;
+use crate::shown::put_word;
+use flow_items::Text;
+use flow_limits::LAST_ELEMENT;
+use flow_plan::{KindSpec, PortClass, PortSpec};
+use std::alloc::{AllocError, Global};
+
+/// So many subnets of a file are named among the kinds.
+const MOST_SUBNETS: usize = 16;
+
+/// A side of a process, as the arrow of a connection tells it.
+#[derive(Clone, Copy, PartialEq, Eq)]
+pub enum Side {
+    Input,
+    Output,
+}
+
+impl Side {
+    pub fn word(self) -> &'static str {
+        match self {
+            Side::Input => "input",
+            Side::Output => "output",
+        }
+    }
+}
+
+/// The side across the arrow.
+pub fn other_side(side: Side) -> Side {
+    match side {
+        Side::Input => Side::Output,
+        Side::Output => Side::Input,
+    }
+}
+
+/// The row of a kind in the table.
+pub fn row<'a>(kinds: &'a [KindSpec], name: &[u8]) -> Option<&'a KindSpec> {
+    kinds.iter().find(|kind| kind.name.as_slice() == name)
+}
+
+/// The ports of a kind on one side.
+pub fn ports(kind: &KindSpec, side: Side) -> &[PortSpec] {
+    match side {
+        Side::Input => kind.inputs.as_slice(),
+        Side::Output => kind.outputs.as_slice(),
+    }
+}
+
+/// A port of a kind on one side.
+pub fn port<'a>(kind: &'a KindSpec, side: Side, name: &[u8]) -> Option<&'a PortSpec> {
+    ports(kind, side)
+        .iter()
+        .find(|port| port.name.as_slice() == name)
+}
+
+/// Whether any kind of the table has a port of this name.
+pub fn is_port_name(kinds: &[KindSpec], name: &[u8]) -> bool {
+    kinds
+        .iter()
+        .any(|kind| port(kind, Side::Input, name).is_some() || port(kind, Side::Output, name).is_some())
+}
+
+/// Whether a port takes a text, and no packets.
+pub fn is_option(port: &PortSpec) -> bool {
+    port.class != PortClass::Stream
+}
+
+/// The names of the kinds, and of the first subnets of the file, which are kinds in it.
+pub fn names(net: Net<'_>) -> Result<Vec<&[u8]>, AllocError> {
+    let mut names = Vec::new(net.alloc);
+    for kind in net.kinds {
+        names.push(kind.name.as_slice())?;
+    }
+    let mut walk = Walk::new();
+    let mut left = MOST_SUBNETS;
+    for line in net.bytes.split(|byte| *byte == b'\n') {
+        let found = walk.next_line(net.alloc, line)?;
+        if found.said.tag == Tag::Subnet && left > 0 {
+            names.push(found.said.name)?;
+            left = left.saturating_sub(1);
+        }
+    }
+    Ok(names)
+}
+
+/// The name of a port of a kind's side that is nearest to a wrong one.
+pub fn nearest_port<'a>(
+    alloc: Global,
+    ports: &'a [PortSpec],
+    wrong: &[u8],
+) -> Result<Option<&'a [u8]>, AllocError> {
+    let mut names: Vec<&'a [u8]> = Vec::new(alloc);
+    for port in ports {
+        names.push(port.name.as_slice())?;
+    }
+    nearest(alloc, wrong, &names)
+}
+
+/// All kinds, the nearest to a wrong one before the others.
+pub fn put_names(
+    page: &mut String,
+    names: &[&[u8]],
+    first: Option<&[u8]>,
+) -> Result<(), AllocError> {
+    page.push_str("The kinds are ")?;
+    let mut between = "";
+    if let Some(first) = first {
+        put_word(page, first)?;
+        between = ", ";
+    }
+    for name in names {
+        if first != Some(*name) {
+            page.push_str(between)?;
+            put_word(page, name)?;
+            between = ", ";
+        }
+    }
+    page.push_str(".\n")
+}
+
+// A port with what stands behind its name.
+fn put_port(page: &mut String, port: &PortSpec) -> Result<(), AllocError> {
+    put_word(page, port.name.as_slice())?;
+    if port.array {
+        write!(page, "[0] to [{LAST_ELEMENT}]")?;
+    }
+    if is_option(port) {
+        page.push_str(" (a text)")?;
+    } else if !port.needed {
+        page.push_str(" (may be left open)")?;
+    }
+    Ok(())
+}
+
+fn put_side(page: &mut String, kind: &KindSpec, side: Side) -> Result<(), AllocError> {
+    let ports = ports(kind, side);
+    if ports.is_empty() {
+        return write!(page, "no {}", side.word());
+    }
+    page.push_str(side.word())?;
+    let mut between = " ";
+    for port in ports {
+        page.push_str(between)?;
+        put_port(page, port)?;
+        between = ", ";
+    }
+    Ok(())
+}
+
+/// The ports of a kind, on both sides.
+pub fn put_ports(page: &mut String, kind: &KindSpec) -> Result<(), AllocError> {
+    page.push_str("The ports of the kind ")?;
+    put_word(page, kind.name.as_slice())?;
+    page.push_str(": ")?;
+    put_side(page, kind, Side::Input)?;
+    page.push_str("; ")?;
+    put_side(page, kind, Side::Output)?;
+    page.push_str(".\n")
+}
+
+/// What the text of an option may be.
+pub fn put_option(page: &mut String, name: &Text, class: PortClass) -> Result<(), AllocError> {
+    put_word(page, name.as_slice())?;
+    match class {
+        PortClass::Stream => page.push_str(" takes packets.\n"),
+        PortClass::Number { least, most } => {
+            write!(
+                page,
+                " is a number from {least} to {most}, in digits without zeros in front.\n"
+            )
+        }
+        PortClass::Fields => page.push_str(
+            " is one to eight numbers from 1 to 255, with one space between two.\n",
+        ),
+        PortClass::File => page.push_str(
+            " is the name of a file: 1 to 255 bytes that are UTF-8, and no byte 0 among them.\n",
+        ),
+    }
+}
+
+/// A text that such an option may be, as an example.
+pub fn put_example(page: &mut String, class: PortClass) -> Result<(), AllocError> {
+    match class {
+        PortClass::Stream => page.push_str("TEXT"),
+        PortClass::Number { least, most } => {
+            let number = least.max(20).min(most);
+            write!(page, "{number}")
+        }
+        PortClass::Fields => page.push_str("3 5"),
+        PortClass::File => page.push_str("in.txt"),
+    }
+}

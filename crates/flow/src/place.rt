@@ -1,0 +1,183 @@
+//! Where the statement stands that is at fault: the last one of the shortest beginning of the file that is refused in
+//! the same way.
+use crate::found::{Found, Walk};
+use crate::said::Tag;
+use flow_cli::{Refusal, Stop, network};
+use flow_flat::ExpandFault;
+use flow_parse::{parse, print};
+use std::alloc::{AllocError, Global};
+
+/// A longer file isn't tried again and again.
+const MOST_TRIED: usize = 1_048_576;
+
+/// Which lines of a canonical spelling are counted, and left out from some place on.
+#[derive(Clone, Copy, PartialEq, Eq)]
+pub enum Counted {
+    /// Connections and initial texts.
+    Statements,
+    /// Processes; all that connects them is left out.
+    Processes,
+}
+
+// What a line of a canonical spelling is for a count.
+#[derive(Clone, Copy, PartialEq, Eq)]
+enum Line {
+    Counted,
+    LeftOut,
+    Kept,
+}
+
+fn line_of(line: &[u8], counted: Counted) -> Line {
+    let is_frame = line == b"flow 1".as_slice() || line == b"end".as_slice() || line.starts_with(b"subnet ");
+    if line.is_empty() || is_frame {
+        return Line::Kept;
+    }
+    let is_outer = line.starts_with(b"inport ") || line.starts_with(b"outport ");
+    let is_process = line.ends_with(b")") && !line.contains(&b' ');
+    match counted {
+        Counted::Processes if is_process => Line::Counted,
+        Counted::Processes => Line::LeftOut,
+        Counted::Statements if is_process || is_outer => Line::Kept,
+        Counted::Statements => Line::Counted,
+    }
+}
+
+// The spelling with so many of the counted lines.
+fn beginning(
+    alloc: Global,
+    spelling: &[u8],
+    counted: Counted,
+    most: usize,
+) -> Result<Vec<u8>, AllocError> {
+    let mut kept = Vec::new(alloc);
+    let mut left = most;
+    for line in spelling.split(|byte| *byte == b'\n') {
+        let stays = match line_of(line, counted) {
+            Line::Kept => true,
+            Line::LeftOut => false,
+            Line::Counted => left > 0,
+        };
+        if line_of(line, counted) == Line::Counted {
+            left = left.saturating_sub(1);
+        }
+        if stays && !line.is_empty() {
+            kept.extend_from_slice(line)?;
+            kept.push(b'\n')?;
+        }
+    }
+    Ok(kept)
+}
+
+fn count(spelling: &[u8], counted: Counted) -> usize {
+    let lines = spelling.split(|byte| *byte == b'\n');
+    lines
+        .filter(|line| line_of(line, counted) == Line::Counted)
+        .count()
+}
+
+// Whether a network is refused for this fault.
+fn is_refused(alloc: Global, net: &[u8], fault: &ExpandFault) -> bool {
+    match network(alloc, net) {
+        Err(Stop::Refused(Refusal::Network(found))) => found == *fault,
+        _ => false,
+    }
+}
+
+/// The least number of counted lines with which the spelling is refused for this fault, as with all of them.
+pub fn fewest(
+    alloc: Global,
+    spelling: &[u8],
+    counted: Counted,
+    fault: &ExpandFault,
+) -> Result<usize, AllocError> {
+    let mut fine: usize = 0;
+    let mut refused = count(spelling, counted);
+    for _ in 0..usize::BITS {
+        let apart = refused.saturating_sub(fine);
+        if apart < 2 {
+            return Ok(refused);
+        }
+        let middle = fine.saturating_add(apart / 2);
+        let tried = beginning(alloc, spelling, counted, middle)?;
+        if is_refused(alloc, &tried, fault) {
+            refused = middle;
+        } else {
+            fine = middle;
+        }
+    }
+    Ok(refused)
+}
+
+/// The canonical spelling of a file that has one, if it isn't long.
+pub fn canonical(alloc: Global, net: &[u8]) -> Result<Option<Vec<u8>>, AllocError> {
+    if net.len() > MOST_TRIED {
+        return Ok(None);
+    }
+    match parse(alloc, net) {
+        Ok(text) => Ok(Some(print(alloc, &text)?)),
+        Err(_) => Ok(None),
+    }
+}
+
+/// The process of this number in a canonical spelling, counted from 1.
+pub fn process<'a>(
+    alloc: Global,
+    spelling: &'a [u8],
+    number: usize,
+) -> Result<Option<Found<'a>>, AllocError> {
+    let mut walk = Walk::new();
+    let mut count: usize = 0;
+    for line in spelling.split(|byte| *byte == b'\n') {
+        let found = walk.next_line(alloc, line)?;
+        if line_of(line, Counted::Processes) == Line::Counted {
+            count = count.saturating_add(1);
+            if count == number {
+                return Ok(Some(found));
+            }
+        }
+    }
+    Ok(None)
+}
+
+fn is_statement(tag: Tag) -> bool {
+    tag == Tag::Connection || tag == Tag::Initial
+}
+
+// How many statements the subnets have.
+fn inner_statements(alloc: Global, net: &[u8]) -> Result<usize, AllocError> {
+    let mut walk = Walk::new();
+    let mut inner: usize = 0;
+    for line in net.split(|byte| *byte == b'\n') {
+        let found = walk.next_line(alloc, line)?;
+        if is_statement(found.said.tag) && found.part.is_some() {
+            inner = inner.saturating_add(1);
+        }
+    }
+    Ok(inner)
+}
+
+/// The line of this statement, where statements are counted from 1, the subnets' before main's.
+pub fn statement<'a>(
+    alloc: Global,
+    net: &'a [u8],
+    number: usize,
+) -> Result<Option<Found<'a>>, AllocError> {
+    let mut inner: usize = 0;
+    let mut outer = inner_statements(alloc, net)?;
+    let mut walk = Walk::new();
+    for line in net.split(|byte| *byte == b'\n') {
+        let found = walk.next_line(alloc, line)?;
+        if is_statement(found.said.tag) {
+            let count = if found.part.is_some() {
+                &mut inner
+            } else {
+                &mut outer
+            };
+            *count = count.saturating_add(1);
+            if *count == number {
+                return Ok(Some(found));
+            }
+        }
+    }
+    Ok(None)
+}
