@@ -27,9 +27,6 @@ pub enum Wanted<'a> {
     Capacity(Mention<'a>),
     /// The beginning of a subnet of this name.
     Subnet(&'a [u8]),
-    /// A process of this kind, and one in a subnet.
-    Of(&'a [u8]),
-    InnerOf(&'a [u8]),
 }
 
 /// A line of a file: its number from 1, the subnet in which it stands, and what it says.
@@ -86,13 +83,6 @@ fn gives_kind(mention: Option<Mention<'_>>, process: &[u8]) -> bool {
     }
 }
 
-fn is_of(mention: Option<Mention<'_>>, kind: &[u8]) -> bool {
-    match mention {
-        Some(mention) => mention.kind == Some(kind),
-        None => false,
-    }
-}
-
 fn is_same(mention: Option<Mention<'_>>, other: &Mention<'_>) -> bool {
     match mention {
         Some(mention) => is_same_port(&mention, other),
@@ -142,10 +132,6 @@ fn is_wanted(found: &Found<'_>, wanted: &Wanted<'_>) -> bool {
         Wanted::Text(process) => said.tag == Tag::Initial && is_process(said.to, process),
         Wanted::Capacity(input) => gives_capacity(said, input),
         Wanted::Subnet(name) => said.tag == Tag::Subnet && said.name == *name,
-        Wanted::Of(kind) => is_of(said.from, kind) || is_of(said.to, kind),
-        Wanted::InnerOf(kind) => {
-            found.part.is_some() && (is_of(said.from, kind) || is_of(said.to, kind))
-        }
     }
 }
 

@@ -7,6 +7,7 @@ mod bytes;
 mod explain;
 mod forms;
 mod found;
+mod inside;
 mod kinds;
 mod line;
 mod near;

@@ -8,7 +8,7 @@ use flow_parse::{parse, print};
 use std::alloc::{AllocError, Global};
 
 /// A longer file isn't tried again and again.
-const MOST_TRIED: usize = 1_048_576;
+const MOST_TRIED: usize = 262_144;
 
 /// Which lines of a canonical spelling are counted, and left out from some place on.
 #[derive(Clone, Copy, PartialEq, Eq)]
@@ -162,19 +162,27 @@ pub fn statement<'a>(
     net: &'a [u8],
     number: usize,
 ) -> Result<Option<Found<'a>>, AllocError> {
-    let mut inner: usize = 0;
-    let mut outer = inner_statements(alloc, net)?;
+    let inner = inner_statements(alloc, net)?;
+    if number > inner {
+        return nth(alloc, net, number.saturating_sub(inner), false);
+    }
+    nth(alloc, net, number, true)
+}
+
+// The statement of this number among those of the subnets, or among those of the main part.
+fn nth<'a>(
+    alloc: Global,
+    net: &'a [u8],
+    number: usize,
+    is_inner: bool,
+) -> Result<Option<Found<'a>>, AllocError> {
     let mut walk = Walk::new();
+    let mut count: usize = 0;
     for line in net.split(|byte| *byte == b'\n') {
         let found = walk.next_line(alloc, line)?;
-        if is_statement(found.said.tag) {
-            let count = if found.part.is_some() {
-                &mut inner
-            } else {
-                &mut outer
-            };
-            *count = count.saturating_add(1);
-            if *count == number {
+        if is_statement(found.said.tag) && found.part.is_some() == is_inner {
+            count = count.saturating_add(1);
+            if count == number {
                 return Ok(Some(found));
             }
         }

@@ -1,5 +1,6 @@
 //! A network that is refused: which line is at fault, and what would be right there.
-use crate::found::{Found, Wanted, find, find_in};
+use crate::found::{Found, Wanted, find_in};
+use crate::inside::met_again;
 use crate::kinds::{names, put_names};
 use crate::near::nearest;
 use crate::net::{Net, put_if_found};
@@ -71,11 +72,7 @@ fn put_plan(
 }
 
 fn put_recursive(net: Net<'_>, page: &mut String, name: &[u8]) -> Result<(), AllocError> {
-    let inside = match find_in(net.alloc, net.bytes, Some(name), &Wanted::Of(name))? {
-        Some(found) => Some(found),
-        None => find(net.alloc, net.bytes, &Wanted::InnerOf(name))?,
-    };
-    put_if_found(page, inside)?;
+    put_if_found(page, met_again(net, name)?)?;
     page.push_str("A subnet doesn't stand inside itself, nor inside one that stands in it.\n")
 }
 

@@ -226,7 +226,7 @@ impl<'a> Read<'a> {
             (None, None) => page.push_str("No network file is named.\n"),
             (Some(net), Some(option)) => {
                 page.push_str(option.name)?;
-                page.push_str(" runs a network of its own, and ")?;
+                page.push_str(" takes no network file, and ")?;
                 say(page, net, " is named besides.\n")?;
                 Ok(())
             }
