@@ -11,7 +11,9 @@ pub fn put_header(page: &mut String, line: &[u8]) -> Result<(), AllocError> {
     let rest = after_blanks(line);
     let is_wide = line.starts_with(b"\xff\xfe") || line.starts_with(b"\xfe\xff");
     if line.starts_with(MARK) {
-        page.push_str("The file begins with a byte order mark: three bytes, which are to be left out.\n")?;
+        page.push_str(
+            "The file begins with a byte order mark: three bytes, which are to be left out.\n",
+        )?;
     } else if is_wide || line.contains(&0) {
         page.push_str("This isn't ASCII or UTF-8: it seems to have two bytes for each letter.\n")?;
     } else if rest.starts_with(b"flow") {
@@ -30,7 +32,9 @@ fn meant(rest: &[u8], line: &[u8]) -> Option<&'static str> {
         b'"' | b'`' => Some("A text stands between two quotes '."),
         b'-' | b'=' | b'>' | b'<' => Some("The arrow is ->, with nothing within it."),
         b',' | b';' => Some("A statement ends with its line, and no sign stands behind it."),
-        b'\r' => Some("Lines end with byte 10; a byte 13 may stand before it, and nowhere else outside of a quoted text."),
+        b'\r' => Some(
+            "Lines end with byte 10; a byte 13 may stand before it, and nowhere else outside of a quoted text.",
+        ),
         b'{' | b'}' => Some("The parentheses are ( and ), the brackets [ and ]."),
         0 => Some("This seems to be no text, or one with two bytes for each letter."),
         b'.' | b'/' | b'\\' | b'~' => Some(if is_dotted(line) {
@@ -56,10 +60,14 @@ fn letters(rest: &[u8]) -> Option<&'static str> {
         return Some("The arrow is ->, with nothing within it.");
     }
     if rest.starts_with("\u{a0}".as_bytes()) {
-        return Some("A blank is a space or a tab: this is another one, which doesn't break a line.");
+        return Some(
+            "A blank is a space or a tab: this is another one, which doesn't break a line.",
+        );
     }
     if *rest.first()? >= 0x80 {
-        return Some("A name has ASCII letters, digits and _; other letters stand in quoted texts and remarks.");
+        return Some(
+            "A name has ASCII letters, digits and _; other letters stand in quoted texts and remarks.",
+        );
     }
     None
 }

@@ -62,11 +62,15 @@ fn page<R: Files<File = File> + Eprint + Drop>(
 // The network file that the words name.
 fn net_named<'a>(alloc: Global, words: &'a [String]) -> Option<&'a str> {
     match command(alloc, words) {
-        Ok(Some(Command::Run {
-            net,
-            journal: _,
-            workers: _,
-        })) => Some(net),
+        Ok(
+            Some(
+                Command::Run {
+                    net,
+                    journal: _,
+                    workers: _,
+                },
+            ),
+        ) => Some(net),
         Ok(Some(Command::Check(net))) => Some(net),
         Ok(Some(Command::Replay { net, journal: _ })) => Some(net),
         _ => None,

@@ -29,9 +29,7 @@ fn opened(pieces: &[Piece<'_>]) -> usize {
 }
 
 fn closed(pieces: &[Piece<'_>]) -> usize {
-    let closes = pieces
-        .iter()
-        .filter(|piece| matches!(piece, Piece::Close | Piece::CloseBracket));
+    let closes = pieces.iter().filter(|piece| matches!(piece, Piece::Close | Piece::CloseBracket));
     closes.count()
 }
 
@@ -106,9 +104,14 @@ fn before_slip(pieces: &[Piece<'_>]) -> Option<&'static str> {
         [Piece::Word(_), Piece::Arrow, ..] => {
             Some("Before the arrow stands a text in quotes, or a process and its output.\n")
         }
-        [Piece::Word(_), Piece::Open, Piece::Word(_), Piece::Close, Piece::Arrow, ..] => {
-            Some("Before the arrow an output stands behind its process.\n")
-        }
+        [
+            Piece::Word(_),
+            Piece::Open,
+            Piece::Word(_),
+            Piece::Close,
+            Piece::Arrow,
+            ..
+        ] => { Some("Before the arrow an output stands behind its process.\n") }
         [Piece::Arrow, ..] => Some("Nothing stands before the arrow.\n"),
         _ => None,
     }
@@ -127,6 +130,7 @@ fn behind_slip(behind: &[Piece<'_>]) -> &'static str {
         [Piece::Quoted(_), ..] => {
             "A text stands before the arrow, and the port that gets it behind.\n"
         }
-        _ => "Something stands before or behind this statement that belongs into a line of its own, or nowhere.\n",
+        _ =>
+            "Something stands before or behind this statement that belongs into a line of its own, or nowhere.\n",
     }
 }

@@ -6,6 +6,7 @@ use std::alloc::AllocError;
 
 /// So many kinds are followed at most, and the file is gone through so often.
 const MOST_KINDS: usize = 64;
+
 const MOST_PASSES: usize = 16;
 
 /// The line that gives a process the kind of this subnet, in the subnet or in one that is met inside it.

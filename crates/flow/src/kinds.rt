@@ -58,9 +58,8 @@ pub fn port<'a>(kind: &'a KindSpec, side: Side, name: &[u8]) -> Option<&'a PortS
 
 /// Whether any kind of the table has a port of this name.
 pub fn is_port_name(kinds: &[KindSpec], name: &[u8]) -> bool {
-    kinds
-        .iter()
-        .any(|kind| port(kind, Side::Input, name).is_some() || port(kind, Side::Output, name).is_some())
+    kinds.iter().any(|kind| port(kind, Side::Input, name).is_some()
+        || port(kind, Side::Output, name).is_some())
 }
 
 /// Whether a port takes a text, and no packets.

@@ -139,7 +139,10 @@ fn put_name(net: Net<'_>, page: &mut String, found: &Found<'_>) -> Result<(), Al
             page.push_str("A capacity stands directly behind the arrow. ")?;
         }
     }
-    write!(page, "A name begins with a letter, has letters, digits and _, at most {MOST_NAME} of them, and is none of the words")?;
+    write!(
+        page,
+        "A name begins with a letter, has letters, digits and _, at most {MOST_NAME} of them, and is none of the words"
+    )?;
     let mut between = " ";
     for reserved in &RESERVED {
         page.push_str(between)?;
@@ -223,10 +226,14 @@ fn put_kind(net: Net<'_>, page: &mut String, found: &Found<'_>) -> Result<(), Al
         put_word(page, process)?;
         page.push_str(" has no kind. ")?;
         if is_port_name(net.kinds, process) {
-            page.push_str("That is the name of a port: before the arrow a port stands behind its process, behind the arrow before it. ")?;
+            page.push_str(
+                "That is the name of a port: before the arrow a port stands behind its process, behind the arrow before it. ",
+            )?;
         }
     }
-    page.push_str("One of a process's mentions at least gives its kind, in parentheses behind its name.\n")
+    page.push_str(
+        "One of a process's mentions at least gives its kind, in parentheses behind its name.\n",
+    )
 }
 
 fn put_subnet(net: Net<'_>, page: &mut String, found: &Found<'_>) -> Result<(), AllocError> {
@@ -244,5 +251,8 @@ fn put_limit(page: &mut String, found: &Found<'_>) -> Result<(), AllocError> {
     if found.line.len() > TEXT_LIMIT {
         return write!(page, "A quoted text has at most {TEXT_LIMIT} bytes.\n");
     }
-    write!(page, "A file has at most {STATEMENT_LIMIT} connections, texts and outer ports together.\n")
+    write!(
+        page,
+        "A file has at most {STATEMENT_LIMIT} connections, texts and outer ports together.\n"
+    )
 }

@@ -67,7 +67,11 @@ impl<'a> Net<'a> {
     }
 
     /// The first line of a process's part that is wanted.
-    pub fn find(&self, home: &Home<'a>, wanted: &Wanted<'_>) -> Result<Option<Found<'a>>, AllocError> {
+    pub fn find(
+        &self,
+        home: &Home<'a>,
+        wanted: &Wanted<'_>,
+    ) -> Result<Option<Found<'a>>, AllocError> {
         find_in(self.alloc, self.bytes, home.part, wanted)
     }
 

@@ -76,12 +76,7 @@ fn second_line<'a>(
 }
 
 // The names of a subnet's outer ports on one side.
-fn put_names(
-    net: Net<'_>,
-    page: &mut String,
-    subnet: &[u8],
-    side: Side,
-) -> Result<(), AllocError> {
+fn put_names(net: Net<'_>, page: &mut String, subnet: &[u8], side: Side) -> Result<(), AllocError> {
     let mut walk = Walk::new();
     let mut count: usize = 0;
     for line in net.bytes.split(|byte| *byte == b'\n') {

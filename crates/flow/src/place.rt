@@ -28,7 +28,9 @@ enum Line {
 }
 
 fn line_of(line: &[u8], counted: Counted) -> Line {
-    let is_frame = line == b"flow 1".as_slice() || line == b"end".as_slice() || line.starts_with(b"subnet ");
+    let is_frame = line == b"flow 1".as_slice()
+        || line == b"end".as_slice()
+        || line.starts_with(b"subnet ");
     if line.is_empty() || is_frame {
         return Line::Kept;
     }

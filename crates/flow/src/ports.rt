@@ -33,7 +33,10 @@ pub fn put_unknown(
     let mut side = Side::Output;
     if !is_unknown(kind, side, name) {
         side = Side::Input;
-    } else if net.find(&home, &Wanted::Output(home.process, wrong))?.is_none() {
+    } else if net
+        .find(&home, &Wanted::Output(home.process, wrong))?
+        .is_none()
+    {
         side = Side::Input;
     }
     net.put_statement(page, fault, &home, wrong, side)?;
@@ -56,7 +59,10 @@ fn put_hint(
     if port(kind, other_side(side), wrong).is_some() {
         put_word(page, wrong)?;
         let word = other_side(side).word();
-        return write!(page, " is an {word}: an output stands before the arrow, an input behind it.\n");
+        return write!(
+            page,
+            " is an {word}: an output stands before the arrow, an input behind it.\n"
+        );
     }
     let Some(near) = nearest_port(net.alloc, ports(kind, side), wrong)? else {
         return Ok(());
@@ -146,7 +152,8 @@ pub fn put_taken(
         write!(page, "Line {} has this port already. ", other.number)?;
     }
     page.push_str(match side {
-        Side::Output => "An output has one connection; a process of the kind Copy sends to several.\n",
+        Side::Output =>
+            "An output has one connection; a process of the kind Copy sends to several.\n",
         Side::Input => "An input has one text, or else connections.\n",
     })
 }
@@ -257,5 +264,7 @@ pub fn put_capacity(
             }
         }
     }
-    page.push_str("The lines that lead to one input are one connection: they give the same capacity, or none.\n")
+    page.push_str(
+        "The lines that lead to one input are one connection: they give the same capacity, or none.\n",
+    )
 }

@@ -137,15 +137,24 @@ fn put_too_many(
     match many {
         Many::Processes => {
             put_last_process(net, page, fault)?;
-            write!(page, "A network has at most {PROCESS_LIMIT} processes, with all subnets written out.\n")
+            write!(
+                page,
+                "A network has at most {PROCESS_LIMIT} processes, with all subnets written out.\n"
+            )
         }
         Many::Instances => {
             put_last_process(net, page, fault)?;
-            write!(page, "At most {SUBNET_PROCESS_LIMIT} processes are subnets.\n")
+            write!(
+                page,
+                "At most {SUBNET_PROCESS_LIMIT} processes are subnets.\n"
+            )
         }
         Many::Connections => {
             put_if_found(page, net.statement(fault)?)?;
-            write!(page, "A network has at most {CONNECTION_LIMIT} connections, and a connection at most {SENDER_LIMIT} senders.\n")
+            write!(
+                page,
+                "A network has at most {CONNECTION_LIMIT} connections, and a connection at most {SENDER_LIMIT} senders.\n"
+            )
         }
         Many::CapacitySum => write!(
             page,

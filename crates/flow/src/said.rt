@@ -78,7 +78,12 @@ impl<'p, 'a> Rest<'p, 'a> {
     // A word in brackets, where they come next.
     fn bracketed(&mut self) -> Option<&'a [u8]> {
         match self.left {
-            [Piece::OpenBracket, Piece::Word(word), Piece::CloseBracket, more @ ..] => {
+            [
+                Piece::OpenBracket,
+                Piece::Word(word),
+                Piece::CloseBracket,
+                more @ ..,
+            ] => {
                 self.left = more;
                 Some(*word)
             }
