@@ -72,6 +72,7 @@ fn net_named<'a>(alloc: Global, words: &'a [String]) -> Option<&'a str> {
             ),
         ) => Some(net),
         Ok(Some(Command::Check(net))) => Some(net),
+        Ok(Some(Command::Judge(net))) => Some(net),
         Ok(Some(Command::Replay { net, journal: _ })) => Some(net),
         _ => None,
     }

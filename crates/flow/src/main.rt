@@ -1,5 +1,5 @@
 //! The program `flow`, over real files: runs the network of a file, by workers where it is asked for them, and may keep
-//! the journal of the run; checks a network file; makes the turns of a journal again; or runs the network that is made
+//! the journal of the run; checks or judges a network file; prints the kinds of processes; makes the turns of a journal again; or runs the network that is made
 //! from a number; and prints what comes of it.
 #![tactic(auto)]
 

@@ -23,12 +23,24 @@ struct Asked {
     takes_net: bool,
 }
 
-const OPTIONS: [Asked; 5] = [
+const OPTIONS: [Asked; 7] = [
     Asked {
         name: "--check",
         value: Value::Nothing,
         beside: &[],
         takes_net: true,
+    },
+    Asked {
+        name: "--determinate",
+        value: Value::Nothing,
+        beside: &[],
+        takes_net: true,
+    },
+    Asked {
+        name: "--kinds",
+        value: Value::Nothing,
+        beside: &[],
+        takes_net: false,
     },
     Asked {
         name: "--journal",
@@ -69,6 +81,8 @@ pub fn put_help(page: &mut String) -> Result<(), AllocError> {
         "flow NETFILE                 runs the network of the file, and prints a report
 flow --journal FILE NETFILE  does so, and writes the journal of the run to FILE
 flow --check NETFILE         prints the canonical spelling of the file, and runs nothing
+flow --determinate NETFILE   tells whether every run of the network on the same files ends in one state
+flow --kinds                 prints the kinds of processes, each with its ports and options
 flow --replay FILE NETFILE   makes the turns of the journal in FILE again
 flow --make N                runs the network that is made from N, a number from 1 to {NUMBER_LIMIT}
 flow --workers N NETFILE     runs the network by N workers, each in a thread of its own: 1 to {WORKER_LIMIT}, or 0

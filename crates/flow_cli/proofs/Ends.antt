@@ -114,7 +114,9 @@ module _ (words : List (String Global)) (o n po pn : Outside) (said : Said) (sta
   by-form : Says (so_far words o n said.journal) limit said.text.items said.status → (said.status ≢ statuses.Running) ⊎ IsReplay words
   by-form (inl s) = inl (λ is. let h = s.status_is in cc)
   by-form (inr (inl s)) = inr (s.name, s.kept, s.asks)
-  by-form (inr (inr s)) = inl (subst (λ (t : Status). t ≢ statuses.Running) (sym s.status_is) (quiet-not-running s.last s.report.verdict s.run.run.quiet s.tells.verdict))
+  by-form (inr (inr (inl s))) = inl (subst (λ (t : Status). t ≢ statuses.Running) (sym s.status_is) (quiet-not-running s.last s.report.verdict s.run.run.quiet s.tells.verdict))
+  by-form (inr (inr (inr (inl s)))) = inl (λ is. let h = s.status_is in cc)
+  by-form (inr (inr (inr (inr s)))) = inl (λ is. let h = s.status_is in cc)
 
   pub said-status : status ≡ statuses.Running → IsReplay words
   said-status is = go (by-form says) where
@@ -125,7 +127,9 @@ module _ (words : List (String Global)) (o n po pn : Outside) (said : Said) (sta
   own-over : Says (so_far words o n said.journal) limit said.text.items said.status → IsOver said.status
   own-over (inl s) = subst IsOver (sym s.status_is) tt
   own-over (inr (inl s)) = subst IsOver (sym s.status_is) (over-any s.report.verdict)
-  own-over (inr (inr s)) = subst IsOver (sym s.status_is) (over-any s.report.verdict)
+  own-over (inr (inr (inl s))) = subst IsOver (sym s.status_is) (over-any s.report.verdict)
+  own-over (inr (inr (inr (inl s)))) = subst IsOver (sym s.status_is) tt
+  own-over (inr (inr (inr (inr s)))) = subst IsOver (sym s.status_is) tt
 
   pub said-complete : IsComplete (call_of words o n po pn said.journal status) limit
   said-complete quiet valid = own-complete po pn said.text.items said.status status (own-over says) p quiet.prints
@@ -133,7 +137,9 @@ module _ (words : List (String Global)) (o n po pn : Outside) (said : Said) (sta
   changes-none : Says (so_far words o n said.journal) limit said.text.items said.status → ChangesNoName (so_far words o n said.journal)
   changes-none (inl s) = record { asks = inl (s.name, s.asks); files = ap (λ (x : Outside). x.files) s.checked.shelf; created = ap (λ (x : Outside). x.created) s.checked.shelf }
   changes-none (inr (inl s)) = record { asks = inr (inl (s.name, s.kept, s.asks)); files = ap (λ (x : Outside). x.files) s.replayed.ready.reads; created = ap (λ (x : Outside). x.created) s.replayed.ready.reads }
-  changes-none (inr (inr s)) = record { asks = inr (inr (s.number, s.workers, s.asks)); files = ap (λ (x : Outside). x.files) s.shelf; created = ap (λ (x : Outside). x.created) s.shelf }
+  changes-none (inr (inr (inl s))) = record { asks = inr (inr (inl (s.number, s.workers, s.asks))); files = ap (λ (x : Outside). x.files) s.shelf; created = ap (λ (x : Outside). x.created) s.shelf }
+  changes-none (inr (inr (inr (inl s)))) = record { asks = inr (inr (inr (inl (s.name, s.asks)))); files = ap (λ (x : Outside). x.files) s.checked.shelf; created = ap (λ (x : Outside). x.created) s.checked.shelf }
+  changes-none (inr (inr (inr (inr s)))) = record { asks = inr (inr (inr (inr s.asks))); files = ap (λ (x : Outside). x.files) s.shelf; created = ap (λ (x : Outside). x.created) s.shelf }
 
   pub said-meaning : LeavesMeaning (so_far words o n said.journal) limit
   said-meaning = inr (changes-none says)

@@ -1,23 +1,28 @@
 -- What a call has come to before something is written or printed.
-use Rattle.std.proofs.Common.{◌≡◌, inl, inr, ℕ, List, Ok, Err, sym, ◌∙◌, ap, subst}
+use Rattle.std.proofs.Common.{◌≡◌, ◌↔◌, Bool, IsTrue, true, false, inl, inr, ℕ, List, [], ◌∷◌, Ok, Err, refl, sym, ◌∙◌, ap, subst}
 use Rattle.std.specs.Prelude.{String}
 use Rattle.std.specs.declared.alloc.Global.{Global}
 use Rattle.flow_text.specs.Edge.{Outside, Name}
-use Rattle.flow_words.specs.Words.{Replay}
+use Rattle.flow_plan.specs.Network.{Network}
+use Rattle.flow_words.specs.Words.{Judge, Kinds, Replay}
+use Rattle.flow_parse.specs.declared.value.NetText.{NetText}
 use Rattle.flow_catalogue.specs.Std.{StdNext}
+use Rattle.flow_determinate.specs.Standard.{IsDeterminate}
+use Rattle.flow_kinds.specs.Page.{kinds_page}
 use Rattle.flow_journal.specs.Replays.{schedule_of}
 use Rattle.flow_journal.specs.declared.merge.Journal.{Journal}
 use Rattle.flow_runs.specs.Runs.{IsScheduled}
-use Rattle.flow_cli.specs.Step.{MayRead}
+use Rattle.flow_cli.specs.Step.{OnlyReads, MayRead, whole}
 use Rattle.flow_cli.specs.After.{verdict_status}
-use Rattle.flow_cli.specs.Reads.{Asks, IsEmptyJournal, IsJournalFile}
+use Rattle.flow_cli.specs.Reads.{Asks, IsEmptyJournal, IsFile, IsJournalFile}
 use Rattle.flow_cli.specs.Causes.{HasCause}
 use Rattle.flow_cli.specs.Prepare.{AsksMake, IsReadyAgain}
 use Rattle.flow_cli.specs.Runs.{MakesAgain}
 use Rattle.flow_cli.specs.Makes.{SaysMadeRun}
-use Rattle.flow_cli.specs.Top.{Says, SaysTurnsAgain}
+use Rattle.flow_cli.specs.Top.{Says, SaysTurnsAgain, TellsWhether, answer}
 use Rattle.flow_cli.specs.declared.before.Again.{Again}
 use Rattle.flow_cli.specs.declared.run.Said.{Said}
+use Rattle.flow_cli.specs.declared.status.Status.TheVariants.{Finished}
 use Rattle.flow_cli.specs.declared.stop.JournalRefusal.TheVariants.{Byte, Turn}
 use Rattle.flow_cli.specs.declared.stop.Stop.{Stop}
 use Rattle.flow_cli.specs.declared.stop.Stop.TheVariants.{Words, Refused, JournalRefused, ReadFault, WriteFault, TooLong, NoMemory}
@@ -79,7 +84,7 @@ module _ (o a : Outside) (words : List (String Global)) (limit : ℕ) (name kept
 -- a make
 module _ (o a : Outside) (words : List (String Global)) (limit number workers : ℕ) (asks : AsksMake o a words number workers) where
   pub says-made : (said : Said) → SaysMadeRun number workers (Ok said) → Says (so_far words o a said.journal) limit said.text.items said.status
-  says-made said s = inr (inr (record {
+  says-made said s = inr (inr (inl (record {
     number = number;
     workers = workers;
     asks = asks.asks;
@@ -91,4 +96,27 @@ module _ (o a : Outside) (words : List (String Global)) (limit number workers : 
     shelf = asks.shelf;
     text_is = s.5;
     status_is = s.6;
-  }))
+  })))
+
+-- The line of an exact answer tells whether the plan is determinate.
+pub tells : (plan : Network) (yes : Bool) (text : List ℕ) → (IsTrue yes ↔ IsDeterminate plan) → text ≡ answer yes → TellsWhether plan text
+tells plan true text exact is = inl (exact.0 refl, is)
+tells plan false text exact is = inr (λ determinate. let h : false ≡ true = exact.1 determinate in cc, is)
+
+-- a judge
+pub says-judged : (o a : Outside) (words : List (String Global)) (limit : ℕ) (name net : Name) (text : NetText) (plan : Network) (said : Said) → Asks words (Judge name)
+    → OnlyReads o a (whole (name, net) ∷ []) → IsFile o.files limit name net text plan → TellsWhether plan said.text.items → said.status ≡ Finished → IsEmptyJournal said.journal
+    → Says (so_far words o a said.journal) limit said.text.items said.status
+says-judged o a words limit name net text plan said asks only file tells status empty = inr (inr (inr (inl (record {
+  name = name;
+  asks = asks;
+  value = text;
+  checked = record { net = net; plan = plan; file = file; shelf = only; journal = empty };
+  text_is = tells;
+  status_is = status;
+}))))
+
+-- the page of kinds
+pub says-kinds : (o a : Outside) (words : List (String Global)) (limit : ℕ) (said : Said) → Asks words Kinds → a ≡ o → said.text.items ≡ kinds_page → said.status ≡ Finished
+    → IsEmptyJournal said.journal → Says (so_far words o a said.journal) limit said.text.items said.status
+says-kinds o a words limit said asks same text status empty = inr (inr (inr (inr (record { asks = asks; shelf = same; journal = empty; text_is = text; status_is = status }))))

@@ -1,5 +1,5 @@
 -- Where no count of faults rose and all that was read is valid, a stop is want of memory.
-use Rattle.std.proofs.Common.{◌≡◌, ℕ, List, [], ◌∷◌, ◌++◌, length, None, inl, inr, arith, refl, sym, ap, subst}
+use Rattle.std.proofs.Common.{◌≡◌, ℕ, List, [], ◌∷◌, ◌++◌, length, None, inl, inr, arith, refl, sym, ap, ◌∙◌, subst}
 use mathlib.Core.Path.{ap₂}
 use Rattle.std.proofs.lemmas.List.{length-map}
 use Rattle.std.specs.Prelude.{String, string_bytes, map}
@@ -7,7 +7,7 @@ use Rattle.std.specs.Option.{option_and_then}
 use Rattle.std.specs.declared.alloc.Global.{Global}
 use Rattle.std.specs.declared.option.Option.{Option}
 use Rattle.flow_text.specs.Edge.{Outside, Name, Files, Logged, Rose}
-use Rattle.flow_words.specs.Words.{Run, Replay, Make, command_of}
+use Rattle.flow_words.specs.Words.{Asked, Run, Replay, command_of}
 use Rattle.flow_component.specs.Laws.{AtMostOneOutcome}
 use Rattle.flow_model.specs.Schedules.{Journal as Schedule}
 use Rattle.flow_model.specs.Plans.{start_of}
@@ -32,9 +32,9 @@ use Rattle.flow_cli.proofs.Readings.{get-last}
 no-command : (words : List (String Global)) (name : Name) → command_of (map string_bytes words) ≡ None → IsCommand words name → ⊥
 no-command words name none is = let h : option_and_then file_of (command_of (map string_bytes words)) ≡ None = ap (λ c. option_and_then file_of c) none in cc
 
--- a make is no command on a network file
-no-file : (words : List (String Global)) (name : Name) (number workers : ℕ) → Asks words (Make number workers) → IsCommand words name → ⊥
-no-file words name number workers asks is = let h : option_and_then file_of (command_of (map string_bytes words)) ≡ None = ap (λ c. option_and_then file_of c) asks in cc
+-- what has no network file is no command on one
+no-file : (words : List (String Global)) (name : Name) (asked : Asked) → Asks words asked → file_of asked ≡ None → IsCommand words name → ⊥
+no-file words name asked asks none is = let h : option_and_then file_of (command_of (map string_bytes words)) ≡ None = ap (λ c. option_and_then file_of c) asks ∙ none in cc
 
 -- a run is no replay
 no-replay : (words : List (String Global)) (name : Name) (keeps : Option Name) (workers : ℕ) → Asks words (Run name keeps workers) → IsReplay words → ⊥
@@ -109,20 +109,20 @@ module _ (w : Work) (limit : ℕ) (valid : (read : List Logged) → w.after.open
   valid-stop one no_schedule apart single name command (JournalRefused (Turn place process refusal)) c reads writes = absurd (no-stop one no_schedule single place process refusal c)
   valid-stop one no_schedule apart single name command (TooLong read) c reads writes = absurd (not-too-long (string_bytes read) c)
 
--- a make is stopped by nothing else
-made-stop : (w : Work) (limit number workers : ℕ) (stop : Stop) → Asks w.words (Make number workers) → HasCause w limit stop
+-- what has no network file is stopped by nothing else
+still-stop : (w : Work) (limit : ℕ) (asked : Asked) (stop : Stop) → Asks w.words asked → file_of asked ≡ None → HasCause w limit stop
     → (Rose w.before.read_faults w.after.read_faults → ⊥) → (Rose w.before.write_faults w.after.write_faults → ⊥) → stop ≡ NoMemory
-made-stop w limit number workers NoMemory asks c reads writes = refl
-made-stop w limit number workers (ReadFault read) asks c reads writes = absurd (reads c.shelf.rose)
-made-stop w limit number workers (WriteFault file) asks c reads writes = absurd (no-file w.words c.name number workers asks (on-file w.words (Run c.name c.keeps c.workers) c.name refl c.asks))
-made-stop w limit number workers Words asks c reads writes = let h = c.none in absurd cc
-made-stop w limit number workers (Refused refusal) asks c reads writes = absurd (no-file w.words c.name number workers asks c.command)
-made-stop w limit number workers (JournalRefused (Byte place)) asks c reads writes = absurd (no-file w.words c.name number workers asks (on-file w.words (Replay c.name c.kept) c.name refl c.asks))
-made-stop w limit number workers (JournalRefused (Turn place process refusal)) asks c reads writes = absurd (no-file w.words c.name number workers asks (on-file w.words (Replay c.name c.kept) c.name refl c.asks))
-made-stop w limit number workers (TooLong read) asks c reads writes = absurd (no-file w.words c.name number workers asks c.command)
+still-stop w limit asked NoMemory asks none c reads writes = refl
+still-stop w limit asked (ReadFault read) asks none c reads writes = absurd (reads c.shelf.rose)
+still-stop w limit asked (WriteFault file) asks none c reads writes = absurd (no-file w.words c.name asked asks none (on-file w.words (Run c.name c.keeps c.workers) c.name refl c.asks))
+still-stop w limit asked Words asks none c reads writes = let h = c.none in absurd cc
+still-stop w limit asked (Refused refusal) asks none c reads writes = absurd (no-file w.words c.name asked asks none c.command)
+still-stop w limit asked (JournalRefused (Byte place)) asks none c reads writes = absurd (no-file w.words c.name asked asks none (on-file w.words (Replay c.name c.kept) c.name refl c.asks))
+still-stop w limit asked (JournalRefused (Turn place process refusal)) asks none c reads writes = absurd (no-file w.words c.name asked asks none (on-file w.words (Replay c.name c.kept) c.name refl c.asks))
+still-stop w limit asked (TooLong read) asks none c reads writes = absurd (no-file w.words c.name asked asks none c.command)
 
--- Where the words ask for a make or what was read is valid, and no count of faults of the shelf rose, a stop is want of memory.
+-- Where the words ask for what has no network file, or what was read is valid, and no count of faults of the shelf rose, a stop is want of memory.
 pub valid-at : AtMostOneOutcome StdNext → StopsAreNoSchedules StdNext → HasJournalOrFault → HasOneJournal → (w : Work) (limit : ℕ) (stop : Stop)
     → HasCause w limit stop → IsValid w limit → (Rose w.before.read_faults w.after.read_faults → ⊥) → (Rose w.before.write_faults w.after.write_faults → ⊥) → stop ≡ NoMemory
-valid-at one no_schedule apart single w limit stop c (inl make) reads writes = made-stop w limit make.0 make.1 stop make.2 c reads writes
+valid-at one no_schedule apart single w limit stop c (inl still) reads writes = still-stop w limit still.0 stop still.1 still.2 c reads writes
 valid-at one no_schedule apart single w limit stop c (inr valid) reads writes = valid-stop w limit valid.2 one no_schedule apart single valid.0 valid.1 stop c reads writes

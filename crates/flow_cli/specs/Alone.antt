@@ -18,7 +18,7 @@ pub record EndsAsAlone (c : Call) (limit : ℕ) (name : Name) (keeps : Option Na
   pub ends : EndsWell c limit name keeps workers
   pub alone : IsDeterminate ends.whole.plan → (robin : Journal) × RoundRobin StdNext (start_of ends.whole.plan ends.whole.run.components) robin ends.whole.last
 
--- A call that came to its end has one outcome: a run so, and else a check, a replay or a make did.
+-- A call that came to its end has one outcome: a run so, and else what writes no file did.
 abbrev pub HasOneOutcome : Call → ℕ → Type 0
 HasOneOutcome c limit = ((name : Name) × (keeps : Option Name) × (workers : ℕ) × Asks c.work.words (Run name keeps workers) × EndsAsAlone c limit name keeps workers)
     ⊎ SaysWell c limit

@@ -3,7 +3,7 @@
 use Rattle.std.specs.Prelude.{◌≡◌, ◌⊎◌, ℕ}
 use Rattle.std.specs.declared.option.Option.{Option}
 use Rattle.flow_text.specs.Edge.{Name}
-use Rattle.flow_words.specs.Words.{Run, Check, Replay, Make}
+use Rattle.flow_words.specs.Words.{Run, Check, Judge, Replay, Make, Kinds}
 use Rattle.flow_model.specs.Rising.{LeadsOn}
 use Rattle.flow_report.specs.Text.{Told as Report}
 use Rattle.flow_meanings.specs.Composition.{Composes}
@@ -22,10 +22,10 @@ pub record IsMeant (w : Work) (limit : ℕ) (name : Name) (keeps : Option Name) 
 
 -- Something else than a run was asked for, and no name has changed.
 pub record ChangesNoName (w : Work) : Type 0 where
-  pub asks : ((name : Name) × Asks w.words (Check name)) ⊎ ((name : Name) × (kept : Name) × Asks w.words (Replay name kept)) ⊎ ((number : ℕ) × (workers : ℕ) × Asks w.words (Make number workers))
+  pub asks : ((name : Name) × Asks w.words (Check name)) ⊎ ((name : Name) × (kept : Name) × Asks w.words (Replay name kept)) ⊎ ((number : ℕ) × (workers : ℕ) × Asks w.words (Make number workers)) ⊎ ((name : Name) × Asks w.words (Judge name)) ⊎ Asks w.words Kinds
   pub files : w.after.files ≡ w.before.files
   pub created : w.after.created ≡ w.before.created
 
--- A run that finished left the files that its network means; a check, a replay and a make leave none.
+-- A run that finished left the files that its network means; nothing else leaves any.
 abbrev pub LeavesMeaning : Work → ℕ → Type 0
 LeavesMeaning w limit = ((name : Name) × (keeps : Option Name) × (workers : ℕ) × Asks w.words (Run name keeps workers) × IsMeant w limit name keeps workers) ⊎ ChangesNoName w

@@ -7,8 +7,9 @@ use Rattle.std.specs.Option.{option_map}
 use Rattle.flow_limits.specs.declared.TheConstants.{NUMBER_LIMIT, WORKER_LIMIT}
 use Rattle.flow_text.specs.Edge.{Outside, Name}
 use Rattle.flow_plan.specs.Network.{Network}
-use Rattle.flow_words.specs.Words.{Run, Check, Replay, Make}
+use Rattle.flow_words.specs.Words.{Run, Check, Judge, Replay, Make, Kinds}
 use Rattle.flow_journal.specs.Files.{IsFault}
+use Rattle.flow_parse.specs.declared.value.NetText.{NetText}
 use Rattle.flow_journal.specs.declared.merge.Journal.{Journal}
 use Rattle.flow_cli.specs.Step.{OnlyReads, IsRead, whole}
 use Rattle.flow_cli.specs.Components.{StopsAtFile}
@@ -75,12 +76,15 @@ pub record AsksMake (old new : Outside) (words : List (String Global)) (number w
   pub few : workers ≤ WORKER_LIMIT
   pub shelf : new ≡ old
 
--- What the steps before a run, or before the printing of a check, do to the shelf.
+-- What the steps before a run, or before the printing of a check or a judge, do to the shelf.
 abbrev pub Prepares : Outside → Outside → List (String Global) → Result Task Stop → ℕ → Type 0
 Prepares old new words (Ok (tasks.Run job keeps workers)) limit = AsksRun old new words limit job (option_map (λ s. s.now) keeps) workers
 Prepares old new words (Ok (tasks.Check text)) limit = (name : Name) × Asks words (Check name)
     × ((net : List ℕ) × (plan : Network) × OnlyReads old new (whole (name, net) ∷ []) × IsFile old.files limit name net text plan)
+Prepares old new words (Ok (tasks.Judge plan)) limit = (name : Name) × Asks words (Judge name)
+    × ((net : List ℕ) × (text : NetText) × OnlyReads old new (whole (name, net) ∷ []) × IsFile old.files limit name net text plan)
 Prepares old new words (Ok (tasks.Replay again)) limit = (name : Name) × (kept : Name) × Asks words (Replay name kept) × IsReadyAgain old new limit name kept again
 Prepares old new words (Ok (tasks.Make number workers)) limit = AsksMake old new words number workers
+Prepares old new words (Ok tasks.Kinds) limit = Asks words Kinds × (new ≡ old)
 Prepares old new words (Err stop) limit = (journal : Journal) → IsEmptyJournal journal
     → HasCause (record { words = words; before = old; after = new; journal = journal }) limit stop

@@ -6,7 +6,7 @@ use Rattle.std.specs.Option.{option_and_then}
 use Rattle.flow_limits.specs.declared.TheConstants.{WORKER_LIMIT}
 use Rattle.flow_text.specs.Edge.{Outside, Name, Files}
 use Rattle.flow_plan.specs.Network.{Network}
-use Rattle.flow_words.specs.Words.{Asked, Run, Check, Replay, Make, workers_asked, command_of}
+use Rattle.flow_words.specs.Words.{Asked, Run, Check, Judge, Replay, Make, Kinds, workers_asked, command_of}
 use Rattle.flow_parse.specs.declared.value.NetText.{NetText}
 use Rattle.flow_catalogue.specs.declared.standard.Std.{Std}
 use Rattle.flow_journal.specs.Files.{IsFileOf}
@@ -20,12 +20,14 @@ use Rattle.flow_cli.specs.declared.components.TheConstants.{JOURNAL_FILE_LIMIT}
 abbrev pub Asks : List (String Global) → Asked → Type 0
 Asks words asked = command_of (map string_bytes words) ≡ Some asked
 
--- The name of the network file of what is asked for. A make has none.
+-- The name of the network file of what is asked for. A make has none, nor has the page of kinds.
 abbrev pub file_of : Asked → Option Name
 file_of (Run name keeps workers) = Some name
 file_of (Check name) = Some name
+file_of (Judge name) = Some name
 file_of (Replay name kept) = Some name
 file_of (Make number workers) = None
+file_of Kinds = None
 
 -- The words ask for workers: they are a run or a make by one worker or more.
 pub record AsksWorkers (words : List (String Global)) : Type 0 where

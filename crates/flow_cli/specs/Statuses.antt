@@ -19,7 +19,7 @@ code_of JournalRefused = 10
 code_of Running = 11
 
 -- A call came to its end: a run did, finished, finished with packets left, in a deadlock, or failed; or a replay did, which may leave a network that can go on; or a
--- check found nothing.
+-- check found nothing, a judge answered, or the page of kinds was printed.
 abbrev pub IsOver : Status → Type 0
 IsOver Finished = ⊤
 IsOver FinishedLeft = ⊤

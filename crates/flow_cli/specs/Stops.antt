@@ -47,7 +47,7 @@ journal_refusal_text (Turn place process refusal) = codes "entry " ++ decimal pl
 
 -- The line that is printed for a stop.
 abbrev pub text_of : Stop → List ℕ
-text_of Words = codes "usage: flow [--workers N] [--journal FILE] [--check] [--replay FILE] [--make N] [NETFILE]" ++ 10 ∷ []
+text_of Words = codes "usage: flow [--workers N] [--journal FILE] [--check] [--determinate] [--kinds] [--replay FILE] [--make N] [NETFILE]" ++ 10 ∷ []
 text_of (Refused refusal) = codes "network refused: " ++ refusal_text refusal ++ 10 ∷ []
 text_of (JournalRefused refusal) = codes "journal refused: " ++ journal_refusal_text refusal ++ 10 ∷ []
 text_of (ReadFault name) = codes "read fault: " ++ string_bytes name ++ 10 ∷ []

@@ -1,11 +1,11 @@
 -- What the top call does.
-use Rattle.std.specs.Prelude.{◌≡◌, ◌⊎◌, ℕ, ◌≤◌, List, [], ◌∷◌, ◌++◌, length, map, drop, slice_get, Some, None, Ok, Err, String, ⊤}
+use Rattle.std.specs.Prelude.{◌≡◌, ◌⊎◌, ℕ, ◌≤◌, Bool, true, false, List, [], ◌∷◌, ◌++◌, length, map, drop, slice_get, Some, None, Ok, Err, String, codes, ⊤}
 use Rattle.std.specs.declared.alloc.Global.{Global}
 use Rattle.std.specs.declared.option.Option.{Option}
 use Rattle.std.specs.declared.result.Result.{Result}
 use Rattle.flow_text.specs.Edge.{Outside, Name, Logged, Rose, after_write}
 use Rattle.flow_plan.specs.Network.{Network}
-use Rattle.flow_words.specs.Words.{Run, Check, Replay, Make}
+use Rattle.flow_words.specs.Words.{Asked, Run, Check, Judge, Replay, Make, Kinds}
 use Rattle.flow_parse.specs.declared.value.NetText.{NetText}
 use Rattle.flow_parse.specs.Canonical.{canonical}
 use Rattle.flow_model.specs.States.{State}
@@ -13,6 +13,8 @@ use Rattle.flow_model.specs.Schedules.{Leads}
 use Rattle.flow_model.specs.Plans.{start_of}
 use Rattle.flow_catalogue.specs.declared.standard.Std.{Std}
 use Rattle.flow_catalogue.specs.Std.{StdNext}
+use Rattle.flow_determinate.specs.Standard.{IsDeterminate}
+use Rattle.flow_kinds.specs.Page.{kinds_page}
 use Rattle.flow_journal.specs.Files.{IsFileOf}
 use Rattle.flow_journal.specs.Replays.{schedule_of}
 use Rattle.flow_journal.specs.declared.merge.Journal.{Journal}
@@ -25,7 +27,7 @@ use Rattle.flow_cli.specs.Networks.{Holds, IsStandardPlan}
 use Rattle.flow_cli.specs.Many.{WritesAll, WritesFiles}
 use Rattle.flow_cli.specs.After.{Prints, verdict_status}
 use Rattle.flow_cli.specs.Runs.{Leaves, TellsAgain, MakesAgain, net_outputs, bytes_in, files_of_run, journal_file}
-use Rattle.flow_cli.specs.Reads.{Asks, IsCommand, IsEmptyJournal, IsFile, IsJournalFile, IsReady}
+use Rattle.flow_cli.specs.Reads.{Asks, file_of, IsCommand, IsEmptyJournal, IsFile, IsJournalFile, IsReady}
 use Rattle.flow_cli.specs.Statuses.{IsOver}
 use Rattle.flow_cli.specs.Stops.{status_of, text_of}
 use Rattle.flow_cli.specs.Causes.{Work, IsRunOf, HasCause}
@@ -107,9 +109,36 @@ pub record SaysMade (w : Work) (text : List ℕ) (status : Status) : Type 0 wher
   pub text_is : text ≡ make_text number (report_text report) (bytes_in last) plan
   pub status_is : status ≡ verdict_status report.verdict
 
--- What a call says that writes no file, and with which status: a check, a replay or a make.
+-- The line of an answer.
+abbrev pub answer : Bool → List ℕ
+answer true = codes "determinate yes\n"
+answer false = codes "determinate no\n"
+
+-- The text says whether the plan is determinate: yes where it is, and no where it isn't.
+abbrev pub TellsWhether : Network → List ℕ → Type 0
+TellsWhether plan text = (IsDeterminate plan × (text ≡ answer true)) ⊎ ((IsDeterminate plan → ⊥) × (text ≡ answer false))
+
+-- A judge says whether the plan of its network file is determinate.
+pub record SaysJudged (w : Work) (limit : ℕ) (text : List ℕ) (status : Status) : Type 0 where
+  pub name : Name
+  pub asks : Asks w.words (Judge name)
+  pub value : NetText
+  pub checked : IsChecked w limit name value
+  pub text_is : TellsWhether checked.plan text
+  pub status_is : status ≡ Finished
+
+-- The page of kinds is said, that of the table. No turn was made, and nothing was asked of the shelf.
+pub record SaysKinds (w : Work) (text : List ℕ) (status : Status) : Type 0 where
+  pub asks : Asks w.words Kinds
+  pub shelf : w.after ≡ w.before
+  pub journal : IsEmptyJournal w.journal
+  pub text_is : text ≡ kinds_page
+  pub status_is : status ≡ Finished
+
+-- What a call says that writes no file, and with which status: a check, a replay, a make, a judge or the page of kinds.
 abbrev pub Says : Work → ℕ → List ℕ → Status → Type 0
-Says w limit text status = SaysSpelling w limit text status ⊎ SaysAgain w limit text status ⊎ SaysMade w text status
+Says w limit text status =
+    SaysSpelling w limit text status ⊎ SaysAgain w limit text status ⊎ SaysMade w text status ⊎ SaysJudged w limit text status ⊎ SaysKinds w text status
 
 -- The file of a run's journal as the code holds it.
 abbrev pub kept_file : Option Kept → List Filled
@@ -199,7 +228,7 @@ pub record TellsRun (c : Call) (limit : ℕ) : Type 0 where
   pub whole : IsWhole c.work limit name keeps workers report
   pub prints : Prints c.out c.out_after (report_text report) (verdict_status report.verdict) c.status
 
--- What a check, a replay or a make says was printed; or a first part of that, and the output failed.
+-- What a call says that writes no file was printed; or a first part of that, and the output failed.
 pub record TellsSaid (c : Call) (limit : ℕ) : Type 0 where
   pub text : List ℕ
   pub own : Status
@@ -227,13 +256,13 @@ pub record EndsWell (c : Call) (limit : ℕ) (name : Name) (keeps : Option Name)
   pub printed : c.out_after ≡ after_write c.out (report_text report)
   pub status : c.status ≡ verdict_status report.verdict
 
--- Exactly what a check, a replay or a make says was printed, with its status.
+-- Exactly what a call says that writes no file was printed, with its status.
 pub record SaysWell (c : Call) (limit : ℕ) : Type 0 where
   pub text : List ℕ
   pub says : Says c.work limit text c.status
   pub printed : c.out_after ≡ after_write c.out text
 
--- A call that came to its end: a run did, or a check, a replay or a make.
+-- A call that came to its end: a run did, or what writes no file.
 abbrev pub ComesToEnd : Call → ℕ → Type 0
 ComesToEnd c limit = ((name : Name) × (keeps : Option Name) × (workers : ℕ) × Asks c.work.words (Run name keeps workers) × EndsWell c limit name keeps workers)
     ⊎ SaysWell c limit
@@ -260,9 +289,9 @@ pub record AreValid (words : List (String Global)) (read : List Logged) (limit :
   pub short : (place most : ℕ) (file : Logged) → slice_get read place ≡ Some file → IsMost words limit place most → length file.bytes ≤ most
   pub schedule : (net : List ℕ) (text : NetText) (plan : Network) (bytes : List ℕ) → IsReplay words → GaveAt read 0 net → Holds net text plan → GaveAt read 1 bytes → HasSchedule read plan bytes
 
--- The words ask for a make; or they name a network file, and what was read is valid, whatever that was.
+-- The words ask for what has no network file; or they name one, and what was read is valid, whatever that was.
 abbrev pub IsValid : Work → ℕ → Type 0
-IsValid w limit = ((number : ℕ) × (workers : ℕ) × Asks w.words (Make number workers))
+IsValid w limit = ((asked : Asked) × Asks w.words asked × (file_of asked ≡ None))
     ⊎ ((name : Name) × IsCommand w.words name × ((read : List Logged) → w.after.opened ≡ w.before.opened ++ read → AreValid w.words read limit))
 
 -- No count of faults rose.

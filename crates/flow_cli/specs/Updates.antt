@@ -22,7 +22,7 @@ CollatesEach w limit =
     (name : Name) (workers : ℕ) (plan : Network) (last : State Std) (middle : Outside) (run : IsRunOf w limit name workers plan last middle) (front : Journal) (mid : State Std)
     → Prefix StdNext (start_of plan run.components) (schedule_of w.journal) last front mid → AreCollated run.components mid
 
--- A run that finished left what its network means, and so the book of each batch update of sorted files; a check, a replay and a make leave none.
+-- A run that finished left what its network means, and so the book of each batch update of sorted files; nothing else leaves any.
 abbrev pub LeavesBooks : Work → ℕ → Type 0
 LeavesBooks w limit =
     ((name : Name) × (keeps : Option Name) × (workers : ℕ) × Asks w.words (Run name keeps workers) × (meant : IsMeant w limit name keeps workers) × WritesBooks meant.whole.plan meant.whole.run.components (bytes_in meant.whole.last)) ⊎ ChangesNoName w

@@ -1,4 +1,4 @@
-//! The steps before a network runs, or is checked: the words, the network file, a journal's file, the input files.
+//! The steps before a network runs, or is checked or judged: the words, the network file, a journal's file, the input files.
 ghost use Rattle.std.specs.Prelude.{◌≡◌};
 ghost use Rattle.flow_cli.specs.Prepare.{Loads, Prepares, ReadsAgain, ReadsInputs, ReadsJournal};
 
@@ -39,6 +39,10 @@ pub enum Task<'a> {
     },
     /// The value of a network file is to be printed.
     Check(NetText),
+    /// Whether this plan is determinate is to be told.
+    Judge(Plan),
+    /// The page of the standard kinds is to be printed.
+    Kinds,
     /// The turns of a journal are to be made again.
     Replay(Again),
     /// The network that is made from this number is to run by so many workers, or on one thread where there are none.
@@ -78,6 +82,11 @@ pub fn prepare<'a, F: Shelf>(
             Ok(file) => Ok(Task::Check(file.text)),
             Err(stop) => Err(stop),
         },
+        Command::Judge(name) => match load(alloc, shelf, name) {
+            Ok(file) => Ok(Task::Judge(file.plan)),
+            Err(stop) => Err(stop),
+        },
+        Command::Kinds => Ok(Task::Kinds),
         Command::Replay { net, journal } => match replayable(alloc, shelf, net, journal) {
             Ok(again) => Ok(Task::Replay(again)),
             Err(stop) => Err(stop),

@@ -1,15 +1,16 @@
-//! What a command line asks for is done, up to the writing and printing: a network is run, a network file is checked, the turns of a journal
-//! are made again, or a made network is run.
+//! What a command line asks for is done, up to the writing and printing: a network is run, a network file is checked or judged, the turns of a
+//! journal are made again, a made network is run, or the page of kinds is made.
 ghost use Rattle.std.specs.Prelude.{◌≡◌, IfOk};
 ghost use Rattle.std.specs.Option.{option_map};
 ghost use Rattle.flow_journal.specs.Files.{IsWritable};
+ghost use Rattle.flow_kinds.specs.Page.{kinds_page};
 ghost use Rattle.flow_parse.specs.Canonical.{canonical};
 ghost use Rattle.flow_cli.specs.Components.{HasComponents};
 ghost use Rattle.flow_cli.specs.Engines.{Runs};
 ghost use Rattle.flow_cli.specs.Networks.{IsStandardPlan};
 ghost use Rattle.flow_cli.specs.Reads.{IsEmptyJournal, IsServed};
 ghost use Rattle.flow_cli.specs.Runs.{journal_file};
-ghost use Rattle.flow_cli.specs.Top.{KeepsRun, Performs, SaysTurnsAgain, kept_file};
+ghost use Rattle.flow_cli.specs.Top.{KeepsRun, Performs, SaysTurnsAgain, TellsWhether, answer, kept_file};
 ghost use Rattle.flow_cli.specs.declared.status.Status.TheVariants.{Finished};
 
 use crate::after::verdict_status;
@@ -20,9 +21,12 @@ use crate::made::run_made;
 use crate::status::Status;
 use crate::stop::Stop;
 use flow_catalogue::Std;
+use flow_determinate::determinate;
 use flow_items::Items;
 use flow_journal::Journal;
+use flow_kinds::kinds_page;
 use flow_machine::{Closed, Net};
+use flow_net::Plan;
 use flow_parse::{NetText, print as spelled};
 use flow_text::Shelf;
 use std::alloc::{AllocError, Global};
@@ -55,7 +59,7 @@ pub struct Unwritten<'a> {
 pub enum Done<'a> {
     /// A run: its files are to be written, and then its report is to be printed.
     Ran(Unwritten<'a>),
-    /// The spelling of a checked network file, or the report of a replay or of a make.
+    /// The spelling of a checked network file, the answer on a judged one, the page of kinds, or the report of a replay or of a make.
     Said(Said),
 }
 
@@ -85,6 +89,14 @@ where
             Err(AllocError) => Err(Stop::NoMemory),
         },
         Task::Check(text) => match spelling(alloc, &text) {
+            Ok(said) => Ok(Done::Said(said)),
+            Err(AllocError) => Err(Stop::NoMemory),
+        },
+        Task::Judge(plan) => match judgement(alloc, &plan) {
+            Ok(said) => Ok(Done::Said(said)),
+            Err(AllocError) => Err(Stop::NoMemory),
+        },
+        Task::Kinds => match page(alloc) {
             Ok(said) => Ok(Done::Said(said)),
             Err(AllocError) => Err(Stop::NoMemory),
         },
@@ -150,6 +162,44 @@ fn spelling(alloc: Global, text: &NetText) -> Result<Said, AllocError>
 {
     Ok(Said {
         text: spelled(alloc, text)?,
+        status: Status::Finished,
+        journal: no_journal(alloc),
+    })
+}
+
+// Whether a plan is determinate.
+fn judgement(alloc: Global, plan: &Plan) -> Result<Said, AllocError>
+    ensures text { IfOk result (λ said. TellsWhether plan.now said.text.items) }
+    ensures status { IfOk result (λ said. said.status ≡ Finished) }
+    ensures journal { IfOk result (λ said. IsEmptyJournal said.journal) }
+{
+    let text = answer(determinate(plan)).to_vec(alloc)?;
+    Ok(Said {
+        text,
+        status: Status::Finished,
+        journal: no_journal(alloc),
+    })
+}
+
+// The line of an answer.
+fn answer(yes: bool) -> &'static [u8]
+    ensures { result.now ≡ answer yes }
+{
+    if yes {
+        b"determinate yes\n"
+    } else {
+        b"determinate no\n"
+    }
+}
+
+// The page of the standard kinds.
+fn page(alloc: Global) -> Result<Said, AllocError>
+    ensures text { IfOk result (λ said. said.text.items ≡ kinds_page) }
+    ensures status { IfOk result (λ said. said.status ≡ Finished) }
+    ensures journal { IfOk result (λ said. IsEmptyJournal said.journal) }
+{
+    Ok(Said {
+        text: kinds_page(alloc)?,
         status: Status::Finished,
         journal: no_journal(alloc),
     })

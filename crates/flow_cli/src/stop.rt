@@ -82,7 +82,7 @@ impl Stop {
         match self {
             Stop::Words => line(
                 alloc,
-                b"usage: flow [--workers N] [--journal FILE] [--check] [--replay FILE] [--make N] [NETFILE]",
+                b"usage: flow [--workers N] [--journal FILE] [--check] [--determinate] [--kinds] [--replay FILE] [--make N] [NETFILE]",
                 b"",
             ),
             Stop::Refused(refusal) => refused_line(alloc, refusal),

@@ -30,8 +30,14 @@ const COPY: &[u8] =
 const COPY_SPELLED: &[u8] =
     b"flow 1\nA(ReadLines)\nB(WriteLines)\n'i' -> FILE A\nA OUT -> (3) IN B\n'it''s' -> FILE B\n";
 
+const TELEGRAM: &[u8] =
+    b"flow 1\n'in' -> FILE Read(ReadLines)\nRead OUT -> IN Words(Words)\nWords OUT -> IN Fill(Fill)\n'30' -> SIZE Fill\nFill OUT -> IN Write(WriteLines)\n'out' -> FILE Write\n";
+
+const BALANCE: &[u8] =
+    b"flow 1\n'in' -> FILE Read(ReadLines)\nRead OUT -> IN Load(LoadBalance)\nLoad OUT[0] -> IN A(Discard)\nLoad OUT[1] -> IN B(Discard)\n";
+
 const USAGE: &[u8] =
-    b"usage: flow [--workers N] [--journal FILE] [--check] [--replay FILE] [--make N] [NETFILE]\n";
+    b"usage: flow [--workers N] [--journal FILE] [--check] [--determinate] [--kinds] [--replay FILE] [--make N] [NETFILE]\n";
 
 fn file(alloc: Global, name: &str, bytes: &[u8]) -> Result<(String, Vec<u8>), AllocError> {
     Ok((String::from_str(alloc, name)?, bytes.to_vec(alloc)?))
@@ -41,7 +47,8 @@ fn file(alloc: Global, name: &str, bytes: &[u8]) -> Result<(String, Vec<u8>), Al
 #[derive(Clone, Copy)]
 struct Row {
     net: &'static [u8],
-    check: bool,
+    /// The flag that stands before the network file's name, where there is one.
+    flag: &'static str,
     input: &'static [u8],
     second: &'static [u8],
     piece: usize,
@@ -57,7 +64,7 @@ struct Row {
 
 const ROW: Row = Row {
     net: CHAIN,
-    check: false,
+    flag: "",
     input: b"x\n",
     second: b"",
     piece: 65_536,
@@ -77,10 +84,10 @@ const STILL: Row = Row {
     ..ROW
 };
 
-fn words(alloc: Global, check: bool) -> Result<Vec<String>, AllocError> {
+fn words(alloc: Global, flag: &str) -> Result<Vec<String>, AllocError> {
     let mut words = Vec::new(alloc);
-    if check {
-        words.push(String::from_str(alloc, "--check")?)?;
+    if !flag.is_empty() {
+        words.push(String::from_str(alloc, flag)?)?;
     }
     words.push(String::from_str(alloc, "net")?)?;
     Ok(words)
@@ -97,7 +104,7 @@ fn run_row(rt: &impl Abort, alloc: Global, row: Row) -> Result<(), Fail> {
     let write_fails = vec![in alloc; row.write_fail]?;
     let mut shelf = MemShelf::new(alloc, files, row.piece, ROOM, read_fails, write_fails);
     let mut out = MemSink::new(alloc, row.piece, ROOM, Vec::new(alloc))?;
-    let words = words(alloc, row.check)?;
+    let words = words(alloc, row.flag)?;
     let outcome = call(rt, alloc, &words, &mut shelf, &mut out)?;
     assert_eq!(rt; out.bytes(), row.printed);
     assert_eq!(rt; outcome.status.code(), row.status);
@@ -167,14 +174,14 @@ fn checks_spell_the_network_file(rt: HostRuntime) -> Result<(), Fail> {
     let rows = [
         Row {
             net: COPY,
-            check: true,
+            flag: "--check",
             status: 0,
             printed: COPY_SPELLED,
             ..STILL
         },
         Row {
             net: b"flow 1\nP(X)\n",
-            check: true,
+            flag: "--check",
             printed: b"network refused: unknown kind X of P\n",
             ..STILL
         },
@@ -182,6 +189,53 @@ fn checks_spell_the_network_file(rt: HostRuntime) -> Result<(), Fail> {
     for row in rows {
         run_row(&rt, rt.alloc(), row)?;
     }
+    Ok(())
+}
+
+#[test]
+fn judges_tell_what_is_determinate(rt: HostRuntime) -> Result<(), Fail> {
+    let rows: [(&[u8], u8, &[u8]); 5] = [
+        (TELEGRAM, 0, b"determinate yes\n"),
+        (COPY, 0, b"determinate yes\n"),
+        (MERGE, 0, b"determinate no\n"),
+        (BALANCE, 0, b"determinate no\n"),
+        (
+            b"flow 1\nP(X)\n",
+            3,
+            b"network refused: unknown kind X of P\n",
+        ),
+    ];
+    for (net, status, printed) in rows {
+        let row = Row {
+            net,
+            flag: "--determinate",
+            status,
+            printed,
+            ..STILL
+        };
+        run_row(&rt, rt.alloc(), row)?;
+    }
+    Ok(())
+}
+
+#[test]
+fn the_page_of_kinds_touches_no_file(rt: HostRuntime) -> Result<(), Fail> {
+    let alloc = rt.alloc();
+    let words = vec![in alloc; String::from_str(alloc, "--kinds")?]?;
+    let none = Vec::new(alloc);
+    let fails = vec![in alloc; 1]?;
+    let mut shelf = MemShelf::new(alloc, none, 64, ROOM, fails, Vec::new(alloc));
+    let mut out = MemSink::new(alloc, 64, ROOM, Vec::new(alloc))?;
+    let outcome = call(&rt, alloc, &words, &mut shelf, &mut out)?;
+    assert_eq!(rt; outcome.status.code(), 0);
+    assert!(rt;
+        out.bytes()
+            .starts_with(b"ReadLines: sends the lines of a file\n")
+    );
+    let fails = vec![in alloc; 1]?;
+    let mut full = MemSink::new(alloc, 64, ROOM, fails)?;
+    let outcome = call(&rt, alloc, &words, &mut shelf, &mut full)?;
+    assert_eq!(rt; outcome.status.code(), 7);
     Ok(())
 }
 
@@ -296,7 +350,7 @@ fn no_file_is_begun_behind_one_that_fails(rt: HostRuntime) -> Result<(), Fail> {
     let fails = vec![in alloc; 1]?;
     let mut shelf = MemShelf::new(alloc, files, 64, ROOM, none, fails);
     let mut out = MemSink::new(alloc, 64, ROOM, Vec::new(alloc))?;
-    let words = words(alloc, false)?;
+    let words = words(alloc, "")?;
     let outcome = call(&rt, alloc, &words, &mut shelf, &mut out)?;
     assert_eq!(rt; outcome.status.code(), 7);
     assert_eq!(rt; out.bytes(), b"write fault: out\n".as_slice());
@@ -331,7 +385,7 @@ fn run_long(
     let none = Vec::new(alloc);
     let mut shelf = MemShelf::new(alloc, files, 1_048_576, ROOM, none, Vec::new(alloc));
     let mut out = MemSink::new(alloc, 64, ROOM, Vec::new(alloc))?;
-    let words = words(alloc, false)?;
+    let words = words(alloc, "")?;
     let outcome = call(rt, alloc, &words, &mut shelf, &mut out)?;
     assert_eq!(rt; out.bytes(), printed);
     assert_eq!(rt; outcome.status.code(), status);

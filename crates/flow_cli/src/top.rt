@@ -55,14 +55,16 @@ pub fn needs_workers(alloc: Global, words: &[String]) -> Result<bool, AllocError
         Some(Command::Run { workers, .. }) => Ok(workers > 0),
         Some(Command::Make { workers, .. }) => Ok(workers > 0),
         Some(Command::Check(_)) => Ok(false),
+        Some(Command::Judge(_)) => Ok(false),
+        Some(Command::Kinds) => Ok(false),
         Some(Command::Replay { .. }) => Ok(false),
         None => Ok(false),
     }
 }
 
 /// Does what the program does, and waits for nobody: runs the network that the words name on one thread, or the one that is made from a number,
-/// or makes the turns of a journal again in it, and prints the report; or checks the network file and prints its canonical spelling; or prints
-/// why it stopped.
+/// or makes the turns of a journal again in it, and prints the report; or checks the network file and prints its canonical spelling, or judges it
+/// and prints whether its plan is determinate; or prints the page of the standard kinds; or prints why it stopped.
 pub fn plain_top<F: Shelf, O: Sink>(
     alloc: Global,
     words: &[String],
@@ -71,7 +73,7 @@ pub fn plain_top<F: Shelf, O: Sink>(
 ) -> Outcome
     requires { AsksWorkers words.now → ⊥ }
 
-    // A run came to its end, or a check, a replay or a make did.
+    // A run came to its end, or what writes no file did: a check, a judge, a replay, a make, or the page of kinds.
     ensures over { IsOver result.status → ComesToEnd (call_of words.now (F.outside shelf.old) (F.outside shelf.new) (O.outside out.old) (O.outside out.new) result.journal result.status) FILE_LIMIT }
 
     // A run of a determinate plan ends as on one thread, whatever its workers did.
@@ -115,7 +117,7 @@ pub fn busy_top<R: Threads + Wait + Sync, F: Shelf, O: Sink, G: Gate + Sync>(
 ) -> Outcome
     requires { AsksWorkers words.now }
 
-    // A run came to its end, or a check, a replay or a make did.
+    // A run came to its end, or what writes no file did: a check, a judge, a replay, a make, or the page of kinds.
     ensures over { IsOver result.status → ComesToEnd (call_of words.now (F.outside shelf.old) (F.outside shelf.new) (O.outside out.old) (O.outside out.new) result.journal result.status) FILE_LIMIT }
 
     // A run of a determinate plan ends as on one thread, whatever its workers did.

@@ -9,16 +9,36 @@ use Rattle.clap.specs.Simple.{App, built, filled, is_simple, matches_of}
 use Rattle.clap.specs.Walk.{Held, Row, Rule, Text, Walk, idle, option, nothing_held, reacted, settled, plain_word, walk_from, walked, word_met}
 use Rattle.clap.proofs.OnLiterals.{clap_on_literals}
 use Rattle.flow_limits.specs.declared.TheConstants.{NUMBER_LIMIT, WORKER_LIMIT}
-use Rattle.flow_words.specs.Words.{Asked, Run, Check, Replay, Make, IsWithinBounds, asked_in, command_of, flag_rule, given_workers, line_app, make_by}
+use Rattle.flow_words.specs.Words.{Asked, Run, Check, Judge, Replay, Make, Kinds, IsWithinBounds, asked_in, command_of, flag_rule, given_workers, line_app, make_by}
 use Rattle.flow_words.proofs.Numbers.{own-number}
-use Rattle.flow_words.specs.Lines.{AreBoth, AskFor, IsBesideName, IsCheckFlag, IsName, IsOption, is_flag, joined}
+use Rattle.flow_words.specs.Lines.{AreBoth, AskFor, IsBesideName, IsName, IsOption, IsWord, is_flag, joined}
 
 abbrev rules : List Rule
 rules = (built line_app).top.rules
 
+-- The flags that stand beside a name.
+data Mark : Type 0 where
+  checks : Mark
+  judges : Mark
+
+-- The name of the flag.
+abbrev mark_name : Mark → Text
+mark_name checks = codes "check"
+mark_name judges = codes "determinate"
+
+-- The word of the flag.
+abbrev mark_word : Mark → Text
+mark_word checks = codes "--check"
+mark_word judges = codes "--determinate"
+
+-- What a line with the flag asks for.
+abbrev with_mark : Mark → Text → Asked
+with_mark checks net = Check net
+with_mark judges net = Judge net
+
 -- What is held after the flag.
-abbrev flagged : Held
-flagged = reacted rules (filled (flag_rule (codes "check"))) [] nothing_held
+abbrev flagged : Mark → Held
+flagged mark = reacted rules (filled (flag_rule (mark_name mark))) [] nothing_held
 
 no-dashes : (word : Text) → is_flag word ≡ false → bytes_eq word (45 ∷ 45 ∷ []) ≡ false
 no-dashes [] plain = refl
@@ -51,17 +71,19 @@ name-walk : (name : Text) → is_flag name ≡ false → walked rules [] (walk_f
 unfolding clap_on_literals
 name-walk name plain = rw (name-met nothing_held name plain) refl
 
-flagged-walk : (name : Text) → is_flag name ≡ false → walked rules [] (walk_from flagged) name ≡ with_name name flagged.rows
+flagged-walk : (mark : Mark) (name : Text) → is_flag name ≡ false → walked rules [] (walk_from (flagged mark)) name ≡ with_name name (flagged mark).rows
 unfolding clap_on_literals
-flagged-walk name plain = rw (name-met flagged name plain) refl
+flagged-walk checks name plain = rw (name-met (flagged checks) name plain) refl
+flagged-walk judges name plain = rw (name-met (flagged judges) name plain) refl
 
 name-turn : (name : Text) → is_flag name ≡ false → turn_fault (built line_app).top [] (walk_from nothing_held) name ≡ []
 unfolding clap_on_literals
 name-turn name plain = rw (name-met nothing_held name plain, no-dashes name plain, no-long name plain, no-short name plain) refl
 
-flagged-turn : (name : Text) → is_flag name ≡ false → turn_fault (built line_app).top [] (walk_from flagged) name ≡ []
+flagged-turn : (mark : Mark) (name : Text) → is_flag name ≡ false → turn_fault (built line_app).top [] (walk_from (flagged mark)) name ≡ []
 unfolding clap_on_literals
-flagged-turn name plain = rw (name-met flagged name plain, no-dashes name plain, no-long name plain, no-short name plain) refl
+flagged-turn checks name plain = rw (name-met (flagged checks) name plain, no-dashes name plain, no-long name plain, no-short name plain) refl
+flagged-turn judges name plain = rw (name-met (flagged judges) name plain, no-dashes name plain, no-long name plain, no-short name plain) refl
 
 name-free : (name : Text) → is_flag name ≡ false → fault_of line_app (name ∷ []) ≡ []
 unfolding clap_on_literals
@@ -71,21 +93,25 @@ name-rows : (name : Text) → is_flag name ≡ false → asked_in (matches_of li
 unfolding clap_on_literals
 name-rows name plain = rw (name-walk name plain) refl
 
-before-free : (name : Text) → is_flag name ≡ false → fault_of line_app (codes "--check" ∷ name ∷ []) ≡ []
+before-free : (mark : Mark) (name : Text) → is_flag name ≡ false → fault_of line_app (mark_word mark ∷ name ∷ []) ≡ []
 unfolding clap_on_literals
-before-free name plain = rw (flagged-walk name plain, flagged-turn name plain) refl
+before-free checks name plain = rw (flagged-walk checks name plain, flagged-turn checks name plain) refl
+before-free judges name plain = rw (flagged-walk judges name plain, flagged-turn judges name plain) refl
 
-before-rows : (name : Text) → is_flag name ≡ false → asked_in (matches_of line_app (codes "--check" ∷ name ∷ [])) ≡ Some (Check name)
+before-rows : (mark : Mark) (name : Text) → is_flag name ≡ false → asked_in (matches_of line_app (mark_word mark ∷ name ∷ [])) ≡ Some (with_mark mark name)
 unfolding clap_on_literals
-before-rows name plain = rw (flagged-walk name plain) refl
+before-rows checks name plain = rw (flagged-walk checks name plain) refl
+before-rows judges name plain = rw (flagged-walk judges name plain) refl
 
-after-free : (name : Text) → is_flag name ≡ false → fault_of line_app (name ∷ codes "--check" ∷ []) ≡ []
+after-free : (mark : Mark) (name : Text) → is_flag name ≡ false → fault_of line_app (name ∷ mark_word mark ∷ []) ≡ []
 unfolding clap_on_literals
-after-free name plain = rw (name-walk name plain, name-turn name plain) refl
+after-free checks name plain = rw (name-walk name plain, name-turn name plain) refl
+after-free judges name plain = rw (name-walk name plain, name-turn name plain) refl
 
-after-rows : (name : Text) → is_flag name ≡ false → asked_in (matches_of line_app (name ∷ codes "--check" ∷ [])) ≡ Some (Check name)
+after-rows : (mark : Mark) (name : Text) → is_flag name ≡ false → asked_in (matches_of line_app (name ∷ mark_word mark ∷ [])) ≡ Some (with_mark mark name)
 unfolding clap_on_literals
-after-rows name plain = rw (name-walk name plain) refl
+after-rows checks name plain = rw (name-walk name plain) refl
+after-rows judges name plain = rw (name-walk name plain) refl
 
 -- With no fault the rows are read.
 given : (words : List Text) (asked : Option Asked) → fault_of line_app words ≡ [] → asked_in (matches_of line_app words) ≡ asked → command_of words ≡ asked
@@ -111,31 +137,39 @@ abbrev full_line : Asked → List Text
 full_line (Run net None workers) = codes "--" ∷ net ∷ []
 full_line (Run net (Some journal) workers) = joined (codes "--journal") journal ∷ codes "--" ∷ net ∷ []
 full_line (Check net) = codes "--check" ∷ codes "--" ∷ net ∷ []
+full_line (Judge net) = codes "--determinate" ∷ codes "--" ∷ net ∷ []
 full_line (Replay net journal) = joined (codes "--replay") journal ∷ codes "--" ∷ net ∷ []
 full_line (Make number workers) = joined (codes "--make") (decimal number) ∷ []
+full_line Kinds = codes "--kinds" ∷ []
 
 -- The same without its workers.
 abbrev alone : Asked → Asked
 alone (Run net journal workers) = Run net journal 0
 alone (Check net) = Check net
+alone (Judge net) = Judge net
 alone (Replay net journal) = Replay net journal
 alone (Make number workers) = Make number 0
+alone Kinds = Kinds
 
 full-free : (asked : Asked) → fault_of line_app (full_line asked) ≡ []
 unfolding clap_on_literals
 full-free (Run net None workers) = refl
 full-free (Run net (Some journal) workers) = refl
 full-free (Check net) = refl
+full-free (Judge net) = refl
 full-free (Replay net journal) = refl
 full-free (Make number workers) = refl
+full-free Kinds = refl
 
 full-rows : (asked : Asked) → IsWithinBounds asked → asked_in (matches_of line_app (full_line asked)) ≡ Some (alone asked)
 unfolding clap_on_literals
 full-rows (Run net None workers) within = refl
 full-rows (Run net (Some journal) workers) within = refl
 full-rows (Check net) within = refl
+full-rows (Judge net) within = refl
 full-rows (Replay net journal) within = refl
 full-rows (Make number workers) within = made-by number 0 within.0 within.1
+full-rows Kinds within = refl
 
 full : (asked : Asked) → IsWithinBounds asked → command_of (full_line asked) ≡ Some (alone asked)
 full asked within = taken _ _ (full-free asked) (full-rows asked within)
@@ -336,9 +370,9 @@ joined-before o net journal plain = given _ _ (joined-before-free o net journal 
 
 joined-after-free : (o : Beside) (net journal : Text) → is_flag net ≡ false → fault_of line_app (net ∷ (flag_of o ++ codes "=" ++ journal) ∷ []) ≡ []
 unfolding clap_on_literals
-joined-after-free keeps net journal plain = rw (name-walk net plain, name-turn net plain) refl
-joined-after-free again net journal plain = rw (name-walk net plain, name-turn net plain) refl
-joined-after-free shared net journal plain = rw (name-walk net plain, name-turn net plain) refl
+joined-after-free keeps net journal plain = rw (name-turn net plain, name-walk net plain) refl
+joined-after-free again net journal plain = rw (name-turn net plain, name-walk net plain) refl
+joined-after-free shared net journal plain = rw (name-turn net plain, name-walk net plain) refl
 
 joined-after-rows : (o : Beside) (net journal : Text) → is_flag net ≡ false
     → asked_in (matches_of line_app (net ∷ (flag_of o ++ codes "=" ++ journal) ∷ [])) ≡ with_option o net journal
@@ -390,10 +424,15 @@ name-line : (net : Text) (words : List Text) → IsName net words → command_of
 name-line net words (inl is) = rw is (full (Run net None 0) (omega arith))
 name-line net words (inr (plain, is)) = rw is (taken _ _ (name-free net plain) (name-rows net plain))
 
-check-line : (net : Text) (words : List Text) → IsBesideName IsCheckFlag net words → command_of words ≡ Some (Check net)
-check-line net words (form, is_form, inl (name, inl is_name, is)) = rw (is, is_form, is_name) (full (Check net) tt)
-check-line net words (form, is_form, inl (name, inr (plain, is_name), is)) = rw (is, is_form, is_name) (taken _ _ (before-free net plain) (before-rows net plain))
-check-line net words (form, is_form, inr (plain, is)) = rw (is, is_form) (taken _ _ (after-free net plain) (after-rows net plain))
+-- A flag, and a name behind `--`.
+full-mark : (mark : Mark) (net : Text) → command_of (mark_word mark ∷ codes "--" ∷ net ∷ []) ≡ Some (with_mark mark net)
+full-mark checks net = full (Check net) tt
+full-mark judges net = full (Judge net) tt
+
+mark-line : (mark : Mark) (net : Text) (words : List Text) → IsBesideName (IsWord (mark_word mark)) net words → command_of words ≡ Some (with_mark mark net)
+mark-line mark net words (form, is_form, inl (name, inl is_name, is)) = rw (is, is_form, is_name) (full-mark mark net)
+mark-line mark net words (form, is_form, inl (name, inr (plain, is_name), is)) = rw (is, is_form, is_name) (taken _ _ (before-free mark net plain) (before-rows mark net plain))
+mark-line mark net words (form, is_form, inr (plain, is)) = rw (is, is_form) (taken _ _ (after-free mark net plain) (after-rows mark net plain))
 
 option-line : (o : Beside) (net value : Text) (words : List Text) → IsBesideName (IsOption (flag_of o) value) net words → command_of words ≡ with_option o net value
 option-line o net value words (form, inl is_form, inl (name, inl is_name, is)) = rw (is, is_form, is_name) (full-option o net value)
@@ -440,9 +479,11 @@ make-lines number workers words within (inr are) = made-line number workers word
 pub asks : (asked : Asked) (words : List Text) → AskFor asked words → command_of words ≡ Some asked
 asks (Run net None workers) words line = run-line net workers words line.0 line.1
 asks (Run net (Some journal) workers) words line = kept-line net journal workers words line.0 line.1
-asks (Check net) words line = check-line net words line
+asks (Check net) words line = mark-line checks net words line
+asks (Judge net) words line = mark-line judges net words line
 asks (Replay net journal) words line = option-line again net journal words line
 asks (Make number workers) words line = make-lines number workers words line.0 line.1
+asks Kinds words line = rw line (full Kinds tt)
 
 -- What the matches of a parse ask for is what its words do.
 pub read-as : (app : App) (words : List Text) (rows : List Row) (found : Option Asked) → app ≡ line_app → (is_simple app ≡ true → rows ≡ matches_of app words)

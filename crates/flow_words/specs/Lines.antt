@@ -2,16 +2,16 @@
 use Rattle.std.specs.Prelude.{◌≡◌, ◌⊎◌, ◌==◌, Bool, false, List, [], ◌∷◌, ◌++◌, Some, None, codes}
 use Rattle.std.specs.Fmt.{decimal}
 use Rattle.clap.specs.Walk.{Text}
-use Rattle.flow_words.specs.Words.{Asked, Run, Check, Replay, Make, IsWithinBounds}
+use Rattle.flow_words.specs.Words.{Asked, Run, Check, Judge, Replay, Make, Kinds, IsWithinBounds}
 
 -- The word begins with `-`.
 abbrev pub is_flag : Text → Bool
 is_flag [] = false
 is_flag (first ∷ rest) = first == 45
 
--- The words of the flag of a check.
-abbrev pub IsCheckFlag : List Text → Type 0
-IsCheckFlag words = words ≡ codes "--check" ∷ []
+-- This word alone.
+abbrev pub IsWord : Text → List Text → Type 0
+IsWord word words = words ≡ word ∷ []
 
 -- The words of an option with its value: one word with `=` between the two, or two words where the value doesn't begin with `-`.
 abbrev pub IsOption : Text → Text → List Text → Type 0
@@ -40,7 +40,9 @@ AskFor (Run net None workers) words = IsWithinBounds (Run net None workers) × (
 AskFor (Run net (Some journal) workers) words = IsWithinBounds (Run net (Some journal) workers)
     × (((workers ≡ 0) × IsBesideName (IsOption (codes "--journal") journal) net words)
     ⊎ ((form : List Text) × AreBoth (joined (codes "--journal") journal) (joined (codes "--workers") (decimal workers)) form × (words ≡ form ++ codes "--" ∷ net ∷ [])))
-AskFor (Check net) words = IsBesideName IsCheckFlag net words
+AskFor (Check net) words = IsBesideName (IsWord (codes "--check")) net words
+AskFor (Judge net) words = IsBesideName (IsWord (codes "--determinate")) net words
 AskFor (Replay net journal) words = IsBesideName (IsOption (codes "--replay") journal) net words
 AskFor (Make number workers) words = IsWithinBounds (Make number workers)
     × (((workers ≡ 0) × IsOption (codes "--make") (decimal number) words) ⊎ AreBoth (joined (codes "--make") (decimal number)) (joined (codes "--workers") (decimal workers)) words)
+AskFor Kinds words = IsWord (codes "--kinds") words

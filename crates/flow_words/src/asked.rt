@@ -12,6 +12,10 @@ pub enum Command<'a> {
     },
     /// Check the network of this file, and print its canonical spelling.
     Check(&'a str),
+    /// Tell whether the plan of this network file is determinate.
+    Judge(&'a str),
+    /// Print the page of the standard kinds.
+    Kinds,
     /// Make the turns again that a journal's file tells of the network of a file.
     Replay {
         net: &'a str,

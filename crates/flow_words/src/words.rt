@@ -4,7 +4,7 @@ ghost use Rattle.std.specs.Option.{option_and_then, option_map};
 ghost use Rattle.clap.specs.Words.{app_of, found_of, rows_of, rule_of};
 ghost use Rattle.flow_words.specs.Lines.{AskFor};
 ghost use Rattle.flow_words.specs.Numbers.{spelled_number, spelled_workers};
-ghost use Rattle.flow_words.specs.Words.{Asked, IsWithinBounds, Run, asked_by, asked_in, command_of, flag_rule, form_of, given_workers, is_checked, line_app, make_by, option_rule};
+ghost use Rattle.flow_words.specs.Words.{Asked, IsWithinBounds, Run, asked_by, asked_in, command_of, flag_in, flag_rule, form_of, given_workers, is_given, line_app, make_by, option_rule};
 
 use crate::asked::Command;
 use clap::error::ErrorKind;
@@ -13,6 +13,17 @@ use clap::{Arg, ArgAction, ArgMatches};
 use flow_limits::{NUMBER_LIMIT, WORKER_LIMIT};
 use flow_text::decimal;
 use std::alloc::{AllocError, Global};
+
+// Which flag a line has.
+#[derive(Clone, Copy, Debug, PartialEq, Eq)]
+enum FlagGiven {
+    None,
+    Check,
+    Determinate,
+    Kinds,
+    // No form has two.
+    Several,
+}
 
 /// What the words after the program's name ask for, or `None` where they are no command line. Which
 /// names, flags and options make which form is this project's own rule. How the words are told apart
@@ -44,6 +55,8 @@ fn line<'a>(alloc: Global) -> Result<clap::Command<'a>, AllocError>
         .disable_help_flag(true)
         .arg(Arg::new(alloc, "NETFILE"))?
         .arg(flag(alloc, "check"))?
+        .arg(flag(alloc, "determinate"))?
+        .arg(flag(alloc, "kinds"))?
         .arg(option(alloc, "journal"))?
         .arg(option(alloc, "replay"))?
         .arg(option(alloc, "make"))?
@@ -72,7 +85,7 @@ fn asked_by_matches<'a>(matches: &ArgMatches<'a>) -> Option<Command<'a>>
     ensures bounds { IfSome result (λ command. IsWithinBounds (asked_by command)) }
 {
     form(
-        is_checked(matches),
+        flag_in(matches),
         matches.get_str("NETFILE"),
         matches.get_str("journal"),
         matches.get_str("replay"),
@@ -83,24 +96,26 @@ fn asked_by_matches<'a>(matches: &ArgMatches<'a>) -> Option<Command<'a>>
 
 // The form of a command line, by what is given in it.
 fn form<'a>(
-    checked: bool,
+    flag: FlagGiven,
     net: Option<&'a str>,
     journal: Option<&'a str>,
     replay: Option<&'a str>,
     number: Option<&'a str>,
     workers: Option<&'a str>,
 ) -> Option<Command<'a>>
-    ensures asks { option_map asked_by result ≡ form_of checked (option_map (λ s. s.now) net.entry) (option_map (λ s. s.now) journal.entry)
+    ensures asks { option_map asked_by result ≡ form_of flag (option_map (λ s. s.now) net.entry) (option_map (λ s. s.now) journal.entry)
         (option_map (λ s. s.now) replay.entry) (option_map (λ s. s.now) number.entry) (option_map (λ s. s.now) workers.entry) }
     ensures bounds { IfSome result (λ command. IsWithinBounds (asked_by command)) }
 {
-    match (checked, net, journal, replay, number, workers) {
-        (false, Some(net), journal, None, None, workers) => run_of(net, journal, workers),
-        (true, Some(net), None, None, None, None) => Some(Command::Check(net)),
-        (false, Some(net), None, Some(journal), None, None) => {
+    match (flag, net, journal, replay, number, workers) {
+        (FlagGiven::None, Some(net), journal, None, None, workers) => run_of(net, journal, workers),
+        (FlagGiven::Check, Some(net), None, None, None, None) => Some(Command::Check(net)),
+        (FlagGiven::Determinate, Some(net), None, None, None, None) => Some(Command::Judge(net)),
+        (FlagGiven::Kinds, None, None, None, None, None) => Some(Command::Kinds),
+        (FlagGiven::None, Some(net), None, Some(journal), None, None) => {
             Some(Command::Replay { net, journal })
         }
-        (false, None, None, None, Some(word), workers) => make_of(word, workers),
+        (FlagGiven::None, None, None, None, Some(word), workers) => make_of(word, workers),
         _ => None,
     }
 }
@@ -165,11 +180,26 @@ fn spelled_workers(word: &str) -> Option<u32>
     }
 }
 
-// Whether the words gave the flag `--check`, which clap otherwise sets by default.
-fn is_checked(matches: &ArgMatches<'_>) -> bool
-    ensures { result ≡ is_checked (rows_of (found_of matches.now)) }
+// Which flag the words gave.
+fn flag_in(matches: &ArgMatches<'_>) -> FlagGiven
+    ensures { result ≡ flag_in (rows_of (found_of matches.now)) }
 {
-    match matches.value_source("check") {
+    let check = is_given(matches, "check");
+    let determinate = is_given(matches, "determinate");
+    match (check, determinate, is_given(matches, "kinds")) {
+        (false, false, false) => FlagGiven::None,
+        (true, false, false) => FlagGiven::Check,
+        (false, true, false) => FlagGiven::Determinate,
+        (false, false, true) => FlagGiven::Kinds,
+        _ => FlagGiven::Several,
+    }
+}
+
+// Whether the words gave the flag of this name, which clap otherwise sets by default.
+fn is_given(matches: &ArgMatches<'_>, name: &str) -> bool
+    ensures { result ≡ is_given name.now (rows_of (found_of matches.now)) }
+{
+    match matches.value_source(name) {
         Some(ValueSource::CommandLine) => true,
         Some(ValueSource::DefaultValue) => false,
         None => false,

@@ -4,8 +4,24 @@ use Rattle.flow_words.specs.Words.{Run, Make}
 use Rattle.flow_cli.specs.Prepare.{Prepares}
 use Rattle.flow_cli.specs.declared.before.Task.{Task}
 use Rattle.flow_cli.specs.declared.components.TheConstants.{FILE_LIMIT}
-use Rattle.flow_cli.proofs.Performing.{says-again, again-stopped, says-made}
+use Rattle.flow_cli.proofs.Performing.{says-again, again-stopped, says-judged, says-kinds, says-made}
 use Rattle.flow_cli.proofs.run.perform.Goals as goal
+
+pub returns-in-Ok-judgement : goal.returns-in-Ok-judgement
+returns-in-Ok-judgement g c =
+    let o = g.F.Edge.outside c.args.shelf.now in
+    let a = g.F.Edge.outside c.prepare.new.shelf in
+    let ready = subst (λ (t : Task). Prepares o a c.args.words.now (Ok t) FILE_LIMIT) c.in-Judge.is c.in-Ok.ensures in
+    let said = c.in-Ok-judgement.ensures in
+    says-judged o a c.args.words.now FILE_LIMIT ready.0 ready.2.0 ready.2.1 c.in-Judge.plan c.in-Ok-judgement.said ready.1 ready.2.2 ready.2.3 said.text said.status said.journal
+
+pub returns-in-Ok-page : goal.returns-in-Ok-page
+returns-in-Ok-page g c =
+    let o = g.F.Edge.outside c.args.shelf.now in
+    let a = g.F.Edge.outside c.prepare.new.shelf in
+    let asks = subst (λ (t : Task). Prepares o a c.args.words.now (Ok t) FILE_LIMIT) c.in-Kinds.is c.in-Ok.ensures in
+    let said = c.in-Ok-page.ensures in
+    says-kinds o a c.args.words.now FILE_LIMIT c.in-Ok-page.said asks.0 asks.1 said.text said.status said.journal
 
 pub returns-in-Ok-run_again : goal.returns-in-Ok-run_again
 returns-in-Ok-run_again g c =

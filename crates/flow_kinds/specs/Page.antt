@@ -1,0 +1,57 @@
+-- The page of the standard kinds. (This project's own.)
+use Rattle.std.specs.Prelude.{◌≡◌, ℕ, Bool, true, false, List, [], ◌∷◌, ◌++◌, codes}
+use Rattle.std.specs.Fmt.{decimal}
+use Rattle.std.specs.List.{flat_map}
+use Rattle.flow_limits.specs.declared.TheConstants.{ELEMENT_LIMIT}
+use Rattle.flow_plan.specs.declared.kind.PortClass.{PortClass}
+use Rattle.flow_plan.specs.declared.kind.PortClass.TheVariants.{Stream, Number, Fields, File}
+use Rattle.flow_plan.specs.declared.kind.PortSpec.{PortSpec}
+use Rattle.flow_plan.specs.declared.kind.KindSpec.{KindSpec}
+use Rattle.flow_catalogue.specs.declared.table.StdKind.{StdKind}
+use Rattle.flow_catalogue.specs.Kinds.{spec_of, all_kinds}
+use Rattle.flow_kinds.specs.Purposes.{purpose_of}
+use Rattle.flow_kinds.specs.declared.port.Side.{Side}
+use Rattle.flow_kinds.specs.declared.port.Side.TheVariants.{Input, Output}
+
+-- What a port on this side is called. One that takes a text before the network runs is an option.
+abbrev pub role : Side → PortClass → List ℕ
+role Input Stream = codes "input"
+role Output Stream = codes "output"
+role _ _ = codes "option"
+
+-- What the text of an option may be. Of a port for packets nothing is said.
+abbrev pub range_text : PortClass → List ℕ
+range_text Stream = []
+range_text (Number least most) = codes ": a number from " ++ decimal least ++ codes " to " ++ decimal most
+range_text Fields = codes ": one to eight numbers from 1 to 255 with one space between two"
+range_text File = codes ": the name of a file"
+
+-- How many elements a port has, where it is an array.
+abbrev pub elements_text : Bool → List ℕ
+elements_text true = codes "[]: 1 to " ++ decimal ELEMENT_LIMIT ++ codes " elements"
+elements_text false = []
+
+-- That a port may be left open, where it isn't needed.
+abbrev pub open_text : Bool → List ℕ
+open_text true = []
+open_text false = codes ": may be left open"
+
+-- The line of a port on this side.
+abbrev pub port_line : Side → PortSpec → List ℕ
+port_line side port = codes "  " ++ role side port.class ++ 32 ∷ port.name ++ elements_text port.array ++ open_text port.needed ++ range_text port.class ++ 10 ∷ []
+
+-- The lines of a kind with these ports: its name and what it does, then each of its inputs, and then each of its outputs.
+abbrev pub kind_lines : StdKind → KindSpec → List ℕ
+kind_lines kind spec = spec.name ++ codes ": " ++ purpose_of kind ++ 10 ∷ flat_map (port_line Input) spec.inputs ++ flat_map (port_line Output) spec.outputs
+
+-- The lines of a kind with the ports that it has in the table.
+abbrev pub lines_of : StdKind → List ℕ
+lines_of kind = kind_lines kind (spec_of kind)
+
+-- The page: the lines of each kind of the table, once and in its order.
+unfoldable pub kinds_page : List ℕ
+kinds_page = flat_map lines_of all_kinds
+
+-- It is a row of the table.
+abbrev pub IsRow : KindSpec → Type 0
+IsRow spec = (kind : StdKind) × (spec ≡ spec_of kind)

@@ -1,0 +1,24 @@
+-- What the standard kinds do, each in a line.
+use Rattle.std.specs.Prelude.{ℕ, List, codes}
+use Rattle.flow_catalogue.specs.declared.table.StdKind.{StdKind}
+use Rattle.flow_catalogue.specs.declared.table.StdKind.TheVariants.{ReadLines, WriteLines, Passthru, Words, Fill, Brackets, Copy, Concat, Collate, Discard, Bundle, Unbundle, Hoard, Count, LoadBalance, Select, Update}
+
+-- What a kind does.
+abbrev pub purpose_of : StdKind → List ℕ
+purpose_of ReadLines = codes "sends the lines of a file"
+purpose_of WriteLines = codes "writes what arrives to a file, each packet as a line"
+purpose_of Passthru = codes "passes on what arrives"
+purpose_of Words = codes "cuts what arrives into words"
+purpose_of Fill = codes "fills lines of at most SIZE bytes with the words that arrive"
+purpose_of Brackets = codes "makes brackets of what begins with ( or )"
+purpose_of Copy = codes "sends what arrives to each element, as copies to all but the last"
+purpose_of Concat = codes "passes on what arrives, one element after another"
+purpose_of Collate = codes "merges sorted elements by keys of FIELDS, with brackets round each key"
+purpose_of Discard = codes "drops what arrives"
+purpose_of Bundle = codes "makes one packet of each substream"
+purpose_of Unbundle = codes "makes a substream of each bundle again"
+purpose_of Hoard = codes "keeps what arrives to the end"
+purpose_of Count = codes "counts what arrives, and passes it on"
+purpose_of LoadBalance = codes "sends each packet or substream to the element with the fewest packets"
+purpose_of Select = codes "accepts what begins with the text at KEY, and rejects the rest"
+purpose_of Update = codes "updates masters by details, which a Collate of KEYLEN has merged"

@@ -1,0 +1,33 @@
+//! What the standard kinds do.
+ghost use Rattle.std.specs.Prelude.{◌≡◌};
+ghost use Rattle.flow_kinds.specs.Purposes.{purpose_of};
+
+use flow_catalogue::StdKind;
+
+/// What a kind does, in a line.
+pub fn purpose(kind: StdKind) -> &'static [u8]
+    ensures { result.now ≡ purpose_of kind }
+{
+    match kind {
+        StdKind::ReadLines => b"sends the lines of a file",
+        StdKind::WriteLines => b"writes what arrives to a file, each packet as a line",
+        StdKind::Passthru => b"passes on what arrives",
+        StdKind::Words => b"cuts what arrives into words",
+        StdKind::Fill => b"fills lines of at most SIZE bytes with the words that arrive",
+        StdKind::Brackets => b"makes brackets of what begins with ( or )",
+        StdKind::Copy => b"sends what arrives to each element, as copies to all but the last",
+        StdKind::Concat => b"passes on what arrives, one element after another",
+        StdKind::Collate =>
+            b"merges sorted elements by keys of FIELDS, with brackets round each key",
+        StdKind::Discard => b"drops what arrives",
+        StdKind::Bundle => b"makes one packet of each substream",
+        StdKind::Unbundle => b"makes a substream of each bundle again",
+        StdKind::Hoard => b"keeps what arrives to the end",
+        StdKind::Count => b"counts what arrives, and passes it on",
+        StdKind::LoadBalance => {
+            b"sends each packet or substream to the element with the fewest packets"
+        }
+        StdKind::Select => b"accepts what begins with the text at KEY, and rejects the rest",
+        StdKind::Update => b"updates masters by details, which a Collate of KEYLEN has merged",
+    }
+}
