@@ -1,6 +1,6 @@
 //! The top calls.
 ghost use Rattle.std.specs.Prelude.{◌≡◌, ◌≤◌, ◌↔◌, IfOk, IsTrue};
-ghost use Rattle.flow_cli.specs.Alone.{HasOneOutcome};
+ghost use Rattle.flow_cli.specs.Alone.{ComesToEndAsAlone};
 ghost use Rattle.flow_cli.specs.Engines.{RanBy, Runs};
 ghost use Rattle.flow_cli.specs.Meant.{LeavesMeaning};
 ghost use Rattle.flow_cli.specs.Networks.{IsStandardPlan};
@@ -32,6 +32,7 @@ use flow_meanings::{
 };
 use flow_model::a_finished_network_leads_on;
 use flow_ready::a_valid_plan_is_ready;
+use flow_report::a_state_has_one_report;
 use flow_text::{Shelf, Sink};
 use flow_words::{Command, command};
 use std::alloc::{AllocError, Global};
@@ -76,8 +77,8 @@ pub fn plain_top<F: Shelf, O: Sink>(
     // A run came to its end, or what writes no file did: a check, a judge, a replay, a make, or the page of kinds.
     ensures over { IsOver result.status → ComesToEnd (call_of words.now (F.outside shelf.old) (F.outside shelf.new) (O.outside out.old) (O.outside out.new) result.journal result.status) FILE_LIMIT }
 
-    // A run of a determinate plan ends as on one thread, whatever its workers did.
-    ensures one_outcome { IsOver result.status → HasOneOutcome (call_of words.now (F.outside shelf.old) (F.outside shelf.new) (O.outside out.old) (O.outside out.new) result.journal result.status) FILE_LIMIT }
+    // A run of a determinate plan ends as on one thread, with its status, report and files, whatever its workers did.
+    ensures one_outcome { IsOver result.status → ComesToEndAsAlone (call_of words.now (F.outside shelf.old) (F.outside shelf.new) (O.outside out.old) (O.outside out.new) result.journal result.status) FILE_LIMIT }
 
     // A run that finished left the files that its network means.
     ensures meaning { IsFinished result.status
@@ -120,8 +121,8 @@ pub fn busy_top<R: Threads + Wait + Sync, F: Shelf, O: Sink, G: Gate + Sync>(
     // A run came to its end, or what writes no file did: a check, a judge, a replay, a make, or the page of kinds.
     ensures over { IsOver result.status → ComesToEnd (call_of words.now (F.outside shelf.old) (F.outside shelf.new) (O.outside out.old) (O.outside out.new) result.journal result.status) FILE_LIMIT }
 
-    // A run of a determinate plan ends as on one thread, whatever its workers did.
-    ensures one_outcome { IsOver result.status → HasOneOutcome (call_of words.now (F.outside shelf.old) (F.outside shelf.new) (O.outside out.old) (O.outside out.new) result.journal result.status) FILE_LIMIT }
+    // A run of a determinate plan ends as on one thread, with its status, report and files, whatever its workers did.
+    ensures one_outcome { IsOver result.status → ComesToEndAsAlone (call_of words.now (F.outside shelf.old) (F.outside shelf.new) (O.outside out.old) (O.outside out.new) result.journal result.status) FILE_LIMIT }
 
     // A run that finished left the files that its network means.
     ensures meaning { IsFinished result.status
@@ -161,7 +162,7 @@ where
     E: Fn(Net<Std>, u32) -> Result<Closed<Std>, AllocError>,
     requires { IsServed (Runs (E.pre engine.now) (E.post engine.now)) words.now }
     ensures over { IsOver result.status → ComesToEnd (call_of words.now (F.outside shelf.old) (F.outside shelf.new) (O.outside out.old) (O.outside out.new) result.journal result.status) FILE_LIMIT }
-    ensures one_outcome { IsOver result.status → HasOneOutcome (call_of words.now (F.outside shelf.old) (F.outside shelf.new) (O.outside out.old) (O.outside out.new) result.journal result.status) FILE_LIMIT }
+    ensures one_outcome { IsOver result.status → ComesToEndAsAlone (call_of words.now (F.outside shelf.old) (F.outside shelf.new) (O.outside out.old) (O.outside out.new) result.journal result.status) FILE_LIMIT }
     ensures meaning { IsFinished result.status
         → LeavesMeaning (record { words = words.now; before = F.outside shelf.old; after = F.outside shelf.new; journal = result.journal }) FILE_LIMIT }
     ensures books { IsFinished result.status → LeavesBooks (record { words = words.now; before = F.outside shelf.old; after = F.outside shelf.new; journal = result.journal }) FILE_LIMIT }
@@ -176,6 +177,7 @@ where
     an_ended_collate_has_sent_the_collation();
     a_batch_update_writes_its_book();
     a_determinate_plan_ends_as_on_one_thread();
+    a_state_has_one_report::<Std>();
     a_finished_network_leads_on::<Std>();
     standard_components_come_to_one_outcome();
     a_journal_that_stops_is_no_schedule::<Std>();

@@ -14,7 +14,7 @@ returns-in-Ok-clause-over g c = λ over.
 
 pub returns-in-Ok-clause-one_outcome : goal.returns-in-Ok-clause-one_outcome
 returns-in-Ok-clause-one_outcome g c = λ over.
-    alone c.a_valid_plan_is_ready.ensures.starts c.a_determinate_plan_ends_as_on_one_thread.ensures
+    alone c.a_valid_plan_is_ready.ensures.starts c.a_determinate_plan_ends_as_on_one_thread.ensures c.a_state_has_one_report.ensures
     (call_of c.args.words.now (g.F.Edge.outside c.args.shelf.now) (g.F.Edge.outside c.conclude.new.shelf) (g.O.Edge.outside c.args.out.now) (g.O.Edge.outside c.conclude.new.out) c.conclude.result.journal c.conclude.result.status) FILE_LIMIT
     (done-over c.args.words.now (g.F.Edge.outside c.args.shelf.now) (g.F.Edge.outside c.perform.new.shelf) (g.F.Edge.outside c.conclude.new.shelf) (g.O.Edge.outside c.args.out.now) (g.O.Edge.outside c.conclude.new.out)
     c.in-Ok.done c.conclude.result FILE_LIMIT c.in-Ok.ensures c.conclude.ensures over)
