@@ -68,20 +68,47 @@ fn two_readers_are_merged_by_workers(rt: HostRuntime) -> Result<(), Fail> {
     Ok(())
 }
 
+/// A network that gets stuck: its files, its report, and how many turns were made.
+struct Stuck {
+    files: &'static [File],
+    report: &'static [u8],
+    turns: usize,
+}
+
+/// Two processes of which each waits for the other, and a copy of a file behind the file, over connections that are too small.
+const STUCK: [Stuck; 2] = [
+    Stuck {
+        files: &[(
+            "net",
+            b"flow 1\nA(Passthru) OUT -> IN B(Passthru)\nB OUT -> IN A\n",
+        )],
+        report: b"verdict deadlock\nprocess A Passthru idle turns 0 made 0 dropped 0 left 0\nprocess B Passthru idle turns 0 made 0 dropped 0 left 0\nconnection B.IN capacity 10 puts 0 takes 0 left 0\nconnection A.IN capacity 10 puts 0 takes 0 left 0\nblocked A dormant\nblocked B dormant\nwaits A for B at A.IN\nwaits B for A at B.IN\ntotal turns 0 made 0 dropped 0 left 0\n",
+        turns: 0,
+    },
+    Stuck {
+        files: &[
+            (
+                "net",
+                b"flow 1\n'i' -> FILE Read(ReadLines)\nRead OUT -> IN Copy(Copy)\nCopy OUT[0] -> (1) IN[0] Concat(Concat)\nCopy OUT[1] -> (1) IN[1] Concat\nConcat OUT -> IN Write(WriteLines)\n'o' -> FILE Write\n",
+            ),
+            ("i", b"a\nb\nc\n"),
+        ],
+        report: b"verdict deadlock\nprocess Read ReadLines ended turns 7 made 3 dropped 0 left 0\nprocess Copy Copy active turns 6 made 2 dropped 0 left 1\nprocess Concat Concat active turns 5 made 0 dropped 0 left 0\nprocess Write WriteLines active turns 3 made 0 dropped 2 left 0\nconnection Copy.IN capacity 10 puts 3 takes 2 left 1\nconnection Concat.IN[0] capacity 1 puts 2 takes 2 left 0\nconnection Concat.IN[1] capacity 1 puts 1 takes 0 left 1\nconnection Write.IN capacity 10 puts 2 takes 2 left 0\nblocked Copy full OUT[1]\nblocked Concat empty IN[0]\nblocked Write empty IN\nwaits Copy for Concat at Concat.IN[1]\nwaits Concat for Copy at Concat.IN[0]\nleft Read:1 in hands of Copy\nleft Read:2 in Copy.IN\nleft Read:0 in Concat.IN[1]\ntotal turns 21 made 5 dropped 2 left 3\n",
+        turns: 21,
+    },
+];
+
 #[test]
-fn a_ring_is_stuck_for_workers_too(rt: HostRuntime) -> Result<(), Fail> {
-    let ring: &[File] = &[(
-        "net",
-        b"flow 1\nA(Passthru) OUT -> IN B(Passthru)\nB OUT -> IN A\n",
-    )];
-    for line in [ONE, FOUR] {
-        let called = call(&rt, rt.alloc(), line, ring, &NoGate)?;
-        assert_eq!(rt; called.status, 4);
-        assert_eq!(rt; called.turns, 0);
-        assert_eq!(rt;
-            called.printed.as_slice(),
-            b"verdict deadlock\nprocess A Passthru idle turns 0 made 0 dropped 0 left 0\nprocess B Passthru idle turns 0 made 0 dropped 0 left 0\nconnection B.IN capacity 10 puts 0 takes 0 left 0\nconnection A.IN capacity 10 puts 0 takes 0 left 0\nblocked A dormant\nblocked B dormant\nwaits A for B at A.IN\nwaits B for A at B.IN\ntotal turns 0 made 0 dropped 0 left 0\n".as_slice()
-        );
+fn a_stuck_network_tells_its_cycle_by_any_workers(rt: HostRuntime) -> Result<(), Fail> {
+    for stuck in &STUCK {
+        let alone = call_alone(&rt, rt.alloc(), &["net"], stuck.files)?;
+        let one = call(&rt, rt.alloc(), ONE, stuck.files, &NoGate)?;
+        let four = call(&rt, rt.alloc(), FOUR, stuck.files, &NoGate)?;
+        for called in [&alone, &one, &four] {
+            assert_eq!(rt; called.status, 4);
+            assert_eq!(rt; called.turns, stuck.turns);
+            assert_eq!(rt; called.printed.as_slice(), stuck.report);
+        }
     }
     Ok(())
 }
