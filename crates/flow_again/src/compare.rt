@@ -1,11 +1,12 @@
-//! A run by workers, and the same turns on one thread.
+//! A run by workers, the same turns on one thread, and the run of one thread.
 ghost use Rattle.flow_limits.specs.declared.TheConstants.{WORKER_LIMIT};
 ghost use Rattle.std.specs.Prelude.{◌≤◌, ◌<◌, length};
 
 use flow_catalogue::Std;
 use flow_component::NoGate;
+use flow_determinate::determinate;
 use flow_journal::{Journal, RUN_LIMIT, ReplayStop, replay};
-use flow_machine::{Closed, Net};
+use flow_machine::{Closed, Net, solo};
 use flow_net::Plan;
 use flow_report::Report;
 use flow_runner::{RunStop, run};
@@ -99,8 +100,37 @@ fn is_its_journals(
     }
 }
 
+/// Whether a run of a determinate plan left what one thread leaves; nothing is asked of any other run.
+fn is_as_alone(
+    alloc: Global,
+    text: &[u8],
+    bytes: &[u8],
+    ran: &Closed<Std>,
+) -> Result<bool, AgainStop> {
+    let plan = plan_of_text(alloc, text)?;
+    if !determinate(&plan) {
+        return Ok(true);
+    }
+    match solo(alloc, started(alloc, text, bytes)?) {
+        Ok(alone) => {
+            let same = leave_the_same(alloc, &plan, ran, &alone);
+            alone.discard();
+            Ok(same?)
+        }
+        Err(stopped) => {
+            stopped.discard();
+            Err(AgainStop::NoMemory)
+        }
+    }
+}
+
+/// Whether a run is what it is to be: what comes of its own journal, and what one thread leaves where its plan is determinate.
+fn is_right(alloc: Global, text: &[u8], bytes: &[u8], ran: &Closed<Std>) -> Result<bool, AgainStop> {
+    Ok(is_its_journals(alloc, text, bytes, ran)? && is_as_alone(alloc, text, bytes, ran)?)
+}
+
 /// Runs the network of this text by so many workers, each reader on these bytes, makes its turns again on one thread by its journal, and answers whether
-/// the two left the same.
+/// the two left the same; and where its plan is determinate, whether the run of one thread left the same too.
 pub fn is_same<R: Threads + Wait + Sync>(
     rt: &R,
     alloc: Global,
@@ -114,7 +144,7 @@ pub fn is_same<R: Threads + Wait + Sync>(
     let net = started(alloc, text, bytes)?;
     match run(rt, alloc, net, workers, &NoGate) {
         Ok(ran) => {
-            let same = is_its_journals(alloc, text, bytes, &ran);
+            let same = is_right(alloc, text, bytes, &ran);
             ran.discard();
             same
         }

@@ -1,5 +1,6 @@
 //! The program `flow_again WORKERS NETFILE INPUT`: runs the network of a file by so many workers, with each reader on the same input, makes the turns again
-//! on one thread by the run's own journal, and compares what the two leave: the report, and the bytes of each writer. It prints `same` or `other`.
+//! on one thread by the run's own journal, and compares what the two leave: the report, and the bytes of each writer. Where no connection has two senders
+//! and no process is a LoadBalance, it compares these with what a run on one thread leaves, too. It prints `same` or `other`.
 #![tactic(auto)]
 
 mod compare;
