@@ -125,7 +125,12 @@ fn is_as_alone(
 }
 
 /// Whether a run is what it is to be: what comes of its own journal, and what one thread leaves where its plan is determinate.
-fn is_right(alloc: Global, text: &[u8], bytes: &[u8], ran: &Closed<Std>) -> Result<bool, AgainStop> {
+fn is_right(
+    alloc: Global,
+    text: &[u8],
+    bytes: &[u8],
+    ran: &Closed<Std>,
+) -> Result<bool, AgainStop> {
     Ok(is_its_journals(alloc, text, bytes, ran)? && is_as_alone(alloc, text, bytes, ran)?)
 }
 

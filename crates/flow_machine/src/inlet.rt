@@ -92,11 +92,7 @@ pub(crate) fn is_fresh(fresh: &[bool], port: Port) -> bool
 }
 
 /// A copy of the initial text at a port, where it is fresh.
-fn next_text(
-    inlets: &[Inlet],
-    fresh: &[bool],
-    port: Port,
-) -> Result<Option<Vec<u8>>, AllocError>
+fn next_text(inlets: &[Inlet], fresh: &[bool], port: Port) -> Result<Option<Vec<u8>>, AllocError>
     ensures copy { IfOk result (λ copy. option_map (λ text. text.items) copy ≡ text_taken (unwrap_or (slice_get fresh.now port.0) false) (slice_get (map input_shown inlets.now) port.0)) }
     ensures refused { OnErr result (text_taken (unwrap_or (slice_get fresh.now port.0) false) (slice_get (map input_shown inlets.now) port.0) ≢ None) }
 {

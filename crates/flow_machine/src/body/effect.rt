@@ -146,7 +146,11 @@ impl<K: Component> Body<K> {
     {
         freshen(&mut self.fresh, &self.inlets);
         add_stamp(&mut self.stamps, stamp);
-        enter(&mut self.stage, self.stamps.len(), Stage::Told(Answer::Start));
+        enter(
+            &mut self.stage,
+            self.stamps.len(),
+            Stage::Told(Answer::Start),
+        );
     }
 
     pub(crate) fn begin_closing(&mut self, stamp: u32)
@@ -168,7 +172,11 @@ impl<K: Component> Body<K> {
         let id = packet.id();
         self.hands.put(packet);
         add_stamp(&mut self.stamps, stamp);
-        enter(&mut self.stage, self.stamps.len(), Stage::Told(Answer::Got(id)));
+        enter(
+            &mut self.stage,
+            self.stamps.len(),
+            Stage::Told(Answer::Got(id)),
+        );
     }
 
     pub(crate) fn hear_end(&mut self, stamp: u32)
@@ -193,7 +201,11 @@ impl<K: Component> Body<K> {
                 let id = self.hands.make_normal(text);
                 use_up(&mut self.fresh, port);
                 add_stamp(&mut self.stamps, stamp);
-                enter(&mut self.stage, self.stamps.len(), Stage::Told(Answer::Got(id)));
+                enter(
+                    &mut self.stage,
+                    self.stamps.len(),
+                    Stage::Told(Answer::Got(id)),
+                );
             }
             None => {
                 add_stamp(&mut self.stamps, stamp);
@@ -212,7 +224,11 @@ impl<K: Component> Body<K> {
         deepen(&mut self.depths, port, self.leaving);
         self.leaving = None;
         add_stamp(&mut self.stamps, stamp);
-        enter(&mut self.stage, self.stamps.len(), Stage::Told(Answer::Sent));
+        enter(
+            &mut self.stage,
+            self.stamps.len(),
+            Stage::Told(Answer::Sent),
+        );
     }
 
     #[cold]
@@ -224,7 +240,11 @@ impl<K: Component> Body<K> {
     {
         add_level(&mut self.levels, stamp, level as u16);
         add_stamp(&mut self.stamps, stamp);
-        enter(&mut self.stage, self.stamps.len(), Stage::Told(Answer::Level(level)));
+        enter(
+            &mut self.stage,
+            self.stamps.len(),
+            Stage::Told(Answer::Level(level)),
+        );
     }
 
     #[cold]
