@@ -104,11 +104,11 @@ fn begin_over<R: Files<File = File>>(
     if !old.metadata()?.is_file() {
         return Ok(in_place(old));
     }
-    if Stream::Output.goes_to(&old)? {
+    if Stream::Output.goes_to(rt, &old)? {
         let reason = "the standard output goes to this file";
         return Err(OutputError::Io(io::Error::new(ErrorKind::InvalidInput, reason)));
     }
-    let is_shared = Stream::Error.goes_to(&old)?;
+    let is_shared = Stream::Error.goes_to(rt, &old)?;
     match place_of(alloc, rt, name)? {
         Place::Name(target) if !is_shared => beside(alloc, rt, target, Some(old)),
         _ => Ok(in_place(at_end(rt, name)?)),
