@@ -32,10 +32,10 @@ pub fn put_fault(
     }
 }
 
-fn put_reason(
-    net: Net<'_>,
+fn put_reason<'a>(
+    net: Net<'a>,
     page: &mut String,
-    found: &Found<'_>,
+    found: &Found<'a>,
     reason: Reason,
 ) -> Result<(), AllocError> {
     let rest = match reason {
@@ -206,7 +206,7 @@ fn kindless<'a>(
     }
 }
 
-fn put_kind(net: Net<'_>, page: &mut String, found: &Found<'_>) -> Result<(), AllocError> {
+fn put_kind<'a>(net: Net<'a>, page: &mut String, found: &Found<'a>) -> Result<(), AllocError> {
     let second = match second_kind(net, found, found.said.from)? {
         Some(second) => Some(second),
         None => second_kind(net, found, found.said.to)?,

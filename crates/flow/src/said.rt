@@ -43,9 +43,8 @@ struct Rest<'p, 'a> {
 
 impl<'p, 'a> Rest<'p, 'a> {
     fn word(&mut self) -> Option<&'a [u8]> {
-        let (first, more) = self.left.split_first()?;
-        match first {
-            Piece::Word(word) => {
+        match self.left {
+            [Piece::Word(word), more @ ..] => {
                 self.left = more;
                 Some(*word)
             }
@@ -54,9 +53,8 @@ impl<'p, 'a> Rest<'p, 'a> {
     }
 
     fn arrow(&mut self) -> Option<()> {
-        let (first, more) = self.left.split_first()?;
-        match first {
-            Piece::Arrow => {
+        match self.left {
+            [Piece::Arrow, more @ ..] => {
                 self.left = more;
                 Some(())
             }
