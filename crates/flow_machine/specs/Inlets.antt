@@ -1,6 +1,7 @@
 -- What stands at the inputs of a body.
-use Rattle.std.specs.Prelude.{Bool, true, false}
+use Rattle.std.specs.Prelude.{ℕ, Bool, true, false, List, Option, Some, None, slice_get, if◌then◌else◌}
 use Rattle.flow_model.specs.States.{Input, From, Text}
+use Rattle.flow_model.specs.Events.{Look, passes, holds_packet}
 use Rattle.flow_machine.specs.declared.inlet.Inlet.{Inlet}
 use Rattle.flow_machine.specs.declared.inlet.Inlet.TheVariants as inlets
 
@@ -13,3 +14,8 @@ input_shown (inlets.Text text) = Text text.items
 abbrev pub is_text : Inlet → Bool
 is_text (inlets.Connection c) = false
 is_text (inlets.Text text) = true
+
+-- The connection at an automatic input, if it has one and a packet is there.
+abbrev pub signal_source : List Look → Option ℕ → Option ℕ
+signal_source looks (Some c) = if passes holds_packet (slice_get looks c) then Some c else None
+signal_source looks None = None

@@ -19,6 +19,8 @@ process_shown b = record {
   turns = vec_len b.stamps;
   inputs = map input_shown b.inlets.items;
   outputs = b.outputs.items;
+  signal = b.signal;
+  signalled = b.signalled;
 }
 
 -- What a body shows.

@@ -36,7 +36,11 @@ pub struct Body<K: Component> {
     hands: Hands,
     inlets: Vec<Inlet>,
     fresh: Vec<bool>,
+    /// The connections at its outputs, of which the last is the automatic one.
     outputs: Vec<Option<u32>>,
+    /// The connection at its automatic input, and whether a packet came there.
+    signal: Option<u32>,
+    signalled: bool,
     depths: Vec<u32>,
     /// The kind of a packet that has left for its connection, while the turn that sends it isn't over.
     leaving: Option<Kind>,
@@ -169,6 +173,20 @@ impl<K: Component> Body<K> {
         }
     }
 
+    /// The connection at the automatic input, if there is one.
+    pub fn signal(&self) -> Option<u32>
+        ensures { result ≡ self.now.process.signal }
+    {
+        self.signal
+    }
+
+    /// A packet came at the automatic input.
+    pub fn signalled(&self) -> bool
+        ensures { result ≡ self.now.process.signalled }
+    {
+        self.signalled
+    }
+
     /// Some input has a connection.
     pub fn is_connected(&self) -> bool
         ensures { result ≡ list_any is_connected self.now.process.inputs }
@@ -248,6 +266,8 @@ impl<K: Component> Body<K> {
             inlets: _,
             fresh: _,
             outputs: _,
+            signal: _,
+            signalled: _,
             depths: _,
             leaving: _,
             stamps: _,
