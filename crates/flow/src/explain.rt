@@ -84,14 +84,14 @@ fn explain_line<R: Eprint>(alloc: Global, rt: &R, net: &[u8], fault: NetFault) {
 
 fn sentence(reason: Reason) -> &'static str {
     match reason {
-        Reason::Header => "The first line that is no remark has to be: flow 1",
+        Reason::Header => "The first line that is no remark has to be: flow 1, or flow 2",
         Reason::Byte => "A byte outside of a quoted text begins no word, number or sign.",
         Reason::Quote => "A quoted text isn't closed in its line; two quotes stand for one in it.",
         Reason::Form => "The line is none of the forms, or one that may not stand there.",
         Reason::Name =>
             "A name begins with a letter, has letters, digits and _, at most 64 of them, and is no word of the language.",
         Reason::Number =>
-            "A capacity is a number from 1 to 1024, an element one from 0 to 511, without zeros in front.",
+            "A capacity is a number from 1 to 1024, or to 4096 behind flow 2, an element one from 0 to 511, without zeros in front.",
         Reason::Kind =>
             "A process has one kind, in parentheses behind one of its mentions at least.",
         Reason::Subnet => "A subnet has a name of its own, and an end.",
