@@ -183,8 +183,8 @@ finished-composes plan components journal s well first leads finished = record {
     sends-in p o c x there output =
         let z = was plan components journal s well leads p x there in
         let start = Rattle.flow_model.proofs.Start.start-process plan components p z.0 z.1 in
-        let outputs : x.outputs ≡ map (sends_at plan p) (range_with_len 0 start.spec.outputs) = ap (λ (w : Wires). w.outputs) (sym z.2) ∙ ap (λ (y : Process Std). y.outputs) start.is in
-        by start.spec.outputs (slice_get x.outputs o) refl output outputs
+        let outputs : x.outputs ≡ map (sends_at plan p) (range_with_len 0 (start.spec.outputs + 1)) = ap (λ (w : Wires). w.outputs) (sym z.2) ∙ ap (λ (y : Process Std). y.outputs) start.is in
+        by (start.spec.outputs + 1) (slice_get x.outputs o) refl output outputs
       where
         by : (n : ℕ) (found : Option (Option ℕ)) → slice_get x.outputs o ≡ found → option_and_then (λ (d : Option ℕ). d) found ≡ Some c → x.outputs ≡ map (sends_at plan p) (range_with_len 0 n) → sends_at plan p o ≡ Some c
         by n None at is outputs = absurd (cc)
