@@ -48,3 +48,6 @@ pub const NUMBER_LIMIT: u32 = 100;
 
 /// The most workers that run a network.
 pub const WORKER_LIMIT: u32 = 32;
+
+/// The most entries of a tape: one for each resume of a component that a caller hands in.
+pub const TAPE_LIMIT: usize = 1_048_577;
