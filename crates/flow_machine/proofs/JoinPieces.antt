@@ -15,7 +15,6 @@ use Rattle.flow_plan.specs.declared.plan.Connection.{Connection}
 use Rattle.flow_model.specs.States.{Process, Channel, Entry, entry_of, Put, State, Outlet, output_at, got_at, sent_at, is_sender}
 use Rattle.flow_model.specs.Order.{input_of, signal_of, output_of, packets_at, opens, entries, entries_by, is_open_kind}
 use Rattle.flow_model.specs.Places.{held_count, transit_count, made_by, made_count, ids_in_hands, ids_in_transit, ids_dropped}
-use Rattle.flow_model.specs.Wires.{wires}
 use Rattle.flow_model.specs.Stands.{BodyShown, ChannelShown, NetShown, show_body, show_channel, bodies_from, channels_from}
 use Rattle.flow_model.specs.Valid.{IsOpenSender, AllDifferent}
 use Rattle.flow_model.proofs.Totals.{totals-add_up}

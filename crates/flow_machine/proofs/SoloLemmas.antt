@@ -31,7 +31,7 @@ use Rattle.flow_machine.specs.declared.answers.Thought.{Thought}
 use Rattle.flow_machine.specs.declared.answers.Thought.TheVariants as thoughts
 use Rattle.flow_machine.specs.Nets.{looks_of, NetTurn, TurnsNet, level_of, HasFailed, levels_told}
 use Rattle.flow_machine.specs.NetSteps.{ThinksNet, IsSetIn}
-use Rattle.flow_machine.specs.Thoughts.{SettlesBody, WorkedBody, SameBody, IsSet, IsSetAt}
+use Rattle.flow_machine.specs.Thoughts.{SettlesBody, WorkedBody, SameBody, IsSet}
 use Rattle.flow_machine.specs.Logs.{Logged, journal_of, Remembers, stamps_of, levels_of, turns_made}
 use Rattle.flow_machine.specs.Starts.{AllSet}
 use Rattle.flow_machine.specs.Solo.{Goes, HasNoTurnIn, MakesTurn, SettlesNet, StarvesNet, IsFirstUnset, SetBelow, turns_of, burst_of, pass_below, some_passes, some_works, all_settled, round_robin}
@@ -98,7 +98,7 @@ settles-failed next old p cause new think = record {
   after = think.after;
   there = think.there;
   settles = think.thinks.0;
-  set = subst (IsSetAt think.after) (sym think.thinks.1) tt;
+  set = think.thinks.1;
   keeps = think.keeps;
   bodies = think.bodies;
   channels = think.channels;

@@ -62,9 +62,9 @@ impl<K: Component> Model for Body<K> {
     ghost use Rattle.flow_machine.specs.Bodies.{IsBody};
     ghost use Rattle.flow_machine.specs.Views.{process_shown, body_shown};
 
-    ghost view = { body_shown };
+    ghost view = { body_shown K.state_of K.told_end };
 
-    ghost invariant = { λ b. IsBody K.shape_of K.uses K.ready (process_shown b) b.leaving };
+    ghost invariant = { λ b. IsBody K.shape_of K.uses K.ready (process_shown K.state_of b) b.leaving };
 }
 
 /// The packet that is to be sent at this stage.
@@ -108,8 +108,9 @@ impl<K: Component> Body<K> {
         self.has_run
     }
 
+    /// Its component, of which the process has the state.
     pub fn component(&self) -> &K
-        ensures { result.now ≡ self.now.process.component }
+        ensures { K.state_of result.now ≡ self.now.process.component }
     {
         &self.component
     }

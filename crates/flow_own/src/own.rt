@@ -158,9 +158,9 @@ fn record<P: Part>(
         return Err(Stop::NoMemory);
     }
     if tape.entries.len() + 1 == TAPE_LIMIT {
-        let entry = last_entry(alloc, answer);
-        let end = entry.end;
-        tape.entries.push_reserved(entry);
+        let last = last_entry(alloc, answer);
+        let end = last.end;
+        tape.entries.push_reserved(last);
         return result_of(end);
     }
     let Some(entry) = entry_of(alloc, part, hands, answer, shape, used) else {

@@ -30,8 +30,8 @@ impl<K: Component> Body<K> {
         requires in_range { process < length plan.now.processes }
         requires receiving { IfSome (slice_get plan.now.processes process) (λ x. receiving.now ≡ map (receives_at plan.now process) (range_with_len 0 (x.inputs + 1))) }
         requires sending { IfSome (slice_get plan.now.processes process) (λ x. sending.now ≡ map (sends_at plan.now process) (range_with_len 0 (x.outputs + 1))) }
-        requires well { (x : NetProcess) → slice_get plan.now.processes process ≡ Some x → x.outputs + 1 < 2 ^ 32 → StandsWell K.shape_of K.uses K.ready (process_at_start plan.now process x component) }
-        ensures { IfOk result (λ body. (x : NetProcess) → slice_get plan.now.processes process ≡ Some x → StartsBody (process_at_start plan.now process x component) body) }
+        requires well { (x : NetProcess) → slice_get plan.now.processes process ≡ Some x → x.outputs + 1 < 2 ^ 32 → StandsWell K.shape_of K.uses K.ready (process_at_start plan.now process x (K.state_of component)) }
+        ensures { IfOk result (λ body. (x : NetProcess) → slice_get plan.now.processes process ≡ Some x → StartsBody (process_at_start plan.now process x (K.state_of component)) body) }
     {
         let entry = &plan.processes()[process as usize];
         if !fits(sending.len()) {

@@ -85,6 +85,8 @@ returns-in-Wishing g c = λ x' there'.
     let keeps = c.in-Wishing.ensures.keeps in
     let starts : StartsBody (process_at_start c.args.plan.now c.args.process x c.args.component) c.prepare.new.self = record {
       process = rw prepared.0.process (rw (inputs, outputs, fresh, depths, signal, c.new.ensures, c.new-2.ensures.len) refl);
+    let starts : StartsBody (process_at_start c.args.plan.now c.args.process x (g.K.Component.state_of c.args.component)) c.prepare.new.self = record {
+      process = rw prepared.0.process (rw (inputs, outputs, fresh, depths, c.new.ensures, c.new-2.ensures.len) refl);
       dropped = rw prepared.0.dropped (rw c.new.ensures refl);
       leaving = keeps.leaving;
       stamps = rw keeps.stamps c.new-2.ensures.items;
@@ -93,4 +95,4 @@ returns-in-Wishing g c = λ x' there'.
     } in
     let h : Some x ≡ Some x' = sym there ∙ there' in
     let same : x ≡ x' = cc in
-    subst (λ (q : NetProcess). StartsBody (process_at_start c.args.plan.now c.args.process q c.args.component) c.prepare.new.self) same starts
+    subst (λ (q : NetProcess). StartsBody (process_at_start c.args.plan.now c.args.process q (g.K.Component.state_of c.args.component)) c.prepare.new.self) same starts
