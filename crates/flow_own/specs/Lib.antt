@@ -6,3 +6,5 @@ pub mod Tapes
 pub mod Taping
 pub mod TapesLaws
 pub mod Lefts
+pub mod Mixed
+pub mod MixedLaws

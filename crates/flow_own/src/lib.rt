@@ -3,12 +3,14 @@
 
 mod acts;
 mod desk;
+mod mixed;
 mod own;
 mod part;
 mod play;
 mod tape;
 
 pub use desk::{Desk, DeskStop};
+pub use mixed::{Mix, Mixed};
 pub use own::Own;
 pub use part::{Part, PartStop};
 pub use tape::{End, Entry, Tape};

@@ -14,7 +14,7 @@ use Rattle.flow_own.specs.declared.tape.Entry.{Entry}
 use Rattle.flow_own.specs.Acts.{Made, CanMake, CanDrop, after_make}
 use Rattle.flow_own.specs.Tapes.{OwnValue, Records, NextAs, OwnNext, is_answer, can_make, can_drop, can_play, after_entry, outcome_by, differs, played as played_outcome}
 use Rattle.flow_model.specs.Replaced.{Mimics}
-use Rattle.flow_played.specs.Mixed.{Mixed, Other, Own, MixedNext}
+use Rattle.flow_own.specs.Mixed.{Mixed, Other, Own, MixedNext}
 use Rattle.flow_played.specs.Played.{player_of, played_by, HasTape}
 
 same-answer : (answer : Answer) → is_answer answer answer ≡ true

@@ -8,7 +8,7 @@ use Rattle.flow_own.specs.Tapes.{OwnValue}
 use Rattle.flow_model.specs.States.{State}
 use Rattle.flow_model.specs.Schedules.{Journal, Leads}
 use Rattle.flow_model.specs.Replaced.{replaced, OfEach}
-use Rattle.flow_played.specs.Mixed.{Mixed, Other, Own, MixedNext}
+use Rattle.flow_own.specs.Mixed.{Mixed, Other, Own, MixedNext}
 
 -- The player of a tape, at the place to which this part's tape has come.
 abbrev pub player_of : List Entry → OwnValue → OwnValue

@@ -1,5 +1,5 @@
 use Rattle.flow_model.proofs.Replacing.{replaced-leads}
-use Rattle.flow_played.specs.Mixed.{MixedNext}
+use Rattle.flow_own.specs.Mixed.{MixedNext}
 use Rattle.flow_played.specs.Played.{played_by}
 use Rattle.flow_played.proofs.Mimicry.{IsBehind, mimics, behind}
 use Rattle.flow_played.proofs.a_run_is_one_of_its_players.Goals as goal
