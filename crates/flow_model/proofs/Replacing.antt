@@ -96,7 +96,6 @@ past-same : {K L : Type 0} (past : Past) (p : ℕ) (x : Process K) (c : L) (even
 past-same past p x c event = ap {B = Past} (λ (hs : List Happening). record { dropped = past.dropped; told = λ q. if q == p then past.told q ++ hs else past.told q; put = (past_after past p x event).put }) (heard-same x c event)
 
 module _ {K L : Type 0} (next : K → Held → Answer → Outcome K → Type 0) (next' : L → Held → Answer → Outcome L → Type 0) (holds : ℕ → K → Type 0) (other : ℕ → K → L) (mimics : Mimics next next' holds other) where
-
   -- a turn with the other components
   turn-replaced : (s : State K) (p : ℕ) (event : Event) (s' : State K) → Turn s p event s' → Turn (replaced other s) p event (replaced other s')
   turn-replaced s p event s' turn =
@@ -201,9 +200,14 @@ module _ {K L : Type 0} (next : K → Held → Answer → Outcome K → Type 0) 
   leads-replaced : (turns seen : List ℕ) (s s' : State K) → LeadsBy next s turns seen s' → OfEach holds s' → LeadsBy next' (replaced other s) turns seen (replaced other s')
   leads-replaced [] seen s s' leads each = (leads.0, ap (replaced other) leads.1)
   leads-replaced (p ∷ turns) seen s s' leads each =
-      let after = leads-back turns leads.2 leads.1 s' leads.5 each in
-      (leads.0, replaced other leads.1, leads.2,
-      (replaced other leads.3.0, turn-replaced s p leads.0 leads.3.0 leads.3.1, settles-replaced leads.3.0 p leads.1 leads.3.2 after), leads.4, leads-replaced turns leads.2 leads.1 s' leads.5 each)
+      let after = leads-back turns leads.2 leads.1 s' leads.5 each in (
+        leads.0,
+        replaced other leads.1,
+        leads.2,
+        (replaced other leads.3.0, turn-replaced s p leads.0 leads.3.0 leads.3.1, settles-replaced leads.3.0 p leads.1 leads.3.2 after),
+        leads.4,
+        leads-replaced turns leads.2 leads.1 s' leads.5 each,
+      )
 
   -- A journal that leads from one state to another leads so with other components that mimic these.
   pub replaced-leads : (journal : Journal) (s s' : State K) → Leads next s journal s' → OfEach holds s' → Leads next' (replaced other s) journal (replaced other s')
