@@ -10,7 +10,7 @@ use Rattle.flow_component.specs.Outcomes.{outcome_as}
 use Rattle.flow_model.specs.declared.Stage.{Stage}
 use Rattle.flow_model.specs.declared.Stage.TheVariants as stages
 use Rattle.flow_model.specs.States.{Process, Past, State}
-use Rattle.flow_model.specs.Events.{Event, Starts, Finishes, Gets, Takes_text, Hears_end, Sends, Learns, Sleeps, Closes, Look, looks, stage_event, wish_event}
+use Rattle.flow_model.specs.Events.{Event, Starts, Finishes, Gets, Takes_text, Hears_end, Sends, Learns, Sleeps, Closes, Signals, Look, looks, stage_event, wish_event}
 use Rattle.flow_model.specs.Turns.{Turn, at_stage, process_after, past_after, heard, closing_on}
 use Rattle.flow_model.specs.Works.{Work, worked, past_worked}
 use Rattle.flow_model.specs.Schedules.{IsThought, IsThoughtStage, Settles, LeadsBy, Leads, Journal}
@@ -68,6 +68,7 @@ after-same x c (Hears_end port) = refl
 after-same x c (Sends port d packet) = refl
 after-same x c (Learns port level) = refl
 after-same x c Sleeps = refl
+after-same x c (Signals d packet) = refl
 after-same x c (Closes output d) = ap (λ (stage : Stage). with_component (at_stage x stage) c) (closing-same x c x.stage)
 
 component-same : {K : Type 0} (x : Process K) (event : Event) → (process_after x event).component ≡ x.component
@@ -79,6 +80,7 @@ component-same x (Hears_end port) = refl
 component-same x (Sends port d packet) = refl
 component-same x (Learns port level) = refl
 component-same x Sleeps = refl
+component-same x (Signals d packet) = refl
 component-same x (Closes output d) = refl
 
 heard-same : {K L : Type 0} (x : Process K) (c : L) (event : Event) → heard (with_component x c) event ≡ heard x event
@@ -90,10 +92,11 @@ heard-same x c (Hears_end port) = refl
 heard-same x c (Sends port d packet) = refl
 heard-same x c (Learns port level) = refl
 heard-same x c Sleeps = refl
+heard-same x c (Signals d packet) = refl
 heard-same x c (Closes output d) = refl
 
 past-same : {K L : Type 0} (past : Past) (p : ℕ) (x : Process K) (c : L) (event : Event) → past_after past p (with_component x c) event ≡ past_after past p x event
-past-same past p x c event = ap {B = Past} (λ (hs : List Happening). record { dropped = past.dropped; told = λ q. if q == p then past.told q ++ hs else past.told q; put = (past_after past p x event).put }) (heard-same x c event)
+past-same past p x c event = ap {B = Past} (λ (hs : List Happening). record { dropped = (past_after past p x event).dropped; told = λ q. if q == p then past.told q ++ hs else past.told q; signals = (past_after past p x event).signals; put = (past_after past p x event).put }) (heard-same x c event)
 
 module _ {K L : Type 0} (next : K → Held → Answer → Outcome K → Type 0) (next' : L → Held → Answer → Outcome L → Type 0) (holds : ℕ → K → Type 0) (other : ℕ → K → L) (mimics : Mimics next next' holds other) where
   -- a turn with the other components

@@ -18,6 +18,8 @@ with_component x component = record {
   turns = x.turns;
   inputs = x.inputs;
   outputs = x.outputs;
+  signal = x.signal;
+  signalled = x.signalled;
 }
 
 -- Each process with another component, which is found by the number of the process and its own component.
