@@ -3,7 +3,7 @@ ghost use Rattle.std.specs.Prelude.{◌≡◌, map};
 ghost use Rattle.std.specs.List.{list_any, list_all};
 ghost use Rattle.flow_model.specs.Stands.{look_shown};
 ghost use Rattle.flow_model.specs.Events.{is_released, can_start, can_finish, takes_signal, signal_over, has_packet, has_ended, is_connected};
-ghost use Rattle.flow_machine.specs.Inlets.{input_shown, signal_source};
+ghost use Rattle.flow_machine.specs.Inlets.{input_shown, signal_source, watches_signal};
 
 use super::Body;
 use crate::channel::Channel;
@@ -95,5 +95,12 @@ impl<K: Component> Body<K> {
     {
         !self.signalled
             || (all_ended(&self.inlets, channels) && (any_connected(&self.inlets) || self.has_run))
+    }
+
+    /// Idle, it watches its automatic input alone: it has one, and isn't released, or nothing comes at its other inputs any more.
+    pub(crate) fn watches_signal(&self, channels: &[Channel]) -> bool
+        ensures { result ≡ watches_signal (map look_shown channels.now) self.now.process }
+    {
+        self.signal.is_some() && (!self.is_released(channels) || all_ended(&self.inlets, channels))
     }
 }
