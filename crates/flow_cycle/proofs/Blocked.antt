@@ -372,11 +372,14 @@ module _ {K : Type 0} (shape_of : K → Shape) (uses : K → ℕ → Bool) (read
       let zero_i : 0 + i ≡ i = omega arith in
       let input : i < spec.0.inputs → slice_get z.inputs i ≡ Some (From c) = λ below. (
       ports-at (input_at plan q spec.0) 0 spec.0.inputs i below ∙ ap (λ (m : ℕ). Some (input_at plan q spec.0 m)) zero_i ∙ ap (λ (d : Option ℕ). Some (connected_or (text_at spec.0.initials i) d)) receive
-      ) in
-      (y.0, y.1, elim (same_or_not i spec.0.inputs) as (λ _. (slice_get y.0.inputs i ≡ Some (From c)) ⊎ (y.0.signal ≡ Some c)) [
-        | inl same ↦ inr (ap (λ (w : Wires). w.signal) y.2 ∙ ap (receives_at plan q) (sym same) ∙ receive)
-        | inr other ↦ inl (ap (λ (w : Wires). slice_get w.inputs i) y.2 ∙ input (below-other i spec.0.inputs spec.2 other))
-      ])
+      ) in (
+        y.0,
+        y.1,
+        elim (same_or_not i spec.0.inputs) as (λ _. (slice_get y.0.inputs i ≡ Some (From c)) ⊎ (y.0.signal ≡ Some c)) [
+          | inl same ↦ inr (ap (λ (w : Wires). w.signal) y.2 ∙ ap (receives_at plan q) (sym same) ∙ receive)
+          | inr other ↦ inl (ap (λ (w : Wires). slice_get w.inputs i) y.2 ∙ input (below-other i spec.0.inputs spec.2 other))
+        ],
+      )
     where
       below-other : (i n : ℕ) → i ≤ n → (i ≡ n → ⊥) → i < n
       below-other i n most other = grind (arith)
