@@ -38,7 +38,7 @@ fn networks_with_automatic_ports_run(rt: HostRuntime) -> Result<(), Fail> {
             net: ITSELF,
             status: 4,
             output: Some(b""),
-            printed: b"verdict deadlock\nprocess A ReadLines idle turns 0 made 0 dropped 0 left 0\nprocess W WriteLines idle turns 0 made 0 dropped 0 left 0\nconnection A.*IN capacity 10 puts 0 takes 0 left 0\nconnection W.IN capacity 10 puts 0 takes 0 left 0\nblocked A dormant\nblocked W dormant\ntotal turns 0 made 0 dropped 0 left 0\n",
+            printed: b"verdict deadlock\nprocess A ReadLines idle turns 0 made 0 dropped 0 left 0\nprocess W WriteLines idle turns 0 made 0 dropped 0 left 0\nconnection A.*IN capacity 10 puts 0 takes 0 left 0\nconnection W.IN capacity 10 puts 0 takes 0 left 0\nblocked A dormant\nblocked W dormant\nwaits A for A at A.*IN\ntotal turns 0 made 0 dropped 0 left 0\n",
             turns: 0,
             ..ROW
         },
