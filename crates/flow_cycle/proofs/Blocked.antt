@@ -20,7 +20,7 @@ use Rattle.flow_model.specs.declared.Stage.TheVariants as stages
 use Rattle.flow_model.specs.declared.Block.{Block}
 use Rattle.flow_model.specs.declared.Block.TheVariants as blocks
 use Rattle.flow_model.specs.States.{Input, From, Text, Process, Channel, State, output_at}
-use Rattle.flow_model.specs.Events.{Event, Starts, Finishes, Gets, Hears_end, Signals, Look, look, looks, event_from, stage_event, received, has_packet, has_ended, idle_event, is_woken, is_released, signal_over, signal_event, signalled_from, signalled_by, takes_signal, can_start, can_finish, receive_event, received_from, is_connected, passes, holds_packet, is_over, is_empty}
+use Rattle.flow_model.specs.Events.{Event, Starts, Finishes, Gets, Hears_end, Look, look, looks, event_from, stage_event, received, has_packet, has_ended, idle_event, is_woken, is_released, signal_over, signal_event, signalled_from, signalled_by, takes_signal, can_start, can_finish, receive_event, received_from, is_connected, passes, holds_packet, is_over, is_empty}
 use Rattle.flow_model.specs.Schedules.{Journal, Leads}
 use Rattle.flow_model.specs.Verdicts.{exact_level, waits_for, block_of, block, IsDeadlock}
 use Rattle.flow_model.specs.Order.{connection_of, input_of, signal_of}
@@ -37,7 +37,7 @@ use Rattle.flow_model.proofs.Telling.{IsOverStage, AllTell-start, AllTell-leads}
 use Rattle.flow_model.proofs.Fits.{Fit-start, Fit-leads}
 use Rattle.flow_model.proofs.Wiring.{wires-leads}
 use Rattle.flow_model.proofs.Leaving.{process-there, ports-at, position-only}
-use Rattle.flow_machine.specs.Inlets.{signal_input, watches_signal, watched}
+use Rattle.flow_machine.specs.Inlets.{signal_input, watched}
 use Rattle.flow_cycle.specs.declared.Waits.{Waits}
 use Rattle.flow_cycle.specs.Waiting.{first_of, first_open_sender, waits_for_sender, waits_for_receiver, or_else, waits_to_wake, waits_by, waits_of, waits_at}
 use Rattle.flow_cycle.proofs.Channels.{ChannelsOf, channels-of}

@@ -11,7 +11,7 @@ use Rattle.flow_component.specs.declared.Wish.TheVariants as wishes
 use Rattle.flow_model.specs.declared.Stage.{Stage}
 use Rattle.flow_model.specs.declared.Stage.TheVariants as stages
 use Rattle.flow_model.specs.States.{Input, From, Text, Process, Channel, Kept, Outlet, output_at}
-use Rattle.flow_model.specs.Events.{Event, Starts, Finishes, Gets, Takes_text, Hears_end, Sends, Learns, Sleeps, Closes, Signals, look, looks, passes, holds_packet, is_empty, is_over, is_connected, has_packet, has_ended, is_woken, signal_over, is_released, can_start, can_finish, takes_signal, signalled_from, signalled_by, signal_event, rest_event, idle_event, received, received_from, receive_event, is_fresh, sent, stage_event, event_of}
+use Rattle.flow_model.specs.Events.{Event, Starts, Finishes, Gets, Takes_text, Hears_end, Sends, Learns, Sleeps, Closes, Signals, look, looks, passes, holds_packet, is_empty, is_over, is_connected, has_packet, has_ended, is_woken, signal_over, is_released, can_start, can_finish, takes_signal, signalled_from, signalled_by, signal_event, rest_event, received, received_from, receive_event, is_fresh, sent, stage_event, event_of}
 use Rattle.flow_plan.specs.declared.plan.Sender.{Sender}
 use Rattle.flow_model.specs.Turns.{channel_after, channels_after}
 use Rattle.flow_model.specs.Valid.{OneReceiver, SignalsApart, SendersOpen}

@@ -16,7 +16,7 @@ use Rattle.flow_catalogue.specs.Std.{std_shape, std_uses, StdReady, StdNext}
 use Rattle.flow_model.specs.States.{Input, From, is_sender}
 use Rattle.flow_plan.specs.declared.plan.Sender.{Sender}
 use Rattle.flow_model.proofs.Start.{port-at}
-use Rattle.flow_model.specs.Plans.{sends_at, receives_at, input_at, connected_or, text_at, process_at_start, StartsWell}
+use Rattle.flow_model.specs.Plans.{sends_at, receives_at, input_at, connected_or, text_at, StartsWell}
 use Rattle.flow_plan.specs.Network.{Network as Plan}
 use Rattle.flow_plan.specs.declared.plan.Process.{Process as PlanProcess}
 use Rattle.flow_plan.specs.declared.plan.Connection.{Connection as PlanConnection}
@@ -30,7 +30,7 @@ use Rattle.flow_meanings.specs.Chains.{RunsComponent, LeadsTo, TelegramMeans}
 use Rattle.flow_determinate.specs.Standard.{IsDeterminate}
 use Rattle.flow_meanings.specs.Outcomes.{AreSettled, IsUnmerged, OneOutcome, SameFiles, PlanSameFiles}
 use Rattle.flow_meanings.proofs.Every.{facts-of, components-first, made-settled}
-use Rattle.flow_meanings.proofs.Composing.{start-there, length-ports, finished-composes}
+use Rattle.flow_meanings.proofs.Composing.{finished-composes}
 
 filter-all : {A : Type 0} (test : A → Bool) (xs : List A) → ((k : ℕ) (x : A) → slice_get xs k ≡ Some x → test x ≡ true) → filter test xs ≡ xs
 filter-all test [] all = refl

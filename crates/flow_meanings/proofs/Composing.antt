@@ -38,7 +38,7 @@ use Rattle.flow_meanings.specs.Means.{IsFirst, Means, is_looper, bytes_of, conte
 use Rattle.flow_meanings.specs.Composition.{Sending, coming, activated, inputs_of, arriving, leaving, wrote_in, FinishedComposes}
 use Rattle.flow_meanings.proofs.Over.{Over, came, ended-begins, begins-starts}
 use Rattle.flow_meanings.proofs.Every.{facts-of}
-use Rattle.flow_meanings.proofs.Owns.{AllOwn, owns-leads}
+use Rattle.flow_meanings.proofs.Owns.{owns-leads}
 use Rattle.flow_meanings.proofs.Contents.{sending_of, put_on, all-contents, own-contents, got-contents, sent-contents}
 
 some-contents : (puts : List Put) → puts ≢ [] → contents (entries puts) ≢ []

@@ -1,6 +1,6 @@
 -- Components send at their own outputs alone, so that nothing leaves an automatic output.
 use Rattle.flow_limits.specs.declared.TheConstants.{HANDS_LIMIT, TURN_LIMIT}
-use Rattle.std.proofs.Common.{◌≡◌, ◌⊎◌, ℕ, ◌+◌, ◌<◌, ◌≤◌, Bool, true, false, List, [], ◌∷◌, ◌++◌, length, Some, None, Option, IsTrue, refl, sym, ap, ◌∙◌, subst, cond, ◌==◌, nat_eq, nat_lt, arith, inl, inr, slice_get, slice_set}
+use Rattle.std.proofs.Common.{◌≡◌, ℕ, ◌+◌, ◌<◌, ◌≤◌, Bool, true, false, List, [], ◌∷◌, ◌++◌, length, Some, None, Option, IsTrue, refl, sym, ap, ◌∙◌, subst, cond, ◌==◌, nat_eq, nat_lt, arith, inl, inr, slice_get, slice_set}
 use Rattle.std.specs.Prelude.{slice_index}
 use Rattle.std.specs.List.{flat_map}
 use Rattle.std.proofs.lemmas.Bool.Decides.{nat_tests}
@@ -14,7 +14,7 @@ use Rattle.flow_component.specs.declared.Shape.{Shape}
 use Rattle.flow_component.specs.declared.Fail.TheVariants as fails
 use Rattle.flow_component.specs.declared.Wish.{Wish}
 use Rattle.flow_component.specs.declared.Wish.TheVariants as wishes
-use Rattle.flow_component.specs.Happenings.{Happening, Sent}
+use Rattle.flow_component.specs.Happenings.{Happening}
 use Rattle.flow_component.specs.Laws.{Outcome, Wishes, Fails, component_after, IsAllowed, Obeys, StaysReady, IsSteady}
 use Rattle.flow_plan.specs.Network.{Network as Plan}
 use Rattle.flow_model.specs.declared.Stage.{Stage}
