@@ -121,7 +121,7 @@ impl Update {
     }
 
     // A group ends.
-    fn end(&mut self, hands: &mut Hands, packet: PacketId) -> Result<Wish, Stop>
+    fn finish(&mut self, hands: &mut Hands, packet: PacketId) -> Result<Wish, Stop>
         requires alone { HoldsOnly (held_of hands.old) packet }
         requires room { hands.old.made < 4294967295 }
         ensures { Resumes (λ state held _ outcome. outcome ≡ comes state held packet state.around Kind.Close) self.old hands.old Answer.Sent result self.new hands.new }
@@ -179,11 +179,13 @@ impl Component for Update {
             Answer::Got(packet) => match hands.kind(packet) {
                 Kind::Normal => self.take(hands, packet),
                 Kind::Open => self.begin(hands, packet),
-                Kind::Close => self.end(hands, packet),
+                Kind::Close => self.finish(hands, packet),
             },
             Answer::End => Ok(Wish::Deactivate),
             Answer::Sent => Ok(Wish::Receive(IN)),
             Answer::Level(_) => unreachable!(),
         }
     }
+
+    fn end(&mut self) {}
 }

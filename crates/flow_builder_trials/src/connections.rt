@@ -41,16 +41,16 @@ fn a_connection_is_from_an_output_to_a_stream(rt: HostRuntime) -> Result<(), Pla
 }
 
 #[test]
-fn a_capacity_is_from_1_to_1024_and_stays(rt: HostRuntime) -> Result<(), PlanStop> {
+fn a_capacity_is_from_1_to_4096_and_stays(rt: HostRuntime) -> Result<(), PlanStop> {
     let alloc = rt.alloc();
     let mut net = begun(alloc)?;
     for (output, capacity, input, wanted) in [
         (0, Some(0), 0, "capacity"),
-        (0, Some(1025), 0, "capacity"),
-        (0, Some(1024), 0, "accepted"),
+        (0, Some(4097), 0, "capacity"),
+        (0, Some(4096), 0, "accepted"),
         (1, Some(1), 1, "accepted"),
-        (2, Some(1023), 0, "capacity"),
-        (2, Some(1024), 0, "accepted"),
+        (2, Some(4095), 0, "capacity"),
+        (2, Some(4096), 0, "accepted"),
         (3, None, 0, "accepted"),
         (4, None, 2, "accepted"),
         (5, Some(7), 2, "accepted"),

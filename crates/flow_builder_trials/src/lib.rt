@@ -2,6 +2,8 @@
 #![tactic(auto)]
 
 #[cfg(test)]
+mod automatic;
+#[cfg(test)]
 mod calls;
 #[cfg(test)]
 mod connections;

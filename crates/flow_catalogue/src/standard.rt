@@ -115,6 +115,8 @@ impl Component for Std {
             Std::Update(component) => component.resume(hands, answer),
         }
     }
+
+    fn end(&mut self) {}
 }
 
 /// Told the same in the same state with the same hands, a standard component comes to at most one outcome.

@@ -5,6 +5,8 @@ use std::alloc::{AllocError, Global};
 use std::process::Abort;
 use std::test::Fail;
 
+mod automatic;
+
 const ROOM: usize = 33_554_432;
 
 const CHAIN: &[u8] =

@@ -34,11 +34,13 @@ some_dropped old new k e l = let t : nat_eq (drops_between (held_of old) (held_o
 pub dropped-same : (h : Holding) → h.dropped ≡ dropped_after h h
 dropped-same h = sym (none_dropped h h (omega arith))
 
-length-push : (ts : List Tree) (t : Tree) → length (all_ids (ts ++ t ∷ [])) ≡ length (all_ids ts) + length (ids t)
+-- a packet at the end adds the ids of its tree
+pub length-push : (ts : List Tree) (t : Tree) → length (all_ids (ts ++ t ∷ [])) ≡ length (all_ids ts) + length (ids t)
 length-push [] t = omega (arith, length-append (ids t) [])
 length-push (u ∷ ts) t = omega (arith, length-push ts t, length-append (ids u) (all_ids (ts ++ t ∷ [])), length-append (ids u) (all_ids ts))
 
-length-without : (ts : List Tree) (id : ℕ) → length (all_ids ts) ≡ length (ids_at ts id) + length (all_ids (without ts id))
+-- a packet that is taken out takes the ids of its tree with it
+pub length-without : (ts : List Tree) (id : ℕ) → length (all_ids ts) ≡ length (ids_at ts id) + length (all_ids (without ts id))
 length-without [] id = omega arith
 length-without (t ∷ ts) id =
     elim (nat_eq (id_of t) id) as (λ b. length (all_ids (t ∷ ts)) ≡ length (ids_in (if b then Some t else packet_at ts id)) + length (all_ids (if b then ts else t ∷ without ts id))) [

@@ -1,5 +1,5 @@
 -- In a deadlock each blocked process waits for one that is blocked.
-use Rattle.std.proofs.Common.{◌≡◌, ◌⊎◌, ℕ, ◌+◌, ◌<◌, Bool, true, false, List, [], ◌∷◌, map, not, length, Option, Some, None, IsSome, refl, sym, ap, ◌∙◌, subst, cond, ◌==◌, ◌&&◌, ◌||◌, nat_eq, arith, inl, inr, slice_get, zero, suc}
+use Rattle.std.proofs.Common.{◌≡◌, ◌⊎◌, ℕ, ◌+◌, ◌<◌, ◌≤◌, Bool, true, false, List, [], ◌∷◌, map, not, length, Option, Some, None, IsSome, refl, sym, ap, ◌∙◌, subst, cond, ◌==◌, ◌&&◌, ◌||◌, nat_eq, arith, inl, inr, slice_get, zero, suc}
 use Rattle.std.specs.Prelude.{option_map, option_and_then, is_some}
 use Rattle.std.specs.List.{list_any, list_all}
 use Rattle.std.proofs.lemmas.Bool.Decides.{nat_tests}
@@ -20,16 +20,16 @@ use Rattle.flow_model.specs.declared.Stage.TheVariants as stages
 use Rattle.flow_model.specs.declared.Block.{Block}
 use Rattle.flow_model.specs.declared.Block.TheVariants as blocks
 use Rattle.flow_model.specs.States.{Input, From, Text, Process, Channel, State, output_at}
-use Rattle.flow_model.specs.Events.{Starts, Finishes, Gets, Hears_end, Look, look, looks, event_from, stage_event, received, has_packet, has_ended, idle_event, can_start, receive_event, received_from, is_connected, passes, holds_packet, is_over, is_empty}
+use Rattle.flow_model.specs.Events.{Event, Starts, Finishes, Gets, Hears_end, Look, look, looks, event_from, stage_event, received, has_packet, has_ended, idle_event, is_woken, is_released, signal_over, signal_event, signalled_from, signalled_by, takes_signal, can_start, can_finish, receive_event, received_from, is_connected, passes, holds_packet, is_over, is_empty}
 use Rattle.flow_model.specs.Schedules.{Journal, Leads}
 use Rattle.flow_model.specs.Verdicts.{exact_level, waits_for, block_of, block, IsDeadlock}
-use Rattle.flow_model.specs.Order.{connection_of, input_of}
+use Rattle.flow_model.specs.Order.{connection_of, input_of, signal_of}
 use Rattle.flow_model.specs.Valid.{HasToClose, IsFailedStage, IsOpenSender}
 use Rattle.flow_model.specs.Fit.{Fit}
 use Rattle.flow_model.specs.Plans.{leads_to, receives_at, input_at, connected_or, text_at, process_at_start, processes_at_start, start_of, StartsWell}
 use Rattle.flow_model.specs.Wires.{Wires, wires}
-use Rattle.flow_model.proofs.Lists.{map-found}
-use Rattle.flow_model.proofs.Start.{Valid-start, start-input, no_connection}
+use Rattle.flow_model.proofs.Lists.{map-found, same_or_not}
+use Rattle.flow_model.proofs.Start.{Valid-start, start-input, start-signal, no_connection}
 use Rattle.flow_model.proofs.Senders.{both-true}
 use Rattle.flow_model.proofs.Blocks.{IsOverOrOwes, turn-or-block, outlet-of}
 use Rattle.flow_model.proofs.Exhausting.{IsDry}
@@ -37,9 +37,11 @@ use Rattle.flow_model.proofs.Telling.{IsOverStage, AllTell-start, AllTell-leads}
 use Rattle.flow_model.proofs.Fits.{Fit-start, Fit-leads}
 use Rattle.flow_model.proofs.Wiring.{wires-leads}
 use Rattle.flow_model.proofs.Leaving.{process-there, ports-at, position-only}
+use Rattle.flow_machine.specs.Inlets.{signal_input, watched}
 use Rattle.flow_cycle.specs.declared.Waits.{Waits}
 use Rattle.flow_cycle.specs.Waiting.{first_of, first_open_sender, waits_for_sender, waits_for_receiver, or_else, waits_to_wake, waits_by, waits_of, waits_at}
 use Rattle.flow_cycle.proofs.Channels.{ChannelsOf, channels-of}
+use Rattle.flow_cycle.proofs.Signals.{signals-over}
 
 -- Two things that an element is are the same.
 pub one-of : {A : Type 0} (a b : A) → Some a ≡ Some b → a ≡ b
@@ -133,10 +135,11 @@ or-false : (a b : Bool) → (a || b) ≡ false → (a ≡ false) × (b ≡ false
 or-false true b is = absurd (cc)
 or-false false b is = (refl, is)
 
-idle-none : (a b : Bool) → cond a (Some Starts) (cond b (Some Finishes) None) ≡ None → (a ≡ false) × (b ≡ false)
-idle-none true b is = absurd (cc)
-idle-none false true is = absurd (cc)
-idle-none false false is = (refl, refl)
+idle-none : (a b t : Bool) (signal : Option Event) → cond a (Some Starts) (cond b (Some Finishes) (cond t signal None)) ≡ None → (a ≡ false) × (b ≡ false) × (t ≡ true → signal ≡ None)
+idle-none true b t signal is = absurd (cc)
+idle-none false true t signal is = absurd (cc)
+idle-none false false true signal is = (refl, refl, (λ takes. is))
+idle-none false false false signal is = (refl, refl, (λ takes. absurd (cc)))
 
 leads-here : (connection : PlanConnection) → leads_to connection.receiver connection.input connection ≡ true
 leads-here connection =
@@ -177,6 +180,97 @@ wake-first channels p (From c ∷ inputs) there none some = by channel.packets c
         let it : HasFirst channels c sender = record { channel = channel; there = here; rest = senders; senders = are } in
         (c, sender, it, ap (λ found. or_else (option_map (waits_for_sender p c) found) (waits_to_wake channels p inputs)) (first-is channels c sender it))
 
+or-true : (a b : Bool) → b ≡ true → (a || b) ≡ true
+or-true true b is = refl
+or-true false b is = is
+
+-- What a dormant process waits for, which has no turn and an open sender at an input that it watches
+
+-- a connection from which no signal comes holds no packet
+no-packet : (channels : List Channel) (c : ℕ) (channel : Channel) → slice_get channels c ≡ Some channel → signal_event (looks channels) (Some c) ≡ None → passes holds_packet (slice_get (looks channels) c) ≡ false
+no-packet channels c channel there none = ap (passes holds_packet) (look-at channels c channel there) ∙ by channel.packets (sym (ap (signalled_from c) (look-at channels c channel there)) ∙ none)
+  where
+    by : (packets : List Tree) → signalled_by c packets ≡ None → not (is_empty packets) ≡ false
+    by (packet ∷ packets) is = absurd (cc)
+    by [] is = refl
+
+and-right : (a b : Bool) → a ≡ true → (a && b) ≡ false → b ≡ false
+and-right true b t is = is
+and-right false b t is = absurd (cc)
+
+and-left : (a b : Bool) → b ≡ true → (a && b) ≡ false → a ≡ false
+and-left true b t is = absurd (let h : true ≡ false = sym t ∙ is in cc)
+and-left false b t is = refl
+
+-- one that isn't woken has a connected input, or has run
+has-worked : (a run : Bool) → (not a && not run) ≡ false → (a || run) ≡ true
+has-worked true run is = refl
+has-worked false true is = refl
+has-worked false false is = absurd (cc)
+
+module _ {K : Type 0} (channels : List Channel) (p : ℕ) (x : Process K) (none : idle_event (looks channels) x ≡ None)
+    (there : (i c : ℕ) → slice_get x.inputs i ≡ Some (From c) → (channel : Channel) × (slice_get channels c ≡ Some channel))
+    (there_signal : (c : ℕ) → x.signal ≡ Some c → (channel : Channel) × (slice_get channels c ≡ Some channel)) where
+  abbrev FirstOf : List Input → Type 0
+  FirstOf inputs = (c : ℕ) × (sender : Sender) × HasFirst channels c sender × (waits_to_wake channels p inputs ≡ Some (waits_for_sender p c sender))
+
+  idle : (can_start (looks channels) x ≡ false) × (can_finish (looks channels) x ≡ false) × (takes_signal (looks channels) x ≡ true → signal_event (looks channels) x.signal ≡ None)
+  idle = idle-none (can_start (looks channels) x) (can_finish (looks channels) x) (takes_signal (looks channels) x) (signal_event (looks channels) x.signal) none
+
+  -- one that is released isn't woken: no input holds a packet, and it has a connected one or has run
+  unwoken : is_released (looks channels) x ≡ true → (list_any (has_packet (looks channels)) x.inputs ≡ false) × ((not (list_any is_connected x.inputs) && not x.has_run) ≡ false)
+  unwoken released =
+      or-false (list_any (has_packet (looks channels)) x.inputs) (not (list_any is_connected x.inputs) && not x.has_run) (and-right (is_released (looks channels) x) (is_woken (looks channels) x) released idle.0)
+
+  -- at its automatic input
+  alone : (c : ℕ) → x.signal ≡ Some c → takes_signal (looks channels) x ≡ true → signal_over (looks channels) x.signal ≡ false → FirstOf (signal_input x.signal)
+  alone c at takes goes_on =
+      let channel = there_signal c at in
+      let packet = no-packet channels c channel.0 channel.1 (sym (ap (signal_event (looks channels)) at) ∙ idle.2 takes) in
+      let open_one : passes is_over (slice_get (looks channels) c) ≡ false = sym (ap (signal_over (looks channels)) at) ∙ goes_on in
+      subst (λ (signal : Option ℕ). FirstOf (signal_input signal)) (sym at) (
+      wake-first channels p (From c ∷ []) here (ap (λ b. b || false) packet) (ap (λ b. b && true) open_one)
+      )
+    where
+      here : (i d : ℕ) → slice_get (From c ∷ []) i ≡ Some (From d) → (channel : Channel) × (slice_get channels d ≡ Some channel)
+      here zero d is = let same : c ≡ d = cc in there_signal d (at ∙ ap Some same)
+      here (suc i) d is = absurd (cc)
+
+  -- at its others
+  others : is_released (looks channels) x ≡ true → list_all (has_ended (looks channels)) x.inputs ≡ false → FirstOf x.inputs
+  others released goes_on = wake-first channels p x.inputs there (unwoken released).0 goes_on
+
+  abbrev choice : Bool → Bool → Bool → List Input
+  choice s r o = cond (s && (not r || o)) (signal_input x.signal) x.inputs
+
+  -- at those that it watches
+  dormant-first : FirstOf (watched (looks channels) x)
+  dormant-first = by x.signal refl (is_released (looks channels) x) refl (list_all (has_ended (looks channels)) x.inputs) refl
+    where
+      so : (s r o : Bool) → is_some x.signal ≡ s → is_released (looks channels) x ≡ r → list_all (has_ended (looks channels)) x.inputs ≡ o → FirstOf (choice s r o) → FirstOf (watched (looks channels) x)
+      so s r o signal released over first = subst FirstOf (λ i. choice (sym signal i) (sym released i) (sym over i)) first
+
+      by : (found : Option ℕ) → x.signal ≡ found → (r : Bool) → is_released (looks channels) x ≡ r → (o : Bool) → list_all (has_ended (looks channels)) x.inputs ≡ o → FirstOf (watched (looks channels) x)
+      by None at r released o over =
+          let over_signal : signal_over (looks channels) x.signal ≡ true = ap (signal_over (looks channels)) at in
+          so false r o (ap is_some at) released over (
+          others (or-true x.signalled (signal_over (looks channels) x.signal) over_signal) (and-left (list_all (has_ended (looks channels)) x.inputs) (signal_over (looks channels) x.signal) over_signal idle.1)
+          )
+      by (Some c) at false released o over =
+          let apart = or-false x.signalled (signal_over (looks channels) x.signal) released in
+          so true false o (ap is_some at) released over (
+          alone c at (ap (λ b. not b || (list_all (has_ended (looks channels)) x.inputs && (list_any is_connected x.inputs || x.has_run))) apart.0) apart.1
+          )
+      by (Some c) at true released true over =
+          so true true true (ap is_some at) released over (
+          alone c at (
+          or-true (not x.signalled) (list_all (has_ended (looks channels)) x.inputs && (list_any is_connected x.inputs || x.has_run)) (
+          ap (λ b. b && (list_any is_connected x.inputs || x.has_run)) over ∙ has-worked (list_any is_connected x.inputs) x.has_run (unwoken released).1
+          )
+          ) (and-right (list_all (has_ended (looks channels)) x.inputs) (signal_over (looks channels) x.signal) over idle.1)
+          )
+      by (Some c) at true released false over = so true true false (ap is_some at) released over (others released over)
+
 module _ {K : Type 0} (shape_of : K → Shape) (uses : K → ℕ → Bool) (ready : K → Held → Answer → Type 0) (next : K → Held → Answer → Outcome K → Type 0)
     (obeys : (component : K) (held : Held) (answer : Answer) (outcome : Outcome K) → ready component held answer → next component held answer outcome → Obeys (shape_of component) (uses component) held outcome)
     (stays : (component : K) (held : Held) (answer : Answer) (outcome : Outcome K) → ready component held answer → next component held answer outcome → StaysReady ready outcome)
@@ -195,6 +289,11 @@ module _ {K : Type 0} (shape_of : K → Shape) (uses : K → ℕ → Bool) (read
   ended-dry p i c x there ended at =
       (AllTell-leads ready next shape_of uses obeys stays components (start_of plan components) journal s (Valid-start ready shape_of uses plan components well) (AllTell-start ready next plan components) leads p x there).over
       (subst IsOverStage (sym ended) tt) i c at
+
+  -- and its automatic input
+  signal-dry_then : (p c : ℕ) (x : Process K) → slice_get s.kept.processes p ≡ Some x → x.stage ≡ stages.Ended → x.signal ≡ Some c → IsDry s.kept.channels c
+  signal-dry_then p c x there ended at =
+      signals-over ready next shape_of uses obeys stays plan components (Valid-start ready shape_of uses plan components well) journal s leads p c x there (subst IsOverStage (sym ended) tt) at
 
   -- whoever hasn't ended is blocked
   pub blocked : (p : ℕ) (x : Process K) → slice_get s.kept.processes p ≡ Some x → (x.stage ≡ stages.Ended → ⊥) → IsSome (block_of (looks s.kept.channels) x)
@@ -248,8 +347,16 @@ module _ {K : Type 0} (shape_of : K → Shape) (uses : K → ℕ → Bool) (read
       let within = (position-Some (leads_to p i) plan.connections c no_connection receive).0 in
       is-there s.kept.channels c (omega (arith, within, channels.as_many))
 
-  -- the receiver of a connection of the plan receives from it
-  receiver-now : (c : ℕ) (connection : PlanConnection) → slice_get plan.connections c ≡ Some connection → (y : Process K) × (slice_get s.kept.processes connection.receiver ≡ Some y) × (slice_get y.inputs connection.input ≡ Some (From c))
+  -- at a connected automatic input too
+  signal-there : (p c : ℕ) (x : Process K) → slice_get s.kept.processes p ≡ Some x → x.signal ≡ Some c → (channel : Channel) × (slice_get s.kept.channels c ≡ Some channel)
+  signal-there p c x there at =
+      let z = wired-then p x there in
+      let start = start-signal plan components p c (ap signal_of z.1 ∙ ap (λ (w : Wires). w.signal) z.2 ∙ at) in
+      let within = (position-Some (leads_to p (length start.0.inputs)) plan.connections c no_connection start.2).0 in
+      is-there s.kept.channels c (omega (arith, within, channels.as_many))
+
+  -- the receiver of a connection of the plan receives from it, at its automatic input or at another
+  receiver-now : (c : ℕ) (connection : PlanConnection) → slice_get plan.connections c ≡ Some connection → (y : Process K) × (slice_get s.kept.processes connection.receiver ≡ Some y) × ((slice_get y.inputs connection.input ≡ Some (From c)) ⊎ (y.signal ≡ Some c))
   receiver-now c connection at =
       let q = connection.receiver in
       let i = connection.input in
@@ -263,9 +370,19 @@ module _ {K : Type 0} (shape_of : K → Shape) (uses : K → ℕ → Bool) (read
       well.wired.one_receiver k c x connection is at same.0 same.1
       )) in
       let zero_i : 0 + i ≡ i = omega arith in
-      let input : slice_get z.inputs i ≡ Some (From c) =
-      ports-at (input_at plan q spec.0) 0 spec.0.inputs i spec.2 ∙ ap (λ (m : ℕ). Some (input_at plan q spec.0 m)) zero_i ∙ ap (λ (d : Option ℕ). Some (connected_or (text_at spec.0.initials i) d)) receive in
-      (y.0, y.1, ap (λ (w : Wires). slice_get w.inputs i) y.2 ∙ input)
+      let input : i < spec.0.inputs → slice_get z.inputs i ≡ Some (From c) = λ below. (
+      ports-at (input_at plan q spec.0) 0 spec.0.inputs i below ∙ ap (λ (m : ℕ). Some (input_at plan q spec.0 m)) zero_i ∙ ap (λ (d : Option ℕ). Some (connected_or (text_at spec.0.initials i) d)) receive
+      ) in (
+        y.0,
+        y.1,
+        elim (same_or_not i spec.0.inputs) as (λ _. (slice_get y.0.inputs i ≡ Some (From c)) ⊎ (y.0.signal ≡ Some c)) [
+          | inl same ↦ inr (ap (λ (w : Wires). w.signal) y.2 ∙ ap (receives_at plan q) (sym same) ∙ receive)
+          | inr other ↦ inl (ap (λ (w : Wires). slice_get w.inputs i) y.2 ∙ input (below-other i spec.0.inputs spec.2 other))
+        ],
+      )
+    where
+      below-other : (i n : ℕ) → i ≤ n → (i ≡ n → ⊥) → i < n
+      below-other i n most other = grind (arith)
 
   -- a connection to which a process that hasn't begun to close may send has an open sender
   output-open : (p o c : ℕ) (x : Process K) → slice_get s.kept.processes p ≡ Some x → output_at x o ≡ Some c → ((j : ℕ) → HasToClose x.stage j) → (channel : Channel) × (slice_get s.kept.channels c ≡ Some channel) × (channel.open_senders ≡ [] → ⊥)
@@ -300,7 +417,10 @@ module _ {K : Type 0} (shape_of : K → Shape) (uses : K → ℕ → Bool) (read
         waits_for_receiver p c connection.0,
         ap (waits_by plan s.kept.channels p x) is ∙ ap (option_map (waits_for_receiver p c)) connection.1,
         block-at connection.0.receiver y.0 y.1 (blocked connection.0.receiver y.0 y.1 (λ ended. (
-            let h = ended-dry connection.0.receiver connection.0.input c y.0 y.1 ended y.2 in
+            let h : IsDry s.kept.channels c = elim y.2 as (λ _. IsDry s.kept.channels c) [
+              | inl at_input ↦ ended-dry connection.0.receiver connection.0.input c y.0 y.1 ended at_input
+              | inr at_signal ↦ signal-dry_then connection.0.receiver c y.0 y.1 ended at_signal
+            ] in
             let same : open_one.0 ≡ h.channel = one-of open_one.0 h.channel (sym open_one.1 ∙ h.there) in
             open_one.2 (ap (λ (ch : Channel). ch.open_senders) same ∙ h.closed)
             ))),
@@ -308,9 +428,7 @@ module _ {K : Type 0} (shape_of : K → Shape) (uses : K → ℕ → Bool) (read
       )
   waits-so p x b there (dormant at is) =
       let none : idle_event (looks s.kept.channels) x ≡ None = sym (ap (stage_event (looks s.kept.channels) x 0) at) ∙ deadlock.0.still p x 0 there in
-      let neither = idle-none (can_start (looks s.kept.channels) x) (list_all (has_ended (looks s.kept.channels)) x.inputs) none in
-      let no_packet = (or-false (list_any (has_packet (looks s.kept.channels)) x.inputs) (not (list_any is_connected x.inputs) && not x.has_run) neither.0).0 in
-      let first = wake-first s.kept.channels p x.inputs (λ i c input. input-there p i c x there input) no_packet neither.1 in
+      let first = dormant-first s.kept.channels p x none (λ i c input. input-there p i c x there input) (λ c signal. signal-there p c x there signal) in
       (waits_for_sender p first.0 first.1, ap (waits_by plan s.kept.channels p x) is ∙ first.3, sender-blocked first.0 first.1 first.2, refl)
 
   -- each blocked process waits for one that is blocked

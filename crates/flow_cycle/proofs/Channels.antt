@@ -8,7 +8,7 @@ use Rattle.flow_plan.specs.Network.{Network as Plan}
 use Rattle.flow_plan.specs.declared.plan.Sender.{Sender}
 use Rattle.flow_plan.specs.declared.plan.Connection.{Connection as PlanConnection}
 use Rattle.flow_model.specs.States.{is_sender, without_sender, Channel, State, change_at, changed}
-use Rattle.flow_model.specs.Events.{Event, Starts, Finishes, Gets, Takes_text, Hears_end, Sends, Learns, Sleeps, Closes}
+use Rattle.flow_model.specs.Events.{Event, Starts, Finishes, Gets, Takes_text, Hears_end, Sends, Learns, Sleeps, Closes, Signals}
 use Rattle.flow_model.specs.Turns.{channel_after, channels_after}
 use Rattle.flow_model.specs.Schedules.{Settles, LeadsBy, Journal, Leads}
 use Rattle.flow_model.specs.Plans.{channel_at_start, start_of}
@@ -75,6 +75,7 @@ of-after connections channels p (Hears_end port) old = old
 of-after connections channels p (Sends port c packet) old = change-of connections channels c (λ ch. channel_after p ch (Sends port c packet)) (λ ch. all-among ch.open_senders) old
 of-after connections channels p (Learns port level) old = old
 of-after connections channels p Sleeps old = old
+of-after connections channels p (Signals c packet) old = change-of connections channels c (λ ch. channel_after p ch (Signals c packet)) (λ ch. all-among ch.open_senders) old
 of-after connections channels p (Closes output c) old =
     change-of connections channels c (λ ch. channel_after p ch (Closes output c)) (λ ch. without-among (record { process = p; output = output }) ch.open_senders) old
 

@@ -21,6 +21,7 @@ use Rattle.flow_model.specs.Events.{looks}
 use Rattle.flow_model.specs.Schedules.{Journal, Leads}
 use Rattle.flow_model.specs.Verdicts.{block_of, block, IsDeadlock}
 use Rattle.flow_model.specs.Plans.{start_of, StartsWell}
+use Rattle.flow_machine.specs.Inlets.{watched}
 use Rattle.flow_cycle.specs.declared.Waits.{Waits}
 use Rattle.flow_cycle.specs.Waiting.{first_open_sender, waits_for_sender, waits_for_receiver, or_else, waits_to_wake, waits_by, waits_of, waits_at, lowest_blocked, IsWaitingCycle}
 use Rattle.flow_cycle.specs.Laws.{BlockedOnBlocked, HasOneWaitingCycle, DeadlocksWait}
@@ -49,7 +50,7 @@ wake-named channels p (From c ∷ inputs) w is = by (option_map (waits_for_sende
 by-named : {K : Type 0} (plan : Plan) (channels : List Channel) (p : ℕ) (x : Process K) (b : Block) (w : Waits) → waits_by plan channels p x b ≡ Some w → w.process ≡ p
 by-named plan channels p x (blocks.Full c port) w is = receiver-named p c (slice_get plan.connections c) w is
 by-named plan channels p x (blocks.Empty c port) w is = sender-named p c (first_open_sender (slice_get channels c)) w is
-by-named plan channels p x blocks.Dormant w is = wake-named channels p x.inputs w is
+by-named plan channels p x blocks.Dormant w is = wake-named channels p (watched (looks channels) x) w is
 
 -- Whoever waits is the process that it is said of.
 pub waits-named : {K : Type 0} (plan : Plan) (kept : Kept K) (p : ℕ) (w : Waits) → waits_at plan kept p ≡ Some w → w.process ≡ p

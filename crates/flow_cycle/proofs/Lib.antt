@@ -1,4 +1,5 @@
 pub mod Channels
+pub mod Signals
 pub mod Blocked
 pub mod Walking
 pub mod Deadlocks

@@ -30,6 +30,7 @@ use Rattle.flow_model.proofs.Leaving.{open-place, position-only, OpenSendersTell
 use Rattle.flow_model.proofs.Rising.{sends-now}
 use Rattle.flow_machine.specs.Values.{BodyValue, NetValue, shown_body, shown_net}
 use Rattle.flow_machine.specs.Nets.{looks_of}
+use Rattle.flow_machine.specs.Inlets.{watched}
 use Rattle.flow_cycle.specs.declared.Waits.{Waits}
 use Rattle.flow_cycle.specs.Waiting.{first_open_sender, waits_for_sender, or_else, waits_to_wake, waits_by, waits_of, waits_at, lowest_blocked, walk, IsWaitingCycle}
 use Rattle.flow_cycle.specs.Nets.{has_ended, not_ended, first_on, wakes_in, waits_in_by, waits_of_body, waits_in, is_blocked, is_stuck, cycle_in, IsReached, IsCycleOf}
@@ -258,22 +259,22 @@ module _ {K : Type 0} (shape_of : K → Shape) (uses : K → ℕ → Bool) (read
     wakes-same p (From c ∷ inputs) = λ i. or_else (option_map (waits_for_sender p c) (first-same c i)) (wakes-same p inputs i)
     wakes-same p (Text text ∷ inputs) = wakes-same p inputs
 
-    by-same : (p : ℕ) (x : Process K) (b : Block) → waits_in_by plan net.bodies p x b ≡ waits_by plan s.kept.channels p x b
+    by-same : (p : ℕ) (x : Process K) (b : Block) → waits_in_by plan net p x b ≡ waits_by plan s.kept.channels p x b
     by-same p x (blocks.Full c port) = refl
     by-same p x (blocks.Empty c port) = ap (option_map (waits_for_sender p c)) (first-same c)
-    by-same p x blocks.Dormant = wakes-same p x.inputs
+    by-same p x blocks.Dormant = ap (λ (ls : List Look). wakes_in plan net.bodies p (watched ls x)) (same-looks net s reached.stands) ∙ wakes-same p (watched (looks s.kept.channels) x)
 
     waits-same : (p : ℕ) → waits_in plan net p ≡ waits_at plan s.kept p
     waits-same p = by (slice_get net.bodies p) refl
       where
-        of : (x : Process K) (found : Option Block) → option_and_then (waits_in_by plan net.bodies p x) found ≡ option_and_then (waits_by plan s.kept.channels p x) found
+        of : (x : Process K) (found : Option Block) → option_and_then (waits_in_by plan net p x) found ≡ option_and_then (waits_by plan s.kept.channels p x) found
         of x None = refl
         of x (Some b) = by-same p x b
 
         by : (found : Option (BodyValue K)) → slice_get net.bodies p ≡ found → option_and_then (waits_of_body plan net p) found ≡ waits_at plan s.kept p
         by None there = sym (ap (option_and_then (waits_of plan s.kept.channels p)) (found-at net s reached.stands p None there))
         by (Some b) there =
-            ap (λ (ls : List Look). option_and_then (waits_in_by plan net.bodies p b.process) (block_of ls b.process)) (same-looks net s reached.stands) ∙ of b.process (block_of (looks s.kept.channels) b.process)
+            ap (λ (ls : List Look). option_and_then (waits_in_by plan net p b.process) (block_of ls b.process)) (same-looks net s reached.stands) ∙ of b.process (block_of (looks s.kept.channels) b.process)
             ∙ sym (ap (option_and_then (waits_of plan s.kept.channels p)) (found-at net s reached.stands p (Some b) there))
 
     -- the net is stuck

@@ -20,6 +20,7 @@ use Rattle.flow_model.specs.Plans.{start_of, StartsWell}
 use Rattle.flow_model.specs.Stands.{StandsForOpen}
 use Rattle.flow_machine.specs.Values.{BodyValue, NetValue, shown_net}
 use Rattle.flow_machine.specs.Nets.{looks_of}
+use Rattle.flow_machine.specs.Inlets.{watched}
 use Rattle.flow_cycle.specs.declared.Waits.{Waits}
 use Rattle.flow_cycle.specs.Waiting.{waits_for_sender, waits_for_receiver, or_else, rest_from, walk, IsWaitingCycle}
 
@@ -51,21 +52,21 @@ abbrev pub first_on : {K : Type 0} → List (BodyValue K) → Option PlanConnect
 first_on bodies (Some connection) = find (λ (s : Sender). not_ended (slice_get bodies s.process)) connection.senders
 first_on bodies None = None
 
--- What a dormant process with these inputs waits for.
+-- What a dormant process waits for that watches these inputs.
 abbrev pub wakes_in : {K : Type 0} → Plan → List (BodyValue K) → ℕ → List Input → Option Waits
 wakes_in plan bodies p [] = None
 wakes_in plan bodies p (From c ∷ inputs) = or_else (option_map (waits_for_sender p c) (first_on bodies (slice_get plan.connections c))) (wakes_in plan bodies p inputs)
 wakes_in plan bodies p (Text text ∷ inputs) = wakes_in plan bodies p inputs
 
 -- What a process that is blocked so waits for.
-abbrev pub waits_in_by : {K : Type 0} → Plan → List (BodyValue K) → ℕ → Process K → Block → Option Waits
-waits_in_by plan bodies p x (blocks.Full c port) = option_map (waits_for_receiver p c) (slice_get plan.connections c)
-waits_in_by plan bodies p x (blocks.Empty c port) = option_map (waits_for_sender p c) (first_on bodies (slice_get plan.connections c))
-waits_in_by plan bodies p x blocks.Dormant = wakes_in plan bodies p x.inputs
+abbrev pub waits_in_by : {K : Type 0} → Plan → NetValue K → ℕ → Process K → Block → Option Waits
+waits_in_by plan net p x (blocks.Full c port) = option_map (waits_for_receiver p c) (slice_get plan.connections c)
+waits_in_by plan net p x (blocks.Empty c port) = option_map (waits_for_sender p c) (first_on net.bodies (slice_get plan.connections c))
+waits_in_by plan net p x blocks.Dormant = wakes_in plan net.bodies p (watched (looks_of net.channels) x)
 
 -- What this body waits for, if it is blocked.
 abbrev pub waits_of_body : {K : Type 0} → Plan → NetValue K → ℕ → BodyValue K → Option Waits
-waits_of_body plan net p b = option_and_then (waits_in_by plan net.bodies p b.process) (block_of (looks_of net.channels) b.process)
+waits_of_body plan net p b = option_and_then (waits_in_by plan net p b.process) (block_of (looks_of net.channels) b.process)
 
 -- What process p of the net waits for.
 abbrev pub waits_in : {K : Type 0} → Plan → NetValue K → ℕ → Option Waits

@@ -10,6 +10,7 @@ use Rattle.flow_model.specs.declared.Block.TheVariants as blocks
 use Rattle.flow_model.specs.States.{Input, From, Text, Process, Channel, Kept}
 use Rattle.flow_model.specs.Events.{looks}
 use Rattle.flow_model.specs.Verdicts.{block_of}
+use Rattle.flow_machine.specs.Inlets.{watched}
 use Rattle.flow_cycle.specs.declared.Waits.{Waits}
 
 -- The first of these senders.
@@ -35,18 +36,18 @@ abbrev pub or_else : Option Waits → Option Waits → Option Waits
 or_else (Some w) other = Some w
 or_else None other = other
 
--- What a dormant process waits for: the first open sender of its lowest connected input that has one.
+-- What a dormant process waits for that watches these inputs: the first open sender of the lowest connected one that has one.
 abbrev pub waits_to_wake : List Channel → ℕ → List Input → Option Waits
 waits_to_wake channels p [] = None
 waits_to_wake channels p (From c ∷ inputs) = or_else (option_map (waits_for_sender p c) (first_open_sender (slice_get channels c))) (waits_to_wake channels p inputs)
 waits_to_wake channels p (Text text ∷ inputs) = waits_to_wake channels p inputs
 
 -- For which process one that is blocked so waits, and where. One that is blocked full waits for the receiver of its connection, one that
--- is blocked empty for the connection's first open sender, and a dormant one as said above.
+-- is blocked empty for the connection's first open sender, and a dormant one at the inputs that it watches.
 abbrev pub waits_by : {K : Type 0} → Plan → List Channel → ℕ → Process K → Block → Option Waits
 waits_by plan channels p x (blocks.Full c port) = option_map (waits_for_receiver p c) (slice_get plan.connections c)
 waits_by plan channels p x (blocks.Empty c port) = option_map (waits_for_sender p c) (first_open_sender (slice_get channels c))
-waits_by plan channels p x blocks.Dormant = waits_to_wake channels p x.inputs
+waits_by plan channels p x blocks.Dormant = waits_to_wake channels p (watched (looks channels) x)
 
 -- For which process this one waits, and where, if it is blocked.
 abbrev pub waits_of : {K : Type 0} → Plan → List Channel → ℕ → Process K → Option Waits

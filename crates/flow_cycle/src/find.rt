@@ -2,7 +2,8 @@
 ghost use Rattle.std.specs.Prelude.{◌≡◌, ◌<◌, ◌+◌, ◌||◌, ◌↔◌, [], true, false, drop, length, IfOk, IfSome, IsTrue, Some, None, slice_get, slice_set, option_map, option_and_then, position, find};
 ghost use Rattle.std.specs.List.{list_all};
 ghost use Rattle.flow_model.specs.States.{State};
-ghost use Rattle.flow_machine.specs.Nets.{block_at};
+ghost use Rattle.flow_machine.specs.Nets.{block_at, looks_of};
+ghost use Rattle.flow_machine.specs.Inlets.{watched};
 ghost use Rattle.flow_plan.specs.declared.plan.Sender.{Sender};
 ghost use Rattle.flow_cycle.specs.Waiting.{waits_for_sender, waits_for_receiver, rest_from, walk};
 ghost use Rattle.flow_cycle.specs.Nets.{has_ended, owes_work, not_ended, first_on, wakes_in, waits_in, is_blocked, is_stuck, cycle_in, AllMarked, IsReached, IsCycleOf};
@@ -120,7 +121,7 @@ fn wakes_at<K: Component>(
     }
 }
 
-// What an idle process waits for.
+// What an idle process waits for at its inputs but the automatic one.
 fn wakes<K: Component>(plan: &Plan, net: &Net<K>, process: u32, body: &Body<K>) -> Option<Waits>
     ensures { result ≡ wakes_in plan.now net.now.bodies process body.now.process.inputs }
 {
@@ -130,6 +131,24 @@ fn wakes<K: Component>(plan: &Plan, net: &Net<K>, process: u32, body: &Body<K>) 
         }
     }
     None
+}
+
+// What an idle process waits for, at the inputs that it watches.
+fn wakes_watched<K: Component>(
+    plan: &Plan,
+    net: &Net<K>,
+    process: u32,
+    body: &Body<K>,
+) -> Option<Waits>
+    requires within { process < length net.now.bodies }
+    requires there { slice_get net.now.bodies process ≡ Some body.now }
+    ensures { result ≡ wakes_in plan.now net.now.bodies process (watched (looks_of net.now.channels) body.now.process) }
+{
+    if net.watches_signal(process) {
+        wakes_at(plan, net, process, body.signal())
+    } else {
+        wakes(plan, net, process, body)
+    }
 }
 
 // What a process waits for, if it is blocked.
@@ -152,7 +171,7 @@ fn waits<K: Component>(plan: &Plan, net: &Net<K>, process: u32) -> Option<Waits>
                 port: _,
             },
         ) => for_sender(process, connection, first_on(plan, net, connection)),
-        Some(Block::Dormant) => wakes(plan, net, process, net.body(process)),
+        Some(Block::Dormant) => wakes_watched(plan, net, process, net.body(process)),
         None => None,
     }
 }
@@ -278,8 +297,8 @@ fn lowest_blocked<K: Component>(net: &Net<K>) -> Option<u32>
 
 /// The waiting cycle of a net of this plan: where whoever follows for whom each blocked process waits, from the lowest one on, goes round.
 /// A process that is blocked full waits for its connection's receiver, one that is blocked empty for its connection's first open
-/// sender, and a dormant one for the first open sender of its lowest connected input that has one. Each waits for the next one's
-/// process, and the last for the first. `None`: the net is in no deadlock.
+/// sender, and a dormant one for the first open sender of the lowest connected input that it watches and that has one. Each waits for
+/// the next one's process, and the last for the first. `None`: the net is in no deadlock.
 ///
 /// Such cycles are Morrison's (Deadlocks: Prevention and Detection); which one is told is this project's own.
 pub fn cycle<K: Component>(

@@ -74,7 +74,7 @@ start-output {K} plan components p o c is = found (slice_get (processes_at_start
     found None there out = absurd (cc)
     found (Some z) there out =
         let start = start-process plan components p z there in
-        at z.outputs start.spec.outputs (ap (λ (y : Process K). y.outputs) start.is) (slice_get z.outputs o) refl out
+        at z.outputs (start.spec.outputs + 1) (ap (λ (y : Process K). y.outputs) start.is) (slice_get z.outputs o) refl out
 
 -- in a list of one element at most all elements are the same
 at-most-one : {A : Type 0} (xs : List A) (i k : ℕ) (a b : A) → length xs ≤ 1 → slice_get xs i ≡ Some a → slice_get xs k ≡ Some b → a ≡ b

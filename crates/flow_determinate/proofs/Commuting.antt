@@ -1,12 +1,12 @@
 -- What the turns of two processes change of connections and of the past, in either order.
-use Rattle.std.proofs.Common.{◌≡◌, ◌≢◌, ℕ, Bool, true, false, List, [], ◌∷◌, ◌++◌, Option, Some, None, refl, sym, ap, ◌∙◌, subst, cond, nat_eq, arith, ◌⊎◌, inl, inr, slice_get, slice_set, zero, suc}
+use Rattle.std.proofs.Common.{◌≡◌, ◌≢◌, ℕ, Bool, true, false, List, [], ◌∷◌, ◌++◌, append-nil, Option, Some, None, refl, sym, ap, ◌∙◌, subst, cond, nat_eq, arith, ◌⊎◌, inl, inr, slice_get, slice_set, zero, suc}
 use Rattle.std.proofs.lemmas.Bool.Decides.{nat_tests}
-use Rattle.flow_packet.specs.Tree.{Tree}
-use Rattle.flow_model.specs.States.{Channel, Put, entry_of, change_at, changed}
-use Rattle.flow_model.specs.Events.{Event, Starts, Finishes, Gets, Takes_text, Hears_end, Sends, Learns, Sleeps, Closes}
-use Rattle.flow_model.specs.Turns.{channel_after, channels_after, put_after, add_at}
+use Rattle.flow_packet.specs.Tree.{Tree, ids}
+use Rattle.flow_model.specs.States.{Channel, Put, Entry, entry_of, change_at, changed}
+use Rattle.flow_model.specs.Events.{Event, Starts, Finishes, Gets, Takes_text, Hears_end, Sends, Learns, Sleeps, Closes, Signals}
+use Rattle.flow_model.specs.Turns.{channel_after, channels_after, signals_after, put_after, drops_after, add_at}
 use Rattle.flow_model.proofs.Lists.{slice_get-set_same, slice_get-set_other, same_or_not, change_at-some}
-use Rattle.flow_determinate.proofs.Moves.{set-twice, one-of}
+use Rattle.flow_determinate.proofs.Moves.{set-twice, one-of, dropped_then}
 
 -- Lists that change at two places, or twice at one
 
@@ -61,6 +61,7 @@ abbrev pub touches : Event → Option ℕ
 touches (Gets port c packet) = Some c
 touches (Sends port c packet) = Some c
 touches (Closes output c) = Some c
+touches (Signals c packet) = Some c
 touches Starts = None
 touches Finishes = None
 touches (Takes_text port text) = None
@@ -82,17 +83,20 @@ channels-at channels p (Sends port c packet) = refl
 channels-at channels p (Learns port level) = refl
 channels-at channels p Sleeps = refl
 channels-at channels p (Closes output c) = refl
+channels-at channels p (Signals c packet) = refl
 
--- What a turn at a connection is: a get, a send or a close.
+-- What a turn at a connection is: a get, a send, a close, or a signal.
 pub data Touching (e : Event) (c : ℕ) : Type 0 where
   gets : (port : ℕ) (packet : Tree) → e ≡ Gets port c packet → Touching e c
   sends : (port : ℕ) (packet : Tree) → e ≡ Sends port c packet → Touching e c
   closes : (output : ℕ) → e ≡ Closes output c → Touching e c
+  signals : (packet : Tree) → e ≡ Signals c packet → Touching e c
 
 pub touching : (e : Event) (c : ℕ) → touches e ≡ Some c → Touching e c
 touching (Gets port d packet) c is = gets port packet (ap (λ k. Gets port k packet) (one-of d c is))
 touching (Sends port d packet) c is = sends port packet (ap (λ k. Sends port k packet) (one-of d c is))
 touching (Closes output d) c is = closes output (ap (Closes output) (one-of d c is))
+touching (Signals d packet) c is = signals packet (ap (λ k. Signals k packet) (one-of d c is))
 touching Starts c is = absurd (cc)
 touching Finishes c is = absurd (cc)
 touching (Takes_text port text) c is = absurd (cc)
@@ -159,6 +163,7 @@ puts p (Hears_end port) = None
 puts p (Learns port level) = None
 puts p Sleeps = None
 puts p (Closes output c) = None
+puts p (Signals c packet) = None
 
 abbrev put_at : (ℕ → List Put) → Option (ℕ × Put) → ℕ → List Put
 put_at put (Some new) = add_at new.0 new.1 put
@@ -174,6 +179,7 @@ put-at put p (Sends port c packet) = refl
 put-at put p (Learns port level) = refl
 put-at put p Sleeps = refl
 put-at put p (Closes output c) = refl
+put-at put p (Signals c packet) = refl
 
 puts-touches : (p : ℕ) (e : Event) (new : ℕ × Put) → puts p e ≡ Some new → (port : ℕ) × (packet : Tree) × (e ≡ Sends port new.0 packet)
 puts-touches p (Sends port c packet) new is = (port, packet, ap (λ k. Sends port k packet) (ap (λ (n : ℕ × Put). n.0) (one-of (c, record { sender = record { process = p; output = port }; entry = entry_of packet }) new is)))
@@ -185,6 +191,7 @@ puts-touches p (Hears_end port) new is = absurd (cc)
 puts-touches p (Learns port level) new is = absurd (cc)
 puts-touches p Sleeps new is = absurd (cc)
 puts-touches p (Closes output c) new is = absurd (cc)
+puts-touches p (Signals c packet) new is = absurd (cc)
 
 -- Two turns don't both send to one connection.
 abbrev pub SendApart : Event → Event → Type 0
@@ -206,3 +213,86 @@ puts-commute put p e q f apart =
     by None b at on = refl
     by (Some a) None at on = refl
     by (Some a) (Some b) at on = λ i r. grow-commute (nat_eq r a.0) (nat_eq r b.0) (put r) (a.1 ∷ []) (b.1 ∷ []) (not-twice r a.0 b.0 (ne a b at on)) i
+
+-- What came at automatic inputs, and what was dropped
+
+-- What comes at an automatic input by a turn, and the ids that it drops.
+abbrev signals_by : Event → List Entry
+signals_by (Signals c packet) = entry_of packet ∷ []
+signals_by Starts = []
+signals_by Finishes = []
+signals_by (Gets port c packet) = []
+signals_by (Takes_text port text) = []
+signals_by (Hears_end port) = []
+signals_by (Sends port c packet) = []
+signals_by (Learns port level) = []
+signals_by Sleeps = []
+signals_by (Closes output c) = []
+
+abbrev drops_by : Event → List ℕ
+drops_by (Signals c packet) = ids packet
+drops_by Starts = []
+drops_by Finishes = []
+drops_by (Gets port c packet) = []
+drops_by (Takes_text port text) = []
+drops_by (Hears_end port) = []
+drops_by (Sends port c packet) = []
+drops_by (Learns port level) = []
+drops_by Sleeps = []
+drops_by (Closes output c) = []
+
+-- A list that grows by nothing.
+grown-none : {A : Type 0} (t : Bool) (xs : List A) → xs ≡ cond t (xs ++ []) xs
+grown-none true xs = sym (append-nil xs)
+grown-none false xs = refl
+
+signals-at : (old : ℕ → List Entry) (p : ℕ) (e : Event) (r : ℕ) → signals_after old p e r ≡ cond (nat_eq r p) (old r ++ signals_by e) (old r)
+signals-at old p (Signals c packet) r = refl
+signals-at old p Starts r = grown-none (nat_eq r p) (old r)
+signals-at old p Finishes r = grown-none (nat_eq r p) (old r)
+signals-at old p (Gets port c packet) r = grown-none (nat_eq r p) (old r)
+signals-at old p (Takes_text port text) r = grown-none (nat_eq r p) (old r)
+signals-at old p (Hears_end port) r = grown-none (nat_eq r p) (old r)
+signals-at old p (Sends port c packet) r = grown-none (nat_eq r p) (old r)
+signals-at old p (Learns port level) r = grown-none (nat_eq r p) (old r)
+signals-at old p Sleeps r = grown-none (nat_eq r p) (old r)
+signals-at old p (Closes output c) r = grown-none (nat_eq r p) (old r)
+
+drops-at : (old : ℕ → List ℕ) (p : ℕ) (e : Event) (r : ℕ) → drops_after old p e r ≡ cond (nat_eq r p) (old r ++ drops_by e) (old r)
+drops-at old p (Signals c packet) r = refl
+drops-at old p Starts r = grown-none (nat_eq r p) (old r)
+drops-at old p Finishes r = grown-none (nat_eq r p) (old r)
+drops-at old p (Gets port c packet) r = grown-none (nat_eq r p) (old r)
+drops-at old p (Takes_text port text) r = grown-none (nat_eq r p) (old r)
+drops-at old p (Hears_end port) r = grown-none (nat_eq r p) (old r)
+drops-at old p (Sends port c packet) r = grown-none (nat_eq r p) (old r)
+drops-at old p (Learns port level) r = grown-none (nat_eq r p) (old r)
+drops-at old p Sleeps r = grown-none (nat_eq r p) (old r)
+drops-at old p (Closes output c) r = grown-none (nat_eq r p) (old r)
+
+-- The turns of two processes bring signals alike in either order.
+pub signals-commute : (old : ℕ → List Entry) (p : ℕ) (e : Event) (q : ℕ) (f : Event) → p ≢ q → (r : ℕ) → signals_after (signals_after old p e) q f r ≡ signals_after (signals_after old q f) p e r
+signals-commute old p e q f apart r =
+    signals-at (signals_after old p e) q f r ∙ ap (λ xs. cond (nat_eq r q) (xs ++ signals_by f) xs) (signals-at old p e r)
+    ∙ grow-commute (nat_eq r p) (nat_eq r q) (old r) (signals_by e) (signals_by f) (not-twice r p q apart)
+    ∙ sym (signals-at (signals_after old q f) p e r ∙ ap (λ xs. cond (nat_eq r p) (xs ++ signals_by e) xs) (signals-at old q f r))
+
+-- A list that grows twice where the test holds.
+abbrev twice : Bool → List ℕ → List ℕ → List ℕ → List ℕ
+twice t xs ys zs = cond t (cond t (xs ++ ys) xs ++ zs) (cond t (xs ++ ys) xs)
+
+twice-commute : (t u : Bool) (xs a b c d : List ℕ) → (t ≡ true → u ≡ true → ⊥) → twice u (twice t xs a b) c d ≡ twice t (twice u xs c d) a b
+twice-commute true true xs a b c d ne = absurd (ne refl refl)
+twice-commute true false xs a b c d ne = refl
+twice-commute false true xs a b c d ne = refl
+twice-commute false false xs a b c d ne = refl
+
+then-at : (old : ℕ → List ℕ) (p : ℕ) (e : Event) (ds : List ℕ) (r : ℕ) → dropped_then old p e ds r ≡ twice (nat_eq r p) (old r) (drops_by e) ds
+then-at old p e ds r = ap (λ xs. cond (nat_eq r p) (xs ++ ds) xs) (drops-at old p e r)
+
+-- The turns and works of two processes drop alike in either order.
+pub drops-commute : (old : ℕ → List ℕ) (p : ℕ) (e : Event) (ds : List ℕ) (q : ℕ) (f : Event) (es : List ℕ) → p ≢ q → (r : ℕ) → dropped_then (dropped_then old p e ds) q f es r ≡ dropped_then (dropped_then old q f es) p e ds r
+drops-commute old p e ds q f es apart r =
+    then-at (dropped_then old p e ds) q f es r ∙ ap (λ xs. twice (nat_eq r q) xs (drops_by f) es) (then-at old p e ds r)
+    ∙ twice-commute (nat_eq r p) (nat_eq r q) (old r) (drops_by e) ds (drops_by f) es (not-twice r p q apart)
+    ∙ sym (then-at (dropped_then old q f es) p e ds r ∙ ap (λ xs. twice (nat_eq r p) xs (drops_by e) ds) (then-at old q f es r))

@@ -9,20 +9,20 @@ use Rattle.flow_component.specs.Laws.{Outcome, Obeys, StaysReady, IsSteady, AtMo
 use Rattle.flow_plan.specs.Network.{Network as Plan}
 use Rattle.flow_plan.specs.declared.plan.Sender.{Sender}
 use Rattle.flow_model.specs.States.{is_sender, without_sender, Process, Channel, Kept, State}
-use Rattle.flow_model.specs.Events.{Event, Starts, Finishes, Gets, Takes_text, Hears_end, Sends, Learns, Sleeps, Closes, event_of, seen_by}
+use Rattle.flow_model.specs.Events.{Event, Starts, Finishes, Gets, Takes_text, Hears_end, Sends, Learns, Sleeps, Closes, Signals, event_of, seen_by}
 use Rattle.flow_model.specs.Turns.{channel_after, heard}
 use Rattle.flow_model.specs.Schedules.{Journal, WholeTurn, LeadsBy, Leads}
 use Rattle.flow_model.specs.Robin.{IsExact, ExactTurn}
 use Rattle.flow_model.specs.Plans.{start_of, StartsWell}
-use Rattle.flow_model.specs.Valid.{OneReceiver, SendersOpen}
+use Rattle.flow_model.specs.Valid.{OneReceiver, SignalsApart, SendersOpen}
 use Rattle.flow_model.proofs.Lists.{slice_get-set_other, same_or_not}
 use Rattle.flow_model.proofs.Inverse.{explains}
 use Rattle.flow_model.proofs.Senders.{both-true}
 use Rattle.flow_model.proofs.OneRobin.{same-exact}
 use Rattle.flow_determinate.specs.Determinate.{EachHasOneSender, OnlyTheseAsk, NoneMayAsk, IsStill, SameEnd}
 use Rattle.flow_determinate.proofs.Moves.{one-of, moved, Move, whole-move, move-whole}
-use Rattle.flow_determinate.proofs.Commuting.{set-commute, Touching, gets, sends, closes, touching, CommuteAt, channels-commute, grow-commute, not-twice, SendApart, puts-commute}
-use Rattle.flow_determinate.proofs.Staying.{OneWriter, no-get, no-send, turn-stays}
+use Rattle.flow_determinate.proofs.Commuting.{set-commute, Touching, gets, sends, closes, signals, touching, CommuteAt, channels-commute, grow-commute, not-twice, SendApart, puts-commute, signals-commute, drops-commute}
+use Rattle.flow_determinate.proofs.Staying.{OneWriter, no-get, no-signal, no-get_there, no-signal_there, no-send, turn-stays}
 use Rattle.flow_determinate.proofs.Calm.{Settled, settled-start, settled-whole, no-level}
 
 -- Two senders close in either order.
@@ -44,17 +44,32 @@ drop-send packet new rest packets is = subst (λ (ps : List Tree). drop 1 ps ++ 
 
 module _ {K : Type 0} (kept : Kept K) (p : ℕ) (x : Process K) (n : ℕ) (e : Event) (there : slice_get kept.processes p ≡ Some x) (happens : event_of kept.channels x n ≡ Some e)
     (q : ℕ) (y : Process K) (m : ℕ) (f : Event) (on : slice_get kept.processes q ≡ Some y) (occurs : event_of kept.channels y m ≡ Some f)
-    (apart : p ≢ q) (senders : SendersOpen kept) (receivers : OneReceiver kept.processes) (writers : OneWriter kept.processes) where
+    (apart : p ≢ q) (senders : SendersOpen kept) (receivers : OneReceiver kept.processes) (watchers : SignalsApart kept.processes) (writers : OneWriter kept.processes) where
   -- the two don't both send to one connection
   send-apart : SendApart e f
   send-apart port k c packet other is at =
       let to = explains kept.channels y m (Sends k c other) (occurs ∙ ap Some at) in
-      no-send kept p x n e there happens q y m on apart senders receivers writers k c port packet to.output is
+      no-send kept p x n e there happens q y m on apart senders receivers watchers writers k c port packet to.output is
 
   get-apart : (port k c : ℕ) (packet other : Tree) → e ≡ Gets port c packet → f ≡ Gets k c other → ⊥
   get-apart port k c packet other is at =
       let from = explains kept.channels y m (Gets k c other) (occurs ∙ ap Some at) in
-      no-get kept p x n e there happens q y m on apart senders receivers writers k c port packet from.input is
+      no-get kept p x n e there happens q y m on apart senders receivers watchers writers k c port packet from.input is
+
+  get-signal_apart : (port c : ℕ) (packet other : Tree) → e ≡ Gets port c packet → f ≡ Signals c other → ⊥
+  get-signal_apart port c packet other is at =
+      let from = explains kept.channels y m (Signals c other) (occurs ∙ ap Some at) in
+      no-get_there kept p x n e there happens q y m on apart senders receivers watchers writers c port packet from.signal is
+
+  signal-get_apart : (k c : ℕ) (packet other : Tree) → e ≡ Signals c packet → f ≡ Gets k c other → ⊥
+  signal-get_apart k c packet other is at =
+      let from = explains kept.channels y m (Gets k c other) (occurs ∙ ap Some at) in
+      no-signal kept p x n e there happens q y m on apart senders receivers watchers writers k c packet from.input is
+
+  signal-apart : (c : ℕ) (packet other : Tree) → e ≡ Signals c packet → f ≡ Signals c other → ⊥
+  signal-apart c packet other is at =
+      let from = explains kept.channels y m (Signals c other) (occurs ∙ ap Some at) in
+      no-signal_there kept p x n e there happens q y m on apart senders receivers watchers writers c packet from.signal is
 
   -- at one connection they may come in either order
   commute-at : CommuteAt kept.channels p e q f
@@ -70,14 +85,27 @@ module _ {K : Type 0} (kept : Kept K) (p : ℕ) (x : Process K) (n : ℕ) (e : E
           let same : channel ≡ from.channel = one-of channel from.channel (sym here ∙ from.there) in
           both (Gets port c packet) (Sends k c other) is is' (λ i. record channel { packets = drop-send packet other from.rest channel.packets (ap (λ (ch : Channel). ch.packets) same ∙ from.packets) i })
       by (gets port packet is) (closes output is') = both (Gets port c packet) (Closes output c) is is' refl
+      by (gets port packet is) (signals other is') = absurd (get-signal_apart port c packet other is is')
       by (sends port packet is) (gets k other is') =
           let from = explains kept.channels y m (Gets k c other) (occurs ∙ ap Some is') in
           let same : channel ≡ from.channel = one-of channel from.channel (sym here ∙ from.there) in
           both (Sends port c packet) (Gets k c other) is is' (λ i. record channel { packets = sym (drop-send other packet from.rest channel.packets (ap (λ (ch : Channel). ch.packets) same ∙ from.packets)) i })
       by (sends port packet is) (sends k other is') = absurd (send-apart port k c packet other is is')
       by (sends port packet is) (closes output is') = both (Sends port c packet) (Closes output c) is is' refl
+      by (sends port packet is) (signals other is') =
+          let from = explains kept.channels y m (Signals c other) (occurs ∙ ap Some is') in
+          let same : channel ≡ from.channel = one-of channel from.channel (sym here ∙ from.there) in
+          both (Sends port c packet) (Signals c other) is is' (λ i. record channel { packets = sym (drop-send other packet from.rest channel.packets (ap (λ (ch : Channel). ch.packets) same ∙ from.packets)) i })
+      by (signals packet is) (gets k other is') = absurd (signal-get_apart k c packet other is is')
+      by (signals packet is) (sends k other is') =
+          let from = explains kept.channels x n (Signals c packet) (happens ∙ ap Some is) in
+          let same : channel ≡ from.channel = one-of channel from.channel (sym here ∙ from.there) in
+          both (Signals c packet) (Sends k c other) is is' (λ i. record channel { packets = drop-send packet other from.rest channel.packets (ap (λ (ch : Channel). ch.packets) same ∙ from.packets) i })
+      by (signals packet is) (closes output is') = both (Signals c packet) (Closes output c) is is' refl
+      by (signals packet is) (signals other is') = absurd (signal-apart c packet other is is')
       by (closes output is) (gets k other is') = both (Closes output c) (Gets k c other) is is' refl
       by (closes output is) (sends k other is') = both (Closes output c) (Sends k c other) is is' refl
+      by (closes output is) (signals other is') = both (Closes output c) (Signals c other) is is' refl
       by (closes output is) (closes other is') =
           both (Closes output c) (Closes other c) is is' (λ i. record channel { open_senders = without-commute (record { process = p; output = output }) (record { process = q; output = other }) channel.open_senders apart i })
 
@@ -87,8 +115,9 @@ moved-commute : {K : Type 0} (s : State K) (p : ℕ) (x : Process K) (e : Event)
 moved-commute s p x e x' ds q y f y' es apart commute sends_apart = λ i. record {
   kept = record { processes = set-commute s.kept.processes p q x' y' apart i; channels = channels-commute s.kept.channels p e q f commute i };
   past = record {
-    dropped = λ r. grow-commute (nat_eq r p) (nat_eq r q) (s.past.dropped r) ds es (not-twice r p q apart) i;
+    dropped = λ r. drops-commute s.past.dropped p e ds q f es apart r i;
     told = λ r. grow-commute (nat_eq r p) (nat_eq r q) (s.past.told r) (heard x e) (heard y f) (not-twice r p q apart) i;
+    signals = λ r. signals-commute s.past.signals p e q f apart r i;
     put = puts-commute s.past.put p e q f sends_apart i;
   };
 }
@@ -103,6 +132,7 @@ is-exact kept x (Hears_end port) none = tt
 is-exact kept x (Sends port c packet) none = tt
 is-exact kept x Sleeps none = tt
 is-exact kept x (Closes output c) none = tt
+is-exact kept x (Signals c packet) none = tt
 
 module _ {K : Type 0} (shape_of : K → Shape) (uses : K → ℕ → Bool) (ready : K → Held → Answer → Type 0) (next : K → Held → Answer → Outcome K → Type 0)
     (obeys : (component : K) (held : Held) (answer : Answer) (outcome : Outcome K) → ready component held answer → next component held answer outcome → Obeys (shape_of component) (uses component) held outcome)
@@ -123,11 +153,12 @@ module _ {K : Type 0} (shape_of : K → Shape) (uses : K → ℕ → Bool) (read
       let k = whole-move next s q f b second in
       let senders = good.fit.valid.senders in
       let receivers = good.fit.valid.one_receiver in
+      let watchers = good.fit.valid.signals_apart in
       let back : q ≢ p = λ h. apart (sym h) in
       let quiet_e = no-level shape_of uses ready next obeys stays steady may_ask only s p m.before m.level e good m.there m.happens in
       let quiet_f = no-level shape_of uses ready next obeys stays steady may_ask only s q k.before k.level f good k.there k.happens in
-      let commute = commute-at s.kept p m.before m.level e m.there m.happens q k.before k.level f k.there k.happens apart senders receivers good.writers in
-      let send_apart = send-apart s.kept p m.before m.level e m.there m.happens q k.before k.level f k.there k.happens apart senders receivers good.writers in
+      let commute = commute-at s.kept p m.before m.level e m.there m.happens q k.before k.level f k.there k.happens apart senders receivers watchers good.writers in
+      let send_apart = send-apart s.kept p m.before m.level e m.there m.happens q k.before k.level f k.there k.happens apart senders receivers watchers good.writers in
       let one_way = moved s p m.before e m.after m.dropped in
       let other_way = moved s q k.before f k.after k.dropped in
       let d : State K = moved one_way q k.before f k.after k.dropped in
@@ -135,7 +166,7 @@ module _ {K : Type 0} (shape_of : K → Shape) (uses : K → ℕ → Bool) (read
         before = k.before;
         level = k.level;
         there = slice_get-set_other s.kept.processes p q m.after back ∙ k.there;
-        happens = turn-stays s.kept p m.before m.level e m.there m.happens q k.before k.level k.there apart senders receivers good.writers f quiet_f k.happens;
+        happens = turn-stays s.kept p m.before m.level e m.there m.happens q k.before k.level k.there apart senders receivers watchers good.writers f quiet_f k.happens;
         after = k.after;
         dropped = k.dropped;
         comes = k.comes;
@@ -145,7 +176,7 @@ module _ {K : Type 0} (shape_of : K → Shape) (uses : K → ℕ → Bool) (read
         before = m.before;
         level = m.level;
         there = slice_get-set_other s.kept.processes q p k.after apart ∙ m.there;
-        happens = turn-stays s.kept q k.before k.level f k.there k.happens p m.before m.level m.there back senders receivers good.writers e quiet_e m.happens;
+        happens = turn-stays s.kept q k.before k.level f k.there k.happens p m.before m.level m.there back senders receivers watchers good.writers e quiet_e m.happens;
         after = m.after;
         dropped = m.dropped;
         comes = m.comes;

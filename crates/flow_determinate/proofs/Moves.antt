@@ -6,7 +6,7 @@ use Rattle.flow_component.specs.Laws.{Outcome, held_after}
 use Rattle.flow_model.specs.declared.Stage.TheVariants as stages
 use Rattle.flow_model.specs.States.{Process, State}
 use Rattle.flow_model.specs.Events.{Event, event_of}
-use Rattle.flow_model.specs.Turns.{process_after, channels_after, heard, put_after, past_after, Turn}
+use Rattle.flow_model.specs.Turns.{process_after, channels_after, heard, signals_after, put_after, drops_after, past_after, Turn}
 use Rattle.flow_model.specs.Works.{worked, dropped_by, past_worked}
 use Rattle.flow_model.specs.Schedules.{IsThoughtStage, Settles, WholeTurn}
 use Rattle.flow_model.proofs.Lists.{slice_get-set_same}
@@ -21,13 +21,18 @@ set-twice (x ∷ xs) (suc i) a b = ap (λ ys. x ∷ ys) (set-twice xs i a b)
 pub one-of : {A : Type 0} (a b : A) → Some a ≡ Some b → a ≡ b
 one-of a b h = cc
 
+-- The dropped ids after a turn that is this event, and a work of process p that drops these.
+abbrev pub dropped_then : (ℕ → List ℕ) → ℕ → Event → List ℕ → ℕ → List ℕ
+dropped_then old p e dropped = λ r. if r == p then drops_after old p e r ++ dropped else drops_after old p e r
+
 -- The state after process p was left so, by a turn that is this event and a work that drops these ids.
 abbrev pub moved : {K : Type 0} → State K → ℕ → Process K → Event → Process K → List ℕ → State K
 moved s p x e after dropped = record {
   kept = record { processes = slice_set s.kept.processes p after; channels = channels_after s.kept.channels p e };
   past = record {
-    dropped = λ r. if r == p then s.past.dropped r ++ dropped else s.past.dropped r;
+    dropped = dropped_then s.past.dropped p e dropped;
     told = λ r. if r == p then s.past.told r ++ heard x e else s.past.told r;
+    signals = signals_after s.past.signals p e;
     put = put_after s.past.put p e;
   };
 }
@@ -67,7 +72,7 @@ module _ {K : Type 0} (next : K → Held → Answer → Outcome K → Type 0) (s
           let z = process_after x e in
           let there : slice_get mid.kept.processes p ≡ Some z = ap (λ (ps : List (Process K)). slice_get ps p) turn.kept.processes ∙ slice_get-set_same s.kept.processes p x z turn.kept.there in
           let past : s'.past ≡ (moved s p x e z []).past =
-          ap (λ (t : State K). t.past) none.1 ∙ turn.past ∙ (λ i. record { dropped = λ r. drops-none (nat_eq r p) (s.past.dropped r) i; told = (past_after s.past p x e).told; put = put_after s.past.put p e }) in
+          ap (λ (t : State K). t.past) none.1 ∙ turn.past ∙ (λ i. record { dropped = λ r. drops-none (nat_eq r p) (drops_after s.past.dropped p e r) i; told = (past_after s.past p x e).told; signals = signals_after s.past.signals p e; put = put_after s.past.put p e }) in
           record {
             before = x;
             level = turn.kept.level;
@@ -132,8 +137,8 @@ module _ {K : Type 0} (next : K → Held → Answer → Outcome K → Type 0) (s
                 (ap (λ (t : State K). t.kept.processes) move.is ∙ ap (slice_set s.kept.processes p) none.1)
                 (ap (λ (t : State K). t.kept.channels) move.is)
                 (ap (λ (t : State K). t.past) move.is
-                ∙ (λ i. record { dropped = λ r. if r == p then s.past.dropped r ++ none.2 i else s.past.dropped r; told = (past_after s.past p x e).told; put = put_after s.past.put p e })
-                ∙ (λ i. record { dropped = λ r. sym (drops-none (nat_eq r p) (s.past.dropped r)) i; told = (past_after s.past p x e).told; put = put_after s.past.put p e })),
+                ∙ (λ i. record { dropped = dropped_then s.past.dropped p e (none.2 i); told = (past_after s.past p x e).told; signals = signals_after s.past.signals p e; put = put_after s.past.put p e })
+                ∙ (λ i. record { dropped = λ r. sym (drops-none (nat_eq r p) (drops_after s.past.dropped p e r)) i; told = (past_after s.past p x e).told; signals = signals_after s.past.signals p e; put = put_after s.past.put p e })),
           )
       settles (inr work) =
           inr (record {
@@ -147,5 +152,5 @@ module _ {K : Type 0} (next : K → Held → Answer → Outcome K → Type 0) (s
               processes = ap (λ (t : State K). t.kept.processes) move.is ∙ ap (slice_set s.kept.processes p) work.4 ∙ sym (set-twice s.kept.processes p z (worked z work.1));
               channels = ap (λ (t : State K). t.kept.channels) move.is;
             };
-            past = ap (λ (t : State K). t.past) move.is ∙ (λ i. record { dropped = λ r. if r == p then s.past.dropped r ++ work.5 i else s.past.dropped r; told = (past_after s.past p x e).told; put = put_after s.past.put p e });
+            past = ap (λ (t : State K). t.past) move.is ∙ (λ i. record { dropped = dropped_then s.past.dropped p e (work.5 i); told = (past_after s.past p x e).told; signals = signals_after s.past.signals p e; put = put_after s.past.put p e });
           })

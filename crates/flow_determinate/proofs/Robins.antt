@@ -1,11 +1,11 @@
 -- After a round robin no process has a turn.
-use Rattle.std.proofs.Common.{◌≡◌, ◌⊎◌, ℕ, ◌<◌, ◌≤◌, List, [], ◌∷◌, ◌++◌, length, Option, Some, None, refl, sym, ap, ◌∙◌, subst, arith, inl, inr, slice_get, zero, suc}
+use Rattle.std.proofs.Common.{◌≡◌, ℕ, ◌<◌, List, [], ◌∷◌, ◌++◌, length, refl, sym, ap, ◌∙◌, subst, arith, inl, inr, zero, suc}
 use Rattle.std.proofs.lemmas.Option.{slice_get_within}
 use Rattle.flow_packet.specs.Held.{Held}
 use Rattle.flow_component.specs.declared.Answer.{Answer}
 use Rattle.flow_component.specs.Laws.{Outcome}
-use Rattle.flow_model.specs.States.{Process, State}
-use Rattle.flow_model.specs.Schedules.{Journal, no_turns, then_turns}
+use Rattle.flow_model.specs.States.{State}
+use Rattle.flow_model.specs.Schedules.{Journal, no_turns}
 use Rattle.flow_model.specs.Verdicts.{HasNoTurn}
 use Rattle.flow_model.specs.Robin.{TurnsOf, Burst, PassBelow, RoundRobin}
 use Rattle.flow_model.proofs.Lists.{same_or_not}

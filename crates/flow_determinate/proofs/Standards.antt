@@ -39,7 +39,7 @@ told-none (components.Unbundle component) held level is ready = ready
 told-none (components.Hoard component) held level is ready = ready
 told-none (components.Count state) held level is ready = ready
 told-none (components.Select state) held level is ready = ready
-told-none (components.Update component) held level is ready = ready
+told-none (components.Update state) held level is ready = ready
 
 -- what a component of a kind comes to is of that kind
 kind-stays : {K : Type 0} (within : K → Std) → ((component : K) → is_balance (within component) ≡ false) → (outcome : Outcome K) → is_balance (component_after (outcome_as within outcome)) ≡ false
@@ -63,7 +63,7 @@ next-stays (components.Unbundle component) held answer is = kind-stays component
 next-stays (components.Hoard component) held answer is = kind-stays components.Hoard (λ k. refl) (hoard_kind.next component held answer)
 next-stays (components.Count state) held answer is = kind-stays components.Count (λ k. refl) (count_kind.next state held answer)
 next-stays (components.Select state) held answer is = kind-stays components.Select (λ k. refl) (select_kind.next state held answer)
-next-stays (components.Update component) held answer is = kind-stays components.Update (λ k. refl) (update_kind.next component held answer)
+next-stays (components.Update state) held answer is = kind-stays components.Update (λ k. refl) (update_kind.next state held answer)
 
 only-balances : OnlyTheseAsk StdReady StdNext is_balance
 only-balances = record {

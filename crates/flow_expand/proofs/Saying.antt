@@ -105,30 +105,30 @@ module _ (text : NetText) (kinds : List KindSpec) (list : List (List ℕ × List
   subnets_stop NoMemory mid new first told = tt
 
 -- The texts of a valid part are short.
-short_one : (s : Statement) → IsStatement s → IsShort s
-short_one (Connect from out capacity to into) is = tt
-short_one (Initial text to into) is = is.0.1
-short_one (InPort outer to into) is = tt
-short_one (OutPort from out outer) is = tt
+short_one : (version : ℕ) (s : Statement) → IsStatement version s → IsShort s
+short_one version (Connect from out capacity to into) is = tt
+short_one version (Initial text to into) is = is.0.1
+short_one version (InPort outer to into) is = tt
+short_one version (OutPort from out outer) is = tt
 
-short_all : (ss : List Statement) → AllByRecursion IsStatement ss → All IsShort ss
-short_all [] is = All-nil IsShort
-short_all (s ∷ ss) is = All-cons IsShort s ss (short_one s is.0) (short_all ss is.1)
+short_all : (version : ℕ) (ss : List Statement) → AllByRecursion (IsStatement version) ss → All IsShort ss
+short_all version [] is = All-nil IsShort
+short_all version (s ∷ ss) is = All-cons IsShort s ss (short_one version s is.0) (short_all version ss is.1)
 
 -- The texts of the main part of a value are within their limit.
 pub short_main : (text : NetText) → IsNetText text → HasShortTexts text.main
-short_main text valid = short_all text.main.statements valid.main.said
+short_main text valid = short_all text.version text.main.statements valid.main.said
 
-short_found : (subnets : List (List ℕ × NetPart)) (name : List ℕ) (part : NetPart) → AllByRecursion (λ (s : List ℕ × NetPart). IsName s.0 × IsNetPart s.1) subnets → option_map (λ (s : List ℕ × NetPart). s.1) (find (λ (s : List ℕ × NetPart). bytes_eq s.0 name) subnets) ≡ Some part → HasShortTexts part
-short_found [] name part all is = absurd (cc)
-short_found (s ∷ ss) name part all is = by (λ there. short_found ss name part all.1 there) (bytes_eq s.0 name) is where
+short_found : (version : ℕ) (subnets : List (List ℕ × NetPart)) (name : List ℕ) (part : NetPart) → AllByRecursion (λ (s : List ℕ × NetPart). IsName s.0 × IsNetPart version s.1) subnets → option_map (λ (s : List ℕ × NetPart). s.1) (find (λ (s : List ℕ × NetPart). bytes_eq s.0 name) subnets) ≡ Some part → HasShortTexts part
+short_found version [] name part all is = absurd (cc)
+short_found version (s ∷ ss) name part all is = by (λ there. short_found version ss name part all.1 there) (bytes_eq s.0 name) is where
   by : (option_map (λ (s : List ℕ × NetPart). s.1) (find (λ (s : List ℕ × NetPart). bytes_eq s.0 name) ss) ≡ Some part → HasShortTexts part) → (b : Bool) → option_map (λ (s : List ℕ × NetPart). s.1) (cond b (Some s) (find (λ (s : List ℕ × NetPart). bytes_eq s.0 name) ss)) ≡ Some part → HasShortTexts part
-  by more true is = let same : s.1 ≡ part = cc in subst HasShortTexts same (short_all s.1.statements all.0.1.said)
+  by more true is = let same : s.1 ≡ part = cc in subst HasShortTexts same (short_all version s.1.statements all.0.1.said)
   by more false is = more is
 
 -- So are those of its subnets.
 pub short_subnets : (text : NetText) → IsNetText text → HasShortSubnets text
-short_subnets text valid name part is = short_found text.subnets name part valid.subnets is
+short_subnets text valid name part is = short_found text.version text.subnets name part valid.subnets is
 
 -- What a text comes to is the one answer.
 pub only : (kinds : List KindSpec) (text : NetText) (result : Result Network ExpandStop) (outcome : Result Network ExpandFault) → Gives result (λ found. TextComesTo kinds text found) → TextComesTo kinds text outcome → Gives result (λ found. found ≡ outcome)

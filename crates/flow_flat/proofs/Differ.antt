@@ -146,17 +146,17 @@ module _ (text : NetText) where
       (others n prefix inside name ps named.1 apart.1)
 
   module _ (valid : IsNetText text) where
-    found_valid : (subnets : List (List ℕ × NetPart)) (name : List ℕ) (part : NetPart) → AllByRecursion (λ (s : List ℕ × NetPart). IsName s.0 × IsNetPart s.1) subnets → option_map (λ (s : List ℕ × NetPart). s.1) (find (λ (s : List ℕ × NetPart). bytes_eq s.0 name) subnets) ≡ Some part → IsNetPart part
+    found_valid : (subnets : List (List ℕ × NetPart)) (name : List ℕ) (part : NetPart) → AllByRecursion (λ (s : List ℕ × NetPart). IsName s.0 × IsNetPart text.version s.1) subnets → option_map (λ (s : List ℕ × NetPart). s.1) (find (λ (s : List ℕ × NetPart). bytes_eq s.0 name) subnets) ≡ Some part → IsNetPart text.version part
     found_valid [] name part all is = absurd (cc)
     found_valid (s ∷ ss) name part all is = by (λ there. found_valid ss name part all.1 there) (bytes_eq s.0 name) is where
-      by : (option_map (λ (s : List ℕ × NetPart). s.1) (find (λ (s : List ℕ × NetPart). bytes_eq s.0 name) ss) ≡ Some part → IsNetPart part) → (b : Bool) → option_map (λ (s : List ℕ × NetPart). s.1) (cond b (Some s) (find (λ (s : List ℕ × NetPart). bytes_eq s.0 name) ss)) ≡ Some part → IsNetPart part
-      by more true is = let same : s.1 ≡ part = cc in subst IsNetPart same all.0.1
+      by : (option_map (λ (s : List ℕ × NetPart). s.1) (find (λ (s : List ℕ × NetPart). bytes_eq s.0 name) ss) ≡ Some part → IsNetPart text.version part) → (b : Bool) → option_map (λ (s : List ℕ × NetPart). s.1) (cond b (Some s) (find (λ (s : List ℕ × NetPart). bytes_eq s.0 name) ss)) ≡ Some part → IsNetPart text.version part
+      by more true is = let same : s.1 ≡ part = cc in subst (IsNetPart text.version) same all.0.1
       by more false is = more is
 
-    instances_differ : (n : ℕ) (prefix : List ℕ) (inside : List (List ℕ)) (part : NetPart) → IsNetPart part → AllDiffer (instances text n prefix inside part)
+    instances_differ : (n : ℕ) (prefix : List ℕ) (inside : List (List ℕ)) (part : NetPart) → IsNetPart text.version part → AllDiffer (instances text n prefix inside part)
     instances_differ zero prefix inside part is = tt
     instances_differ (suc n) prefix inside part is = over part.processes is.named is.differ (λ x. by (subnet_called text x.1) x.0 x.1 refl (λ p sound. instances_differ n (within prefix x.0) (x.1 ∷ inside) p sound)) where
-      by : (o : Option NetPart) (name kind : List ℕ) → subnet_called text kind ≡ o → ((p : NetPart) → IsNetPart p → AllDiffer (instances text n (within prefix name) (kind ∷ inside) p)) → AllDiffer (option_map_or (instances text n (within prefix name) (kind ∷ inside)) o [])
+      by : (o : Option NetPart) (name kind : List ℕ) → subnet_called text kind ≡ o → ((p : NetPart) → IsNetPart text.version p → AllDiffer (instances text n (within prefix name) (kind ∷ inside) p)) → AllDiffer (option_map_or (instances text n (within prefix name) (kind ∷ inside)) o [])
       by None name kind is more = tt
       by (Some p) name kind is more = more p (found_valid text.subnets kind p valid.subnets is)
 

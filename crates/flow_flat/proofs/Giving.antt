@@ -1,7 +1,7 @@
 -- The next text: a draft that agrees with a text takes it where the text does, and agrees with it afterwards.
 use Rattle.flow_limits.specs.declared.TheConstants.{TEXT_LIMIT}
 use Rattle.std.proofs.Common.{◌≡◌, ◌≢◌, ℕ, Bool, true, false, List, [], ◌∷◌, ◌++◌, map, length, zero, suc, ◌≤◌, Option, Some, None, Ok, Err, IsSome, refl, ap, sym, subst, ◌∙◌, ◌⊎◌, inl, inr, slice_get}
-use Rattle.std.specs.Prelude.{◌==◌, ◌||◌, if◌then◌else◌}
+use Rattle.std.specs.Prelude.{◌==◌, ◌||◌, not, if◌then◌else◌}
 use Rattle.std.specs.Option.{option_map}
 use Rattle.std.specs.declared.result.Result.{Result}
 use Rattle.std.proofs.lemmas.List.{append-nil}
@@ -12,11 +12,11 @@ use Rattle.flow_net.specs.declared.draft.Binding.TheVariants.{Given}
 use Rattle.flow_net.specs.declared.draft.DraftPort.{DraftPort}
 use Rattle.flow_net.specs.declared.draft.DraftProcess.{DraftProcess}
 use Rattle.flow_net.specs.declared.fault.PlanFault.{PlanFault}
-use Rattle.flow_net.specs.declared.fault.PlanFault.TheVariants.{PortTaken, BadOption}
+use Rattle.flow_net.specs.declared.fault.PlanFault.TheVariants.{PortUnknown, PortTaken, BadOption}
 use Rattle.flow_plan.specs.declared.kind.KindSpec.{KindSpec}
 use Rattle.flow_plan.specs.declared.kind.PortRef.{PortRef}
 use Rattle.flow_net.specs.Drafts.{Draft, ◌>>=◌, refused_if, binding_at, updated}
-use Rattle.flow_net.specs.Calls.{process_of_name, end_of_port, input_for, is_taken, given as gives, with_text, process_at, next_text}
+use Rattle.flow_net.specs.Calls.{process_of_name, end_of_port, input_for, is_taken, given as gives, with_text, process_at, next_text, takes_text}
 use Rattle.flow_net.specs.Options.{FitsPort}
 use Rattle.flow_net.proofs.Ends.{bind_ok, ok_or_ok, eqb_true, IsThere, IsThere-named}
 use Rattle.flow_net.proofs.Places.{same_or_not, slice_get-updated_same, slice_get-updated_other}
@@ -26,8 +26,8 @@ use Rattle.flow_net.proofs.Bindings.{bound-keeps}
 use Rattle.flow_net.proofs.Wiring.{slice_get-push_cases}
 use Rattle.flow_net.proofs.Steps.{map_some}
 use Rattle.flow_flat.specs.Names.{PortAt, Join, text_end}
-use Rattle.flow_flat.specs.Faults.{receives, has_text, text_test, FitsAt, TextTest}
-use Rattle.flow_flat.proofs.Lookups.{bare, called, input_is}
+use Rattle.flow_flat.specs.Faults.{receives, has_text, is_textual, text_test, FitsAt, TextTest}
+use Rattle.flow_flat.proofs.Lookups.{bare, called, input_is, textual_is}
 use Rattle.flow_flat.proofs.Agrees.{Agrees, owner, texts_at, owner_is}
 use Rattle.flow_flat.proofs.Joining.{input_taken, bare_bound}
 
@@ -63,8 +63,9 @@ fits_back ports at g text same fits = by (slice_get ports g) (subst (λ (o : Opt
 -- A text that passes its test has an input to go to.
 pub text_test_end : (ps : List (List ℕ × List ℕ)) (at : List PortAt) (joins : List Join) (given : List (End × List ℕ)) (to : List ℕ) (into : PortRef) (input : End) → text_test ps at joins given to into ≡ Ok input → text_end ps at to into ≡ Ok input
 text_test_end ps at joins given to into input is =
-    let end = bind_ok (text_end ps at to into) (λ input. refused_if (receives joins input || has_text given input) (PortTaken to into) >>= λ free. Ok input) input is in
-    let free = bind_ok (refused_if (receives joins end.0 || has_text given end.0) (PortTaken to into)) (λ free. Ok end.0) input end.2 in
+    let end = bind_ok (text_end ps at to into) (λ input. refused_if (not (is_textual at input)) (PortUnknown to into) >>= λ textual. refused_if (receives joins input || has_text given input) (PortTaken to into) >>= λ free. Ok input) input is in
+    let textual = bind_ok (refused_if (not (is_textual at end.0)) (PortUnknown to into)) (λ textual. refused_if (receives joins end.0 || has_text given end.0) (PortTaken to into) >>= λ free. Ok end.0) input end.2 in
+    let free = bind_ok (refused_if (receives joins end.0 || has_text given end.0) (PortTaken to into)) (λ free. Ok end.0) input textual.2 in
     let same : end.0 ≡ input = cc (free.2) in
     end.1 ∙ ap Ok same
 
@@ -77,12 +78,12 @@ module _ (table : List KindSpec) (ps : List (List ℕ × List ℕ)) (at : List P
   text_alike to into =
       outer (process_of_name draft.processes to) ∙ sym (reassociate (process_of_name draft.processes to) (λ receiver. end_of_port draft.ports receiver true to into) (taken draft.ports))
       ∙ by (process_of_name draft.processes to >>= λ receiver. end_of_port draft.ports receiver true to into) refl
-      ∙ ap (λ (r : Result End PlanFault). r >>= λ input. refused_if (receives joins input || has_text given input) (PortTaken to into) >>= λ free. Ok input) (input_alike to into)
+      ∙ ap (λ (r : Result End PlanFault). r >>= λ input. refused_if (not (is_textual at input)) (PortUnknown to into) >>= λ textual. refused_if (receives joins input || has_text given input) (PortTaken to into) >>= λ free. Ok input) (input_alike to into)
     where
       taken : List DraftPort → End → Result End PlanFault
-      taken ports input = refused_if (is_taken (binding_at ports input)) (PortTaken to into) >>= λ unbound. Ok input
+      taken ports input = refused_if (not (takes_text ports input)) (PortUnknown to into) >>= λ textual. refused_if (is_taken (binding_at ports input)) (PortTaken to into) >>= λ unbound. Ok input
 
-      outer : (m : Result ℕ PlanFault) → ◌≡◌ {A = Result End PlanFault} (m >>= λ receiver. end_of_port draft.ports receiver true to into >>= λ input. refused_if (is_taken (binding_at draft.ports input)) (PortTaken to into) >>= λ unbound. Ok input)
+      outer : (m : Result ℕ PlanFault) → ◌≡◌ {A = Result End PlanFault} (m >>= λ receiver. end_of_port draft.ports receiver true to into >>= λ input. refused_if (not (takes_text draft.ports input)) (PortUnknown to into) >>= λ textual. refused_if (is_taken (binding_at draft.ports input)) (PortTaken to into) >>= λ unbound. Ok input)
           (m >>= λ receiver. end_of_port draft.ports receiver true to into >>= taken draft.ports)
       outer (Ok r) = refl
       outer (Err fault) = refl
@@ -93,11 +94,12 @@ module _ (table : List KindSpec) (ps : List (List ℕ × List ℕ)) (at : List P
           (receiver.0, IsThere-named draft.ports (length draft.processes) receiver.0 true into input agrees.sound.ports (ok_or_ok _ _ input receiver.2))
 
       by : (r : Result End PlanFault) → (process_of_name draft.processes to >>= λ receiver. end_of_port draft.ports receiver true to into) ≡ r
-          → (r >>= taken draft.ports) ≡ (r >>= λ input. refused_if (receives joins input || has_text given input) (PortTaken to into) >>= λ free. Ok input)
+          → (r >>= taken draft.ports) ≡ (r >>= λ input. refused_if (not (is_textual at input)) (PortUnknown to into) >>= λ textual. refused_if (receives joins input || has_text given input) (PortTaken to into) >>= λ free. Ok input)
       by (Err fault) is = refl
       by (Ok input) is =
           let found = there input is in
-          ap (λ (b : Bool). let end : Result End PlanFault = refused_if b (PortTaken to into) >>= λ free. Ok input in end) (input_taken table ps at joins given draft agrees input found.1.side found.1.bound)
+          ap (λ (t : Bool). let end : Result End PlanFault = refused_if (not t) (PortUnknown to into) >>= λ textual. refused_if (is_taken (binding_at draft.ports input)) (PortTaken to into) >>= λ unbound. Ok input in end) (textual_is draft.ports input ∙ ap (λ (l : List PortAt). is_textual l input) agrees.ports)
+          ∙ ap (λ (b : Bool). let end : Result End PlanFault = refused_if (not (is_textual at input)) (PortUnknown to into) >>= λ textual. refused_if b (PortTaken to into) >>= λ free. Ok input in end) (input_taken table ps at joins given draft agrees input found.1.side found.1.bound)
 
   -- A text that a draft takes, the text takes.
   pub takes : (text to : List ℕ) (into : PortRef) (input : End) → input_for draft.processes draft.ports to into ≡ Ok input → FitsPort (slice_get draft.ports input.port) text → TextTest ps at joins given text to into (Ok tt)

@@ -15,9 +15,9 @@ use Rattle.flow_net.specs.declared.fault.PlanFault.TheVariants.{UnknownProcess, 
 use Rattle.flow_plan.specs.declared.kind.PortRef.{PortRef}
 use Rattle.flow_net.specs.Drafts.{◌>>=◌, process_named, port_named, element_named, is_stream_at, is_stream_port}
 use Rattle.flow_plan.specs.Network.{is_stream}
-use Rattle.flow_net.specs.Calls.{end_at, end_named, end_of_port, process_of_name, ends_of}
+use Rattle.flow_net.specs.Calls.{end_at, end_named, end_of_port, process_of_name, ends_of, takes_text}
 use Rattle.flow_flat.specs.Names.{PortAt, process_called, is_on, port_called, element_at, end_called, join_ends, text_end}
-use Rattle.flow_flat.specs.Faults.{is_stream_end}
+use Rattle.flow_flat.specs.Faults.{is_stream_end, is_textual}
 
 -- A port without what its elements are bound to.
 abbrev pub bare : DraftPort → PortAt
@@ -91,5 +91,13 @@ pub stream_is : (ports : List DraftPort) (end : End) → is_stream_at ports end 
 stream_is ports end = by (slice_get ports end.port) ∙ ap (λ (o : Option PortAt). option_map_or (λ (port : PortAt). is_stream port.spec.class) o false) (sym (slice_get-map bare ports end.port))
   where
     by : (o : Option DraftPort) → is_stream_port o ≡ option_map_or (λ (port : PortAt). is_stream port.spec.class) (option_map bare o) false
+    by None = refl
+    by (Some port) = refl
+
+-- An element takes texts with its bindings and without.
+pub textual_is : (ports : List DraftPort) (end : End) → takes_text ports end ≡ is_textual (map bare ports) end
+textual_is ports end = by (slice_get ports end.port) ∙ ap (λ (o : Option PortAt). option_map_or (λ (port : PortAt). port.spec.needed) o false) (sym (slice_get-map bare ports end.port))
+  where
+    by : (o : Option DraftPort) → option_map_or (λ (port : DraftPort). port.spec.needed) o false ≡ option_map_or (λ (port : PortAt). port.spec.needed) (option_map bare o) false
     by None = refl
     by (Some port) = refl

@@ -17,6 +17,7 @@ use Rattle.flow_plan.specs.declared.kind.KindSpec.{KindSpec}
 use Rattle.flow_plan.specs.declared.kind.PortSpec.{PortSpec}
 use Rattle.flow_net.specs.Drafts.{Draft, ◌>>=◌, refused_if, process_named}
 use Rattle.flow_net.specs.Calls.{kind_named, kind_for, fresh_ports, begun_as, with_process, after_process}
+use Rattle.flow_net.specs.Kinds.{all_inputs, all_outputs}
 use Rattle.flow_net.specs.Over.{carries}
 use Rattle.flow_net.proofs.Ends.{bind_ok}
 use Rattle.flow_net.proofs.SoundBegins.{IsSound-begun}
@@ -104,12 +105,12 @@ module _ (kinds : List KindSpec) where
           by b is true_is = grind (arith, bytes_eq-Decides, is, true_is)
 
         fresh : List DraftPort
-        fresh = fresh_ports n true 0 spec.inputs ++ fresh_ports n false 0 spec.outputs
+        fresh = fresh_ports n true 0 (all_inputs spec.inputs) ++ fresh_ports n false 0 (all_outputs spec.outputs)
 
         fresh_is : map bare fresh ≡ ports_of_kind n (Some spec)
-        fresh_is = map-append bare (fresh_ports n true 0 spec.inputs) (fresh_ports n false 0 spec.outputs)
-            ∙ ap (λ (l : List PortAt). l ++ map bare (fresh_ports n false 0 spec.outputs)) (bare_inputs n 0 spec.inputs)
-            ∙ ap (λ (l : List PortAt). side_from n true 0 spec.inputs ++ l) (bare_outputs n 0 spec.outputs)
+        fresh_is = map-append bare (fresh_ports n true 0 (all_inputs spec.inputs)) (fresh_ports n false 0 (all_outputs spec.outputs))
+            ∙ ap (λ (l : List PortAt). l ++ map bare (fresh_ports n false 0 (all_outputs spec.outputs))) (bare_inputs n 0 (all_inputs spec.inputs))
+            ∙ ap (λ (l : List PortAt). side_from n true 0 (all_inputs spec.inputs) ++ l) (bare_outputs n 0 (all_outputs spec.outputs))
 
         ports : map bare (draft.ports ++ fresh) ≡ text_ports kinds (before ++ x ∷ [])
         ports = map-append bare draft.ports fresh ∙ ap (λ (l : List PortAt). l ++ map bare fresh) names.ports

@@ -1,5 +1,5 @@
 -- The plan of a draft is the plan of the text that it agrees with.
-use Rattle.std.proofs.Common.{◌≡◌, ℕ, ◌+◌, Bool, true, false, List, [], ◌∷◌, map, take, suc, Option, Some, None, refl, ap, sym, ◌∙◌, slice_get, arith}
+use Rattle.std.proofs.Common.{◌≡◌, ℕ, ◌+◌, ◌-◌, Bool, true, false, List, [], ◌∷◌, map, take, suc, Option, Some, None, refl, ap, sym, ◌∙◌, slice_get, arith}
 use Rattle.std.specs.Prelude.{◌==◌, ◌&&◌, not, if◌then◌else◌, unwrap_or}
 use Rattle.std.specs.List.{filter, filter_map, cons_option, sum_by}
 use Rattle.std.specs.Option.{option_map, option_map_or}
@@ -9,6 +9,7 @@ use Rattle.std.proofs.lemmas.List.{take-map}
 use Rattle.flow_net.specs.declared.draft.End.{End}
 use Rattle.flow_net.specs.declared.draft.DraftProcess.{DraftProcess}
 use Rattle.flow_net.specs.declared.draft.DraftPort.{DraftPort}
+use Rattle.flow_net.specs.Finishes.{front}
 use Rattle.flow_plan.specs.declared.kind.KindSpec.{KindSpec}
 use Rattle.flow_plan.specs.declared.plan.Sender.{Sender}
 use Rattle.flow_plan.specs.declared.plan.Process.{Process}
@@ -128,12 +129,12 @@ module _ (ports : List DraftPort) where
 
   process_is_view : (p : ℕ) (texts : List (End × List ℕ)) (b : DraftProcess) → b.number ≡ p → b.texts ≡ texts_at (map bare ports) texts p → finishes.process_of ports b ≡ process_of (map view ports) texts p (called b)
   process_is_view p texts b number held =
-      ap (λ (l : List (End × List ℕ)). let x : Process = record { name = b.name; kind = b.kind; options = finishes.options_of ports l; initials = finishes.initials_of ports l; inputs = finishes.total_of ports b.number true; outputs = finishes.total_of ports b.number false } in x) held
-      ∙ ap (λ (n : ℕ). let x : Process = record { name = b.name; kind = b.kind; options = finishes.options_of ports (texts_at (map bare ports) texts p); initials = finishes.initials_of ports (texts_at (map bare ports) texts p); inputs = finishes.total_of ports n true; outputs = finishes.total_of ports n false } in x) number
-      ∙ ap (λ (l : List (ℕ × List ℕ)). let x : Process = record { name = b.name; kind = b.kind; options = l; initials = finishes.initials_of ports (texts_at (map bare ports) texts p); inputs = finishes.total_of ports p true; outputs = finishes.total_of ports p false } in x) (options_view p texts)
-      ∙ ap (λ (l : List (ℕ × List ℕ)). let x : Process = record { name = b.name; kind = b.kind; options = filter_map (option_of (map view ports) p) texts; initials = l; inputs = finishes.total_of ports p true; outputs = finishes.total_of ports p false } in x) (initials_view p texts)
-      ∙ ap (λ (n : ℕ). let x : Process = record { name = b.name; kind = b.kind; options = filter_map (option_of (map view ports) p) texts; initials = filter_map (initial_of (map view ports) p) texts; inputs = n; outputs = finishes.total_of ports p false } in x) (total_view p true)
-      ∙ ap (λ (n : ℕ). let x : Process = record { name = b.name; kind = b.kind; options = filter_map (option_of (map view ports) p) texts; initials = filter_map (initial_of (map view ports) p) texts; inputs = sum_by (numbers p true) (map view ports); outputs = n } in x) (total_view p false)
+      ap (λ (l : List (End × List ℕ)). let x : Process = record { name = b.name; kind = b.kind; options = finishes.options_of ports l; initials = finishes.initials_of ports l; inputs = finishes.total_of ports b.number true - 1; outputs = finishes.total_of ports b.number false - 1 } in x) held
+      ∙ ap (λ (n : ℕ). let x : Process = record { name = b.name; kind = b.kind; options = finishes.options_of ports (texts_at (map bare ports) texts p); initials = finishes.initials_of ports (texts_at (map bare ports) texts p); inputs = finishes.total_of ports n true - 1; outputs = finishes.total_of ports n false - 1 } in x) number
+      ∙ ap (λ (l : List (ℕ × List ℕ)). let x : Process = record { name = b.name; kind = b.kind; options = l; initials = finishes.initials_of ports (texts_at (map bare ports) texts p); inputs = finishes.total_of ports p true - 1; outputs = finishes.total_of ports p false - 1 } in x) (options_view p texts)
+      ∙ ap (λ (l : List (ℕ × List ℕ)). let x : Process = record { name = b.name; kind = b.kind; options = filter_map (option_of (map view ports) p) texts; initials = l; inputs = finishes.total_of ports p true - 1; outputs = finishes.total_of ports p false - 1 } in x) (initials_view p texts)
+      ∙ ap (λ (n : ℕ). let x : Process = record { name = b.name; kind = b.kind; options = filter_map (option_of (map view ports) p) texts; initials = filter_map (initial_of (map view ports) p) texts; inputs = n - 1; outputs = finishes.total_of ports p false - 1 } in x) (total_view p true)
+      ∙ ap (λ (n : ℕ). let x : Process = record { name = b.name; kind = b.kind; options = filter_map (option_of (map view ports) p) texts; initials = filter_map (initial_of (map view ports) p) texts; inputs = sum_by (numbers p true) (map view ports) - 1; outputs = n - 1 } in x) (total_view p false)
 
   processes_view : (p : ℕ) (texts : List (End × List ℕ)) (bs : List DraftProcess) → ((k : ℕ) (b : DraftProcess) → slice_get bs k ≡ Some b → (b.number ≡ p + k) × (b.texts ≡ texts_at (map bare ports) texts (p + k)))
       → map (finishes.process_of ports) bs ≡ processes_from (map view ports) texts p (map called bs)
@@ -160,9 +161,9 @@ module _ (ports : List DraftPort) where
   tables_view p (b ∷ bs) each =
       let number : b.number ≡ p = each 0 b refl ∙ omega arith in
       ap (λ (n : ℕ). finishes.table_of ports (record b { number = n }) ∷ map (finishes.table_of ports) bs) number
-      ∙ ap (λ (l : List PortRow). let t : PortTable = record { inputs = l; outputs = finishes.rows_of ports p false } in t ∷ map (finishes.table_of ports) bs) (rows_view p true ports)
-      ∙ ap (λ (l : List PortRow). let t : PortTable = record { inputs = rows_of (map view ports) p true; outputs = l } in t ∷ map (finishes.table_of ports) bs) (rows_view p false ports)
-      ∙ ap (λ (l : List PortTable). let t : PortTable = record { inputs = rows_of (map view ports) p true; outputs = rows_of (map view ports) p false } in t ∷ l) (tables_view (p + 1) bs (λ k c is. each (suc k) c is ∙ shift k))
+      ∙ ap (λ (l : List PortRow). let t : PortTable = record { inputs = front l; outputs = front (finishes.rows_of ports p false) } in t ∷ map (finishes.table_of ports) bs) (rows_view p true ports)
+      ∙ ap (λ (l : List PortRow). let t : PortTable = record { inputs = front (rows_of (map view ports) p true); outputs = front l } in t ∷ map (finishes.table_of ports) bs) (rows_view p false ports)
+      ∙ ap (λ (l : List PortTable). let t : PortTable = record { inputs = front (rows_of (map view ports) p true); outputs = front (rows_of (map view ports) p false) } in t ∷ l) (tables_view (p + 1) bs (λ k c is. each (suc k) c is ∙ shift k))
     where
       shift : (k : ℕ) → p + suc k ≡ (p + 1) + k
       shift k = omega arith

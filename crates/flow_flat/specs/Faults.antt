@@ -7,7 +7,7 @@ use Rattle.std.specs.List.{list_any, range_with_len, sum_by}
 use Rattle.flow_net.specs.declared.draft.End.{End}
 use Rattle.flow_net.specs.declared.fault.Many.TheVariants as many
 use Rattle.flow_net.specs.declared.fault.PlanFault.{PlanFault}
-use Rattle.flow_net.specs.declared.fault.PlanFault.TheVariants.{SameName, UnknownKind, NeedsInitial, PortTaken, BadOption, PortMissing, ElementGap, TooMany}
+use Rattle.flow_net.specs.declared.fault.PlanFault.TheVariants.{SameName, UnknownKind, NeedsInitial, PortUnknown, PortTaken, BadOption, PortMissing, ElementGap, TooMany}
 use Rattle.flow_plan.specs.declared.kind.KindSpec.{KindSpec}
 use Rattle.flow_plan.specs.declared.kind.PortRef.{PortRef}
 use Rattle.flow_plan.specs.declared.plan.Connection.{Connection}
@@ -59,10 +59,15 @@ join_test ports joins texts from out capacity to into ends = do
   agreed ← same_capacity (capacity_given (joins_into joins ends.1)) capacity
   refused_if (is_full joins ends.1) (TooMany many.Connections)
 
--- The input that a text is for: it is there and takes nothing yet.
+-- An input takes texts where it is needed: the automatic one isn't, and takes none.
+abbrev pub is_textual : List PortAt → End → Bool
+is_textual ports end = option_map_or (λ (port : PortAt). port.spec.needed) (slice_get ports end.port) false
+
+-- The input that a text is for: it is there, takes texts, and takes nothing yet.
 abbrev pub text_test : List (List ℕ × List ℕ) → List PortAt → List Join → List (End × List ℕ) → List ℕ → PortRef → Result End PlanFault
 text_test processes ports joins texts to into = do
   input ← text_end processes ports to into
+  textual ← refused_if (not (is_textual ports input)) (PortUnknown to into)
   free ← refused_if (receives joins input || has_text texts input) (PortTaken to into)
   Ok input
 

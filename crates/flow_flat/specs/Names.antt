@@ -12,6 +12,7 @@ use Rattle.flow_plan.specs.declared.kind.PortSpec.{PortSpec}
 use Rattle.flow_plan.specs.declared.kind.PortRef.{PortRef}
 use Rattle.flow_net.specs.Drafts.{◌>>=◌, same, element_named}
 use Rattle.flow_net.specs.Calls.{kind_named}
+use Rattle.flow_net.specs.Kinds.{all_inputs, all_outputs}
 use Rattle.flow_net.specs.Over.{carries}
 use Rattle.flow_parse.specs.declared.value.Statement.{Statement}
 use Rattle.flow_parse.specs.declared.value.Statement.TheVariants.{Connect, Initial, InPort, OutPort}
@@ -28,10 +29,10 @@ abbrev pub side_from : ℕ → Bool → ℕ → List PortSpec → List PortAt
 side_from p input place [] = []
 side_from p input place (spec ∷ specs) = record { process = p; input = input; place = place; spec = spec } ∷ side_from p input (place + 1) specs
 
--- The ports of a process: the inputs and then the outputs of its kind. An output carries packets.
+-- The ports of a process: the inputs and then the outputs of its kind, each with the automatic one behind them. An output carries packets.
 abbrev pub ports_of_kind : ℕ → Option KindSpec → List PortAt
 ports_of_kind p None = []
-ports_of_kind p (Some kind) = side_from p true 0 kind.inputs ++ side_from p false 0 (map carries kind.outputs)
+ports_of_kind p (Some kind) = side_from p true 0 (all_inputs kind.inputs) ++ side_from p false 0 (map carries (all_outputs kind.outputs))
 
 -- The ports of processes, of which the first has this number.
 abbrev pub ports_from : List KindSpec → ℕ → List (List ℕ × List ℕ) → List PortAt

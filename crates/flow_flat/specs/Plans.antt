@@ -1,5 +1,5 @@
 -- The plan of a flat text.
-use Rattle.std.specs.Prelude.{ℕ, ◌+◌, ◌==◌, ◌&&◌, max, not, if◌then◌else◌, Bool, true, false, List, [], ◌∷◌, ◌++◌, map, take, Option, Some, None, slice_get, unwrap_or}
+use Rattle.std.specs.Prelude.{ℕ, ◌+◌, ◌-◌, ◌==◌, ◌&&◌, max, not, if◌then◌else◌, Bool, true, false, List, [], ◌∷◌, ◌++◌, map, take, Option, Some, None, slice_get, unwrap_or}
 use Rattle.std.specs.List.{filter, filter_map, sum_by}
 use Rattle.std.specs.Option.{option_map_or}
 use Rattle.flow_net.specs.declared.draft.End.{End}
@@ -11,6 +11,7 @@ use Rattle.flow_plan.specs.declared.plan.PortRow.{PortRow}
 use Rattle.flow_plan.specs.declared.plan.PortTable.{PortTable}
 use Rattle.flow_plan.specs.Network.{Network, is_stream}
 use Rattle.flow_net.specs.Calls.{first_given}
+use Rattle.flow_net.specs.Finishes.{front}
 use Rattle.flow_parse.specs.declared.value.NetPart.{NetPart}
 use Rattle.flow_flat.specs.Names.{PortAt, Join, text_ports, is_on, joins_of, texts_of}
 
@@ -100,15 +101,15 @@ option_of ports p t = if (process_at ports t.0 == p) && not (carries_at ports t.
 abbrev pub initial_of : List Sized → ℕ → End × List ℕ → Option (ℕ × List ℕ)
 initial_of ports p t = if (process_at ports t.0 == p) && carries_at ports t.0 then Some (number_of ports t.0, t.1) else None
 
--- A process of the plan.
+-- A process of the plan: its automatic ports are no inputs and outputs of its own.
 abbrev pub process_of : List Sized → List (End × List ℕ) → ℕ → List ℕ × List ℕ → Process
 process_of ports texts p x = record {
   name = x.0;
   kind = x.1;
   options = filter_map (option_of ports p) texts;
   initials = filter_map (initial_of ports p) texts;
-  inputs = sum_by (numbers p true) ports;
-  outputs = sum_by (numbers p false) ports;
+  inputs = sum_by (numbers p true) ports - 1;
+  outputs = sum_by (numbers p false) ports - 1;
 }
 
 -- The processes of the plan, the first of them number p.
@@ -120,10 +121,10 @@ processes_from ports texts p (x ∷ xs) = process_of ports texts p x ∷ process
 abbrev pub rows_of : List Sized → ℕ → Bool → List PortRow
 rows_of ports p input = map (λ (x : Sized). record { spec = x.port.spec; elements = x.elements }) (filter (λ (x : Sized). is_on p input x.port) ports)
 
--- The tables of ports of the processes, the first of them number p.
+-- The tables of ports of the processes, without the automatic ones, the first of them number p.
 abbrev pub tables_from : List Sized → ℕ → List (List ℕ × List ℕ) → List PortTable
 tables_from ports p [] = []
-tables_from ports p (x ∷ xs) = record { inputs = rows_of ports p true; outputs = rows_of ports p false } ∷ tables_from ports (p + 1) xs
+tables_from ports p (x ∷ xs) = record { inputs = front (rows_of ports p true); outputs = front (rows_of ports p false) } ∷ tables_from ports (p + 1) xs
 
 -- The network of these processes, with these ports, connect statements and texts.
 abbrev pub network_of : List (List ℕ × List ℕ) → List Sized → List Join → List (End × List ℕ) → Network

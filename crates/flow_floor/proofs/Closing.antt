@@ -104,7 +104,7 @@ module _ {K : Type 0} (shape_of : K → Shape) (uses : K → ℕ → Bool) (read
       same-lists (map body_wires now.bodies) (map body_wires start.bodies) (length-map now.bodies body_wires ∙ sizes.0 ∙ sym (length-map start.bodies body_wires)) (λ i y is.
       (let b0 = map-found body_wires start.bodies i y is in
       let b = get-exists now.bodies i (omega (arith, get-within start.bodies i b0.0 b0.1, sizes.0)) in
-      let same : body_wires b.0 ≡ body_wires b0.0 = (λ k. record { inputs = wired.inputs i b.0 b0.0 b.1 b0.1 k; outputs = wired.outputs i b.0 b0.0 b.1 b0.1 k }) in
+      let same : body_wires b.0 ≡ body_wires b0.0 = (λ k. record { inputs = wired.inputs i b.0 b0.0 b.1 b0.1 k; outputs = wired.outputs i b.0 b0.0 b.1 b0.1 k; signal = wired.signal i b.0 b0.0 b.1 b0.1 k }) in
       get-map body_wires now.bodies i b.0 b.1 ∙ ap (λ (w : Wires). Some w) (same ∙ b0.2))) in
       let capacities_same : map capacity_of now.channels ≡ map capacity_of start.channels =
       same-lists (map capacity_of now.channels) (map capacity_of start.channels) (length-map now.channels capacity_of ∙ sizes.1 ∙ sym (length-map start.channels capacity_of)) (λ i y is.

@@ -90,7 +90,7 @@ module _ {K : Type 0} (shape_of : K → Shape) (uses : K → ℕ → Bool) (read
       each_seat = λ j v e. subst (λ (u : View K). Knows (λ _. None) (λ _. None) start P (turns_made start) [] [] j u) (one j v e) (record { holds = tt; grabs = tt; idle = λ _. refl; made = refl; seen = tt });
     };
     wakes = record {
-      wired = record { inputs = λ p x y is is'. ap (λ (z : BodyValue K). z.process.inputs) (same start.bodies p x y is is'); outputs = λ p x y is is'. ap (λ (z : BodyValue K). z.process.outputs) (same start.bodies p x y is is'); capacities = λ c k l is is'. ap (λ (z : ChannelShown). z.capacity) (same start.channels c k l is is') };
+      wired = record { inputs = λ p x y is is'. ap (λ (z : BodyValue K). z.process.inputs) (same start.bodies p x y is is'); outputs = λ p x y is is'. ap (λ (z : BodyValue K). z.process.outputs) (same start.bodies p x y is is'); signal = λ p x y is is'. ap (λ (z : BodyValue K). z.process.signal) (same start.bodies p x y is is'); capacities = λ c k l is is'. ap (λ (z : ChannelShown). z.capacity) (same start.channels c k l is is') };
       live = b.live ∙ sym (live-all P ws (omega (arith, b.wide)) (λ p lt. (let x = get-exists start.bodies p lt in (b.bodies p x.0 x.1).0))) ∙ (let e : live_in P ws ≡ live_in P ws + 0 = omega arith in e);
       shares = refl;
       each = λ j v e. subst (Keeps (get_or ws L 0)) (one j v e) (record { spare = omega arith; noted = λ _. refl; zero = λ z. absurd (cc); bare = λ z. (refl, refl) });

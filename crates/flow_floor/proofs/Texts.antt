@@ -6,7 +6,7 @@ use Rattle.flow_model.specs.declared.Stage.TheVariants as stages
 use Rattle.flow_model.specs.States.{Input, From, Text}
 use Rattle.flow_model.specs.Events.{Event, Takes_text, Hears_end, stage_event, receive_event, is_fresh}
 use Rattle.flow_model.specs.Turns.{process_after}
-use Rattle.flow_model.specs.Stands.{ChannelShown, all_shown_after}
+use Rattle.flow_model.specs.Stands.{ChannelShown, dropped_after, all_shown_after}
 use Rattle.flow_machine.specs.Values.{BodyValue, NetValue}
 use Rattle.flow_machine.specs.Nets.{looks_of, BodyTurn, levels_told}
 use Rattle.flow_machine.specs.Effects.{TakesTurn, text_event, port_at}
@@ -26,6 +26,12 @@ levels-none port true (Some (Text text)) r = refl
 levels-none port true (Some (From c)) r = refl
 levels-none port true None r = refl
 levels-none port false input r = refl
+
+drops-none : (port : ℕ) (fresh : Bool) (input : Option Input) (n : ℕ) → dropped_after (text_event port fresh input) n ≡ n
+drops-none port true (Some (Text text)) n = refl
+drops-none port true (Some (From c)) n = refl
+drops-none port true None n = refl
+drops-none port false input n = refl
 
 -- Taking an initial text happens without any connection.
 pub text-at : (grab : Option (ℕ × ChannelShown)) (port : ℕ) (fresh : Bool) (input : Option Input) (e : Event) → grab ≡ None → e ≡ text_event port fresh input → At e grab
@@ -48,4 +54,5 @@ text-happens fits n m p port text d grab seen e is stage input now fit held grab
 pub text-deed : {K : Type 0} (b d : BodyValue K) (port : Port) (r : ℕ) (e : Event) → e ≡ text_event port.0 (is_fresh b.process port.0) (slice_get b.process.inputs port.0) → b.process.stage ≡ stages.Wishing (wishes.Receive port) → TakesTurn b effects.Initial r d → BodyTurn b e r d
 text-deed {K} b d port r e is stage takes = subst (λ (x : Event). BodyTurn b x r d) (sym is)
     (body-turn b d effects.Initial r (text_event port.0 (is_fresh b.process port.0) (slice_get b.process.inputs port.0)) takes (ap (λ (q : ℕ). process_after b.process (text_event q (is_fresh b.process q) (slice_get b.process.inputs q))) (ap port_at stage))
-    (sym (levels-none port.0 (is_fresh b.process port.0) (slice_get b.process.inputs port.0) r)))
+    (sym (levels-none port.0 (is_fresh b.process port.0) (slice_get b.process.inputs port.0) r))
+    (sym (drops-none port.0 (is_fresh b.process port.0) (slice_get b.process.inputs port.0) b.dropped)))

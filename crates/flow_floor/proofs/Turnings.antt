@@ -85,17 +85,17 @@ receive-happens fits n m p c port d grab seen k e is e_is stage input may now fi
     (0, receives now.channels d.process 0 c port k stage input at ∙ received-is port.0 c k.packets k.open_senders may ∙ ap (λ (x : Event). let t : Option Event = Some x in t) (sym e_is))
 
 pub got-turn : {K : Type 0} (b d : BodyValue K) (port c stamp : ℕ) (k : ChannelShown) (packet : Tree) (rest : List Tree) → k.packets ≡ packet ∷ rest → TakesTurn b (effects.Got packet) stamp d → BodyTurn b (received_event port c k.packets) stamp d
-got-turn b d port c stamp k packet rest is takes = subst (λ (ps : List Tree). BodyTurn b (received_event port c ps) stamp d) (sym is) (body-turn b d (effects.Got packet) stamp (Gets port c packet) takes refl refl)
+got-turn b d port c stamp k packet rest is takes = subst (λ (ps : List Tree). BodyTurn b (received_event port c ps) stamp d) (sym is) (body-turn b d (effects.Got packet) stamp (Gets port c packet) takes refl refl refl)
 
 pub end-turn : {K : Type 0} (b d : BodyValue K) (port c stamp : ℕ) (packets : List Tree) → packets ≡ [] → TakesTurn b effects.End stamp d → BodyTurn b (received_event port c packets) stamp d
-end-turn b d port c stamp packets is takes = subst (λ (ps : List Tree). BodyTurn b (received_event port c ps) stamp d) (sym is) (body-turn b d effects.End stamp (Hears_end port) takes refl refl)
+end-turn b d port c stamp packets is takes = subst (λ (ps : List Tree). BodyTurn b (received_event port c ps) stamp d) (sym is) (body-turn b d effects.End stamp (Hears_end port) takes refl refl refl)
 
 -- Hearing an end changes the body as that event does, and no connection.
 pub end-deed : {K : Type 0} (b d : BodyValue K) (port c r : ℕ) (k : ChannelShown) (e : Event) → e ≡ received_event port c k.packets → length k.packets ≡ 0 → TakesTurn b effects.End r d → BodyTurn b e r d × (k ≡ shown_after e k)
 end-deed {K} b d port c r k e e_is none_in takes = by k.packets e_is none_in
   where
     by : (ps : List Tree) → e ≡ received_event port c ps → length ps ≡ 0 → BodyTurn b e r d × (k ≡ shown_after e k)
-    by [] is none_in = subst (λ (x : Event). BodyTurn b x r d × (k ≡ shown_after x k)) (sym is) (body-turn b d effects.End r (Hears_end port) takes refl refl, refl)
+    by [] is none_in = subst (λ (x : Event). BodyTurn b x r d × (k ≡ shown_after x k)) (sym is) (body-turn b d effects.End r (Hears_end port) takes refl refl refl, refl)
     by (p ∷ ps) is none_in = absurd (omega (arith, none_in))
 
 -- Getting a packet changes body and connection as that event does.
@@ -104,7 +104,7 @@ pub got-deed : {K : Type 0} (b d : BodyValue K) (port c r : ℕ) (k k' : Channel
 got-deed {K} b d port c r k k' packet e e_is first rest takes =
     let is : e ≡ Gets port c packet = e_is ∙ ap (received_event port c) first in
     subst (λ (x : Event). BodyTurn b x r d × (k' ≡ shown_after x k) × (length k'.packets ≤ length k.packets) × (k'.open_senders ≡ k.open_senders)) (sym is)
-    (body-turn b d (effects.Got packet) r (Gets port c packet) takes refl refl, rest, omega (arith, ap (λ (xs : List Tree). length xs) first), ap (λ (x : ChannelShown). x.open_senders) rest)
+    (body-turn b d (effects.Got packet) r (Gets port c packet) takes refl refl refl, rest, omega (arith, ap (λ (xs : List Tree). length xs) first), ap (λ (x : ChannelShown). x.open_senders) rest)
 
 -- a connection was given back, and these processes are noted
 pub waking-after : {K : Type 0} (next : K → Hands → Answer → Outcome K → Type 0) (z : TableId) (n : ℕ) (w w' : Worker K) (h : Held K) (c : ℕ) (k : ChannelShown) (notes more : List ℕ) → IsGrabbing next z n w h c k → w'.seat.table_id ≡ w.seat.table_id → w'.seat.me.0 ≡ releasing w.seat.me.0 notes
@@ -248,12 +248,12 @@ close-deed {K} b d found c r k k' e e_is outlet closed takes =
     let o = closed-is found c outlet in
     let is : e ≡ Closes o.0.output o.0.connection = e_is ∙ ap closed_event o.1 in
     subst (λ (x : Event). BodyTurn b x r d × (k' ≡ shown_after x k) × (k'.packets ≡ k.packets) × (k'.open_senders ≤ k.open_senders)) (sym is)
-    (body-turn b d effects.Closed r (Closes o.0.output o.0.connection) takes refl refl, closed, ap (λ (x : ChannelShown). x.packets) closed, omega (arith, ap (λ (x : ChannelShown). x.open_senders) closed))
+    (body-turn b d effects.Closed r (Closes o.0.output o.0.connection) takes refl refl refl, closed, ap (λ (x : ChannelShown). x.packets) closed, omega (arith, ap (λ (x : ChannelShown). x.open_senders) closed))
 
 -- Learning a level changes the body as that event does, and no connection.
 pub learn-deed : {K : Type 0} (b d : BodyValue K) (port l m r : ℕ) (k : ChannelShown) (e : Event) → e ≡ Learns port m → l ≡ m → TakesTurn b (effects.Level l) r d → BodyTurn b e r d × (k ≡ shown_after e k)
 learn-deed {K} b d port l m r k e e_is same takes =
-    subst (λ (x : Event). BodyTurn b x r d × (k ≡ shown_after x k)) (sym e_is) (subst (λ n. BodyTurn b (Learns port n) r d) same (body-turn b d (effects.Level l) r (Learns port l) takes refl refl), refl)
+    subst (λ (x : Event). BodyTurn b x r d × (k ≡ shown_after x k)) (sym e_is) (subst (λ n. BodyTurn b (Learns port n) r d) same (body-turn b d (effects.Level l) r (Learns port l) takes refl refl refl), refl)
 
 -- where nobody is noted any more the worker owes nothing
 pub waking-none : {K : Type 0} (next : K → Hands → Answer → Outcome K → Type 0) (z : TableId) (n : ℕ) (w : Worker K) (h : Held K) → IsWaking next z n w h [] → IsHeldBy next z n w h

@@ -9,11 +9,11 @@ use Rattle.flow_component.specs.declared.Answer.{Answer}
 use Rattle.flow_component.specs.declared.Shape.{Shape}
 use Rattle.flow_component.specs.Laws.{Outcome, Obeys, StaysReady, IsSteady}
 use Rattle.flow_model.specs.States.{Input, From, Text, output_at}
-use Rattle.flow_model.specs.Events.{Event, Starts, Finishes, Gets, Takes_text, Hears_end, Sends, Learns, Sleeps, Closes}
+use Rattle.flow_model.specs.Events.{Event, Starts, Finishes, Gets, Takes_text, Hears_end, Sends, Learns, Sleeps, Closes, Signals}
 use Rattle.flow_model.specs.Schedules.{IsThoughtStage}
 use Rattle.flow_model.specs.Stands.{ChannelShown, shown_after, all_shown_after}
 use Rattle.flow_model.proofs.Lists.{slice_get-set_same, slice_get-set_other, same_or_not}
-use Rattle.flow_model.proofs.Order.{inputs-after, outputs-after}
+use Rattle.flow_model.proofs.Order.{inputs-after, outputs-after, signal-after}
 use Rattle.flow_machine.specs.Values.{BodyValue, NetValue}
 use Rattle.flow_machine.specs.Outlets.{output_in}
 use Rattle.flow_machine.proofs.FitLemmas.{same-turns, channels-len}
@@ -55,6 +55,7 @@ capacity-after e cs c k k' at at' = by e at'
     by (Gets port d packet) is = changed d (shown_after (Gets port d packet)) (λ x. refl) (changed-get cs d c (shown_after (Gets port d packet)) k k' at is)
     by (Sends port d packet) is = changed d (shown_after (Sends port d packet)) (λ x. refl) (changed-get cs d c (shown_after (Sends port d packet)) k k' at is)
     by (Closes output d) is = changed d (shown_after (Closes output d)) (λ x. refl) (changed-get cs d c (shown_after (Closes output d)) k k' at is)
+    by (Signals d packet) is = changed d (shown_after (Signals d packet)) (λ x. refl) (changed-get cs d c (shown_after (Signals d packet)) k k' at is)
     by Starts is = same is
     by Finishes is = same is
     by (Takes_text port text) is = same is
@@ -116,9 +117,9 @@ module _ {K : Type 0} (shape_of : K → Shape) (uses : K → ℕ → Bool) (read
       by : {c : ℕ} (output : IsOutput d c) → output_at b.process output.0 ≡ Some c
       by {c} output = ap (λ (xs : List (Option ℕ)). option_and_then (λ (y : Option ℕ). y) (slice_get xs output.0)) (sym outputs) ∙ output.1
 
-  wired-body : (now : NetValue K) (p : ℕ) (b d : BodyValue K) → slice_get now.bodies p ≡ Some b → d.process.inputs ≡ b.process.inputs → d.process.outputs ≡ b.process.outputs → IsWiredAs start now
+  wired-body : (now : NetValue K) (p : ℕ) (b d : BodyValue K) → slice_get now.bodies p ≡ Some b → d.process.inputs ≡ b.process.inputs → d.process.outputs ≡ b.process.outputs → d.process.signal ≡ b.process.signal → IsWiredAs start now
       → (cs : List ChannelShown) → ((c : ℕ) (k k0 : ChannelShown) → slice_get cs c ≡ Some k → slice_get start.channels c ≡ Some k0 → k.capacity ≡ k0.capacity) → IsWiredAs start (record now { bodies = slice_set now.bodies p d; channels = cs })
-  wired-body now p b d there inputs outputs wired cs capacities = record {
+  wired-body now p b d there inputs outputs signal wired cs capacities = record {
     inputs = λ q x x0 is is0. elim (same_or_not q p) [
       | inl same ↦ (ap (λ (y : BodyValue K). y.process.inputs) (sym (here q x same is)) ∙ inputs ∙ wired.inputs p b x0 there (ap (slice_get start.bodies) (sym same) ∙ is0))
       | inr other ↦ wired.inputs q x x0 (sym (slice_get-set_other now.bodies p q d other) ∙ is) is0
@@ -126,6 +127,10 @@ module _ {K : Type 0} (shape_of : K → Shape) (uses : K → ℕ → Bool) (read
     outputs = λ q x x0 is is0. elim (same_or_not q p) [
       | inl same ↦ (ap (λ (y : BodyValue K). y.process.outputs) (sym (here q x same is)) ∙ outputs ∙ wired.outputs p b x0 there (ap (slice_get start.bodies) (sym same) ∙ is0))
       | inr other ↦ wired.outputs q x x0 (sym (slice_get-set_other now.bodies p q d other) ∙ is) is0
+    ];
+    signal = λ q x x0 is is0. elim (same_or_not q p) [
+      | inl same ↦ (ap (λ (y : BodyValue K). y.process.signal) (sym (here q x same is)) ∙ signal ∙ wired.signal p b x0 there (ap (slice_get start.bodies) (sym same) ∙ is0))
+      | inr other ↦ wired.signal q x x0 (sym (slice_get-set_other now.bodies p q d other) ∙ is) is0
     ];
     capacities = capacities;
   }
@@ -141,7 +146,7 @@ module _ {K : Type 0} (shape_of : K → Shape) (uses : K → ℕ → Bool) (read
       let same = same-turns shape_of uses ready next obeys stays steady b d r.0 in
       let taken = word-taken s g id p v b f at holds in
       let ks = k.each id v at in
-      wakes-keep start s g (record g { now = with_body g.now p d }) s.words s.homes id v w k at (wired-body g.now p b d mine.1 same.1 same.2 k.wired g.now.channels k.wired.capacities)
+      wakes-keep start s g (record g { now = with_body g.now p d }) s.words s.homes id v w k at (wired-body g.now p b d mine.1 same.1 same.2 same.3 k.wired g.now.channels k.wired.capacities)
       (omega (arith, k.live, total_set (λ (x : View K). x.spare) s.views id v w at, spare)) shares (λ z. z)
       (keeps-held (get_or s.words L 0) p d w held (omega (arith, ks.spare, spare, shares)) (λ z. ks.zero (sym zeros ∙ z)) (has-share (get_or s.words L 0) p b v w ks holds shares))
       (λ q there. inl (subst (InList q) (sym noted) there)) (λ q x there. inl (calm-all s.words s.words (λ c. refl) x))
@@ -279,7 +284,7 @@ module _ {K : Type 0} (shape_of : K → Shape) (uses : K → ℕ → Bool) (read
       let taken = word-taken s g id p v b f at holds in
       let word = λ (q : ℕ) (below : q < P). get_or-set_other s.words i q y 0 (λ e. omega arith) in
       wakes-keep start s g g' ws' s.homes id v w k at
-      (subst (IsWiredAs start) (sym now) (wired-body g.now p b d mine.1 (inputs-after b.process e) (outputs-after b.process e) k.wired (all_shown_after e g.now.channels)
+      (subst (IsWiredAs start) (sym now) (wired-body g.now p b d mine.1 (inputs-after b.process e) (outputs-after b.process e) (signal-after b.process e) k.wired (all_shown_after e g.now.channels)
       (λ c x x0 is is0. (let old = get-exists g.now.channels c (omega (arith, get-within (all_shown_after e g.now.channels) c x is, channels-len e g.now.channels)) in capacity-after e g.now.channels c old.0 x old.1 is ∙ k.wired.capacities c old.0 x0 old.1 is0))))
       (omega (arith, same_live, k.live, live-other P i y s.words (omega arith), total_set (λ (x : View K). x.spare) s.views id v w at, spare)) shares (λ z. same_live ∙ z)
       (keeps-held (get_or ws' L 0) p d w held (omega (arith, ks.spare, spare, shares)) (λ z. same_live ∙ ks.zero (sym zeros ∙ z)) (has-share (get_or s.words L 0) p b v w ks holds shares))

@@ -8,7 +8,7 @@ use Rattle.flow_component.specs.Laws.{Outcome}
 use Rattle.flow_model.specs.Events.{Event, Gets, Hears_end, Sends, Sleeps, Closes, seen_by, event_from}
 use Rattle.flow_model.specs.States.{Outlet}
 use Rattle.flow_model.specs.Turns.{process_after}
-use Rattle.flow_model.specs.Stands.{ChannelShown, shown_after, all_shown_after}
+use Rattle.flow_model.specs.Stands.{ChannelShown, dropped_after, shown_after, all_shown_after}
 use Rattle.flow_machine.specs.Values.{BodyValue, NetValue}
 use Rattle.flow_machine.specs.Nets.{levels_told, looks_of}
 use Rattle.flow_machine.proofs.NetTurns.{IsOn}
@@ -19,7 +19,7 @@ use Rattle.flow_machine.specs.Solo.{GoesBy, reached}
 
 -- A body after a turn with this stamp.
 abbrev pub turned_body : {K : Type 0} → Event → ℕ → BodyValue K → BodyValue K
-turned_body e stamp b = record b { process = process_after b.process e; leaving = None; stamps = b.stamps ++ stamp ∷ []; levels = b.levels ++ levels_told e stamp }
+turned_body e stamp b = record b { process = process_after b.process e; dropped = dropped_after e b.dropped; leaving = None; stamps = b.stamps ++ stamp ∷ []; levels = b.levels ++ levels_told e stamp }
 
 -- A net with another body at one place.
 abbrev pub with_body : {K : Type 0} → NetValue K → ℕ → BodyValue K → NetValue K

@@ -8,7 +8,7 @@ use Rattle.flow_component.specs.Laws.{Outcome}
 use Rattle.flow_model.specs.declared.Block.{Block}
 use Rattle.flow_model.specs.declared.Block.TheVariants as blocks
 use Rattle.flow_model.specs.States.{Input, output_at}
-use Rattle.flow_model.specs.Events.{Event, Starts, Finishes, Gets, Takes_text, Hears_end, Sends, Learns, Sleeps, Closes}
+use Rattle.flow_model.specs.Events.{Event, Starts, Finishes, Gets, Takes_text, Hears_end, Sends, Learns, Sleeps, Closes, Signals}
 use Rattle.flow_model.specs.Verdicts.{waits_for}
 use Rattle.flow_model.specs.Stands.{ChannelShown}
 use Rattle.flow_machine.specs.declared.answers.Case.{Case}
@@ -72,6 +72,7 @@ module _ {K : Type 0} where
   ToldLevel n b old new (Hears_end port) = Unit {0}
   ToldLevel n b old new (Sends port c packet) = Unit {0}
   ToldLevel n b old new Sleeps = Unit {0}
+  ToldLevel n b old new (Signals c packet) = Unit {0}
   ToldLevel n b old new (Closes output c) = Unit {0}
 
   -- The held body made the machine's turn of this stamp, which is above all stamps of its worker.

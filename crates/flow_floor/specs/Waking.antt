@@ -94,6 +94,7 @@ module _ {K : Type 0} where
   pub record IsWiredAs (start now : NetValue K) : Type 0 where
     pub inputs : (p : ℕ) (b b0 : BodyValue K) → slice_get now.bodies p ≡ Some b → slice_get start.bodies p ≡ Some b0 → b.process.inputs ≡ b0.process.inputs
     pub outputs : (p : ℕ) (b b0 : BodyValue K) → slice_get now.bodies p ≡ Some b → slice_get start.bodies p ≡ Some b0 → b.process.outputs ≡ b0.process.outputs
+    pub signal : (p : ℕ) (b b0 : BodyValue K) → slice_get now.bodies p ≡ Some b → slice_get start.bodies p ≡ Some b0 → b.process.signal ≡ b0.process.signal
     pub capacities : (c : ℕ) (k k0 : ChannelShown) → slice_get now.channels c ≡ Some k → slice_get start.channels c ≡ Some k0 → k.capacity ≡ k0.capacity
 
   -- What holds of a seat: it has no more spare tokens than shares; only a seat that holds a process has noted one; where it has read 0 the live word is

@@ -1,7 +1,6 @@
 -- Which numbers a turn sees.
 use Rattle.std.proofs.Common.{◌≡◌, ℕ, Bool, true, false, cond, List, [], ◌∷◌, ◌++◌, length, Option, Some, None, refl, sym, ap, ◌∙◌, subst, slice_get, nat_eq, nat_lt}
 use Rattle.std.specs.Prelude.{option_and_then, nat_le, ◌&&◌}
-use Rattle.std.specs.List.{list_all}
 use Rattle.flow_packet.specs.Tree.{Tree}
 use Rattle.flow_packet.specs.Hands.{packet_at}
 use Rattle.flow_component.specs.declared.Port.{Port}
@@ -9,7 +8,7 @@ use Rattle.flow_component.specs.declared.Wish.TheVariants as wishes
 use Rattle.flow_model.specs.declared.Stage.{Stage}
 use Rattle.flow_model.specs.declared.Stage.TheVariants as stages
 use Rattle.flow_model.specs.States.{Input, From, Text, Process, Outlet, output_at, outlets}
-use Rattle.flow_model.specs.Events.{Event, Starts, Finishes, Gets, Takes_text, Hears_end, Sends, Learns, Sleeps, Closes, Look, can_start, has_ended, is_fresh, received, received_from, receive_event, sent, told_level, stage_event, event_from, seen_by}
+use Rattle.flow_model.specs.Events.{Event, Starts, Finishes, Gets, Takes_text, Hears_end, Sends, Learns, Sleeps, Closes, Signals, Look, can_start, can_finish, takes_signal, signalled_by, signalled_from, signal_event, is_fresh, received, received_from, receive_event, sent, told_level, stage_event, event_from, seen_by}
 use Rattle.flow_machine.specs.Values.{BodyValue, NetValue}
 use Rattle.flow_machine.specs.Nets.{NetTurn, TurnsNet, SeesNet, IsAt, is_asking, asks_level, looks_of}
 use Rattle.flow_machine.specs.declared.answers.Turn.{Turn as Answer}
@@ -48,10 +47,23 @@ module _ {K : Type 0} (looks : List Look) (x : Process K) (n : ℕ) (e : Event) 
   pub sees-told : (port : Port) → x.stage ≡ stages.Wishing (wishes.Level port) → event_from looks x n ≡ Some e → seen_by e ≡ n ∷ []
   sees-told port at is = tells-to port.0 (output_at x port.0) (subst (λ (stage : Stage). stage_event looks x n stage ≡ Some e) at is)
 
-  idles : (a b : Bool) → cond a (Some Starts) (cond b (Some Finishes) None) ≡ Some e → seen_by e ≡ []
-  idles true b is = sees-same Starts e is
-  idles false true is = sees-same Finishes e is
-  idles false false is = absurd (cc)
+  signals-by : (c : ℕ) (packets : List Tree) → signalled_by c packets ≡ Some e → seen_by e ≡ []
+  signals-by c (packet ∷ packets) is = sees-same (Signals c packet) e is
+  signals-by c [] is = absurd (cc)
+
+  signals-from : (c : ℕ) (found : Option Look) → signalled_from c found ≡ Some e → seen_by e ≡ []
+  signals-from c (Some channel) is = signals-by c channel.packets is
+  signals-from c None is = absurd (cc)
+
+  signals-at : (signal : Option ℕ) → signal_event looks signal ≡ Some e → seen_by e ≡ []
+  signals-at (Some c) is = signals-from c (slice_get looks c) is
+  signals-at None is = absurd (cc)
+
+  idles : (a b t : Bool) → cond a (Some Starts) (cond b (Some Finishes) (cond t (signal_event looks x.signal) None)) ≡ Some e → seen_by e ≡ []
+  idles true b t is = sees-same Starts e is
+  idles false true t is = sees-same Finishes e is
+  idles false false true is = signals-at x.signal is
+  idles false false false is = absurd (cc)
 
   hears : (port : ℕ) (b : Bool) → cond b (Some (Hears_end port)) None ≡ Some e → seen_by e ≡ []
   hears port true is = sees-same (Hears_end port) e is
@@ -92,7 +104,7 @@ module _ {K : Type 0} (looks : List Look) (x : Process K) (n : ℕ) (e : Event) 
   closes-at None is = absurd (cc)
 
   sees-none-at : (stage : Stage) → is_asking stage ≡ false → stage_event looks x n stage ≡ Some e → seen_by e ≡ []
-  sees-none-at stages.Idle asks is = idles (can_start looks x) (list_all (has_ended looks) x.inputs) is
+  sees-none-at stages.Idle asks is = idles (can_start looks x) (can_finish looks x) (takes_signal looks x) is
   sees-none-at (stages.Told answer) asks is = absurd (cc)
   sees-none-at (stages.Wishing (wishes.Receive port)) asks is = receives-at port.0 (slice_get x.inputs port.0) is
   sees-none-at (stages.Wishing (wishes.Send port id)) asks is = sends-at port.0 id (output_at x port.0) is

@@ -17,7 +17,10 @@ pub const LAST_ELEMENT: u32 = 511;
 pub const PORT_LIMIT: usize = 4096;
 
 /// The greatest capacity of a connection, in packets.
-pub const CAPACITY_LIMIT: u32 = 1024;
+pub const CAPACITY_LIMIT: u32 = 4096;
+
+/// The greatest capacity that a network file of the first version gives a connection.
+pub const FIRST_CAPACITY_LIMIT: u32 = 1024;
 
 /// The most packets that all connections of a plan together may take.
 pub const CAPACITY_SUM_LIMIT: u32 = 65_536;
@@ -45,3 +48,6 @@ pub const NUMBER_LIMIT: u32 = 100;
 
 /// The most workers that run a network.
 pub const WORKER_LIMIT: u32 = 32;
+
+/// The most entries of a tape: one for each resume of a component that a caller hands in.
+pub const TAPE_LIMIT: usize = 1_048_577;

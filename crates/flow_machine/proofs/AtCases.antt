@@ -16,7 +16,7 @@ use Rattle.flow_machine.specs.Values.{BodyValue, NetValue, net_of}
 use Rattle.flow_machine.specs.Thoughts.{IsSet, IsSetAt}
 use Rattle.flow_machine.specs.Answers.{CaseIs, case_of}
 use Rattle.flow_machine.specs.Effects.{TakesTurn}
-use Rattle.flow_machine.specs.Nets.{looks_of, level_of, packet_wished, PairTurns, AloneTurns, TurnsNet}
+use Rattle.flow_machine.specs.Nets.{looks_of, level_of, packet_wished, PairTurns, WakeTurns, TurnsNet}
 use Rattle.flow_machine.specs.NetSteps.{IsSetIn}
 use Rattle.flow_machine.specs.FitNets.{FitNet}
 use Rattle.flow_machine.specs.declared.answers.Case.{Case}
@@ -25,7 +25,7 @@ use Rattle.flow_machine.specs.declared.answers.Effect.TheVariants as effects
 use Rattle.flow_machine.specs.declared.answers.Turn.{Turn as Answer}
 use Rattle.flow_machine.specs.declared.answers.Turn.TheVariants as turns
 use Rattle.flow_machine.proofs.Pairs.{body-turn, learned}
-use Rattle.flow_machine.proofs.NetTurns.{case-is, if_some, set-thought, pair-net, alone-net, blocks-by, receives, received-on, waits-receive, sends, sent-on, waits-send, learns, told-on, learned-some, exact, level-there, set-same, idle-alone, text-turn, close-turn, close-on, no-close}
+use Rattle.flow_machine.proofs.NetTurns.{case-is, if_some, set-thought, pair-net, wake-net, blocks-by, receives, received-on, waits-receive, sends, sent-on, waits-send, learns, told-on, learned-some, exact, level-there, set-same, text-turn, close-turn, close-on, no-close}
 
 -- Process p of the net has this body, which is whole, and is at this case.
 pub record AtCase {K : Type 0} (net : NetValue K) (p : ℕ) (case : Case) (b : BodyValue K) : Type 0 where
@@ -83,10 +83,11 @@ module _ {K : Type 0} (bodies : List (BodyValue K)) (channels : List ChannelShow
   pub level-is : (c : ℕ) (port : Port) (ch : ChannelShown) → AtCase (net_of bodies channels) p (cases.Level c port) b → slice_get channels c ≡ Some ch → level_of (net_of bodies channels) p ≡ length ch.packets
   level-is c port ch at there = level-there (net_of bodies channels) p b at.there ∙ exact channels b.process c port ch at.is.0 at.is.1 there
 
-  -- An idle process starts, or goes to its end, or is dormant.
-  pub woken-net : (n : ℕ) (answer : Answer) → AtCase (net_of bodies channels) p cases.Idle b → AloneTurns (idle_event (looks_of channels) b.process) blocks.Dormant stamp b answer b' → TurnsNet (net_of bodies channels) p n stamp answer (net_of (slice_set bodies p b') channels)
-  woken-net n answer at turns =
-      alone-net bodies channels p n stamp b b' (idle_event (looks_of channels) b.process) blocks.Dormant answer at.there (ap (stage_event (looks_of channels) b.process n) at.is) (λ e here. idle-alone (looks_of channels) b.process channels e here)
+  -- An idle process starts, or goes to its end, or takes a packet from its automatic input, or is dormant.
+  pub woken-net : (n : ℕ) (channels' : List ChannelShown) (answer : Answer) → AtCase (net_of bodies channels) p cases.Idle b → WakeTurns (idle_event (looks_of channels) b.process) blocks.Dormant stamp b channels answer b' channels'
+      → TurnsNet (net_of bodies channels) p n stamp answer (net_of (slice_set bodies p b') channels')
+  woken-net n channels' answer at turns =
+      wake-net bodies channels channels' p n stamp b b' (idle_event (looks_of channels) b.process) blocks.Dormant answer at.there (ap (stage_event (looks_of channels) b.process n) at.is)
       (λ none. blocks-by (looks_of channels) b.process blocks.Dormant (ap (stage_event (looks_of channels) b.process (exact_level (looks_of channels) b.process)) at.is ∙ none) (ap (waits_for b.process) at.is))
       turns
 
@@ -97,7 +98,7 @@ module _ {K : Type 0} (bodies : List (BodyValue K)) (channels : List ChannelShow
   -- A process is deactivated.
   pub slept-net : (n : ℕ) → AtCase (net_of bodies channels) p cases.Deactivate b → TakesTurn b effects.Deactivate stamp b' → TurnsNet (net_of bodies channels) p n stamp (turns.Made stamp) (net_of (slice_set bodies p b') channels)
   slept-net n at takes =
-      (refl, (Sleeps, record { before = b; after = b'; there = at.there; happens = ap (stage_event (looks_of channels) b.process n) at.is; turn = body-turn b b' effects.Deactivate stamp Sleeps takes refl refl; bodies = refl; channels = refl; connections = refl }))
+      (refl, (Sleeps, record { before = b; after = b'; there = at.there; happens = ap (stage_event (looks_of channels) b.process n) at.is; turn = body-turn b b' effects.Deactivate stamp Sleeps takes refl refl refl; bodies = refl; channels = refl; connections = refl }))
 
   -- One more connected output is closed.
   pub closed-net : (n c : ℕ) (ch ch' : ChannelShown) → AtCase (net_of bodies channels) p (cases.Close c) b → slice_get channels c ≡ Some ch → ch' ≡ shown_after (Closes 0 c) ch → TakesTurn b effects.Closed stamp b'
@@ -106,4 +107,4 @@ module _ {K : Type 0} (bodies : List (BodyValue K)) (channels : List ChannelShow
       let outlet : Outlet = at.is.1 in
       pair-net bodies channels p c n stamp b b' ch ch' (Some (Closes outlet.output c)) blocks.Dormant (turns.Made stamp) at.there there
       (close-turn channels b.process n c at.is.0 outlet at.is.2 at.is.3 at.is.4) (λ e here. close-on c outlet.output e here) (λ none. no-close outlet.output c _ none)
-      (refl, (Closes outlet.output c, refl, body-turn b b' effects.Closed stamp (Closes outlet.output c) takes refl refl, fewer))
+      (refl, (Closes outlet.output c, refl, body-turn b b' effects.Closed stamp (Closes outlet.output c) takes refl refl refl, fewer))

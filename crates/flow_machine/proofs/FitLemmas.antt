@@ -15,7 +15,7 @@ use Rattle.flow_component.specs.Laws.{Outcome, Wishes, Fails, held_after, Obeys,
 use Rattle.flow_model.specs.declared.Stage.{Stage}
 use Rattle.flow_model.specs.declared.Stage.TheVariants as stages
 use Rattle.flow_model.specs.States.{Process, Channel, Put, State, From, Outlet, outlets, change_at, changed}
-use Rattle.flow_model.specs.Events.{Event, Starts, Finishes, Gets, Takes_text, Hears_end, Sends, Learns, Sleeps, Closes, event_from, received, seen_by}
+use Rattle.flow_model.specs.Events.{Event, Starts, Finishes, Gets, Takes_text, Hears_end, Sends, Learns, Sleeps, Closes, Signals, event_from, received, seen_by}
 use Rattle.flow_model.specs.Turns.{process_after, channels_after, past_after, Turn}
 use Rattle.flow_model.specs.Works.{worked, past_worked, Work}
 use Rattle.flow_model.specs.Stands.{ChannelShown, NetShown, channels_from, body_after, shown_after, all_shown_after, net_after, StandsForOpen}
@@ -90,6 +90,7 @@ pub channels-len : (e : Event) (channels : List ChannelShown) → length (all_sh
 channels-len (Gets port c packet) channels = length-change channels c (shown_after (Gets port c packet))
 channels-len (Sends port c packet) channels = length-change channels c (shown_after (Sends port c packet))
 channels-len (Closes output c) channels = length-change channels c (shown_after (Closes output c))
+channels-len (Signals c packet) channels = length-change channels c (shown_after (Signals c packet))
 channels-len Starts channels = refl
 channels-len Finishes channels = refl
 channels-len (Takes_text port text) channels = refl
@@ -116,6 +117,7 @@ puts-after : (e : Event) (channels : List ChannelShown) (m : ℕ) → PutsMost c
 puts-after (Gets port c packet) channels m most = puts-change channels c m (shown_after (Gets port c packet)) (λ ch. omega arith) most
 puts-after (Sends port c packet) channels m most = puts-change channels c m (shown_after (Sends port c packet)) (λ ch. omega arith) most
 puts-after (Closes output c) channels m most = puts-change channels c m (shown_after (Closes output c)) (λ ch. omega arith) most
+puts-after (Signals c packet) channels m most = puts-change channels c m (shown_after (Signals c packet)) (λ ch. omega arith) most
 puts-after Starts channels m most = λ d ch is. omega (arith, most d ch is)
 puts-after Finishes channels m most = λ d ch is. omega (arith, most d ch is)
 puts-after (Takes_text port text) channels m most = λ d ch is. omega (arith, most d ch is)
@@ -260,6 +262,10 @@ turns-worked : {K : Type 0} (x : Process K) (outcome : Outcome K) → (worked x 
 turns-worked x (Wishes component held wish) = refl
 turns-worked x (Fails component held cause) = refl
 
+signal-worked : {K : Type 0} (x : Process K) (outcome : Outcome K) → (worked x outcome).signal ≡ x.signal
+signal-worked x (Wishes component held wish) = refl
+signal-worked x (Fails component held cause) = refl
+
 -- what a thought did: nothing that is shown, or a work
 pub thinks-step : {K : Type 0} (next : K → Held → Answer → Outcome K → Type 0) (old : BodyValue K) (t : Thought) (new : BodyValue K) → Thinks next old t new → SameBody old new ⊎ WorkedBody next old new
 thinks-step {K} next old thoughts.Wishing new thinks = settled thinks.0
@@ -321,9 +327,9 @@ module _ {K : Type 0} (shape_of : K → Shape) (uses : K → ℕ → Bool) (read
   goes-think old p before after new there (inl same) bodies channels s fit stands = (s, fit, goes-same old p before after new there same bodies channels s stands)
   goes-think old p before after new there (inr work) bodies channels s fit stands = let g = goes-work old p before after new there work bodies channels s fit stands in (g.0, g.2, g.3)
 
-  pub same-turns : (before after : BodyValue K) → SameBody before after ⊎ WorkedBody next before after → (after.process.turns ≡ before.process.turns) × (after.process.inputs ≡ before.process.inputs) × (after.process.outputs ≡ before.process.outputs)
-  same-turns before after (inl same) = (ap (λ (x : Process K). x.turns) same.process, ap (λ (x : Process K). x.inputs) same.process, ap (λ (x : Process K). x.outputs) same.process)
-  same-turns before after (inr work) = (ap (λ (x : Process K). x.turns) work.process ∙ turns-worked before.process work.outcome, ap (λ (x : Process K). x.inputs) work.process ∙ inputs-worked before.process work.outcome, ap (λ (x : Process K). x.outputs) work.process ∙ outputs-worked before.process work.outcome)
+  pub same-turns : (before after : BodyValue K) → SameBody before after ⊎ WorkedBody next before after → (after.process.turns ≡ before.process.turns) × (after.process.inputs ≡ before.process.inputs) × (after.process.outputs ≡ before.process.outputs) × (after.process.signal ≡ before.process.signal)
+  same-turns before after (inl same) = (ap (λ (x : Process K). x.turns) same.process, ap (λ (x : Process K). x.inputs) same.process, ap (λ (x : Process K). x.outputs) same.process, ap (λ (x : Process K). x.signal) same.process)
+  same-turns before after (inr work) = (ap (λ (x : Process K). x.turns) work.process ∙ turns-worked before.process work.outcome, ap (λ (x : Process K). x.inputs) work.process ∙ inputs-worked before.process work.outcome, ap (λ (x : Process K). x.outputs) work.process ∙ outputs-worked before.process work.outcome, ap (λ (x : Process K). x.signal) work.process ∙ signal-worked before.process work.outcome)
 
   -- what a body does ahead of its turn keeps what holds of each net
   pub fit-rest : (old : NetValue K) (p : ℕ) (b b' : BodyValue K) (new : NetValue K) → slice_get old.bodies p ≡ Some b → SameBody b b' ⊎ WorkedBody next b b' → KeepsTurns b b' → new.bodies ≡ slice_set old.bodies p b' → new.channels ≡ old.channels

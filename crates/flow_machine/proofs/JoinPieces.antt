@@ -1,6 +1,6 @@
 -- The pieces of a net may be joined.
 use Rattle.flow_limits.specs.declared.TheConstants.{PROCESS_LIMIT, TURN_LIMIT}
-use Rattle.std.proofs.Common.{◌≡◌, ℕ, ◌+◌, ◌-◌, ◌*◌, ◌^◌, ◌<◌, ◌≤◌, min, Bool, true, false, cond, List, [], ◌∷◌, ◌++◌, length, map, Option, Some, None, suc, zero, refl, ap, sym, ◌∙◌, subst, arith, nat_eq, nat_lt, slice_get, slice_index, length-append}
+use Rattle.std.proofs.Common.{◌≡◌, ℕ, ◌+◌, ◌-◌, ◌*◌, ◌^◌, ◌<◌, ◌≤◌, min, Bool, true, false, cond, List, [], ◌∷◌, ◌++◌, length, map, Option, Some, None, suc, zero, refl, ap, sym, ◌∙◌, subst, arith, nat_eq, nat_lt, slice_get, slice_index, length-append, ◌⊎◌, inl, inr}
 use Rattle.std.specs.Prelude.{filter, flat_map, sum_by, count_by, option_and_then}
 use Rattle.std.proofs.lemmas.Bool.Decides.{nat_tests}
 use Rattle.std.proofs.lemmas.List.{length-map}
@@ -13,9 +13,8 @@ use Rattle.flow_component.specs.declared.Shape.{Shape}
 use Rattle.flow_plan.specs.declared.plan.Sender.{Sender}
 use Rattle.flow_plan.specs.declared.plan.Connection.{Connection}
 use Rattle.flow_model.specs.States.{Process, Channel, Entry, entry_of, Put, State, Outlet, output_at, got_at, sent_at, is_sender}
-use Rattle.flow_model.specs.Order.{input_of, output_of, packets_at, opens, entries, entries_by, is_open_kind}
+use Rattle.flow_model.specs.Order.{input_of, signal_of, output_of, packets_at, opens, entries, entries_by, is_open_kind}
 use Rattle.flow_model.specs.Places.{held_count, transit_count, made_by, made_count, ids_in_hands, ids_in_transit, ids_dropped}
-use Rattle.flow_model.specs.Wires.{wires}
 use Rattle.flow_model.specs.Stands.{BodyShown, ChannelShown, NetShown, show_body, show_channel, bodies_from, channels_from}
 use Rattle.flow_model.specs.Valid.{IsOpenSender, AllDifferent}
 use Rattle.flow_model.proofs.Totals.{totals-add_up}
@@ -26,7 +25,7 @@ use Rattle.flow_machine.specs.Joins.{Rises, levels_under, IsPiece, IsChannelOf, 
 use Rattle.flow_machine.proofs.Standings.{process-in, channel-in}
 use Rattle.flow_machine.proofs.JoinLogs.{from, sum-from, stamps-rise, levels-under, sum-lengths}
 use Rattle.flow_machine.proofs.JoinSenders.{counted-yes, counted-no, fewer-among, passing, passed, passing-different, among-first, among-rest, same-sender, sender-itself, outlet-there, outlet-from, later-closes, left-open}
-use Rattle.flow_machine.proofs.Planning.{input-wires, output-wires, unwrapped, processes-of}
+use Rattle.flow_machine.proofs.Planning.{input-wires, output-wires, unwrapped, processes-of, received_at, received-cases}
 use Rattle.flow_machine.proofs.JoinState.{sum-mapped}
 
 sum-same : {A : Type 0} (f g : A → ℕ) (xs : List A) → ((i : ℕ) (x : A) → slice_get xs i ≡ Some x → f x ≡ g x) → sum_by f xs ≡ sum_by g xs
@@ -270,9 +269,23 @@ module _ {K : Type 0} (shape_of : K → Shape) (uses : K → ℕ → Bool) (read
       omega (arith, fewer, length-filter may_open y.senders)
 
   received-all : (c : ℕ) (y : Connection) (ch : Channel) → slice_get net.connections c ≡ Some y → slice_get s.kept.channels c ≡ Some ch → (es : List Entry) × (entries (s.past.put c) ≡ es ++ map entry_of ch.packets)
-  received-all c y ch is at =
-      let input : input_of y.input (slice_get s.kept.processes y.receiver) ≡ Some c = ap (λ (xs : List (Process K)). input_of y.input (slice_get xs y.receiver)) processes-are ∙ sym (input-wires net.bodies y.receiver y.input) ∙ planned.receivers c y is in
-      (got_at s.past y.receiver y.input, fit.fit.valid.in_order.received y.receiver y.input c input ∙ ap (λ (o : Option Channel). got_at s.past y.receiver y.input ++ map entry_of (packets_at o)) at)
+  received-all c y ch is at = by (slice_get s.kept.processes y.receiver) refl input
+    where
+      input : received_at y.input (slice_get s.kept.processes y.receiver) ≡ Some c
+      input = ap (λ (xs : List (Process K)). received_at y.input (slice_get xs y.receiver)) processes-are ∙ sym (input-wires net.bodies y.receiver y.input) ∙ planned.receivers c y is
+
+      by : (found : Option (Process K)) → slice_get s.kept.processes y.receiver ≡ found → received_at y.input found ≡ Some c → (es : List Entry) × (entries (s.past.put c) ≡ es ++ map entry_of ch.packets)
+      by None there received = absurd (cc)
+      by (Some z) there received = elim (received-cases z y.input c received) [
+        | inl own ↦ (
+          got_at s.past y.receiver y.input,
+          fit.fit.valid.in_order.received y.receiver y.input c (ap (input_of y.input) there ∙ own) ∙ ap (λ (o : Option Channel). got_at s.past y.receiver y.input ++ map entry_of (packets_at o)) at,
+        )
+        | inr automatic ↦ (
+          s.past.signals y.receiver,
+          fit.fit.valid.in_order.signalled y.receiver c (ap signal_of there ∙ automatic.1) ∙ ap (λ (o : Option Channel). s.past.signals y.receiver ++ map entry_of (packets_at o)) at,
+        )
+      ]
 
   deep-most : (c : ℕ) (y : Connection) → slice_get net.connections c ≡ Some y → (t : Sender) → IsOpenSender t y.senders → depth_at t.output (slice_get ps t.process) ≤ opens (entries_by t (s.past.put c))
   deep-most c y is t among =

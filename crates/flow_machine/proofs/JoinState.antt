@@ -3,7 +3,7 @@ use Rattle.flow_limits.specs.declared.TheConstants.{HANDS_LIMIT, PROCESS_LIMIT, 
 use Rattle.std.proofs.Common.{◌≡◌, ℕ, ◌+◌, ◌-◌, ◌*◌, ◌^◌, ◌<◌, ◌≤◌, min, Bool, true, false, cond, List, [], ◌∷◌, ◌++◌, length, map, replicate, Option, Some, None, suc, zero, refl, ap, sym, ◌∙◌, subst, arith, nat_eq, nat_lt, slice_get, slice_index, append-nil, length-append, drop}
 use Rattle.std.specs.Prelude.{flat_map, sum_by, option_and_then}
 use Rattle.std.proofs.lemmas.Bool.Decides.{nat_tests}
-use Rattle.std.proofs.lemmas.List.{length-map, get_or_past}
+use Rattle.std.proofs.lemmas.List.{length-map, get_or_past, map-append}
 use Rattle.std.proofs.lemmas.List.Sums.{sum_by-cons}
 use Rattle.std.proofs.lemmas.List.Concat.{flat_map-append}
 use Rattle.std.proofs.lemmas.List.FromFn.{length-map-range_with_len}
@@ -17,11 +17,11 @@ use Rattle.flow_component.specs.Happenings.{Happening, Received, Sent}
 use Rattle.flow_plan.specs.declared.plan.Sender.{Sender}
 use Rattle.flow_plan.specs.declared.plan.Connection.{Connection}
 use Rattle.flow_model.specs.States.{Process, Channel, Entry, entry_of, Past, State, Outlet, output_at, got_by, sent_by, got_at, sent_at, is_sender}
-use Rattle.flow_model.specs.Order.{connection_of, input_of, output_of, packets_at, opens, closes, entries, entries_by, Nests}
+use Rattle.flow_model.specs.Order.{connection_of, input_of, signal_of, output_of, packets_at, opens, closes, entries, entries_by, Nests}
 use Rattle.flow_model.specs.Places.{OnePlaceCounted, dropped_total, made_by, made_count, ids_in_hands}
 use Rattle.flow_model.specs.Wires.{wires}
 use Rattle.flow_model.specs.Stands.{ChannelShown, show_channel, StandsForOpen}
-use Rattle.flow_model.specs.Valid.{Valid, OneReceiver, DepthsTell, SendersOpen, OpenSendersTell, IsLeftOpen, IsOpenSender, AllDifferent, GoodProcess, FitProcess}
+use Rattle.flow_model.specs.Valid.{Valid, OneReceiver, SignalsApart, DepthsTell, SendersOpen, OpenSendersTell, IsLeftOpen, IsOpenSender, AllDifferent, GoodProcess, FitProcess}
 use Rattle.flow_model.specs.Fit.{Fit}
 use Rattle.flow_model.proofs.Lists.{map-found}
 use Rattle.flow_model.proofs.Totals.{made_ids, times-made, length-made_ids}
@@ -31,7 +31,7 @@ use Rattle.flow_machine.specs.FitNets.{FitNet}
 use Rattle.flow_machine.specs.Joins.{Joins, processes_of, places_count, packets_left, senders_so, is_so_at, closes_later, leaves_open, depth_at, outlet_place}
 use Rattle.flow_machine.proofs.Lists.{element-there}
 use Rattle.flow_machine.proofs.Standings.{get-map}
-use Rattle.flow_machine.proofs.Planning.{input-wires, output-wires, unwrapped}
+use Rattle.flow_machine.proofs.Planning.{input-wires, output-wires, unwrapped, received_at, own-within, input-received, signal-received}
 use Rattle.flow_machine.proofs.JoinLogs.{log_of, turn_at, log-from, part-least}
 use Rattle.flow_machine.proofs.JoinPlaces.{missing, missing-times, missing-length, cut, cut-total, cut-length, bodies-shown, channel_of, channels_of, channels-there, channels-from, channels-shown, transit-of}
 use Rattle.flow_machine.proofs.JoinSenders.{picked-different, picked-only, picked-all, picked-length, outlet-there, outlet-from, later-open, open-left, closes-later}
@@ -100,6 +100,10 @@ module _ {K : Type 0} (shape_of : K → Shape) (uses : K → ℕ → Bool) (read
   told_of p (Some x) = spread (λ i. map (Received i) (received (connection_of (slice_get x.inputs i)))) (length x.inputs) ++ spread (λ o. map (Sent o) (sent p o x (output_at x o))) (length x.outputs)
   told_of p None = []
 
+  abbrev signals_of : Option (Process K) → List Entry
+  signals_of (Some x) = map entry_of (received x.signal)
+  signals_of None = []
+
   abbrev left : List ℕ
   left = ids_in_hands ps ++ flat_map (λ (k : ChannelShown). all_ids k.packets) net.channels
 
@@ -110,14 +114,24 @@ module _ {K : Type 0} (shape_of : K → Shape) (uses : K → ℕ → Bool) (read
   counts = map (λ (b : BodyValue K). b.dropped) net.bodies
 
   abbrev past : Past
-  past = record { dropped = cut counts lost; told = λ p. told_of p (slice_get ps p); put = λ c. map as_put (moved c) }
+  past = record { dropped = cut counts lost; told = λ p. told_of p (slice_get ps p); signals = λ p. signals_of (slice_get ps p); put = λ c. map as_put (moved c) }
 
   abbrev pub joined_state : State K
   joined_state = record { kept = record { processes = ps; channels = channels_of ps net.connections net.channels }; past = past }
 
   -- what the plan says, in words of processes
   at-input : (p i c : ℕ) → input_of i (slice_get ps p) ≡ Some c → (x : Connection) × (slice_get net.connections c ≡ Some x) × (x.receiver ≡ p) × (x.input ≡ i)
-  at-input p i c is = j.planned.inputs p i c (input-wires net.bodies p i ∙ is)
+  at-input p i c is = j.planned.inputs p i c (input-wires net.bodies p i ∙ input-received i c (slice_get ps p) is)
+
+  at-signal : (p c : ℕ) (z : Process K) → slice_get ps p ≡ Some z → z.signal ≡ Some c → (x : Connection) × (slice_get net.connections c ≡ Some x) × (x.receiver ≡ p) × (x.input ≡ length z.inputs)
+  at-signal p c z there is = j.planned.inputs p (length z.inputs) c (input-wires net.bodies p (length z.inputs) ∙ ap (received_at (length z.inputs)) there ∙ signal-received c z is)
+
+  some-signal : (p c : ℕ) → signal_of (slice_get ps p) ≡ Some c → (z : Process K) × (slice_get ps p ≡ Some z) × (z.signal ≡ Some c)
+  some-signal p c is = by (slice_get ps p) refl is
+    where
+      by : (found : Option (Process K)) → slice_get ps p ≡ found → signal_of found ≡ Some c → (z : Process K) × (slice_get ps p ≡ Some z) × (z.signal ≡ Some c)
+      by (Some z) there is = (z, there, is)
+      by None there is = absurd (cc)
 
   at-output : (p o c : ℕ) → output_of o (slice_get ps p) ≡ Some c → (x : Connection) × (slice_get net.connections c ≡ Some x) × IsOpenSender (record { process = p; output = o }) x.senders
   at-output p o c is = j.planned.outputs p o c (output-wires net.bodies p o ∙ is)
@@ -394,12 +408,48 @@ module _ {K : Type 0} (shape_of : K → Shape) (uses : K → ℕ → Bool) (read
       let h : Some k.capacity ≡ Some x.capacity = sym (get-map (λ (l : ChannelShown). l.capacity) net.channels c k at) ∙ ap (λ (xs : List ℕ). slice_get xs c) j.planned.channels ∙ get-map (λ (y : Connection). y.capacity) net.connections c x is in
       cc
 
+  -- what came at an automatic input
+  signalled-in : (p c : ℕ) → signal_of (slice_get ps p) ≡ Some c → entries (map as_put (moved c)) ≡ past.signals p ++ map entry_of (packets_at (slice_get joined_state.kept.channels c))
+  signalled-in p c is =
+      let z = some-signal p c is in
+      let y = at-signal p c z.0 z.1 z.2 in
+      let k = channel-at c y.0 y.1 in
+      let claims = claims_of deep y.0.senders in
+      let came : past.signals p ≡ map entry_of (packets_moved (taken nobody claims k.0.takes)) = ap signals_of z.1 ∙ ap (λ (o : Option ℕ). map entry_of (received o)) z.2 ∙ (λ i. map entry_of (taken_at (y.1 i) (k.1 i))) in
+      let here : packets_at (slice_get joined_state.kept.channels c) ≡ k.0.packets = ap packets_at (channels-there ps net.connections net.channels c y.0 k.0 y.1 k.1) in
+      put-entries (moved c) ∙ (λ i. map entry_of (packets_moved (moves_at (y.1 i) (k.1 i)))) ∙ ap (map entry_of) (moved-append (taken nobody claims k.0.takes) (present nobody (drop k.0.takes claims) k.0.packets) ∙ (λ i. packets_moved (taken nobody claims k.0.takes) ++ present-packets nobody (drop k.0.takes claims) k.0.packets i))
+      ∙ map-append entry_of (packets_moved (taken nobody claims k.0.takes)) k.0.packets ∙ (λ i. sym came i ++ map entry_of (sym here i))
+
+  signals-apart : SignalsApart ps
+  signals-apart = record {
+    one = λ p q c a b. (
+        let f = some-signal p c a in
+        let g = some-signal q c b in
+        let x = at-signal p c f.0 f.1 f.2 in
+        let y = at-signal q c g.0 g.1 g.2 in
+        let h : Some x.0 ≡ Some y.0 = sym x.1 ∙ y.1 in
+        let same : x.0 ≡ y.0 = cc in
+        sym x.2 ∙ ap (λ (z : Connection). z.receiver) same ∙ y.2);
+    apart = λ p q i c a b. (
+        let f = some-signal p c a in
+        let x = at-signal p c f.0 f.1 f.2 in
+        let y = at-input q i c b in
+        let h : Some x.0 ≡ Some y.0 = sym x.1 ∙ y.1 in
+        let same : x.0 ≡ y.0 = cc in
+        let place : q ≡ p = sym y.2 ∙ ap (λ (z : Connection). z.receiver) (sym same) ∙ x.2 in
+        let number : i ≡ length f.0.inputs = sym y.3 ∙ ap (λ (z : Connection). z.input) (sym same) ∙ x.3 in
+        let own : connection_of (slice_get f.0.inputs i) ≡ Some c = ap (input_of i) (sym f.1) ∙ ap (λ (n : ℕ). input_of i (slice_get ps n)) (sym place) ∙ b in
+        let below = own-within f.0.inputs i c own in
+        absurd (omega (arith, below, number)));
+  }
+
   pub valid-joined : Valid ready joined_state
   valid-joined = record {
     one_place = place-in;
-    in_order = record { received = received-in; sent = sent-in; nested = nested-in };
+    in_order = record { received = received-in; signalled = signalled-in; sent = sent-in; nested = nested-in };
     depths_tell = depths-in;
     one_receiver = one-receiver;
+    signals_apart = signals-apart;
     capacities = λ c ch is. (let r = channels-from ps net.connections net.channels c ch is in omega (arith, capacity-is c r.0 r.1 r.2 r.3, (j.planned.capacity c r.0 r.2).1, ap (λ (d : Channel). d.capacity) r.4));
     within = λ c ch is. (let r = channels-from ps net.connections net.channels c ch is in omega (arith, (j.channels c r.0 r.1 r.2 r.3).within, ap (λ (d : Channel). d.capacity) r.4, ap (λ (d : Channel). length d.packets) r.4));
     senders = senders-open;

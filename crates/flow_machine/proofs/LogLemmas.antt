@@ -1,7 +1,7 @@
 -- What bodies remember of one turn more.
 use Rattle.std.proofs.Common.{◌≡◌, ◌≢◌, ℕ, ◌+◌, Bool, true, false, cond, List, [], ◌∷◌, ◌++◌, length, map, nat_eq, refl, ap, sym, ◌∙◌, arith, append-nil, append_assoc}
 use Rattle.std.proofs.lemmas.Bool.Decides.{nat_tests}
-use Rattle.flow_model.specs.Events.{Event, Starts, Finishes, Gets, Takes_text, Hears_end, Sends, Learns, Sleeps, Closes, seen_by}
+use Rattle.flow_model.specs.Events.{Event, Starts, Finishes, Gets, Takes_text, Hears_end, Sends, Learns, Sleeps, Closes, Signals, seen_by}
 use Rattle.flow_machine.specs.Logs.{Logged, stamps_of, levels_of}
 use Rattle.flow_machine.specs.Nets.{levels_told}
 
@@ -50,6 +50,7 @@ levels-own p n e = let t : nat_eq p p ≡ true = grind (arith, nat_tests) in rw 
     told (Learns port level) = refl
     told Sleeps = refl
     told (Closes output c) = refl
+    told (Signals c packet) = refl
 
 -- A turn of another process gives it no level number.
 pub levels-other : (q p n : ℕ) (seen : List ℕ) → q ≢ p → levels_of q n (record { process = p; seen = seen } ∷ []) ≡ []

@@ -1,7 +1,6 @@
 -- Turns of bodies and connections are turns of the net.
 use Rattle.std.proofs.Common.{◌≡◌, ℕ, ◌≤◌, Bool, true, false, cond, List, [], ◌∷◌, length, Option, Some, None, refl, ap, sym, subst, ◌∙◌, slice_get, slice_set, nat_lt, nat_le, ◌==◌}
 use Rattle.std.specs.Prelude.{option_and_then, is_some, IfSome, unwrap_or, ◌&&◌}
-use Rattle.std.specs.List.{list_all}
 use Rattle.std.proofs.lemmas.List.{set-get_or}
 use Rattle.std.proofs.lemmas.Option.{get_or_from_slice_get}
 use Rattle.flow_packet.specs.Tree.{Tree}
@@ -13,7 +12,7 @@ use Rattle.flow_model.specs.declared.Stage.TheVariants as stages
 use Rattle.flow_model.specs.declared.Block.{Block}
 use Rattle.flow_model.specs.declared.Block.TheVariants as blocks
 use Rattle.flow_model.specs.States.{Input, From, Text, Process, Outlet, outlets, output_at}
-use Rattle.flow_model.specs.Events.{Event, Starts, Finishes, Gets, Takes_text, Hears_end, Sends, Learns, Sleeps, Closes, Look, event_from, stage_event, received, received_from, receive_event, sent, told_level, idle_event, level_in, is_fresh, can_start, has_ended}
+use Rattle.flow_model.specs.Events.{Event, Starts, Finishes, Gets, Takes_text, Hears_end, Sends, Learns, Sleeps, Closes, Signals, Look, event_from, stage_event, received, received_from, receive_event, sent, told_level, level_in, is_fresh}
 use Rattle.flow_model.specs.Turns.{process_after}
 use Rattle.flow_model.specs.Order.{connection_of}
 use Rattle.flow_model.specs.Verdicts.{block_of, exact_level, exact_level_for, waits_for}
@@ -29,7 +28,7 @@ use Rattle.flow_machine.specs.declared.answers.Turn.TheVariants as turns
 use Rattle.flow_machine.specs.Answers.{case_of, stage_case, receive_case, send_case, level_case, close_case, CaseIs}
 use Rattle.flow_machine.specs.declared.answers.Effect.TheVariants as effects
 use Rattle.flow_machine.specs.Effects.{id_sent, port_at, text_event, TakesTurn}
-use Rattle.flow_machine.specs.Nets.{looks_of, PairTurns, AloneTurns, NetTurn, TurnsNet, level_of, packet_wished, HasFailed}
+use Rattle.flow_machine.specs.Nets.{looks_of, PairTurns, WakeTurns, NetTurn, TurnsNet, level_of, packet_wished, HasFailed}
 use Rattle.flow_machine.specs.Thoughts.{IsSetAt}
 use Rattle.flow_model.specs.Schedules.{IsThoughtStage}
 use Rattle.flow_machine.proofs.Standings.{get-map}
@@ -93,12 +92,14 @@ IsOn c (Learns port level) = Unit {0}
 IsOn c Starts = Unit {0}
 IsOn c Finishes = Unit {0}
 IsOn c Sleeps = Unit {0}
+IsOn c (Signals d packet) = d ≡ c
 
 -- An event on one connection changes that one alone.
 pub all-on : (c : ℕ) (channels : List ChannelShown) (channel : ChannelShown) (e : Event) → IsOn c e → slice_get channels c ≡ Some channel → all_shown_after e channels ≡ slice_set channels c (shown_after e channel)
 all-on c channels channel (Gets port d packet) on is = change_at-some channels d (shown_after (Gets port d packet)) channel (ap (slice_get channels) on ∙ is) ∙ ap (λ n. slice_set channels n (shown_after (Gets port d packet) channel)) on
 all-on c channels channel (Sends port d packet) on is = change_at-some channels d (shown_after (Sends port d packet)) channel (ap (slice_get channels) on ∙ is) ∙ ap (λ n. slice_set channels n (shown_after (Sends port d packet) channel)) on
 all-on c channels channel (Closes output d) on is = change_at-some channels d (shown_after (Closes output d)) channel (ap (slice_get channels) on ∙ is) ∙ ap (λ n. slice_set channels n (shown_after (Closes output d) channel)) on
+all-on c channels channel (Signals d packet) on is = change_at-some channels d (shown_after (Signals d packet)) channel (ap (slice_get channels) on ∙ is) ∙ ap (λ n. slice_set channels n (shown_after (Signals d packet) channel)) on
 all-on c channels channel (Hears_end port) on is = sym (set-same channels c channel is)
 all-on c channels channel (Takes_text port text) on is = sym (set-same channels c channel is)
 all-on c channels channel (Learns port level) on is = sym (set-same channels c channel is)
@@ -133,12 +134,12 @@ pair-net {K} bodies channels p c n stamp b b' channel channel' found block (turn
     (ap (option_and_then (λ (x : BodyValue K). block_of (looks_of channels) x.process)) at_p ∙ blocked not_made.1 ∙ ap (λ v. Some v) (sym not_made.0), λ i. net_of (bodies_are i) (channels_are i))
 pair-net {K} bodies channels p c n stamp b b' channel channel' found block (turns.Over over) at_p at_c happens on blocked never = absurd never
 
--- the same of a turn at no connection
-pub alone-net : {K : Type 0} (bodies : List (BodyValue K)) (channels : List ChannelShown) (p n stamp : ℕ) (b b' : BodyValue K) (found : Option Event) (block : Block) (answer : Answer)
-    → slice_get bodies p ≡ Some b → event_from (looks_of channels) b.process n ≡ found → ((event : Event) → found ≡ Some event → all_shown_after event channels ≡ channels)
-    → (found ≡ None → block_of (looks_of channels) b.process ≡ Some block) → AloneTurns found block stamp b answer b'
-    → TurnsNet (net_of bodies channels) p n stamp answer (net_of (slice_set bodies p b') channels)
-alone-net {K} bodies channels p n stamp b b' found block (turns.Made s) at_p happens on blocked made = let t = made.1 in (
+-- the same of a turn of an idle body
+pub wake-net : {K : Type 0} (bodies : List (BodyValue K)) (channels channels' : List ChannelShown) (p n stamp : ℕ) (b b' : BodyValue K) (found : Option Event) (block : Block) (answer : Answer)
+    → slice_get bodies p ≡ Some b → event_from (looks_of channels) b.process n ≡ found
+    → (found ≡ None → block_of (looks_of channels) b.process ≡ Some block) → WakeTurns found block stamp b channels answer b' channels'
+    → TurnsNet (net_of bodies channels) p n stamp answer (net_of (slice_set bodies p b') channels')
+wake-net {K} bodies channels channels' p n stamp b b' found block (turns.Made s) at_p happens blocked made = let t = made.1 in (
   made.0,
   (
     t.0,
@@ -149,15 +150,15 @@ alone-net {K} bodies channels p n stamp b b' found block (turns.Made s) at_p hap
       happens = happens ∙ t.1;
       turn = t.2;
       bodies = refl;
-      channels = sym (on t.0 t.1);
+      channels = t.3;
       connections = refl;
     },
   ),
 )
-alone-net {K} bodies channels p n stamp b b' found block (turns.Blocked w) at_p happens on blocked not_made =
+wake-net {K} bodies channels channels' p n stamp b b' found block (turns.Blocked w) at_p happens blocked not_made =
     let bodies_are : slice_set bodies p b' ≡ bodies = ap (slice_set bodies p) not_made.2 ∙ set-same bodies p b at_p in
-    (ap (option_and_then (λ (x : BodyValue K). block_of (looks_of channels) x.process)) at_p ∙ blocked not_made.1 ∙ ap (λ v. Some v) (sym not_made.0), λ i. net_of (bodies_are i) channels)
-alone-net {K} bodies channels p n stamp b b' found block (turns.Over over) at_p happens on blocked never = absurd never
+    (ap (option_and_then (λ (x : BodyValue K). block_of (looks_of channels) x.process)) at_p ∙ blocked not_made.1 ∙ ap (λ v. Some v) (sym not_made.0), λ i. net_of (bodies_are i) (not_made.3 i))
+wake-net {K} bodies channels channels' p n stamp b b' found block (turns.Over over) at_p happens blocked never = absurd never
 
 -- where a process has no turn its block is what it waits for
 pub blocks-by : {K : Type 0} (looks : List Look) (x : Process K) (block : Block) → event_from looks x (exact_level looks x) ≡ None → waits_for x x.stage ≡ Some block → block_of looks x ≡ Some block
@@ -228,15 +229,6 @@ exact channels x c port channel stage output there =
 -- A process of the net is told the level that its looks give it.
 pub level-there : {K : Type 0} (net : NetValue K) (p : ℕ) (b : BodyValue K) → slice_get net.bodies p ≡ Some b → level_of net p ≡ exact_level (looks_of net.channels) b.process
 level-there {K} net p b there = ap (λ (o : Option (BodyValue K)). unwrap_or (option_and_then (λ (x : BodyValue K). Some (exact_level (looks_of net.channels) x.process)) o) 0) there
-
-idle-if : (channels : List ChannelShown) (a b : Bool) (e : Event) → cond a (Some Starts) (cond b (Some Finishes) None) ≡ Some e → all_shown_after e channels ≡ channels
-idle-if channels true b e is = let h : Starts ≡ e = cc in subst (λ (f : Event). all_shown_after f channels ≡ channels) h refl
-idle-if channels false true e is = let h : Finishes ≡ e = cc in subst (λ (f : Event). all_shown_after f channels ≡ channels) h refl
-idle-if channels false false e is = absurd (cc)
-
--- an idle process leaves the connections as they are
-pub idle-alone : {K : Type 0} (looks : List Look) (x : Process K) (channels : List ChannelShown) (e : Event) → idle_event looks x ≡ Some e → all_shown_after e channels ≡ channels
-idle-alone looks x channels e is = idle-if channels (can_start looks x) (list_all (has_ended looks) x.inputs) e is
 
 -- a receive on a port with an initial text
 pub text-turn : {K : Type 0} (b b' : BodyValue K) (channels : List ChannelShown) (bodies : List (BodyValue K)) (p n stamp : ℕ) (port : Port) (text : List ℕ) → slice_get bodies p ≡ Some b → b.process.stage ≡ stages.Wishing (wishes.Receive port) → slice_get b.process.inputs port.0 ≡ Some (Text text)

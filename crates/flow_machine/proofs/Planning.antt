@@ -1,29 +1,30 @@
 -- The connections of a net are its plan's: at the start, and after turns and thoughts.
-use Rattle.std.proofs.Common.{◌≡◌, ℕ, ◌+◌, Bool, true, List, [], ◌∷◌, length, map, Option, Some, None, suc, zero, refl, ap, sym, ◌∙◌, subst, arith, nat_eq, slice_get, slice_set, get_or}
+use Rattle.std.proofs.Common.{◌≡◌, ℕ, ◌+◌, ◌<◌, ◌≤◌, Bool, true, false, cond, List, [], ◌∷◌, length, map, Option, Some, None, suc, zero, refl, ap, sym, ◌∙◌, subst, arith, nat_eq, slice_get, slice_set, get_or, ◌⊎◌, inl, inr}
 use Rattle.std.specs.Prelude.{option_and_then}
 use Rattle.std.specs.List.{range_with_len}
 use Rattle.std.proofs.lemmas.Bool.Decides.{nat_tests}
 use Rattle.std.proofs.lemmas.List.{length-map, map-set}
+use Rattle.std.proofs.lemmas.List.FromFn.{length-map-range_with_len}
 use Rattle.std.proofs.lemmas.List.Quantifiers.{position-Some}
 use Rattle.std.proofs.lemmas.Option.{slice_get-get_or}
 use Rattle.flow_packet.specs.Held.{Held}
 use Rattle.flow_component.specs.declared.Answer.{Answer}
 use Rattle.flow_component.specs.declared.Shape.{Shape}
-use Rattle.flow_plan.specs.Network.{Network}
+use Rattle.flow_plan.specs.Network.{Network, IsInputEnd}
 use Rattle.flow_plan.specs.declared.plan.Process.{Process as PlanProcess}
 use Rattle.flow_plan.specs.declared.plan.Sender.{Sender}
 use Rattle.flow_plan.specs.declared.plan.Connection.{Connection}
-use Rattle.flow_model.specs.States.{Process, Outlet, output_at, change_at, changed}
-use Rattle.flow_model.specs.Events.{Event, Starts, Finishes, Gets, Takes_text, Hears_end, Sends, Learns, Sleeps, Closes}
-use Rattle.flow_model.specs.Order.{connection_of, input_of, output_of}
+use Rattle.flow_model.specs.States.{Input, Process, Outlet, output_at, change_at, changed}
+use Rattle.flow_model.specs.Events.{Event, Starts, Finishes, Gets, Takes_text, Hears_end, Sends, Learns, Sleeps, Closes, Signals}
+use Rattle.flow_model.specs.Order.{connection_of, input_of, signal_of, output_of}
 use Rattle.flow_model.specs.Wires.{Wires, wires}
 use Rattle.flow_model.specs.Plans.{text_at, connected_or, receives_at, sends_at, input_at, leads_to, comes_from, process_at_start, processes_at_start, channel_at_start, start_of, StartsWell}
 use Rattle.flow_model.specs.Stands.{BodyShown, ChannelShown, NetShown, shown_after, all_shown_after, StandsForOpen}
 use Rattle.flow_model.specs.Valid.{IsOpenSender}
 use Rattle.flow_model.proofs.Senders.{both-true}
-use Rattle.flow_model.proofs.Start.{no_connection, port-at, start-process, start-input}
+use Rattle.flow_model.proofs.Start.{no_connection, port-at, start-process, start-input, start-signal}
 use Rattle.flow_model.proofs.Leaving.{ports-at, position-only, process-there, OpenSendersTell-start}
-use Rattle.flow_model.proofs.Order.{inputs-after, outputs-after}
+use Rattle.flow_model.proofs.Order.{inputs-after, outputs-after, signal-after}
 use Rattle.flow_machine.specs.Values.{BodyValue, NetValue, shown_body, shown_net}
 use Rattle.flow_machine.specs.Nets.{NetTurn, TurnsNet, SeesNet}
 use Rattle.flow_machine.specs.Starts.{channel_begun}
@@ -43,8 +44,39 @@ body_wires b = wires b.process
 abbrev pub capacity_of : ChannelShown → ℕ
 capacity_of k = k.capacity
 
+-- The connection at an input of a process. Its automatic input has the number of the others.
+abbrev pub received_at : {K : Type 0} → ℕ → Option (Process K) → Option ℕ
+received_at i (Some x) = cond (nat_eq i (length x.inputs)) x.signal (connection_of (slice_get x.inputs i))
+received_at i None = None
+
+-- An input with a connection is one of the list.
+pub own-within : (inputs : List Input) (i c : ℕ) → connection_of (slice_get inputs i) ≡ Some c → i < length inputs
+own-within [] i c is = absurd (cc)
+own-within (x ∷ xs) zero c is = omega arith
+own-within (x ∷ xs) (suc i) c is = omega (arith, own-within xs i c is)
+
+-- A connection at an input of a process is received there.
+pub input-received : {K : Type 0} (i c : ℕ) (found : Option (Process K)) → input_of i found ≡ Some c → received_at i found ≡ Some c
+input-received i c None is = absurd (cc)
+input-received i c (Some x) is =
+    let below = own-within x.inputs i c is in
+    let t : nat_eq i (length x.inputs) ≡ false = grind (arith, nat_tests) in
+    rw t is
+
+-- So is one at its automatic input.
+pub signal-received : {K : Type 0} (c : ℕ) (x : Process K) → x.signal ≡ Some c → received_at (length x.inputs) (Some x) ≡ Some c
+signal-received c x is = let n : ℕ = length x.inputs in let t : nat_eq n n ≡ true = grind (arith, nat_tests) in rw t is
+
+-- What is received at a number stands at an input, or at the automatic one.
+pub received-cases : {K : Type 0} (x : Process K) (i c : ℕ) → received_at i (Some x) ≡ Some c → (connection_of (slice_get x.inputs i) ≡ Some c) ⊎ ((i ≡ length x.inputs) × (x.signal ≡ Some c))
+received-cases x i c is = by (nat_eq i (length x.inputs)) refl is
+  where
+    by : (b : Bool) → nat_eq i (length x.inputs) ≡ b → cond b x.signal (connection_of (slice_get x.inputs i)) ≡ Some c → (connection_of (slice_get x.inputs i) ≡ Some c) ⊎ ((i ≡ length x.inputs) × (x.signal ≡ Some c))
+    by true t at = inr ((grind (arith, nat_tests)), at)
+    by false t at = inl at
+
 -- what stands at the ports of processes, by their wires
-input-map : {K : Type 0} (ps : List (Process K)) (p i : ℕ) → input_in i (slice_get (map wires ps) p) ≡ input_of i (slice_get ps p)
+input-map : {K : Type 0} (ps : List (Process K)) (p i : ℕ) → input_in i (slice_get (map wires ps) p) ≡ received_at i (slice_get ps p)
 input-map [] p i = refl
 input-map (x ∷ ps) zero i = refl
 input-map (x ∷ ps) (suc p) i = input-map ps p i
@@ -59,7 +91,7 @@ wires-processes [] = refl
 wires-processes (b ∷ bodies) = ap (λ ws. wires b.process ∷ ws) (wires-processes bodies)
 
 -- The connection at an input of a body is that of its process.
-pub input-wires : {K : Type 0} (bodies : List (BodyValue K)) (p i : ℕ) → input_in i (slice_get (map body_wires bodies) p) ≡ input_of i (slice_get (processes_of bodies) p)
+pub input-wires : {K : Type 0} (bodies : List (BodyValue K)) (p i : ℕ) → input_in i (slice_get (map body_wires bodies) p) ≡ received_at i (slice_get (processes_of bodies) p)
 input-wires bodies p i = ap (λ (ws : List Wires). input_in i (slice_get ws p)) (wires-processes bodies) ∙ input-map (processes_of bodies) p i
 
 -- The connection at an output of a body is that of its process.
@@ -88,20 +120,57 @@ module _ {K : Type 0} (shape_of : K → Shape) (uses : K → ℕ → Bool) (read
   abbrev ps : List (Process K)
   ps = processes_at_start plan 0 plan.processes components
 
-  start-receiver : (c : ℕ) (x : Connection) → slice_get plan.connections c ≡ Some x → input_of x.input (slice_get ps x.receiver) ≡ Some c
-  start-receiver c x is =
-      let has = well.wired.receivers c x is in
-      let found = process-there plan 0 plan.processes components x.receiver has.0 well.one_each has.1 in
-      let zero_p : 0 + x.receiver ≡ x.receiver = omega arith in
-      let zero_i : 0 + x.input ≡ x.input = omega arith in
-      let itself : leads_to x.receiver x.input x ≡ true = (let t : nat_eq x.receiver x.receiver ≡ true = grind (arith, nat_tests) in let u : nat_eq x.input x.input ≡ true = grind (arith, nat_tests) in rw (t, u) refl) in
-      let at : receives_at plan x.receiver x.input ≡ Some c = position-only (leads_to x.receiver x.input) plan.connections c x is itself (λ d y there passes. (let b = both-true y.receiver x.receiver y.input x.input passes in well.wired.one_receiver d c y x there is b.0 b.1)) in
-      ap (input_of x.input) (found.1 ∙ ap (λ (q : ℕ). Some (process_at_start plan q has.0 found.0)) zero_p) ∙ ap connection_of (ports-at (input_at plan x.receiver has.0) 0 has.0.inputs x.input has.2 ∙ ap (λ (i : ℕ). Some (input_at plan x.receiver has.0 i)) zero_i)
-      ∙ ap (λ (o : Option ℕ). connection_of (Some (connected_or (text_at has.0.initials x.input) o))) at
+  start-receiver : (c : ℕ) (x : Connection) → slice_get plan.connections c ≡ Some x → received_at x.input (slice_get ps x.receiver) ≡ Some c
+  start-receiver c x is = by (nat_eq x.input spec.inputs) refl
+    where
+      has : IsInputEnd plan x.receiver x.input
+      has = well.wired.receivers c x is
 
-  start-inputs : (p i c : ℕ) → input_of i (slice_get ps p) ≡ Some c → (x : Connection) × (slice_get plan.connections c ≡ Some x) × (x.receiver ≡ p) × (x.input ≡ i)
+      spec : PlanProcess
+      spec = has.0
+
+      found : (component : K) × (slice_get ps x.receiver ≡ Some (process_at_start plan (0 + x.receiver) spec component))
+      found = process-there plan 0 plan.processes components x.receiver spec well.one_each has.1
+
+      z : Process K
+      z = process_at_start plan x.receiver spec found.0
+
+      there : slice_get ps x.receiver ≡ Some z
+      there = let zero_p : 0 + x.receiver ≡ x.receiver = omega arith in found.1 ∙ ap (λ (q : ℕ). Some (process_at_start plan q spec found.0)) zero_p
+
+      at : receives_at plan x.receiver x.input ≡ Some c
+      at =
+          let itself : leads_to x.receiver x.input x ≡ true = (let t : nat_eq x.receiver x.receiver ≡ true = grind (arith, nat_tests) in let u : nat_eq x.input x.input ≡ true = grind (arith, nat_tests) in rw (t, u) refl) in
+          position-only (leads_to x.receiver x.input) plan.connections c x is itself (λ d y there passes. (let b = both-true y.receiver x.receiver y.input x.input passes in well.wired.one_receiver d c y x there is b.0 b.1))
+
+      by : (b : Bool) → nat_eq x.input spec.inputs ≡ b → received_at x.input (slice_get ps x.receiver) ≡ Some c
+      by true t =
+          let same : x.input ≡ spec.inputs = grind (arith, nat_tests) in
+          let long : length z.inputs ≡ x.input = length-map-range_with_len (input_at plan x.receiver spec) 0 spec.inputs ∙ sym same in
+          ap (received_at x.input) there ∙ ap (λ (i : ℕ). received_at i (Some z)) (sym long) ∙ signal-received c z (ap (receives_at plan x.receiver) (sym same) ∙ at)
+      by false t =
+          let most : x.input ≤ spec.inputs = has.2 in
+          let below : x.input < spec.inputs = grind (arith, nat_tests) in
+          let zero_i : 0 + x.input ≡ x.input = omega arith in
+          ap (received_at x.input) there
+          ∙ input-received x.input c (Some z) (ap connection_of (ports-at (input_at plan x.receiver spec) 0 spec.inputs x.input below ∙ ap (λ (i : ℕ). Some (input_at plan x.receiver spec i)) zero_i) ∙ ap (λ (o : Option ℕ). connection_of (Some (connected_or (text_at spec.initials x.input) o))) at)
+
+  start-receives : (p i c : ℕ) → received_at i (slice_get ps p) ≡ Some c → receives_at plan p i ≡ Some c
+  start-receives p i c is = by (slice_get ps p) refl is
+    where
+      by : (found : Option (Process K)) → slice_get ps p ≡ found → received_at i found ≡ Some c → receives_at plan p i ≡ Some c
+      by None there at = absurd (cc)
+      by (Some z) there at = elim (received-cases z i c at) [
+        | inl own ↦ start-input plan components p i c (ap (input_of i) there ∙ own)
+        | inr automatic ↦ (let s = start-signal plan components p c (ap signal_of there ∙ automatic.1) in
+            let h : Some s.0 ≡ Some z = sym s.1 ∙ there in
+            let same : s.0 ≡ z = cc in
+            ap (receives_at plan p) (automatic.0 ∙ ap (λ (y : Process K). length y.inputs) (sym same)) ∙ s.2)
+      ]
+
+  start-inputs : (p i c : ℕ) → received_at i (slice_get ps p) ≡ Some c → (x : Connection) × (slice_get plan.connections c ≡ Some x) × (x.receiver ≡ p) × (x.input ≡ i)
   start-inputs p i c is =
-      let found = position-Some (leads_to p i) plan.connections c no_connection (start-input plan components p i c is) in
+      let found = position-Some (leads_to p i) plan.connections c no_connection (start-receives p i c is) in
       let x = get_or plan.connections c no_connection in
       let b = both-true x.receiver p x.input i found.1 in
       (x, slice_get-get_or plan.connections c no_connection found.0, b.0, b.1)
@@ -120,9 +189,9 @@ module _ {K : Type 0} (shape_of : K → Shape) (uses : K → ℕ → Bool) (read
       by None there out = absurd (cc)
       by (Some z) there out =
           let at = start-process plan components p z there in
-          let port : slice_get (map (sends_at plan p) (range_with_len 0 at.spec.outputs)) o ≡ Some (Some c) = ap (λ (y : Process K). slice_get y.outputs o) (sym at.is) ∙ unwrapped (slice_get z.outputs o) c out in
+          let port : slice_get (map (sends_at plan p) (range_with_len 0 (at.spec.outputs + 1))) o ≡ Some (Some c) = ap (λ (y : Process K). slice_get y.outputs o) (sym at.is) ∙ unwrapped (slice_get z.outputs o) c out in
           let zero_o : o ≡ 0 + o = omega arith in
-          let sends : sends_at plan p o ≡ Some c = ap (sends_at plan p) zero_o ∙ port-at (sends_at plan p) 0 at.spec.outputs o (Some c) port in
+          let sends : sends_at plan p o ≡ Some c = ap (sends_at plan p) zero_o ∙ port-at (sends_at plan p) 0 (at.spec.outputs + 1) o (Some c) port in
           let found = position-Some (comes_from p o) plan.connections c no_connection sends in
           (get_or plan.connections c no_connection, slice_get-get_or plan.connections c no_connection found.0, found.1)
 
@@ -159,9 +228,9 @@ planned-kept old new connections ws cs planned =
     (subst (λ (xs : List Wires). IsWiredBy old.connections xs (map capacity_of new.channels)) (sym ws) (subst (λ (ns : List ℕ). IsWiredBy old.connections (map body_wires old.bodies) ns) (sym cs) planned))
 
 -- A body with the same ports leaves all wires as they were.
-pub wires-set : {K : Type 0} (bodies : List (BodyValue K)) (p : ℕ) (b b' : BodyValue K) → slice_get bodies p ≡ Some b → b'.process.inputs ≡ b.process.inputs → b'.process.outputs ≡ b.process.outputs → map body_wires (slice_set bodies p b') ≡ map body_wires bodies
-wires-set {K} bodies p b b' there inputs outputs =
-    map-set body_wires bodies p b' ∙ ap (slice_set (map body_wires bodies) p) (let same : body_wires b' ≡ body_wires b = (λ i. record { inputs = inputs i; outputs = outputs i }) in same) ∙ set-same (map body_wires bodies) p (body_wires b) (get-map body_wires bodies p b there)
+pub wires-set : {K : Type 0} (bodies : List (BodyValue K)) (p : ℕ) (b b' : BodyValue K) → slice_get bodies p ≡ Some b → b'.process.inputs ≡ b.process.inputs → b'.process.outputs ≡ b.process.outputs → b'.process.signal ≡ b.process.signal → map body_wires (slice_set bodies p b') ≡ map body_wires bodies
+wires-set {K} bodies p b b' there inputs outputs signal =
+    map-set body_wires bodies p b' ∙ ap (slice_set (map body_wires bodies) p) (let same : body_wires b' ≡ body_wires b = (λ i. record { inputs = inputs i; outputs = outputs i; signal = signal i }) in same) ∙ set-same (map body_wires bodies) p (body_wires b) (get-map body_wires bodies p b there)
 
 capacities-change : (channels : List ChannelShown) (c : ℕ) (f : ChannelShown → ChannelShown) → ((k : ChannelShown) → (f k).capacity ≡ k.capacity) → map capacity_of (change_at channels c f) ≡ map capacity_of channels
 capacities-change channels c f same = by (slice_get channels c) refl
@@ -174,6 +243,7 @@ pub capacities-after : (e : Event) (channels : List ChannelShown) → map capaci
 capacities-after (Gets port c packet) channels = capacities-change channels c (shown_after (Gets port c packet)) (λ k. refl)
 capacities-after (Sends port c packet) channels = capacities-change channels c (shown_after (Sends port c packet)) (λ k. refl)
 capacities-after (Closes output c) channels = capacities-change channels c (shown_after (Closes output c)) (λ k. refl)
+capacities-after (Signals c packet) channels = capacities-change channels c (shown_after (Signals c packet)) (λ k. refl)
 capacities-after Starts channels = refl
 capacities-after Finishes channels = refl
 capacities-after (Takes_text port text) channels = refl
@@ -185,7 +255,7 @@ planned-turn : {K : Type 0} (old : NetValue K) (p n : ℕ) (e : Event) (stamp : 
 planned-turn {K} old p n e stamp new turn planned =
     let x = turn.before.process in
     planned-kept old new turn.connections
-    (ap (map body_wires) turn.bodies ∙ wires-set old.bodies p turn.before turn.after turn.there (ap (λ (y : Process K). y.inputs) turn.turn.process ∙ inputs-after x e) (ap (λ (y : Process K). y.outputs) turn.turn.process ∙ outputs-after x e))
+    (ap (map body_wires) turn.bodies ∙ wires-set old.bodies p turn.before turn.after turn.there (ap (λ (y : Process K). y.inputs) turn.turn.process ∙ inputs-after x e) (ap (λ (y : Process K). y.outputs) turn.turn.process ∙ outputs-after x e) (ap (λ (y : Process K). y.signal) turn.turn.process ∙ signal-after x e))
     (ap (map capacity_of) turn.channels ∙ capacities-after e old.channels) planned
 
 -- A turn keeps the net that of its plan.

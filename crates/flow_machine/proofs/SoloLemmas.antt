@@ -11,7 +11,7 @@ use Rattle.flow_model.specs.declared.Stage.{Stage}
 use Rattle.flow_model.specs.declared.Stage.TheVariants as stages
 use Rattle.flow_model.specs.declared.Block.{Block}
 use Rattle.flow_model.specs.States.{Process, State}
-use Rattle.flow_model.specs.Events.{Event, Starts, Finishes, Gets, Takes_text, Hears_end, Sends, Learns, Sleeps, Closes, Look, looks, event_from, event_of, stage_event, seen_by, level_at}
+use Rattle.flow_model.specs.Events.{Event, Starts, Finishes, Gets, Takes_text, Hears_end, Sends, Learns, Sleeps, Closes, Signals, Look, looks, event_from, event_of, stage_event, seen_by, level_at}
 use Rattle.flow_model.specs.Works.{Work, worked}
 use Rattle.flow_model.proofs.Schedules.{turns-after}
 use Rattle.flow_model.specs.Schedules.{Journal, no_turns, then_turns, Settles, WorksLead, IsThought, IsThoughtStage}
@@ -31,7 +31,7 @@ use Rattle.flow_machine.specs.declared.answers.Thought.{Thought}
 use Rattle.flow_machine.specs.declared.answers.Thought.TheVariants as thoughts
 use Rattle.flow_machine.specs.Nets.{looks_of, NetTurn, TurnsNet, level_of, HasFailed, levels_told}
 use Rattle.flow_machine.specs.NetSteps.{ThinksNet, IsSetIn}
-use Rattle.flow_machine.specs.Thoughts.{SettlesBody, WorkedBody, SameBody, IsSet, IsSetAt}
+use Rattle.flow_machine.specs.Thoughts.{SettlesBody, WorkedBody, SameBody, IsSet}
 use Rattle.flow_machine.specs.Logs.{Logged, journal_of, Remembers, stamps_of, levels_of, turns_made}
 use Rattle.flow_machine.specs.Starts.{AllSet}
 use Rattle.flow_machine.specs.Solo.{Goes, HasNoTurnIn, MakesTurn, SettlesNet, StarvesNet, IsFirstUnset, SetBelow, turns_of, burst_of, pass_below, some_passes, some_works, all_settled, round_robin}
@@ -98,7 +98,7 @@ settles-failed next old p cause new think = record {
   after = think.after;
   there = think.there;
   settles = think.thinks.0;
-  set = subst (IsSetAt think.after) (sym think.thinks.1) tt;
+  set = think.thinks.1;
   keeps = think.keeps;
   bodies = think.bodies;
   channels = think.channels;
@@ -119,6 +119,7 @@ exact-turn net s p b (Hears_end port) stands there happens = tt
 exact-turn net s p b (Sends port c packet) stands there happens = tt
 exact-turn net s p b Sleeps stands there happens = tt
 exact-turn net s p b (Closes output c) stands there happens = tt
+exact-turn net s p b (Signals c packet) stands there happens = tt
 exact-turn {K} net s p b (Learns port level) stands there happens =
     let at = explains s.kept.channels b.process (level_of net p) (Learns port level) (sym (happens-in net s b.process (level_of net p) stands) ∙ happens) in
     let exactly : exact_level (looks_of net.channels) b.process ≡ level_at (looks_of net.channels) b.process at.wished.0 = ap (exact_level_for (looks_of net.channels) b.process) at.stage in

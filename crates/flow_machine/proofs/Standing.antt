@@ -21,7 +21,7 @@ use Rattle.flow_component.specs.Laws.{Outcome, Wishes, Fails, held_after, ReadyI
 use Rattle.flow_model.specs.declared.Stage.{Stage}
 use Rattle.flow_model.specs.declared.Stage.TheVariants as stages
 use Rattle.flow_model.specs.States.{Process, Input, outlets_from}
-use Rattle.flow_model.specs.Events.{Gets, Takes_text}
+use Rattle.flow_model.specs.Events.{Gets, Takes_text, Signals}
 use Rattle.flow_model.specs.Turns.{limited, process_after, at_stage, depth_after}
 use Rattle.flow_model.specs.Works.{worked, judged, sending, nests}
 use Rattle.flow_model.specs.Schedules.{IsThoughtStage}
@@ -242,6 +242,31 @@ module _ {K : Type 0} (shape_of : K → Shape) (uses : K → ℕ → Bool) (read
   -- A process that still takes turns has one left.
   pub turn-left : (x : Process K) → StandsWell shape_of uses ready x → least_left x.stage ≡ 1 → x.turns < TURN_LIMIT
   turn-left x well one = omega (arith, well.good.turns, one)
+
+  -- An idle process that took a packet from its automatic input.
+  pub stands-signal : (x : Process K) (packet : Tree) → StandsWell shape_of uses ready x → x.stage ≡ stages.Idle → StandsWell shape_of uses ready (process_after x (Signals 0 packet))
+  stands-signal x packet well stage = by (nat_eq (x.turns + 1) TURN_LIMIT) refl
+    where
+      left : x.turns < TURN_LIMIT
+      left = turn-left x well (ap least_left stage)
+
+      z : Stage → Process K
+      z stage = record x { stage = stage; turns = x.turns + 1; signalled = true }
+
+      well-at : (stage : Stage) → owed stage ≡ 0 → x.turns + 1 + least_left stage ≤ TURN_LIMIT → IsNested (z stage) stage → ReadyAt (ready x.component) x.held stage → IsGranted (z stage) stage → StandsWell shape_of uses ready (z stage)
+      well-at stage owes most nested can granted = record {
+        good = record { maker = refl; made = omega (arith, owes, well.good.made); turns = most; depths = well.good.depths; nested = nested; is_ready = can };
+        fit = record { inputs = well.fit.inputs; used = well.fit.used; granted = granted };
+        sound = well.sound;
+        fresh = well.fresh;
+        deep = λ port. omega (arith, well.deep port);
+        short = well.short;
+        few = well.few;
+      }
+
+      by : (b : Bool) → nat_eq (x.turns + 1) TURN_LIMIT ≡ b → StandsWell shape_of uses ready (z (cond b (stages.Failed fails.TurnLimit) stages.Idle))
+      by true t = well-at (stages.Failed fails.TurnLimit) refl (omega (arith, left)) tt tt tt
+      by false t = let below : x.turns + 1 < TURN_LIMIT = less_or (x.turns + 1) TURN_LIMIT t (omega (arith, left)) in well-at stages.Idle refl (omega (arith, below)) tt (subst (ReadyAt (ready x.component) x.held) stage well.good.is_ready) tt
 
   -- A process that took an initial text.
   pub stands-text : (x : Process K) (port : Port) (text : List ℕ) → StandsWell shape_of uses ready x → x.stage ≡ stages.Wishing (wishes.Receive port) → StandsWell shape_of uses ready (process_after x (Takes_text port.0 text))

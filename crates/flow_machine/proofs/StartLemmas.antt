@@ -77,7 +77,7 @@ connected text None c is = absurd (cc)
 
 -- A body that begins stands for its process at the start.
 pub stands-start : {K : Type 0} (shape_of : K → Shape) (uses : K → ℕ → Bool) (ready : K → Held → Answer → Type 0) (plan : Plan) (components : List K) (p : ℕ) (q : PlanProcess) (component : K) → StartsWell shape_of uses ready plan components → slice_get plan.processes p ≡ Some q → slice_get components p ≡ Some component
-    → q.outputs < 2 ^ 32 → StandsWell shape_of uses ready (process_at_start plan p q component)
+    → q.outputs + 1 < 2 ^ 32 → StandsWell shape_of uses ready (process_at_start plan p q component)
 stands-start {K} shape_of uses ready plan components p q component well is at few =
     let x : Process K = process_at_start plan p q component in
     let z : 0 + p ≡ p = omega arith in
@@ -87,11 +87,11 @@ stands-start {K} shape_of uses ready plan components p q component well is at fe
       fit = AllFit-start shape_of uses ready plan components well p x there;
       sound = record { once = λ id. omega arith; counted = omega arith; below = λ id here own. absurd (omega (arith, here)) };
       fresh = length-replicate q.inputs false ∙ sym (length-ports (input_at plan p q) 0 q.inputs);
-      deep = λ port. omega (arith, zero-depth q.outputs port);
+      deep = λ port. omega (arith, zero-depth (q.outputs + 1) port);
       short = λ i text here. (
           let one = unconnected (text_at q.initials (0 + i)) (receives_at plan p (0 + i)) text (port-at (input_at plan p q) 0 q.inputs i (Text text) here) in
           subst (λ (t : List ℕ). length t ≤ 1048576) one (text-short q.initials (0 + i) 1048576 (λ k initial found. well.wired.short p k initial.0 q initial.1 is found)));
-      few = omega (arith, length-ports (sends_at plan p) 0 q.outputs, few);
+      few = omega (arith, length-ports (sends_at plan p) 0 (q.outputs + 1), few);
     }
 
 bodies-shown : {K : Type 0} (plan : Plan) (n : ℕ) (xs : List PlanProcess) (components : List K) (bodies : List (BodyValue K)) → length components ≡ length xs → length bodies ≡ length xs
@@ -146,8 +146,8 @@ wired-start {K} network p q component b process =
           let found = connected (text_at q.initials (0 + i)) (receives_at plan p (0 + i)) c (port-at (input_at plan p q) 0 q.inputs i (From c) there) in
           omega (arith, (position-Some (leads_to p (0 + i)) plan.connections c no_connection found).0, same));
       outputs = λ o c is. (
-          let there : slice_get (map (sends_at plan p) (range_with_len 0 q.outputs)) o ≡ Some (Some c) = unwrapped (slice_get (map (sends_at plan p) (range_with_len 0 q.outputs)) o) c (ap (λ (x : Process K). output_at x o) (sym process) ∙ is) in
-          let found = port-at (sends_at plan p) 0 q.outputs o (Some c) there in
+          let there : slice_get (map (sends_at plan p) (range_with_len 0 (q.outputs + 1))) o ≡ Some (Some c) = unwrapped (slice_get (map (sends_at plan p) (range_with_len 0 (q.outputs + 1))) o) c (ap (λ (x : Process K). output_at x o) (sym process) ∙ is) in
+          let found = port-at (sends_at plan p) 0 (q.outputs + 1) o (Some c) there in
           omega (arith, (position-Some (comes_from p (0 + o)) plan.connections c no_connection found).0, same));
     }
 

@@ -22,12 +22,12 @@ worked-same next old mid new work same = record {
 -- A body that did its work and then took its room has thought.
 pub thinks-worked : {K : Type 0} (next : K → Held → Answer → Outcome K → Type 0) (old mid : BodyValue K) (t : Thought) (new : BodyValue K) → WorkedBody next old mid → Prepares mid t new → Thinks next old t new
 thinks-worked next old mid thoughts.Wishing new work prepared = (inr (worked-same next old mid new work prepared.0), prepared.1, prepared.2)
-thinks-worked next old mid (thoughts.Failed cause) new work prepared = (inr (worked-same next old mid new work prepared.0), prepared.1)
+thinks-worked next old mid (thoughts.Failed cause) new work prepared = (inr (worked-same next old mid new work prepared.0), prepared.1, prepared.2)
 thinks-worked next old mid thoughts.NoMemory new work prepared = (inr (worked-same next old mid new work prepared.0), prepared.1, prepared.2)
 
 pub thinks-thought : {K : Type 0} (next : K → Held → Answer → Outcome K → Type 0) (old : BodyValue K) (t : Thought) (new : BodyValue K) → IsThoughtStage old.process.stage → Prepares old t new → Thinks next old t new
 thinks-thought next old thoughts.Wishing new thought prepared = (inl (thought, prepared.0), prepared.1, prepared.2)
-thinks-thought next old (thoughts.Failed cause) new thought prepared = (inl (thought, prepared.0), prepared.1)
+thinks-thought next old (thoughts.Failed cause) new thought prepared = (inl (thought, prepared.0), prepared.1, prepared.2)
 thinks-thought next old thoughts.NoMemory new thought prepared = (inl prepared.0, prepared.1, prepared.2)
 
 -- What keeps the turns keeps them behind what keeps them.

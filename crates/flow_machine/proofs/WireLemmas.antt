@@ -1,5 +1,5 @@
 -- Rows of connections, one for each process.
-use Rattle.std.proofs.Common.{◌≡◌, ◌≢◌, ℕ, ◌+◌, ◌<◌, ◌≤◌, Bool, true, false, List, [], ◌∷◌, ◌++◌, length, map, replicate, take, drop, get_or, Option, Some, None, suc, zero, refl, ap, sym, ◌∙◌, arith, slice_get, slice_set, cond, inl, inr}
+use Rattle.std.proofs.Common.{◌≡◌, ◌≢◌, ℕ, ◌+◌, ◌<◌, ◌≤◌, Bool, true, false, List, [], ◌∷◌, ◌++◌, length, map, replicate, take, drop, get_or, Option, Some, None, suc, zero, refl, ap, sym, ◌∙◌, arith, slice_get, slice_set, cond, inl, inr, add-one}
 use Rattle.std.specs.Prelude.{position, slice_index_or, IfSome, ◌||◌}
 use Rattle.std.specs.List.{range_with_len, list_any}
 use Rattle.std.proofs.lemmas.Bool.Decides.{nat_tests}
@@ -165,3 +165,11 @@ inputs-step initials cs k d within =
 pub inputs-ranged : (initials : List (ℕ × List ℕ)) (f : ℕ → Option ℕ) (i n : ℕ) → inputs_from initials i (map f (range_with_len i n)) ≡ map (λ k. connected_or (text_at initials k) (f k)) (range_with_len i n)
 inputs-ranged initials f i zero = refl
 inputs-ranged initials f i (suc n) = ap (λ (xs : List Input). connected_or (text_at initials i) (f i) ∷ xs) (inputs-ranged initials f (i + 1) n)
+
+take-range : {A : Type 0} (f : ℕ → A) (k n : ℕ) → take n (map f (range_with_len k (suc n))) ≡ map f (range_with_len k n)
+take-range f k zero = refl
+take-range f k (suc n) = ap (λ xs. f k ∷ xs) (take-range f (k + 1) n)
+
+-- A row without its last port.
+pub row-front : {A : Type 0} (f : ℕ → A) (n : ℕ) (row : List A) → row ≡ map f (range_with_len 0 (n + 1)) → take n row ≡ map f (range_with_len 0 n)
+row-front f n row is = ap (take n) (is ∙ ap (λ (m : ℕ). map f (range_with_len 0 m)) (add-one n)) ∙ take-range f 0 n

@@ -14,6 +14,8 @@ use Rattle.flow_component.specs.declared.Wish.{Wish}
 use Rattle.flow_component.specs.declared.Wish.TheVariants as wishes
 use Rattle.flow_component.specs.declared.Fail.{Fail}
 use Rattle.flow_component.specs.declared.Fail.TheVariants as fails
+use Rattle.flow_component.specs.declared.OwnFail.{OwnFail}
+use Rattle.flow_component.specs.declared.OwnFail.TheVariants as owns
 use Rattle.flow_model.specs.declared.Stage.{Stage}
 use Rattle.flow_model.specs.declared.Stage.TheVariants as stages
 use Rattle.flow_plan.specs.declared.plan.Sender.{Sender}
@@ -75,22 +77,40 @@ fail_numbers (fails.TextLimit n) = (2, (n, (0, 0)))
 fail_numbers fails.HandsLimit = (3, (0, (0, 0)))
 fail_numbers fails.TreeDepth = (4, (0, (0, 0)))
 fail_numbers (fails.BracketIn p) = (5, (p.0, (0, 0)))
+fail_numbers (fails.Own (owns.Own n)) = (6, (0, (n, 0)))
+fail_numbers (fails.Own (owns.Packet n)) = (6, (1, (n, 0)))
+fail_numbers (fails.Own (owns.Port n)) = (6, (2, (n, 0)))
+fail_numbers (fails.Own owns.TapeLimit) = (6, (3, (0, 0)))
+fail_numbers (fails.Own owns.Differs) = (6, (4, (0, 0)))
 
-abbrev fail_from : ℕ → ℕ → Fail
-fail_from zero n = fails.Unnested (port n)
-fail_from (suc zero) n = fails.TurnLimit
-fail_from (suc (suc zero)) n = fails.TextLimit n
-fail_from (suc (suc (suc zero))) n = fails.HandsLimit
-fail_from (suc (suc (suc (suc zero)))) n = fails.TreeDepth
-fail_from (suc (suc (suc (suc (suc k))))) n = fails.BracketIn (port n)
+abbrev own_from : ℕ → ℕ → OwnFail
+own_from zero n = owns.Own n
+own_from (suc zero) n = owns.Packet n
+own_from (suc (suc zero)) n = owns.Port n
+own_from (suc (suc (suc zero))) n = owns.TapeLimit
+own_from (suc (suc (suc (suc k)))) n = owns.Differs
 
-fail-back : (f : Fail) → fail_from (fail_numbers f).0 (fail_numbers f).1.0 ≡ f
+abbrev fail_from : ℕ → ℕ → ℕ → Fail
+fail_from zero n m = fails.Unnested (port n)
+fail_from (suc zero) n m = fails.TurnLimit
+fail_from (suc (suc zero)) n m = fails.TextLimit n
+fail_from (suc (suc (suc zero))) n m = fails.HandsLimit
+fail_from (suc (suc (suc (suc zero)))) n m = fails.TreeDepth
+fail_from (suc (suc (suc (suc (suc zero))))) n m = fails.BracketIn (port n)
+fail_from (suc (suc (suc (suc (suc (suc k)))))) n m = fails.Own (own_from n m)
+
+fail-back : (f : Fail) → fail_from (fail_numbers f).0 (fail_numbers f).1.0 (fail_numbers f).1.1.0 ≡ f
 fail-back (fails.Unnested p) = refl
 fail-back fails.TurnLimit = refl
 fail-back (fails.TextLimit n) = refl
 fail-back fails.HandsLimit = refl
 fail-back fails.TreeDepth = refl
 fail-back (fails.BracketIn p) = refl
+fail-back (fails.Own (owns.Own n)) = refl
+fail-back (fails.Own (owns.Packet n)) = refl
+fail-back (fails.Own (owns.Port n)) = refl
+fail-back (fails.Own owns.TapeLimit) = refl
+fail-back (fails.Own owns.Differs) = refl
 
 abbrev stage_numbers : Stage → ℕ × Numbers
 stage_numbers stages.Idle = (0, (0, (0, (0, 0))))
@@ -106,7 +126,7 @@ stage_from (suc zero) k n id = stages.Told (answer_from k n)
 stage_from (suc (suc zero)) k n id = stages.Wishing (wish_from k n id)
 stage_from (suc (suc (suc zero))) k n id = stages.Closing k
 stage_from (suc (suc (suc (suc zero)))) k n id = stages.Ended
-stage_from (suc (suc (suc (suc (suc m))))) k n id = stages.Failed (fail_from k n)
+stage_from (suc (suc (suc (suc (suc m))))) k n id = stages.Failed (fail_from k n id)
 
 abbrev stage_of : ℕ × Numbers → Stage
 stage_of n = stage_from n.0 n.1.0 n.1.1.0 n.1.1.1.0
@@ -161,19 +181,19 @@ held_code =
 
 abbrev pub process_code : {K : Type 0} → Coded K → Coded (Process K)
 process_code {K} k =
-    code_by (Stage × (Bool × (K × (Held × (List Bool × (List ℕ × (ℕ × (List Input × List (Option ℕ)))))))))
-    (coded× stage_code (coded× coded_bool (coded× k (coded× held_code (coded× (coded_list coded_bool) (coded× (coded_list coded_ℕ) (coded× coded_ℕ (coded× (coded_list input_code) (coded_list (coded_option coded_ℕ))))))))))
-    (λ x. (x.stage, (x.has_run, (x.component, (x.held, (x.fresh, (x.depths, (x.turns, (x.inputs, x.outputs)))))))))
-    (λ p. record { stage = p.0; has_run = p.1.0; component = p.1.1.0; held = p.1.1.1.0; fresh = p.1.1.1.1.0; depths = p.1.1.1.1.1.0; turns = p.1.1.1.1.1.1.0; inputs = p.1.1.1.1.1.1.1.0; outputs = p.1.1.1.1.1.1.1.1 })
+    code_by (Stage × (Bool × (K × (Held × (List Bool × (List ℕ × (ℕ × (List Input × (List (Option ℕ) × (Option ℕ × Bool))))))))))
+    (coded× stage_code (coded× coded_bool (coded× k (coded× held_code (coded× (coded_list coded_bool) (coded× (coded_list coded_ℕ) (coded× coded_ℕ (coded× (coded_list input_code) (coded× (coded_list (coded_option coded_ℕ)) (coded× (coded_option coded_ℕ) coded_bool))))))))))
+    (λ x. (x.stage, (x.has_run, (x.component, (x.held, (x.fresh, (x.depths, (x.turns, (x.inputs, (x.outputs, (x.signal, x.signalled)))))))))))
+    (λ p. record { stage = p.0; has_run = p.1.0; component = p.1.1.0; held = p.1.1.1.0; fresh = p.1.1.1.1.0; depths = p.1.1.1.1.1.0; turns = p.1.1.1.1.1.1.0; inputs = p.1.1.1.1.1.1.1.0; outputs = p.1.1.1.1.1.1.1.1.0; signal = p.1.1.1.1.1.1.1.1.1.0; signalled = p.1.1.1.1.1.1.1.1.1.1 })
     (λ _. refl)
 
 -- How the prover keeps a body as a value.
 abbrev pub body_code : {K : Type 0} → Coded K → Coded (BodyValue K)
 body_code {K} k =
-    code_by (Process K × (ℕ × (Option Kind × (List ℕ × (List (ℕ × ℕ) × (ℕ × (ℕ × (ℕ × Option (List ℕ)))))))))
-    (coded× (process_code k) (coded× coded_ℕ (coded× (coded_option kind_code) (coded× (coded_list coded_ℕ) (coded× (coded_list (coded× coded_ℕ coded_ℕ)) (coded× coded_ℕ (coded× coded_ℕ (coded× coded_ℕ (coded_option (coded_list coded_ℕ))))))))))
-    (λ b. (b.process, (b.dropped, (b.leaving, (b.stamps, (b.levels, (b.places, (b.stamp_room, (b.level_room, b.copy)))))))))
-    (λ p. record { process = p.0; dropped = p.1.0; leaving = p.1.1.0; stamps = p.1.1.1.0; levels = p.1.1.1.1.0; places = p.1.1.1.1.1.0; stamp_room = p.1.1.1.1.1.1.0; level_room = p.1.1.1.1.1.1.1.0; copy = p.1.1.1.1.1.1.1.1 })
+    code_by (Process K × (Bool × (ℕ × (Option Kind × (List ℕ × (List (ℕ × ℕ) × (ℕ × (ℕ × (ℕ × Option (List ℕ))))))))))
+    (coded× (process_code k) (coded× coded_bool (coded× coded_ℕ (coded× (coded_option kind_code) (coded× (coded_list coded_ℕ) (coded× (coded_list (coded× coded_ℕ coded_ℕ)) (coded× coded_ℕ (coded× coded_ℕ (coded× coded_ℕ (coded_option (coded_list coded_ℕ)))))))))))
+    (λ b. (b.process, (b.told_end, (b.dropped, (b.leaving, (b.stamps, (b.levels, (b.places, (b.stamp_room, (b.level_room, b.copy))))))))))
+    (λ p. record { process = p.0; told_end = p.1.0; dropped = p.1.1.0; leaving = p.1.1.1.0; stamps = p.1.1.1.1.0; levels = p.1.1.1.1.1.0; places = p.1.1.1.1.1.1.0; stamp_room = p.1.1.1.1.1.1.1.0; level_room = p.1.1.1.1.1.1.1.1.0; copy = p.1.1.1.1.1.1.1.1.1 })
     (λ _. refl)
 
 -- How the prover keeps a channel as a value.

@@ -1,6 +1,7 @@
 -- What an effect does to the process that makes a turn.
-use Rattle.std.specs.Prelude.{◌≡◌, ℕ, ◌<◌, Bool, true, false, List, [], ◌∷◌, ◌++◌, ◌+◌, ◌^◌, length, IsTrue, Option, Some, None, slice_get, slice_set, slice_index}
+use Rattle.std.specs.Prelude.{◌≡◌, ℕ, ◌<◌, Bool, true, false, List, [], ◌∷◌, ◌++◌, ◌+◌, ◌-◌, ◌^◌, length, min, IsTrue, Option, Some, None, slice_get, slice_set, slice_index}
 use Rattle.flow_packet.specs.declared.packet.Kind.{Kind}
+use Rattle.flow_packet.specs.Tree.{ids}
 use Rattle.flow_packet.specs.Held.{Sound, with_packet}
 use Rattle.flow_component.specs.declared.Port.{Port}
 use Rattle.flow_component.specs.declared.Answer.TheVariants as answers
@@ -9,7 +10,7 @@ use Rattle.flow_component.specs.declared.Wish.TheVariants as wishes
 use Rattle.flow_model.specs.declared.Stage.{Stage}
 use Rattle.flow_model.specs.declared.Stage.TheVariants as stages
 use Rattle.flow_model.specs.States.{Input, From, Text, Process}
-use Rattle.flow_model.specs.Events.{Event, Starts, Finishes, Gets, Takes_text, Hears_end, Learns, Sleeps, Closes, is_fresh}
+use Rattle.flow_model.specs.Events.{Event, Starts, Finishes, Gets, Takes_text, Hears_end, Learns, Sleeps, Closes, Signals, is_fresh}
 use Rattle.flow_model.specs.Turns.{process_after, at_stage, depth_after}
 use Rattle.flow_model.specs.Works.{nests}
 use Rattle.flow_machine.specs.Values.{BodyValue}
@@ -61,6 +62,7 @@ effected x leaving effects.Sent = record (at_stage x (stages.Told answers.Sent))
 effected x leaving (effects.Level n) = process_after x (Learns (port_at x.stage) n)
 effected x leaving effects.Deactivate = process_after x Sleeps
 effected x leaving effects.Closed = process_after x (Closes 0 0)
+effected x leaving (effects.Signal packet) = process_after x (Signals 0 packet)
 
 -- The level numbers that a turn with this effect and stamp adds.
 abbrev pub levels_by : Effect → ℕ → List (ℕ × ℕ)
@@ -73,6 +75,20 @@ levels_by effects.Initial stamp = []
 levels_by effects.Sent stamp = []
 levels_by effects.Deactivate stamp = []
 levels_by effects.Closed stamp = []
+levels_by (effects.Signal packet) stamp = []
+
+-- The count of the dropped after a turn with this effect: a packet that came at an automatic input is dropped, with its tree.
+abbrev pub drops_by : Effect → ℕ → ℕ
+drops_by (effects.Signal packet) n = min (n + length (ids packet)) (2 ^ 64 - 1)
+drops_by (effects.Level level) n = n
+drops_by effects.Start n = n
+drops_by effects.ToClosing n = n
+drops_by (effects.Got packet) n = n
+drops_by effects.End n = n
+drops_by effects.Initial n = n
+drops_by effects.Sent n = n
+drops_by effects.Deactivate n = n
+drops_by effects.Closed n = n
 
 -- The process wishes to receive, to send or to ask a level.
 abbrev pub WishesReceive : Stage → Type 0
@@ -105,6 +121,7 @@ IsEffectFor x leaving effects.Sent = (kind : Kind) × (leaving ≡ Some kind) ×
 IsEffectFor x leaving (effects.Level n) = (leaving ≡ None) × WishesLevel x.stage × (n < 65536)
 IsEffectFor x leaving effects.Deactivate = (leaving ≡ None) × (x.stage ≡ stages.Wishing wishes.Deactivate)
 IsEffectFor x leaving effects.Closed = (leaving ≡ None) × IsClosing x.stage
+IsEffectFor x leaving (effects.Signal packet) = (leaving ≡ None) × (x.stage ≡ stages.Idle)
 
 -- The id of the packet that the process at this stage wishes to send, if it wishes to send one.
 abbrev pub id_wished : Wish → Option ℕ
@@ -122,10 +139,11 @@ id_sent (stages.Closing i) = None
 id_sent stages.Ended = None
 id_sent (stages.Failed cause) = None
 
--- The body takes a turn with this effect and stamp: the process changes as it does, the stamp and the level number, if there is one, are added.
+-- The body takes a turn with this effect and stamp: the process and the count of the dropped change as it does, the stamp and the level number, if there
+-- is one, are added.
 pub record TakesTurn {K : Type 0} (old : BodyValue K) (effect : Effect) (stamp : ℕ) (new : BodyValue K) : Type 0 where
   pub process : new.process ≡ effected old.process old.leaving effect
-  pub dropped : new.dropped ≡ old.dropped
+  pub dropped : new.dropped ≡ drops_by effect old.dropped
   pub leaving : new.leaving ≡ None
   pub stamps : new.stamps ≡ old.stamps ++ stamp ∷ []
   pub levels : new.levels ≡ old.levels ++ levels_by effect stamp

@@ -19,9 +19,9 @@ use Rattle.flow_model.specs.Valid.{GoodProcess, FitProcess, IsOpenSender, AllDif
 use Rattle.flow_machine.specs.Values.{BodyValue, NetValue}
 use Rattle.flow_machine.specs.Logs.{turns_made}
 
--- The connection at an input, and at an output, of a process that is wired so.
+-- The connection at an input of a process that is wired so. Its automatic input has the number of the others.
 abbrev pub input_in : ℕ → Option Wires → Option ℕ
-input_in i (Some w) = connection_of (slice_get w.inputs i)
+input_in i (Some w) = if i == length w.inputs then w.signal else connection_of (slice_get w.inputs i)
 input_in i None = None
 
 -- The connection at an output of a process that is wired so.

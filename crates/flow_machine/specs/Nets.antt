@@ -10,10 +10,10 @@ use Rattle.flow_model.specs.declared.Stage.{Stage}
 use Rattle.flow_model.specs.declared.Stage.TheVariants as stages
 use Rattle.flow_model.specs.declared.Block.{Block}
 use Rattle.flow_model.specs.States.{Process, output_at}
-use Rattle.flow_model.specs.Events.{Event, Starts, Finishes, Gets, Takes_text, Hears_end, Sends, Learns, Sleeps, Closes, Look, event_from}
+use Rattle.flow_model.specs.Events.{Event, Starts, Finishes, Gets, Takes_text, Hears_end, Sends, Learns, Sleeps, Closes, Signals, Look, event_from}
 use Rattle.flow_model.specs.Turns.{process_after}
 use Rattle.flow_model.specs.Verdicts.{block_of, exact_level}
-use Rattle.flow_model.specs.Stands.{ChannelShown, look_shown, shown_after, all_shown_after}
+use Rattle.flow_model.specs.Stands.{ChannelShown, look_shown, dropped_after, shown_after, all_shown_after}
 use Rattle.flow_machine.specs.Values.{BodyValue, NetValue}
 use Rattle.flow_machine.specs.Answers.{case_of}
 use Rattle.flow_machine.specs.Effects.{id_sent}
@@ -37,11 +37,13 @@ levels_told (Hears_end port) stamp = []
 levels_told (Sends port c packet) stamp = []
 levels_told Sleeps stamp = []
 levels_told (Closes output c) stamp = []
+levels_told (Signals c packet) stamp = []
 
--- A body takes the turn that is this event, with this stamp: its process changes as the machine says, and it remembers the stamp, and the number of a level.
+-- A body takes the turn that is this event, with this stamp: its process and the count of the dropped change as the machine says, and it remembers the
+-- stamp, and the number of a level.
 pub record BodyTurn {K : Type 0} (old : BodyValue K) (event : Event) (stamp : ℕ) (new : BodyValue K) : Type 0 where
   pub process : new.process ≡ process_after old.process event
-  pub dropped : new.dropped ≡ old.dropped
+  pub dropped : new.dropped ≡ dropped_after event old.dropped
   pub leaving : new.leaving ≡ None
   pub stamps : new.stamps ≡ old.stamps ++ stamp ∷ []
   pub levels : new.levels ≡ old.levels ++ levels_told event stamp
@@ -52,11 +54,11 @@ PairTurns found block stamp b channel (answers.Made s) b' channel' = (s ≡ stam
 PairTurns found block stamp b channel (answers.Blocked w) b' channel' = (w ≡ block) × (found ≡ None) × (b' ≡ b) × (channel' ≡ channel)
 PairTurns found block stamp b channel (answers.Over over) b' channel' = ⊥
 
--- The same of a turn at no connection.
-abbrev pub AloneTurns : {K : Type 0} → Option Event → Block → ℕ → BodyValue K → Answer → BodyValue K → Type 0
-AloneTurns found block stamp b (answers.Made s) b' = (s ≡ stamp) × ((event : Event) × (found ≡ Some event) × BodyTurn b event stamp b')
-AloneTurns found block stamp b (answers.Blocked w) b' = (w ≡ block) × (found ≡ None) × (b' ≡ b)
-AloneTurns found block stamp b (answers.Over over) b' = ⊥
+-- What a turn of an idle body comes to, which may take a packet from one of all these connections.
+abbrev pub WakeTurns : {K : Type 0} → Option Event → Block → ℕ → BodyValue K → List ChannelShown → Answer → BodyValue K → List ChannelShown → Type 0
+WakeTurns found block stamp b channels (answers.Made s) b' channels' = (s ≡ stamp) × ((event : Event) × (found ≡ Some event) × BodyTurn b event stamp b' × (channels' ≡ all_shown_after event channels))
+WakeTurns found block stamp b channels (answers.Blocked w) b' channels' = (w ≡ block) × (found ≡ None) × (b' ≡ b) × (channels' ≡ channels)
+WakeTurns found block stamp b channels (answers.Over over) b' channels' = ⊥
 
 -- The hands stay sound with the oldest of these packets.
 abbrev pub GetsSound : {K : Type 0} → Process K → List Tree → Type 0

@@ -1,5 +1,5 @@
 -- What a thought does, and the room of a turn.
-use Rattle.std.specs.Prelude.{◌≡◌, ◌⊎◌, ℕ, ◌<◌, List, Option, None, slice_get}
+use Rattle.std.specs.Prelude.{◌≡◌, ◌⊎◌, ℕ, ◌<◌, true, List, Option, None, slice_get}
 use Rattle.flow_packet.specs.Tree.{Tree}
 use Rattle.flow_packet.specs.Hands.{IsAtRoot}
 use Rattle.flow_packet.specs.Held.{Held}
@@ -42,14 +42,14 @@ pub record HasRoom {K : Type 0} (body : BodyValue K) : Type 0 where
   pub level : 0 < body.level_room
   pub copy : body.copy ≡ next_text body.process body.process.stage
 
--- A body at this stage is set: no work is to come, and it has the room of its next turn, or is over.
+-- A body at this stage is set: no work is to come, and it has the room of its next turn, or is over and its component was told its end.
 abbrev pub IsSetAt : {K : Type 0} → BodyValue K → Stage → Type 0
 IsSetAt body stages.Idle = HasRoom body
 IsSetAt body (stages.Told answer) = ⊥
 IsSetAt body (stages.Wishing wish) = HasRoom body
 IsSetAt body (stages.Closing i) = HasRoom body
-IsSetAt body stages.Ended = Unit {0}
-IsSetAt body (stages.Failed cause) = Unit {0}
+IsSetAt body stages.Ended = body.told_end ≡ true
+IsSetAt body (stages.Failed cause) = body.told_end ≡ true
 
 -- A body is set for its next turn, which then takes no memory.
 abbrev pub IsSet : {K : Type 0} → BodyValue K → Type 0
@@ -90,13 +90,13 @@ HasNotFailed (stages.Failed cause) = ⊥
 -- is shown, or the work is done and only the room is missing, and the body isn't set: so the process hasn't ended.
 abbrev pub Thinks : {K : Type 0} → (K → Held → Answer → Outcome K → Type 0) → BodyValue K → Thought → BodyValue K → Type 0
 Thinks next old thoughts.Wishing new = SettlesBody next old new × IsSet new × HasNotFailed new.process.stage
-Thinks next old (thoughts.Failed cause) new = SettlesBody next old new × (new.process.stage ≡ stages.Failed cause)
+Thinks next old (thoughts.Failed cause) new = SettlesBody next old new × IsSet new × (new.process.stage ≡ stages.Failed cause)
 Thinks next old thoughts.NoMemory new = (SameBody old new ⊎ WorkedBody next old new) × HasNotFailed new.process.stage × IsUnset new
 
 -- The same of a body whose work is done: it takes the room of its next turn.
 abbrev pub Prepares : {K : Type 0} → BodyValue K → Thought → BodyValue K → Type 0
 Prepares old thoughts.Wishing new = SameBody old new × IsSet new × HasNotFailed new.process.stage
-Prepares old (thoughts.Failed cause) new = SameBody old new × (new.process.stage ≡ stages.Failed cause)
+Prepares old (thoughts.Failed cause) new = SameBody old new × IsSet new × (new.process.stage ≡ stages.Failed cause)
 Prepares old thoughts.NoMemory new = SameBody old new × HasNotFailed new.process.stage × IsUnset new
 
 -- Stamps, level numbers and a packet under way stay.

@@ -1,15 +1,16 @@
 -- How contracts see bodies and nets.
-use Rattle.std.specs.Prelude.{ℕ, List, [], map, Option}
+use Rattle.std.specs.Prelude.{ℕ, Bool, List, [], map, Option}
 use Rattle.flow_packet.specs.declared.packet.Kind.{Kind}
 use Rattle.flow_plan.specs.declared.plan.Connection.{Connection}
 use Rattle.flow_model.specs.States.{Process}
 use Rattle.flow_model.specs.Stands.{BodyShown, ChannelShown, NetShown}
 
--- A body: its process; how many packets it dropped, as far as that is counted; the kind of a packet that has left it while the turn that
+-- A body: its process; whether its component was told its end; how many packets it dropped, as far as that is counted; the kind of a packet that has left it while the turn that
 -- sends it is not over; the stamps of its turns; the level numbers that it was told, each with the stamp of its turn; and the room that
 -- it has for its next turn: places for packets, stamps and level numbers, and a copy of an initial text.
 pub record BodyValue (K : Type 0) : Type 0 where
   pub process : Process K
+  pub told_end : Bool
   pub dropped : ℕ
   pub leaving : Option Kind
   pub stamps : List ℕ

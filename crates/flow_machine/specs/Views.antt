@@ -1,5 +1,5 @@
 -- What the fields of a body show.
-use Rattle.std.specs.Prelude.{◌-◌, map, vec_len, vec_capacity}
+use Rattle.std.specs.Prelude.{Bool, ◌-◌, map, vec_len, vec_capacity}
 use Rattle.std.specs.Option.{option_map}
 use Rattle.flow_packet.specs.Held.{held_of}
 use Rattle.flow_model.specs.States.{Process}
@@ -7,24 +7,27 @@ use Rattle.flow_machine.specs.Inlets.{input_shown}
 use Rattle.flow_machine.specs.Values.{BodyValue}
 use Rattle.flow_machine.specs.declared.body.Body.TheInside.{Inside}
 
--- The process that a body is.
-abbrev pub process_shown : {K : Type 0} → Inside K → Process K
-process_shown b = record {
+-- The process that a body is: of its component it has the state.
+abbrev pub process_shown : {K : Type 0} → (K → K) → Inside K → Process K
+process_shown state_of b = record {
   stage = b.stage;
   has_run = b.has_run;
-  component = b.component;
+  component = state_of b.component;
   held = held_of b.hands;
   fresh = b.fresh.items;
   depths = b.depths.items;
   turns = vec_len b.stamps;
   inputs = map input_shown b.inlets.items;
   outputs = b.outputs.items;
+  signal = b.signal;
+  signalled = b.signalled;
 }
 
 -- What a body shows.
-abbrev pub body_shown : {K : Type 0} → Inside K → BodyValue K
-body_shown b = record {
-  process = process_shown b;
+abbrev pub body_shown : {K : Type 0} → (K → K) → (K → Bool) → Inside K → BodyValue K
+body_shown state_of told_end b = record {
+  process = process_shown state_of b;
+  told_end = told_end b.component;
   dropped = b.hands.dropped;
   leaving = b.leaving;
   stamps = b.stamps.items;

@@ -6,10 +6,10 @@ use Rattle.flow_plan.specs.declared.plan.Sender.{Sender}
 use Rattle.flow_model.specs.States.{Input}
 use Rattle.flow_model.specs.Plans.{text_at, connected_or}
 
--- The number of inputs of a process, or of its outputs.
+-- The number of inputs of a process, or of its outputs, the automatic one among them.
 abbrev pub ports_of : Bool → Process → ℕ
-ports_of true x = x.inputs
-ports_of false x = x.outputs
+ports_of true x = x.inputs + 1
+ports_of false x = x.outputs + 1
 
 -- A row for each process has at each of its ports what stands there.
 abbrev pub AreRows : Bool → List Process → (ℕ → ℕ → Option ℕ) → List (List (Option ℕ)) → Type 0

@@ -70,4 +70,6 @@ pub enum Effect {
     Level(u32),
     Deactivate,
     Closed,
+    /// The packet came at the automatic input, and is dropped.
+    Signal(Packet),
 }

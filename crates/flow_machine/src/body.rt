@@ -36,7 +36,11 @@ pub struct Body<K: Component> {
     hands: Hands,
     inlets: Vec<Inlet>,
     fresh: Vec<bool>,
+    /// The connections at its outputs, of which the last is the automatic one.
     outputs: Vec<Option<u32>>,
+    /// The connection at its automatic input, and whether a packet came there.
+    signal: Option<u32>,
+    signalled: bool,
     depths: Vec<u32>,
     /// The kind of a packet that has left for its connection, while the turn that sends it isn't over.
     leaving: Option<Kind>,
@@ -58,9 +62,9 @@ impl<K: Component> Model for Body<K> {
     ghost use Rattle.flow_machine.specs.Bodies.{IsBody};
     ghost use Rattle.flow_machine.specs.Views.{process_shown, body_shown};
 
-    ghost view = { body_shown };
+    ghost view = { body_shown K.state_of K.told_end };
 
-    ghost invariant = { λ b. IsBody K.shape_of K.uses K.ready (process_shown b) b.leaving };
+    ghost invariant = { λ b. IsBody K.shape_of K.uses K.ready (process_shown K.state_of b) b.leaving };
 }
 
 /// The packet that is to be sent at this stage.
@@ -104,8 +108,9 @@ impl<K: Component> Body<K> {
         self.has_run
     }
 
+    /// Its component, of which the process has the state.
     pub fn component(&self) -> &K
-        ensures { result.now ≡ self.now.process.component }
+        ensures { K.state_of result.now ≡ self.now.process.component }
     {
         &self.component
     }
@@ -167,6 +172,20 @@ impl<K: Component> Body<K> {
             Some(connection) => *connection,
             None => None,
         }
+    }
+
+    /// The connection at the automatic input, if there is one.
+    pub fn signal(&self) -> Option<u32>
+        ensures { result ≡ self.now.process.signal }
+    {
+        self.signal
+    }
+
+    /// A packet came at the automatic input.
+    pub fn signalled(&self) -> bool
+        ensures { result ≡ self.now.process.signalled }
+    {
+        self.signalled
     }
 
     /// Some input has a connection.
@@ -251,6 +270,8 @@ impl<K: Component> Body<K> {
             inlets: _,
             fresh: _,
             outputs: _,
+            signal: _,
+            signalled: _,
             depths: _,
             leaving: _,
             stamps: _,

@@ -56,7 +56,7 @@ impl Inlet {
     }
 }
 
-fn holds_packet(channels: &[Channel], connection: u32) -> bool
+pub(crate) fn holds_packet(channels: &[Channel], connection: u32) -> bool
     ensures { result ≡ passes holds_packet (slice_get (map look_shown channels.now) connection) }
 {
     match channels.get(connection as usize) {
@@ -65,7 +65,7 @@ fn holds_packet(channels: &[Channel], connection: u32) -> bool
     }
 }
 
-fn is_over(channels: &[Channel], connection: u32) -> bool
+pub(crate) fn is_over(channels: &[Channel], connection: u32) -> bool
     ensures { result ≡ passes is_over (slice_get (map look_shown channels.now) connection) }
 {
     match channels.get(connection as usize) {

@@ -1,8 +1,9 @@
 //! A network that runs.
-ghost use Rattle.std.specs.Prelude.{◌≡◌, ◌<◌, ◌≤◌, length, None, Some, slice_get, sum_by};
+ghost use Rattle.std.specs.Prelude.{◌≡◌, ◌<◌, ◌≤◌, length, IfSome, None, Some, slice_get, sum_by};
 ghost use Rattle.flow_model.specs.Events.{Event};
 ghost use Rattle.flow_model.specs.Schedules.{IsThoughtStage};
-ghost use Rattle.flow_machine.specs.Nets.{level_of, block_at, is_asking, asks_level, IsAt, NetTurn, TurnsNet, SeesNet};
+ghost use Rattle.flow_machine.specs.Nets.{level_of, looks_of, block_at, is_asking, asks_level, IsAt, NetTurn, TurnsNet, SeesNet};
+ghost use Rattle.flow_machine.specs.Inlets.{watches_signal};
 ghost use Rattle.flow_machine.specs.NetSteps.{IsSetIn, ThinksNet, GoesByTurn};
 ghost use Rattle.flow_machine.specs.Logs.{turns_made, HasLog};
 
@@ -147,6 +148,14 @@ impl<K: Component> Net<K> {
         ensures { result ≡ block_at self.now process }
     {
         blocks::block_of(&self.bodies, &self.channels, process)
+    }
+
+    /// An idle process watches its automatic input alone, of all its inputs.
+    pub fn watches_signal(&self, process: u32) -> bool
+        requires { process < length self.now.bodies }
+        ensures { IfSome (slice_get self.now.bodies process) (λ b. result ≡ watches_signal (looks_of self.now.channels) b.process) }
+    {
+        self.bodies[process as usize].watches_signal(&self.channels)
     }
 
     /// How many turns were made.

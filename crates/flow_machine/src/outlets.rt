@@ -15,6 +15,16 @@ pub(crate) fn output_at(outputs: &[Option<u32>], port: Port) -> Option<u32>
     }
 }
 
+/// The connection at this place of a row, if it has one there.
+pub(crate) fn connection_in(row: &[Option<u32>], place: usize) -> Option<u32>
+    ensures { result ≡ output_in row.now place }
+{
+    match row.get(place) {
+        Some(connection) => *connection,
+        None => None,
+    }
+}
+
 /// How many outputs are connected.
 pub(crate) fn outlet_count(outputs: &[Option<u32>]) -> usize
     ensures { result ≡ length (outlets_from 0 outputs.now) }

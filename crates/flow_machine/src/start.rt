@@ -1,5 +1,5 @@
 //! What stands at the ports of a process of a plan.
-ghost use Rattle.std.specs.Prelude.{◌≡◌, ◌<◌, ◌^◌, length, map, IfOk};
+ghost use Rattle.std.specs.Prelude.{◌≡◌, ◌<◌, ◌^◌, ◌↔◌, length, map, IfOk, IsTrue};
 ghost use Rattle.flow_model.specs.Plans.{text_at, connected_or};
 ghost use Rattle.flow_machine.specs.Wires.{inputs_from};
 ghost use Rattle.flow_machine.specs.Inlets.{input_shown};
@@ -15,6 +15,13 @@ pub(crate) fn places(ports: u32) -> usize
     ensures small { result < 2 ^ 32 }
 {
     ports as usize
+}
+
+/// So many ports have numbers of 32 bits.
+pub(crate) fn fits(ports: usize) -> bool
+    ensures { IsTrue result ↔ (ports < 2 ^ 32) }
+{
+    ports < 4_294_967_296
 }
 
 /// The initial text at an input, and no text where there is none.

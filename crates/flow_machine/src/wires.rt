@@ -8,13 +8,14 @@ use flow_items::Items;
 use flow_net::{Plan, Process, Sender};
 use std::alloc::{AllocError, Global};
 
-fn ports_of(process: &Process, input: bool) -> u32
+// How many inputs or outputs a process has, the automatic one among them.
+fn ports_of(process: &Process, input: bool) -> usize
     ensures { result ≡ ports_of input process.now }
 {
     if input {
-        process.inputs
+        places(process.inputs) + 1
     } else {
-        process.outputs
+        places(process.outputs) + 1
     }
 }
 
@@ -30,7 +31,7 @@ fn unwired(
     for process in processes {
         let ports = ports_of(process, input);
         let mut row = Vec::new(alloc);
-        row.resize(places(ports), None)?;
+        row.resize(ports, None)?;
         rows.push(Items::of(row))?;
     }
     Ok(rows)

@@ -74,7 +74,7 @@ at place = record { port = place; element = 0 }
 statements : AllPass (MeaningPasses std_kinds made_value) (all_statements made_value)
 statements = all_pass (MeaningPasses std_kinds made_value) (all_statements made_value) (
   (at 0, refl, in_file),
-  (refl, (refl, (refl, (refl, (refl, ((at 6, refl, twenty), ((at 9, refl, sixty), (refl, (refl, (refl, ((at 15, refl, file_a), ((at 17, refl, file_b), ((at 19, refl, file_c), tt))))))))))))),
+  (refl, (refl, (refl, (refl, (refl, ((at 12, refl, twenty), ((at 17, refl, sixty), (refl, (refl, (refl, ((at 27, refl, file_a), ((at 31, refl, file_b), ((at 35, refl, file_c), tt))))))))))))),
 )
 
 -- Each port is bound as it has to be.

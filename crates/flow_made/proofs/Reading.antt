@@ -1,7 +1,8 @@
 -- Lines that are pieces with one space between two, each said to be a form, and what lines lead to behind a header.
-use Rattle.std.proofs.Common.{◌≡◌, ◌≢◌, ℕ, ◌+◌, Bool, true, false, List, [], ◌∷◌, map, Option, Some, None, Result, refl, subst}
+use Rattle.std.proofs.Common.{◌≡◌, ◌≢◌, ℕ, ◌+◌, Bool, true, false, List, [], ◌∷◌, map, Option, Some, None, Result, refl, sym, ap, ◌∙◌, subst, inl, arith}
 use Rattle.std.specs.Prelude.{◌&&◌, is_none, codes}
 use Rattle.std.specs.List.{AllByRecursion, list_all}
+use Rattle.std.proofs.lemmas.Fmt.{decimal_digit}
 use Rattle.flow_net.proofs.Ends.{and_true}
 use Rattle.flow_parse.specs.declared.token.Token.{Token}
 use Rattle.flow_parse.specs.declared.token.Token.TheVariants.{Word, Arrow, Open, Close, OpenBracket, CloseBracket, Quoted}
@@ -9,11 +10,13 @@ use Rattle.flow_parse.specs.declared.form.Mention.{Mention}
 use Rattle.flow_parse.specs.declared.form.PortMention.{PortMention}
 use Rattle.flow_parse.specs.declared.form.Form.{Form}
 use Rattle.flow_parse.specs.declared.form.Form.TheVariants.{Header, Connection, Initial}
+use Rattle.flow_parse.specs.declared.form.Form.TheVariants as forms
+use Rattle.flow_parse.specs.declared.form.EndMention.TheVariants.{Port}
 use Rattle.flow_parse.specs.declared.fault.NetFault.{NetFault}
 use Rattle.flow_parse.specs.declared.value.NetText.{NetText}
 use Rattle.flow_parse.specs.Spelling.{is_word_byte}
 use Rattle.flow_parse.specs.Forms.{is_reserved}
-use Rattle.flow_parse.specs.Files.{says, LineIs, Parts, with_line, fault_at, at_end, LeadsTo}
+use Rattle.flow_parse.specs.Files.{says, LineIs, Parts, Open as OpenPart, put_into, close, with_line, fault_at, at_end, LeadsTo}
 use Rattle.flow_parse.proofs.PrintedRows.{IsWord, joined, pieces_are_row, word_piece, arrow_piece, quoted_piece, kinded_piece, bracketed_piece}
 
 -- The bytes are some, and bytes of words.
@@ -67,23 +70,23 @@ within_line (b ∷ bs) all = (λ e. let bad : is_word_byte 10 ≡ true = subst (
 pub record Saying : Type 0 where
   pub line : List ℕ
   pub form : Form
-  pub is : LineIs line (says form)
+  pub is : LineIs 1 line (says form)
 
 -- The header.
-pub header : LineIs (joined ((Word (codes "flow") ∷ []) ∷ (Word (codes "1") ∷ []) ∷ [])) (says Header)
+pub header : LineIs 1 (joined ((Word (codes "flow") ∷ []) ∷ (Word (codes "1") ∷ []) ∷ [])) (says (Header 1))
 header = (
   Word (codes "flow") ∷ Word (codes "1") ∷ [],
-  pieces_are_row (Word (codes "flow") ∷ []) ((Word (codes "1") ∷ []) ∷ []) (word_piece (codes "flow") (word (codes "flow") refl)) (word_piece (codes "1") (word (codes "1") refl), tt),
-  (refl, tt),
+  pieces_are_row 1 (Word (codes "flow") ∷ []) ((Word (codes "1") ∷ []) ∷ []) (word_piece 1 (codes "flow") (word (codes "flow") refl)) (word_piece 1 (codes "1") (word (codes "1") refl), tt),
+  (ap (λ (w : List ℕ). Word (codes "flow") ∷ Word w ∷ []) (decimal_digit 1 (omega arith)), inl refl),
 )
 
 -- A line of these pieces connects an output to an input of a process, whose kind it gives.
 pub connects_says : (from out into to kind : List ℕ) → are_words (from ∷ out ∷ into ∷ to ∷ kind ∷ []) ≡ true → is_reserved from ≡ false
-    → LineIs (joined ((Word from ∷ []) ∷ (Word out ∷ []) ∷ (Arrow ∷ []) ∷ (Word into ∷ []) ∷ kinded_tokens to kind ∷ [])) (says (Connection (bare from) (port out) None (port into) (kinded to kind)))
+    → LineIs 1 (joined ((Word from ∷ []) ∷ (Word out ∷ []) ∷ (Arrow ∷ []) ∷ (Word into ∷ []) ∷ kinded_tokens to kind ∷ [])) (says (Connection (bare from) (Port (port out)) None (Port (port into)) (kinded to kind)))
 connects_says from out into to kind are free = let w = all_words (from ∷ out ∷ into ∷ to ∷ kind ∷ []) are in (
   Word from ∷ Word out ∷ Arrow ∷ Word into ∷ kinded_tokens to kind,
-  pieces_are_row (Word from ∷ []) ((Word out ∷ []) ∷ (Arrow ∷ []) ∷ (Word into ∷ []) ∷ kinded_tokens to kind ∷ []) (word_piece from w.0)
-      (word_piece out w.1.0, (arrow_piece, (word_piece into w.1.1.0, (kinded_piece to kind w.1.1.1.0 w.1.1.1.1.0, tt)))),
+  pieces_are_row 1 (Word from ∷ []) ((Word out ∷ []) ∷ (Arrow ∷ []) ∷ (Word into ∷ []) ∷ kinded_tokens to kind ∷ []) (word_piece 1 from w.0)
+      (word_piece 1 out w.1.0, (arrow_piece 1, (word_piece 1 into w.1.1.0, (kinded_piece 1 to kind w.1.1.1.0 w.1.1.1.1.0, tt)))),
   (refl, free),
 )
 
@@ -91,18 +94,18 @@ connects_says from out into to kind are free = let w = all_words (from ∷ out �
 abbrev pub connects : (from out into to kind : List ℕ) → are_words (from ∷ out ∷ into ∷ to ∷ kind ∷ []) ≡ true → is_reserved from ≡ false → Saying
 connects from out into to kind are free = record {
   line = joined ((Word from ∷ []) ∷ (Word out ∷ []) ∷ (Arrow ∷ []) ∷ (Word into ∷ []) ∷ kinded_tokens to kind ∷ []);
-  form = Connection (bare from) (port out) None (port into) (kinded to kind);
+  form = Connection (bare from) (Port (port out)) None (Port (port into)) (kinded to kind);
   is = connects_says from out into to kind are free;
 }
 
 -- A line of these pieces connects an element of an output so.
 pub connects_element_says : (from out number into to kind : List ℕ) → are_words (from ∷ out ∷ number ∷ into ∷ to ∷ kind ∷ []) ≡ true → is_reserved from ≡ false
-    → LineIs (joined ((Word from ∷ []) ∷ (Word out ∷ OpenBracket ∷ Word number ∷ CloseBracket ∷ []) ∷ (Arrow ∷ []) ∷ (Word into ∷ []) ∷ kinded_tokens to kind ∷ []))
-    (says (Connection (bare from) (element out number) None (port into) (kinded to kind)))
+    → LineIs 1 (joined ((Word from ∷ []) ∷ (Word out ∷ OpenBracket ∷ Word number ∷ CloseBracket ∷ []) ∷ (Arrow ∷ []) ∷ (Word into ∷ []) ∷ kinded_tokens to kind ∷ []))
+    (says (Connection (bare from) (Port (element out number)) None (Port (port into)) (kinded to kind)))
 connects_element_says from out number into to kind are free = let w = all_words (from ∷ out ∷ number ∷ into ∷ to ∷ kind ∷ []) are in (
   Word from ∷ Word out ∷ OpenBracket ∷ Word number ∷ CloseBracket ∷ Arrow ∷ Word into ∷ kinded_tokens to kind,
-  pieces_are_row (Word from ∷ []) ((Word out ∷ OpenBracket ∷ Word number ∷ CloseBracket ∷ []) ∷ (Arrow ∷ []) ∷ (Word into ∷ []) ∷ kinded_tokens to kind ∷ []) (word_piece from w.0)
-      (bracketed_piece out number w.1.0 w.1.1.0, (arrow_piece, (word_piece into w.1.1.1.0, (kinded_piece to kind w.1.1.1.1.0 w.1.1.1.1.1.0, tt)))),
+  pieces_are_row 1 (Word from ∷ []) ((Word out ∷ OpenBracket ∷ Word number ∷ CloseBracket ∷ []) ∷ (Arrow ∷ []) ∷ (Word into ∷ []) ∷ kinded_tokens to kind ∷ []) (word_piece 1 from w.0)
+      (bracketed_piece 1 out number w.1.0 w.1.1.0, (arrow_piece 1, (word_piece 1 into w.1.1.1.0, (kinded_piece 1 to kind w.1.1.1.1.0 w.1.1.1.1.1.0, tt)))),
   (refl, free),
 )
 
@@ -110,16 +113,16 @@ connects_element_says from out number into to kind are free = let w = all_words 
 abbrev pub connects_element : (from out number into to kind : List ℕ) → are_words (from ∷ out ∷ number ∷ into ∷ to ∷ kind ∷ []) ≡ true → is_reserved from ≡ false → Saying
 connects_element from out number into to kind are free = record {
   line = joined ((Word from ∷ []) ∷ (Word out ∷ OpenBracket ∷ Word number ∷ CloseBracket ∷ []) ∷ (Arrow ∷ []) ∷ (Word into ∷ []) ∷ kinded_tokens to kind ∷ []);
-  form = Connection (bare from) (element out number) None (port into) (kinded to kind);
+  form = Connection (bare from) (Port (element out number)) None (Port (port into)) (kinded to kind);
   is = connects_element_says from out number into to kind are free;
 }
 
 -- A line of these pieces gives a text to an input of a process.
 pub gives_says : (text into to : List ℕ) → are_words (text ∷ into ∷ to ∷ []) ≡ true
-    → LineIs (joined ((Quoted text ∷ []) ∷ (Arrow ∷ []) ∷ (Word into ∷ []) ∷ (Word to ∷ []) ∷ [])) (says (Initial text (port into) (bare to)))
+    → LineIs 1 (joined ((Quoted text ∷ []) ∷ (Arrow ∷ []) ∷ (Word into ∷ []) ∷ (Word to ∷ []) ∷ [])) (says (Initial text (port into) (bare to)))
 gives_says text into to are = let w = all_words (text ∷ into ∷ to ∷ []) are in (
   Quoted text ∷ Arrow ∷ Word into ∷ Word to ∷ [],
-  pieces_are_row (Quoted text ∷ []) ((Arrow ∷ []) ∷ (Word into ∷ []) ∷ (Word to ∷ []) ∷ []) (quoted_piece text (within_line text w.0.1)) (arrow_piece, (word_piece into w.1.0, (word_piece to w.1.1.0, tt))),
+  pieces_are_row 1 (Quoted text ∷ []) ((Arrow ∷ []) ∷ (Word into ∷ []) ∷ (Word to ∷ []) ∷ []) (quoted_piece 1 text (within_line text w.0.1)) (arrow_piece 1, (word_piece 1 into w.1.0, (word_piece 1 to w.1.1.0, tt))),
   (refl, tt),
 )
 
@@ -133,10 +136,10 @@ gives text into to are = record {
 
 -- A line of these pieces gives a text to an input of a process, whose kind it gives.
 pub gives_kinded_says : (text into to kind : List ℕ) → are_words (text ∷ into ∷ to ∷ kind ∷ []) ≡ true
-    → LineIs (joined ((Quoted text ∷ []) ∷ (Arrow ∷ []) ∷ (Word into ∷ []) ∷ kinded_tokens to kind ∷ [])) (says (Initial text (port into) (kinded to kind)))
+    → LineIs 1 (joined ((Quoted text ∷ []) ∷ (Arrow ∷ []) ∷ (Word into ∷ []) ∷ kinded_tokens to kind ∷ [])) (says (Initial text (port into) (kinded to kind)))
 gives_kinded_says text into to kind are = let w = all_words (text ∷ into ∷ to ∷ kind ∷ []) are in (
   Quoted text ∷ Arrow ∷ Word into ∷ kinded_tokens to kind,
-  pieces_are_row (Quoted text ∷ []) ((Arrow ∷ []) ∷ (Word into ∷ []) ∷ kinded_tokens to kind ∷ []) (quoted_piece text (within_line text w.0.1)) (arrow_piece, (word_piece into w.1.0, (kinded_piece to kind w.1.1.0 w.1.1.1.0, tt))),
+  pieces_are_row 1 (Quoted text ∷ []) ((Arrow ∷ []) ∷ (Word into ∷ []) ∷ kinded_tokens to kind ∷ []) (quoted_piece 1 text (within_line text w.0.1)) (arrow_piece 1, (word_piece 1 into w.1.0, (kinded_piece 1 to kind w.1.1.0 w.1.1.1.0, tt))),
   (refl, tt),
 )
 
@@ -167,12 +170,31 @@ none_of : (fault : Option NetFault) → is_none fault ≡ true → fault ≡ Non
 none_of None e = refl
 none_of (Some fault) e = absurd cc
 
+put_version : (parts : Parts) (o : Option OpenPart) (l : ℕ × Form) → (put_into parts o l).version ≡ parts.version
+put_version parts (Some o) l = refl
+put_version parts None l = refl
+
+close_version : (parts : Parts) (o : Option OpenPart) → (close parts o).version ≡ parts.version
+close_version parts (Some o) = refl
+close_version parts None = refl
+
+-- The version stays.
+same_version : (parts : Parts) (n : ℕ) (form : Form) → (with_line parts n form).version ≡ parts.version
+same_version parts n (forms.Subnet name) = refl
+same_version parts n forms.End = close_version parts parts.open_part
+same_version parts n (forms.Header version) = put_version parts parts.open_part (n, forms.Header version)
+same_version parts n (forms.Process name kind) = put_version parts parts.open_part (n, forms.Process name kind)
+same_version parts n (forms.Connection from out capacity into to) = put_version parts parts.open_part (n, forms.Connection from out capacity into to)
+same_version parts n (forms.Initial text into to) = put_version parts parts.open_part (n, forms.Initial text into to)
+same_version parts n (forms.InPort outer into to) = put_version parts parts.open_part (n, forms.InPort outer into to)
+same_version parts n (forms.OutPort from out outer) = put_version parts parts.open_part (n, forms.OutPort from out outer)
+
 -- Lines without a fault lead to what the end of the file makes of them.
-pub lead : (n : ℕ) (parts : Parts) (ls : List Saying) (outcome : Result NetText NetFault) → without_fault n parts ls ≡ true → at_end (line_after n ls) (Some (parts_after n parts ls)) ≡ outcome
+pub lead : (n : ℕ) (parts : Parts) (ls : List Saying) (outcome : Result NetText NetFault) → parts.version ≡ 1 → without_fault n parts ls ≡ true → at_end (line_after n ls) (Some (parts_after n parts ls)) ≡ outcome
     → LeadsTo n (Some parts) (map (λ (l : Saying). l.line) ls) outcome
-lead n parts [] outcome right end = end
-lead n parts (l ∷ ls) outcome right end =
+lead n parts [] outcome first right end = end
+lead n parts (l ∷ ls) outcome first right end =
     let both = and_true (is_none (fault_at n parts l.form)) (without_fault (n + 1) (with_line parts n l.form) ls) right in
     let none : fault_at n parts l.form ≡ None = none_of (fault_at n parts l.form) both.0 in
-    let rest : LeadsTo (n + 1) (Some (with_line parts n l.form)) (map (λ (l : Saying). l.line) ls) outcome = lead (n + 1) (with_line parts n l.form) ls outcome both.1 end in
-    (says l.form, l.is, rw none rest)
+    let rest : LeadsTo (n + 1) (Some (with_line parts n l.form)) (map (λ (l : Saying). l.line) ls) outcome = lead (n + 1) (with_line parts n l.form) ls outcome (same_version parts n l.form ∙ first) both.1 end in
+    (says l.form, subst (λ (v : ℕ). LineIs v l.line (says l.form)) (sym first) l.is, rw none rest)

@@ -80,7 +80,7 @@ unfolding text_of network_lines
 cut = refl
 
 led : LeadsTo 1 None (codes "flow 1" ∷ map (λ (l : Saying). l.line) made_lines) (Ok made_value)
-led = (says forms.Header, header, lead 2 nothing made_lines (Ok made_value) refl refl)
+led = (says (forms.Header 1), header, lead 2 (nothing 1) made_lines (Ok made_value) refl refl refl)
 
 -- The text of the made network spells its value.
 pub spelled : Spells (text_of network_lines) made_value

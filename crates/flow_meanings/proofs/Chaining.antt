@@ -16,7 +16,7 @@ use Rattle.flow_catalogue.specs.Std.{std_shape, std_uses, StdReady, StdNext}
 use Rattle.flow_model.specs.States.{Input, From, is_sender}
 use Rattle.flow_plan.specs.declared.plan.Sender.{Sender}
 use Rattle.flow_model.proofs.Start.{port-at}
-use Rattle.flow_model.specs.Plans.{sends_at, receives_at, input_at, connected_or, text_at, process_at_start, StartsWell}
+use Rattle.flow_model.specs.Plans.{sends_at, receives_at, input_at, connected_or, text_at, StartsWell}
 use Rattle.flow_plan.specs.Network.{Network as Plan}
 use Rattle.flow_plan.specs.declared.plan.Process.{Process as PlanProcess}
 use Rattle.flow_plan.specs.declared.plan.Connection.{Connection as PlanConnection}
@@ -30,7 +30,7 @@ use Rattle.flow_meanings.specs.Chains.{RunsComponent, LeadsTo, TelegramMeans}
 use Rattle.flow_determinate.specs.Standard.{IsDeterminate}
 use Rattle.flow_meanings.specs.Outcomes.{AreSettled, IsUnmerged, OneOutcome, SameFiles, PlanSameFiles}
 use Rattle.flow_meanings.proofs.Every.{facts-of, components-first, made-settled}
-use Rattle.flow_meanings.proofs.Composing.{start-there, length-ports, finished-composes}
+use Rattle.flow_meanings.proofs.Composing.{finished-composes}
 
 filter-all : {A : Type 0} (test : A → Bool) (xs : List A) → ((k : ℕ) (x : A) → slice_get xs k ≡ Some x → test x ≡ true) → filter test xs ≡ xs
 filter-all test [] all = refl
@@ -93,8 +93,8 @@ no_connection : PlanConnection
 no_connection = record { receiver = 0; input = 0; capacity = 0; senders = [] }
 
 -- whoever sends to a connection is a process whose component has that output
-feeds : (plan : Plan) (ks : List Std) → StartsWell std_shape std_uses StdReady plan ks → (p o c : ℕ) → sends_at plan p o ≡ Some c → (component : Std) × RunsComponent plan ks p component × (o < (std_shape component).outputs)
-feeds plan ks well p o c sends =
+feeds : (plan : Plan) (ks : List Std) → StartsWell std_shape std_uses StdReady plan ks → (p o c : ℕ) → sends_at plan p o ≡ Some c → ((component : Std) → slice_get ks p ≡ Some component → o < (std_shape component).outputs) → (component : Std) × RunsComponent plan ks p component × (o < (std_shape component).outputs)
+feeds plan ks well p o c sends own =
     let sender : Sender = record { process = p; output = o } in
     let pos = position-Some (λ (x : PlanConnection). list_any (is_sender sender) x.senders) plan.connections c no_connection sends in
     let x = get_or plan.connections c no_connection in
@@ -105,10 +105,7 @@ feeds plan ks well p o c sends =
     let below : p < length ks = omega (arith, slice_get_within plan.processes p q.0 there, well.one_each) in
     let component = get_or ks p (components.WriteLines []) in
     let here : slice_get ks p ≡ Some component = get-there ks p (components.WriteLines []) below in
-    let n : 0 + p ≡ p = omega arith in
-    let z = process_at_start plan p q.0 component in
-    let fit = well.fit p z (start-there plan 0 plan.processes ks p q.0 component there here ∙ ap (λ (m : ℕ). Some (process_at_start plan m q.0 component)) n) in
-    (component, record { process = q.0; there = there; here = here }, omega (arith, fit.outputs, length-ports (sends_at plan p) 0 q.0.outputs, who.1, q.2))
+    (component, record { process = q.0; there = there; here = here }, own component here)
 
 -- in a network without merges and without a way back, what arrives at a process is the same in each composition
 module _ (plan : Plan) (ks : List Std) (wrote other : ℕ → List ℕ) (well : StartsWell std_shape std_uses StdReady plan ks) (settled : AreSettled ks) (unmerged : IsUnmerged plan) (order : LeadsOn plan) (m : Composes plan ks wrote) (n : Composes plan ks other) where
@@ -120,11 +117,11 @@ module _ (plan : Plan) (ks : List Std) (wrote other : ℕ → List ℕ) (well : 
   Before fuel = (p : ℕ) (y : PlanProcess) (component : Std) (j : ℕ) → order.rank p < fuel → arriving m.on (activated component m.on (inputs_of plan p y)) (input_at plan p y j) ≡ arriving n.on (activated component n.on (inputs_of plan p y)) (input_at plan p y j)
 
   -- where someone sends there
-  same-sent : (fuel q i c : ℕ) → order.rank q < suc fuel → receives_at plan q i ≡ Some c → Before fuel → (sender : Sender) → sends_at plan sender.process sender.output ≡ Some c → Same c
-  same-sent fuel q i c less is rest sender sends =
+  same-sent : (fuel q i c : ℕ) → order.rank q < suc fuel → receives_at plan q i ≡ Some c → Before fuel → (sender : Sender) → sends_at plan sender.process sender.output ≡ Some c → ((component : Std) → slice_get ks sender.process ≡ Some component → sender.output < (std_shape component).outputs) → Same c
+  same-sent fuel q i c less is rest sender sends own =
       let p = sender.process in
       let o = sender.output in
-      let f = feeds plan ks well p o c sends in
+      let f = feeds plan ks well p o c sends own in
       let runs = f.1 in
       let below : order.rank p < fuel = (let r = order.rises p o q i c sends is in omega arith) in
       let alone : (r s : ℕ) → sends_at plan r s ≡ Some c → (r ≡ p) × (s ≡ o) = λ r s at. unmerged c r s p o at sends in
@@ -135,8 +132,8 @@ module _ (plan : Plan) (ks : List Std) (wrote other : ℕ → List ℕ) (well : 
 
   same-on : (fuel q i c : ℕ) → order.rank q < suc fuel → receives_at plan q i ≡ Some c → Before fuel → (a b : List Sending) → m.on c ≡ a → n.on c ≡ b → Same c
   same-on fuel q i c less is rest [] [] a b = rw (a, b) refl
-  same-on fuel q i c less is rest [] (s ∷ ss) a b = same-sent fuel q i c less is rest s.sender (n.senders c 0 s (ap (λ (l : List Sending). slice_get l 0) b))
-  same-on fuel q i c less is rest (s ∷ ss) bs a b = same-sent fuel q i c less is rest s.sender (m.senders c 0 s (ap (λ (l : List Sending). slice_get l 0) a))
+  same-on fuel q i c less is rest [] (s ∷ ss) a b = same-sent fuel q i c less is rest s.sender (n.senders c 0 s (ap (λ (l : List Sending). slice_get l 0) b)) (λ component here. n.own c 0 s component (ap (λ (l : List Sending). slice_get l 0) b) here)
+  same-on fuel q i c less is rest (s ∷ ss) bs a b = same-sent fuel q i c less is rest s.sender (m.senders c 0 s (ap (λ (l : List Sending). slice_get l 0) a)) (λ component here. m.own c 0 s component (ap (λ (l : List Sending). slice_get l 0) a) here)
 
   -- as much comes by a connection
   same-coming : (c : ℕ) → Same c → coming m.on (From c) ≡ coming n.on (From c)

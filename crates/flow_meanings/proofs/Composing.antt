@@ -1,22 +1,24 @@
 -- The meanings of the processes of a finished network compose.
-use Rattle.std.proofs.Common.{◌≡◌, ℕ, ◌+◌, ◌<◌, List, [], ◌∷◌, map, length, Option, Some, None, IsSome, refl, sym, ap, ◌∙◌, subst, true, false, Bool, slice_get, unwrap_or, zero, suc, arith, inl, inr, ◌⊎◌, ◌≢◌}
+use Rattle.std.proofs.Common.{◌≡◌, ℕ, ◌+◌, ◌<◌, ◌≤◌, List, [], ◌∷◌, map, filter, cond, nat_eq, IsTrue, length, Option, Some, None, IsSome, refl, sym, ap, ◌∙◌, subst, true, false, Bool, slice_get, unwrap_or, zero, suc, arith, inl, inr, ◌⊎◌, ◌≢◌}
 use Rattle.std.specs.Prelude.{option_and_then, replicate}
 use Rattle.std.specs.List.{range_with_len, list_any}
 use Rattle.std.specs.Option.{option_map}
 use Rattle.std.proofs.lemmas.List.{length-map}
+use Rattle.std.proofs.lemmas.Bool.Decides.{nat_tests}
 use Rattle.std.proofs.lemmas.Option.{slice_get-map}
 use Rattle.flow_packet.specs.Tree.{Tree}
 use Rattle.flow_component.specs.Laws.{CanStart}
 use Rattle.flow_component.specs.Happenings.{Happening}
 use Rattle.flow_component.specs.Runs.{got, sent, text_packet}
 use Rattle.flow_catalogue.specs.declared.standard.Std.{Std}
+use Rattle.flow_catalogue.specs.declared.standard.Std.TheVariants as components
 use Rattle.flow_catalogue.specs.Std.{std_shape, std_uses, StdReady, StdNext, written_of}
-use Rattle.flow_catalogue.specs.StdLaws.{std_obeys, std_stays_ready}
+use Rattle.flow_catalogue.specs.StdLaws.{std_obeys, std_stays_ready, std_steady}
 use Rattle.flow_model.specs.declared.Stage.TheVariants as stages
-use Rattle.flow_model.specs.States.{Input, From, Text, Process, Put, State, output_at, got_at, sent_at}
+use Rattle.flow_model.specs.States.{Input, From, Text, Process, Put, State, is_sender, output_at, got_at, sent_at}
 use Rattle.flow_plan.specs.declared.plan.Sender.{Sender}
 use Rattle.flow_model.specs.Events.{is_connected}
-use Rattle.flow_model.specs.Order.{InOrder, entries, output_of}
+use Rattle.flow_model.specs.Order.{InOrder, entries, entries_by, output_of}
 use Rattle.flow_model.specs.Plans.{input_at, sends_at, process_at_start, processes_at_start, start_of, StartsWell}
 use Rattle.flow_plan.specs.Network.{Network as Plan}
 use Rattle.flow_plan.specs.declared.plan.Process.{Process as PlanProcess}
@@ -36,6 +38,7 @@ use Rattle.flow_meanings.specs.Means.{IsFirst, Means, is_looper, bytes_of, conte
 use Rattle.flow_meanings.specs.Composition.{Sending, coming, activated, inputs_of, arriving, leaving, wrote_in, FinishedComposes}
 use Rattle.flow_meanings.proofs.Over.{Over, came, ended-begins, begins-starts}
 use Rattle.flow_meanings.proofs.Every.{facts-of}
+use Rattle.flow_meanings.proofs.Owns.{owns-leads}
 use Rattle.flow_meanings.proofs.Contents.{sending_of, put_on, all-contents, own-contents, got-contents, sent-contents}
 
 some-contents : (puts : List Put) → puts ≢ [] → contents (entries puts) ≢ []
@@ -163,6 +166,53 @@ comings on k told (Text text ∷ inputs) same =
     let later : map (coming on) inputs ≡ came (k + 1) told inputs = comings on (k + 1) told inputs (λ i d at. same (suc i) d at ∙ ap (λ (j : ℕ). length (got j told)) (let e : k + suc i ≡ k + 1 + i = omega arith in e)) in
     ap (λ ns. None ∷ ns) later
 
+first-own : (port : ℕ) → nat_eq port 0 ≡ true → port < 1
+first-own port is = grind (arith, nat_tests)
+
+either-own : (a b port : ℕ) (used : Bool) → cond (nat_eq port a) used (nat_eq port b) ≡ true → a < 2 → b < 2 → port < 2
+either-own a b port used is la lb = by (nat_eq port a) refl is
+  where
+    by : (c : Bool) → nat_eq port a ≡ c → cond c used (nat_eq port b) ≡ true → port < 2
+    by true t is = grind (arith, nat_tests)
+    by false t is = grind (arith, nat_tests)
+
+-- A standard component uses its own outputs alone.
+std-own : (component : Std) (port : ℕ) → IsTrue (std_uses component port) → port < (std_shape component).outputs
+std-own (components.ReadLines left) port is = first-own port is
+std-own (components.WriteLines bytes) port is = absurd (cc)
+std-own (components.Words component) port is = first-own port is
+std-own (components.Fill state) port is = first-own port is
+std-own (components.Brackets component) port is = first-own port is
+std-own (components.Passthru component) port is = first-own port is
+std-own (components.Copy state) port is = grind (arith, nat_tests)
+std-own (components.Concat state) port is = first-own port is
+std-own (components.Collate state) port is = first-own port is
+std-own (components.Discard component) port is = absurd (cc)
+std-own (components.Bundle component) port is = first-own port is
+std-own (components.Unbundle component) port is = first-own port is
+std-own (components.Hoard component) port is = absurd (cc)
+std-own (components.Count state) port is = either-own 0 1 port state.connected is (omega arith) (omega arith)
+std-own (components.LoadBalance state) port is = grind (arith, nat_tests)
+std-own (components.Select state) port is = either-own 1 0 port state.rejects is (omega arith) (omega arith)
+std-own (components.Update state) port is = either-own 1 0 port state.rep is (omega arith) (omega arith)
+
+-- Where a sender has put something, it has entries.
+some-entry : (sender : Sender) (puts : List Put) (k : ℕ) (put : Put) → slice_get puts k ≡ Some put → put.sender.process ≡ sender.process → put.sender.output ≡ sender.output → entries_by sender puts ≡ [] → ⊥
+some-entry sender [] k put is a b none = cc
+some-entry sender (y ∷ puts) zero put is a b none =
+    let same : y ≡ put = cc in
+    let t : is_sender y.sender sender ≡ true =
+    (let p : nat_eq y.sender.process sender.process ≡ true = (let h = ap (λ (w : Put). w.sender.process) same ∙ a in grind (arith, nat_tests)) in
+    let o : nat_eq y.sender.output sender.output ≡ true = (let h = ap (λ (w : Put). w.sender.output) same ∙ b in grind (arith, nat_tests)) in
+    rw (p, o) refl) in
+    let h : entries (y ∷ filter (λ (put : Put). is_sender put.sender sender) puts) ≡ [] = sym (ap (λ (c : Bool). entries (cond c (y ∷ filter (λ (put : Put). is_sender put.sender sender) puts) (filter (λ (put : Put). is_sender put.sender sender) puts))) t) ∙ none in
+    cc
+some-entry sender (y ∷ puts) (suc k) put is a b none = by (is_sender y.sender sender) none (λ rest. some-entry sender puts k put is a b rest)
+  where
+    by : (c : Bool) → entries (cond c (y ∷ filter (λ (put : Put). is_sender put.sender sender) puts) (filter (λ (put : Put). is_sender put.sender sender) puts)) ≡ [] → (entries_by sender puts ≡ [] → ⊥) → ⊥
+    by true none on = cc
+    by false none on = on none
+
 -- A finished run composes.
 pub finished-composes : FinishedComposes
 finished-composes plan components journal s well first leads finished = record {
@@ -170,6 +220,7 @@ finished-composes plan components journal s well first leads finished = record {
   first = first;
   on = put_on s;
   senders = senders;
+  own = own;
   each = each;
   others = others;
 }
@@ -183,8 +234,8 @@ finished-composes plan components journal s well first leads finished = record {
     sends-in p o c x there output =
         let z = was plan components journal s well leads p x there in
         let start = Rattle.flow_model.proofs.Start.start-process plan components p z.0 z.1 in
-        let outputs : x.outputs ≡ map (sends_at plan p) (range_with_len 0 start.spec.outputs) = ap (λ (w : Wires). w.outputs) (sym z.2) ∙ ap (λ (y : Process Std). y.outputs) start.is in
-        by start.spec.outputs (slice_get x.outputs o) refl output outputs
+        let outputs : x.outputs ≡ map (sends_at plan p) (range_with_len 0 (start.spec.outputs + 1)) = ap (λ (w : Wires). w.outputs) (sym z.2) ∙ ap (λ (y : Process Std). y.outputs) start.is in
+        by (start.spec.outputs + 1) (slice_get x.outputs o) refl output outputs
       where
         by : (n : ℕ) (found : Option (Option ℕ)) → slice_get x.outputs o ≡ found → option_and_then (λ (d : Option ℕ). d) found ≡ Some c → x.outputs ≡ map (sends_at plan p) (range_with_len 0 n) → sends_at plan p o ≡ Some c
         by n None at is outputs = absurd (cc)
@@ -202,6 +253,34 @@ finished-composes plan components journal s well first leads finished = record {
         let put = map-found sending_of (s.past.put c) k sending is in
         let h = senders-at c put.0 (slice_get s.kept.processes put.0.sender.process) refl ((kept plan components journal s well leads).1 c k put.0 put.1) in
         subst (λ (sender : Sender). sends_at plan sender.process sender.output ≡ Some c) (ap (λ (w : Sending). w.sender) put.2) h
+
+    -- who put a packet there sent it at an output of its component
+    own : (c k : ℕ) (sending : Sending) (component : Std) → slice_get (put_on s c) k ≡ Some sending → slice_get components sending.sender.process ≡ Some component → sending.sender.output < (std_shape component).outputs
+    own c k sending component is at =
+        let put = map-found sending_of (s.past.put c) k sending is in
+        let named = ap (λ (w : Sending). w.sender) put.2 in
+        subst (λ (sender : Sender). sender.output < (std_shape component).outputs) named (
+        by put.0 (slice_get s.kept.processes put.0.sender.process) refl ((kept plan components journal s well leads).1 c k put.0 put.1) k put.1 (ap (λ (sender : Sender). slice_get components sender.process) named ∙ at)
+        )
+      where
+        sends-own : (put : Put) (x : Process Std) → slice_get s.kept.processes put.sender.process ≡ Some x → output_at x put.sender.output ≡ Some c → (k : ℕ) → slice_get (s.past.put c) k ≡ Some put → slice_get components put.sender.process ≡ Some component → put.sender.output < (std_shape component).outputs
+        sends-own put x there output k here at =
+            let owns = owns-leads std_shape std_uses StdReady StdNext std_obeys std_stays_ready std_steady std-own plan components well journal s leads put.sender.process x there in
+            let z = was plan components journal s well leads put.sender.process x there in
+            let began = begins plan 0 plan.processes components put.sender.process z.0 component z.1 at in
+            let same : z.0.component ≡ component = ap (λ (y : Process Std). y.component) began.1 in
+            let fit : (std_shape component).outputs + 1 ≡ length x.outputs = ap (λ (j : Std). (std_shape j).outputs + 1) (sym same) ∙ (well.fit put.sender.process z.0 z.1).outputs ∙ ap (λ (w : Wires). length w.outputs) z.2 in
+            let sent' = (order plan components journal s well leads).sent put.sender.process put.sender.output c (ap (output_of put.sender.output) there ∙ output) in
+            below (std_shape component).outputs put.sender.output (λ beyond. (
+            let none = owns.none put.sender.output (omega (arith, beyond, fit)) in some-entry put.sender (s.past.put c) k put here refl refl (sent' ∙ none)
+            ))
+          where
+            below : (n o : ℕ) → (n ≤ o → ⊥) → o < n
+            below n o less = grind (arith)
+
+        by : (put : Put) (found : Option (Process Std)) → slice_get s.kept.processes put.sender.process ≡ found → output_of put.sender.output found ≡ Some c → (k : ℕ) → slice_get (s.past.put c) k ≡ Some put → slice_get components put.sender.process ≡ Some component → put.sender.output < (std_shape component).outputs
+        by put None there output k here at = absurd (cc)
+        by put (Some x) there output k here at = sends-own put x there output k here at
 
     -- how many packets are on a connection
     on-length : (p i c : ℕ) (x : Process Std) → slice_get s.kept.processes p ≡ Some x → x.stage ≡ stages.Ended → slice_get x.inputs i ≡ Some (From c) → length (put_on s c) ≡ length (got i (s.past.told p))

@@ -8,6 +8,7 @@ pub mod SelectKind
 pub mod UpdateKind
 pub mod Every
 pub mod Contents
+pub mod Owns
 pub mod Composing
 pub mod Chaining
 pub mod BatchParts

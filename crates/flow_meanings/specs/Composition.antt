@@ -1,6 +1,6 @@
 -- What a network of standard components means: streams on its connections of which each process makes what its kind means. Nothing
 -- here speaks of turns or states. (This project's own.)
-use Rattle.std.specs.Prelude.{◌≡◌, ℕ, List, [], map, filter, length, replicate, Option, Some, None, slice_get, unwrap_or, option_and_then}
+use Rattle.std.specs.Prelude.{◌≡◌, ℕ, ◌<◌, List, [], map, filter, length, replicate, Option, Some, None, slice_get, unwrap_or, option_and_then}
 use Rattle.std.specs.List.{range_with_len}
 use Rattle.flow_packet.specs.Tree.{Tree}
 use Rattle.flow_component.specs.Runs.{text_packet}
@@ -49,13 +49,14 @@ abbrev pub AreFirst : List Std → Type 0
 AreFirst components = (p : ℕ) (component : Std) → slice_get components p ≡ Some component → IsFirst component
 
 -- The network means these bytes, by process: its components, one for each process, are in their first states; there are streams on its connections, each made of
--- packets of the connection's senders alone; each process with its component makes of what arrives what its kind makes of it; and none has written anything but
+-- packets of the connection's senders alone, which they send at their components' own outputs; each process with its component makes of what arrives what its kind makes of it; and none has written anything but
 -- those that write a file.
 pub record Composes (plan : Plan) (components : List Std) (wrote : ℕ → List ℕ) : Type 0 where
   pub one_each : length components ≡ length plan.processes
   pub first : AreFirst components
   pub on : ℕ → List Sending
   pub senders : (c k : ℕ) (sending : Sending) → slice_get (on c) k ≡ Some sending → sends_at plan sending.sender.process sending.sender.output ≡ Some c
+  pub own : (c k : ℕ) (sending : Sending) (component : Std) → slice_get (on c) k ≡ Some sending → slice_get components sending.sender.process ≡ Some component → sending.sender.output < (std_shape component).outputs
   pub each : (p : ℕ) (x : PlanProcess) (component : Std) → slice_get plan.processes p ≡ Some x → slice_get components p ≡ Some component
       → Means component (wrote p) (λ i. arriving on (activated component on (inputs_of plan p x)) (input_at plan p x i)) (λ o. leaving on (record { process = p; output = o }) (sends_at plan p o))
   pub others : (p : ℕ) (component : Std) → slice_get components p ≡ Some component → written_of component ≡ None → wrote p ≡ []

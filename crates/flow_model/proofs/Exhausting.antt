@@ -7,7 +7,7 @@ use Rattle.flow_packet.specs.Tree.{Tree}
 use Rattle.flow_model.specs.declared.Stage.{Stage}
 use Rattle.flow_model.specs.States.{Input, From, Text, Process, Channel, Kept, without_sender, change_at, changed}
 use Rattle.flow_plan.specs.declared.plan.Sender.{Sender}
-use Rattle.flow_model.specs.Events.{Event, Starts, Finishes, Gets, Takes_text, Hears_end, Sends, Learns, Sleeps, Closes, Look, looks, event_of, stage_event, idle_event, receive_event, received_from, received, is_fresh, is_connected, has_packet, has_ended, can_start, passes, holds_packet, is_empty, is_over}
+use Rattle.flow_model.specs.Events.{Event, Starts, Finishes, Gets, Takes_text, Hears_end, Sends, Learns, Sleeps, Closes, Signals, Look, looks, event_of, stage_event, idle_event, receive_event, received_from, received, is_fresh, is_connected, has_packet, has_ended, can_start, can_finish, is_woken, is_released, signal_over, takes_signal, signalled_by, signalled_from, signal_event, passes, holds_packet, is_empty, is_over}
 use Rattle.flow_model.specs.Turns.{channel_after, channels_after}
 use Rattle.flow_model.specs.Valid.{SendersOpen, HasToClose}
 use Rattle.flow_model.specs.Runs.{NoneConnected}
@@ -54,34 +54,69 @@ not-both channels x port (taken text input f) (packet_waits d input' w) = let a 
 not-both channels x port (taken text input f) (text_waits text' input' f') = let a : false ≡ true = sym f ∙ f' in cc
 
 -- What a start, a finish and the end of an input say of the state before.
-idle-starts : (a b : Bool) (e : Event) → cond a (Some Starts) (cond b (Some Finishes) None) ≡ Some e → (e ≡ Starts → a ≡ true) × (e ≡ Finishes → a ≡ false)
-idle-starts true b e is = ((λ s. refl), (λ f. absurd (let h : Some Starts ≡ Some Finishes = is ∙ ap Some f in cc)))
-idle-starts false true e is = ((λ s. absurd (let h : Some Finishes ≡ Some Starts = is ∙ ap Some s in cc)), (λ f. refl))
-idle-starts false false e is = absurd (cc)
+signal-by : (c : ℕ) (packets : List Tree) (e : Event) → signalled_by c packets ≡ Some e → (packet : Tree) × (e ≡ Signals c packet)
+signal-by c (packet ∷ packets) e is = (packet, let h : Signals c packet ≡ e = cc in sym h)
+signal-by c [] e is = absurd (cc)
+
+-- what an idle process does that neither starts nor goes to its end is to take a packet from its automatic input
+signal-only : (ls : List Look) (signal : Option ℕ) (e : Event) → signal_event ls signal ≡ Some e → (c : ℕ) × (packet : Tree) × (e ≡ Signals c packet)
+signal-only ls (Some c) e is = by (slice_get ls c) is
+  where
+    by : (found : Option Look) → signalled_from c found ≡ Some e → (c : ℕ) × (packet : Tree) × (e ≡ Signals c packet)
+    by (Some l) is = let at = signal-by c l.packets e is in (c, at.0, at.1)
+    by None is = absurd (cc)
+signal-only ls None e is = absurd (cc)
+
+rest-only : (ls : List Look) (signal : Option ℕ) (takes : Bool) (e : Event) → cond takes (signal_event ls signal) None ≡ Some e → (c : ℕ) × (packet : Tree) × (e ≡ Signals c packet)
+rest-only ls signal true e is = signal-only ls signal e is
+rest-only ls signal false e is = absurd (cc)
+
+idle-starts : (a b : Bool) (ls : List Look) (signal : Option ℕ) (takes : Bool) (e : Event) → cond a (Some Starts) (cond b (Some Finishes) (cond takes (signal_event ls signal) None)) ≡ Some e
+    → (e ≡ Starts → a ≡ true) × (e ≡ Finishes → (a ≡ false) × (b ≡ true))
+idle-starts true b ls signal takes e is = ((λ s. refl), (λ f. absurd (let h : Some Starts ≡ Some Finishes = is ∙ ap Some f in cc)))
+idle-starts false true ls signal takes e is = ((λ s. absurd (let h : Some Finishes ≡ Some Starts = is ∙ ap Some s in cc)), (λ f. (refl, refl)))
+idle-starts false false ls signal takes e is =
+    let at = rest-only ls signal takes e is in (
+      (λ s. absurd (let h : Signals at.0 at.1 ≡ Starts = sym at.2 ∙ s in cc)),
+      (λ f. absurd (let h : Signals at.0 at.1 ≡ Finishes = sym at.2 ∙ f in cc)),
+    )
+
+and-both : (a b : Bool) → (a && b) ≡ true → (a ≡ true) × (b ≡ true)
+and-both true true is = (refl, refl)
+and-both true false is = absurd (cc)
+and-both false b is = absurd (cc)
+
+unwoken : (got over woken : Bool) → over ≡ true → ((got || over) && woken) ≡ false → woken ≡ false
+unwoken true over woken is none = none
+unwoken false over woken is none = let h : (over && woken) ≡ woken = rw is refl in sym h ∙ none
 
 module _ {K : Type 0} (channels : List Channel) (x : Process K) (n : ℕ) where
+  -- Where a process starts it is released and has something to do.
   pub starts-can : event_of channels x n ≡ Some Starts → can_start (looks channels) x ≡ true
   starts-can is =
       let at = explains channels x n Starts is in
       let e : idle_event (looks channels) x ≡ Some Starts = subst (λ (stage : Stage). stage_event (looks channels) x n stage ≡ Some Starts) at is in
-      (idle-starts (can_start (looks channels) x) (list_all (has_ended (looks channels)) x.inputs) Starts e).0 refl
+      (idle-starts (can_start (looks channels) x) (can_finish (looks channels) x) (looks channels) x.signal (takes_signal (looks channels) x) Starts e).0 refl
+
+  pub starts-is_woken : event_of channels x n ≡ Some Starts → is_woken (looks channels) x ≡ true
+  starts-is_woken is = (and-both (is_released (looks channels) x) (is_woken (looks channels) x) (starts-can is)).1
+
+  finishes-both : event_of channels x n ≡ Some Finishes → (can_start (looks channels) x ≡ false) × (can_finish (looks channels) x ≡ true)
+  finishes-both is =
+      let at = explains channels x n Finishes is in
+      let e : idle_event (looks channels) x ≡ Some Finishes = subst (λ (stage : Stage). stage_event (looks channels) x n stage ≡ Some Finishes) at is in
+      (idle-starts (can_start (looks channels) x) (can_finish (looks channels) x) (looks channels) x.signal (takes_signal (looks channels) x) Finishes e).1 refl
 
   pub finishes-all : event_of channels x n ≡ Some Finishes → list_all (has_ended (looks channels)) x.inputs ≡ true
-  finishes-all is =
-      let at = explains channels x n Finishes is in
-      let e : idle_event (looks channels) x ≡ Some Finishes = subst (λ (stage : Stage). stage_event (looks channels) x n stage ≡ Some Finishes) at is in
-      by (can_start (looks channels) x) (list_all (has_ended (looks channels)) x.inputs) e
-    where
-      by : (a b : Bool) → cond a (Some Starts) (cond b (Some Finishes) None) ≡ Some Finishes → b ≡ true
-      by true b is = absurd (cc)
-      by false true is = refl
-      by false false is = absurd (cc)
+  finishes-all is = (and-both (list_all (has_ended (looks channels)) x.inputs) (signal_over (looks channels) x.signal) (finishes-both is).1).0
 
-  pub finishes-cannot : event_of channels x n ≡ Some Finishes → can_start (looks channels) x ≡ false
-  finishes-cannot is =
-      let at = explains channels x n Finishes is in
-      let e : idle_event (looks channels) x ≡ Some Finishes = subst (λ (stage : Stage). stage_event (looks channels) x n stage ≡ Some Finishes) at is in
-      (idle-starts (can_start (looks channels) x) (list_all (has_ended (looks channels)) x.inputs) Finishes e).1 refl
+  -- Where a process goes to its end nothing comes at its automatic input any more.
+  pub finishes-signal : event_of channels x n ≡ Some Finishes → signal_over (looks channels) x.signal ≡ true
+  finishes-signal is = (and-both (list_all (has_ended (looks channels)) x.inputs) (signal_over (looks channels) x.signal) (finishes-both is).1).1
+
+  -- A process that goes to its end has nothing to do.
+  pub finishes-cannot : event_of channels x n ≡ Some Finishes → is_woken (looks channels) x ≡ false
+  finishes-cannot is = unwoken x.signalled (signal_over (looks channels) x.signal) (is_woken (looks channels) x) (finishes-signal is) (finishes-both is).0
 
   hears-in : (port c : ℕ) (channel : Channel) → slice_get x.inputs port ≡ Some (From c) → slice_get channels c ≡ Some channel → (packets : List Tree) (senders : List Sender) → channel.packets ≡ packets → channel.open_senders ≡ senders
       → received port c packets (length senders) ≡ Some (Hears_end port) → Exhausted channels x port
@@ -112,11 +147,6 @@ module _ {K : Type 0} (channels : List Channel) (x : Process K) (n : ℕ) where
       let e : receive_event (looks channels) x at.wished.0 (slice_get x.inputs at.wished.0) ≡ Some (Hears_end port) = subst (λ (stage : Stage). stage_event (looks channels) x n stage ≡ Some (Hears_end port)) at.stage is in
       hears-at port (slice_get x.inputs port) refl (subst (λ (i : ℕ). receive_event (looks channels) x i (slice_get x.inputs i) ≡ Some (Hears_end port)) at.names e)
 
-and-both : (a b : Bool) → (a && b) ≡ true → (a ≡ true) × (b ≡ true)
-and-both true true is = (refl, refl)
-and-both true false is = absurd (cc)
-and-both false b is = absurd (cc)
-
 over-dry : (channels : List Channel) (c : ℕ) (channel : Channel) → slice_get channels c ≡ Some channel → (packets : List Tree) (senders : List Sender) → channel.packets ≡ packets → channel.open_senders ≡ senders
     → (is_empty packets && nat_eq (length senders) 0) ≡ true → IsDry channels c
 over-dry channels c channel there [] [] has closed is = record { channel = channel; there = there; empty = has; closed = closed }
@@ -137,6 +167,11 @@ all-dry channels (i ∷ inputs) is zero c at =
     ended-look channels c (slice_get (looks channels) c) refl (ap (has_ended (looks channels)) (sym same) ∙ (and-both (has_ended (looks channels) i) (list_all (has_ended (looks channels)) inputs) is).0)
 all-dry channels (i ∷ inputs) is (suc port) c at = all-dry channels inputs (and-both (has_ended (looks channels) i) (list_all (has_ended (looks channels)) inputs) is).1 port c at
 
+-- Where nothing comes at an automatic input any more its connection is dry.
+pub signal-dry : (channels : List Channel) (signal : Option ℕ) → signal_over (looks channels) signal ≡ true → (c : ℕ) → signal ≡ Some c → IsDry channels c
+signal-dry channels (Some d) is c at = let same : d ≡ c = cc in subst (IsDry channels) same (ended-look channels d (slice_get (looks channels) d) refl is)
+signal-dry channels None is c at = absurd (cc)
+
 -- Where no input is connected none holds a packet.
 none-holds : (ls : List Look) (inputs : List Input) → list_any is_connected inputs ≡ false → list_any (has_packet ls) inputs ≡ false
 none-holds ls [] none = refl
@@ -152,12 +187,12 @@ not-true true is = absurd (cc)
 not-true false is = refl
 
 -- Such a process starts where it hasn't run, and finishes where it has.
-start-alone : {K : Type 0} (ls : List Look) (x : Process K) → NoneConnected x → can_start ls x ≡ not x.has_run
+start-alone : {K : Type 0} (ls : List Look) (x : Process K) → NoneConnected x → is_woken ls x ≡ not x.has_run
 start-alone ls x none = let a = none-holds ls x.inputs none in rw (a, none) refl
 
 -- A process without connections starts only if it hasn't run.
 pub starts-first : {K : Type 0} (channels : List Channel) (x : Process K) (n : ℕ) → NoneConnected x → event_of channels x n ≡ Some Starts → x.has_run ≡ false
-starts-first channels x n none is = not-true x.has_run (sym (start-alone (looks channels) x none) ∙ starts-can channels x n is)
+starts-first channels x n none is = not-true x.has_run (sym (start-alone (looks channels) x none) ∙ starts-is_woken channels x n is)
 
 -- A process without connections finishes without a start only if it has run.
 pub finishes-later : {K : Type 0} (channels : List Channel) (x : Process K) (n : ℕ) → NoneConnected x → event_of channels x n ≡ Some Finishes → x.has_run ≡ true
@@ -232,7 +267,7 @@ start-brings channels x n is some = by (list_any (has_packet (looks channels)) x
     by : (b : Bool) → list_any (has_packet (looks channels)) x.inputs ≡ b → FirstInput channels x.inputs
     by true holds = first-input channels x.inputs holds
     by false holds =
-        let can : (list_any (has_packet (looks channels)) x.inputs || (not (list_any is_connected x.inputs) && not x.has_run)) ≡ true = starts-can channels x n is in
+        let can : (list_any (has_packet (looks channels)) x.inputs || (not (list_any is_connected x.inputs) && not x.has_run)) ≡ true = starts-is_woken channels x n is in
         absurd (let h : false ≡ true = rw (holds, some) at can in cc)
 
 -- A process that has run starts where a packet waits at a connected input.
@@ -246,7 +281,7 @@ start-finds channels x n is ran = by (list_any (has_packet (looks channels)) x.i
     by : (b : Bool) → list_any (has_packet (looks channels)) x.inputs ≡ b → FirstInput channels x.inputs
     by true holds = first-input channels x.inputs holds
     by false holds =
-        let can : (list_any (has_packet (looks channels)) x.inputs || (not (list_any is_connected x.inputs) && not x.has_run)) ≡ true = starts-can channels x n is in
+        let can : (list_any (has_packet (looks channels)) x.inputs || (not (list_any is_connected x.inputs) && not x.has_run)) ≡ true = starts-is_woken channels x n is in
         alone (list_any is_connected x.inputs) (rw holds at can)
 
 changed-other : {A : Type 0} (xs : List A) (i k : ℕ) (f : A → A) (o : Option A) → k ≢ i → slice_get (changed xs i f o) k ≡ slice_get xs k
@@ -304,6 +339,10 @@ module _ {K : Type 0} (kept : Kept K) (p : ℕ) (x : Process K) (n : ℕ) (there
     | inl same ↦ absurd (sends-open port d packet is (subst (IsDry kept.channels) same h))
     | inr other ↦ dry-other kept.channels c d _ other h
   ]
+  dry-after (Signals d packet) is c h = elim (same_or_not c d) [
+    | inl same ↦ (let from = explains kept.channels x n (Signals d packet) is in absurd (dry-packets kept.channels c d from.channel packet from.rest h same from.there from.packets))
+    | inr other ↦ dry-other kept.channels c d _ other h
+  ]
   dry-after (Learns port level) is c h = h
   dry-after Sleeps is c h = h
   dry-after (Closes output d) is c h = elim (same_or_not c d) [
@@ -312,12 +351,29 @@ module _ {K : Type 0} (kept : Kept K) (p : ℕ) (x : Process K) (n : ℕ) (there
     | inr other ↦ dry-other kept.channels c d _ other h
   ]
 
+-- The turn takes a packet from this connection.
+abbrev pub TakesFrom : Event → ℕ → Type 0
+TakesFrom (Gets port d packet) c = c ≡ d
+TakesFrom (Signals d packet) c = c ≡ d
+TakesFrom Starts c = ⊥
+TakesFrom Finishes c = ⊥
+TakesFrom (Takes_text port text) c = ⊥
+TakesFrom (Hears_end port) c = ⊥
+TakesFrom (Sends port d packet) c = ⊥
+TakesFrom (Learns port level) c = ⊥
+TakesFrom Sleeps c = ⊥
+TakesFrom (Closes output d) c = ⊥
+
 -- a connection from which nothing is taken still holds what it held
-pub some-after : (channels : List Channel) (p : ℕ) (e : Event) (c : ℕ) → ((port : ℕ) (packet : Tree) → e ≡ Gets port c packet → ⊥) → HoldsSome channels c → HoldsSome (channels_after channels p e) c
+pub some-after : (channels : List Channel) (p : ℕ) (e : Event) (c : ℕ) → (TakesFrom e c → ⊥) → HoldsSome channels c → HoldsSome (channels_after channels p e) c
 some-after channels p Starts c ne h = h
 some-after channels p Finishes c ne h = h
 some-after channels p (Gets port d packet) c ne h = elim (same_or_not c d) [
-  | inl same ↦ absurd (ne port packet (ap (λ (m : ℕ). Gets port m packet) (sym same)))
+  | inl same ↦ absurd (ne same)
+  | inr other ↦ some-other channels c d _ other h
+]
+some-after channels p (Signals d packet) c ne h = elim (same_or_not c d) [
+  | inl same ↦ absurd (ne same)
   | inr other ↦ some-other channels c d _ other h
 ]
 some-after channels p (Takes_text port text) c ne h = h

@@ -9,7 +9,7 @@ use Rattle.flow_component.specs.declared.Answer.{Answer}
 use Rattle.flow_component.specs.declared.Shape.{Shape}
 use Rattle.flow_component.specs.Laws.{Outcome, held_after, Obeys, StaysReady, IsSteady}
 use Rattle.flow_model.specs.States.{Process, Channel, State}
-use Rattle.flow_model.specs.Events.{Event, Starts, Finishes, Gets, Takes_text, Hears_end, Sends, Learns, Sleeps, Closes, event_of}
+use Rattle.flow_model.specs.Events.{Event, Starts, Finishes, Gets, Takes_text, Hears_end, Sends, Learns, Sleeps, Closes, Signals, event_of}
 use Rattle.flow_model.specs.Turns.{process_after, Turn}
 use Rattle.flow_model.specs.Works.{worked, Work}
 use Rattle.flow_model.specs.Schedules.{Settles, WorksLead, LeadsBy, Leads, Journal, Step, Turned, Worked, Reaches}
@@ -42,6 +42,7 @@ few-after channels x n (Hears_end port) is granted few = few
 few-after channels x n (Sends port c packet) is granted few = omega (arith, few, length-without x.held.packets (id_of packet))
 few-after channels x n (Learns port level) is granted few = few
 few-after channels x n Sleeps is granted few = few
+few-after channels x n (Signals w signal) is granted few = few
 few-after channels x n (Closes output c) is granted few = few
 
 -- the other processes hold what they held

@@ -17,7 +17,7 @@ use Rattle.flow_component.proofs.Streams.{Runs-more}
 use Rattle.flow_model.specs.declared.Stage.{Stage}
 use Rattle.flow_model.specs.declared.Stage.TheVariants as stages
 use Rattle.flow_model.specs.States.{Process, Channel, outlets}
-use Rattle.flow_model.specs.Events.{Event, Starts, Finishes, Gets, Takes_text, Hears_end, Sends, Learns, Sleeps, Closes, event_of}
+use Rattle.flow_model.specs.Events.{Event, Starts, Finishes, Gets, Takes_text, Hears_end, Sends, Learns, Sleeps, Closes, Signals, event_of}
 use Rattle.flow_model.specs.Turns.{process_after, heard, limited, closing, closing_on}
 use Rattle.flow_model.specs.Works.{judged, sending, nests, worked}
 use Rattle.flow_model.specs.Runs.{poise, IsPending, Follows}
@@ -108,6 +108,10 @@ module _ {K : Type 0} (ready : K → Held → Answer → Type 0) (next : K → H
       let at = explains channels x n Sleeps is in
       let r : Runs ready next start told (poise x wishes.Deactivate) = subst (Follows ready next start told x) at was in
       follows-limited start (told ++ []) (process_after x Sleeps) (x.turns + 1) stages.Idle (nothing-heard start told (poise x wishes.Deactivate) r)
+  follows-event channels start told x n (Signals c packet) is was =
+      let from = explains channels x n (Signals c packet) is in
+      let r : Runs ready next start told (poise x wishes.Deactivate) = subst (Follows ready next start told x) from.stage was in
+      follows-limited start (told ++ []) (process_after x (Signals c packet)) (x.turns + 1) stages.Idle (nothing-heard start told (poise x wishes.Deactivate) r)
   follows-event channels start told x n (Closes output c) is was =
       let at = explains channels x n (Closes output c) is in
       let r : Runs ready next start told (poise x wishes.Deactivate) = subst (Follows ready next start told x) at.stage was in

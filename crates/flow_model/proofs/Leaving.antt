@@ -20,7 +20,7 @@ use Rattle.flow_model.specs.declared.Stage.{Stage}
 use Rattle.flow_model.specs.declared.Stage.TheVariants as stages
 use Rattle.flow_model.specs.States.{is_sender, without_sender, Process, Channel, State, Outlet, outlets, outlets_from, change_at, changed}
 use Rattle.flow_plan.specs.declared.plan.Sender.{Sender}
-use Rattle.flow_model.specs.Events.{Event, Starts, Finishes, Gets, Takes_text, Hears_end, Sends, Learns, Sleeps, Closes, Look, looks, stage_event, event_of}
+use Rattle.flow_model.specs.Events.{Event, Starts, Finishes, Gets, Takes_text, Hears_end, Sends, Learns, Sleeps, Closes, Signals, Look, looks, stage_event, event_of}
 use Rattle.flow_model.specs.Turns.{process_after, channel_after, channels_after, limited, closing, closing_on, Turn}
 use Rattle.flow_model.specs.Works.{judged, sending, nests, worked, Work}
 use Rattle.flow_model.specs.Plans.{sends_at, process_at_start, processes_at_start, start_of, StartsWell}
@@ -115,6 +115,7 @@ was-channel channels p (Takes_text port text) c channel is = same-channel channe
 was-channel channels p (Hears_end port) c channel is = same-channel channels p (Hears_end port) c channel is
 was-channel channels p (Learns port level) c channel is = same-channel channels p (Learns port level) c channel is
 was-channel channels p Sleeps c channel is = same-channel channels p Sleeps c channel is
+was-channel channels p (Signals d packet) c channel is = changed-channel channels p (Signals d packet) d c (λ ch. channel_after p ch (Signals d packet)) channel (λ x sender goes. goes) (λ x all. all) is
 was-channel channels p (Gets port d packet) c channel is = changed-channel channels p (Gets port d packet) d c (λ ch. channel_after p ch (Gets port d packet)) channel (λ x sender goes. goes) (λ x all. all) is
 was-channel channels p (Sends port d packet) c channel is = changed-channel channels p (Sends port d packet) d c (λ ch. channel_after p ch (Sends port d packet)) channel (λ x sender goes. goes) (λ x all. all) is
 was-channel channels p (Closes output d) c channel is =
@@ -180,6 +181,7 @@ NotClosed channels x n (Hears_end port) j = Unit {0}
 NotClosed channels x n (Sends port c packet) j = Unit {0}
 NotClosed channels x n (Learns port level) j = Unit {0}
 NotClosed channels x n Sleeps j = Unit {0}
+NotClosed channels x n (Signals w signal) j = Unit {0}
 
 -- after a turn that doesn't close this outlet, it is still to be closed, or the process has failed
 leaves-after : {K : Type 0} (channels : List Channel) (x : Process K) (n : ℕ) (e : Event) (j : ℕ) → event_of channels x n ≡ Some e → j < length (outlets x) → NotClosed channels x n e j → HasToClose x.stage j → Leaves (process_after x e).stage j
@@ -191,6 +193,7 @@ leaves-after channels x n (Hears_end port) j is within spared has = leaves-limit
 leaves-after channels x n (Sends port c packet) j is within spared has = leaves-limited (x.turns + 1) (stages.Told answers.Sent) j tt
 leaves-after channels x n (Learns port level) j is within spared has = leaves-limited (x.turns + 1) (stages.Told (answers.Level level)) j tt
 leaves-after channels x n Sleeps j is within spared has = leaves-limited (x.turns + 1) stages.Idle j tt
+leaves-after channels x n (Signals w signal) j is within spared has = leaves-limited (x.turns + 1) stages.Idle j tt
 leaves-after channels x n (Closes output c) j is within spared has =
     let at = explains channels x n (Closes output c) is in
     let least : at.i ≤ j = subst (λ (st : Stage). HasToClose st j) at.stage has in
@@ -264,6 +267,7 @@ not-closed channels x n p (Hears_end port) sender c channel place once same is g
 not-closed channels x n p (Sends port d packet) sender c channel place once same is goes outlet = tt
 not-closed channels x n p (Learns port level) sender c channel place once same is goes outlet = tt
 not-closed channels x n p Sleeps sender c channel place once same is goes outlet = tt
+not-closed channels x n p (Signals w signal) sender c channel place once same is goes outlet = tt
 
 -- a turn keeps it
 pub OpenSendersTell-turn : {K : Type 0} (s : State K) (p : ℕ) (event : Event) (s' : State K) → Turn s p event s' → OpenSendersTell s.kept → OpenSendersTell s'.kept
@@ -396,7 +400,7 @@ left-start {K} plan components wired each c sender connection is k at =
     let sends : sends_at plan sender.process sender.output ≡ Some c =
     position-only test plan.connections c connection is (place-open sender connection.senders k at)
     (λ d y there passes. (let place = open-place sender y.senders passes in (wired.one_sender d c place.0 k y connection sender there is place.1 at).0)) in
-    let port = ports-at (sends_at plan sender.process) 0 spec.0.outputs sender.output spec.2 in
+    let port = ports-at (sends_at plan sender.process) 0 (spec.0.outputs + 1) sender.output (let l = spec.2 in omega (arith, l)) in
     let zero_o : 0 + sender.output ≡ sender.output = omega arith in
     let output : slice_get process.outputs sender.output ≡ Some (Some c) = port ∙ ap (λ (o : ℕ). Some (sends_at plan sender.process o)) zero_o ∙ ap (λ (o : Option ℕ). Some o) sends in
     let outlet = outlet-found 0 process.outputs sender.output c output in

@@ -5,7 +5,7 @@ use Rattle.flow_packet.specs.declared.packet.Kind.TheVariants as kinds
 use Rattle.flow_packet.specs.Tree.{packet_of}
 use Rattle.flow_packet.specs.Held.{next_id}
 use Rattle.flow_model.specs.States.{Process, Past, Put, Entry, entry_of, got_by, got_at, sent_by, sent_at}
-use Rattle.flow_model.specs.Events.{Event, Starts, Finishes, Gets, Takes_text, Hears_end, Sends, Learns, Sleeps, Closes}
+use Rattle.flow_model.specs.Events.{Event, Starts, Finishes, Gets, Takes_text, Hears_end, Sends, Learns, Sleeps, Closes, Signals}
 use Rattle.flow_model.specs.Turns.{heard, put_after, past_after}
 
 -- by process and port what was sent and what was got, and by connection what was put
@@ -31,6 +31,7 @@ got_then got p x (Hears_end port) = got
 got_then got p x (Sends port c packet) = got
 got_then got p x (Learns port level) = got
 got_then got p x Sleeps = got
+got_then got p x (Signals w signal) = got
 got_then got p x (Closes output c) = got
 
 abbrev pub sent_then : {K : Type 0} → (ℕ → ℕ → List Entry) → ℕ → Process K → Event → ℕ → ℕ → List Entry
@@ -42,6 +43,7 @@ sent_then sent p x Finishes = sent
 sent_then sent p x (Hears_end port) = sent
 sent_then sent p x (Learns port level) = sent
 sent_then sent p x Sleeps = sent
+sent_then sent p x (Signals w signal) = sent
 sent_then sent p x (Closes output c) = sent
 
 -- what is remembered after a turn of process p
@@ -81,6 +83,7 @@ got_at-turn past p x e q port = grows (got_by port) (nat_eq q p) (past.told q) (
     by (Sends i c packet) = none_more (nat_eq q p) (got_at past q port)
     by (Learns i level) = none_more (nat_eq q p) (got_at past q port)
     by Sleeps = none_more (nat_eq q p) (got_at past q port)
+    by (Signals w signal) = none_more (nat_eq q p) (got_at past q port)
     by (Closes output c) = none_more (nat_eq q p) (got_at past q port)
 
 -- what was sent after a turn
@@ -96,4 +99,5 @@ sent_at-turn past p x e q port = grows (sent_by port) (nat_eq q p) (past.told q)
     by (Hears_end i) = none_more (nat_eq q p) (sent_at past q port)
     by (Learns i level) = none_more (nat_eq q p) (sent_at past q port)
     by Sleeps = none_more (nat_eq q p) (sent_at past q port)
+    by (Signals w signal) = none_more (nat_eq q p) (sent_at past q port)
     by (Closes output c) = none_more (nat_eq q p) (sent_at past q port)

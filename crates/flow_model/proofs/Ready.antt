@@ -15,7 +15,7 @@ use Rattle.flow_component.specs.Laws.{Outcome, Wishes, Fails, ReadyIfSound, Read
 use Rattle.flow_model.specs.declared.Stage.{Stage}
 use Rattle.flow_model.specs.declared.Stage.TheVariants as stages
 use Rattle.flow_model.specs.States.{Process, Channel, State, outlets}
-use Rattle.flow_model.specs.Events.{Event, Starts, Finishes, Gets, Takes_text, Hears_end, Sends, Learns, Sleeps, Closes, event_of}
+use Rattle.flow_model.specs.Events.{Event, Starts, Finishes, Gets, Takes_text, Hears_end, Sends, Learns, Sleeps, Closes, Signals, event_of}
 use Rattle.flow_model.specs.Turns.{process_after, limited, closing, closing_on}
 use Rattle.flow_model.specs.Works.{judged, sending, nests, worked}
 use Rattle.flow_model.specs.Places.{OnePlaceCounted, made_count, made_by}
@@ -74,6 +74,9 @@ ready-event ready channels x n (Learns port level) small is was =
 ready-event ready channels x n Sleeps small is was =
     let at = explains channels x n Sleeps is in
     ready-limited ready x.held (x.turns + 1) stages.Idle (subst (ReadyAt ready x.held) at was)
+ready-event ready channels x n (Signals c packet) small is was =
+    let from = explains channels x n (Signals c packet) is in
+    ready-limited ready x.held (x.turns + 1) stages.Idle (subst (ReadyAt ready x.held) from.stage was)
 ready-event ready channels x n (Closes output c) small is was =
     let at = explains channels x n (Closes output c) is in
     ready-limited ready x.held (x.turns + 1) (closing_on x x.stage) (subst (λ (stage : Stage). ReadyAt ready x.held (closing_on x stage)) (sym at.stage) (ready-closing ready x.held x (at.i + 1)))
@@ -147,6 +150,7 @@ nested-event channels x n (Hears_end port) is = nested-cond (process_after x (He
 nested-event channels x n (Sends port c packet) is = nested-cond (process_after x (Sends port c packet)) (x.turns + 1 == TURN_LIMIT) (stages.Told answers.Sent) tt
 nested-event channels x n (Learns port level) is = nested-cond (process_after x (Learns port level)) (x.turns + 1 == TURN_LIMIT) (stages.Told (answers.Level level)) tt
 nested-event channels x n Sleeps is = nested-cond (process_after x Sleeps) (x.turns + 1 == TURN_LIMIT) stages.Idle tt
+nested-event channels x n (Signals w signal) is = nested-cond (process_after x (Signals w signal)) (x.turns + 1 == TURN_LIMIT) stages.Idle tt
 nested-event channels x n (Closes output c) is =
     let at = explains channels x n (Closes output c) is in
     let y = process_after x (Closes output c) in

@@ -1,6 +1,6 @@
 -- Each process begins to close after all that feed it.
 use Rattle.flow_limits.specs.declared.TheConstants.{HANDS_LIMIT, TURN_LIMIT}
-use Rattle.std.proofs.Common.{◌≡◌, ◌≢◌, ◌⊎◌, inl, inr, ℕ, ◌+◌, ◌<◌, Bool, true, false, List, [], ◌∷◌, map, length, Option, Some, None, refl, sym, ap, ◌∙◌, subst, cond, nat_eq, nat_lt, arith, slice_get, slice_set, suc, zero, if◌then◌else◌, get_or, ◌==◌, ◌&&◌}
+use Rattle.std.proofs.Common.{◌≡◌, ◌≢◌, ◌⊎◌, inl, inr, ℕ, ◌+◌, ◌<◌, ◌≤◌, Bool, true, false, List, [], ◌∷◌, map, length, Option, Some, None, refl, sym, ap, ◌∙◌, subst, cond, nat_eq, nat_lt, arith, slice_get, slice_set, suc, zero, if◌then◌else◌, get_or, ◌==◌, ◌&&◌}
 use Rattle.std.specs.Prelude.{option_and_then, option_map, slice_index}
 use Rattle.std.specs.List.{list_any}
 use Rattle.std.proofs.lemmas.Bool.Decides.{nat_tests}
@@ -25,7 +25,7 @@ use Rattle.flow_plan.specs.Network.{Network as Plan}
 use Rattle.flow_plan.specs.declared.plan.Connection.{Connection as PlanConnection}
 use Rattle.flow_model.specs.Wires.{Wires, wires, SameWires}
 use Rattle.flow_model.specs.Rising.{LeadsOn}
-use Rattle.flow_model.specs.Events.{Event, Starts, Finishes, Gets, Takes_text, Hears_end, Sends, Learns, Sleeps, Closes, Look, looks, event_of, stage_event}
+use Rattle.flow_model.specs.Events.{Event, Starts, Finishes, Gets, Takes_text, Hears_end, Sends, Learns, Sleeps, Closes, Signals, Look, looks, event_of, stage_event}
 use Rattle.flow_model.specs.Turns.{Turn, process_after, limited, closing_on}
 use Rattle.flow_model.specs.Works.{Work, worked, judged, sending, nests}
 use Rattle.flow_model.specs.Schedules.{Settles, Journal, Leads, LeadsBy}
@@ -34,12 +34,12 @@ use Rattle.flow_model.specs.Verdicts.{IsFinished}
 use Rattle.flow_model.proofs.Lists.{map-found, slice_get-set_same, slice_get-set_other, same_or_not}
 use Rattle.flow_model.proofs.Inverse.{explains}
 use Rattle.flow_model.proofs.Blocks.{outlet-of}
-use Rattle.flow_model.proofs.Order.{inputs-after, outputs-after, outputs-worked}
+use Rattle.flow_model.proofs.Order.{inputs-after, outputs-after, signal-after, outputs-worked}
 use Rattle.flow_model.proofs.Senders.{SendersOpen-turn, SendersOpen-work, both-true}
 use Rattle.flow_model.proofs.Start.{start-process, start-senders, no_connection}
 use Rattle.flow_model.proofs.Leaving.{process-there, ports-at, open-place}
 use Rattle.flow_model.proofs.Wiring.{wires-leads}
-use Rattle.flow_model.proofs.Exhausting.{IsDry, finishes-all, all-dry}
+use Rattle.flow_model.proofs.Exhausting.{IsDry, finishes-all, finishes-signal, all-dry, signal-dry}
 
 -- It closes its outputs, or has closed them.
 abbrev pub HasBegun : Stage → Type 0
@@ -70,6 +70,7 @@ begun-before channels x n (Hears_end port) is has = absurd (told-not (x.turns + 
 begun-before channels x n (Sends port c packet) is has = absurd (told-not (x.turns + 1 == TURN_LIMIT) answers.Sent has)
 begun-before channels x n (Learns port level) is has = absurd (told-not (x.turns + 1 == TURN_LIMIT) (answers.Level level) has)
 begun-before channels x n Sleeps is has = absurd (idle-not (x.turns + 1 == TURN_LIMIT) has)
+begun-before channels x n (Signals w signal) is has = absurd (idle-not (x.turns + 1 == TURN_LIMIT) has)
 begun-before channels x n (Closes output c) is has = inl (subst HasBegun (sym (explains channels x n (Closes output c) is).stage) tt)
 
 limited-begun : (n : ℕ) (b c : Bool) (i : ℕ) → (n == TURN_LIMIT) ≡ c → HasBegun (limited n (cond b (stages.Closing i) stages.Ended)) ⊎ IsFailedStage (limited n (cond b (stages.Closing i) stages.Ended))
@@ -87,6 +88,7 @@ begun-after channels x n (Hears_end port) is has = absurd (subst HasBegun (expla
 begun-after channels x n (Sends port c packet) is has = absurd (subst HasBegun (explains channels x n (Sends port c packet) is).stage has)
 begun-after channels x n (Learns port level) is has = absurd (subst HasBegun (explains channels x n (Learns port level) is).stage has)
 begun-after channels x n Sleeps is has = absurd (subst HasBegun (explains channels x n Sleeps is) has)
+begun-after channels x n (Signals w signal) is has = absurd (subst HasBegun (explains channels x n (Signals w signal) is).stage has)
 begun-after channels x n (Closes output c) is has =
     let at = explains channels x n (Closes output c) is in
     let Goal : Stage → Type 0 = λ stage. HasBegun (limited (x.turns + 1) (closing_on x stage)) ⊎ IsFailedStage (limited (x.turns + 1) (closing_on x stage)) in
@@ -126,10 +128,14 @@ worked-not x (Fails component held cause) has = has
 
 -- The order in which processes began to close
 
+-- The connection leads to an input of the process, or to its automatic input.
+abbrev Takes : {K : Type 0} → Process K → ℕ → Type 0
+Takes x c = ((i : ℕ) × (slice_get x.inputs i ≡ Some (From c))) ⊎ (x.signal ≡ Some c)
+
 -- Those that have begun have a rank below this number, and each has a higher one than all that feed it, which have begun or failed.
 record Ranks {K : Type 0} (processes : List (Process K)) (rank : ℕ → ℕ) (top : ℕ) : Type 0 where
   below : (p : ℕ) (y : Process K) → slice_get processes p ≡ Some y → HasBegun y.stage → rank p < top
-  rises : (q p o i c : ℕ) (x y : Process K) → slice_get processes q ≡ Some x → output_at x o ≡ Some c → slice_get processes p ≡ Some y → slice_get y.inputs i ≡ Some (From c) → HasBegun y.stage
+  rises : (q p o c : ℕ) (x y : Process K) → slice_get processes q ≡ Some x → output_at x o ≡ Some c → slice_get processes p ≡ Some y → Takes y c → HasBegun y.stage
       → (HasBegun x.stage × (rank q < rank p)) ⊎ IsFailedStage x.stage
 
 -- in a list where a process was set stands that one, or another that stood there
@@ -183,6 +189,7 @@ is-finish (Hears_end port) = inr (λ h. cc)
 is-finish (Sends port c packet) = inr (λ h. cc)
 is-finish (Learns port level) = inr (λ h. cc)
 is-finish Sleeps = inr (λ h. cc)
+is-finish (Signals w signal) = inr (λ h. cc)
 is-finish (Closes output c) = inr (λ h. cc)
 
 module _ {K : Type 0} (kept : Kept K) (p : ℕ) (x : Process K) (n : ℕ) (e : Event) (there : slice_get kept.processes p ≡ Some x) (happens : event_of kept.channels x n ≡ Some e) (rank : ℕ → ℕ) (top : ℕ) (old : Ranks kept.processes rank top) where
@@ -192,24 +199,25 @@ module _ {K : Type 0} (kept : Kept K) (p : ℕ) (x : Process K) (n : ℕ) (e : E
   out-before : (o c : ℕ) (u : Process K) → process_after x e ≡ u → output_at u o ≡ Some c → output_at x o ≡ Some c
   out-before o c u same out = ap (λ (os : List (Option ℕ)). option_and_then (λ (d : Option ℕ). d) (slice_get os o)) (sym (outputs-after x e) ∙ ap (λ (z : Process K). z.outputs) same) ∙ out
 
-  in-before : (i c : ℕ) (u : Process K) → process_after x e ≡ u → slice_get u.inputs i ≡ Some (From c) → slice_get x.inputs i ≡ Some (From c)
-  in-before i c u same at = ap (λ (is : List Input). slice_get is i) (sym (inputs-after x e) ∙ ap (λ (z : Process K). z.inputs) same) ∙ at
+  in-before : (c : ℕ) (u : Process K) → process_after x e ≡ u → Takes u c → Takes x c
+  in-before c u same (inl at) = inl (at.0, ap (λ (is : List Input). slice_get is at.0) (sym (inputs-after x e) ∙ ap (λ (z : Process K). z.inputs) same) ∙ at.1)
+  in-before c u same (inr at) = inr (sym (signal-after x e) ∙ ap (λ (z : Process K). z.signal) same ∙ at)
 
   -- a turn that isn't a finish leaves the ranks as they are
   module _ (goes_on : e ≡ Finishes → ⊥) where
     begun : (u : Process K) → process_after x e ≡ u → HasBegun u.stage → HasBegun x.stage
     begun u same has = elim (begun-before kept.channels x n e happens (subst (λ (z : Process K). HasBegun z.stage) (sym same) has)) [ inl b ↦ b | inr f ↦ absurd (goes_on f) ]
 
-    from-edge : (q r o i c : ℕ) (u y : Process K) → slice_get (slice_set kept.processes p (process_after x e)) q ≡ Some u → output_at u o ≡ Some c → slice_get kept.processes r ≡ Some y → slice_get y.inputs i ≡ Some (From c) → HasBegun y.stage → Edge rank q r u
-    from-edge q r o i c u y is out at inp has = elim (found-set kept.processes p x (process_after x e) there q u is) as (λ _. Edge rank q r u) [
-      | inl same ↦ elim (old.rises p r o i c x y there (out-before o c u same.1 out) at inp has) as (λ _. Edge rank q r u) [
+    from-edge : (q r o c : ℕ) (u y : Process K) → slice_get (slice_set kept.processes p (process_after x e)) q ≡ Some u → output_at u o ≡ Some c → slice_get kept.processes r ≡ Some y → Takes y c → HasBegun y.stage → Edge rank q r u
+    from-edge q r o c u y is out at inp has = elim (found-set kept.processes p x (process_after x e) there q u is) as (λ _. Edge rank q r u) [
+      | inl same ↦ elim (old.rises p r o c x y there (out-before o c u same.1 out) at inp has) as (λ _. Edge rank q r u) [
         | inl b ↦ elim (begun-after kept.channels x n e happens b.0) as (λ _. Edge rank q r u) [
           | inl more ↦ inl (subst (λ (z : Process K). HasBegun z.stage) same.1 more, subst (λ (k : ℕ). rank k < rank r) (sym same.0) b.1)
           | inr failed ↦ inr (subst (λ (z : Process K). IsFailedStage z.stage) same.1 failed)
         ]
         | inr failed ↦ absurd (stays-failed (looks kept.channels) x n e x.stage happens failed)
       ]
-      | inr other ↦ old.rises q r o i c u y other.1 out at inp has
+      | inr other ↦ old.rises q r o c u y other.1 out at inp has
     ]
 
     ranks-on : Ranks (slice_set kept.processes p (process_after x e)) rank (suc top)
@@ -218,9 +226,9 @@ module _ {K : Type 0} (kept : Kept K) (p : ℕ) (x : Process K) (n : ℕ) (e : E
         | inl same ↦ (let b = old.below p x there (begun y same.1 has) in let z = same.0 in let w : rank q < top = subst (λ (k : ℕ). rank k < top) (sym z) b in omega (arith, w))
         | inr other ↦ (let b = old.below q y other.1 has in omega (arith, b))
       ];
-      rises = λ q r o i c u y is out at inp has. elim (found-set kept.processes p x (process_after x e) there r y at) as (λ _. Edge rank q r u) [
-        | inl same ↦ (let edge = from-edge q p o i c u x is out there (in-before i c y same.1 inp) (begun y same.1 has) in subst (λ (k : ℕ). Edge rank q k u) (sym same.0) edge)
-        | inr other ↦ from-edge q r o i c u y is out other.1 inp has
+      rises = λ q r o c u y is out at inp has. elim (found-set kept.processes p x (process_after x e) there r y at) as (λ _. Edge rank q r u) [
+        | inl same ↦ (let edge = from-edge q p o c u x is out there (in-before c y same.1 inp) (begun y same.1 has) in subst (λ (k : ℕ). Edge rank q k u) (sym same.0) edge)
+        | inr other ↦ from-edge q r o c u y is out other.1 inp has
       ];
     }
 
@@ -229,14 +237,15 @@ module _ {K : Type 0} (kept : Kept K) (p : ℕ) (x : Process K) (n : ℕ) (e : E
     was-idle : x.stage ≡ stages.Idle
     was-idle = explains kept.channels x n Finishes (happens ∙ ap (λ (f : Event). Some f) finishes)
 
-    dry : (i c : ℕ) → slice_get x.inputs i ≡ Some (From c) → IsDry kept.channels c
-    dry i c at = all-dry kept.channels x.inputs (finishes-all kept.channels x n (happens ∙ ap (λ (f : Event). Some f) finishes)) i c at
+    dry : (c : ℕ) → Takes x c → IsDry kept.channels c
+    dry c (inl at) = all-dry kept.channels x.inputs (finishes-all kept.channels x n (happens ∙ ap (λ (f : Event). Some f) finishes)) at.0 c at.1
+    dry c (inr at) = signal-dry kept.channels x.signal (finishes-signal kept.channels x n (happens ∙ ap (λ (f : Event). Some f) finishes)) c at
 
-    into : (q o i c : ℕ) (u : Process K) → slice_get (slice_set kept.processes p (process_after x e)) q ≡ Some u → output_at u o ≡ Some c → slice_get x.inputs i ≡ Some (From c) → Edge (placed p top rank) q p u
-    into q o i c u is out inp = elim (found-set kept.processes p x (process_after x e) there q u is) as (λ _. Edge (placed p top rank) q p u) [
-      | inl same ↦ absurd (open-not-dry kept senders p o c x there (out-before o c u same.1 out) (λ j. subst (λ (st : Stage). HasToClose st j) (sym was-idle) tt) (dry i c inp))
+    into : (q o c : ℕ) (u : Process K) → slice_get (slice_set kept.processes p (process_after x e)) q ≡ Some u → output_at u o ≡ Some c → Takes x c → Edge (placed p top rank) q p u
+    into q o c u is out inp = elim (found-set kept.processes p x (process_after x e) there q u is) as (λ _. Edge (placed p top rank) q p u) [
+      | inl same ↦ absurd (open-not-dry kept senders p o c x there (out-before o c u same.1 out) (λ j. subst (λ (st : Stage). HasToClose st j) (sym was-idle) tt) (dry c inp))
       | inr other ↦ elim (stands u.stage) as (λ _. Edge (placed p top rank) q p u) [
-        | inl has ↦ absurd (open-not-dry kept senders q o c u other.1 out has (dry i c inp))
+        | inl has ↦ absurd (open-not-dry kept senders q o c u other.1 out has (dry c inp))
         | inr over ↦ elim over as (λ _. Edge (placed p top rank) q p u) [
           | inl b ↦ inl (b, (let l = old.below q u other.1 b in let here = placed-here p top rank p refl in let there' = placed-other p top rank q other.0 in omega (arith, l, here, there')))
           | inr failed ↦ inr failed
@@ -244,13 +253,13 @@ module _ {K : Type 0} (kept : Kept K) (p : ℕ) (x : Process K) (n : ℕ) (e : E
       ]
     ]
 
-    beside : (q r o i c : ℕ) (u y : Process K) → slice_get (slice_set kept.processes p (process_after x e)) q ≡ Some u → output_at u o ≡ Some c → r ≢ p → slice_get kept.processes r ≡ Some y → slice_get y.inputs i ≡ Some (From c) → HasBegun y.stage → Edge (placed p top rank) q r u
-    beside q r o i c u y is out apart at inp has = elim (found-set kept.processes p x (process_after x e) there q u is) as (λ _. Edge (placed p top rank) q r u) [
-      | inl same ↦ elim (old.rises p r o i c x y there (out-before o c u same.1 out) at inp has) as (λ _. Edge (placed p top rank) q r u) [
+    beside : (q r o c : ℕ) (u y : Process K) → slice_get (slice_set kept.processes p (process_after x e)) q ≡ Some u → output_at u o ≡ Some c → r ≢ p → slice_get kept.processes r ≡ Some y → Takes y c → HasBegun y.stage → Edge (placed p top rank) q r u
+    beside q r o c u y is out apart at inp has = elim (found-set kept.processes p x (process_after x e) there q u is) as (λ _. Edge (placed p top rank) q r u) [
+      | inl same ↦ elim (old.rises p r o c x y there (out-before o c u same.1 out) at inp has) as (λ _. Edge (placed p top rank) q r u) [
         | inl b ↦ absurd (subst HasBegun was-idle b.0)
         | inr failed ↦ absurd (subst IsFailedStage was-idle failed)
       ]
-      | inr other ↦ elim (old.rises q r o i c u y other.1 out at inp has) as (λ _. Edge (placed p top rank) q r u) [
+      | inr other ↦ elim (old.rises q r o c u y other.1 out at inp has) as (λ _. Edge (placed p top rank) q r u) [
         | inl b ↦ inl (b.0, (let l = b.1 in let one = placed-other p top rank q other.0 in let two = placed-other p top rank r apart in omega (arith, l, one, two)))
         | inr failed ↦ inr failed
       ]
@@ -262,9 +271,9 @@ module _ {K : Type 0} (kept : Kept K) (p : ℕ) (x : Process K) (n : ℕ) (e : E
         | inl same ↦ (let here = placed-here p top rank q same.0 in omega (arith, here))
         | inr other ↦ (let b = old.below q y other.1 has in let one = placed-other p top rank q other.0 in omega (arith, b, one))
       ];
-      rises = λ q r o i c u y is out at inp has. elim (found-set kept.processes p x (process_after x e) there r y at) as (λ _. Edge (placed p top rank) q r u) [
-        | inl same ↦ subst (λ (k : ℕ). Edge (placed p top rank) q k u) (sym same.0) (into q o i c u is out (in-before i c y same.1 inp))
-        | inr other ↦ beside q r o i c u y is out other.0 other.1 inp has
+      rises = λ q r o c u y is out at inp has. elim (found-set kept.processes p x (process_after x e) there r y at) as (λ _. Edge (placed p top rank) q r u) [
+        | inl same ↦ subst (λ (k : ℕ). Edge (placed p top rank) q k u) (sym same.0) (into q o c u is out (in-before c y same.1 inp))
+        | inr other ↦ beside q r o c u y is out other.0 other.1 inp has
       ];
     }
 
@@ -311,12 +320,12 @@ module _ {K : Type 0} (next : K → Held → Answer → Outcome K → Type 0) wh
         | inl same ↦ absurd (worked-not work.before work.outcome (subst (λ (w : Process K). HasBegun w.stage) (sym same.1) has))
         | inr other ↦ old.below q z other.1 has
       ];
-      rises = λ q r o i c u z is out at inp has. elim (found-set s.kept.processes p x y work.kept.there r z at) as (λ _. (HasBegun u.stage × (rank q < rank r)) ⊎ IsFailedStage u.stage) [
+      rises = λ q r o c u z is out at inp has. elim (found-set s.kept.processes p x y work.kept.there r z at) as (λ _. (HasBegun u.stage × (rank q < rank r)) ⊎ IsFailedStage u.stage) [
         | inl same ↦ absurd (worked-not work.before work.outcome (subst (λ (w : Process K). HasBegun w.stage) (sym same.1) has))
         | inr other ↦ elim (found-set s.kept.processes p x y work.kept.there q u is) as (λ _. (HasBegun u.stage × (rank q < rank r)) ⊎ IsFailedStage u.stage) [
           | inl same ↦ (let out' : output_at x o ≡ Some c = ap (λ (os : List (Option ℕ)). option_and_then (λ (d : Option ℕ). d) (slice_get os o)) (sym (outputs-worked x work.outcome) ∙ ap (λ (w : Process K). w.outputs) same.1) ∙ out in
-              elim (old.rises p r o i c x z work.kept.there out' other.1 inp has) as (λ _. (HasBegun u.stage × (rank q < rank r)) ⊎ IsFailedStage u.stage) [ inl b ↦ absurd (told-none b.0) | inr failed ↦ absurd (told-stands failed) ])
-          | inr apart ↦ old.rises q r o i c u z apart.1 out other.1 inp has
+              elim (old.rises p r o c x z work.kept.there out' other.1 inp has) as (λ _. (HasBegun u.stage × (rank q < rank r)) ⊎ IsFailedStage u.stage) [ inl b ↦ absurd (told-none b.0) | inr failed ↦ absurd (told-stands failed) ])
+          | inr apart ↦ old.rises q r o c u z apart.1 out other.1 inp has
         ]
       ];
     }
@@ -368,11 +377,11 @@ module _ {K : Type 0} (shape_of : K → Shape) (uses : K → ℕ → Bool) (read
       let z : Process K = process_at_start plan p spec.0 found.0 in
       let x = now p z (found.1 ∙ ap (λ (m : ℕ). Some (process_at_start plan m spec.0 found.0)) zero_p) in
       let zero_o : 0 + o ≡ o = omega arith in
-      let output : slice_get z.outputs o ≡ Some (Some c) = ports-at (sends_at plan p) 0 spec.0.outputs o spec.2 ∙ ap (λ (m : ℕ). Some (sends_at plan p m)) zero_o ∙ ap (λ (d : Option ℕ). Some d) sends in
+      let output : slice_get z.outputs o ≡ Some (Some c) = ports-at (sends_at plan p) 0 (spec.0.outputs + 1) o (let l = spec.2 in omega (arith, l)) ∙ ap (λ (m : ℕ). Some (sends_at plan p m)) zero_o ∙ ap (λ (d : Option ℕ). Some d) sends in
       (x.0, x.1, ap (λ (w : Wires). option_and_then (λ (d : Option ℕ). d) (slice_get w.outputs o)) x.2 ∙ ap (option_and_then (λ (d : Option ℕ). d)) output)
 
   -- and whoever receives by the plan
-  receives-now : (q i c : ℕ) → receives_at plan q i ≡ Some c → (y : Process K) × (slice_get s.kept.processes q ≡ Some y) × (slice_get y.inputs i ≡ Some (From c))
+  receives-now : (q i c : ℕ) → receives_at plan q i ≡ Some c → (y : Process K) × (slice_get s.kept.processes q ≡ Some y) × Takes y c
   receives-now q i c receive =
       let pos = position-Some (λ (x : PlanConnection). (x.receiver == q) && (x.input == i)) plan.connections c no_connection receive in
       let connection = get_or plan.connections c no_connection in
@@ -383,10 +392,16 @@ module _ {K : Type 0} (shape_of : K → Shape) (uses : K → ℕ → Bool) (read
       let zero_q : 0 + q ≡ q = omega arith in
       let z : Process K = process_at_start plan q spec.0 found.0 in
       let y = now q z (found.1 ∙ ap (λ (m : ℕ). Some (process_at_start plan m spec.0 found.0)) zero_q) in
-      let below : i < spec.0.inputs = (let l = spec.2 in omega (arith, l, is.1)) in
+      let within : i ≤ spec.0.inputs = (let l = spec.2 in omega (arith, l, is.1)) in
       let zero_i : 0 + i ≡ i = omega arith in
-      let input : slice_get z.inputs i ≡ Some (From c) = ports-at (input_at plan q spec.0) 0 spec.0.inputs i below ∙ ap (λ (m : ℕ). Some (input_at plan q spec.0 m)) zero_i ∙ ap (λ (d : Option ℕ). Some (connected_or (text_at spec.0.initials i) d)) receive in
-      (y.0, y.1, ap (λ (w : Wires). slice_get w.inputs i) y.2 ∙ input)
+      let by : (b : Bool) → nat_lt i spec.0.inputs ≡ b → Takes y.0 c = λ b. elim b as (λ b. nat_lt i spec.0.inputs ≡ b → Takes y.0 c) [
+        | true ↦ λ t. (let below : i < spec.0.inputs = grind (arith, nat_tests) in
+            let input : slice_get z.inputs i ≡ Some (From c) = ports-at (input_at plan q spec.0) 0 spec.0.inputs i below ∙ ap (λ (m : ℕ). Some (input_at plan q spec.0 m)) zero_i ∙ ap (λ (d : Option ℕ). Some (connected_or (text_at spec.0.initials i) d)) receive in
+            inl (i, ap (λ (w : Wires). slice_get w.inputs i) y.2 ∙ input))
+        | false ↦ λ t. (let last : spec.0.inputs ≡ i = grind (arith, nat_tests) in
+            inr (ap (λ (w : Wires). w.signal) y.2 ∙ ap (receives_at plan q) last ∙ receive))
+      ] in
+      (y.0, y.1, by (nat_lt i spec.0.inputs) refl)
 
   start-ranked : Ranked (start_of plan components).kept
   start-ranked = record {
@@ -394,7 +409,7 @@ module _ {K : Type 0} (shape_of : K → Shape) (uses : K → ℕ → Bool) (read
     top = 0;
     ranks = record {
       below = λ p y is has. absurd (idle-start p y is has);
-      rises = λ q p o i c x y hx ho hy hi has. absurd (idle-start p y hy has);
+      rises = λ q p o c x y hx ho hy hi has. absurd (idle-start p y hy has);
     };
     senders = start-senders plan components;
   }
@@ -410,6 +425,6 @@ module _ {K : Type 0} (shape_of : K → Shape) (uses : K → ℕ → Bool) (read
         rises = λ p o q i c sends receive. (
             let x = sends-now p o c sends in
             let y = receives-now q i c receive in
-            elim (r.ranks.rises p q o i c x.0 y.0 x.1 x.2 y.1 y.2 (subst HasBegun (sym (finished q y.0 y.1)) tt)) [ inl b ↦ b.1 | inr failed ↦ absurd (subst IsFailedStage (finished p x.0 x.1) failed) ]
+            elim (r.ranks.rises p q o c x.0 y.0 x.1 x.2 y.1 y.2 (subst HasBegun (sym (finished q y.0 y.1)) tt)) [ inl b ↦ b.1 | inr failed ↦ absurd (subst IsFailedStage (finished p x.0 x.1) failed) ]
             );
       }

@@ -17,7 +17,7 @@ use Rattle.flow_component.specs.Laws.{Outcome, Wishes, Fails, held_after, Obeys,
 use Rattle.flow_model.specs.declared.Stage.{Stage}
 use Rattle.flow_model.specs.declared.Stage.TheVariants as stages
 use Rattle.flow_model.specs.States.{Process, Channel, State, change_at, changed}
-use Rattle.flow_model.specs.Events.{Event, Starts, Finishes, Gets, Takes_text, Hears_end, Sends, Learns, Sleeps, Closes, Look, looks, stage_event}
+use Rattle.flow_model.specs.Events.{Event, Starts, Finishes, Gets, Takes_text, Hears_end, Sends, Learns, Sleeps, Closes, Signals, Look, looks, stage_event}
 use Rattle.flow_model.specs.Turns.{process_after, channel_after, channels_after, limited, closing, closing_on, Turn}
 use Rattle.flow_model.specs.Works.{judged, sending, nests, worked, Work}
 use Rattle.flow_model.specs.Schedules.{Settles, WorksLead, LeadsBy, Leads, Journal, Step, Turned, Worked, Reaches}
@@ -25,7 +25,7 @@ use Rattle.flow_model.specs.Places.{OnePlaceCounted}
 use Rattle.flow_model.specs.Valid.{ReadyAt, owed, least_left, GoodProcess, SmallCapacities, Valid}
 use Rattle.flow_model.proofs.Lists.{slice_get-set_same, slice_get-set_other, same_or_not}
 use Rattle.flow_model.proofs.Places.{OnePlace-turn, OnePlace-work, held-worked}
-use Rattle.flow_model.proofs.Order.{InOrder-turn, InOrder-work, DepthsTell-turn, DepthsTell-work, OneReceiver-set, inputs-after, inputs-worked, outputs-after, outputs-worked, depths-worked}
+use Rattle.flow_model.proofs.Order.{InOrder-turn, InOrder-work, DepthsTell-turn, DepthsTell-work, OneReceiver-set, SignalsApart-set, signal-after, signal-worked, inputs-after, inputs-worked, outputs-after, outputs-worked, depths-worked}
 use Rattle.flow_model.proofs.Senders.{SendersOpen-turn, SendersOpen-work, within-after}
 use Rattle.flow_model.proofs.Ready.{ready-event, ready-worked, nested-event, nested-worked, sound-hands}
 
@@ -81,6 +81,7 @@ turns-after x (Hears_end port) = refl
 turns-after x (Sends port c packet) = refl
 turns-after x (Learns port level) = refl
 turns-after x Sleeps = refl
+turns-after x (Signals w signal) = refl
 turns-after x (Closes output c) = refl
 
 maker-after : {K : Type 0} (x : Process K) (e : Event) → (process_after x e).held.maker ≡ x.held.maker
@@ -92,6 +93,7 @@ maker-after x (Hears_end port) = refl
 maker-after x (Sends port c packet) = refl
 maker-after x (Learns port level) = refl
 maker-after x Sleeps = refl
+maker-after x (Signals w signal) = refl
 maker-after x (Closes output c) = refl
 
 -- A turn leaves the component as it was.
@@ -104,6 +106,7 @@ component-after x (Hears_end port) = refl
 component-after x (Sends port c packet) = refl
 component-after x (Learns port level) = refl
 component-after x Sleeps = refl
+component-after x (Signals w signal) = refl
 component-after x (Closes output c) = refl
 
 -- a turn makes one packet at most
@@ -116,6 +119,7 @@ made-after x (Hears_end port) = omega arith
 made-after x (Sends port c packet) = omega arith
 made-after x (Learns port level) = omega arith
 made-after x Sleeps = omega arith
+made-after x (Signals w signal) = omega arith
 made-after x (Closes output c) = omega arith
 
 depths-after : {K : Type 0} (x : Process K) (e : Event) → length (process_after x e).depths ≡ length x.depths
@@ -127,6 +131,7 @@ depths-after x (Hears_end port) = refl
 depths-after x (Sends port c packet) = length-set x.depths port _
 depths-after x (Learns port level) = refl
 depths-after x Sleeps = refl
+depths-after x (Signals w signal) = refl
 depths-after x (Closes output c) = refl
 
 left-after : {K : Type 0} (x : Process K) (e : Event) → x.turns + 1 ≤ TURN_LIMIT → (process_after x e).turns + least_left (process_after x e).stage ≤ TURN_LIMIT
@@ -138,6 +143,7 @@ left-after x (Hears_end port) most = limited-left (x.turns + 1) (stages.Told ans
 left-after x (Sends port c packet) most = limited-left (x.turns + 1) (stages.Told answers.Sent) most
 left-after x (Learns port level) most = limited-left (x.turns + 1) (stages.Told (answers.Level level)) most
 left-after x Sleeps most = limited-left (x.turns + 1) stages.Idle most
+left-after x (Signals w signal) most = limited-left (x.turns + 1) stages.Idle most
 left-after x (Closes output c) most = limited-left (x.turns + 1) (closing_on x x.stage) most
 
 -- the capacities stay
@@ -150,6 +156,7 @@ capacity-after p channel (Hears_end port) = refl
 capacity-after p channel (Sends port c packet) = refl
 capacity-after p channel (Learns port level) = refl
 capacity-after p channel Sleeps = refl
+capacity-after p channel (Signals w signal) = refl
 capacity-after p channel (Closes output c) = refl
 
 small-change : (channels : List Channel) (c : ℕ) (f : Channel → Channel) → ((channel : Channel) → (f channel).capacity ≡ channel.capacity) → SmallCapacities channels → SmallCapacities (change_at channels c f)
@@ -173,6 +180,7 @@ small-after channels p (Hears_end port) small = small
 small-after channels p (Sends port c packet) small = small-change channels c (λ ch. channel_after p ch (Sends port c packet)) (λ ch. refl) small
 small-after channels p (Learns port level) small = small
 small-after channels p Sleeps small = small
+small-after channels p (Signals c packet) small = small-change channels c (λ ch. channel_after p ch (Signals c packet)) (λ ch. refl) small
 small-after channels p (Closes output c) small = small-change channels c (λ ch. channel_after p ch (Closes output c)) (λ ch. refl) small
 
 -- the other processes stay
@@ -206,9 +214,10 @@ Valid-turn {K} ready s p event s' turn good =
     } in
     record {
       one_place = place;
-      in_order = InOrder-turn s p event s' turn was.depths was.nested good.one_receiver good.depths_tell good.in_order;
+      in_order = InOrder-turn s p event s' turn was.depths was.nested good.one_receiver good.signals_apart good.depths_tell good.in_order;
       depths_tell = DepthsTell-turn s p event s' turn was.depths was.nested good.depths_tell;
       one_receiver = rw turn.kept.processes (OneReceiver-set s.kept.processes p x y there (inputs-after x event) good.one_receiver);
+      signals_apart = rw turn.kept.processes (SignalsApart-set s.kept.processes p x y there (inputs-after x event) (signal-after x event) good.signals_apart);
       capacities = rw turn.kept.channels (small-after s.kept.channels p event good.capacities);
       within = rw turn.kept.channels (within-after s.kept.channels x turn.kept.level p event turn.kept.happens good.within);
       senders = SendersOpen-turn s p event s' turn good.senders;
@@ -284,6 +293,7 @@ module _ {K : Type 0} (ready : K → Held → Answer → Type 0) (next : K → H
         in_order = InOrder-work next s p s' work good.in_order;
         depths_tell = DepthsTell-work next s p s' work good.depths_tell;
         one_receiver = rw work.kept.processes (OneReceiver-set s.kept.processes p x y there (inputs-worked x work.outcome) good.one_receiver);
+        signals_apart = rw work.kept.processes (SignalsApart-set s.kept.processes p x y there (inputs-worked x work.outcome) (signal-worked x work.outcome) good.signals_apart);
         capacities = rw work.kept.channels good.capacities;
         within = rw work.kept.channels good.within;
         senders = SendersOpen-work next s p s' work good.senders;

@@ -12,7 +12,7 @@ use Rattle.flow_model.specs.declared.Stage.{Stage}
 use Rattle.flow_model.specs.declared.Stage.TheVariants as stages
 use Rattle.flow_model.specs.declared.Block.{Block}
 use Rattle.flow_model.specs.States.{Process, Kept, State}
-use Rattle.flow_model.specs.Events.{Event, Starts, Finishes, Gets, Takes_text, Hears_end, Sends, Learns, Sleeps, Closes, Look, looks, event_from, event_of, stage_event, seen_by}
+use Rattle.flow_model.specs.Events.{Event, Starts, Finishes, Gets, Takes_text, Hears_end, Sends, Learns, Sleeps, Closes, Signals, Look, looks, event_from, event_of, stage_event, seen_by}
 use Rattle.flow_model.specs.Turns.{process_after, Turn}
 use Rattle.flow_model.specs.Works.{worked, past_worked, Work}
 use Rattle.flow_model.specs.Schedules.{IsThoughtStage, Settles, LeadsBy, Journal, no_turns, then_turns}
@@ -38,6 +38,7 @@ exact-is kept x (Takes_text port text) is = tt
 exact-is kept x (Hears_end port) is = tt
 exact-is kept x (Sends port c packet) is = tt
 exact-is kept x Sleeps is = tt
+exact-is kept x (Signals w signal) is = tt
 exact-is kept x (Closes output c) is = tt
 exact-is kept x (Learns port level) is =
     let at = explains kept.channels x (exact_level (looks kept.channels) x) (Learns port level) is in
@@ -62,6 +63,7 @@ turns-after x (Hears_end port) = refl
 turns-after x (Sends port c packet) = refl
 turns-after x (Learns port level) = refl
 turns-after x Sleeps = refl
+turns-after x (Signals w signal) = refl
 turns-after x (Closes output c) = refl
 
 turns-worked : {K : Type 0} (x : Process K) (outcome : Outcome K) → (worked x outcome).turns ≡ x.turns

@@ -20,15 +20,15 @@ use Rattle.flow_component.specs.Runs.{fresh, content_got, EndIsLast, HeardEnd, W
 use Rattle.flow_model.specs.declared.Stage.{Stage}
 use Rattle.flow_model.specs.declared.Stage.TheVariants as stages
 use Rattle.flow_model.specs.States.{Input, From, Text, Process, Channel, Kept, State, outlets, got_at, entry_of}
-use Rattle.flow_model.specs.Events.{Event, Starts, Finishes, Gets, Takes_text, Hears_end, Sends, Learns, Sleeps, Closes, event_of, is_fresh, is_connected}
+use Rattle.flow_model.specs.Events.{Event, Starts, Finishes, Gets, Takes_text, Hears_end, Sends, Learns, Sleeps, Closes, Signals, event_of, is_fresh, is_connected}
 use Rattle.flow_model.specs.Turns.{process_after, channels_after, heard, past_after, limited, closing, closing_on, Turn}
 use Rattle.flow_model.specs.Works.{judged, sending, nests, worked, Work}
 use Rattle.flow_model.specs.Schedules.{Settles, LeadsBy, Leads, Journal, Step, Turned, Worked, Reaches}
 use Rattle.flow_model.specs.Plans.{process_at_start, processes_at_start, start_of}
 use Rattle.flow_plan.specs.Network.{Network as Plan}
 use Rattle.flow_plan.specs.declared.plan.Process.{Process as PlanProcess}
-use Rattle.flow_model.specs.Order.{connection_of, input_of, packets_at, InOrder}
-use Rattle.flow_model.specs.Valid.{Valid, least_left, OneReceiver, SendersOpen, ReadyAt}
+use Rattle.flow_model.specs.Order.{connection_of, input_of, signal_of, packets_at, InOrder}
+use Rattle.flow_model.specs.Valid.{Valid, least_left, OneReceiver, SignalsApart, SendersOpen, ReadyAt}
 use Rattle.flow_model.specs.Runs.{Follows, NoneConnected, IsConnectedAt, EndsForGood, HasRun, EndedGotAll}
 use Rattle.flow_model.proofs.Lists.{slice_get-set_same, slice_get-set_other, same_or_not}
 use Rattle.flow_model.proofs.Inverse.{explains}
@@ -37,7 +37,7 @@ use Rattle.flow_model.proofs.Ready.{sound-hands}
 use Rattle.flow_model.proofs.Schedules.{Valid-turn, Valid-settles, Valid-work, turns-after}
 use Rattle.flow_model.proofs.Start.{Valid-start}
 use Rattle.flow_model.proofs.Followings.{follows-event, follows-worked}
-use Rattle.flow_model.proofs.Exhausting.{IsDry, Exhausted, dry, taken, Waits, packet_waits, text_waits, not-both, hears-exhausted, starts-first, finishes-later, start-brings, start-finds, fresh-start, fresh-set, fresh-other, fresh-gone, fresh-apart, dry-after, some-after, finishes-all, all-dry}
+use Rattle.flow_model.proofs.Exhausting.{IsDry, Exhausted, dry, taken, Waits, packet_waits, text_waits, not-both, hears-exhausted, starts-first, finishes-later, start-brings, start-finds, fresh-start, fresh-set, fresh-other, fresh-gone, fresh-apart, dry-after, TakesFrom, some-after, finishes-all, all-dry}
 use Rattle.flow_model.proofs.Hearing.{heard-more, last-more, StartsKeep, starts-kept, starts-same, starts-more, wakes-more, fresh_after, fresh-more, gives-more, starts-count, never-told}
 
 -- Whether anything was told to a process that stands there.
@@ -92,6 +92,10 @@ begun-event channels x n told Sleeps is was =
     let at = explains channels x n Sleeps is in
     let some : told ≢ [] = subst (Begun x told) at was in
     rw append-nil (begun-limited (process_after x Sleeps) told (x.turns + 1) stages.Idle ((λ h. absurd (cc)), (λ h. some)))
+begun-event channels x n told (Signals c packet) is was =
+    let from = explains channels x n (Signals c packet) is in
+    let idle = subst (Begun x told) from.stage was in
+    rw append-nil (begun-limited (process_after x (Signals c packet)) told (x.turns + 1) stages.Idle idle)
 begun-event channels x n told (Closes output c) is was =
     let at = explains channels x n (Closes output c) is in
     let some : NoneConnected x → told ≢ [] = subst (Begun x told) at.stage was in
@@ -131,6 +135,7 @@ over-before channels x n (Hears_end port) is over = absurd (at-work (x.turns + 1
 over-before channels x n (Sends port c packet) is over = absurd (at-work (x.turns + 1) answers.Sent over)
 over-before channels x n (Learns port level) is over = absurd (at-work (x.turns + 1) (answers.Level level) over)
 over-before channels x n Sleeps is over = absurd (asleep (x.turns + 1) over)
+over-before channels x n (Signals w signal) is over = absurd (asleep (x.turns + 1) over)
 over-before channels x n (Closes output c) is over = let at = explains channels x n (Closes output c) is in inl (subst IsOverStage (sym at.stage) tt)
 
 judged-works : (depths : List ℕ) (held : Held) (wish : Wish) → IsOverStage (judged depths held wish) → ⊥
@@ -179,6 +184,7 @@ heard-event port told x (Hears_end p) h = elim (heard-more port told (Ended p) h
 heard-event port told x (Sends p c t) h = elim (heard-more port told (Sent p t) h) [ inl k ↦ inl k | inr k ↦ absurd k ]
 heard-event port told x (Learns p level) h = elim (heard-more port told (Learned p level) h) [ inl k ↦ inl k | inr k ↦ absurd k ]
 heard-event port told x Sleeps h = inl (subst (HeardEnd port) (append-nil told) h)
+heard-event port told x (Signals w signal) h = inl (subst (HeardEnd port) (append-nil told) h)
 heard-event port told x (Closes o c) h = inl (subst (HeardEnd port) (append-nil told) h)
 
 -- a turn tells one thing at most, and no start goes away
@@ -191,6 +197,7 @@ starts-heard told x (Hears_end i) = omega (arith, starts-count told (Ended i))
 starts-heard told x (Sends i c packet) = omega (arith, starts-count told (Sent i packet))
 starts-heard told x (Learns i level) = omega (arith, starts-count told (Learned i level))
 starts-heard told x Sleeps = rw append-nil (omega arith)
+starts-heard told x (Signals w signal) = rw append-nil (omega arith)
 starts-heard told x (Closes o c) = rw append-nil (omega arith)
 
 heard-one : {K : Type 0} (x : Process K) (e : Event) → length (heard x e) ≤ 1
@@ -202,6 +209,7 @@ heard-one x (Hears_end i) = omega arith
 heard-one x (Sends i c packet) = omega arith
 heard-one x (Learns i level) = omega arith
 heard-one x Sleeps = omega arith
+heard-one x (Signals w signal) = omega arith
 heard-one x (Closes o c) = omega arith
 
 -- where a process that is started now was started once at most, nothing was told before
@@ -223,12 +231,13 @@ taken-after channels x n told (Hears_end i) port text is was good ended input f 
 taken-after channels x n told (Sends i c packet) port text is was good ended input f = f
 taken-after channels x n told (Learns i level) port text is was good ended input f = f
 taken-after channels x n told Sleeps port text is was good ended input f = f
+taken-after channels x n told (Signals w signal) port text is was good ended input f = f
 taken-after channels x n told (Closes o c) port text is was good ended input f = f
 
 -- what waits at an input still waits there, if it isn't taken
-waits-after : {K : Type 0} (channels : List Channel) (p : ℕ) (x y : Process K) (e : Event) (port : ℕ) → y.inputs ≡ x.inputs → ((c i : ℕ) (packet : Tree) → slice_get x.inputs port ≡ Some (From c) → e ≡ Gets i c packet → ⊥)
+waits-after : {K : Type 0} (channels : List Channel) (p : ℕ) (x y : Process K) (e : Event) (port : ℕ) → y.inputs ≡ x.inputs → ((c : ℕ) → slice_get x.inputs port ≡ Some (From c) → TakesFrom e c → ⊥)
     → ((text : List ℕ) → slice_get x.inputs port ≡ Some (Text text) → is_fresh x port ≡ true → is_fresh y port ≡ true) → Waits channels x port → Waits (channels_after channels p e) y port
-waits-after channels p x y e port inputs untaken fresh (packet_waits c input some) = packet_waits c (ap (λ (is : List Input). slice_get is port) inputs ∙ input) (some-after channels p e c (λ i packet. untaken c i packet input) some)
+waits-after channels p x y e port inputs untaken fresh (packet_waits c input some) = packet_waits c (ap (λ (is : List Input). slice_get is port) inputs ∙ input) (some-after channels p e c (untaken c input) some)
 waits-after channels p x y e port inputs untaken fresh (text_waits text input f) = text_waits text (ap (λ (is : List Input). slice_get is port) inputs ∙ input) (fresh text input f)
 
 not_got : (port i : ℕ) (t : Tree) → port ≢ i → content_got port (Received i t) ≡ []
@@ -269,7 +278,7 @@ pub record Tells {K : Type 0} (ready : K → Held → Answer → Type 0) (next :
   pub over : IsOverStage x.stage → (port c : ℕ) → slice_get x.inputs port ≡ Some (From c) → IsDry channels c
 
 module _ {K : Type 0} (ready : K → Held → Answer → Type 0) (next : K → Held → Answer → Outcome K → Type 0) (components : List K) (kept : Kept K) (p : ℕ) (x : Process K) (n : ℕ) (there : slice_get kept.processes p ≡ Some x) (senders : SendersOpen kept)
-    (one : OneReceiver kept.processes) where
+    (one : OneReceiver kept.processes) (apart : SignalsApart kept.processes) where
   exhausted-after : (told : List Happening) (e : Event) (port : ℕ) → event_of kept.channels x n ≡ Some e → (told ≢ [] → 1 ≤ starts told) → EndsForGood x (told ++ heard x e) port → HeardEnd port told → Exhausted kept.channels x port
       → Exhausted (channels_after kept.channels p e) (process_after x e) port
   exhausted-after told e port is was good ended (dry c input h) = dry c (ap (λ (is : List Input). slice_get is port) (inputs-after x e) ∙ input) (dry-after kept p x n there senders e is c h)
@@ -326,12 +335,13 @@ module _ {K : Type 0} (ready : K → Held → Answer → Type 0) (next : K → H
   last-after told (Sends i c packet) is was port good = last-more port told (Sent i packet) (was.last port good) (λ k. refl)
   last-after told (Learns i level) is was port good = last-more port told (Learned i level) (was.last port good) (λ k. refl)
   last-after told Sleeps is was port good = rw append-nil (was.last port good)
+  last-after told (Signals w signal) is was port good = rw append-nil (was.last port good)
   last-after told (Closes o c) is was port good = rw append-nil (was.last port good)
 
   input-here : (port c : ℕ) → slice_get x.inputs port ≡ Some (From c) → input_of port (slice_get kept.processes p) ≡ Some c
   input-here port c input = ap (input_of port) there ∙ ap connection_of input
 
-  keeps-waits : (e : Event) (port : ℕ) → ((c i : ℕ) (packet : Tree) → slice_get x.inputs port ≡ Some (From c) → e ≡ Gets i c packet → ⊥)
+  keeps-waits : (e : Event) (port : ℕ) → ((c : ℕ) → slice_get x.inputs port ≡ Some (From c) → TakesFrom e c → ⊥)
       → ((text : List ℕ) → slice_get x.inputs port ≡ Some (Text text) → is_fresh x port ≡ true → is_fresh (process_after x e) port ≡ true) → Waits kept.channels x port → Waits (channels_after kept.channels p e) (process_after x e) port
   keeps-waits e port untaken fresh w = waits-after kept.channels p x (process_after x e) e port (inputs-after x e) untaken fresh w
 
@@ -339,9 +349,9 @@ module _ {K : Type 0} (ready : K → Held → Answer → Type 0) (next : K → H
       → StartsKeep (Waits (channels_after kept.channels p e) (process_after x e)) (IsConnectedAt x.inputs) (told ++ heard x e)
   brings-after told Starts is some k =
       starts-more (Waits kept.channels x) (Waits kept.channels (process_after x Starts)) (IsConnectedAt x.inputs) Started (λ port w h. h)
-      (λ port w. inr (keeps-waits Starts port (λ c i packet input h. cc) (λ text input f. fresh-start x.inputs port text input) w)) (λ _. (let f = start-brings kept.channels x n is some in (f.port, (f.connection, f.input), packet_waits f.connection f.input f.some))) told k
+      (λ port w. inr (keeps-waits Starts port (λ c input takes. takes) (λ text input f. fresh-start x.inputs port text input) w)) (λ _. (let f = start-brings kept.channels x n is some in (f.port, (f.connection, f.input), packet_waits f.connection f.input f.some))) told k
   brings-after told Finishes is some k =
-      rw append-nil (starts-same (Waits kept.channels x) (Waits kept.channels (process_after x Finishes)) (IsConnectedAt x.inputs) (λ port w. keeps-waits Finishes port (λ c i packet input h. cc) (λ text input f. f) w) told k)
+      rw append-nil (starts-same (Waits kept.channels x) (Waits kept.channels (process_after x Finishes)) (IsConnectedAt x.inputs) (λ port w. keeps-waits Finishes port (λ c input takes. takes) (λ text input f. f) w) told k)
   brings-after told (Gets i c packet) is some k =
       let from = explains kept.channels x n (Gets i c packet) is in
       let e = Gets i c packet in
@@ -349,7 +359,7 @@ module _ {K : Type 0} (ready : K → Held → Answer → Type 0) (next : K → H
       (λ port w. elim (same_or_not i port) [
         | inl same ↦ inl same
         | inr other ↦ inr (keeps-waits e port
-            (λ d j t input h. other (let same : c ≡ d = cc in (one p p i port c (input-here i c from.input) (input-here port c (input ∙ ap (λ (m : ℕ). Some (From m)) (sym same)))).1))
+            (λ d input same. other (one p p i port c (input-here i c from.input) (input-here port c (input ∙ ap (λ (m : ℕ). Some (From m)) same))).1)
             (λ text input f. f) w)
       ])
       (λ h. absurd h) told k
@@ -358,27 +368,32 @@ module _ {K : Type 0} (ready : K → Held → Answer → Type 0) (next : K → H
       starts-more (Waits kept.channels x) (Waits kept.channels (process_after x e)) (IsConnectedAt x.inputs) (Received i (packet_of (next_id x.held) kinds.Normal text [])) (λ port w h. h)
       (λ port w. elim (same_or_not i port) [
         | inl same ↦ inl same
-        | inr other ↦ inr (keeps-waits e port (λ c j packet input h. cc) (λ t input f. fresh-other x.fresh i port (λ h. other (sym h)) f) w)
+        | inr other ↦ inr (keeps-waits e port (λ c input takes. takes) (λ t input f. fresh-other x.fresh i port (λ h. other (sym h)) f) w)
       ])
       (λ h. absurd h) told k
   brings-after told (Hears_end i) is some k =
       let e = Hears_end i in
       starts-more (Waits kept.channels x) (Waits kept.channels (process_after x e)) (IsConnectedAt x.inputs) (Ended i)
       (λ port w h. not-both kept.channels x i (hears-exhausted kept.channels x n i is) (subst (Waits kept.channels x) (sym h) w))
-      (λ port w. inr (keeps-waits e port (λ c j packet input h. cc) (λ text input f. f) w)) (λ h. absurd h) told k
+      (λ port w. inr (keeps-waits e port (λ c input takes. takes) (λ text input f. f) w)) (λ h. absurd h) told k
   brings-after told (Sends i c packet) is some k =
       let e = Sends i c packet in
       starts-more (Waits kept.channels x) (Waits (channels_after kept.channels p e) (process_after x e)) (IsConnectedAt x.inputs) (Sent i packet) (λ port w h. h)
-      (λ port w. inr (keeps-waits e port (λ c j t input h. cc) (λ text input f. f) w)) (λ h. absurd h) told k
+      (λ port w. inr (keeps-waits e port (λ c input takes. takes) (λ text input f. f) w)) (λ h. absurd h) told k
   brings-after told (Learns i level) is some k =
       let e = Learns i level in
       starts-more (Waits kept.channels x) (Waits kept.channels (process_after x e)) (IsConnectedAt x.inputs) (Learned i level) (λ port w h. h)
-      (λ port w. inr (keeps-waits e port (λ c j t input h. cc) (λ text input f. f) w)) (λ h. absurd h) told k
+      (λ port w. inr (keeps-waits e port (λ c input takes. takes) (λ text input f. f) w)) (λ h. absurd h) told k
   brings-after told Sleeps is some k =
-      rw append-nil (starts-same (Waits kept.channels x) (Waits kept.channels (process_after x Sleeps)) (IsConnectedAt x.inputs) (λ port w. keeps-waits Sleeps port (λ c i packet input h. cc) (λ text input f. f) w) told k)
+      rw append-nil (starts-same (Waits kept.channels x) (Waits kept.channels (process_after x Sleeps)) (IsConnectedAt x.inputs) (λ port w. keeps-waits Sleeps port (λ c input takes. takes) (λ text input f. f) w) told k)
+  brings-after told (Signals c packet) is some k =
+      let from = explains kept.channels x n (Signals c packet) is in
+      let e = Signals c packet in
+      rw append-nil (starts-same (Waits kept.channels x) (Waits (channels_after kept.channels p e) (process_after x e)) (IsConnectedAt x.inputs)
+      (λ port w. keeps-waits e port (λ d input same. apart.apart p p port c (ap signal_of there ∙ from.signal) (input-here port c (input ∙ ap (λ (m : ℕ). Some (From m)) same))) (λ text input f. f) w) told k)
   brings-after told (Closes o c) is some k =
       let e = Closes o c in
-      rw append-nil (starts-same (Waits kept.channels x) (Waits (channels_after kept.channels p e) (process_after x e)) (IsConnectedAt x.inputs) (λ port w. keeps-waits e port (λ c i packet input h. cc) (λ text input f. f) w) told k)
+      rw append-nil (starts-same (Waits kept.channels x) (Waits (channels_after kept.channels p e) (process_after x e)) (IsConnectedAt x.inputs) (λ port w. keeps-waits e port (λ c input takes. takes) (λ text input f. f) w) told k)
 
   -- a start but the first finds an input at which a packet waits
   start-open : (told : List Happening) → event_of kept.channels x n ≡ Some Starts → Tells ready next components kept.channels p told x → (told ≡ []) ⊎ ((port : ℕ) × (port < length x.inputs) × (HeardEnd port told → ⊥))
@@ -399,6 +414,7 @@ module _ {K : Type 0} (ready : K → Held → Answer → Type 0) (next : K → H
   wakes-after told (Sends i c packet) is was = wakes-more (length x.inputs) [] told (Sent i packet) was.wakes (λ h. absurd h)
   wakes-after told (Learns i level) is was = wakes-more (length x.inputs) [] told (Learned i level) was.wakes (λ h. absurd h)
   wakes-after told Sleeps is was = rw append-nil was.wakes
+  wakes-after told (Signals w signal) is was = rw append-nil was.wakes
   wakes-after told (Closes o c) is was = rw append-nil was.wakes
 
   wished : (told : List Happening) (wish : Wish) → x.stage ≡ stages.Wishing wish → Tells ready next components kept.channels p told x → told ≢ []
@@ -423,6 +439,7 @@ module _ {K : Type 0} (ready : K → Held → Answer → Type 0) (next : K → H
       let at = explains kept.channels x n (Learns i level) is in
       omega (arith, starts-count told (Learned i level), was.started (wished told (wishes.Level at.wished) at.stage was))
   started-after told Sleeps is was some = rw append-nil (was.started (λ h. some (append-nil told ∙ h)))
+  started-after told (Signals w signal) is was some = rw append-nil (was.started (λ h. some (append-nil told ∙ h)))
   started-after told (Closes o c) is was some = rw append-nil (was.started (λ h. some (append-nil told ∙ h)))
 
   once-after : (told : List Happening) (e : Event) → event_of kept.channels x n ≡ Some e → Tells ready next components kept.channels p told x → NoneConnected x → starts (told ++ heard x e) ≤ 1
@@ -437,6 +454,7 @@ module _ {K : Type 0} (ready : K → Held → Answer → Type 0) (next : K → H
   once-after told (Sends i c packet) is was none = omega (arith, starts-count told (Sent i packet), was.once none)
   once-after told (Learns i level) is was none = omega (arith, starts-count told (Learned i level), was.once none)
   once-after told Sleeps is was none = rw append-nil (was.once none)
+  once-after told (Signals w signal) is was none = rw append-nil (was.once none)
   once-after told (Closes o c) is was none = rw append-nil (was.once none)
 
   texts-after : (told : List Happening) (e : Event) → event_of kept.channels x n ≡ Some e → Tells ready next components kept.channels p told x → (port : ℕ) (text : List ℕ) → slice_get x.inputs port ≡ Some (Text text) → TextIs (told ++ heard x e) port text (is_fresh (process_after x e) port)
@@ -465,6 +483,7 @@ module _ {K : Type 0} (ready : K → Held → Answer → Type 0) (next : K → H
   texts-after told (Sends i c packet) is was port text input = text-more told (Sent i packet) port text (is_fresh x port) (is_fresh x port) tt refl (was.texts port text input)
   texts-after told (Learns i level) is was port text input = text-more told (Learned i level) port text (is_fresh x port) (is_fresh x port) tt refl (was.texts port text input)
   texts-after told Sleeps is was port text input = rw append-nil (was.texts port text input)
+  texts-after told (Signals w signal) is was port text input = rw append-nil (was.texts port text input)
   texts-after told (Closes o c) is was port text input = rw append-nil (was.texts port text input)
 
   over-after : (told : List Happening) (e : Event) → event_of kept.channels x n ≡ Some e → Tells ready next components kept.channels p told x → IsOverStage (process_after x e).stage → (port c : ℕ) → slice_get x.inputs port ≡ Some (From c)
@@ -514,10 +533,27 @@ module _ {K : Type 0} (ready : K → Held → Answer → Type 0) (next : K → H
       still port (dry c input h) = dry c input (dry-after kept p x n there senders e is c h)
       still port (taken text input f) = taken text input f
 
-      untaken : (port c i : ℕ) (packet : Tree) → slice_get z.inputs port ≡ Some (From c) → e ≡ Gets i c packet → ⊥
-      untaken port c i packet input same =
-          let from = explains kept.channels x n (Gets i c packet) (is ∙ ap Some same) in
-          other (one q p port i c (ap (input_of port) at ∙ ap connection_of input) (input-here i c from.input)).0
+      untaken : (port c : ℕ) → slice_get z.inputs port ≡ Some (From c) → TakesFrom e c → ⊥
+      untaken port c input takes = taken-by e is takes
+        where
+          here : input_of port (slice_get kept.processes q) ≡ Some c
+          here = ap (input_of port) at ∙ ap connection_of input
+
+          taken-by : (f : Event) → event_of kept.channels x n ≡ Some f → TakesFrom f c → ⊥
+          taken-by (Gets i d packet) is same =
+              let from = explains kept.channels x n (Gets i d packet) is in
+              other (one q p port i c here (input-here i d from.input ∙ ap (λ (m : ℕ). Some m) (sym same))).0
+          taken-by (Signals d packet) is same =
+              let from = explains kept.channels x n (Signals d packet) is in
+              apart.apart p q port c (ap signal_of there ∙ from.signal ∙ ap (λ (m : ℕ). Some m) (sym same)) here
+          taken-by Starts is takes = takes
+          taken-by Finishes is takes = takes
+          taken-by (Takes_text i text) is takes = takes
+          taken-by (Hears_end i) is takes = takes
+          taken-by (Sends i d packet) is takes = takes
+          taken-by (Learns i level) is takes = takes
+          taken-by Sleeps is takes = takes
+          taken-by (Closes o d) is takes = takes
 
 -- Each process was told so.
 abbrev pub AllTell : {K : Type 0} → (K → Held → Answer → Type 0) → (K → Held → Answer → Outcome K → Type 0) → List K → State K → Type 0
@@ -542,12 +578,12 @@ AllTell-turn {K} ready next components s p e s' turn valid all q z is =
           let h : Some y ≡ Some z = sym (ap (slice_get (slice_set s.kept.processes p y)) same ∙ slice_get-set_same s.kept.processes p x y there) ∙ is' in
           let y_is : y ≡ z = cc in
           let t : nat_eq q p ≡ true = grind (arith, nat_tests) in
-          let own = Tells-own ready next components s.kept p x turn.kept.level there valid.senders valid.one_receiver (s.past.told p) e turn.kept.happens (all p x there) in
+          let own = Tells-own ready next components s.kept p x turn.kept.level there valid.senders valid.one_receiver valid.signals_apart (s.past.told p) e turn.kept.happens (all p x there) in
           let own' : Tells ready next components channels q (s.past.told q ++ heard x e) z = subst (λ (m : ℕ). Tells ready next components channels m (s.past.told m ++ heard x e) z) (sym same) (subst (Tells ready next components channels p (s.past.told p ++ heard x e)) y_is own) in
           subst (λ (hs : List Happening). Tells ready next components channels q hs z) (told-same (s.past.told q) (heard x e) (nat_eq q p) t) own')
       | inr other ↦ (let t : nat_eq q p ≡ false = grind (arith, nat_tests) in
           let at : slice_get s.kept.processes q ≡ Some z = sym (slice_get-set_other s.kept.processes p q (process_after x e) other) ∙ is' in
-          let kept = Tells-other ready next components s.kept p x turn.kept.level there valid.senders valid.one_receiver (s.past.told q) e q z other at turn.kept.happens (all q z at) in
+          let kept = Tells-other ready next components s.kept p x turn.kept.level there valid.senders valid.one_receiver valid.signals_apart (s.past.told q) e q z other at turn.kept.happens (all q z at) in
           subst (λ (hs : List Happening). Tells ready next components channels q hs z) (told-other (s.past.told q) (heard x e) (nat_eq q p) t) kept)
     ] in
     rw (turn.kept.channels, turn.past) now

@@ -9,7 +9,7 @@ use Rattle.flow_component.specs.Laws.{Outcome, Obeys, StaysReady}
 use Rattle.flow_component.specs.Happenings.{Happening, Started, Received, Ended, Sent, Learned}
 use Rattle.flow_component.specs.Runs.{starts}
 use Rattle.flow_model.specs.States.{Input, From, Process, Channel, Put, State, Entry, entry_of, got_at}
-use Rattle.flow_model.specs.Events.{Event, Starts, Finishes, Gets, Takes_text, Hears_end, Sends, Learns, Sleeps, Closes, looks, event_of, is_connected, has_packet}
+use Rattle.flow_model.specs.Events.{Event, Starts, Finishes, Gets, Takes_text, Hears_end, Sends, Learns, Sleeps, Closes, Signals, looks, event_of, is_connected, has_packet}
 use Rattle.flow_model.specs.Turns.{Turn, process_after, heard, put_after, past_after}
 use Rattle.flow_model.specs.Works.{Work, worked}
 use Rattle.flow_model.specs.Schedules.{Settles, Journal, Leads, LeadsBy}
@@ -20,7 +20,7 @@ use Rattle.flow_model.specs.Valid.{Valid}
 use Rattle.flow_model.specs.Runs.{NoneConnected}
 use Rattle.flow_model.specs.Woken.{GetsSome}
 use Rattle.flow_model.proofs.Order.{inputs-after, inputs-worked}
-use Rattle.flow_model.proofs.Exhausting.{starts-can, first-input, HoldsSome}
+use Rattle.flow_model.proofs.Exhausting.{starts-is_woken, first-input, HoldsSome}
 use Rattle.flow_model.proofs.Rising.{found-set}
 use Rattle.flow_model.proofs.Schedules.{Valid-turn, Valid-settles}
 use Rattle.flow_model.proofs.Start.{Valid-start}
@@ -51,6 +51,7 @@ put-stays put p (Takes_text port text) c some = some
 put-stays put p (Hears_end port) c some = some
 put-stays put p (Learns port level) c some = some
 put-stays put p Sleeps c some = some
+put-stays put p (Signals w signal) c some = some
 put-stays put p (Closes output d) c some = some
 
 -- a turn is a start, or starts nothing
@@ -63,6 +64,7 @@ starts-heard x (Hears_end port) = inr refl
 starts-heard x (Sends port c packet) = inr refl
 starts-heard x (Learns port level) = inr refl
 starts-heard x Sleeps = inr refl
+starts-heard x (Signals w signal) = inr refl
 starts-heard x (Closes output c) = inr refl
 
 abbrev Woken : {K : Type 0} → State K → Process K → Type 0
@@ -87,7 +89,7 @@ module _ {K : Type 0} (ready : K → Held → Answer → Type 0) where
       longer (x ∷ xs) y ys is = cc
 
   starts-woken : (s : State K) (p n : ℕ) (x : Process K) → Valid ready s → slice_get s.kept.processes p ≡ Some x → event_of s.kept.channels x n ≡ Some Starts → Woken s x
-  starts-woken s p n x valid there is = by (list_any (has_packet (looks s.kept.channels)) x.inputs) refl (list_any is_connected x.inputs) refl (starts-can s.kept.channels x n is)
+  starts-woken s p n x valid there is = by (list_any (has_packet (looks s.kept.channels)) x.inputs) refl (list_any is_connected x.inputs) refl (starts-is_woken s.kept.channels x n is)
     where
       by : (b : Bool) → list_any (has_packet (looks s.kept.channels)) x.inputs ≡ b → (k : Bool) → list_any is_connected x.inputs ≡ k → (list_any (has_packet (looks s.kept.channels)) x.inputs || (not (list_any is_connected x.inputs) && not x.has_run)) ≡ true → Woken s x
       by true holds k connected can = let f = first-input s.kept.channels x.inputs holds in inr (record { input = f.port; connection = f.connection; at = f.input; some = put-some s p f.port f.connection x valid there f.input f.some })

@@ -6,7 +6,7 @@ use Rattle.flow_component.specs.declared.Answer.{Answer}
 use Rattle.flow_component.specs.Laws.{Outcome}
 use Rattle.flow_model.specs.States.{Process, Put, State, entry_of}
 use Rattle.flow_plan.specs.declared.plan.Sender.{Sender}
-use Rattle.flow_model.specs.Events.{Event, Starts, Finishes, Gets, Takes_text, Hears_end, Sends, Learns, Sleeps, Closes}
+use Rattle.flow_model.specs.Events.{Event, Starts, Finishes, Gets, Takes_text, Hears_end, Sends, Learns, Sleeps, Closes, Signals}
 use Rattle.flow_model.specs.Turns.{process_after, put_after, Turn}
 use Rattle.flow_model.specs.Works.{worked, Work}
 use Rattle.flow_model.specs.Schedules.{Settles, LeadsBy, Leads, Journal}
@@ -15,7 +15,7 @@ use Rattle.flow_plan.specs.Network.{Network as Plan}
 use Rattle.flow_model.specs.Order.{output_of}
 use Rattle.flow_model.specs.Wires.{Wires, wires, SameWires, PutBySenders}
 use Rattle.flow_model.proofs.Inverse.{explains}
-use Rattle.flow_model.proofs.Order.{inputs-after, outputs-after, inputs-worked, outputs-worked, output_of-set}
+use Rattle.flow_model.proofs.Order.{inputs-after, outputs-after, signal-after, inputs-worked, outputs-worked, signal-worked, output_of-set}
 
 wires-set : {K : Type 0} (xs : List (Process K)) (p : ℕ) (x y : Process K) → slice_get xs p ≡ Some x → wires y ≡ wires x → map wires (slice_set xs p y) ≡ map wires xs
 wires-set [] p x y at same = refl
@@ -46,6 +46,7 @@ put-before put p (Sends i d packet) c k y is = elim (put-cond (nat_eq c d) (put 
 ]
 put-before put p (Learns i level) c k y is = inl is
 put-before put p Sleeps c k y is = inl is
+put-before put p (Signals w signal) c k y is = inl is
 put-before put p (Closes o d) c k y is = inl is
 
 module _ {K : Type 0} (s : State K) (p : ℕ) where
@@ -66,7 +67,7 @@ module _ {K : Type 0} (s : State K) (p : ℕ) where
   wires-turn e s' turn =
       let x = turn.kept.before in
       ap (λ (ps : List (Process K)). map wires ps) turn.kept.processes
-      ∙ wires-set s.kept.processes p x (process_after x e) turn.kept.there (λ i. record { inputs = inputs-after x e i; outputs = outputs-after x e i })
+      ∙ wires-set s.kept.processes p x (process_after x e) turn.kept.there (λ i. record { inputs = inputs-after x e i; outputs = outputs-after x e i; signal = signal-after x e i })
 
   module _ (next : K → Held → Answer → Outcome K → Type 0) where
     puts-work : (s' : State K) → Work next s p s' → PutBySenders s → PutBySenders s'
@@ -80,7 +81,7 @@ module _ {K : Type 0} (s : State K) (p : ℕ) where
     wires-work s' work =
         let x = work.before in
         ap (λ (ps : List (Process K)). map wires ps) work.kept.processes
-        ∙ wires-set s.kept.processes p x (worked x work.outcome) work.kept.there (λ i. record { inputs = inputs-worked x work.outcome i; outputs = outputs-worked x work.outcome i })
+        ∙ wires-set s.kept.processes p x (worked x work.outcome) work.kept.there (λ i. record { inputs = inputs-worked x work.outcome i; outputs = outputs-worked x work.outcome i; signal = signal-worked x work.outcome i })
 
 module _ {K : Type 0} (next : K → Held → Answer → Outcome K → Type 0) where
   abbrev Keeps : State K → State K → Type 0

@@ -1,4 +1,4 @@
--- What stays as the plan says: which connection, or which text, is at each input and output; and whose the packets of a connection are.
+-- What stays as the plan says: which connection, or which text, is at each input and output, the automatic ones too; and whose the packets of a connection are.
 -- (This project's own.)
 use Rattle.std.specs.Prelude.{◌≡◌, ℕ, Bool, List, map, Option, Some, slice_get}
 use Rattle.flow_packet.specs.Held.{Held}
@@ -15,10 +15,11 @@ use Rattle.flow_plan.specs.Network.{Network as Plan}
 pub record Wires : Type 0 where
   pub inputs : List Input
   pub outputs : List (Option ℕ)
+  pub signal : Option ℕ
 
 -- What stands at the inputs and outputs of a process.
 abbrev pub wires : {K : Type 0} → Process K → Wires
-wires x = record { inputs = x.inputs; outputs = x.outputs }
+wires x = record { inputs = x.inputs; outputs = x.outputs; signal = x.signal }
 
 -- The inputs and outputs of all processes are as they were.
 abbrev pub SameWires : {K : Type 0} → State K → State K → Type 0

@@ -1,6 +1,6 @@
 -- The tables of a plan have the numbers of elements of its processes.
-use Rattle.std.proofs.Common.{◌≡◌, ℕ, ◌+◌, List, [], ◌∷◌, Bool, true, false, map, refl, sym, ◌∙◌, length, arith, length-append}
-use Rattle.std.specs.Prelude.{if◌then◌else◌}
+use Rattle.std.proofs.Common.{◌≡◌, ℕ, ◌+◌, List, [], ◌∷◌, Some, Bool, true, false, map, refl, sym, ◌∙◌, suc, slice_get, length, arith, length-append}
+use Rattle.std.specs.Prelude.{if◌then◌else◌, codes}
 use Rattle.std.specs.List.{sum_by}
 use Rattle.std.proofs.lemmas.List.Sums.{sum_by-cons}
 use Rattle.flow_net.specs.declared.draft.DraftPort.{DraftPort}
@@ -9,6 +9,8 @@ use Rattle.flow_plan.specs.Network.{is_stream, elements_of, ports_of, LaidOut}
 use Rattle.flow_net.specs.Drafts.{is_side}
 use Rattle.flow_net.specs.Finishes.{size_of, count_of, counted, total_of, row_of, rows_of, table_of, process_of}
 use Rattle.flow_plan.proofs.PortNames.{length_elements_of}
+use Rattle.flow_net.proofs.Rows.{entries-rows}
+use Rattle.flow_net.proofs.Lasts.{Closes, ports-front}
 
 -- A row has as many elements as its port.
 pub row-count : (port : DraftPort) → length (elements_of (row_of port)) ≡ count_of port
@@ -28,6 +30,11 @@ length-rows_of (port ∷ ports) p s = by (is_side p s port) (length-rows_of port
     by false rest = omega (arith, rest)
 
 -- The processes of a plan are laid out by their tables.
-pub LaidOut-plan : (ports : List DraftPort) (processes : List DraftProcess) → LaidOut (map (process_of ports) processes) (map (table_of ports) processes)
-LaidOut-plan ports [] = tt
-LaidOut-plan ports (begun ∷ processes) = (length-rows_of ports begun.number true, length-rows_of ports begun.number false, LaidOut-plan ports processes)
+pub LaidOut-plan : (ports : List DraftPort) (processes : List DraftProcess) → ((k : ℕ) (begun : DraftProcess) → slice_get processes k ≡ Some begun → Closes ports begun.number) → LaidOut (map (process_of ports) processes) (map (table_of ports) processes)
+LaidOut-plan ports [] closes = tt
+LaidOut-plan ports (begun ∷ processes) closes =
+    let first = closes 0 begun refl in (
+      omega (arith, ports-front (rows_of ports begun.number true) first.inputs (codes "*IN") (entries-rows ports begun.number true ∙ first.inputs_are), length-rows_of ports begun.number true),
+      omega (arith, ports-front (rows_of ports begun.number false) first.outputs (codes "*OUT") (entries-rows ports begun.number false ∙ first.outputs_are), length-rows_of ports begun.number false),
+      LaidOut-plan ports processes (λ k b here. closes (suc k) b here),
+    )

@@ -17,6 +17,7 @@ pub mod SoundGives
 pub mod Sizes
 pub mod Placed
 pub mod Numbers
+pub mod Lasts
 pub mod Laying
 pub mod KindTables
 pub mod Wholes

@@ -9,10 +9,10 @@ use Rattle.flow_net.specs.declared.draft.Link.{Link}
 use Rattle.flow_net.specs.declared.draft.Binding.{Binding}
 use Rattle.flow_net.specs.declared.draft.Binding.TheVariants.{Free, Receives, Sends, Given}
 use Rattle.flow_net.specs.Drafts.{binding_at, is_stream_at}
-use Rattle.flow_net.specs.Calls.{process_at}
+use Rattle.flow_net.specs.Calls.{process_at, takes_text}
 use Rattle.flow_net.specs.Options.{FitsPort}
 use Rattle.flow_net.specs.Sound.{IsListed, IsSided, into_of, sender_at, text_at, is_input_at}
-use Rattle.flow_net.proofs.Wiring.{Rebound, SameOutline, same_end_or_not, process_at-same, is_input_at-same, is_stream_at-same, FitsPort-same}
+use Rattle.flow_net.proofs.Wiring.{Rebound, SameOutline, same_end_or_not, process_at-same, is_input_at-same, is_stream_at-same, takes_text-same, FitsPort-same}
 use Rattle.flow_net.proofs.Steps.{OpensOne, SendsOne, GivesOne, map_some}
 
 -- what is bound to an element is no other element's, where this one is free
@@ -160,7 +160,7 @@ IsSided-opened ports after processes links linked n into sided side stream outli
   sender = λ c k end h. is_input_at-same ports after end outlined ∙ sided.sender c k end (opens.sent c k end h);
   text = λ p k end text h.
       let was = sided.text p k end text h in
-      (is_input_at-same ports after end outlined ∙ was.0, FitsPort-same ports after end.port text outlined was.1, was.2);
+      (is_input_at-same ports after end outlined ∙ was.0, FitsPort-same ports after end.port text outlined was.1, was.2, takes_text-same ports after end outlined ∙ was.3);
 }
   where
     at : (c : ℕ) (end : End) → into_of linked c ≡ Some end → (is_input_at after end ≡ Some true) × (is_stream_at after end ≡ true)
@@ -182,7 +182,7 @@ IsSided-sent ports after processes links linked n k out sided side outlined send
   sender = at;
   text = λ p j end text h.
       let was = sided.text p j end text h in
-      (is_input_at-same ports after end outlined ∙ was.0, FitsPort-same ports after end.port text outlined was.1, was.2);
+      (is_input_at-same ports after end outlined ∙ was.0, FitsPort-same ports after end.port text outlined was.1, was.2, takes_text-same ports after end outlined ∙ was.3);
 }
   where
     at : (c j : ℕ) (end : End) → sender_at linked c j ≡ Some end → is_input_at after end ≡ Some false
@@ -193,8 +193,8 @@ IsSided-sent ports after processes links linked n k out sided side outlined send
         by (inr new) = ap (is_input_at ports) (sym new.2) ∙ side
 
 -- Giving a text that fits an input keeps every text at an input that it fits.
-pub IsSided-given : (ports after : List DraftPort) (processes texted : List DraftProcess) (links : List Link) (p k : ℕ) (input : End) (text : List ℕ) → IsSided ports processes links → is_input_at ports input ≡ Some true → FitsPort (slice_get ports input.port) text → length text ≤ TEXT_LIMIT → SameOutline ports after → GivesOne processes texted p k input text → IsSided after texted links
-IsSided-given ports after processes texted links p k input text sided side fits short outlined gives = record {
+pub IsSided-given : (ports after : List DraftPort) (processes texted : List DraftProcess) (links : List Link) (p k : ℕ) (input : End) (text : List ℕ) → IsSided ports processes links → is_input_at ports input ≡ Some true → FitsPort (slice_get ports input.port) text → length text ≤ TEXT_LIMIT → takes_text ports input ≡ true → SameOutline ports after → GivesOne processes texted p k input text → IsSided after texted links
+IsSided-given ports after processes texted links p k input text sided side fits short takes outlined gives = record {
   into = λ c end h.
       let was = sided.into c end h in
       (is_input_at-same ports after end outlined ∙ was.0, is_stream_at-same ports after end outlined ∙ was.1);
@@ -202,17 +202,18 @@ IsSided-given ports after processes texted links p k input text sided side fits 
   text = at;
 }
   where
-    at : (q j : ℕ) (end : End) (t : List ℕ) → text_at texted q j ≡ Some (end, t) → (is_input_at after end ≡ Some true) × FitsPort (slice_get after end.port) t × (length t ≤ TEXT_LIMIT)
+    at : (q j : ℕ) (end : End) (t : List ℕ) → text_at texted q j ≡ Some (end, t) → (is_input_at after end ≡ Some true) × FitsPort (slice_get after end.port) t × (length t ≤ TEXT_LIMIT) × (takes_text after end ≡ true)
     at q j end t h = by (gives.cases q j (end, t) h)
       where
-        by : (text_at processes q j ≡ Some (end, t)) ⊎ ((q ≡ p) × (j ≡ k) × (◌≡◌ {A = End × List ℕ} (input, text) (end, t))) → (is_input_at after end ≡ Some true) × FitsPort (slice_get after end.port) t × (length t ≤ TEXT_LIMIT)
+        by : (text_at processes q j ≡ Some (end, t)) ⊎ ((q ≡ p) × (j ≡ k) × (◌≡◌ {A = End × List ℕ} (input, text) (end, t))) → (is_input_at after end ≡ Some true) × FitsPort (slice_get after end.port) t × (length t ≤ TEXT_LIMIT) × (takes_text after end ≡ true)
         by (inl old) =
             let was = sided.text q j end t old in
-            (is_input_at-same ports after end outlined ∙ was.0, FitsPort-same ports after end.port t outlined was.1, was.2)
+            (is_input_at-same ports after end outlined ∙ was.0, FitsPort-same ports after end.port t outlined was.1, was.2, takes_text-same ports after end outlined ∙ was.3)
         by (inr new) =
             let e : input ≡ end = ap (λ (x : End × List ℕ). x.0) new.2 in
             let words : text ≡ t = ap (λ (x : End × List ℕ). x.1) new.2 in (
               is_input_at-same ports after end outlined ∙ ap (is_input_at ports) (sym e) ∙ side,
               FitsPort-same ports after end.port t outlined (subst (λ (x : End × List ℕ). FitsPort (slice_get ports x.0.port) x.1) new.2 fits),
               subst (λ (words : List ℕ). length words ≤ TEXT_LIMIT) words short,
+              takes_text-same ports after end outlined ∙ ap (takes_text ports) (sym e) ∙ takes,
             )

@@ -1,7 +1,7 @@
 -- The options and the rows of the plan of a sound draft without a fault.
 use Rattle.flow_limits.specs.declared.TheConstants.{TEXT_LIMIT}
-use Rattle.std.proofs.Common.{◌≡◌, ℕ, ◌<◌, ◌≤◌, List, Option, Some, Ok, Bool, true, false, map, ap, sym, ◌∙◌, subst, slice_get, length, take, arith}
-use Rattle.std.specs.Prelude.{◌==◌, ◌&&◌, if◌then◌else◌}
+use Rattle.std.proofs.Common.{◌≡◌, ℕ, ◌<◌, ◌≤◌, List, Option, Some, Ok, Bool, true, false, map, ap, sym, ◌∙◌, subst, inl, inr, ◌⊎◌, slice_get, length, take, arith}
+use Rattle.std.specs.Prelude.{◌==◌, ◌&&◌, if◌then◌else◌, codes}
 use Rattle.std.specs.Option.{option_map, option_map_or, option_and_then}
 use Rattle.std.specs.List.{sum_by}
 use Rattle.std.proofs.lemmas.Bool.{false≢true}
@@ -16,11 +16,11 @@ use Rattle.flow_plan.specs.declared.plan.PortRow.{PortRow}
 use Rattle.flow_plan.specs.declared.plan.PortTable.{PortTable}
 use Rattle.flow_plan.specs.Network.{Network, is_stream}
 use Rattle.flow_net.specs.Drafts.{Draft, binding_at, is_free, is_side, is_stream_at, is_stream_port, same}
-use Rattle.flow_net.specs.Calls.{process_at, room_of}
+use Rattle.flow_net.specs.Calls.{process_at, room_of, takes_text}
 use Rattle.flow_plan.specs.Texts.{IsOfClass}
 use Rattle.flow_net.specs.Options.{FitsPort}
 use Rattle.flow_net.specs.Sound.{IsSound, on_side, text_at, is_input_at}
-use Rattle.flow_net.specs.Finishes.{first_fault, name_of, place_at, process_of, plan_of, row_of, rows_of, table_of}
+use Rattle.flow_net.specs.Finishes.{first_fault, name_of, place_at, process_of, plan_of, row_of, rows_of, front, table_of}
 use Rattle.flow_plan.specs.Valid.{HasOptionPort, HasOption, FitsOption, HasOptions, IsRow, HasRows}
 use Rattle.flow_net.proofs.Wiring.{same_end}
 use Rattle.flow_net.proofs.Steps.{map_some, then_some}
@@ -28,7 +28,10 @@ use Rattle.flow_net.proofs.Ends.{and_true, same_true, eqb_true}
 use Rattle.flow_net.proofs.Sides.{eqb_refl}
 use Rattle.flow_net.proofs.Numbers.{number-same}
 use Rattle.flow_net.proofs.Wholes.{IsBound, each_bound, no_fault}
-use Rattle.flow_net.proofs.Rows.{mapped, FromPort, row_from, row_there, IsRow-of, IsRow-some}
+use Rattle.flow_net.proofs.Rows.{mapped, FromPort, row_from, row_there, entries-rows, IsRow-of, IsRow-some}
+use Rattle.flow_net.proofs.Lasts.{get-front, row-front}
+use Rattle.flow_net.specs.Kinds.{automatic}
+use Rattle.flow_plan.specs.declared.kind.PortSpec.{PortSpec}
 use Rattle.flow_net.proofs.OptionTexts.{option_there, option_from, option_once}
 
 -- A text at an option port of a process: the port stands at this place in the process's inputs, and the text is of its class.
@@ -61,7 +64,7 @@ AtOption-text draft sound p i k end text is option at = record {
     given : (binding_at draft.ports end ≡ Some (Given k)) × (process_at draft.ports end ≡ p)
     given = sound.listed.given p k end text is
 
-    sided : (is_input_at draft.ports end ≡ Some true) × FitsPort (slice_get draft.ports end.port) text × (length text ≤ TEXT_LIMIT)
+    sided : (is_input_at draft.ports end ≡ Some true) × FitsPort (slice_get draft.ports end.port) text × (length text ≤ TEXT_LIMIT) × (takes_text draft.ports end ≡ true)
     sided = sound.sided.text p k end text is
 
     found : (q : DraftPort) × (slice_get draft.ports end.port ≡ Some q) × (slice_get q.elements end.element ≡ Some (Given k))
@@ -107,15 +110,13 @@ module _ (draft : Draft) (sound : IsSound draft) (u : Unit {0}) (whole : first_f
   table_row p i table row here at =
       let found = mapped (table_of draft.ports) draft.processes p table here in
       ap (λ (m : ℕ). slice_get (rows_of draft.ports m true) i) (sym (sound.numbers p found.0 found.1))
-      ∙ ap (λ (t : PortTable). slice_get t.inputs i) found.2
-      ∙ at
+      ∙ get-front (rows_of draft.ports found.0.number true) i row (ap (λ (t : PortTable). slice_get t.inputs i) found.2 ∙ at)
 
   output_row : (p i : ℕ) (table : PortTable) (row : PortRow) → slice_get (map (table_of draft.ports) draft.processes) p ≡ Some table → slice_get table.outputs i ≡ Some row → slice_get (rows_of draft.ports p false) i ≡ Some row
   output_row p i table row here at =
       let found = mapped (table_of draft.ports) draft.processes p table here in
       ap (λ (m : ℕ). slice_get (rows_of draft.ports m false) i) (sym (sound.numbers p found.0 found.1))
-      ∙ ap (λ (t : PortTable). slice_get t.outputs i) found.2
-      ∙ at
+      ∙ get-front (rows_of draft.ports found.0.number false) i row (ap (λ (t : PortTable). slice_get t.outputs i) found.2 ∙ at)
 
   row_sized : (p : ℕ) (s : Bool) (i : ℕ) (row : PortRow) → FromPort draft.ports p s i row → IsRow row
   row_sized p s i row from =
@@ -130,6 +131,10 @@ module _ (draft : Draft) (sound : IsSound draft) (u : Unit {0}) (whole : first_f
   text_in_draft : (p k : ℕ) (b : DraftProcess) (x : End × List ℕ) → slice_get draft.processes p ≡ Some b → slice_get b.texts k ≡ Some x → text_at draft.processes p k ≡ Some x
   text_in_draft p k b x here is = ap (option_and_then (λ (c : DraftProcess). slice_get c.texts k)) here ∙ is
 
+  -- an automatic port is no option
+  streams : (port : DraftPort) → port.spec ≡ automatic (codes "*IN") → is_stream port.spec.class ≡ false → ⊥
+  streams port same option = false≢true (sym option ∙ ap (λ (spec : PortSpec). is_stream spec.class) same)
+
   fits : (p k i : ℕ) (x : Process) (text : List ℕ) → slice_get (map (process_of draft.ports) draft.processes) p ≡ Some x → slice_get x.options k ≡ Some (i, text) → FitsOption (plan_of draft) p i text
   fits p k i x text here given =
       let found = process_in_plan p x here in
@@ -140,7 +145,10 @@ module _ (draft : Draft) (sound : IsSound draft) (u : Unit {0}) (whole : first_f
           table = table_of draft.ports found.0;
           row = row_of at.port;
           here = slice_get-map (table_of draft.ports) draft.processes p ∙ ap (option_map (table_of draft.ports)) found.1;
-          at = ap (λ (m : ℕ). slice_get (rows_of draft.ports m true) i) (sound.numbers p found.0 found.1) ∙ at.row;
+          at =
+              ap (λ (m : ℕ). slice_get (front (rows_of draft.ports m true)) i) (sound.numbers p found.0 found.1)
+              ∙ row-front (rows_of draft.ports p true) (sound.shaped.each p found.0 found.1).kind.inputs (automatic (codes "*IN")) i (row_of at.port)
+              (entries-rows draft.ports p true ∙ (sound.shaped.each p found.0 found.1).inputs) (λ same. streams at.port same at.option) at.row;
           option = at.option;
         };
         class = at.class;
@@ -184,11 +192,15 @@ module _ (draft : Draft) (sound : IsSound draft) (u : Unit {0}) (whole : first_f
       input : from.port.input ≡ true
       input = same_true from.port.input true side.1
 
+      needed : (from.port.spec.needed ≡ true) ⊎ (from.port.spec ≡ automatic (codes "*IN")) → from.port.spec.needed ≡ true
+      needed (inl is) = is
+      needed (inr same) = absurd (streams from.port same (ap (λ (r : PortRow). is_stream r.spec.class) from.is ∙ port.option))
+
       some : 1 ≤ (row_of from.port).elements
       some = IsRow-some (row_of from.port) (subst IsRow (sym from.is) (row_sized p true i port.row from))
 
       bound : IsBound from.port.elements 0
-      bound = each_bound (name_of draft.processes from.port.process) from.port 0 ((sound.ports from.number from.port from.here).input input) (no_fault draft.processes draft.ports u whole from.number from.port from.here) (omega (arith, some))
+      bound = each_bound (name_of draft.processes from.port.process) from.port 0 (needed ((sound.ports from.number from.port from.here).input input)) (no_fault draft.processes draft.ports u whole from.number from.port from.here) (omega (arith, some))
 
       binding : binding_at draft.ports (record { port = from.number; element = 0 }) ≡ Some bound.binding
       binding = ap (option_and_then (λ (q : DraftPort). slice_get q.elements 0)) from.here ∙ bound.here

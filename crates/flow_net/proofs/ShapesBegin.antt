@@ -12,6 +12,7 @@ use Rattle.flow_plan.specs.declared.kind.PortSpec.{PortSpec}
 use Rattle.flow_net.specs.Drafts.{is_side, same}
 use Rattle.flow_net.specs.Calls.{fresh_port, fresh_ports, begun_as}
 use Rattle.flow_net.specs.Over.{carries}
+use Rattle.flow_net.specs.Kinds.{all_inputs, all_outputs}
 use Rattle.flow_net.specs.Sound.{IsShaped, HasKindPorts, on_side, entries_of}
 use Rattle.flow_net.proofs.Wiring.{slice_get-push_cases}
 use Rattle.flow_net.proofs.Ends.{eqb_true}
@@ -101,56 +102,56 @@ module _ (kinds : List KindSpec) (processes : List DraftProcess) (ports : List D
     (shaped : IsShaped kinds processes ports)
     (old_process : (g : ℕ) (port : DraftPort) → slice_get ports g ≡ Some port → port.process < length processes) where
   -- no new port is of another process
-  elsewhere : (p : ℕ) (s : Bool) → length processes ≢ p → (g : ℕ) (port : DraftPort) → slice_get (fresh_ports (length processes) true 0 kind.inputs ++ fresh_ports (length processes) false 0 kind.outputs) g ≡ Some port → is_side p s port ≡ false
+  elsewhere : (p : ℕ) (s : Bool) → length processes ≢ p → (g : ℕ) (port : DraftPort) → slice_get (fresh_ports (length processes) true 0 (all_inputs kind.inputs) ++ fresh_ports (length processes) false 0 (all_outputs kind.outputs)) g ≡ Some port → is_side p s port ≡ false
   elsewhere p s ne g port is = other_process port p s (λ e. ne (sym owner ∙ e))
     where
-      by : ((slice_get (fresh_ports (length processes) true 0 kind.inputs) g ≡ Some port) × (take g (fresh_ports (length processes) true 0 kind.inputs ++ fresh_ports (length processes) false 0 kind.outputs) ≡ take g (fresh_ports (length processes) true 0 kind.inputs))) ⊎ ((k : ℕ) × (slice_get (fresh_ports (length processes) false 0 kind.outputs) k ≡ Some port) × (take g (fresh_ports (length processes) true 0 kind.inputs ++ fresh_ports (length processes) false 0 kind.outputs) ≡ fresh_ports (length processes) true 0 kind.inputs ++ take k (fresh_ports (length processes) false 0 kind.outputs))) → port.process ≡ length processes
-      by (inl input) = (fresh_process (length processes) true kind.inputs g port input.0).0
-      by (inr output) = (fresh_process (length processes) false kind.outputs output.0 port output.1).0
+      by : ((slice_get (fresh_ports (length processes) true 0 (all_inputs kind.inputs)) g ≡ Some port) × (take g (fresh_ports (length processes) true 0 (all_inputs kind.inputs) ++ fresh_ports (length processes) false 0 (all_outputs kind.outputs)) ≡ take g (fresh_ports (length processes) true 0 (all_inputs kind.inputs)))) ⊎ ((k : ℕ) × (slice_get (fresh_ports (length processes) false 0 (all_outputs kind.outputs)) k ≡ Some port) × (take g (fresh_ports (length processes) true 0 (all_inputs kind.inputs) ++ fresh_ports (length processes) false 0 (all_outputs kind.outputs)) ≡ fresh_ports (length processes) true 0 (all_inputs kind.inputs) ++ take k (fresh_ports (length processes) false 0 (all_outputs kind.outputs)))) → port.process ≡ length processes
+      by (inl input) = (fresh_process (length processes) true (all_inputs kind.inputs) g port input.0).0
+      by (inr output) = (fresh_process (length processes) false (all_outputs kind.outputs) output.0 port output.1).0
 
       owner : port.process ≡ length processes
-      owner = by (at_append (fresh_ports (length processes) true 0 kind.inputs) (fresh_ports (length processes) false 0 kind.outputs) g port is)
+      owner = by (at_append (fresh_ports (length processes) true 0 (all_inputs kind.inputs)) (fresh_ports (length processes) false 0 (all_outputs kind.outputs)) g port is)
 
   -- no old port is of the new process
   not_old : (s : Bool) (g : ℕ) (port : DraftPort) → slice_get ports g ≡ Some port → is_side (length processes) s port ≡ false
   not_old s g port is = other_process port (length processes) s (λ e. omega (arith, old_process g port is, e))
 
-  inputs_aside : (g : ℕ) (port : DraftPort) → slice_get (fresh_ports (length processes) true 0 kind.inputs) g ≡ Some port → is_side (length processes) false port ≡ false
-  inputs_aside g port is = other_side port (length processes) true false (fresh_process (length processes) true kind.inputs g port is).1 refl
+  inputs_aside : (g : ℕ) (port : DraftPort) → slice_get (fresh_ports (length processes) true 0 (all_inputs kind.inputs)) g ≡ Some port → is_side (length processes) false port ≡ false
+  inputs_aside g port is = other_side port (length processes) true false (fresh_process (length processes) true (all_inputs kind.inputs) g port is).1 refl
 
-  outputs_aside : (g : ℕ) (port : DraftPort) → slice_get (fresh_ports (length processes) false 0 kind.outputs) g ≡ Some port → is_side (length processes) true port ≡ false
-  outputs_aside g port is = other_side port (length processes) false true (fresh_process (length processes) false kind.outputs g port is).1 refl
+  outputs_aside : (g : ℕ) (port : DraftPort) → slice_get (fresh_ports (length processes) false 0 (all_outputs kind.outputs)) g ≡ Some port → is_side (length processes) true port ≡ false
+  outputs_aside g port is = other_side port (length processes) false true (fresh_process (length processes) false (all_outputs kind.outputs) g port is).1 refl
 
-  kept : (p : ℕ) (s : Bool) → length processes ≢ p → entries_of (ports ++ (fresh_ports (length processes) true 0 kind.inputs ++ fresh_ports (length processes) false 0 kind.outputs)) p s ≡ entries_of ports p s
+  kept : (p : ℕ) (s : Bool) → length processes ≢ p → entries_of (ports ++ (fresh_ports (length processes) true 0 (all_inputs kind.inputs) ++ fresh_ports (length processes) false 0 (all_outputs kind.outputs))) p s ≡ entries_of ports p s
   kept p s ne =
-      entries-append ports (fresh_ports (length processes) true 0 kind.inputs ++ fresh_ports (length processes) false 0 kind.outputs) p s
+      entries-append ports (fresh_ports (length processes) true 0 (all_inputs kind.inputs) ++ fresh_ports (length processes) false 0 (all_outputs kind.outputs)) p s
       ∙ ap (λ (rest : List PortSpec). entries_of ports p s ++ rest) (entries-none _ p s (elsewhere p s ne))
       ∙ append-nil (entries_of ports p s)
 
   -- the entries of the new process are those of its ports
-  own : (s : Bool) → entries_of (ports ++ (fresh_ports (length processes) true 0 kind.inputs ++ fresh_ports (length processes) false 0 kind.outputs)) (length processes) s ≡ entries_of (fresh_ports (length processes) true 0 kind.inputs) (length processes) s ++ entries_of (fresh_ports (length processes) false 0 kind.outputs) (length processes) s
+  own : (s : Bool) → entries_of (ports ++ (fresh_ports (length processes) true 0 (all_inputs kind.inputs) ++ fresh_ports (length processes) false 0 (all_outputs kind.outputs))) (length processes) s ≡ entries_of (fresh_ports (length processes) true 0 (all_inputs kind.inputs)) (length processes) s ++ entries_of (fresh_ports (length processes) false 0 (all_outputs kind.outputs)) (length processes) s
   own s =
-      entries-append ports (fresh_ports (length processes) true 0 kind.inputs ++ fresh_ports (length processes) false 0 kind.outputs) (length processes) s
-      ∙ ap (λ (first : List PortSpec). first ++ entries_of (fresh_ports (length processes) true 0 kind.inputs ++ fresh_ports (length processes) false 0 kind.outputs) (length processes) s) (entries-none ports (length processes) s (not_old s))
-      ∙ entries-append (fresh_ports (length processes) true 0 kind.inputs) (fresh_ports (length processes) false 0 kind.outputs) (length processes) s
+      entries-append ports (fresh_ports (length processes) true 0 (all_inputs kind.inputs) ++ fresh_ports (length processes) false 0 (all_outputs kind.outputs)) (length processes) s
+      ∙ ap (λ (first : List PortSpec). first ++ entries_of (fresh_ports (length processes) true 0 (all_inputs kind.inputs) ++ fresh_ports (length processes) false 0 (all_outputs kind.outputs)) (length processes) s) (entries-none ports (length processes) s (not_old s))
+      ∙ entries-append (fresh_ports (length processes) true 0 (all_inputs kind.inputs)) (fresh_ports (length processes) false 0 (all_outputs kind.outputs)) (length processes) s
 
-  own_inputs : entries_of (ports ++ (fresh_ports (length processes) true 0 kind.inputs ++ fresh_ports (length processes) false 0 kind.outputs)) (length processes) true ≡ kind.inputs
+  own_inputs : entries_of (ports ++ (fresh_ports (length processes) true 0 (all_inputs kind.inputs) ++ fresh_ports (length processes) false 0 (all_outputs kind.outputs))) (length processes) true ≡ (all_inputs kind.inputs)
   own_inputs =
       own true
-      ∙ ap (λ (rest : List PortSpec). entries_of (fresh_ports (length processes) true 0 kind.inputs) (length processes) true ++ rest) (entries-none _ (length processes) true outputs_aside)
+      ∙ ap (λ (rest : List PortSpec). entries_of (fresh_ports (length processes) true 0 (all_inputs kind.inputs)) (length processes) true ++ rest) (entries-none _ (length processes) true outputs_aside)
       ∙ append-nil _
-      ∙ entries-inputs (length processes) 0 kind.inputs
+      ∙ entries-inputs (length processes) 0 (all_inputs kind.inputs)
 
-  own_outputs : entries_of (ports ++ (fresh_ports (length processes) true 0 kind.inputs ++ fresh_ports (length processes) false 0 kind.outputs)) (length processes) false ≡ map carries kind.outputs
+  own_outputs : entries_of (ports ++ (fresh_ports (length processes) true 0 (all_inputs kind.inputs) ++ fresh_ports (length processes) false 0 (all_outputs kind.outputs))) (length processes) false ≡ map carries (all_outputs kind.outputs)
   own_outputs =
       own false
-      ∙ ap (λ (first : List PortSpec). first ++ entries_of (fresh_ports (length processes) false 0 kind.outputs) (length processes) false) (entries-none _ (length processes) false inputs_aside)
-      ∙ entries-outputs (length processes) 0 kind.outputs
+      ∙ ap (λ (first : List PortSpec). first ++ entries_of (fresh_ports (length processes) false 0 (all_outputs kind.outputs)) (length processes) false) (entries-none _ (length processes) false inputs_aside)
+      ∙ entries-outputs (length processes) 0 (all_outputs kind.outputs)
 
-  each : (p : ℕ) (begun : DraftProcess) → slice_get (processes ++ begun_as (length processes) name kind.name ∷ []) p ≡ Some begun → HasKindPorts kinds (ports ++ (fresh_ports (length processes) true 0 kind.inputs ++ fresh_ports (length processes) false 0 kind.outputs)) p begun.kind
+  each : (p : ℕ) (begun : DraftProcess) → slice_get (processes ++ begun_as (length processes) name kind.name ∷ []) p ≡ Some begun → HasKindPorts kinds (ports ++ (fresh_ports (length processes) true 0 (all_inputs kind.inputs) ++ fresh_ports (length processes) false 0 (all_outputs kind.outputs))) p begun.kind
   each p begun is = by (slice_get-push_cases processes (begun_as (length processes) name kind.name) begun p is)
     where
-      by : (slice_get processes p ≡ Some begun) ⊎ ((p ≡ length processes) × (begun_as (length processes) name kind.name ≡ begun)) → HasKindPorts kinds (ports ++ (fresh_ports (length processes) true 0 kind.inputs ++ fresh_ports (length processes) false 0 kind.outputs)) p begun.kind
+      by : (slice_get processes p ≡ Some begun) ⊎ ((p ≡ length processes) × (begun_as (length processes) name kind.name ≡ begun)) → HasKindPorts kinds (ports ++ (fresh_ports (length processes) true 0 (all_inputs kind.inputs) ++ fresh_ports (length processes) false 0 (all_outputs kind.outputs))) p begun.kind
       by (inl earlier) =
           let old = shaped.each p begun earlier in
           let ne : length processes ≢ p = λ e. omega (arith, slice_get_within processes p begun earlier, e) in
@@ -163,7 +164,7 @@ module _ (kinds : List KindSpec) (processes : List DraftProcess) (ports : List D
             outputs = kept p false ne ∙ old.outputs;
           }
       by (inr last) =
-          subst (λ (q : ℕ). HasKindPorts kinds (ports ++ (fresh_ports (length processes) true 0 kind.inputs ++ fresh_ports (length processes) false 0 kind.outputs)) q begun.kind) (sym last.0)
+          subst (λ (q : ℕ). HasKindPorts kinds (ports ++ (fresh_ports (length processes) true 0 (all_inputs kind.inputs) ++ fresh_ports (length processes) false 0 (all_outputs kind.outputs))) q begun.kind) (sym last.0)
           (record {
             place = place;
             kind = kind;
@@ -174,35 +175,35 @@ module _ (kinds : List KindSpec) (processes : List DraftProcess) (ports : List D
           })
 
   -- the place of a new port, by what stands before it among the new ports
-  new_place : (k : ℕ) (port : DraftPort) → slice_get (fresh_ports (length processes) true 0 kind.inputs ++ fresh_ports (length processes) false 0 kind.outputs) k ≡ Some port → (port.process ≡ length processes) × (port.place ≡ sum_by (on_side (length processes) port.input) (take k (fresh_ports (length processes) true 0 kind.inputs ++ fresh_ports (length processes) false 0 kind.outputs)))
-  new_place k port is = by (at_append (fresh_ports (length processes) true 0 kind.inputs) (fresh_ports (length processes) false 0 kind.outputs) k port is)
+  new_place : (k : ℕ) (port : DraftPort) → slice_get (fresh_ports (length processes) true 0 (all_inputs kind.inputs) ++ fresh_ports (length processes) false 0 (all_outputs kind.outputs)) k ≡ Some port → (port.process ≡ length processes) × (port.place ≡ sum_by (on_side (length processes) port.input) (take k (fresh_ports (length processes) true 0 (all_inputs kind.inputs) ++ fresh_ports (length processes) false 0 (all_outputs kind.outputs))))
+  new_place k port is = by (at_append (fresh_ports (length processes) true 0 (all_inputs kind.inputs)) (fresh_ports (length processes) false 0 (all_outputs kind.outputs)) k port is)
     where
-      by : ((slice_get (fresh_ports (length processes) true 0 kind.inputs) k ≡ Some port) × (take k (fresh_ports (length processes) true 0 kind.inputs ++ fresh_ports (length processes) false 0 kind.outputs) ≡ take k (fresh_ports (length processes) true 0 kind.inputs))) ⊎ ((j : ℕ) × (slice_get (fresh_ports (length processes) false 0 kind.outputs) j ≡ Some port) × (take k (fresh_ports (length processes) true 0 kind.inputs ++ fresh_ports (length processes) false 0 kind.outputs) ≡ fresh_ports (length processes) true 0 kind.inputs ++ take j (fresh_ports (length processes) false 0 kind.outputs))) → (port.process ≡ length processes) × (port.place ≡ sum_by (on_side (length processes) port.input) (take k (fresh_ports (length processes) true 0 kind.inputs ++ fresh_ports (length processes) false 0 kind.outputs)))
+      by : ((slice_get (fresh_ports (length processes) true 0 (all_inputs kind.inputs)) k ≡ Some port) × (take k (fresh_ports (length processes) true 0 (all_inputs kind.inputs) ++ fresh_ports (length processes) false 0 (all_outputs kind.outputs)) ≡ take k (fresh_ports (length processes) true 0 (all_inputs kind.inputs)))) ⊎ ((j : ℕ) × (slice_get (fresh_ports (length processes) false 0 (all_outputs kind.outputs)) j ≡ Some port) × (take k (fresh_ports (length processes) true 0 (all_inputs kind.inputs) ++ fresh_ports (length processes) false 0 (all_outputs kind.outputs)) ≡ fresh_ports (length processes) true 0 (all_inputs kind.inputs) ++ take j (fresh_ports (length processes) false 0 (all_outputs kind.outputs)))) → (port.process ≡ length processes) × (port.place ≡ sum_by (on_side (length processes) port.input) (take k (fresh_ports (length processes) true 0 (all_inputs kind.inputs) ++ fresh_ports (length processes) false 0 (all_outputs kind.outputs))))
       by (inl input) =
-          let side = fresh_process (length processes) true kind.inputs k port input.0 in
-          let placed : port.place ≡ sum_by (on_side (length processes) true) (take k (fresh_ports (length processes) true 0 kind.inputs)) = omega (arith, fresh_placed (length processes) true 0 kind.inputs k port input.0) in
-          (side.0, placed ∙ ap (sum_by (on_side (length processes) true)) (sym input.1) ∙ ap (λ (s : Bool). sum_by (on_side (length processes) s) (take k (fresh_ports (length processes) true 0 kind.inputs ++ fresh_ports (length processes) false 0 kind.outputs))) (sym side.1))
+          let side = fresh_process (length processes) true (all_inputs kind.inputs) k port input.0 in
+          let placed : port.place ≡ sum_by (on_side (length processes) true) (take k (fresh_ports (length processes) true 0 (all_inputs kind.inputs))) = omega (arith, fresh_placed (length processes) true 0 (all_inputs kind.inputs) k port input.0) in
+          (side.0, placed ∙ ap (sum_by (on_side (length processes) true)) (sym input.1) ∙ ap (λ (s : Bool). sum_by (on_side (length processes) s) (take k (fresh_ports (length processes) true 0 (all_inputs kind.inputs) ++ fresh_ports (length processes) false 0 (all_outputs kind.outputs)))) (sym side.1))
       by (inr output) =
-          let side = fresh_process (length processes) false kind.outputs output.0 port output.1 in
-          let placed : port.place ≡ sum_by (on_side (length processes) false) (fresh_ports (length processes) true 0 kind.inputs ++ take output.0 (fresh_ports (length processes) false 0 kind.outputs)) =
-          omega (arith, fresh_placed (length processes) false 0 kind.outputs output.0 port output.1, before-none _ (length processes) false inputs_aside, sum_by-append (on_side (length processes) false) (fresh_ports (length processes) true 0 kind.inputs) (take output.0 (fresh_ports (length processes) false 0 kind.outputs))) in
-          (side.0, placed ∙ ap (sum_by (on_side (length processes) false)) (sym output.2) ∙ ap (λ (s : Bool). sum_by (on_side (length processes) s) (take k (fresh_ports (length processes) true 0 kind.inputs ++ fresh_ports (length processes) false 0 kind.outputs))) (sym side.1))
+          let side = fresh_process (length processes) false (all_outputs kind.outputs) output.0 port output.1 in
+          let placed : port.place ≡ sum_by (on_side (length processes) false) (fresh_ports (length processes) true 0 (all_inputs kind.inputs) ++ take output.0 (fresh_ports (length processes) false 0 (all_outputs kind.outputs))) =
+          omega (arith, fresh_placed (length processes) false 0 (all_outputs kind.outputs) output.0 port output.1, before-none _ (length processes) false inputs_aside, sum_by-append (on_side (length processes) false) (fresh_ports (length processes) true 0 (all_inputs kind.inputs)) (take output.0 (fresh_ports (length processes) false 0 (all_outputs kind.outputs)))) in
+          (side.0, placed ∙ ap (sum_by (on_side (length processes) false)) (sym output.2) ∙ ap (λ (s : Bool). sum_by (on_side (length processes) s) (take k (fresh_ports (length processes) true 0 (all_inputs kind.inputs) ++ fresh_ports (length processes) false 0 (all_outputs kind.outputs)))) (sym side.1))
 
   -- a place among all ports, of a port of the process that begins
-  behind : (k : ℕ) (s : Bool) → sum_by (on_side (length processes) s) (ports ++ take k (fresh_ports (length processes) true 0 kind.inputs ++ fresh_ports (length processes) false 0 kind.outputs)) ≡ sum_by (on_side (length processes) s) (take k (fresh_ports (length processes) true 0 kind.inputs ++ fresh_ports (length processes) false 0 kind.outputs))
-  behind k s = omega (arith, before-none ports (length processes) s (not_old s), sum_by-append (on_side (length processes) s) ports (take k (fresh_ports (length processes) true 0 kind.inputs ++ fresh_ports (length processes) false 0 kind.outputs)))
+  behind : (k : ℕ) (s : Bool) → sum_by (on_side (length processes) s) (ports ++ take k (fresh_ports (length processes) true 0 (all_inputs kind.inputs) ++ fresh_ports (length processes) false 0 (all_outputs kind.outputs))) ≡ sum_by (on_side (length processes) s) (take k (fresh_ports (length processes) true 0 (all_inputs kind.inputs) ++ fresh_ports (length processes) false 0 (all_outputs kind.outputs)))
+  behind k s = omega (arith, before-none ports (length processes) s (not_old s), sum_by-append (on_side (length processes) s) ports (take k (fresh_ports (length processes) true 0 (all_inputs kind.inputs) ++ fresh_ports (length processes) false 0 (all_outputs kind.outputs))))
 
-  places : (g : ℕ) (port : DraftPort) → slice_get (ports ++ (fresh_ports (length processes) true 0 kind.inputs ++ fresh_ports (length processes) false 0 kind.outputs)) g ≡ Some port → port.place ≡ sum_by (on_side port.process port.input) (take g (ports ++ (fresh_ports (length processes) true 0 kind.inputs ++ fresh_ports (length processes) false 0 kind.outputs)))
-  places g port is = by (at_append ports (fresh_ports (length processes) true 0 kind.inputs ++ fresh_ports (length processes) false 0 kind.outputs) g port is)
+  places : (g : ℕ) (port : DraftPort) → slice_get (ports ++ (fresh_ports (length processes) true 0 (all_inputs kind.inputs) ++ fresh_ports (length processes) false 0 (all_outputs kind.outputs))) g ≡ Some port → port.place ≡ sum_by (on_side port.process port.input) (take g (ports ++ (fresh_ports (length processes) true 0 (all_inputs kind.inputs) ++ fresh_ports (length processes) false 0 (all_outputs kind.outputs))))
+  places g port is = by (at_append ports (fresh_ports (length processes) true 0 (all_inputs kind.inputs) ++ fresh_ports (length processes) false 0 (all_outputs kind.outputs)) g port is)
     where
-      by : ((slice_get ports g ≡ Some port) × (take g (ports ++ (fresh_ports (length processes) true 0 kind.inputs ++ fresh_ports (length processes) false 0 kind.outputs)) ≡ take g ports)) ⊎ ((k : ℕ) × (slice_get (fresh_ports (length processes) true 0 kind.inputs ++ fresh_ports (length processes) false 0 kind.outputs) k ≡ Some port) × (take g (ports ++ (fresh_ports (length processes) true 0 kind.inputs ++ fresh_ports (length processes) false 0 kind.outputs)) ≡ ports ++ take k (fresh_ports (length processes) true 0 kind.inputs ++ fresh_ports (length processes) false 0 kind.outputs))) → port.place ≡ sum_by (on_side port.process port.input) (take g (ports ++ (fresh_ports (length processes) true 0 kind.inputs ++ fresh_ports (length processes) false 0 kind.outputs)))
+      by : ((slice_get ports g ≡ Some port) × (take g (ports ++ (fresh_ports (length processes) true 0 (all_inputs kind.inputs) ++ fresh_ports (length processes) false 0 (all_outputs kind.outputs))) ≡ take g ports)) ⊎ ((k : ℕ) × (slice_get (fresh_ports (length processes) true 0 (all_inputs kind.inputs) ++ fresh_ports (length processes) false 0 (all_outputs kind.outputs)) k ≡ Some port) × (take g (ports ++ (fresh_ports (length processes) true 0 (all_inputs kind.inputs) ++ fresh_ports (length processes) false 0 (all_outputs kind.outputs))) ≡ ports ++ take k (fresh_ports (length processes) true 0 (all_inputs kind.inputs) ++ fresh_ports (length processes) false 0 (all_outputs kind.outputs)))) → port.place ≡ sum_by (on_side port.process port.input) (take g (ports ++ (fresh_ports (length processes) true 0 (all_inputs kind.inputs) ++ fresh_ports (length processes) false 0 (all_outputs kind.outputs))))
       by (inl old) = shaped.places g port old.0 ∙ ap (sum_by (on_side port.process port.input)) (sym old.1)
       by (inr new) =
           let placed = new_place new.0 port new.1 in
           placed.1
           ∙ sym (behind new.0 port.input)
           ∙ ap (sum_by (on_side (length processes) port.input)) (sym new.2)
-          ∙ ap (λ (p : ℕ). sum_by (on_side p port.input) (take g (ports ++ (fresh_ports (length processes) true 0 kind.inputs ++ fresh_ports (length processes) false 0 kind.outputs)))) (sym placed.0)
+          ∙ ap (λ (p : ℕ). sum_by (on_side p port.input) (take g (ports ++ (fresh_ports (length processes) true 0 (all_inputs kind.inputs) ++ fresh_ports (length processes) false 0 (all_outputs kind.outputs))))) (sym placed.0)
 
-  pub IsShaped-begun : IsShaped kinds (processes ++ begun_as (length processes) name kind.name ∷ []) (ports ++ (fresh_ports (length processes) true 0 kind.inputs ++ fresh_ports (length processes) false 0 kind.outputs))
+  pub IsShaped-begun : IsShaped kinds (processes ++ begun_as (length processes) name kind.name ∷ []) (ports ++ (fresh_ports (length processes) true 0 (all_inputs kind.inputs) ++ fresh_ports (length processes) false 0 (all_outputs kind.outputs)))
   IsShaped-begun = record { each = each; places = places }

@@ -1,6 +1,6 @@
 -- A draft stays sound when a process begins.
 use Rattle.std.proofs.Common.{◌≡◌, ◌≢◌, ℕ, ◌+◌, ◌<◌, ◌≤◌, List, [], ◌∷◌, ◌++◌, Option, Some, None, Ok, Bool, true, false, not, cond, ltb, refl, ap, sym, ◌∙◌, subst, zero, suc, inl, inr, ◌⊎◌, slice_get, length, arith, length-append}
-use Rattle.std.specs.Prelude.{nat_le, position, is_some, replicate}
+use Rattle.std.specs.Prelude.{nat_le, position, is_some, replicate, codes}
 use Rattle.std.specs.List.{find, position_or_len}
 use Rattle.std.specs.Str.{bytes_eq}
 use Rattle.std.specs.Option.{option_map, option_and_then, option_map_or, ok_or}
@@ -20,6 +20,7 @@ use Rattle.flow_plan.specs.Network.{is_stream}
 use Rattle.flow_net.specs.Drafts.{Draft, refused_if, binding_at, process_named, is_stream_port}
 use Rattle.flow_net.specs.Calls.{process_at, room_of, fresh_port, fresh_ports, begun_as, with_process, kind_named, kind_for}
 use Rattle.flow_net.specs.Options.{FitsPort}
+use Rattle.flow_net.specs.Kinds.{automatic, all_inputs, all_outputs}
 use Rattle.flow_net.specs.Sound.{IsSound, IsKind, IsPort, IsListed, IsSided, text_at}
 use Rattle.flow_net.proofs.Wiring.{slice_get-append_keeps, slice_get-push_cases}
 use Rattle.flow_net.proofs.Steps.{map_some, then_some}
@@ -67,12 +68,12 @@ replicated zero x y i is = absurd (cc)
 replicated (suc n) x y zero is = cc
 replicated (suc n) x y (suc i) is = replicated n x y i is
 
-fresh_input : (n place : ℕ) (spec : PortSpec) → spec.needed ≡ true → (is_stream spec.class ≡ false → spec.array ≡ false) → IsPort (n + 1) (fresh_port n true place spec)
-fresh_input n place spec needed single = record {
+fresh_input : (n place : ℕ) (spec : PortSpec) → (spec.needed ≡ true) ⊎ (spec ≡ automatic (codes "*IN")) → (spec.array ≡ true → spec.needed ≡ true) → (is_stream spec.class ≡ false → spec.array ≡ false) → IsPort (n + 1) (fresh_port n true place spec)
+fresh_input n place spec needed arrays single = record {
   process = omega arith;
   room = length-replicate (room_of spec.array) Free;
   input = λ side. needed;
-  array = λ array. needed;
+  array = arrays;
   single = single;
   output = λ side. absurd (false≢true (sym side));
 }
@@ -87,28 +88,44 @@ fresh_output n place spec needed = record {
   output = λ side. refl;
 }
 
-pub IsPort-fresh : (n : ℕ) (kind : KindSpec) → IsKind kind → (g : ℕ) (port : DraftPort) → slice_get (fresh_ports n true 0 kind.inputs ++ fresh_ports n false 0 kind.outputs) g ≡ Some port → IsPort (n + 1) port
-IsPort-fresh n kind is_kind g port is = by (slice_get-append_cases (fresh_ports n true 0 kind.inputs) (fresh_ports n false 0 kind.outputs) g port is)
+-- an entry of the inputs is one of the kind, or the automatic input
+input_entry : (kind : KindSpec) → IsKind kind → (i : ℕ) (spec : PortSpec) → slice_get (all_inputs kind.inputs) i ≡ Some spec
+    → ((spec.needed ≡ true) ⊎ (spec ≡ automatic (codes "*IN"))) × (spec.array ≡ true → spec.needed ≡ true) × (is_stream spec.class ≡ false → spec.array ≡ false)
+input_entry kind is_kind i spec here = by (slice_get-push_cases kind.inputs (automatic (codes "*IN")) spec i here)
   where
-    by : (slice_get (fresh_ports n true 0 kind.inputs) g ≡ Some port) ⊎ ((k : ℕ) × (slice_get (fresh_ports n false 0 kind.outputs) k ≡ Some port)) → IsPort (n + 1) port
+    by : (slice_get kind.inputs i ≡ Some spec) ⊎ ((i ≡ length kind.inputs) × (automatic (codes "*IN") ≡ spec)) → ((spec.needed ≡ true) ⊎ (spec ≡ automatic (codes "*IN"))) × (spec.array ≡ true → spec.needed ≡ true) × (is_stream spec.class ≡ false → spec.array ≡ false)
+    by (inl old) = (inl (is_kind.inputs_needed i spec old), (λ array. is_kind.inputs_needed i spec old), is_kind.single_options i spec old)
+    by (inr last) = (inr (sym last.1), (λ array. absurd (false≢true (ap (λ (s : PortSpec). s.array) last.1 ∙ array))), (λ option. sym (ap (λ (s : PortSpec). s.array) last.1)))
+
+output_entry : (kind : KindSpec) → IsKind kind → (i : ℕ) (spec : PortSpec) → slice_get (all_outputs kind.outputs) i ≡ Some spec → spec.array ≡ true → spec.needed ≡ true
+output_entry kind is_kind i spec here array = by (slice_get-push_cases kind.outputs (automatic (codes "*OUT")) spec i here)
+  where
+    by : (slice_get kind.outputs i ≡ Some spec) ⊎ ((i ≡ length kind.outputs) × (automatic (codes "*OUT") ≡ spec)) → spec.needed ≡ true
+    by (inl old) = is_kind.arrays_needed i spec old array
+    by (inr last) = absurd (false≢true (ap (λ (s : PortSpec). s.array) last.1 ∙ array))
+
+pub IsPort-fresh : (n : ℕ) (kind : KindSpec) → IsKind kind → (g : ℕ) (port : DraftPort) → slice_get (fresh_ports n true 0 (all_inputs kind.inputs) ++ fresh_ports n false 0 (all_outputs kind.outputs)) g ≡ Some port → IsPort (n + 1) port
+IsPort-fresh n kind is_kind g port is = by (slice_get-append_cases (fresh_ports n true 0 (all_inputs kind.inputs)) (fresh_ports n false 0 (all_outputs kind.outputs)) g port is)
+  where
+    by : (slice_get (fresh_ports n true 0 (all_inputs kind.inputs)) g ≡ Some port) ⊎ ((k : ℕ) × (slice_get (fresh_ports n false 0 (all_outputs kind.outputs)) k ≡ Some port)) → IsPort (n + 1) port
     by (inl input) =
-        let fresh = fresh_ports-each n true 0 kind.inputs g port input in
-        subst (IsPort (n + 1)) fresh.whole (fresh_input n fresh.place fresh.spec (is_kind.inputs_needed fresh.entry fresh.spec fresh.here) (is_kind.single_options fresh.entry fresh.spec fresh.here))
+        let fresh = fresh_ports-each n true 0 (all_inputs kind.inputs) g port input in
+        subst (IsPort (n + 1)) fresh.whole (fresh_input n fresh.place fresh.spec (input_entry kind is_kind fresh.entry fresh.spec fresh.here).0 (input_entry kind is_kind fresh.entry fresh.spec fresh.here).1 (input_entry kind is_kind fresh.entry fresh.spec fresh.here).2)
     by (inr output) =
-        let fresh = fresh_ports-each n false 0 kind.outputs output.0 port output.1 in
-        subst (IsPort (n + 1)) fresh.whole (fresh_output n fresh.place fresh.spec (is_kind.arrays_needed fresh.entry fresh.spec fresh.here))
+        let fresh = fresh_ports-each n false 0 (all_outputs kind.outputs) output.0 port output.1 in
+        subst (IsPort (n + 1)) fresh.whole (fresh_output n fresh.place fresh.spec (output_entry kind is_kind fresh.entry fresh.spec fresh.here))
 
 free_fresh : (p : ℕ) (s : Bool) (specs : List PortSpec) (port : DraftPort) → IsFresh p s specs port → (e : ℕ) (b : Binding) → slice_get port.elements e ≡ Some b → b ≡ Free
 free_fresh p s specs port fresh e b is =
     sym (replicated (room_of fresh.spec.array) Free b e (ap (λ (q : DraftPort). slice_get q.elements e) fresh.whole ∙ is))
 
 -- the elements of new ports are free
-pub free-fresh : (n : ℕ) (kind : KindSpec) (g : ℕ) (port : DraftPort) → slice_get (fresh_ports n true 0 kind.inputs ++ fresh_ports n false 0 kind.outputs) g ≡ Some port → (e : ℕ) (b : Binding) → slice_get port.elements e ≡ Some b → b ≡ Free
-free-fresh n kind g port is = by (slice_get-append_cases (fresh_ports n true 0 kind.inputs) (fresh_ports n false 0 kind.outputs) g port is)
+pub free-fresh : (n : ℕ) (kind : KindSpec) (g : ℕ) (port : DraftPort) → slice_get (fresh_ports n true 0 (all_inputs kind.inputs) ++ fresh_ports n false 0 (all_outputs kind.outputs)) g ≡ Some port → (e : ℕ) (b : Binding) → slice_get port.elements e ≡ Some b → b ≡ Free
+free-fresh n kind g port is = by (slice_get-append_cases (fresh_ports n true 0 (all_inputs kind.inputs)) (fresh_ports n false 0 (all_outputs kind.outputs)) g port is)
   where
-    by : (slice_get (fresh_ports n true 0 kind.inputs) g ≡ Some port) ⊎ ((k : ℕ) × (slice_get (fresh_ports n false 0 kind.outputs) k ≡ Some port)) → (e : ℕ) (b : Binding) → slice_get port.elements e ≡ Some b → b ≡ Free
-    by (inl input) = free_fresh n true kind.inputs port (fresh_ports-each n true 0 kind.inputs g port input)
-    by (inr output) = free_fresh n false kind.outputs port (fresh_ports-each n false 0 kind.outputs output.0 port output.1)
+    by : (slice_get (fresh_ports n true 0 (all_inputs kind.inputs)) g ≡ Some port) ⊎ ((k : ℕ) × (slice_get (fresh_ports n false 0 (all_outputs kind.outputs)) k ≡ Some port)) → (e : ℕ) (b : Binding) → slice_get port.elements e ≡ Some b → b ≡ Free
+    by (inl input) = free_fresh n true (all_inputs kind.inputs) port (fresh_ports-each n true 0 (all_inputs kind.inputs) g port input)
+    by (inr output) = free_fresh n false (all_outputs kind.outputs) port (fresh_ports-each n false 0 (all_outputs kind.outputs) output.0 port output.1)
 
 -- more ports with free elements, and one more process without texts, leave every binding and every text as it was
 module _ (ports more : List DraftPort) (processes : List DraftProcess) (links : List Link) (begun : DraftProcess)
@@ -186,7 +203,7 @@ module _ (ports more : List DraftPort) (processes : List DraftProcess) (links : 
         let there = text_was p k (end, text) h in
         let old = sided.text p k end text there in
         let port = port_kept end (Given k) (listed.given p k end text there).0 in
-        (ap (option_map (λ (q : DraftPort). q.input)) port ∙ old.0, subst (λ (o : Option DraftPort). FitsPort o text) (sym port) old.1, old.2);
+        (ap (option_map (λ (q : DraftPort). q.input)) port ∙ old.0, subst (λ (o : Option DraftPort). FitsPort o text) (sym port) old.1, old.2, ap (λ (o : Option DraftPort). option_map_or (λ (q : DraftPort). q.spec.needed) o false) port ∙ old.3);
   }
 
 more_processes : (n : ℕ) (port : DraftPort) → IsPort n port → IsPort (n + 1) port
@@ -230,7 +247,7 @@ pub IsSound-begun : (draft : Draft) (name wanted : List ℕ) (kind : KindSpec) �
 IsSound-begun draft name wanted kind sound ok = record {
   kinds = sound.kinds;
   few_processes = omega (arith, length-append draft.processes (begun ∷ []), chosen.room);
-  few_ports = omega (arith, length-append draft.processes (begun ∷ []), length-append draft.ports more, length-append (fresh_ports n true 0 kind.inputs) (fresh_ports n false 0 kind.outputs), length-fresh_ports n true 0 kind.inputs, length-fresh_ports n false 0 kind.outputs, is_kind.few_inputs, is_kind.few_outputs, sound.few_ports);
+  few_ports = omega (arith, length-append draft.processes (begun ∷ []), length-append draft.ports more, length-append (fresh_ports n true 0 (all_inputs kind.inputs)) (fresh_ports n false 0 (all_outputs kind.outputs)), length-fresh_ports n true 0 (all_inputs kind.inputs), length-fresh_ports n false 0 (all_outputs kind.outputs), length-append kind.inputs (automatic (codes "*IN") ∷ []), length-append kind.outputs (automatic (codes "*OUT") ∷ []), is_kind.few_inputs, is_kind.few_outputs, sound.few_ports);
   few_links = sound.few_links;
   numbers = numbers;
   names = names;
@@ -248,7 +265,7 @@ IsSound-begun draft name wanted kind sound ok = record {
     begun = begun_as n name kind.name
 
     more : List DraftPort
-    more = fresh_ports n true 0 kind.inputs ++ fresh_ports n false 0 kind.outputs
+    more = fresh_ports n true 0 (all_inputs kind.inputs) ++ fresh_ports n false 0 (all_outputs kind.outputs)
 
     chosen : KindFor draft.kinds draft.processes name kind
     chosen = KindFor-ok draft.kinds draft.processes name wanted kind ok

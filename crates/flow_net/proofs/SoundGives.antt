@@ -1,6 +1,6 @@
 -- A draft stays sound when an input is given a text.
 use Rattle.flow_limits.specs.declared.TheConstants.{TEXT_LIMIT}
-use Rattle.std.proofs.Common.{◌≡◌, ◌≢◌, ℕ, ◌<◌, ◌≤◌, List, [], ◌∷◌, Option, Some, Ok, Err, true, refl, ap, sym, ◌∙◌, subst, zero, suc, inl, inr, ◌⊎◌, slice_get, length, arith}
+use Rattle.std.proofs.Common.{◌≡◌, ◌≢◌, ℕ, ◌<◌, ◌≤◌, List, [], ◌∷◌, Option, Some, Ok, Err, Bool, true, false, not, refl, ap, sym, ◌∙◌, subst, zero, suc, inl, inr, ◌⊎◌, slice_get, length, arith}
 use Rattle.std.specs.Option.{option_map, option_map_or}
 use Rattle.flow_net.specs.declared.draft.End.{End}
 use Rattle.flow_net.specs.declared.draft.DraftPort.{DraftPort}
@@ -8,7 +8,7 @@ use Rattle.flow_net.specs.declared.draft.DraftProcess.{DraftProcess}
 use Rattle.flow_net.specs.declared.draft.Binding.TheVariants.{Free, Given}
 use Rattle.flow_plan.specs.declared.kind.PortRef.{PortRef}
 use Rattle.flow_net.specs.Drafts.{Draft, Answers, refused_if, binding_at, bound, updated}
-use Rattle.flow_net.specs.Calls.{process_at, process_of_name, end_of_port, is_taken, input_for, given, with_text, next_text}
+use Rattle.flow_net.specs.Calls.{process_at, takes_text, process_of_name, end_of_port, is_taken, input_for, given, with_text, next_text}
 use Rattle.flow_net.specs.Options.{FitsPort}
 use Rattle.flow_net.specs.Sound.{IsSound, IsPort}
 use Rattle.flow_net.specs.Initials.{AfterInitial}
@@ -27,13 +27,19 @@ pub record IsOpen (ports : List DraftPort) (input : End) : Type 0 where
   pub receiver : ℕ
   pub there : IsThere ports receiver true input
   pub free : binding_at ports input ≡ Some Free
+  pub takes : takes_text ports input ≡ true
+
+not_false : (b : Bool) → not b ≡ false → b ≡ true
+not_false true is = refl
+not_false false is = sym is
 
 -- An input that was found for a text is free.
 pub IsOpen-for : (processes : List DraftProcess) (ports : List DraftPort) (n : ℕ) (to : List ℕ) (into : PortRef) (input : End) → ((g : ℕ) (p : DraftPort) → slice_get ports g ≡ Some p → IsPort n p) → input_for processes ports to into ≡ Ok input → IsOpen ports input
 IsOpen-for processes ports n to into input all is =
     let receiver = bind_ok (process_of_name processes to) _ input is in
     let end = bind_ok (end_of_port ports receiver.0 true to into) _ input receiver.2 in
-    let unbound = bind_ok (refused_if (is_taken (binding_at ports end.0)) _) _ input end.2 in
+    let textual = bind_ok (refused_if (not (takes_text ports end.0)) _) _ input end.2 in
+    let unbound = bind_ok (refused_if (is_taken (binding_at ports end.0)) _) _ input textual.2 in
     let same : end.0 ≡ input = cc (unbound.2) in
     let there = IsThere-named ports n receiver.0 true into end.0 all (ok_or_ok _ _ end.0 end.1) in
     subst (IsOpen ports) same
@@ -41,6 +47,7 @@ IsOpen-for processes ports n to into input all is =
       receiver = receiver.0;
       there = there;
       free = free_at ports end.0 there.bound (refused_ok _ _ unbound.0 unbound.1);
+      takes = not_false (takes_text ports end.0) (refused_ok _ _ textual.0 textual.1);
     })
 
 -- There is a member at each place within a list.
@@ -67,7 +74,7 @@ IsSound-given draft text to into input sound ok fits short = record {
   ports = subst (λ (n : ℕ). (g : ℕ) (port : DraftPort) → slice_get after g ≡ Some port → IsPort n port) (sym count) (IsPort-bound (length draft.processes) draft.ports input (Given (next_text (slice_get draft.processes p))) sound.ports);
   links = sound.links;
   listed = IsListed-given draft.ports after draft.processes texted draft.links p (next_text (slice_get draft.processes p)) input text sound.listed chosen.free refl (Rebound-bound draft.ports input (Given (next_text (slice_get draft.processes p))) chosen.there.bound) (SameOutline-bound draft.ports input (Given (next_text (slice_get draft.processes p)))) gives;
-  sided = IsSided-given draft.ports after draft.processes texted draft.links p (next_text (slice_get draft.processes p)) input text sound.sided chosen.there.side fits short (SameOutline-bound draft.ports input (Given (next_text (slice_get draft.processes p)))) gives;
+  sided = IsSided-given draft.ports after draft.processes texted draft.links p (next_text (slice_get draft.processes p)) input text sound.sided chosen.there.side fits short chosen.takes (SameOutline-bound draft.ports input (Given (next_text (slice_get draft.processes p)))) gives;
   shaped = IsShaped-texted draft.kinds draft.processes texted after (λ q b here. let old = was q b here in (old.0, old.1, old.4)) (IsShaped-bound draft.kinds draft.processes draft.ports input (Given (next_text (slice_get draft.processes p))) sound.shaped);
 }
   where

@@ -1,7 +1,7 @@
 -- The plan of a sound draft without a fault is valid.
 use Rattle.flow_limits.specs.declared.TheConstants.{CAPACITY_LIMIT, CAPACITY_SUM_LIMIT, SENDER_LIMIT, TEXT_LIMIT}
 use Rattle.std.proofs.Common.{◌≡◌, ℕ, ◌+◌, ◌-◌, ◌<◌, ◌≤◌, List, [], ◌∷◌, Option, Some, Ok, Bool, true, false, map, refl, ap, sym, ◌∙◌, subst, zero, suc, inl, inr, ◌⊎◌, slice_get, length, take, arith}
-use Rattle.std.specs.Prelude.{◌==◌, nat_le, if◌then◌else◌}
+use Rattle.std.specs.Prelude.{◌==◌, nat_le, if◌then◌else◌, codes}
 use Rattle.std.specs.declared.result.Result.{Result}
 use Rattle.std.specs.Option.{option_map, option_map_or, option_and_then}
 use Rattle.std.specs.List.{sum_by}
@@ -21,7 +21,7 @@ use Rattle.flow_plan.specs.declared.plan.Process.{Process}
 use Rattle.flow_plan.specs.declared.plan.Connection.{Connection}
 use Rattle.flow_plan.specs.declared.kind.PortRef.{PortRef}
 use Rattle.flow_plan.specs.declared.plan.PortTable.{PortTable}
-use Rattle.flow_plan.specs.Network.{Network, is_stream, elements_of, HasInput, HasOutput}
+use Rattle.flow_plan.specs.Network.{Network, is_stream, elements_of, HasInput, IsInputEnd, IsOutputEnd}
 use Rattle.flow_net.specs.declared.fault.PlanFault.{PlanFault}
 use Rattle.flow_net.specs.Drafts.{Draft, ◌>>=◌, binding_at, is_free, is_side, is_stream_at, is_stream_port, same}
 use Rattle.flow_net.specs.Calls.{process_at}
@@ -35,6 +35,10 @@ use Rattle.flow_net.proofs.SoundGives.{some_at}
 use Rattle.flow_net.proofs.Placed.{capacity_of-small}
 use Rattle.flow_plan.proofs.PortNames.{slice_get-left, slice_get-right}
 use Rattle.flow_net.proofs.Laying.{LaidOut-plan, row-count}
+use Rattle.flow_net.proofs.Lasts.{get-flat-front, Closes, closes-kind, count-automatic, last-number, not-last}
+use Rattle.flow_net.specs.Kinds.{automatic}
+use Rattle.flow_plan.specs.declared.kind.PortSpec.{PortSpec}
+use Rattle.flow_plan.specs.declared.plan.PortRow.{PortRow}
 use Rattle.flow_net.proofs.Numbers.{number_at, number-within, number-same, Numbered, number-each}
 use Rattle.flow_net.proofs.Rows.{mapped}
 use Rattle.flow_net.proofs.PlanOptions.{HasOptions-plan, HasRows-plan}
@@ -213,15 +217,15 @@ module _ (draft : Draft) (sound : IsSound draft) (u : Unit {0}) (whole : draft_f
   number_below end p s located =
       subst (λ (m : ℕ). m < total_of draft.ports p s) (sym located.number) (number-within (counted p s) draft.ports end.port end.element located.port located.here located.within)
 
-  input_there : (end : End) → Located draft.ports end (process_at draft.ports end) true → HasInput network (process_at draft.ports end) (number_of draft.ports end)
+  input_there : (end : End) → Located draft.ports end (process_at draft.ports end) true → IsInputEnd network (process_at draft.ports end) (number_of draft.ports end)
   input_there end located =
       let found = has_process (process_at draft.ports end) (owner_within end _ true located) in
-      (process_of draft.ports found.0, found.1, subst (λ (m : ℕ). number_of draft.ports end < total_of draft.ports m true) (sym found.2) (number_below end _ true located))
+      (process_of draft.ports found.0, found.1, (let below = subst (λ (m : ℕ). number_of draft.ports end < total_of draft.ports m true) (sym found.2) (number_below end _ true located) in omega (arith, below)))
 
-  output_there : (end : End) → Located draft.ports end (process_at draft.ports end) false → HasOutput network (process_at draft.ports end) (number_of draft.ports end)
+  output_there : (end : End) → Located draft.ports end (process_at draft.ports end) false → IsOutputEnd network (process_at draft.ports end) (number_of draft.ports end)
   output_there end located =
       let found = has_process (process_at draft.ports end) (owner_within end _ false located) in
-      (process_of draft.ports found.0, found.1, subst (λ (m : ℕ). number_of draft.ports end < total_of draft.ports m false) (sym found.2) (number_below end _ false located))
+      (process_of draft.ports found.0, found.1, (let below = subst (λ (m : ℕ). number_of draft.ports end < total_of draft.ports m false) (sym found.2) (number_below end _ false located) in omega (arith, below)))
 
   -- two elements with one number on one side of one process are one
   same_element : (s : Bool) (end other : End) → Located draft.ports end (process_at draft.ports end) s → Located draft.ports other (process_at draft.ports other) s → process_at draft.ports end ≡ process_at draft.ports other → number_of draft.ports end ≡ number_of draft.ports other → end ≡ other
@@ -236,10 +240,10 @@ module _ (draft : Draft) (sound : IsSound draft) (u : Unit {0}) (whole : draft_f
   into_here : (c : ℕ) (l : Link) → slice_get draft.links c ≡ Some l → into_of draft.links c ≡ Some l.into
   into_here c l here = ap (option_map (λ (link : Link). link.into)) here
 
-  receivers : (c : ℕ) (x : Connection) → slice_get network.connections c ≡ Some x → HasInput network x.receiver x.input
+  receivers : (c : ℕ) (x : Connection) → slice_get network.connections c ≡ Some x → IsInputEnd network x.receiver x.input
   receivers c x here =
       let found = connection_at_plan c x here in
-      subst (λ (y : Connection). HasInput network y.receiver y.input) found.2 (input_there found.0.into (into_located c found.0.into (into_here c found.0 found.1)))
+      subst (λ (y : Connection). IsInputEnd network y.receiver y.input) found.2 (input_there found.0.into (into_located c found.0.into (into_here c found.0 found.1)))
 
   one_receiver : (c d : ℕ) (x y : Connection) → slice_get network.connections c ≡ Some x → slice_get network.connections d ≡ Some y → x.receiver ≡ y.receiver → x.input ≡ y.input → c ≡ d
   one_receiver c d x y here there receiver input =
@@ -260,10 +264,10 @@ module _ (draft : Draft) (sound : IsSound draft) (u : Unit {0}) (whole : draft_f
       let from = mapped (sender_of draft.ports) found.0.senders k s (ap (λ (z : Connection). slice_get z.senders k) found.2 ∙ sends) in
       (from.0, ap (option_and_then (λ (l : Link). slice_get l.senders k)) found.1 ∙ from.1, from.2)
 
-  senders : (c k : ℕ) (x : Connection) (s : Sender) → slice_get network.connections c ≡ Some x → slice_get x.senders k ≡ Some s → HasOutput network s.process s.output
+  senders : (c k : ℕ) (x : Connection) (s : Sender) → slice_get network.connections c ≡ Some x → slice_get x.senders k ≡ Some s → IsOutputEnd network s.process s.output
   senders c k x s here sends =
       let from = sender_at_plan c k x s here sends in
-      subst (λ (z : Sender). HasOutput network z.process z.output) from.2 (output_there from.0 (sender_located c k from.0 from.1))
+      subst (λ (z : Sender). IsOutputEnd network z.process z.output) from.2 (output_there from.0 (sender_located c k from.0 from.1))
 
   one_sender : (c d k l : ℕ) (x y : Connection) (s : Sender) → slice_get network.connections c ≡ Some x → slice_get network.connections d ≡ Some y → slice_get x.senders k ≡ Some s → slice_get y.senders l ≡ Some s → (c ≡ d) × (k ≡ l)
   one_sender c d k l x y s here there sends too =
@@ -367,10 +371,13 @@ module _ (draft : Draft) (sound : IsSound draft) (u : Unit {0}) (whole : draft_f
       begun : (b : DraftProcess) × (slice_get draft.processes p ≡ Some b) × (process_of draft.ports b ≡ has.0)
       begun = process_at_plan p has.0 has.1
 
-      within : i < total_of draft.ports p true
-      within =
-          subst (λ (m : ℕ). i < total_of draft.ports m true) (sound.numbers p begun.0 begun.1)
+      own : i < total_of draft.ports p true - 1
+      own =
+          subst (λ (m : ℕ). i < total_of draft.ports m true - 1) (sound.numbers p begun.0 begun.1)
           (subst (λ (z : Process). i < z.inputs) (sym begun.2) has.2)
+
+      within : i < total_of draft.ports p true
+      within = omega (arith, own)
 
       at : Numbered (counted p true) draft.ports i
       at = number-each (counted p true) draft.ports i within
@@ -380,8 +387,17 @@ module _ (draft : Draft) (sound : IsSound draft) (u : Unit {0}) (whole : draft_f
 
       needed : at.port.spec.needed ≡ true
       needed =
-          let side = and_true (at.port.process == p) (same at.port.input true) (counted_side p true at.port at.element at.within).0 in
-          (sound.ports at.place at.port at.here).input (same_true at.port.input true side.1)
+          let sided = counted_side p true at.port at.element at.within in
+          let side = and_true (at.port.process == p) (same at.port.input true) sided.0 in
+          own_needed sided.0 sided.1 ((sound.ports at.place at.port at.here).input (same_true at.port.input true side.1))
+        where
+          own_needed : is_side p true at.port ≡ true → at.element < count_of at.port → (at.port.spec.needed ≡ true) ⊎ (at.port.spec ≡ automatic (codes "*IN")) → at.port.spec.needed ≡ true
+          own_needed side below (inl is) = is
+          own_needed side below (inr auto) =
+              let kind = sound.shaped.each p begun.0 begun.1 in
+              let last = last-number p true draft.ports kind.kind.inputs (automatic (codes "*IN")) at.place at.port kind.inputs (sound.kinds kind.place kind.kind kind.here).inputs_needed at.here side (ap (λ (spec : PortSpec). spec.needed) auto) in
+              let one = count-automatic at.port (codes "*IN") auto in
+              absurd (omega (arith, own, at.number, last, one, below))
 
       found : (b : Binding) × (binding_at draft.ports (record { port = at.place; element = at.element }) ≡ Some b) × (is_free b ≡ false) × (is_input_at draft.ports (record { port = at.place; element = at.element }) ≡ Some true) × (process_at draft.ports (record { port = at.place; element = at.element }) ≡ p) × (number_of draft.ports (record { port = at.place; element = at.element }) ≡ i)
       found = bound_number p true i at needed
@@ -419,8 +435,8 @@ module _ (draft : Draft) (sound : IsSound draft) (u : Unit {0}) (whole : draft_f
       there : slice_get (needs_of (rows_of draft.ports p false)) o ≡ Some true
       there =
           ap (λ (m : ℕ). slice_get (needs_of (rows_of draft.ports m false)) o) (sym (sound.numbers p begun.0 begun.1))
-          ∙ ap (λ (t : PortTable). slice_get (needs_of t.outputs) o) begun.2
-          ∙ needs.needed
+          ∙ get-flat-front (λ (row : PortRow). map (λ (port : PortRef). row.spec.needed) (elements_of row)) (rows_of draft.ports begun.0.number false) o true
+          (ap (λ (t : PortTable). slice_get (needs_of t.outputs) o) begun.2 ∙ needs.needed)
 
       at : NeedsNumber draft.ports p false o true
       at = needs_numbered draft.ports p false o true there
@@ -463,6 +479,26 @@ module _ (draft : Draft) (sound : IsSound draft) (u : Unit {0}) (whole : draft_f
       let from = text_at_plan p k i x text here given in
       (sound.sided.text p from.2.place from.2.end text (text_here p from.2.place from.0 (from.2.end, text) from.1 from.2.here)).2
 
+  -- a text stands at an input that isn't the automatic one
+  stream_texts : (p i : ℕ) → HasText network p i → HasInput network p i
+  stream_texts p i texted =
+      let from = text_at_plan p texted.place i texted.process texted.text texted.here texted.given in
+      let end = from.2.end in
+      let text = text_here p from.2.place from.0 (end, texted.text) from.1 from.2.here in
+      let owner = (sound.listed.given p from.2.place end texted.text text).1 in
+      let located = subst (λ (q : ℕ). Located draft.ports end q true) owner (text_located p from.2.place end texted.text text from.2.stream) in
+      let sided = counted_side p true located.port end.element located.within in
+      let needed : located.port.spec.needed ≡ true = sym (ap (λ (o : Option DraftPort). option_map_or (λ (q : DraftPort). q.spec.needed) o false) located.here) ∙ (sound.sided.text p from.2.place end texted.text text).3 in
+      let kind = sound.shaped.each p from.0 from.1 in
+      let below = not-last p true draft.ports kind.kind.inputs (codes "*IN") end.port located.port kind.inputs located.here sided.0 needed in
+      let process = process_at_plan p texted.process texted.here in
+      let same : from.0 ≡ process.0 = (let h : Some from.0 ≡ Some process.0 = sym from.1 ∙ process.1 in cc) in (
+        texted.process,
+        texted.here,
+        subst (λ (z : Process). i < z.inputs) process.2
+            (subst (λ (m : ℕ). i < total_of draft.ports m true - 1) (sym (sound.numbers p process.0 process.1)) (omega (arith, below, sided.1, located.number, from.2.number))),
+      )
+
   pub IsValid-plan : IsValid (plan_of draft)
   IsValid-plan = record {
     wired = record {
@@ -479,7 +515,9 @@ module _ (draft : Draft) (sound : IsSound draft) (u : Unit {0}) (whole : draft_f
       few_senders = few_senders;
     };
     names = names;
-    laid_out = LaidOut-plan draft.ports draft.processes;
+    laid_out = LaidOut-plan draft.ports draft.processes (λ k begun here.
+        subst (Closes draft.ports) (sym (sound.numbers k begun here)) (closes-kind draft.kinds draft.ports k begun.kind (sound.shaped.each k begun here)));
+    stream_texts = stream_texts;
     one_text = one_text;
     needed_outputs = needed_outputs;
     capacity_sum = capacity_sum;

@@ -1,11 +1,11 @@
 -- What elements are bound to agrees with the lists of connections and texts, also after one more was bound.
-use Rattle.std.proofs.Common.{◌≡◌, ◌≢◌, ℕ, List, [], ◌∷◌, ◌++◌, Option, Some, None, refl, ap, sym, ◌∙◌, subst, zero, suc, inl, inr, ◌⊎◌, IsSome, slice_get, length}
+use Rattle.std.proofs.Common.{◌≡◌, ◌≢◌, ℕ, List, [], ◌∷◌, ◌++◌, Option, Some, None, false, refl, ap, sym, ◌∙◌, subst, zero, suc, inl, inr, ◌⊎◌, IsSome, slice_get, length}
 use Rattle.std.specs.Option.{option_map, option_map_or}
 use Rattle.flow_net.specs.declared.draft.End.{End}
 use Rattle.flow_net.specs.declared.draft.DraftPort.{DraftPort}
 use Rattle.flow_net.specs.declared.draft.Binding.{Binding}
 use Rattle.flow_net.specs.Drafts.{binding_at, bound, is_stream_at, is_stream_port}
-use Rattle.flow_net.specs.Calls.{process_at}
+use Rattle.flow_net.specs.Calls.{process_at, takes_text}
 use Rattle.flow_net.specs.Options.{FitsPort}
 use Rattle.flow_net.specs.Sound.{is_input_at}
 use Rattle.flow_net.proofs.Places.{same_or_not}
@@ -80,6 +80,14 @@ pub is_stream_at-same : (ports after : List DraftPort) (end : End) → SameOutli
 is_stream_at-same ports after end = same_by_outline is_stream_port by ports after end.port
   where
     by : (o : Option DraftPort) → is_stream_port (option_map outline o) ≡ is_stream_port o
+    by None = refl
+    by (Some port) = refl
+
+-- Ports of one outline take texts alike.
+pub takes_text-same : (ports after : List DraftPort) (end : End) → SameOutline ports after → takes_text after end ≡ takes_text ports end
+takes_text-same ports after end = same_by_outline (λ o. option_map_or (λ (port : DraftPort). port.spec.needed) o false) by ports after end.port
+  where
+    by : (o : Option DraftPort) → option_map_or (λ (port : DraftPort). port.spec.needed) (option_map outline o) false ≡ option_map_or (λ (port : DraftPort). port.spec.needed) o false
     by None = refl
     by (Some port) = refl
 

@@ -1,6 +1,6 @@
 -- What each call of a builder makes of what it holds, and which fault it gives first.
 use Rattle.flow_limits.specs.declared.TheConstants.{CAPACITY_LIMIT, CONNECTION_LIMIT, ELEMENT_LIMIT, PROCESS_LIMIT, SENDER_LIMIT}
-use Rattle.std.specs.Prelude.{ℕ, ◌+◌, ◌==◌, ◌&&◌, nat_le, if◌then◌else◌, Bool, true, false, List, [], ◌∷◌, ◌++◌, length, replicate, Option, Some, None, Ok, slice_get, is_some}
+use Rattle.std.specs.Prelude.{ℕ, ◌+◌, ◌==◌, ◌&&◌, nat_le, not, if◌then◌else◌, Bool, true, false, List, [], ◌∷◌, ◌++◌, length, replicate, Option, Some, None, Ok, slice_get, is_some}
 use Rattle.std.specs.declared.result.Result.{Result}
 use Rattle.std.specs.Option.{option_and_then, option_map, option_map_or, ok_or}
 use Rattle.std.specs.List.{find}
@@ -19,6 +19,7 @@ use Rattle.flow_plan.specs.declared.kind.PortSpec.{PortSpec}
 use Rattle.flow_plan.specs.declared.kind.PortRef.{PortRef}
 use Rattle.flow_plan.specs.declared.kind.PortClass.TheVariants.{Stream}
 use Rattle.flow_net.specs.Drafts.{Draft, ◌>>=◌, refused_if, updated, binding_at, bound, is_free, is_given, receives, process_named, port_named, element_named, is_stream_at}
+use Rattle.flow_net.specs.Kinds.{all_inputs, all_outputs}
 
 -- The kind of this name.
 abbrev pub kind_named : List KindSpec → List ℕ → Option KindSpec
@@ -47,11 +48,11 @@ fresh_ports process input place (spec ∷ specs) = fresh_port process input plac
 abbrev pub begun_as : ℕ → List ℕ → List ℕ → DraftProcess
 begun_as number name kind = record { number = number; name = name; kind = kind; texts = [] }
 
--- The draft with one more process, and its ports: the inputs and then the outputs of its kind.
+-- The draft with one more process, and its ports: the inputs and then the outputs of its kind, each with the automatic one behind them.
 abbrev pub with_process : Draft → List ℕ → KindSpec → Draft
 with_process draft name kind = record draft {
   processes = draft.processes ++ begun_as (length draft.processes) name kind.name ∷ [];
-  ports = draft.ports ++ (fresh_ports (length draft.processes) true 0 kind.inputs ++ fresh_ports (length draft.processes) false 0 kind.outputs);
+  ports = draft.ports ++ (fresh_ports (length draft.processes) true 0 (all_inputs kind.inputs) ++ fresh_ports (length draft.processes) false 0 (all_outputs kind.outputs));
 }
 
 -- The kind of a new process: its name is new, its kind is there, and there are fewer than PROCESS_LIMIT processes.
@@ -180,11 +181,16 @@ after_connect draft from out capacity to into = do
   allowed ← may_join draft.ports draft.links from out to into capacity ends.0 ends.1
   Ok (joined draft ends.0 ends.1 capacity)
 
--- The input that a text is for: it is there, and nothing is bound to it.
+-- An input takes texts where it is needed: the automatic one isn't, and takes none.
+abbrev pub takes_text : List DraftPort → End → Bool
+takes_text ports end = option_map_or (λ (port : DraftPort). port.spec.needed) (slice_get ports end.port) false
+
+-- The input that a text is for: it is there, it takes texts, and nothing is bound to it.
 abbrev pub input_for : List DraftProcess → List DraftPort → List ℕ → PortRef → Result End PlanFault
 input_for processes ports to into = do
   receiver ← process_of_name processes to
   input ← end_of_port ports receiver true to into
+  textual ← refused_if (not (takes_text ports input)) (PortUnknown to into)
   unbound ← refused_if (is_taken (binding_at ports input)) (PortTaken to into)
   Ok input
 

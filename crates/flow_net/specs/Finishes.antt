@@ -1,6 +1,6 @@
 -- What is wrong with a draft that is to be a plan, and the plan that it is.
 use Rattle.flow_limits.specs.declared.TheConstants.{CAPACITY_SUM_LIMIT}
-use Rattle.std.specs.Prelude.{ℕ, ◌+◌, ◌==◌, nat_le, if◌then◌else◌, Bool, true, false, List, [], ◌∷◌, map, take, Option, Some, None, Ok, Err, slice_get, position, unwrap_or}
+use Rattle.std.specs.Prelude.{ℕ, ◌+◌, ◌-◌, ◌==◌, nat_le, if◌then◌else◌, Bool, true, false, List, [], ◌∷◌, map, take, length, Option, Some, None, Ok, Err, slice_get, position, unwrap_or}
 use Rattle.std.specs.declared.result.Result.{Result}
 use Rattle.std.specs.List.{sum_by}
 use Rattle.std.specs.Option.{option_map_or}
@@ -73,7 +73,7 @@ side_at ports end = option_map_or (λ (port : DraftPort). port.input) (slice_get
 abbrev pub number_of : List DraftPort → End → ℕ
 number_of ports end = sum_by (counted (process_at ports end) (side_at ports end)) (take end.port ports) + end.element
 
--- The number of inputs, or of outputs, of a process.
+-- The number of inputs, or of outputs, of a process, the automatic one among them.
 abbrev pub total_of : List DraftPort → ℕ → Bool → ℕ
 total_of ports process input = sum_by (counted process input) ports
 
@@ -104,15 +104,15 @@ abbrev pub initials_of : List DraftPort → List (End × List ℕ) → List (ℕ
 initials_of ports [] = []
 initials_of ports (x ∷ xs) = if is_stream_at ports x.0 then (number_of ports x.0, x.1) ∷ initials_of ports xs else initials_of ports xs
 
--- The process that a begun one becomes.
+-- The process that a begun one becomes: its automatic ports are no inputs and outputs of its own.
 abbrev pub process_of : List DraftPort → DraftProcess → Process
 process_of ports begun = record {
   name = begun.name;
   kind = begun.kind;
   options = options_of ports begun.texts;
   initials = initials_of ports begun.texts;
-  inputs = total_of ports begun.number true;
-  outputs = total_of ports begun.number false;
+  inputs = total_of ports begun.number true - 1;
+  outputs = total_of ports begun.number false - 1;
 }
 
 -- A port with its number of elements.
@@ -124,9 +124,13 @@ abbrev pub rows_of : List DraftPort → ℕ → Bool → List PortRow
 rows_of [] process input = []
 rows_of (port ∷ ports) process input = if is_side process input port then row_of port ∷ rows_of ports process input else rows_of ports process input
 
--- The ports of a process.
+-- A list without its last element.
+abbrev pub front : {X : Type 0} → List X → List X
+front xs = take (length xs - 1) xs
+
+-- The ports of a process, without the automatic ones.
 abbrev pub table_of : List DraftPort → DraftProcess → PortTable
-table_of ports begun = record { inputs = rows_of ports begun.number true; outputs = rows_of ports begun.number false }
+table_of ports begun = record { inputs = front (rows_of ports begun.number true); outputs = front (rows_of ports begun.number false) }
 
 -- The plan that a draft is.
 abbrev pub plan_of : Draft → Network

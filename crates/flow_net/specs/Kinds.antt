@@ -1,11 +1,24 @@
 -- Tables of kinds.
 use Rattle.flow_limits.specs.declared.TheConstants.{PORT_LIMIT}
-use Rattle.std.specs.Prelude.{ℕ, ◌&&◌, nat_le, not, if◌then◌else◌, Bool, true, List, [], ◌∷◌, map, length}
+use Rattle.std.specs.Prelude.{ℕ, ◌&&◌, nat_le, not, if◌then◌else◌, Bool, true, false, List, [], ◌∷◌, ◌++◌, map, length, codes}
 use Rattle.std.specs.List.{list_all, list_any}
 use Rattle.std.specs.Str.{bytes_eq}
 use Rattle.flow_plan.specs.declared.kind.KindSpec.{KindSpec}
 use Rattle.flow_plan.specs.declared.kind.PortSpec.{PortSpec}
+use Rattle.flow_plan.specs.declared.kind.PortClass.TheVariants.{Stream}
 use Rattle.flow_plan.specs.Network.{is_stream}
+
+-- An automatic port, as an entry of a table: it carries packets, and needn't be connected.
+abbrev pub automatic : List ℕ → PortSpec
+automatic name = record { name = name; class = Stream; array = false; needed = false }
+
+-- The entries of the inputs of a process of a kind: those of the kind, and the automatic input.
+abbrev pub all_inputs : List PortSpec → List PortSpec
+all_inputs specs = specs ++ automatic (codes "*IN") ∷ []
+
+-- The entries of its outputs: those of the kind, and the automatic output.
+abbrev pub all_outputs : List PortSpec → List PortSpec
+all_outputs specs = specs ++ automatic (codes "*OUT") ∷ []
 
 -- No two of these names are the same.
 abbrev pub all_differ : List (List ℕ) → Bool

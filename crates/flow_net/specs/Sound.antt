@@ -1,6 +1,6 @@
 -- What holds of every draft.
 use Rattle.flow_limits.specs.declared.TheConstants.{CAPACITY_LIMIT, CONNECTION_LIMIT, ELEMENT_LIMIT, PORT_LIMIT, PROCESS_LIMIT, SENDER_LIMIT, TEXT_LIMIT}
-use Rattle.std.specs.Prelude.{◌≡◌, ℕ, ◌*◌, ◌<◌, ◌≤◌, if◌then◌else◌, Bool, true, false, List, [], ◌∷◌, map, length, take, Option, Some, slice_get}
+use Rattle.std.specs.Prelude.{◌≡◌, ◌⊎◌, ℕ, ◌*◌, ◌<◌, ◌≤◌, codes, if◌then◌else◌, Bool, true, false, List, [], ◌∷◌, map, length, take, Option, Some, slice_get}
 use Rattle.std.specs.List.{sum_by}
 use Rattle.std.specs.Option.{option_and_then, option_map}
 use Rattle.flow_net.specs.declared.draft.End.{End}
@@ -13,7 +13,8 @@ use Rattle.flow_plan.specs.declared.kind.PortSpec.{PortSpec}
 use Rattle.flow_plan.specs.declared.kind.PortClass.TheVariants.{Stream}
 use Rattle.flow_plan.specs.Network.{is_stream}
 use Rattle.flow_net.specs.Drafts.{Draft, binding_at, is_side, is_stream_at}
-use Rattle.flow_net.specs.Calls.{process_at, room_of}
+use Rattle.flow_net.specs.Calls.{process_at, room_of, takes_text}
+use Rattle.flow_net.specs.Kinds.{automatic, all_inputs, all_outputs}
 use Rattle.flow_net.specs.Options.{FitsPort}
 use Rattle.flow_net.specs.Over.{carries}
 
@@ -25,11 +26,11 @@ pub record IsKind (kind : KindSpec) : Type 0 where
   pub few_inputs : length kind.inputs ≤ PORT_LIMIT
   pub few_outputs : length kind.outputs ≤ PORT_LIMIT
 
--- A port of one of this many processes: an input and an array are needed, an option port is no array, and an output carries packets.
+-- A port of one of this many processes: an input is needed or is the automatic one, an array is needed, an option port is no array, and an output carries packets.
 pub record IsPort (processes : ℕ) (port : DraftPort) : Type 0 where
   pub process : port.process < processes
   pub room : length port.elements ≡ room_of port.spec.array
-  pub input : port.input ≡ true → port.spec.needed ≡ true
+  pub input : port.input ≡ true → (port.spec.needed ≡ true) ⊎ (port.spec ≡ automatic (codes "*IN"))
   pub array : port.spec.array ≡ true → port.spec.needed ≡ true
   pub single : is_stream port.spec.class ≡ false → port.spec.array ≡ false
   pub output : port.input ≡ false → port.spec.class ≡ Stream
@@ -64,11 +65,11 @@ pub record IsListed (ports : List DraftPort) (processes : List DraftProcess) (li
 abbrev pub is_input_at : List DraftPort → End → Option Bool
 is_input_at ports end = option_map (λ (port : DraftPort). port.input) (slice_get ports end.port)
 
--- Inputs receive and are given texts of their class, and outputs send.
+-- Inputs receive and are given texts of their class, but for the automatic ones, and outputs send.
 pub record IsSided (ports : List DraftPort) (processes : List DraftProcess) (links : List Link) : Type 0 where
   pub into : (c : ℕ) (end : End) → into_of links c ≡ Some end → (is_input_at ports end ≡ Some true) × (is_stream_at ports end ≡ true)
   pub sender : (c k : ℕ) (end : End) → sender_at links c k ≡ Some end → is_input_at ports end ≡ Some false
-  pub text : (p k : ℕ) (end : End) (text : List ℕ) → text_at processes p k ≡ Some (end, text) → (is_input_at ports end ≡ Some true) × FitsPort (slice_get ports end.port) text × (length text ≤ TEXT_LIMIT)
+  pub text : (p k : ℕ) (end : End) (text : List ℕ) → text_at processes p k ≡ Some (end, text) → (is_input_at ports end ≡ Some true) × FitsPort (slice_get ports end.port) text × (length text ≤ TEXT_LIMIT) × (takes_text ports end ≡ true)
 
 -- What a connection may have: a capacity from 1 to CAPACITY_LIMIT, and up to SENDER_LIMIT senders.
 pub record IsLink (link : Link) : Type 0 where
@@ -84,14 +85,14 @@ abbrev pub entries_of : List DraftPort → ℕ → Bool → List PortSpec
 entries_of [] process input = []
 entries_of (port ∷ ports) process input = if is_side process input port then port.spec ∷ entries_of ports process input else entries_of ports process input
 
--- Process p has the ports of a kind of this name of the table, on each side and in order.
+-- Process p has the ports of a kind of this name of the table, on each side and in order, and the automatic one behind them.
 pub record HasKindPorts (kinds : List KindSpec) (ports : List DraftPort) (p : ℕ) (called : List ℕ) : Type 0 where
   pub place : ℕ
   pub kind : KindSpec
   pub here : slice_get kinds place ≡ Some kind
   pub name : called ≡ kind.name
-  pub inputs : entries_of ports p true ≡ kind.inputs
-  pub outputs : entries_of ports p false ≡ map carries kind.outputs
+  pub inputs : entries_of ports p true ≡ all_inputs kind.inputs
+  pub outputs : entries_of ports p false ≡ map carries (all_outputs kind.outputs)
 
 -- Each process has the ports of its kind, and the place of a port is the number of the ports before it on its side of its process.
 pub record IsShaped (kinds : List KindSpec) (processes : List DraftProcess) (ports : List DraftPort) : Type 0 where
@@ -102,7 +103,7 @@ pub record IsShaped (kinds : List KindSpec) (processes : List DraftProcess) (por
 pub record IsSound (draft : Draft) : Type 0 where
   pub kinds : (k : ℕ) (kind : KindSpec) → slice_get draft.kinds k ≡ Some kind → IsKind kind
   pub few_processes : length draft.processes ≤ PROCESS_LIMIT
-  pub few_ports : length draft.ports ≤ 8192 * length draft.processes
+  pub few_ports : length draft.ports ≤ 8194 * length draft.processes
   pub few_links : length draft.links ≤ CONNECTION_LIMIT
   pub numbers : (p : ℕ) (begun : DraftProcess) → slice_get draft.processes p ≡ Some begun → begun.number ≡ p
   pub names : (p q : ℕ) (begun other : DraftProcess) → slice_get draft.processes p ≡ Some begun → slice_get draft.processes q ≡ Some other → begun.name ≡ other.name → p ≡ q

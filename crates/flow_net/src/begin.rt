@@ -2,6 +2,7 @@
 ghost use Rattle.std.specs.Prelude.{◌≡◌, ◌∷◌, ◌++◌, [], ◌<◌, ◌≤◌, ◌^◌, length, IfOk, OnOk, OnErr, IfErr, Ok, Err, true, false, replicate};
 ghost use Rattle.flow_net.specs.Drafts.{Answers};
 ghost use Rattle.flow_net.specs.Calls.{fresh_port, fresh_ports, kind_for, begun_as, room_of};
+ghost use Rattle.flow_net.specs.Kinds.{automatic, all_inputs, all_outputs};
 
 use crate::draft::{Binding, DraftPort, DraftProcess};
 use crate::fault::{Many, PlanFault, PlanStop};
@@ -50,20 +51,37 @@ fn fresh_port(
     })
 }
 
+/// The entry of an automatic port.
+fn automatic(alloc: Global, name: &[u8]) -> Result<PortSpec, AllocError>
+    ensures { IfOk result (λ spec. spec ≡ automatic name.now) }
+{
+    Ok(PortSpec {
+        name: Text::from_slice(alloc, name)?,
+        class: PortClass::Stream,
+        array: false,
+        needed: false,
+    })
+}
+
+// The ports of these entries, and the automatic one of this name behind them.
 fn add_ports(
     alloc: Global,
     ports: &mut Vec<DraftPort>,
     process: u32,
     input: bool,
     specs: &[PortSpec],
+    name: &[u8],
 ) -> Result<(), AllocError>
     requires { length specs.now ≤ PORT_LIMIT }
-    ensures { OnOk result (ports.new.items ≡ ports.old.items ++ fresh_ports process input 0 specs.now) }
+    ensures { OnOk result (ports.new.items ≡ ports.old.items ++ fresh_ports process input 0 (specs.now ++ automatic name.now ∷ [])) }
 {
     for (place, spec) in specs.iter().enumerate() {
         let port = fresh_port(alloc, process, input, place as u32, spec)?;
         ports.push(port)?;
     }
+    let spec = automatic(alloc, name)?;
+    let port = fresh_port(alloc, process, input, specs.len() as u32, &spec)?;
+    ports.push(port)?;
     Ok(())
 }
 
@@ -108,14 +126,16 @@ pub fn begin(
     requires few_inputs { length kind.now.inputs ≤ PORT_LIMIT }
     requires few_outputs { length kind.now.outputs ≤ PORT_LIMIT }
     ensures processes { OnOk result (processes.new.items ≡ processes.old.items ++ begun_as (length processes.old.items) name kind.now.name ∷ []) }
-    ensures ports { OnOk result (ports.new.items ≡ ports.old.items ++ (fresh_ports (length processes.old.items) true 0 kind.now.inputs ++ fresh_ports (length processes.old.items) false 0 kind.now.outputs)) }
+    ensures ports { OnOk result (ports.new.items ≡ ports.old.items ++ (fresh_ports (length processes.old.items) true 0 (all_inputs kind.now.inputs) ++ fresh_ports (length processes.old.items) false 0 (all_outputs kind.now.outputs))) }
     ensures same_processes { OnErr result (processes.new.items ≡ processes.old.items) }
     ensures same_ports { OnErr result (ports.new.items ≡ ports.old.items) }
 {
     let number = processes.len() as u32;
     let mut added = Vec::new(alloc);
-    add_ports(alloc, &mut added, number, true, kind.inputs.as_slice())?;
-    add_ports(alloc, &mut added, number, false, kind.outputs.as_slice())?;
+    let inputs = kind.inputs.as_slice();
+    add_ports(alloc, &mut added, number, true, inputs, b"*IN")?;
+    let outputs = kind.outputs.as_slice();
+    add_ports(alloc, &mut added, number, false, outputs, b"*OUT")?;
     let begun = DraftProcess {
         number,
         name,

@@ -66,7 +66,7 @@ fn counted(port: &DraftPort, count: u32, process: u32, input: bool) -> u32
 
 /// The elements that the first ports have on one side of a process.
 pub fn total(ports: &[DraftPort], counts: &[u32], place: usize, process: u32, input: bool) -> u32
-    requires few_ports { length ports.now ≤ 2 ^ 20 }
+    requires few_ports { length ports.now ≤ 2 ^ 21 }
     requires counts { counts.now ≡ map count_of ports.now }
     requires few { (g n : ℕ) → slice_get counts.now g ≡ Some n → n ≤ ELEMENT_LIMIT }
     requires within { place ≤ length ports.now }
@@ -91,7 +91,7 @@ fn side_at(ports: &[DraftPort], end: End) -> bool
 
 /// The number of an element.
 pub fn number(ports: &[DraftPort], counts: &[u32], end: End) -> u32
-    requires few_ports { length ports.now ≤ 2 ^ 20 }
+    requires few_ports { length ports.now ≤ 2 ^ 21 }
     requires counts { counts.now ≡ map count_of ports.now }
     requires few { (g n : ℕ) → slice_get counts.now g ≡ Some n → n ≤ ELEMENT_LIMIT }
     requires there { end.port < length ports.now }
@@ -104,7 +104,7 @@ pub fn number(ports: &[DraftPort], counts: &[u32], end: End) -> u32
 }
 
 fn sender(ports: &[DraftPort], counts: &[u32], end: End) -> Sender
-    requires few_ports { length ports.now ≤ 2 ^ 20 }
+    requires few_ports { length ports.now ≤ 2 ^ 21 }
     requires counts { counts.now ≡ map count_of ports.now }
     requires few { (g n : ℕ) → slice_get counts.now g ≡ Some n → n ≤ ELEMENT_LIMIT }
     requires there { end.port < length ports.now }
@@ -123,7 +123,7 @@ fn senders(
     counts: &[u32],
     ends: &[End],
 ) -> Result<Items<Sender>, AllocError>
-    requires few_ports { length ports.now ≤ 2 ^ 20 }
+    requires few_ports { length ports.now ≤ 2 ^ 21 }
     requires counts { counts.now ≡ map count_of ports.now }
     requires few { (g n : ℕ) → slice_get counts.now g ≡ Some n → n ≤ ELEMENT_LIMIT }
     requires there { (k : ℕ) (end : End) → slice_get ends.now k ≡ Some end → IsPlaced ports.now end }
@@ -142,7 +142,7 @@ fn connection(
     counts: &[u32],
     link: &Link,
 ) -> Result<Connection, AllocError>
-    requires few_ports { length ports.now ≤ 2 ^ 20 }
+    requires few_ports { length ports.now ≤ 2 ^ 21 }
     requires counts { counts.now ≡ map count_of ports.now }
     requires few { (g n : ℕ) → slice_get counts.now g ≡ Some n → n ≤ ELEMENT_LIMIT }
     requires into { IsPlaced ports.now link.now.into }
@@ -165,7 +165,7 @@ pub fn connections(
     counts: &[u32],
     links: &[Link],
 ) -> Result<Vec<Connection>, AllocError>
-    requires few_ports { length ports.now ≤ 2 ^ 20 }
+    requires few_ports { length ports.now ≤ 2 ^ 21 }
     requires counts { counts.now ≡ map count_of ports.now }
     requires few { (g n : ℕ) → slice_get counts.now g ≡ Some n → n ≤ ELEMENT_LIMIT }
     requires into { (c : ℕ) (end : End) → into_of links.now c ≡ Some end → IsPlaced ports.now end }

@@ -1,7 +1,7 @@
 //! Giving an input a text.
 ghost use Rattle.std.specs.Prelude.{◌≡◌, ◌<◌, ◌≤◌, ◌^◌, length, IsSome, IfOk, OnOk, OnErr, slice_get};
 ghost use Rattle.flow_net.specs.Drafts.{Answers, binding_at, bound, updated};
-ghost use Rattle.flow_net.specs.Calls.{input_for, process_at, next_text, with_text};
+ghost use Rattle.flow_net.specs.Calls.{input_for, process_at, next_text, takes_text, with_text};
 
 use crate::draft::{Binding, DraftPort, DraftProcess, End};
 use crate::fault::{PlanFault, PlanStop};
@@ -10,6 +10,16 @@ use flow_items::Text;
 use flow_limits::PROCESS_LIMIT;
 use flow_plan::PortRef;
 use std::alloc::{AllocError, Global};
+
+/// Whether an input takes a text: the automatic one takes none.
+fn takes_text(ports: &[DraftPort], end: End) -> bool
+    ensures { result ≡ takes_text ports.now end }
+{
+    match ports.get(end.port as usize) {
+        None => false,
+        Some(port) => port.spec.needed,
+    }
+}
 
 /// The input that a text is for, or the first thing that is against it.
 pub fn input_for(
@@ -25,6 +35,11 @@ pub fn input_for(
 {
     let receiver = find::found_process(alloc, processes, to)?;
     let input = find::found_end(alloc, ports, receiver, true, to, into)?;
+    if !takes_text(ports, input) {
+        let process = Text::from_slice(alloc, to)?;
+        let port = into.copy(alloc)?;
+        return Err(PlanStop::Fault(PlanFault::PortUnknown(process, port)));
+    }
     if join::is_taken(find::binding_at(ports, input)) {
         return Err(PlanStop::Fault(join::taken_fault(alloc, to, into)?));
     }

@@ -2,7 +2,7 @@
 ghost use Rattle.std.specs.Prelude.{◌≡◌, ◌≤◌, ◌<◌, ◌*◌, ◌^◌, length, map, take, IfOk, Some, slice_get, ℕ, List, true, false};
 ghost use Rattle.flow_net.specs.Drafts.{is_stream_at};
 ghost use Rattle.flow_net.specs.Sound.{IsPlaced, text_at};
-ghost use Rattle.flow_net.specs.Finishes.{count_of, total_of, place_at, options_of, initials_of, process_of, row_of, rows_of, table_of};
+ghost use Rattle.flow_net.specs.Finishes.{count_of, total_of, place_at, options_of, initials_of, process_of, row_of, rows_of, front, table_of};
 
 use crate::draft::{DraftPort, DraftProcess, End};
 use crate::find::{is_side, is_stream_at};
@@ -33,9 +33,9 @@ fn rows(
     ports: &[DraftPort],
     process: u32,
     input: bool,
-) -> Result<Items<PortRow>, AllocError>
+) -> Result<Vec<PortRow>, AllocError>
     requires { (g : ℕ) (port : DraftPort) → slice_get ports.now g ≡ Some port → length port.elements ≤ ELEMENT_LIMIT }
-    ensures { IfOk result (λ rows. rows ≡ rows_of ports.now process input) }
+    ensures { IfOk result (λ rows. rows.items ≡ rows_of ports.now process input) }
 {
     let mut rows = Vec::new(alloc);
     for port in ports {
@@ -43,6 +43,22 @@ fn rows(
             rows.push(row(alloc, port)?)?;
         }
     }
+    Ok(rows)
+}
+
+// The same without the automatic port, which is the last.
+fn own_rows(
+    alloc: Global,
+    ports: &[DraftPort],
+    process: u32,
+    input: bool,
+) -> Result<Items<PortRow>, AllocError>
+    requires { (g : ℕ) (port : DraftPort) → slice_get ports.now g ≡ Some port → length port.elements ≤ ELEMENT_LIMIT }
+    ensures { IfOk result (λ rows. rows ≡ front (rows_of ports.now process input)) }
+{
+    let mut rows = rows(alloc, ports, process, input)?;
+    let own = rows.len().saturating_sub(1);
+    rows.truncate(own);
     Ok(Items::of(rows))
 }
 
@@ -50,8 +66,8 @@ fn table(alloc: Global, ports: &[DraftPort], begun: &DraftProcess) -> Result<Por
     requires { (g : ℕ) (port : DraftPort) → slice_get ports.now g ≡ Some port → length port.elements ≤ ELEMENT_LIMIT }
     ensures { IfOk result (λ table. table ≡ table_of ports.now begun.now) }
 {
-    let inputs = rows(alloc, ports, begun.number, true)?;
-    let outputs = rows(alloc, ports, begun.number, false)?;
+    let inputs = own_rows(alloc, ports, begun.number, true)?;
+    let outputs = own_rows(alloc, ports, begun.number, false)?;
     Ok(PortTable { inputs, outputs })
 }
 
@@ -87,7 +103,7 @@ fn given(
     counts: &[u32],
     texts: Vec<(End, Text)>,
 ) -> Result<(Vec<(u32, Text)>, Vec<(u32, Text)>), AllocError>
-    requires few_ports { length ports.now ≤ 2 ^ 20 }
+    requires few_ports { length ports.now ≤ 2 ^ 21 }
     requires counts { counts.now ≡ map count_of ports.now }
     requires few { (g n : ℕ) → slice_get counts.now g ≡ Some n → n ≤ ELEMENT_LIMIT }
     requires there { (k : ℕ) (end : End) (text : List ℕ) → slice_get texts.items k ≡ Some (end, text) → IsPlaced ports.now end }
@@ -112,7 +128,7 @@ fn process(
     counts: &[u32],
     begun: DraftProcess,
 ) -> Result<Process, AllocError>
-    requires few_ports { length ports.now ≤ 2 ^ 20 }
+    requires few_ports { length ports.now ≤ 2 ^ 21 }
     requires counts { counts.now ≡ map count_of ports.now }
     requires few { (g n : ℕ) → slice_get counts.now g ≡ Some n → n ≤ ELEMENT_LIMIT }
     requires there { (k : ℕ) (end : End) (text : List ℕ) → slice_get begun.texts k ≡ Some (end, text) → IsPlaced ports.now end }
@@ -130,8 +146,8 @@ fn process(
         kind,
         options: Items::of(options),
         initials: Items::of(initials),
-        inputs: total(ports, counts, ports.len(), number, true),
-        outputs: total(ports, counts, ports.len(), number, false),
+        inputs: total(ports, counts, ports.len(), number, true).saturating_sub(1),
+        outputs: total(ports, counts, ports.len(), number, false).saturating_sub(1),
     })
 }
 
@@ -142,7 +158,7 @@ pub fn processes(
     counts: &[u32],
     begun: Vec<DraftProcess>,
 ) -> Result<Vec<Process>, AllocError>
-    requires few_ports { length ports.now ≤ 2 ^ 20 }
+    requires few_ports { length ports.now ≤ 2 ^ 21 }
     requires counts { counts.now ≡ map count_of ports.now }
     requires few { (g n : ℕ) → slice_get counts.now g ≡ Some n → n ≤ ELEMENT_LIMIT }
     requires there { (p k : ℕ) (end : End) (text : List ℕ) → text_at begun.items p k ≡ Some (end, text) → IsPlaced ports.now end }

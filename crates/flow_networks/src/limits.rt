@@ -15,7 +15,7 @@ fn the_limits_are_those_that_are_told(rt: HostRuntime) {
         (ELEMENT_LIMIT, 512),
         (LAST_ELEMENT as usize, 511),
         (PORT_LIMIT, 4_096),
-        (CAPACITY_LIMIT as usize, 1_024),
+        (CAPACITY_LIMIT as usize, 4_096),
         (CAPACITY_SUM_LIMIT as usize, 65_536),
         (SENDER_LIMIT, 65_535),
         (TEXT_LIMIT, 1_048_576),

@@ -1,6 +1,6 @@
 -- Each value that a file spells is a valid one.
 use Rattle.flow_limits.specs.declared.TheConstants.{STATEMENT_LIMIT}
-use Rattle.std.proofs.Common.{◌≡◌, ℕ, ◌+◌, ◌≤◌, Bool, true, false, leb, List, [], ◌∷◌, ◌++◌, length, length-append, map, Option, Some, None, Result, Ok, Err, refl, sym, ap, subst, ◌∙◌, arith}
+use Rattle.std.proofs.Common.{◌≡◌, ℕ, ◌+◌, ◌≤◌, Bool, true, false, leb, List, [], ◌∷◌, ◌++◌, length, length-append, map, Option, Some, None, Result, Ok, Err, refl, sym, ap, subst, ◌∙◌, arith, ◌⊎◌, inl, inr}
 use Rattle.std.specs.Prelude.{◌&&◌, ◌||◌, not, is_some, is_none, MatchResult, IfOk}
 use Rattle.std.specs.Str.{bytes_eq}
 use Rattle.std.specs.Str.Lines.{lines}
@@ -19,7 +19,7 @@ use Rattle.flow_parse.specs.declared.value.Statement.{Statement}
 use Rattle.flow_parse.specs.declared.value.NetPart.{NetPart}
 use Rattle.flow_parse.specs.declared.value.NetText.{NetText}
 use Rattle.flow_parse.specs.Names.{is_named, is_numbered}
-use Rattle.flow_parse.specs.Files.{Lines, Open, Parts, nothing, Said, remark, says, wrong, LineIs, with_line, put_into, close, mentions_of, mentions_in, processes_in, kindless_line, kinds_agree, statements_of, statements_in, statement_count, first_failing, may_stand, is_new_subnet, text_fits, is_within_limits, reason_at, fault_at, ended, lines_now, or_fault, value_of, after, at_end, LeadsTo, Spells}
+use Rattle.flow_parse.specs.Files.{Lines, Open, Parts, nothing, Said, remark, says, wrong, LineIs, version_of, with_line, put_into, close, mentions_of, mentions_in, processes_in, kindless_line, kinds_agree, statements_of, statements_in, statement_count, first_failing, may_stand, is_new_subnet, text_fits, is_within_limits, reason_at, fault_at, ended, lines_now, or_fault, value_of, after, at_end, LeadsTo, Spells}
 use Rattle.flow_parse.specs.Values.{IsName, IsInner, Differ, IsNetPart, IsNetText}
 use Rattle.flow_parse.proofs.TableMeans.{statements_push}
 use Rattle.flow_parse.proofs.FileWords.{Clean, lines_clean, said_words}
@@ -34,21 +34,22 @@ abbrev pub InnerLines : Lines → Type 0
 InnerLines ls = AllByRecursion (λ (l : ℕ × Form). AllByRecursion IsInner (statements_of l.1)) ls
 
 -- A subnet that has ended.
-abbrev pub SoundSubnet : List ℕ × Lines → Type 0
-SoundSubnet s = IsName s.0 × SoundLines s.1 × (kindless_line (processes_in (mentions_in s.1)) ≡ None)
+abbrev pub SoundSubnet : ℕ → List ℕ × Lines → Type 0
+SoundSubnet version s = IsName s.0 × SoundLines version s.1 × (kindless_line (processes_in (mentions_in s.1)) ≡ None)
 
 -- A subnet that has begun, behind others.
-abbrev pub SoundOpen : List (List ℕ × Lines) → Option Open → Type 0
-SoundOpen done None = Unit {0}
-SoundOpen done (Some o) = IsName o.name × SoundLines o.lines × (list_any (λ (s : List ℕ × Lines). bytes_eq s.0 o.name) done ≡ false)
+abbrev pub SoundOpen : ℕ → List (List ℕ × Lines) → Option Open → Type 0
+SoundOpen version done None = Unit {0}
+SoundOpen version done (Some o) = IsName o.name × SoundLines version o.lines × (list_any (λ (s : List ℕ × Lines). bytes_eq s.0 o.name) done ≡ false)
 
 -- What stands before a line, where no line has a fault.
 pub record SoundParts (parts : Parts) : Type 0 where
-  pub main : SoundLines parts.main
+  pub version : (parts.version ≡ 1) ⊎ (parts.version ≡ 2)
+  pub main : SoundLines parts.version parts.main
   pub inner : InnerLines parts.main
-  pub subnets : AllByRecursion SoundSubnet parts.subnets
+  pub subnets : AllByRecursion (SoundSubnet parts.version) parts.subnets
   pub differ : Differ (map (λ s. s.0) parts.subnets)
-  pub opened : SoundOpen parts.subnets parts.open_part
+  pub opened : SoundOpen parts.version parts.subnets parts.open_part
   pub count : statement_count parts ≤ STATEMENT_LIMIT
 
 no_first : (a b c d e g : Bool) (r1 r2 r3 r4 r5 r6 : Reason) → first_failing ((a, r1) ∷ (b, r2) ∷ (c, r3) ∷ (d, r4) ∷ (e, r5) ∷ (g, r6) ∷ []) ≡ None → (a ≡ true) × (b ≡ true) × (c ≡ true) × (d ≡ true) × (e ≡ true) × (g ≡ true)
@@ -70,15 +71,16 @@ no_reason n parts form none = elim (reason_at parts form) as (λ o. reason_at pa
 record Passed (parts : Parts) (form : Form) : Type 0 where
   stands : may_stand parts form ≡ true
   named : is_named form ≡ true
+  numbered : is_numbered parts.version form ≡ true
   new : is_new_subnet parts form ≡ true
   fits : text_fits form ≡ true
   count : statement_count parts + length (statements_of form) ≤ STATEMENT_LIMIT
 
 passed : (n : ℕ) (parts : Parts) (form : Form) → fault_at n parts form ≡ None → Passed parts form
 passed n parts form none =
-    let r = no_first (may_stand parts form) (is_named form) (is_numbered form) (kinds_agree (map (λ (k : ℕ × Mention). k.1) (mentions_in (lines_now parts))) (mentions_of form)) (is_new_subnet parts form) (is_within_limits parts form) _ _ _ _ _ _ (no_reason n parts form none) in
+    let r = no_first (may_stand parts form) (is_named form) (is_numbered parts.version form) (kinds_agree (map (λ (k : ℕ × Mention). k.1) (mentions_in (lines_now parts))) (mentions_of form)) (is_new_subnet parts form) (is_within_limits parts form) _ _ _ _ _ _ (no_reason n parts form none) in
     let l = both (text_fits form) (leb (statement_count parts + length (statements_of form)) STATEMENT_LIMIT) r.5 in
-    record { stands = r.0; named = r.1; new = r.4; fits = l.0; count = leb-true (statement_count parts + length (statements_of form)) STATEMENT_LIMIT l.1 }
+    record { stands = r.0; named = r.1; numbered = r.2; new = r.4; fits = l.0; count = leb-true (statement_count parts + length (statements_of form)) STATEMENT_LIMIT l.1 }
 
 push : {X : Type 0} (P : X → Type 0) (xs : List X) (x : X) → AllByRecursion P xs → P x → AllByRecursion P (xs ++ x ∷ [])
 push P [] x all p = (p, tt)
@@ -88,7 +90,7 @@ longer : (ls : Lines) (n : ℕ) (form : Form) → length (statements_in (ls ++ (
 longer ls n form = ap length (statements_push ls n form) ∙ length-append (statements_in ls) (statements_of form)
 
 -- One more line of its part.
-put_sound : (parts : Parts) (n : ℕ) (form : Form) → SoundParts parts → Sound form → statement_count parts + length (statements_of form) ≤ STATEMENT_LIMIT → (is_none parts.open_part ≡ true → AllByRecursion IsInner (statements_of form)) → SoundParts (put_into parts parts.open_part (n, form))
+put_sound : (parts : Parts) (n : ℕ) (form : Form) → SoundParts parts → Sound parts.version form → statement_count parts + length (statements_of form) ≤ STATEMENT_LIMIT → (is_none parts.open_part ≡ true → AllByRecursion IsInner (statements_of form)) → SoundParts (put_into parts parts.open_part (n, form))
 put_sound parts n form s sound count inner = by_open parts.open_part refl where
   by_open : (o : Option Open) → parts.open_part ≡ o → SoundParts (put_into parts o (n, form))
   by_open None e =
@@ -98,7 +100,8 @@ put_sound parts n form s sound count inner = by_open parts.open_part refl where
       let one : is_none parts.open_part ≡ true = ap is_none e in
       let now : statement_count (record parts { main = parts.main ++ (n, form) ∷ [] }) ≡ statement_count (record parts { main = parts.main ++ (n, form) ∷ []; open_part = None }) = ap (λ (q : Option Open). statement_count (record parts { main = parts.main ++ (n, form) ∷ []; open_part = q })) e in
       record {
-        main = push (λ (l : ℕ × Form). Sound l.1) parts.main (n, form) s.main sound;
+        version = s.version;
+        main = push (λ (l : ℕ × Form). Sound parts.version l.1) parts.main (n, form) s.main sound;
         inner = push (λ (l : ℕ × Form). AllByRecursion IsInner (statements_of l.1)) parts.main (n, form) s.inner (inner one);
         subnets = s.subnets;
         differ = s.differ;
@@ -108,13 +111,14 @@ put_sound parts n form s sound count inner = by_open parts.open_part refl where
   by_open (Some o) e =
       let more = longer o.lines n form in
       let was : statement_count parts ≡ statement_count (record parts { open_part = Some o }) = ap (λ (q : Option Open). statement_count (record parts { open_part = q })) e in
-      let open_now : SoundOpen parts.subnets (Some o) = subst (λ (q : Option Open). SoundOpen parts.subnets q) e s.opened in
+      let open_now : SoundOpen parts.version parts.subnets (Some o) = subst (λ (q : Option Open). SoundOpen parts.version parts.subnets q) e s.opened in
       record {
+        version = s.version;
         main = s.main;
         inner = s.inner;
         subnets = s.subnets;
         differ = s.differ;
-        opened = (open_now.0, push (λ (l : ℕ × Form). Sound l.1) o.lines (n, form) open_now.1 sound, open_now.2);
+        opened = (open_now.0, push (λ (l : ℕ × Form). Sound parts.version l.1) o.lines (n, form) open_now.1 sound, open_now.2);
         count = omega (arith, was, more, count);
       }
 
@@ -145,7 +149,7 @@ close_sound parts n s stands none = by_open parts.open_part refl where
   by_open : (o : Option Open) → parts.open_part ≡ o → SoundParts (close parts o)
   by_open None e = s
   by_open (Some o) e =
-      let open_now : SoundOpen parts.subnets (Some o) = subst (λ (q : Option Open). SoundOpen parts.subnets q) e s.opened in
+      let open_now : SoundOpen parts.version parts.subnets (Some o) = subst (λ (q : Option Open). SoundOpen parts.version parts.subnets q) e s.opened in
       let was : statement_count parts ≡ statement_count (record parts { open_part = Some o }) = ap (λ (q : Option Open). statement_count (record parts { open_part = q })) e in
       let last : ended (lines_now parts) ≡ None = end_none n parts none in
       let there : ended o.lines ≡ None = ap ended (sym (ap (λ (q : Option Open). lines_now (record parts { open_part = q })) e)) ∙ last in
@@ -153,9 +157,10 @@ close_sound parts n s stands none = by_open parts.open_part refl where
       let more = sum_push parts.subnets (o.name, o.lines) in
       let c = s.count in
       record {
+        version = s.version;
         main = s.main;
         inner = s.inner;
-        subnets = push SoundSubnet parts.subnets (o.name, o.lines) s.subnets (open_now.0, open_now.1, kinded);
+        subnets = push (SoundSubnet parts.version) parts.subnets (o.name, o.lines) s.subnets (open_now.0, open_now.1, kinded);
         differ = differ_push parts.subnets (o.name, o.lines) s.differ open_now.2;
         opened = tt;
         count = omega (arith, was, more, c);
@@ -169,7 +174,7 @@ open_sound : (parts : Parts) (n : ℕ) (name : List ℕ) → SoundParts parts �
 open_sound parts n name s alone is new =
     let was : statement_count parts ≡ statement_count (record parts { open_part = None }) = ap (λ (q : Option Open). statement_count (record parts { open_part = q })) (is_closed parts.open_part alone) in
     let c = s.count in
-    record { main = s.main; inner = s.inner; subnets = s.subnets; differ = s.differ; opened = (is, tt, new); count = omega (arith, was, c) }
+    record { version = s.version; main = s.main; inner = s.inner; subnets = s.subnets; differ = s.differ; opened = (is, tt, new); count = omega (arith, was, c) }
 
 none_some : (o : Option Open) → is_some o ≡ true → is_none o ≡ true → ⊥
 none_some None a b = cc
@@ -179,39 +184,39 @@ not_true : (b : Bool) → not b ≡ true → b ≡ false
 not_true true e = absurd cc
 not_true false e = refl
 
-step_sound : (n : ℕ) (parts : Parts) (form : Form) (line : List ℕ) → Clean line → LineIs line (says form) → fault_at n parts form ≡ None → SoundParts parts → SoundParts (with_line parts n form)
-step_sound n parts Header line clean is none s = let p = passed n parts Header none in let st = p.stands in absurd cc
+step_sound : (n : ℕ) (parts : Parts) (form : Form) (line : List ℕ) → Clean line → LineIs parts.version line (says form) → fault_at n parts form ≡ None → SoundParts parts → SoundParts (with_line parts n form)
+step_sound n parts (Header said) line clean is none s = let p = passed n parts (Header said) none in let st = p.stands in absurd cc
 step_sound n parts (Process name kind) line clean is none s =
-    let form : Form = Process name kind in let p = passed n parts form none in put_sound parts n form s (record { worded = said_words line form clean is; named = p.named; fits = p.fits }) p.count (λ alone. tt)
+    let form : Form = Process name kind in let p = passed n parts form none in put_sound parts n form s (record { worded = said_words parts.version line form clean is; named = p.named; numbered = p.numbered; fits = p.fits }) p.count (λ alone. tt)
 step_sound n parts (Connection from out capacity into to) line clean is none s =
-    let form : Form = Connection from out capacity into to in let p = passed n parts form none in put_sound parts n form s (record { worded = said_words line form clean is; named = p.named; fits = p.fits }) p.count (λ alone. (tt, tt))
+    let form : Form = Connection from out capacity into to in let p = passed n parts form none in put_sound parts n form s (record { worded = said_words parts.version line form clean is; named = p.named; numbered = p.numbered; fits = p.fits }) p.count (λ alone. (tt, tt))
 step_sound n parts (Initial text into to) line clean is none s =
-    let form : Form = Initial text into to in let p = passed n parts form none in put_sound parts n form s (record { worded = said_words line form clean is; named = p.named; fits = p.fits }) p.count (λ alone. (tt, tt))
+    let form : Form = Initial text into to in let p = passed n parts form none in put_sound parts n form s (record { worded = said_words parts.version line form clean is; named = p.named; numbered = p.numbered; fits = p.fits }) p.count (λ alone. (tt, tt))
 step_sound n parts (Subnet name) line clean is none s =
-    let p = passed n parts (Subnet name) none in open_sound parts n name s p.stands (p.named, said_words line (Subnet name) clean is) (not_true (list_any (λ (s : List ℕ × Lines). bytes_eq s.0 name) parts.subnets) p.new)
+    let p = passed n parts (Subnet name) none in open_sound parts n name s p.stands (p.named, said_words parts.version line (Subnet name) clean is) (not_true (list_any (λ (s : List ℕ × Lines). bytes_eq s.0 name) parts.subnets) p.new)
 step_sound n parts End line clean is none s = let p = passed n parts End none in close_sound parts n s p.stands none
 step_sound n parts (InPort outer into to) line clean is none s =
-    let form : Form = InPort outer into to in let p = passed n parts form none in put_sound parts n form s (record { worded = said_words line form clean is; named = p.named; fits = p.fits }) p.count (λ alone. absurd (none_some parts.open_part p.stands alone))
+    let form : Form = InPort outer into to in let p = passed n parts form none in put_sound parts n form s (record { worded = said_words parts.version line form clean is; named = p.named; numbered = p.numbered; fits = p.fits }) p.count (λ alone. absurd (none_some parts.open_part p.stands alone))
 step_sound n parts (OutPort from out outer) line clean is none s =
-    let form : Form = OutPort from out outer in let p = passed n parts form none in put_sound parts n form s (record { worded = said_words line form clean is; named = p.named; fits = p.fits }) p.count (λ alone. absurd (none_some parts.open_part p.stands alone))
+    let form : Form = OutPort from out outer in let p = passed n parts form none in put_sound parts n form s (record { worded = said_words parts.version line form clean is; named = p.named; numbered = p.numbered; fits = p.fits }) p.count (λ alone. absurd (none_some parts.open_part p.stands alone))
 
 -- What stands before a line, if the header does.
 abbrev pub SoundBefore : Option Parts → Type 0
 SoundBefore None = Unit {0}
 SoundBefore (Some parts) = SoundParts parts
 
-nothing_sound : SoundParts nothing
-nothing_sound = record { main = tt; inner = tt; subnets = tt; differ = tt; opened = tt; count = omega arith }
+nothing_sound : (version : ℕ) → (version ≡ 1) ⊎ (version ≡ 2) → SoundParts (nothing version)
+nothing_sound version one = record { version = one; main = tt; inner = tt; subnets = tt; differ = tt; opened = tt; count = omega arith }
 
 or_none_sound : (o : Option NetFault) (x next : Option Parts) → or_fault o x ≡ Ok next → (o ≡ None) × (x ≡ next)
 or_none_sound None x next e = (refl, cc)
 or_none_sound (Some f) x next e = absurd cc
 
-after_sound : (n : ℕ) (before : Option Parts) (said : Said) (line : List ℕ) (next : Option Parts) → Clean line → LineIs line said → after n before said ≡ Ok next → SoundBefore before → SoundBefore next
+after_sound : (n : ℕ) (before : Option Parts) (said : Said) (line : List ℕ) (next : Option Parts) → Clean line → LineIs (version_of before) line said → after n before said ≡ Ok next → SoundBefore before → SoundBefore next
 after_sound n before remark line next clean is goes s = subst SoundBefore (same before next goes) s where
   same : (a b : Option Parts) → ◌≡◌ {A = Result (Option Parts) NetFault} (Ok a) (Ok b) → a ≡ b
   same a b e = cc
-after_sound n None (says Header) line next clean is goes s = let e : Some nothing ≡ next = cc in subst SoundBefore e nothing_sound
+after_sound n None (says (Header version)) line next clean is goes s = let e : Some (nothing version) ≡ next = cc in subst SoundBefore e (nothing_sound version is.2.1)
 after_sound n None (says (Process name kind)) line next clean is goes s = absurd cc
 after_sound n None (says (Connection from out capacity into to)) line next clean is goes s = absurd cc
 after_sound n None (says (Initial text into to)) line next clean is goes s = absurd cc
@@ -224,9 +229,9 @@ after_sound n (Some parts) (wrong reason) line next clean is goes s = absurd cc
 after_sound n (Some parts) (says form) line next clean is goes s =
     let r = or_none_sound (fault_at n parts form) (Some (with_line parts n form)) next goes in subst SoundBefore r.1 (step_sound n parts form line clean is r.0 s)
 
-subnets_valid : (done : List (List ℕ × Lines)) → AllByRecursion SoundSubnet done → AllByRecursion (λ (s : List ℕ × NetPart). IsName s.0 × IsNetPart s.1) (map (λ (s : List ℕ × Lines). (s.0, value_of s.1)) done)
-subnets_valid [] all = tt
-subnets_valid (s ∷ ss) all = ((all.0.0, part_valid s.1 all.0.1 all.0.2), subnets_valid ss all.1)
+subnets_valid : (version : ℕ) (done : List (List ℕ × Lines)) → AllByRecursion (SoundSubnet version) done → AllByRecursion (λ (s : List ℕ × NetPart). IsName s.0 × IsNetPart version s.1) (map (λ (s : List ℕ × Lines). (s.0, value_of s.1)) done)
+subnets_valid version [] all = tt
+subnets_valid version (s ∷ ss) all = ((all.0.0, part_valid version s.1 all.0.1 all.0.2), subnets_valid version ss all.1)
 
 same_names : (done : List (List ℕ × Lines)) → map (λ (s : List ℕ × NetPart). s.0) (map (λ (s : List ℕ × Lines). (s.0, value_of s.1)) done) ≡ map (λ (s : List ℕ × Lines). s.0) done
 same_names [] = refl
@@ -247,7 +252,7 @@ inner_all (l ∷ ls) all = join (statements_of l.1) all.0 (inner_all ls all.1) w
 
 -- The value of parts.
 abbrev make : Parts → NetText
-make p = record { version = 1; subnets = map (λ (t : List ℕ × Lines). (t.0, value_of t.1)) p.subnets; main = value_of p.main }
+make p = record { version = p.version; subnets = map (λ (t : List ℕ × Lines). (t.0, value_of t.1)) p.subnets; main = value_of p.main }
 
 end_valid : (n : ℕ) (before : Option Parts) (value : NetText) → SoundBefore before → at_end n before ≡ Ok value → IsNetText value
 end_valid n None value s ends = absurd cc
@@ -258,10 +263,10 @@ end_valid n (Some parts) value s ends = by_open parts.open_part refl where
       let sums = same_sum parts.subnets in
       let c = s.count in
       subst IsNetText v (record {
-        version = refl;
-        subnets = subnets_valid parts.subnets s.subnets;
+        version = s.version;
+        subnets = subnets_valid parts.version parts.subnets s.subnets;
         differ = subst Differ (sym (same_names parts.subnets)) s.differ;
-        main = part_valid parts.main s.main (no_kindless (kindless_line (processes_in (mentions_in parts.main))) parts.main refl e);
+        main = part_valid parts.version parts.main s.main (no_kindless (kindless_line (processes_in (mentions_in parts.main))) parts.main refl e);
         inner = inner_all parts.main s.inner;
         count = omega (arith, was, sums, c);
       })

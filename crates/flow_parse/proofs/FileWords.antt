@@ -4,13 +4,15 @@ use Rattle.std.specs.List.{AllByRecursion, slice_split, onto_first}
 use Rattle.std.specs.Str.Lines.{lines, lines_of_parts, strip_carriage_return}
 use Rattle.std.proofs.lemmas.Bool.{eqb-true}
 use Rattle.flow_parse.specs.declared.token.Token.{Token}
-use Rattle.flow_parse.specs.declared.token.Token.TheVariants.{Word, Arrow, Open, Close, OpenBracket, CloseBracket, Quoted}
+use Rattle.flow_parse.specs.declared.token.Token.TheVariants.{Word, Arrow, Open, Close, OpenBracket, CloseBracket, AutomaticInput, AutomaticOutput, Quoted}
 use Rattle.flow_parse.specs.declared.form.Mention.{Mention}
 use Rattle.flow_parse.specs.declared.form.PortMention.{PortMention}
+use Rattle.flow_parse.specs.declared.form.EndMention.{EndMention}
+use Rattle.flow_parse.specs.declared.form.EndMention.TheVariants.{Port, Automatic}
 use Rattle.flow_parse.specs.declared.form.Form.{Form}
 use Rattle.flow_parse.specs.declared.form.Form.TheVariants.{Header, Process, Connection, Initial, Subnet, End, InPort, OutPort}
 use Rattle.flow_parse.specs.Spelling.{is_word_byte, spelling, doubled, Ends, BeginsRow}
-use Rattle.flow_parse.specs.Forms.{parenthesized, mention, port, row_of}
+use Rattle.flow_parse.specs.Forms.{parenthesized, mention, port, output, input, row_of}
 use Rattle.flow_parse.specs.Files.{says, LineIs}
 
 -- Bytes that stand within one line.
@@ -70,27 +72,31 @@ undoubled (b ∷ bs) clean = elim (eqb b 39) as (λ v. eqb b 39 ≡ v → Clean 
 abbrev pub OfWord : List ℕ → Type 0
 OfWord word = AllByRecursion (λ b. is_word_byte b ≡ true) word
 
--- A token as a line has it.
-abbrev pub OfLine : Token → Type 0
-OfLine (Word w) = OfWord w
-OfLine (Quoted text) = Clean text
-OfLine _ = Unit {0}
+-- A token as a line of a file of this version has it.
+abbrev pub OfLine : ℕ → Token → Type 0
+OfLine version (Word w) = OfWord w
+OfLine version (Quoted text) = Clean text
+OfLine version AutomaticInput = version ≡ 2
+OfLine version AutomaticOutput = version ≡ 2
+OfLine version _ = Unit {0}
 
-token_fine : (t : Token) (rest : List ℕ) → Ends t rest → Clean (spelling t) → OfLine t
-token_fine (Word w) rest ends clean = ends.1
-token_fine Arrow rest ends clean = tt
-token_fine Open rest ends clean = tt
-token_fine Close rest ends clean = tt
-token_fine OpenBracket rest ends clean = tt
-token_fine CloseBracket rest ends clean = tt
-token_fine (Quoted text) rest ends clean = undoubled text (front_of (λ b. b ≢ 10) (doubled text) (39 ∷ []) clean.1)
+token_fine : (version : ℕ) (t : Token) (rest : List ℕ) → Ends version t rest → Clean (spelling t) → OfLine version t
+token_fine version (Word w) rest ends clean = ends.1
+token_fine version Arrow rest ends clean = tt
+token_fine version Open rest ends clean = tt
+token_fine version Close rest ends clean = tt
+token_fine version OpenBracket rest ends clean = tt
+token_fine version CloseBracket rest ends clean = tt
+token_fine version AutomaticInput rest ends clean = ends.0
+token_fine version AutomaticOutput rest ends clean = ends.0
+token_fine version (Quoted text) rest ends clean = undoubled text (front_of (λ b. b ≢ 10) (doubled text) (39 ∷ []) clean.1)
 
-row_fine : (bytes : List ℕ) (ts : List Token) (rest : List ℕ) → Clean bytes → BeginsRow bytes ts rest → AllByRecursion OfLine ts
-row_fine bytes [] rest clean row = tt
-row_fine bytes (t ∷ ts) rest clean row =
+row_fine : (version : ℕ) (bytes : List ℕ) (ts : List Token) (rest : List ℕ) → Clean bytes → BeginsRow version bytes ts rest → AllByRecursion (OfLine version) ts
+row_fine version bytes [] rest clean row = tt
+row_fine version bytes (t ∷ ts) rest clean row =
     let all : Clean (row.1.blanks ++ (spelling t ++ row.0)) = subst Clean row.1.parts clean in
     let behind : Clean (spelling t ++ row.0) = back_of (λ b. b ≢ 10) row.1.blanks (spelling t ++ row.0) all in
-    (token_fine t row.0 row.1.ends (front_of (λ b. b ≢ 10) (spelling t) row.0 behind), row_fine row.0 ts rest (back_of (λ b. b ≢ 10) (spelling t) row.0 behind) row.2)
+    (token_fine version t row.0 row.1.ends (front_of (λ b. b ≢ 10) (spelling t) row.0 behind), row_fine version row.0 ts rest (back_of (λ b. b ≢ 10) (spelling t) row.0 behind) row.2)
 
 -- A word, where there is one.
 abbrev pub OfWordIfAny : Option (List ℕ) → Type 0
@@ -101,43 +107,58 @@ OfWordIfAny (Some w) = OfWord w
 abbrev pub OfMention : Mention → Type 0
 OfMention m = OfWord m.name × OfWordIfAny m.kind
 
--- The words in the place of names, and the text, as a line has them.
-abbrev pub Worded : Form → Type 0
-Worded Header = Unit {0}
-Worded (Process name kind) = OfWord name × OfWord kind
-Worded (Connection from out capacity into to) = OfMention from × OfWord out.name × OfWord into.name × OfMention to
-Worded (Initial text into to) = Clean text × OfWord into.name × OfMention to
-Worded (Subnet name) = OfWord name
-Worded End = Unit {0}
-Worded (InPort outer into to) = OfWord outer × OfWord into.name × OfMention to
-Worded (OutPort from out outer) = OfMention from × OfWord out.name × OfWord outer
+-- The word of what a connection names, or that there are automatic ports.
+abbrev pub OfEnd : ℕ → EndMention → Type 0
+OfEnd version (Port p) = OfWord p.name
+OfEnd version Automatic = version ≡ 2
 
-mention_words : (m : Mention) → AllByRecursion OfLine (mention m) → OfMention m
-mention_words m all = (all.0, kind m.kind all.1) where
-  kind : (o : Option (List ℕ)) → AllByRecursion OfLine (parenthesized o) → OfWordIfAny o
+-- The words in the place of names, and the text, as a line of a file of this version has them.
+abbrev pub Worded : ℕ → Form → Type 0
+Worded version (Header said) = Unit {0}
+Worded version (Process name kind) = OfWord name × OfWord kind
+Worded version (Connection from out capacity into to) = OfMention from × OfEnd version out × OfEnd version into × OfMention to
+Worded version (Initial text into to) = Clean text × OfWord into.name × OfMention to
+Worded version (Subnet name) = OfWord name
+Worded version End = Unit {0}
+Worded version (InPort outer into to) = OfWord outer × OfWord into.name × OfMention to
+Worded version (OutPort from out outer) = OfMention from × OfWord out.name × OfWord outer
+
+mention_words : (version : ℕ) (m : Mention) → AllByRecursion (OfLine version) (mention m) → OfMention m
+mention_words version m all = (all.0, kind m.kind all.1) where
+  kind : (o : Option (List ℕ)) → AllByRecursion (OfLine version) (parenthesized o) → OfWordIfAny o
   kind None all = tt
   kind (Some w) all = all.1.0
 
-receiver_words : (into : PortMention) (to : Mention) → AllByRecursion OfLine (port into ++ mention to) → OfWord into.name × OfMention to
-receiver_words into to all = (all.0, mention_words to (back_of OfLine (port into) (mention to) all))
+output_words : (version : ℕ) (out : EndMention) → AllByRecursion (OfLine version) (output out) → OfEnd version out
+output_words version (Port p) all = all.0
+output_words version Automatic all = all.0
 
-form_words : (form : Form) → AllByRecursion OfLine (row_of form) → Worded form
-form_words Header all = tt
-form_words (Process name kind) all = (all.0, all.1.1.0)
-form_words (Connection from out capacity into to) all =
-    let a = front_of OfLine (mention from ++ port out ++ Arrow ∷ parenthesized capacity ++ port into) (mention to) all in
-    let b = front_of OfLine (mention from ++ port out ++ Arrow ∷ parenthesized capacity) (port into) a in
-    let c = front_of OfLine (mention from ++ port out) (Arrow ∷ parenthesized capacity) b in
-    (mention_words from (front_of OfLine (mention from) (port out) c), (back_of OfLine (mention from) (port out) c).0, (back_of OfLine (mention from ++ port out ++ Arrow ∷ parenthesized capacity) (port into) a).0, mention_words to (back_of OfLine (mention from ++ port out ++ Arrow ∷ parenthesized capacity ++ port into) (mention to) all))
-form_words (Initial text into to) all = let r = receiver_words into to all.1.1 in (all.0, r.0, r.1)
-form_words (Subnet name) all = all.1.0
-form_words End all = tt
-form_words (InPort outer into to) all = let r = receiver_words into to all.1.1.1 in (all.1.0, r.0, r.1)
-form_words (OutPort from out outer) all =
-    let a = front_of OfLine (mention from ++ port out) (Arrow ∷ Word outer ∷ []) all.1 in
-    let b = back_of OfLine (mention from ++ port out) (Arrow ∷ Word outer ∷ []) all.1 in
-    (mention_words from (front_of OfLine (mention from) (port out) a), (back_of OfLine (mention from) (port out) a).0, b.1.0)
+input_words : (version : ℕ) (into : EndMention) → AllByRecursion (OfLine version) (input into) → OfEnd version into
+input_words version (Port p) all = all.0
+input_words version Automatic all = all.0
+
+receiver_words : (version : ℕ) (into : PortMention) (to : Mention) → AllByRecursion (OfLine version) (port into ++ mention to) → OfWord into.name × OfMention to
+receiver_words version into to all = (all.0, mention_words version to (back_of (OfLine version) (port into) (mention to) all))
+
+form_words : (version : ℕ) (form : Form) → AllByRecursion (OfLine version) (row_of form) → Worded version form
+form_words version (Header said) all = tt
+form_words version (Process name kind) all = (all.0, all.1.1.0)
+form_words version (Connection from out capacity into to) all =
+    let P : Token → Type 0 = OfLine version in
+    let a = front_of P (mention from ++ output out ++ Arrow ∷ parenthesized capacity ++ input into) (mention to) all in
+    let b = front_of P (mention from ++ output out ++ Arrow ∷ parenthesized capacity) (input into) a in
+    let c = front_of P (mention from ++ output out) (Arrow ∷ parenthesized capacity) b in
+    (mention_words version from (front_of P (mention from) (output out) c), output_words version out (back_of P (mention from) (output out) c), input_words version into (back_of P (mention from ++ output out ++ Arrow ∷ parenthesized capacity) (input into) a), mention_words version to (back_of P (mention from ++ output out ++ Arrow ∷ parenthesized capacity ++ input into) (mention to) all))
+form_words version (Initial text into to) all = let r = receiver_words version into to all.1.1 in (all.0, r.0, r.1)
+form_words version (Subnet name) all = all.1.0
+form_words version End all = tt
+form_words version (InPort outer into to) all = let r = receiver_words version into to all.1.1.1 in (all.1.0, r.0, r.1)
+form_words version (OutPort from out outer) all =
+    let P : Token → Type 0 = OfLine version in
+    let a = front_of P (mention from ++ port out) (Arrow ∷ Word outer ∷ []) all.1 in
+    let b = back_of P (mention from ++ port out) (Arrow ∷ Word outer ∷ []) all.1 in
+    (mention_words version from (front_of P (mention from) (port out) a), (back_of P (mention from) (port out) a).0, b.1.0)
 
 -- What a line says has the line's words.
-pub said_words : (line : List ℕ) (form : Form) → Clean line → LineIs line (says form) → Worded form
-said_words line form clean is = form_words form (subst (λ (ts : List Token). AllByRecursion OfLine ts) (sym is.2.0) (row_fine line is.0 is.1.0 clean is.1.1))
+pub said_words : (version : ℕ) (line : List ℕ) (form : Form) → Clean line → LineIs version line (says form) → Worded version form
+said_words version line form clean is = form_words version form (subst (λ (ts : List Token). AllByRecursion (OfLine version) ts) (sym is.2.0) (row_fine version line is.0 is.1.0 clean is.1.1))

@@ -4,7 +4,7 @@ use Rattle.std.specs.Prelude.{MatchResult}
 use Rattle.std.specs.Str.Lines.{lines}
 use Rattle.flow_parse.specs.declared.fault.NetFault.{NetFault}
 use Rattle.flow_parse.specs.declared.value.NetText.{NetText}
-use Rattle.flow_parse.specs.Files.{Said, Parts, after, LeadsTo, Spells, Refused}
+use Rattle.flow_parse.specs.Files.{Said, Parts, version_of, after, LeadsTo, Spells, Refused}
 use Rattle.flow_parse.specs.declared.fault.ParseStop.{ParseStop}
 use Rattle.flow_parse.specs.declared.fault.ParseStop.TheVariants as stops
 use Rattle.flow_parse.specs.Reader.{Gives}
@@ -21,7 +21,7 @@ goes_on n (Err fault) more a b rest x y = x ∙ sym y
 pub one_outcome : (n : ℕ) (before : Option Parts) (lines : List (List ℕ)) (a b : Result NetText NetFault) → LeadsTo n before lines a → LeadsTo n before lines b → a ≡ b
 one_outcome n before [] a b x y = sym x ∙ y
 one_outcome n before (line ∷ more) a b x y =
-    let same : y.0 ≡ x.0 = one_said line y.0 x.0 y.1 x.1 in
+    let same : y.0 ≡ x.0 = one_said (version_of before) line y.0 x.0 y.1 x.1 in
     let there = subst (λ (s : Said). MatchResult (after n before s) (λ parts. LeadsTo (n + 1) parts more b) (λ fault. b ≡ Err fault)) same y.2 in
     goes_on n (after n before x.0) more a b (λ parts p q. one_outcome (n + 1) parts more a b p q) x.2 there
 

@@ -21,7 +21,7 @@ use Rattle.flow_parse.specs.declared.value.NetPart.{NetPart}
 use Rattle.flow_parse.specs.declared.value.NetText.{NetText}
 use Rattle.flow_parse.specs.Table.{mentioned, table_with}
 use Rattle.flow_parse.specs.Names.{is_named, is_numbered}
-use Rattle.flow_parse.specs.Files.{Lines, Parts, says, with_line, mentions_of, mentions_in, processes_in, kindless_line, kinds_agree, statements_of, statements_in, statement_count, first_failing, may_stand, is_new_subnet, text_fits, reason_at, fault_at, lines_now, value_of, LeadsTo}
+use Rattle.flow_parse.specs.Files.{Lines, Parts, says, LineIs, with_line, mentions_of, mentions_in, processes_in, kindless_line, kinds_agree, statements_of, statements_in, statement_count, first_failing, may_stand, is_new_subnet, text_fits, reason_at, fault_at, lines_now, value_of, LeadsTo}
 use Rattle.flow_parse.specs.Canonical.{process_line, statement_pieces, statement_line, part_lines}
 use Rattle.flow_parse.specs.Values.{IsName, IsStatement, IsInner, names_of, Differ, NamesKnown, IsNetPart}
 use Rattle.flow_parse.proofs.TableLaws.{mentioned_new}
@@ -36,9 +36,9 @@ pub data Where : Type 0 where
   in_subnet : List (List ℕ × Lines) → ℕ → List ℕ → Where
 
 -- What stands before a line, where its part has these.
-abbrev pub at : Where → Lines → Parts
-at (in_main done) ls = record { main = ls; subnets = done; open_part = None }
-at (in_subnet done n name) ls = record { main = []; subnets = done; open_part = Some (record { line = n; name = name; lines = ls }) }
+abbrev pub at : ℕ → Where → Lines → Parts
+at version (in_main done) ls = record { version = version; main = ls; subnets = done; open_part = None }
+at version (in_subnet done n name) ls = record { version = version; main = []; subnets = done; open_part = Some (record { line = n; name = name; lines = ls }) }
 
 -- The statements of the subnets that have ended.
 abbrev pub ended_count : List (List ℕ × Lines) → ℕ
@@ -48,13 +48,17 @@ abbrev pub elsewhere : Where → ℕ
 elsewhere (in_main done) = ended_count done
 elsewhere (in_subnet done n name) = ended_count done
 
-lines_at : (w : Where) (ls : Lines) → lines_now (at w ls) ≡ ls
-lines_at (in_main done) ls = refl
-lines_at (in_subnet done n name) ls = refl
+lines_at : (version : ℕ) (w : Where) (ls : Lines) → lines_now (at version w ls) ≡ ls
+lines_at version (in_main done) ls = refl
+lines_at version (in_subnet done n name) ls = refl
 
-count_at : (w : Where) (ls : Lines) → statement_count (at w ls) ≡ length (statements_in ls) + elsewhere w
-count_at (in_main done) ls = omega arith
-count_at (in_subnet done n name) ls = omega arith
+version_at : (version : ℕ) (w : Where) (ls : Lines) → (at version w ls).version ≡ version
+version_at version (in_main done) ls = refl
+version_at version (in_subnet done n name) ls = refl
+
+count_at : (version : ℕ) (w : Where) (ls : Lines) → statement_count (at version w ls) ≡ length (statements_in ls) + elsewhere w
+count_at version (in_main done) ls = omega arith
+count_at version (in_subnet done n name) ls = omega arith
 
 -- What a part's lines have given so far.
 pub record Made (ls : Lines) (table : List MentionedProcess) (said : List Statement) : Type 0 where
@@ -77,21 +81,21 @@ both_true : (a b : Bool) → a ≡ true → b ≡ true → (a && b) ≡ true
 both_true a b ea eb = rw (ea, eb) refl
 
 -- A line of a form that may stand there, within all limits, is refused for no reason.
-pub no_reason : (w : Where) (ls : Lines) (form : Form) → may_stand (at w ls) form ≡ true → is_named form ≡ true → is_numbered form ≡ true → kinds_agree (map (λ k. k.1) (mentions_in ls)) (mentions_of form) ≡ true
-    → is_new_subnet (at w ls) form ≡ true → text_fits form ≡ true → (length (statements_in ls) + elsewhere w) + length (statements_of form) ≤ STATEMENT_LIMIT → reason_at (at w ls) form ≡ None
-no_reason w ls form stands named numbered agree new fits count =
-    let there : kinds_agree (map (λ (k : ℕ × Mention). k.1) (mentions_in (lines_now (at w ls)))) (mentions_of form) ≡ true = ap (λ (l : Lines). kinds_agree (map (λ (k : ℕ × Mention). k.1) (mentions_in l)) (mentions_of form)) (lines_at w ls) ∙ agree in
-    let c = count_at w ls in
-    let within : leb (statement_count (at w ls) + length (statements_of form)) STATEMENT_LIMIT ≡ true = le-leb (statement_count (at w ls) + length (statements_of form)) STATEMENT_LIMIT (omega (arith, c, count)) in
-    all_pass (may_stand (at w ls) form) (is_named form) (is_numbered form) (kinds_agree (map (λ (k : ℕ × Mention). k.1) (mentions_in (lines_now (at w ls)))) (mentions_of form)) (is_new_subnet (at w ls) form) (text_fits form && leb (statement_count (at w ls) + length (statements_of form)) STATEMENT_LIMIT)
-    stands named numbered there new (both_true (text_fits form) (leb (statement_count (at w ls) + length (statements_of form)) STATEMENT_LIMIT) fits within)
+pub no_reason : (version : ℕ) (w : Where) (ls : Lines) (form : Form) → may_stand (at version w ls) form ≡ true → is_named form ≡ true → is_numbered version form ≡ true → kinds_agree (map (λ k. k.1) (mentions_in ls)) (mentions_of form) ≡ true
+    → is_new_subnet (at version w ls) form ≡ true → text_fits form ≡ true → (length (statements_in ls) + elsewhere w) + length (statements_of form) ≤ STATEMENT_LIMIT → reason_at (at version w ls) form ≡ None
+no_reason version w ls form stands named numbered agree new fits count =
+    let there : kinds_agree (map (λ (k : ℕ × Mention). k.1) (mentions_in (lines_now (at version w ls)))) (mentions_of form) ≡ true = ap (λ (l : Lines). kinds_agree (map (λ (k : ℕ × Mention). k.1) (mentions_in l)) (mentions_of form)) (lines_at version w ls) ∙ agree in
+    let c = count_at version w ls in
+    let within : leb (statement_count (at version w ls) + length (statements_of form)) STATEMENT_LIMIT ≡ true = le-leb (statement_count (at version w ls) + length (statements_of form)) STATEMENT_LIMIT (omega (arith, c, count)) in
+    all_pass (may_stand (at version w ls) form) (is_named form) (is_numbered (at version w ls).version form) (kinds_agree (map (λ (k : ℕ × Mention). k.1) (mentions_in (lines_now (at version w ls)))) (mentions_of form)) (is_new_subnet (at version w ls) form) (text_fits form && leb (statement_count (at version w ls) + length (statements_of form)) STATEMENT_LIMIT)
+    stands named (ap (λ (v : ℕ). is_numbered v form) (version_at version w ls) ∙ numbered) there new (both_true (text_fits form) (leb (statement_count (at version w ls) + length (statements_of form)) STATEMENT_LIMIT) fits within)
 
 -- One line on, where the line has no fault.
-pub one_line : (n : ℕ) (parts next : Parts) (pieces : List (List Token)) (form : Form) (rest : List ℕ) (outcome : Result NetText NetFault) → Says pieces form → fault_at n parts form ≡ None → with_line parts n form ≡ next
+pub one_line : (version n : ℕ) (parts next : Parts) (pieces : List (List Token)) (form : Form) (rest : List ℕ) (outcome : Result NetText NetFault) → parts.version ≡ version → Says version pieces form → fault_at n parts form ≡ None → with_line parts n form ≡ next
     → LeadsTo (n + 1) (Some next) (lines rest) outcome → LeadsTo n (Some parts) (lines ((joined pieces ++ 10 ∷ []) ++ rest)) outcome
-one_line n parts next pieces form rest outcome s none goes there =
+one_line version n parts next pieces form rest outcome same s none goes there =
     let step : LeadsTo (n + 1) (Some (with_line parts n form)) (lines rest) outcome = subst (λ (p : Parts). LeadsTo (n + 1) (Some p) (lines rest) outcome) (sym goes) there in
-    subst (λ (l : List (List ℕ)). LeadsTo n (Some parts) l outcome) (sym (lines_first (joined pieces) rest s.closed)) (says form, s.is, rw none step)
+    subst (λ (l : List (List ℕ)). LeadsTo n (Some parts) l outcome) (sym (lines_first (joined pieces) rest s.closed)) (says form, subst (λ (v : ℕ). LineIs v (joined pieces) (says form)) (sym same) s.is, rw none step)
 
 -- The table has these processes.
 abbrev pub IsTable : List MentionedProcess → List (List ℕ × List ℕ) → Type 0
@@ -150,30 +154,30 @@ fresh_push : (ks : List MentionedProcess) (k : MentionedProcess) (ps : List (Lis
 fresh_push ks k [] fresh apart = tt
 fresh_push ks k (p ∷ ps) fresh apart = (all_push p.0 ks k fresh.0 apart.0, fresh_push ks k ps fresh.1 apart.1)
 
-put_process : (w : Where) (ls : Lines) (n : ℕ) (p : List ℕ × List ℕ) → with_line (at w ls) n (forms.Process p.0 p.1) ≡ at w (ls ++ (n, forms.Process p.0 p.1) ∷ [])
-put_process (in_main done) ls n p = refl
-put_process (in_subnet done m name) ls n p = refl
+put_process : (version : ℕ) (w : Where) (ls : Lines) (n : ℕ) (p : List ℕ × List ℕ) → with_line (at version w ls) n (forms.Process p.0 p.1) ≡ at version w (ls ++ (n, forms.Process p.0 p.1) ∷ [])
+put_process version (in_main done) ls n p = refl
+put_process version (in_subnet done m name) ls n p = refl
 
 -- The lines of processes, read one after another.
-pub processes_read : (ps : List (List ℕ × List ℕ)) (w : Where) (n : ℕ) (ls : Lines) (table : List MentionedProcess) (done all : List (List ℕ × List ℕ)) (rest : List ℕ) (outcome : Result NetText NetFault)
+pub processes_read : (version : ℕ) (ps : List (List ℕ × List ℕ)) (w : Where) (n : ℕ) (ls : Lines) (table : List MentionedProcess) (done all : List (List ℕ × List ℕ)) (rest : List ℕ) (outcome : Result NetText NetFault)
     → Made ls table [] → IsTable table done → done ++ ps ≡ all → Fresh table ps → Differ (map (λ p. p.0) ps) → AllByRecursion (λ (p : List ℕ × List ℕ). IsName p.0 × IsName p.1) ps → elsewhere w ≤ STATEMENT_LIMIT
-    → ((m : ℕ) (later : Lines) (made : List MentionedProcess) → Made later made [] → IsTable made all → LeadsTo m (Some (at w later)) (lines rest) outcome)
-    → LeadsTo n (Some (at w ls)) (lines (flat_map process_line ps ++ rest)) outcome
-processes_read [] w n ls table done all rest outcome made is whole fresh differ named count go = go n ls table made (subst (λ (l : List (List ℕ × List ℕ)). IsTable table l) (sym (append-nil done) ∙ whole) is)
-processes_read (p ∷ ps) w n ls table done all rest outcome made is whole fresh differ named count go =
+    → ((m : ℕ) (later : Lines) (made : List MentionedProcess) → Made later made [] → IsTable made all → LeadsTo m (Some (at version w later)) (lines rest) outcome)
+    → LeadsTo n (Some (at version w ls)) (lines (flat_map process_line ps ++ rest)) outcome
+processes_read version [] w n ls table done all rest outcome made is whole fresh differ named count go = go n ls table made (subst (λ (l : List (List ℕ × List ℕ)). IsTable table l) (sym (append-nil done) ∙ whole) is)
+processes_read version (p ∷ ps) w n ls table done all rest outcome made is whole fresh differ named count go =
     let k : MentionedProcess = record { line = n; name = p.0; kind = Some p.1 } in
     let form : Form = forms.Process p.0 p.1 in
     let new : table_with table n (mentions_of form) ≡ Some (table ++ k ∷ []) = ap (option_and_then (λ (next : List MentionedProcess). table_with next n [])) (mentioned_new table n (record { name = p.0; kind = Some p.1 }) fresh.0) in
     let more = made_more ls table (table ++ k ∷ []) [] n form made new in
-    let none : reason_at (at w ls) form ≡ None = no_reason w ls form (stands w ls p) (both_true _ _ named.0.0.0 named.0.1.0) refl more.0 (new_subnet w ls p) refl (let s : length (statements_in ls) ≡ 0 = ap length made.statements in omega (arith, s, count)) in
-    let fault : fault_at n (at w ls) form ≡ None = rw none refl in
-    let later = processes_read ps w (n + 1) (ls ++ (n, form) ∷ []) (table ++ k ∷ []) (done ++ p ∷ []) all rest outcome more.1 (table_push table done n p is) (append_assoc done (p ∷ []) ps ∙ whole) (fresh_push table k ps fresh.1 differ.0) differ.1 named.1 count go in
-    subst (λ (l : List ℕ). LeadsTo n (Some (at w ls)) (lines l) outcome) (sym (append_assoc (process_line p) (flat_map process_line ps) rest))
-    (one_line n (at w ls) (at w (ls ++ (n, form) ∷ [])) ((Word p.0 ∷ open_token ∷ Word p.1 ∷ Close ∷ []) ∷ []) form (flat_map process_line ps ++ rest) outcome (process_says p named.0.0 named.0.1) fault (put_process w ls n p) later) where
-      stands : (w : Where) (ls : Lines) (p : List ℕ × List ℕ) → may_stand (at w ls) (forms.Process p.0 p.1) ≡ true
+    let none : reason_at (at version w ls) form ≡ None = no_reason version w ls form (stands w ls p) (both_true _ _ named.0.0.0 named.0.1.0) refl more.0 (new_subnet w ls p) refl (let s : length (statements_in ls) ≡ 0 = ap length made.statements in omega (arith, s, count)) in
+    let fault : fault_at n (at version w ls) form ≡ None = rw none refl in
+    let later = processes_read version ps w (n + 1) (ls ++ (n, form) ∷ []) (table ++ k ∷ []) (done ++ p ∷ []) all rest outcome more.1 (table_push table done n p is) (append_assoc done (p ∷ []) ps ∙ whole) (fresh_push table k ps fresh.1 differ.0) differ.1 named.1 count go in
+    subst (λ (l : List ℕ). LeadsTo n (Some (at version w ls)) (lines l) outcome) (sym (append_assoc (process_line p) (flat_map process_line ps) rest))
+    (one_line version n (at version w ls) (at version w (ls ++ (n, form) ∷ [])) ((Word p.0 ∷ open_token ∷ Word p.1 ∷ Close ∷ []) ∷ []) form (flat_map process_line ps ++ rest) outcome (version_at version w ls) (process_says version p named.0.0 named.0.1) fault (put_process version w ls n p) later) where
+      stands : (w : Where) (ls : Lines) (p : List ℕ × List ℕ) → may_stand (at version w ls) (forms.Process p.0 p.1) ≡ true
       stands w ls p = refl
 
-      new_subnet : (w : Where) (ls : Lines) (p : List ℕ × List ℕ) → is_new_subnet (at w ls) (forms.Process p.0 p.1) ≡ true
+      new_subnet : (w : Where) (ls : Lines) (p : List ℕ × List ℕ) → is_new_subnet (at version w ls) (forms.Process p.0 p.1) ≡ true
       new_subnet w ls p = refl
 
 -- A statement may stand in a subnet, or it gives it no outer port.
@@ -181,58 +185,58 @@ abbrev pub MayStand : Where → Statement → Type 0
 MayStand (in_main done) s = IsInner s
 MayStand (in_subnet done n name) s = Unit {0}
 
-statement_stands : (w : Where) (ls : Lines) (s : Statement) → MayStand w s → may_stand (at w ls) (said_by s) ≡ true
-statement_stands (in_main done) ls (Connect from out capacity to into) may = refl
-statement_stands (in_main done) ls (Initial text to into) may = refl
-statement_stands (in_main done) ls (InPort outer to into) may = absurd may
-statement_stands (in_main done) ls (OutPort from out outer) may = absurd may
-statement_stands (in_subnet done n name) ls (Connect from out capacity to into) may = refl
-statement_stands (in_subnet done n name) ls (Initial text to into) may = refl
-statement_stands (in_subnet done n name) ls (InPort outer to into) may = refl
-statement_stands (in_subnet done n name) ls (OutPort from out outer) may = refl
+statement_stands : (version : ℕ) (w : Where) (ls : Lines) (s : Statement) (is : IsStatement version s) → MayStand w s → may_stand (at version w ls) (said_by version s is) ≡ true
+statement_stands version (in_main done) ls (Connect from out capacity to into) is may = refl
+statement_stands version (in_main done) ls (Initial text to into) is may = refl
+statement_stands version (in_main done) ls (InPort outer to into) is may = absurd may
+statement_stands version (in_main done) ls (OutPort from out outer) is may = absurd may
+statement_stands version (in_subnet done n name) ls (Connect from out capacity to into) is may = refl
+statement_stands version (in_subnet done n name) ls (Initial text to into) is may = refl
+statement_stands version (in_subnet done n name) ls (InPort outer to into) is may = refl
+statement_stands version (in_subnet done n name) ls (OutPort from out outer) is may = refl
 
-statement_new : (w : Where) (ls : Lines) (s : Statement) → is_new_subnet (at w ls) (said_by s) ≡ true
-statement_new w ls (Connect from out capacity to into) = refl
-statement_new w ls (Initial text to into) = refl
-statement_new w ls (InPort outer to into) = refl
-statement_new w ls (OutPort from out outer) = refl
+statement_new : (version : ℕ) (w : Where) (ls : Lines) (s : Statement) (is : IsStatement version s) → is_new_subnet (at version w ls) (said_by version s is) ≡ true
+statement_new version w ls (Connect from out capacity to into) is = refl
+statement_new version w ls (Initial text to into) is = refl
+statement_new version w ls (InPort outer to into) is = refl
+statement_new version w ls (OutPort from out outer) is = refl
 
-put_statement : (w : Where) (ls : Lines) (n : ℕ) (s : Statement) → with_line (at w ls) n (said_by s) ≡ at w (ls ++ (n, said_by s) ∷ [])
-put_statement (in_main done) ls n (Connect from out capacity to into) = refl
-put_statement (in_main done) ls n (Initial text to into) = refl
-put_statement (in_main done) ls n (InPort outer to into) = refl
-put_statement (in_main done) ls n (OutPort from out outer) = refl
-put_statement (in_subnet done m name) ls n (Connect from out capacity to into) = refl
-put_statement (in_subnet done m name) ls n (Initial text to into) = refl
-put_statement (in_subnet done m name) ls n (InPort outer to into) = refl
-put_statement (in_subnet done m name) ls n (OutPort from out outer) = refl
+put_statement : (version : ℕ) (w : Where) (ls : Lines) (n : ℕ) (s : Statement) (is : IsStatement version s) → with_line (at version w ls) n (said_by version s is) ≡ at version w (ls ++ (n, said_by version s is) ∷ [])
+put_statement version (in_main done) ls n (Connect from out capacity to into) is = refl
+put_statement version (in_main done) ls n (Initial text to into) is = refl
+put_statement version (in_main done) ls n (InPort outer to into) is = refl
+put_statement version (in_main done) ls n (OutPort from out outer) is = refl
+put_statement version (in_subnet done m name) ls n (Connect from out capacity to into) is = refl
+put_statement version (in_subnet done m name) ls n (Initial text to into) is = refl
+put_statement version (in_subnet done m name) ls n (InPort outer to into) is = refl
+put_statement version (in_subnet done m name) ls n (OutPort from out outer) is = refl
 
-statement_fault : (n : ℕ) (parts : Parts) (s : Statement) → reason_at parts (said_by s) ≡ None → fault_at n parts (said_by s) ≡ None
-statement_fault n parts (Connect from out capacity to into) none = rw none refl
-statement_fault n parts (Initial text to into) none = rw none refl
-statement_fault n parts (InPort outer to into) none = rw none refl
-statement_fault n parts (OutPort from out outer) none = rw none refl
+statement_fault : (version n : ℕ) (parts : Parts) (s : Statement) (is : IsStatement version s) → reason_at parts (said_by version s is) ≡ None → fault_at n parts (said_by version s is) ≡ None
+statement_fault version n parts (Connect from out capacity to into) is none = rw none refl
+statement_fault version n parts (Initial text to into) is none = rw none refl
+statement_fault version n parts (InPort outer to into) is none = rw none refl
+statement_fault version n parts (OutPort from out outer) is none = rw none refl
 
 -- The lines of statements, read one after another.
-pub statements_read : (ss : List Statement) (w : Where) (n : ℕ) (ls : Lines) (table : List MentionedProcess) (processes : List (List ℕ × List ℕ)) (done all : List Statement) (rest : List ℕ) (outcome : Result NetText NetFault)
-    → Made ls table done → IsTable table processes → done ++ ss ≡ all → AllByRecursion IsStatement ss → AllByRecursion (NamesKnown processes) ss → AllByRecursion (MayStand w) ss → length all + elsewhere w ≤ STATEMENT_LIMIT
-    → ((m : ℕ) (later : Lines) → Made later table all → LeadsTo m (Some (at w later)) (lines rest) outcome)
-    → LeadsTo n (Some (at w ls)) (lines (flat_map statement_line ss ++ rest)) outcome
-statements_read [] w n ls table processes done all rest outcome made is whole said known stand count go = go n ls (subst (λ (l : List Statement). Made ls table l) (sym (append-nil done) ∙ whole) made)
-statements_read (s ∷ ss) w n ls table processes done all rest outcome made is whole said known stand count go =
-    let form : Form = said_by s in
-    let same : table_with table n (mentions_of form) ≡ Some table = ap (table_with table n) (statement_mentions s) ∙ mentions_known (names_of s) table processes n is known.0 in
+pub statements_read : (version : ℕ) (ss : List Statement) (w : Where) (n : ℕ) (ls : Lines) (table : List MentionedProcess) (processes : List (List ℕ × List ℕ)) (done all : List Statement) (rest : List ℕ) (outcome : Result NetText NetFault)
+    → Made ls table done → IsTable table processes → done ++ ss ≡ all → AllByRecursion (IsStatement version) ss → AllByRecursion (NamesKnown processes) ss → AllByRecursion (MayStand w) ss → length all + elsewhere w ≤ STATEMENT_LIMIT
+    → ((m : ℕ) (later : Lines) → Made later table all → LeadsTo m (Some (at version w later)) (lines rest) outcome)
+    → LeadsTo n (Some (at version w ls)) (lines (flat_map statement_line ss ++ rest)) outcome
+statements_read version [] w n ls table processes done all rest outcome made is whole said known stand count go = go n ls (subst (λ (l : List Statement). Made ls table l) (sym (append-nil done) ∙ whole) made)
+statements_read version (s ∷ ss) w n ls table processes done all rest outcome made is whole said known stand count go =
+    let form : Form = said_by version s said.0 in
+    let same : table_with table n (mentions_of form) ≡ Some table = ap (table_with table n) (statement_mentions version s said.0) ∙ mentions_known (names_of s) table processes n is known.0 in
     let more = made_more ls table table done n form made same in
-    let again : statements_of form ≡ s ∷ [] = statement_again s said.0 in
+    let again : statements_of form ≡ s ∷ [] = statement_again version s said.0 in
     let long : length all ≡ length done + length (s ∷ ss) = ap length (sym whole) ∙ length-append done (s ∷ ss) in
     let so_far : length (statements_in ls) ≡ length done = ap length made.statements in
     let one : length (statements_of form) ≡ 1 = ap length again in
     let within : (length (statements_in ls) + elsewhere w) + length (statements_of form) ≤ STATEMENT_LIMIT = omega (arith, long, so_far, one, count) in
-    let none : reason_at (at w ls) form ≡ None = no_reason w ls form (statement_stands w ls s stand.0) (statement_named s said.0) (statement_numbered s said.0) more.0 (statement_new w ls s) (statement_fits s said.0) within in
+    let none : reason_at (at version w ls) form ≡ None = no_reason version w ls form (statement_stands version w ls s said.0 stand.0) (statement_named version s said.0) (statement_numbered version s said.0) more.0 (statement_new version w ls s said.0) (statement_fits version s said.0) within in
     let made_one : Made (ls ++ (n, form) ∷ []) table (done ++ s ∷ []) = subst (λ (l : List Statement). Made (ls ++ (n, form) ∷ []) table (done ++ l)) again more.1 in
-    let later = statements_read ss w (n + 1) (ls ++ (n, form) ∷ []) table processes (done ++ s ∷ []) all rest outcome made_one is (append_assoc done (s ∷ []) ss ∙ whole) said.1 known.1 stand.1 count go in
-    subst (λ (l : List ℕ). LeadsTo n (Some (at w ls)) (lines l) outcome) (sym (append_assoc (statement_line s) (flat_map statement_line ss) rest))
-    (one_line n (at w ls) (at w (ls ++ (n, form) ∷ [])) (statement_pieces s) form (flat_map statement_line ss ++ rest) outcome (statement_says s said.0) (statement_fault n (at w ls) s none) (put_statement w ls n s) later)
+    let later = statements_read version ss w (n + 1) (ls ++ (n, form) ∷ []) table processes (done ++ s ∷ []) all rest outcome made_one is (append_assoc done (s ∷ []) ss ∙ whole) said.1 known.1 stand.1 count go in
+    subst (λ (l : List ℕ). LeadsTo n (Some (at version w ls)) (lines l) outcome) (sym (append_assoc (statement_line s) (flat_map statement_line ss) rest))
+    (one_line version n (at version w ls) (at version w (ls ++ (n, form) ∷ [])) (statement_pieces s) form (flat_map statement_line ss ++ rest) outcome (version_at version w ls) (statement_says version s said.0) (statement_fault version n (at version w ls) s said.0 none) (put_statement version w ls n s said.0) later)
 
 fresh_first : (ps : List (List ℕ × List ℕ)) → Fresh [] ps
 fresh_first [] = tt
@@ -250,10 +254,10 @@ gives ls table part made is =
     record { value = ap (λ (p : List (List ℕ × List ℕ)). build p (statements_in ls)) left ∙ ap (build part.processes) made.statements; kinded = ap kindless_line made.known ∙ table_kinded table part.processes is }
 
 -- The lines of a part, read one after another.
-pub part_read : (part : NetPart) (w : Where) (n : ℕ) (rest : List ℕ) (outcome : Result NetText NetFault) → IsNetPart part → AllByRecursion (MayStand w) part.statements → length part.statements + elsewhere w ≤ STATEMENT_LIMIT
-    → ((m : ℕ) (later : Lines) → Gives later part → LeadsTo m (Some (at w later)) (lines rest) outcome) → LeadsTo n (Some (at w [])) (lines (part_lines part ++ rest)) outcome
-part_read part w n rest outcome is stand count go =
-    subst (λ (l : List ℕ). LeadsTo n (Some (at w [])) (lines l) outcome) (sym (append_assoc (flat_map process_line part.processes) (flat_map statement_line part.statements) rest))
-    (processes_read part.processes w n [] [] [] part.processes (flat_map statement_line part.statements ++ rest) outcome (record { known = refl; statements = refl }) tt refl (fresh_first part.processes) is.differ is.named (omega arith)
-    (λ m later table made same. statements_read part.statements w m later table part.processes [] part.statements rest outcome made same refl is.said is.known stand count
+pub part_read : (version : ℕ) (part : NetPart) (w : Where) (n : ℕ) (rest : List ℕ) (outcome : Result NetText NetFault) → IsNetPart version part → AllByRecursion (MayStand w) part.statements → length part.statements + elsewhere w ≤ STATEMENT_LIMIT
+    → ((m : ℕ) (later : Lines) → Gives later part → LeadsTo m (Some (at version w later)) (lines rest) outcome) → LeadsTo n (Some (at version w [])) (lines (part_lines part ++ rest)) outcome
+part_read version part w n rest outcome is stand count go =
+    subst (λ (l : List ℕ). LeadsTo n (Some (at version w [])) (lines l) outcome) (sym (append_assoc (flat_map process_line part.processes) (flat_map statement_line part.statements) rest))
+    (processes_read version part.processes w n [] [] [] part.processes (flat_map statement_line part.statements ++ rest) outcome (record { known = refl; statements = refl }) tt refl (fresh_first part.processes) is.differ is.named (omega arith)
+    (λ m later table made same. statements_read version part.statements w m later table part.processes [] part.statements rest outcome made same refl is.said is.known stand count
     (λ k last all. go k last (gives last table part all same))))

@@ -1,12 +1,14 @@
 -- A line is a row of tokens, or has a bad byte or an open quote.
-use Rattle.std.proofs.Common.{◌≡◌, ℕ, zero, suc, ◌+◌, ◌<◌, ◌≤◌, Bool, true, false, eqb, List, [], ◌∷◌, ◌++◌, length, take, drop, refl, sym, ap, subst, ◌∙◌, arith, length-append}
-use Rattle.std.specs.Prelude.{◌==◌}
+use Rattle.std.proofs.Common.{◌≡◌, ℕ, zero, suc, ◌+◌, ◌<◌, ◌≤◌, Bool, true, false, eqb, List, [], ◌∷◌, ◌++◌, length, take, drop, refl, sym, ap, subst, ◌∙◌, arith, length-append, ◌⊎◌, inl, inr}
+use Rattle.std.specs.Prelude.{◌==◌, codes, take_while}
+use Rattle.std.specs.Str.{bytes_eq}
 use Rattle.std.specs.List.{prefix_len}
-use Rattle.std.proofs.lemmas.Bool.{eqb-true, eqb-false}
+use Rattle.std.proofs.lemmas.Bool.{eqb-true, eqb-false, false≢true}
 use Rattle.std.proofs.lemmas.List.{append-nil, take-append-drop}
+use Rattle.std.proofs.lemmas.Slice.Eq.{bytes_eq-Decides}
 use Rattle.flow_parse.specs.declared.token.Token.{Token}
-use Rattle.flow_parse.specs.declared.token.Token.TheVariants.{Word, Arrow, Open, Close, OpenBracket, CloseBracket, Quoted}
-use Rattle.flow_parse.specs.Spelling.{is_blank, is_word_byte, Blank, doubled, spelling, DoesntBegin, Ends, Begins, IsRow, IsBadByte, HasBadByte, HasOpenQuote}
+use Rattle.flow_parse.specs.declared.token.Token.TheVariants.{Word, Arrow, Open, Close, OpenBracket, CloseBracket, AutomaticInput, AutomaticOutput, Quoted}
+use Rattle.flow_parse.specs.Spelling.{is_blank, is_word_byte, Blank, doubled, spelling, DoesntBegin, Ends, Begins, IsRow, NamesAutomatic, IsBadByte, HasBadByte, HasOpenQuote}
 use Rattle.flow_parse.proofs.Cutting.{passes_all, stops_after}
 
 -- Blanks, and what stands behind them.
@@ -56,28 +58,28 @@ quote (suc n) (b ∷ c ∷ cs) fits = by (eqb b 39) refl (eqb c 39) refl (quote 
   by false e w f one two = put_other b (c ∷ cs) e one
 
 -- What bytes begin with that are not empty and begin with no blank.
-data Cut (bytes : List ℕ) : Type 0 where
-  token : (t : Token) (rest : List ℕ) → bytes ≡ spelling t ++ rest → Ends t rest → length rest < length bytes → Cut bytes
-  bad : IsBadByte bytes → Cut bytes
-  quote_open : (text : List ℕ) → bytes ≡ 39 ∷ doubled text → Cut bytes
+data Cut (version : ℕ) (bytes : List ℕ) : Type 0 where
+  token : (t : Token) (rest : List ℕ) → bytes ≡ spelling t ++ rest → Ends version t rest → length rest < length bytes → Cut version bytes
+  bad : IsBadByte version bytes → Cut version bytes
+  quote_open : (text : List ℕ) → bytes ≡ 39 ∷ doubled text → Cut version bytes
 
 -- A token of one byte.
-cut_one : (t : Token) (b n : ℕ) (bs : List ℕ) → b ≡ n → spelling t ≡ n ∷ [] → Ends t bs → Cut (b ∷ bs)
-cut_one t b n bs e spelled ends = token t bs (ap (λ (x : ℕ). x ∷ bs) e ∙ ap (λ (l : List ℕ). l ++ bs) (sym spelled)) ends (omega arith)
+cut_one : (version : ℕ) (t : Token) (b n : ℕ) (bs : List ℕ) → b ≡ n → spelling t ≡ n ∷ [] → Ends version t bs → Cut version (b ∷ bs)
+cut_one version t b n bs e spelled ends = token t bs (ap (λ (x : ℕ). x ∷ bs) e ∙ ap (λ (l : List ℕ). l ++ bs) (sym spelled)) ends (omega arith)
 
-cut_quote : (b : ℕ) (bs : List ℕ) → b ≡ 39 → Quote bs → Cut (b ∷ bs)
-cut_quote b bs e (closed text rest parts ends) =
+cut_quote : (version : ℕ) (b : ℕ) (bs : List ℕ) → b ≡ 39 → Quote bs → Cut version (b ∷ bs)
+cut_quote version b bs e (closed text rest parts ends) =
     let whole : b ∷ bs ≡ spelling (Quoted text) ++ rest = ap (λ (x : ℕ). x ∷ bs) e ∙ ap (λ (l : List ℕ). 39 ∷ l) (parts ∙ sym (append_one (doubled text) rest)) in
     token (Quoted text) rest whole ends (let size = ap length parts ∙ length-append (doubled text) (39 ∷ rest) in omega (arith, size))
   where
     append_one : (xs ys : List ℕ) → (xs ++ 39 ∷ []) ++ ys ≡ xs ++ 39 ∷ ys
     append_one [] ys = refl
     append_one (x ∷ xs) ys = ap (λ (l : List ℕ). x ∷ l) (append_one xs ys)
-cut_quote b bs e (unclosed text parts) = quote_open text (ap (λ (x : ℕ). x ∷ bs) e ∙ ap (λ (l : List ℕ). 39 ∷ l) parts)
+cut_quote version b bs e (unclosed text parts) = quote_open text (ap (λ (x : ℕ). x ∷ bs) e ∙ ap (λ (l : List ℕ). 39 ∷ l) parts)
 
 -- A word is the longest run of its bytes.
-cut_word : (b : ℕ) (bs : List ℕ) → is_word_byte b ≡ true → Cut (b ∷ bs)
-cut_word b bs is =
+cut_word : (version : ℕ) (b : ℕ) (bs : List ℕ) → is_word_byte b ≡ true → Cut version (b ∷ bs)
+cut_word version b bs is =
     let k = prefix_len is_word_byte bs in
     token (Word (b ∷ take k bs)) (drop k bs) (ap (λ (l : List ℕ). b ∷ l) (sym (take-append-drop k bs)))
     ((λ e. cc), (is, passes_all is_word_byte bs), stops_after is_word_byte bs)
@@ -93,63 +95,91 @@ record Plain (b : ℕ) : Type 0 where
   close_bracket : eqb b 93 ≡ false
 
 -- A byte that begins no token.
-cut_bad : (b : ℕ) (bs : List ℕ) → Plain b → is_word_byte b ≡ false → (b ≡ 45 → DoesntBegin (λ c. c == 62) bs) → Cut (b ∷ bs)
-cut_bad b bs p word dash = bad (p.blank, word, eqb-false b 39 p.quote, eqb-false b 40 p.opens, eqb-false b 41 p.closes, eqb-false b 91 p.open_bracket, eqb-false b 93 p.close_bracket, dash)
+cut_bad : (version : ℕ) (b : ℕ) (bs : List ℕ) → Plain b → is_word_byte b ≡ false → (b ≡ 45 → DoesntBegin (λ c. c == 62) bs) → (version ≡ 2 → b ≡ 42 → NamesAutomatic bs → ⊥) → Cut version (b ∷ bs)
+cut_bad version b bs p word dash star = bad (p.blank, word, eqb-false b 39 p.quote, eqb-false b 40 p.opens, eqb-false b 41 p.closes, eqb-false b 91 p.open_bracket, eqb-false b 93 p.close_bracket, dash, star)
 
 -- A - before > is an arrow, and any other begins no token.
-cut_dash : (b : ℕ) (bs : List ℕ) → Plain b → b ≡ 45 → Cut (b ∷ bs)
-cut_dash b [] p e = cut_bad b [] p (ap is_word_byte e) (λ q. tt)
-cut_dash b (c ∷ cs) p e = by (eqb c 62) refl where
-  by : (v : Bool) → eqb c 62 ≡ v → Cut (b ∷ c ∷ cs)
+cut_dash : (version : ℕ) (b : ℕ) (bs : List ℕ) → Plain b → b ≡ 45 → Cut version (b ∷ bs)
+cut_dash version b [] p e = cut_bad version b [] p (ap is_word_byte e) (λ q. tt) (λ two star. absurd (omega (arith, e, star)))
+cut_dash version b (c ∷ cs) p e = by (eqb c 62) refl where
+  by : (v : Bool) → eqb c 62 ≡ v → Cut version (b ∷ c ∷ cs)
   by true f = token Arrow cs (ap (λ (x : ℕ). x ∷ c ∷ cs) e ∙ ap (λ (x : ℕ). 45 ∷ x ∷ cs) (eqb-true c 62 f)) tt (omega arith)
-  by false f = cut_bad b (c ∷ cs) p (ap is_word_byte e) (λ q. f)
+  by false f = cut_bad version b (c ∷ cs) p (ap is_word_byte e) (λ q. f) (λ two star. absurd (omega (arith, e, star)))
 
--- A - , a word, or a byte that begins no token.
-cut_plain : (b : ℕ) (bs : List ℕ) → Plain b → Cut (b ∷ bs)
-cut_plain b bs p = by (eqb b 45) refl (is_word_byte b) refl where
-  by : (d : Bool) → eqb b 45 ≡ d → (w : Bool) → is_word_byte b ≡ w → Cut (b ∷ bs)
-  by true d w word = cut_dash b bs p (eqb-true b 45 d)
-  by false d true word = cut_word b bs word
-  by false d false word = cut_bad b bs p word (λ q. absurd (eqb-false b 45 d q))
+-- Behind a * the run of bytes of words is this.
+starred : (version : ℕ) (b : ℕ) (bs : List ℕ) (t : Token) (word : List ℕ) → b ≡ 42 → spelling t ≡ 42 ∷ word → take_while is_word_byte bs ≡ word → Ends version t (drop (prefix_len is_word_byte bs) bs) → Cut version (b ∷ bs)
+starred version b bs t word e spelled run ends =
+    let k = prefix_len is_word_byte bs in
+    token t (drop k bs)
+    (ap (λ (x : ℕ). x ∷ bs) e ∙ ap (λ (l : List ℕ). 42 ∷ l) (sym (take-append-drop k bs) ∙ ap (λ (l : List ℕ). l ++ drop k bs) run) ∙ ap (λ (l : List ℕ). l ++ drop k bs) (sym spelled))
+    ends
+    (let size = ap length (take-append-drop k bs) in let sum = length-append (take k bs) (drop k bs) in omega (arith, size, sum))
 
-cut : (b : ℕ) (bs : List ℕ) → is_blank b ≡ false → Cut (b ∷ bs)
-cut b bs blank = by (eqb b 40) refl (eqb b 41) refl (eqb b 91) refl (eqb b 93) refl (eqb b 39) refl where
-  by : (o : Bool) → eqb b 40 ≡ o → (c : Bool) → eqb b 41 ≡ c → (l : Bool) → eqb b 91 ≡ l → (r : Bool) → eqb b 93 ≡ r → (q : Bool) → eqb b 39 ≡ q → Cut (b ∷ bs)
-  by true o c d l e r f q g = cut_one Open b 40 bs (eqb-true b 40 o) refl tt
-  by false o true d l e r f q g = cut_one Close b 41 bs (eqb-true b 41 d) refl tt
-  by false o false d true e r f q g = cut_one OpenBracket b 91 bs (eqb-true b 91 e) refl tt
-  by false o false d false e true f q g = cut_one CloseBracket b 93 bs (eqb-true b 93 f) refl tt
-  by false o false d false e false f true g = cut_quote b bs (eqb-true b 39 g) (quote (length bs) bs (omega arith))
-  by false o false d false e false f false g = cut_plain b bs (record { blank = blank; quote = g; opens = o; closes = d; open_bracket = e; close_bracket = f })
+-- In version 2 a * before the word of an automatic port is that port, and any other begins no token.
+cut_star : (version : ℕ) (b : ℕ) (bs : List ℕ) → Plain b → b ≡ 42 → Cut version (b ∷ bs)
+cut_star version b bs p e = by (eqb version 2) refl (bytes_eq (take_while is_word_byte bs) (codes "IN")) refl (bytes_eq (take_while is_word_byte bs) (codes "OUT")) refl where
+  run : List ℕ
+  run = take_while is_word_byte bs
+
+  none : (version ≡ 2 → NamesAutomatic bs → ⊥) → Cut version (b ∷ bs)
+  none never = cut_bad version b bs p (ap is_word_byte e) (λ dash. absurd (omega (arith, e, dash))) (λ two star. never two)
+
+  by : (two : Bool) → eqb version 2 ≡ two → (input : Bool) → bytes_eq run (codes "IN") ≡ input → (output : Bool) → bytes_eq run (codes "OUT") ≡ output → Cut version (b ∷ bs)
+  by false two input i output o = none (λ is. absurd (eqb-false version 2 two is))
+  by true two true i output o = starred version b bs AutomaticInput (codes "IN") e refl ((bytes_eq-Decides run (codes "IN")).0 i) (eqb-true version 2 two, stops_after is_word_byte bs)
+  by true two false i true o = starred version b bs AutomaticOutput (codes "OUT") e refl ((bytes_eq-Decides run (codes "OUT")).0 o) (eqb-true version 2 two, stops_after is_word_byte bs)
+  by true two false i false o = none (λ is names. neither names) where
+    neither : NamesAutomatic bs → ⊥
+    neither (inl is) = let t : bytes_eq run (codes "IN") ≡ true = (bytes_eq-Decides run (codes "IN")).1 is in false≢true (sym i ∙ t)
+    neither (inr is) = let t : bytes_eq run (codes "OUT") ≡ true = (bytes_eq-Decides run (codes "OUT")).1 is in false≢true (sym o ∙ t)
+
+-- A - , a *, a word, or a byte that begins no token.
+cut_plain : (version : ℕ) (b : ℕ) (bs : List ℕ) → Plain b → Cut version (b ∷ bs)
+cut_plain version b bs p = by (eqb b 45) refl (eqb b 42) refl (is_word_byte b) refl where
+  by : (d : Bool) → eqb b 45 ≡ d → (s : Bool) → eqb b 42 ≡ s → (w : Bool) → is_word_byte b ≡ w → Cut version (b ∷ bs)
+  by true d s star w word = cut_dash version b bs p (eqb-true b 45 d)
+  by false d true star w word = cut_star version b bs p (eqb-true b 42 star)
+  by false d false star true word = cut_word version b bs word
+  by false d false star false word = cut_bad version b bs p word (λ q. absurd (eqb-false b 45 d q)) (λ two q. absurd (eqb-false b 42 star q))
+
+cut : (version : ℕ) (b : ℕ) (bs : List ℕ) → is_blank b ≡ false → Cut version (b ∷ bs)
+cut version b bs blank = by (eqb b 40) refl (eqb b 41) refl (eqb b 91) refl (eqb b 93) refl (eqb b 39) refl where
+  by : (o : Bool) → eqb b 40 ≡ o → (c : Bool) → eqb b 41 ≡ c → (l : Bool) → eqb b 91 ≡ l → (r : Bool) → eqb b 93 ≡ r → (q : Bool) → eqb b 39 ≡ q → Cut version (b ∷ bs)
+  by true o c d l e r f q g = cut_one version Open b 40 bs (eqb-true b 40 o) refl tt
+  by false o true d l e r f q g = cut_one version Close b 41 bs (eqb-true b 41 d) refl tt
+  by false o false d true e r f q g = cut_one version OpenBracket b 91 bs (eqb-true b 91 e) refl tt
+  by false o false d false e true f q g = cut_one version CloseBracket b 93 bs (eqb-true b 93 f) refl tt
+  by false o false d false e false f true g = cut_quote version b bs (eqb-true b 39 g) (quote (length bs) bs (omega arith))
+  by false o false d false e false f false g = cut_plain version b bs (record { blank = blank; quote = g; opens = o; closes = d; open_bracket = e; close_bracket = f })
 
 -- What the tokens of a line are.
-pub data Row (line : List ℕ) : Type 0 where
-  row : (tokens : List Token) → IsRow line tokens → Row line
-  bad_byte : HasBadByte line → Row line
-  open_quote : HasOpenQuote line → Row line
+pub data Row (version : ℕ) (line : List ℕ) : Type 0 where
+  row : (tokens : List Token) → IsRow version line tokens → Row version line
+  bad_byte : HasBadByte version line → Row version line
+  open_quote : HasOpenQuote version line → Row version line
 
 -- One more token before the others.
-with_token : (line : List ℕ) (t : Token) (rest : List ℕ) → Begins line t rest → Row rest → Row line
-with_token line t rest begins (row ts is) = row (t ∷ ts) (is.0, (rest, begins, is.1), is.2)
-with_token line t rest begins (bad_byte h) = bad_byte (record { tokens = t ∷ h.tokens; rest = h.rest; blanks = h.blanks; bad = h.bad; row = (rest, begins, h.row); parts = h.parts; are_blank = h.are_blank; is_bad = h.is_bad })
-with_token line t rest begins (open_quote h) = open_quote (record { tokens = t ∷ h.tokens; rest = h.rest; blanks = h.blanks; text = h.text; row = (rest, begins, h.row); parts = h.parts; are_blank = h.are_blank })
+with_token : (version : ℕ) (line : List ℕ) (t : Token) (rest : List ℕ) → Begins version line t rest → Row version rest → Row version line
+with_token version line t rest begins (row ts is) = row (t ∷ ts) (is.0, (rest, begins, is.1), is.2)
+with_token version line t rest begins (bad_byte h) = bad_byte (record { tokens = t ∷ h.tokens; rest = h.rest; blanks = h.blanks; bad = h.bad; row = (rest, begins, h.row); parts = h.parts; are_blank = h.are_blank; is_bad = h.is_bad })
+with_token version line t rest begins (open_quote h) = open_quote (record { tokens = t ∷ h.tokens; rest = h.rest; blanks = h.blanks; text = h.text; row = (rest, begins, h.row); parts = h.parts; are_blank = h.are_blank })
 
-of_cut : (line : List ℕ) (s : Stripped line) → Cut s.rest → ((rest : List ℕ) → length rest < length s.rest → Row rest) → Row line
-of_cut line s (token t rest parts ends less) more = with_token line t rest (record { blanks = s.blanks; are_blank = s.are_blank; parts = s.parts ∙ ap (λ (l : List ℕ). s.blanks ++ l) parts; ends = ends }) (more rest less)
-of_cut line s (bad is) more = bad_byte (record { tokens = []; rest = line; blanks = s.blanks; bad = s.rest; row = refl; parts = s.parts; are_blank = s.are_blank; is_bad = is })
-of_cut line s (quote_open text parts) more = open_quote (record { tokens = []; rest = line; blanks = s.blanks; text = text; row = refl; parts = s.parts ∙ ap (λ (l : List ℕ). s.blanks ++ l) parts; are_blank = s.are_blank })
+of_cut : (version : ℕ) (line : List ℕ) (s : Stripped line) → Cut version s.rest → ((rest : List ℕ) → length rest < length s.rest → Row version rest) → Row version line
+of_cut version line s (token t rest parts ends less) more = with_token version line t rest (record { blanks = s.blanks; are_blank = s.are_blank; parts = s.parts ∙ ap (λ (l : List ℕ). s.blanks ++ l) parts; ends = ends }) (more rest less)
+of_cut version line s (bad is) more = bad_byte (record { tokens = []; rest = line; blanks = s.blanks; bad = s.rest; row = refl; parts = s.parts; are_blank = s.are_blank; is_bad = is })
+of_cut version line s (quote_open text parts) more = open_quote (record { tokens = []; rest = line; blanks = s.blanks; text = text; row = refl; parts = s.parts ∙ ap (λ (l : List ℕ). s.blanks ++ l) parts; are_blank = s.are_blank })
 
-of_rest : (line : List ℕ) (s : Stripped line) (r : List ℕ) → s.rest ≡ r → ((rest : List ℕ) → length rest < length s.rest → Row rest) → Row line
-of_rest line s [] e more = row [] (line, refl, subst Blank (sym (s.parts ∙ ap (λ (l : List ℕ). s.blanks ++ l) e ∙ append-nil s.blanks)) s.are_blank)
-of_rest line s (b ∷ bs) e more = of_cut line s (subst Cut (sym e) (cut b bs (subst (DoesntBegin is_blank) e s.stops))) more
+of_rest : (version : ℕ) (line : List ℕ) (s : Stripped line) (r : List ℕ) → s.rest ≡ r → ((rest : List ℕ) → length rest < length s.rest → Row version rest) → Row version line
+of_rest version line s [] e more = row [] (line, refl, subst Blank (sym (s.parts ∙ ap (λ (l : List ℕ). s.blanks ++ l) e ∙ append-nil s.blanks)) s.are_blank)
+of_rest version line s (b ∷ bs) e more = of_cut version line s (subst (Cut version) (sym e) (cut version b bs (subst (DoesntBegin is_blank) e s.stops))) more
 
 no_longer : (line : List ℕ) (s : Stripped line) → length s.rest ≤ length line
 no_longer line s = let size = ap length s.parts ∙ length-append s.blanks s.rest in omega (arith, size)
 
-read : (n : ℕ) (line : List ℕ) → length line < n → Row line
-read zero line fits = absurd (omega (arith, fits))
-read (suc n) line fits = let s = strip line in let whole = no_longer line s in of_rest line s s.rest refl (λ rest less. read n rest (omega (arith, fits, less, whole)))
+read : (version : ℕ) (n : ℕ) (line : List ℕ) → length line < n → Row version line
+read version zero line fits = absurd (omega (arith, fits))
+read version (suc n) line fits = let s = strip line in let whole = no_longer line s in of_rest version line s s.rest refl (λ rest less. read version n rest (omega (arith, fits, less, whole)))
 
 -- Any line is a row of tokens, or has a bad byte or an open quote.
-pub some_row : (line : List ℕ) → Row line
-some_row line = read (length line + 1) line (omega arith)
+pub some_row : (version : ℕ) (line : List ℕ) → Row version line
+some_row version line = read version (length line + 1) line (omega arith)

@@ -20,7 +20,7 @@ line pieces = join_with_byte 32 (map (flat_map spelling) pieces) ++ 10 ∷ []
 abbrev pub word : List ℕ → List Token
 word w = Word w ∷ []
 
--- A port with its element, where it has one.
+-- A port with its element, where it has one. An automatic port is spelled as it is named.
 abbrev pub port_piece : PortRef → List Token
 port_piece p = port (record { name = p.name; element = option_map decimal p.element })
 
@@ -35,6 +35,10 @@ statement_pieces (Connect from out capacity to into) = word from ∷ port_piece 
 statement_pieces (Initial text to into) = (Quoted text ∷ []) ∷ (Arrow ∷ []) ∷ port_piece into ∷ word to ∷ []
 statement_pieces (InPort outer to into) = word (codes "inport") ∷ word outer ∷ (Arrow ∷ []) ∷ port_piece into ∷ word to ∷ []
 statement_pieces (OutPort from out outer) = word (codes "outport") ∷ word from ∷ port_piece out ∷ (Arrow ∷ []) ∷ word outer ∷ []
+
+-- The line of a header.
+abbrev pub header_line : ℕ → List ℕ
+header_line version = line (word (codes "flow") ∷ word (decimal version) ∷ [])
 
 -- The line of a process with its kind, given by its name and its kind.
 abbrev pub process_line : List ℕ × List ℕ → List ℕ
@@ -54,4 +58,4 @@ subnet_lines s = line (word (codes "subnet") ∷ word s.0 ∷ []) ++ part_lines 
 
 -- The header, the subnets in their order, and the lines of the main part.
 abbrev pub canonical : NetText → List ℕ
-canonical v = line (word (codes "flow") ∷ word (codes "1") ∷ []) ++ flat_map subnet_lines v.subnets ++ part_lines v.main
+canonical v = header_line v.version ++ flat_map subnet_lines v.subnets ++ part_lines v.main

@@ -7,6 +7,8 @@ use Rattle.std.specs.List.{flat_map, list_any, sum_by}
 use Rattle.flow_parse.specs.declared.token.Token.{Token}
 use Rattle.flow_parse.specs.declared.form.Mention.{Mention}
 use Rattle.flow_parse.specs.declared.form.PortMention.{PortMention}
+use Rattle.flow_parse.specs.declared.form.EndMention.{EndMention}
+use Rattle.flow_parse.specs.declared.form.EndMention.TheVariants.{Port, Automatic}
 use Rattle.flow_parse.specs.declared.form.Form.{Form}
 use Rattle.flow_parse.specs.declared.form.Form.TheVariants.{Header, Process, Connection, Initial, Subnet, End, InPort, OutPort}
 use Rattle.flow_parse.specs.declared.part.MentionedProcess.{MentionedProcess}
@@ -16,6 +18,7 @@ use Rattle.flow_parse.specs.declared.fault.Reason.{Reason}
 use Rattle.flow_parse.specs.declared.fault.Reason.TheVariants as reasons
 use Rattle.flow_parse.specs.declared.fault.NetFault.{NetFault}
 use Rattle.flow_plan.specs.declared.kind.PortRef.{PortRef}
+use Rattle.flow_plan.specs.Network.{automatic_input, automatic_output}
 use Rattle.flow_parse.specs.declared.value.Statement.{Statement}
 use Rattle.flow_parse.specs.declared.value.Statement.TheVariants as statement
 use Rattle.flow_parse.specs.declared.value.NetPart.{NetPart}
@@ -39,24 +42,24 @@ pub data Said : Type 0 where
   says : Form → Said
   wrong : Reason → Said
 
--- A line says a form where it is a row of tokens that spells it. One that is no remark is wrong where it has a bad byte or an open
--- quote, or is a row that spells no form.
-abbrev pub LineIs : List ℕ → Said → Type 0
-LineIs line remark = IsRemark line
-LineIs line (says form) = (row : List Token) × IsRow line row × IsForm row form
-LineIs line (wrong reasons.Byte) = (IsRemark line → ⊥) × HasBadByte line
-LineIs line (wrong reasons.Quote) = (IsRemark line → ⊥) × HasOpenQuote line
-LineIs line (wrong reasons.Form) = (IsRemark line → ⊥) × (row : List Token) × IsRow line row × ((form : Form) → IsForm row form → ⊥)
-LineIs line (wrong _) = ⊥
+-- In a file of this version a line says a form where it is a row of tokens that spells it. One that is no remark is wrong where it has a
+-- bad byte or an open quote, or is a row that spells no form.
+abbrev pub LineIs : ℕ → List ℕ → Said → Type 0
+LineIs version line remark = IsRemark line
+LineIs version line (says form) = (row : List Token) × IsRow version line row × IsForm row form
+LineIs version line (wrong reasons.Byte) = (IsRemark line → ⊥) × HasBadByte version line
+LineIs version line (wrong reasons.Quote) = (IsRemark line → ⊥) × HasOpenQuote version line
+LineIs version line (wrong reasons.Form) = (IsRemark line → ⊥) × (row : List Token) × IsRow version line row × ((form : Form) → IsForm row form → ⊥)
+LineIs version line (wrong _) = ⊥
 
 -- What reading a line answers is what it is.
-abbrev pub Tells : List ℕ → Result (Option Form) LineStop → Type 0
-Tells line (Ok None) = LineIs line remark
-Tells line (Ok (Some form)) = LineIs line (says form)
-Tells line (Err stops.Byte) = LineIs line (wrong reasons.Byte)
-Tells line (Err stops.Quote) = LineIs line (wrong reasons.Quote)
-Tells line (Err stops.Form) = LineIs line (wrong reasons.Form)
-Tells line (Err stops.NoMemory) = Unit {0}
+abbrev pub Tells : ℕ → List ℕ → Result (Option Form) LineStop → Type 0
+Tells version line (Ok None) = LineIs version line remark
+Tells version line (Ok (Some form)) = LineIs version line (says form)
+Tells version line (Err stops.Byte) = LineIs version line (wrong reasons.Byte)
+Tells version line (Err stops.Quote) = LineIs version line (wrong reasons.Quote)
+Tells version line (Err stops.Form) = LineIs version line (wrong reasons.Form)
+Tells version line (Err stops.NoMemory) = Unit {0}
 
 -- Lines with their numbers.
 abbrev pub Lines : Type 0
@@ -68,15 +71,17 @@ pub record Open : Type 0 where
   pub name : List ℕ
   pub lines : Lines
 
--- What stands before a line: the lines of the main part, the subnets that have ended, and the one that has begun.
+-- What stands before a line: the version that the header says, the lines of the main part, the subnets that have ended, and the one that
+-- has begun.
 pub record Parts : Type 0 where
+  pub version : ℕ
   pub main : Lines
   pub subnets : List (List ℕ × Lines)
   pub open_part : Option Open
 
 -- No part has a line yet.
-abbrev pub nothing : Parts
-nothing = record { main = []; subnets = []; open_part = None }
+abbrev pub nothing : ℕ → Parts
+nothing version = record { version = version; main = []; subnets = []; open_part = None }
 
 -- A line goes to the subnet that has begun, or else to the main part.
 abbrev pub put_into : Parts → Option Open → (ℕ × Form) → Parts
@@ -147,9 +152,19 @@ kinds_agree before (m ∷ ms) = may_be (kind_in m.name before) m.kind && kinds_a
 abbrev pub port_ref : PortMention → PortRef
 port_ref p = record { name = p.name; element = option_and_then element_of p.element }
 
+-- What a connection names as its output: a port, or the automatic one.
+abbrev pub output_ref : EndMention → PortRef
+output_ref (Port p) = port_ref p
+output_ref Automatic = automatic_output
+
+-- What it names as its input.
+abbrev pub input_ref : EndMention → PortRef
+input_ref (Port p) = port_ref p
+input_ref Automatic = automatic_input
+
 -- The statement that a line adds to its part, where it is one.
 abbrev pub statements_of : Form → List Statement
-statements_of (Connection from out capacity into to) = statement.Connect from.name (port_ref out) (option_and_then capacity_of capacity) to.name (port_ref into) ∷ []
+statements_of (Connection from out capacity into to) = statement.Connect from.name (output_ref out) (option_and_then capacity_of capacity) to.name (input_ref into) ∷ []
 statements_of (Initial text into to) = statement.Initial text to.name (port_ref into) ∷ []
 statements_of (InPort outer into to) = statement.InPort outer to.name (port_ref into) ∷ []
 statements_of (OutPort from out outer) = statement.OutPort from.name (port_ref out) outer ∷ []
@@ -173,7 +188,7 @@ first_failing (t ∷ ts) = if t.0 then first_failing ts else Some t.1
 
 -- A header stands nowhere but first; a subnet begins in the main part; an end and outer ports stand in a subnet.
 abbrev pub may_stand : Parts → Form → Bool
-may_stand parts Header = false
+may_stand parts (Header version) = false
 may_stand parts (Subnet name) = is_none parts.open_part
 may_stand parts End = is_some parts.open_part
 may_stand parts (InPort outer into to) = is_some parts.open_part
@@ -199,7 +214,7 @@ abbrev pub reason_at : Parts → Form → Option Reason
 reason_at before form = first_failing (
     (may_stand before form, reasons.Form)
     ∷ (is_named form, reasons.Name)
-    ∷ (is_numbered form, reasons.Number)
+    ∷ (is_numbered before.version form, reasons.Number)
     ∷ (kinds_agree (map (λ k. k.1) (mentions_in (lines_now before))) (mentions_of form), reasons.Kind)
     ∷ (is_new_subnet before form, reasons.Subnet)
     ∷ (is_within_limits before form, reasons.Limit)
@@ -229,7 +244,7 @@ or_fault (Some fault) x = Err fault
 -- What the line number n makes of what stands before it: nothing yet but remarks, or the header and parts.
 abbrev pub after : ℕ → Option Parts → Said → Result (Option Parts) NetFault
 after n before remark = Ok before
-after n None (says Header) = Ok (Some nothing)
+after n None (says (Header version)) = Ok (Some (nothing version))
 after n None _ = Err (record { line = n; reason = reasons.Header })
 after n (Some parts) (wrong reason) = Err (record { line = n; reason = reason })
 after n (Some parts) (says form) = or_fault (fault_at n parts form) (Some (with_line parts n form))
@@ -240,12 +255,17 @@ at_end n None = Err (record { line = n; reason = reasons.Header })
 at_end n (Some parts) = of_open parts.open_part where
   of_open : Option Open → Result NetText NetFault
   of_open (Some o) = Err (record { line = o.line; reason = reasons.Subnet })
-  of_open None = or_fault (ended parts.main) (record { version = 1; subnets = map (λ s. (s.0, value_of s.1)) parts.subnets; main = value_of parts.main })
+  of_open None = or_fault (ended parts.main) (record { version = parts.version; subnets = map (λ s. (s.0, value_of s.1)) parts.subnets; main = value_of parts.main })
+
+-- The version by which the next line is read: before the header it is the first.
+abbrev pub version_of : Option Parts → ℕ
+version_of None = 1
+version_of (Some parts) = parts.version
 
 -- The lines from number n on lead to this outcome: the value, or the fault of the first line that has one.
 abbrev pub LeadsTo : ℕ → Option Parts → List (List ℕ) → Result NetText NetFault → Type 0
 LeadsTo n before [] outcome = at_end n before ≡ outcome
-LeadsTo n before (line ∷ more) outcome = (said : Said) × LineIs line said
+LeadsTo n before (line ∷ more) outcome = (said : Said) × LineIs (version_of before) line said
     × MatchResult (after n before said) (λ parts. LeadsTo (n + 1) parts more outcome) (λ fault. outcome ≡ Err fault)
 
 -- The bytes spell the value.
@@ -258,7 +278,7 @@ Refused bytes fault = LeadsTo 1 None (lines bytes) (Err fault)
 
 -- What belongs to its part, unlike a header, a subnet's line and an end.
 abbrev pub IsAdded : Form → Type 0
-IsAdded Header = ⊥
+IsAdded (Header version) = ⊥
 IsAdded (Subnet name) = ⊥
 IsAdded End = ⊥
 IsAdded _ = Unit {0}

@@ -10,7 +10,7 @@ use Rattle.flow_parse.specs.declared.value.NetText.{NetText}
 use Rattle.flow_parse.specs.declared.reader.Part.{Part}
 use Rattle.flow_parse.specs.declared.reader.OpenPart.{OpenPart}
 use Rattle.flow_parse.specs.declared.reader.Reader.{Reader}
-use Rattle.flow_parse.specs.Files.{Lines, Open, Parts, nothing, Said, says, LineIs, mentions_in, processes_in, statements_in, statement_count, value_of, after, kinds_agree, mentions_of, lines_now, IsAdded, ended, may_stand, fault_at, reason_at, with_line}
+use Rattle.flow_parse.specs.Files.{Lines, Open, Parts, nothing, Said, says, LineIs, version_of, mentions_in, processes_in, statements_in, statement_count, value_of, after, kinds_agree, mentions_of, lines_now, IsAdded, ended, may_stand, fault_at, reason_at, with_line}
 use Rattle.flow_parse.specs.declared.form.Form.TheVariants.{Header}
 use Rattle.flow_parse.specs.declared.stop.LineStop.{LineStop}
 use Rattle.flow_parse.specs.declared.stop.LineStop.TheVariants as line_stops
@@ -32,6 +32,7 @@ IsOpen _ _ = ⊥
 -- The reader, behind the header, has read these parts.
 pub record HasRead (reader : Reader) (parts : Parts) : Type 0 where
   pub headed : reader.headed ≡ true
+  pub version : reader.version ≡ parts.version
   pub main : IsPart reader.main parts.main
   pub subnets : reader.subnets ≡ map (λ s. (s.0, value_of s.1)) parts.subnets
   pub open_part : IsOpen reader.open_part parts.open_part
@@ -40,13 +41,13 @@ pub record HasRead (reader : Reader) (parts : Parts) : Type 0 where
 
 -- The reader stands for what comes before the next line.
 abbrev pub Stands : Reader → Option Parts → Type 0
-Stands reader None = (reader.headed ≡ false) × HasRead (record reader { headed = true }) nothing
+Stands reader None = (reader.headed ≡ false) × HasRead (record reader { headed = true }) (nothing 1)
 Stands reader (Some parts) = HasRead reader parts
 
--- The header says flow 1.
-abbrev pub is_header : Form → Bool
-is_header Header = true
-is_header _ = false
+-- The version that a header says.
+abbrev pub version_in : Form → Option ℕ
+version_in (Header version) = Some version
+version_in _ = None
 
 -- The reason for which a line that says nothing is refused.
 abbrev pub reason_of : LineStop → Reason
@@ -68,8 +69,8 @@ Heeds old n form new (Err stops.NoMemory) = Unit {0}
 
 -- For each thing that the reader stood for: the line is something, and this is what comes after it.
 abbrev pub Reads : Reader → ℕ → List ℕ → Reader → Result (Unit {0}) ParseStop → Type 0
-Reads old n line new (Ok u) = (before : Option Parts) → Stands old before → (said : Said) × (next : Option Parts) × LineIs line said × (after n before said ≡ Ok next) × Stands new next
-Reads old n line new (Err (stops.Fault fault)) = (before : Option Parts) → Stands old before → (said : Said) × LineIs line said × (after n before said ≡ Err fault)
+Reads old n line new (Ok u) = (before : Option Parts) → Stands old before → (said : Said) × (next : Option Parts) × LineIs (version_of before) line said × (after n before said ≡ Ok next) × Stands new next
+Reads old n line new (Err (stops.Fault fault)) = (before : Option Parts) → Stands old before → (said : Said) × LineIs (version_of before) line said × (after n before said ≡ Err fault)
 Reads old n line new (Err stops.NoMemory) = Unit {0}
 
 -- Adding a line to a part: false where a process gets a second kind.
@@ -80,6 +81,7 @@ AddsLine old n form new false = (lines : Lines) → IsPart old lines → kinds_a
 -- The reader has read these parts, whatever it counts.
 pub record HasParts (reader : Reader) (parts : Parts) : Type 0 where
   pub headed : reader.headed ≡ true
+  pub version : reader.version ≡ parts.version
   pub main : IsPart reader.main parts.main
   pub subnets : reader.subnets ≡ map (λ s. (s.0, value_of s.1)) parts.subnets
   pub open_part : IsOpen reader.open_part parts.open_part
@@ -98,7 +100,7 @@ Finishes part (Err n) = (lines : Lines) → IsPart part lines → ended lines �
 
 -- Taking what the line number n says, where it may stand and its names and numbers are right.
 abbrev pub Passes : Parts → Form → Type 0
-Passes parts form = (may_stand parts form ≡ true) × (is_named form ≡ true) × (is_numbered form ≡ true)
+Passes parts form = (may_stand parts form ≡ true) × (is_named form ≡ true) × (is_numbered parts.version form ≡ true)
 
 -- The reason is the first for which the line is refused, or the line may stand here and is said well.
 abbrev pub RefusesFor : Option Reason → Parts → Form → Type 0

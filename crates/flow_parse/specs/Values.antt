@@ -1,15 +1,16 @@
 -- Which values are values of files.
-use Rattle.flow_limits.specs.declared.TheConstants.{CAPACITY_LIMIT, LAST_ELEMENT, STATEMENT_LIMIT, TEXT_LIMIT}
-use Rattle.std.specs.Prelude.{◌≡◌, ◌≢◌, ℕ, ◌+◌, ◌≤◌, List, [], ◌∷◌, map, length, Option, Some, None, true, false}
+use Rattle.flow_limits.specs.declared.TheConstants.{LAST_ELEMENT, STATEMENT_LIMIT, TEXT_LIMIT}
+use Rattle.std.specs.Prelude.{◌≡◌, ◌≢◌, ℕ, ◌+◌, ◌≤◌, List, [], ◌∷◌, map, length, Option, Some, None, true, false, ◌⊎◌}
 use Rattle.std.specs.Str.{bytes_eq}
 use Rattle.std.specs.List.{AllByRecursion, list_any, sum_by}
 use Rattle.flow_plan.specs.declared.kind.PortRef.{PortRef}
+use Rattle.flow_plan.specs.Network.{automatic_input, automatic_output}
 use Rattle.flow_parse.specs.declared.value.Statement.{Statement}
 use Rattle.flow_parse.specs.declared.value.Statement.TheVariants.{Connect, Initial, InPort, OutPort}
 use Rattle.flow_parse.specs.declared.value.NetPart.{NetPart}
 use Rattle.flow_parse.specs.declared.value.NetText.{NetText}
 use Rattle.flow_parse.specs.Spelling.{is_word_byte}
-use Rattle.flow_parse.specs.Names.{is_name}
+use Rattle.flow_parse.specs.Names.{is_name, capacity_limit}
 
 -- A name is made of letters, digits and _, begins with a letter, has at most 64 bytes and is not reserved.
 abbrev pub IsName : List ℕ → Type 0
@@ -24,16 +25,29 @@ IsWithin least most (Some n) = (least ≤ n) × (n ≤ most)
 abbrev pub IsPort : PortRef → Type 0
 IsPort port = IsName port.name × IsWithin 0 LAST_ELEMENT port.element
 
+-- What a connection names in a file of this version: a port, or in version 2 the automatic one.
+abbrev pub IsOneEnd : ℕ → PortRef → PortRef → Type 0
+IsOneEnd version automatic port = IsPort port ⊎ ((version ≡ 2) × (port ≡ automatic))
+
+-- An output that a connection names.
+abbrev pub IsOutput : ℕ → PortRef → Type 0
+IsOutput version port = IsOneEnd version automatic_output port
+
+-- An input that a connection names.
+abbrev pub IsInput : ℕ → PortRef → Type 0
+IsInput version port = IsOneEnd version automatic_input port
+
 -- A text that stands within one line: no byte 10, and at most TEXT_LIMIT bytes.
 abbrev pub IsQuotable : List ℕ → Type 0
 IsQuotable text = AllByRecursion (λ b. b ≢ 10) text × (length text ≤ TEXT_LIMIT)
 
--- Each word of a statement is a name, its elements and its capacity lie within their bounds, and its text stands within one line.
-abbrev pub IsStatement : Statement → Type 0
-IsStatement (Connect from out capacity to into) = IsName from × IsPort out × IsWithin 1 CAPACITY_LIMIT capacity × IsName to × IsPort into
-IsStatement (Initial text to into) = IsQuotable text × IsName to × IsPort into
-IsStatement (InPort outer to into) = IsName outer × IsName to × IsPort into
-IsStatement (OutPort from out outer) = IsName from × IsPort out × IsName outer
+-- Each word of a statement is a name, its elements and its capacity lie within their bounds, those of this version, and its text stands
+-- within one line.
+abbrev pub IsStatement : ℕ → Statement → Type 0
+IsStatement version (Connect from out capacity to into) = IsName from × IsOutput version out × IsWithin 1 (capacity_limit version) capacity × IsName to × IsInput version into
+IsStatement version (Initial text to into) = IsQuotable text × IsName to × IsPort into
+IsStatement version (InPort outer to into) = IsName outer × IsName to × IsPort into
+IsStatement version (OutPort from out outer) = IsName from × IsPort out × IsName outer
 
 -- The processes that a statement names.
 abbrev pub names_of : Statement → List (List ℕ)
@@ -58,17 +72,17 @@ abbrev pub NamesKnown : List (List ℕ × List ℕ) → Statement → Type 0
 NamesKnown processes statement = AllByRecursion (λ name. list_any (λ (p : List ℕ × List ℕ). bytes_eq p.0 name) processes ≡ true) (names_of statement)
 
 -- A part has processes with different names, each with a kind that is a name, and statements of them alone.
-pub record IsNetPart (part : NetPart) : Type 0 where
+pub record IsNetPart (version : ℕ) (part : NetPart) : Type 0 where
   pub named : AllByRecursion (λ (p : List ℕ × List ℕ). IsName p.0 × IsName p.1) part.processes
   pub differ : Differ (map (λ p. p.0) part.processes)
-  pub said : AllByRecursion IsStatement part.statements
+  pub said : AllByRecursion (IsStatement version) part.statements
   pub known : AllByRecursion (NamesKnown part.processes) part.statements
 
--- A value has version 1, subnets under different names, no outer port in its main part, and at most STATEMENT_LIMIT statements in all.
+-- A value has version 1 or 2, subnets under different names, no outer port in its main part, and at most STATEMENT_LIMIT statements in all.
 pub record IsNetText (value : NetText) : Type 0 where
-  pub version : value.version ≡ 1
-  pub subnets : AllByRecursion (λ (s : List ℕ × NetPart). IsName s.0 × IsNetPart s.1) value.subnets
+  pub version : (value.version ≡ 1) ⊎ (value.version ≡ 2)
+  pub subnets : AllByRecursion (λ (s : List ℕ × NetPart). IsName s.0 × IsNetPart value.version s.1) value.subnets
   pub differ : Differ (map (λ s. s.0) value.subnets)
-  pub main : IsNetPart value.main
+  pub main : IsNetPart value.version value.main
   pub inner : AllByRecursion IsInner value.main.statements
   pub count : length value.main.statements + sum_by (λ (s : List ℕ × NetPart). length s.1.statements) value.subnets ≤ STATEMENT_LIMIT

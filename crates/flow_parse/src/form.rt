@@ -15,19 +15,28 @@ pub struct PortMention {
     pub element: Option<Text>,
 }
 
+/// A port where a connection names it: one of the process's kind, or the automatic one.
+#[derive(Drop)]
+pub enum EndMention {
+    Port(PortMention),
+    Automatic,
+}
+
 /// What a line says.
 #[derive(Drop)]
 pub enum Form {
-    Header,
+    Header {
+        version: u32,
+    },
     Process {
         name: Text,
         kind: Text,
     },
     Connection {
         from: Mention,
-        out: PortMention,
+        out: EndMention,
         capacity: Option<Text>,
-        into: PortMention,
+        into: EndMention,
         to: Mention,
     },
     Initial {

@@ -1,10 +1,11 @@
 //! A line, cut into tokens.
 ghost use Rattle.std.specs.Prelude.{◌≡◌, ℕ, List, ◌∷◌, ◌++◌, ◌<◌, ◌==◌, false, drop, length, take_while, MatchOption, IfOk, IsTrue, ◌↔◌};
 ghost use Rattle.flow_parse.specs.Files.{IsRemark, Tells};
-ghost use Rattle.flow_parse.specs.Spelling.{is_blank, is_word_byte, doubled, Blank, DoesntBegin, Cuts, Takes, Reads};
+ghost use Rattle.flow_parse.specs.Spelling.{is_blank, is_word_byte, doubled, Blank, DoesntBegin, CutsAutomatic, Cuts, Takes, Reads};
 
 use crate::form::Form;
 use crate::row::Row;
+use crate::same::are;
 use crate::stop::LineStop;
 use crate::token::Token;
 use flow_items::Text;
@@ -64,11 +65,26 @@ fn quoted<'a>(alloc: Global, bytes: &'a [u8]) -> Result<Option<(Text, &'a [u8])>
     Ok(None)
 }
 
-/// Cuts off the token that begins here.
-fn cut<'a>(alloc: Global, bytes: &'a [u8]) -> Result<(Token, &'a [u8]), LineStop>
+/// The automatic port that a `*` with these bytes behind it is, and what is left of them.
+fn automatic(bytes: &[u8]) -> Option<(Token, &[u8])>
+    ensures { CutsAutomatic bytes.now result }
+{
+    let n = word_len(bytes);
+    let name = &bytes[..n];
+    if are(name, b"IN") {
+        return Some((Token::AutomaticInput, &bytes[n..]));
+    }
+    if are(name, b"OUT") {
+        return Some((Token::AutomaticOutput, &bytes[n..]));
+    }
+    None
+}
+
+/// Cuts off the token that begins here, in a file of this version.
+fn cut<'a>(alloc: Global, version: u32, bytes: &'a [u8]) -> Result<(Token, &'a [u8]), LineStop>
     requires some { 0 < length bytes.now }
     requires not_blank { DoesntBegin is_blank bytes.now }
-    ensures { Cuts bytes.now result }
+    ensures { Cuts version bytes.now result }
 {
     let first = bytes[0];
     let more = &bytes[1..];
@@ -94,6 +110,12 @@ fn cut<'a>(alloc: Global, bytes: &'a [u8]) -> Result<(Token, &'a [u8]), LineStop
         return match quoted(alloc, more)? {
             Some((text, rest)) => Ok((Token::Quoted(text), rest)),
             None => Err(LineStop::Quote),
+        };
+    }
+    if first == b'*' && version == 2 {
+        return match automatic(more) {
+            Some(cut) => Ok(cut),
+            None => Err(LineStop::Byte),
         };
     }
     if !is_byte_of_word(first) {
@@ -126,26 +148,26 @@ impl<'a> Line<'a> {
     }
 
     /// Takes the next token, if the line has one.
-    pub fn next_token(&mut self, alloc: Global) -> Result<Option<Token>, LineStop>
-        ensures { Takes self.old self.new result }
+    pub fn next_token(&mut self, alloc: Global, version: u32) -> Result<Option<Token>, LineStop>
+        ensures { Takes version self.old self.new result }
     {
         let rest = after_blanks(self.rest);
         if rest.is_empty() {
             return Ok(None);
         }
-        let (token, rest) = cut(alloc, rest)?;
+        let (token, rest) = cut(alloc, version, rest)?;
         self.rest = rest;
         Ok(Some(token))
     }
 }
 
-/// The tokens of a line.
-pub fn tokens(alloc: Global, line: &[u8]) -> Result<Row, LineStop>
-    ensures { Reads line.now result }
+/// The tokens of a line, in a file of this version.
+pub fn tokens(alloc: Global, version: u32, line: &[u8]) -> Result<Row, LineStop>
+    ensures { Reads version line.now result }
 {
     let mut line = Line::new(line);
     let mut tokens = Row::new(alloc);
-    'row: while let Some(token) = line.next_token(alloc)? {
+    'row: while let Some(token) = line.next_token(alloc, version)? {
         tokens.push(token)?;
     }
     Ok(tokens)
@@ -158,14 +180,14 @@ fn is_remark(line: &[u8]) -> bool
     rest.is_empty() || rest[0] == b'#'
 }
 
-/// What a line says. A remark says nothing.
-pub fn read_line(alloc: Global, line: &[u8]) -> Result<Option<Form>, LineStop>
-    ensures { Tells line.now result }
+/// What a line says, in a file of this version. A remark says nothing.
+pub fn read_line(alloc: Global, version: u32, line: &[u8]) -> Result<Option<Form>, LineStop>
+    ensures { Tells version line.now result }
 {
     if is_remark(line) {
         return Ok(None);
     }
-    let row = tokens(alloc, line)?;
+    let row = tokens(alloc, version, line)?;
     match row.form() {
         Some(form) => Ok(Some(form)),
         None => Err(LineStop::Form),

@@ -1,12 +1,13 @@
 //! Names and numbers.
 ghost use Rattle.std.specs.Prelude.{◌≡◌};
 ghost use Rattle.flow_parse.specs.Forms.{is_reserved};
-ghost use Rattle.flow_parse.specs.Names.{is_name, begins_with_letter, number_in, capacity_of, element_of, mention_is_named, port_is_named, is_named, port_is_numbered, is_numbered};
+ghost use Rattle.flow_parse.specs.Names.{is_name, begins_with_letter, number_in, capacity_of, element_of, capacity_limit, mention_is_named, port_is_named, end_is_named, is_named, port_is_numbered, end_is_numbered, is_numbered, or_none};
+ghost use Rattle.std.specs.Prelude.{is_some};
 
-use crate::form::{Form, Mention, PortMention};
+use crate::form::{EndMention, Form, Mention, PortMention};
 use crate::same::is;
 use flow_items::Text;
-use flow_limits::{CAPACITY_LIMIT, LAST_ELEMENT};
+use flow_limits::{CAPACITY_LIMIT, FIRST_CAPACITY_LIMIT, LAST_ELEMENT};
 use flow_text::decimal;
 
 pub const MOST_NAME: usize = 64;
@@ -48,12 +49,21 @@ fn mention_named(mention: &Mention) -> bool
     }
 }
 
+fn end_named(end: &EndMention) -> bool
+    ensures { result ≡ end_is_named end.now }
+{
+    match end {
+        EndMention::Port(port) => is_a_name(&port.name),
+        EndMention::Automatic => true,
+    }
+}
+
 /// Whether each word in the place of a name is one.
 pub fn named(form: &Form) -> bool
     ensures { result ≡ is_named form.now }
 {
     match form {
-        Form::Header | Form::End => true,
+        Form::Header { version: _ } | Form::End => true,
         Form::Process { name, kind } => is_a_name(name) && is_a_name(kind),
         Form::Connection {
             from,
@@ -61,12 +71,7 @@ pub fn named(form: &Form) -> bool
             capacity: _,
             into,
             to,
-        } => {
-            mention_named(from)
-                && is_a_name(&out.name)
-                && is_a_name(&into.name)
-                && mention_named(to)
-        }
+        } => { mention_named(from) && end_named(out) && end_named(into) && mention_named(to) }
         Form::Initial { text: _, into, to } => is_a_name(&into.name) && mention_named(to),
         Form::Subnet { name } => is_a_name(name),
         Form::InPort { outer, into, to } => {
@@ -100,6 +105,25 @@ pub fn element(word: &Text) -> Option<u32>
     number(word.as_slice(), 0, LAST_ELEMENT)
 }
 
+fn most_capacity(version: u32) -> u32
+    ensures { result ≡ capacity_limit version }
+{
+    if version == 2 {
+        CAPACITY_LIMIT
+    } else {
+        FIRST_CAPACITY_LIMIT
+    }
+}
+
+fn capacity_numbered(version: u32, word: &Option<Text>) -> bool
+    ensures { result ≡ or_none (λ word. is_some (number_in 1 (capacity_limit version) word)) word.now }
+{
+    match word {
+        Some(word) => number(word.as_slice(), 1, most_capacity(version)).is_some(),
+        None => true,
+    }
+}
+
 fn port_numbered(port: &PortMention) -> bool
     ensures { result ≡ port_is_numbered port.now }
 {
@@ -109,9 +133,18 @@ fn port_numbered(port: &PortMention) -> bool
     }
 }
 
-/// Whether each word in the place of a number is one of its range.
-pub fn numbered(form: &Form) -> bool
-    ensures { result ≡ is_numbered form.now }
+fn end_numbered(end: &EndMention) -> bool
+    ensures { result ≡ end_is_numbered end.now }
+{
+    match end {
+        EndMention::Port(port) => port_numbered(port),
+        EndMention::Automatic => true,
+    }
+}
+
+/// Whether each word in the place of a number is one of its range, in a file of this version.
+pub fn numbered(version: u32, form: &Form) -> bool
+    ensures { result ≡ is_numbered version form.now }
 {
     match form {
         Form::Connection {
@@ -120,13 +153,7 @@ pub fn numbered(form: &Form) -> bool
             capacity: word,
             into,
             to: _,
-        } => {
-            let fits = match word {
-                Some(word) => capacity(word).is_some(),
-                None => true,
-            };
-            port_numbered(out) && fits && port_numbered(into)
-        }
+        } => end_numbered(out) && capacity_numbered(version, word) && end_numbered(into),
         Form::Initial {
             text: _,
             into,

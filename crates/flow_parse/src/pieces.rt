@@ -1,10 +1,11 @@
 //! What a line adds to its part.
 ghost use Rattle.std.specs.Prelude.{◌≡◌, ◌∷◌, [], ◌++◌, IfOk, OnOk, option_and_then};
-ghost use Rattle.flow_parse.specs.Files.{port_ref, mentions_of, statements_of, kindless_line};
+ghost use Rattle.flow_parse.specs.Files.{port_ref, output_ref, input_ref, mentions_of, statements_of, kindless_line};
+ghost use Rattle.flow_plan.specs.Network.{unnumbered};
 ghost use Rattle.flow_parse.specs.Names.{capacity_of};
 ghost use Rattle.flow_parse.specs.Table.{Adds, table_with, mentioned};
 
-use crate::form::{Form, Mention, PortMention};
+use crate::form::{EndMention, Form, Mention, PortMention};
 use crate::name::{capacity, element};
 use crate::table::Processes;
 use crate::value::Statement;
@@ -45,6 +46,34 @@ fn refer(port: PortMention) -> PortRef
             name,
             element: None,
         },
+    }
+}
+
+fn automatic(alloc: Global, name: &[u8]) -> Result<PortRef, AllocError>
+    ensures { IfOk result (λ port. port ≡ unnumbered name.now) }
+{
+    let name = Text::from_slice(alloc, name)?;
+    Ok(PortRef {
+        name,
+        element: None,
+    })
+}
+
+fn refer_output(alloc: Global, end: EndMention) -> Result<PortRef, AllocError>
+    ensures { IfOk result (λ port. port ≡ output_ref end) }
+{
+    match end {
+        EndMention::Port(port) => Ok(refer(port)),
+        EndMention::Automatic => automatic(alloc, b"*OUT"),
+    }
+}
+
+fn refer_input(alloc: Global, end: EndMention) -> Result<PortRef, AllocError>
+    ensures { IfOk result (λ port. port ≡ input_ref end) }
+{
+    match end {
+        EndMention::Port(port) => Ok(refer(port)),
+        EndMention::Automatic => automatic(alloc, b"*IN"),
     }
 }
 
@@ -118,12 +147,16 @@ pub fn add_mentions(
             out: _,
             outer: _,
         } => add_one(alloc, known, line, from),
-        Form::Header | Form::Subnet { name: _ } | Form::End => Ok(true),
+        Form::Header { version: _ } | Form::Subnet { name: _ } | Form::End => Ok(true),
     }
 }
 
 /// Adds the statement that a form is.
-pub fn add_statement(statements: &mut Vec<Statement>, form: Form) -> Result<(), AllocError>
+pub fn add_statement(
+    alloc: Global,
+    statements: &mut Vec<Statement>,
+    form: Form,
+) -> Result<(), AllocError>
     ensures { OnOk result (statements.new.items ≡ statements.old.items ++ statements_of form) }
 {
     match form {
@@ -134,9 +167,9 @@ pub fn add_statement(statements: &mut Vec<Statement>, form: Form) -> Result<(), 
             into,
             to,
         } => {
-            let out = refer(out);
+            let out = refer_output(alloc, out)?;
             let capacity = room_of(capacity);
-            let into = refer(into);
+            let into = refer_input(alloc, into)?;
             statements.push(Statement::Connect {
                 from: from.name,
                 out,

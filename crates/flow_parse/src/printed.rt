@@ -5,7 +5,7 @@ ghost use Rattle.std.specs.List.{flat_map};
 ghost use Rattle.flow_parse.specs.Spelling.{doubled, spelling};
 ghost use Rattle.flow_parse.specs.Files.{Spells};
 ghost use Rattle.flow_parse.specs.Values.{IsNetText};
-ghost use Rattle.flow_parse.specs.Canonical.{port_piece, process_line, statement_line, part_lines, subnet_lines, canonical};
+ghost use Rattle.flow_parse.specs.Canonical.{port_piece, header_line, process_line, statement_line, part_lines, subnet_lines, canonical};
 ghost use Rattle.flow_parse.specs.declared.value.Statement.TheVariants.{Connect, Initial, InPort, OutPort};
 
 use crate::value::{NetPart, NetText, Statement};
@@ -204,7 +204,16 @@ fn put_subnets(out: &mut Vec<u8>, subnets: &[(Text, NetPart)]) -> Result<(), All
     Ok(())
 }
 
-/// The one canonical spelling of a value: `flow 1`, then each subnet, then the main part. A part has a line
+fn put_header(out: &mut Vec<u8>, version: u32) -> Result<(), AllocError>
+    ensures { OnOk result (out.new.items ≡ out.old.items ++ header_line version) }
+{
+    out.extend_from_slice(b"flow ")?;
+    put_decimal(out, u64::from(version))?;
+    out.push(b'\n')?;
+    Ok(())
+}
+
+/// The one canonical spelling of a value: the header of its version, then each subnet, then the main part. A part has a line
 /// for each process with its kind, and then its statements. The spelling is this project's own.
 pub fn print(alloc: Global, text: &NetText) -> Result<Vec<u8>, AllocError>
     ensures canonical { IfOk result (λ bytes. bytes.items ≡ canonical text.now) }
@@ -212,7 +221,7 @@ pub fn print(alloc: Global, text: &NetText) -> Result<Vec<u8>, AllocError>
     ensures spells { IsNetText text.now → IfOk result (λ bytes. Spells bytes.items text.now) }
 {
     let mut out = Vec::new(alloc);
-    out.extend_from_slice(b"flow 1\n")?;
+    put_header(&mut out, text.version)?;
     put_subnets(&mut out, text.subnets.as_slice())?;
     put_part(&mut out, &text.main)?;
     Ok(out)

@@ -1,7 +1,7 @@
 //! A file as far as it is read, line by line.
 ghost use Rattle.std.specs.Prelude.{◌≡◌, [], ⊤, IfOk, length, Option, if◌then◌else◌};
 ghost use Rattle.flow_parse.specs.Files.{at_end, may_stand, text_fits, Parts, statements_of, IsAdded};
-ghost use Rattle.flow_parse.specs.Reader.{Stands, Reads, Gives, IsPart, HasRead, AddsLine, Finishes, Passes, Takes, RefusesFor, StopsAs, Heeds, is_header, AddsNow};
+ghost use Rattle.flow_parse.specs.Reader.{Stands, Reads, Gives, IsPart, HasRead, AddsLine, Finishes, Passes, Takes, RefusesFor, StopsAs, Heeds, version_in, AddsNow};
 
 use crate::fault::{NetFault, ParseStop, Reason};
 use crate::form::Form;
@@ -36,6 +36,7 @@ pub struct OpenPart {
 #[derive(Drop)]
 pub struct Reader {
     pub headed: bool,
+    pub version: u32,
     pub main: Part,
     pub subnets: Subnets,
     pub open_part: Option<OpenPart>,
@@ -52,8 +53,10 @@ fn is_statement(form: &Form) -> bool
     ensures { length (statements_of form.now) ≡ (if result then 1 else 0) }
 {
     match form {
-        Form::Header | Form::Process { name: _, kind: _ } | Form::Subnet { name: _ } | Form::End =>
-            { false }
+        Form::Header { version: _ }
+        | Form::Process { name: _, kind: _ }
+        | Form::Subnet { name: _ }
+        | Form::End => false,
         _ => true,
     }
 }
@@ -71,10 +74,13 @@ fn has_fitting_text(form: &Form) -> bool
     }
 }
 
-fn is_the_header(form: &Form) -> bool
-    ensures { result ≡ is_header form.now }
+fn version_of_header(form: &Form) -> Option<u32>
+    ensures { result ≡ version_in form.now }
 {
-    matches!(form, Form::Header)
+    match form {
+        Form::Header { version } => Some(*version),
+        _ => None,
+    }
 }
 
 impl Part {
@@ -94,7 +100,7 @@ impl Part {
         if !add_mentions(alloc, &mut self.known, line, &form)? {
             return Ok(false);
         }
-        add_statement(&mut self.statements, form)?;
+        add_statement(alloc, &mut self.statements, form)?;
         Ok(true)
     }
 
@@ -132,6 +138,7 @@ impl Reader {
     {
         Reader {
             headed: false,
+            version: 1,
             main: Part::new(alloc),
             subnets: Subnets::new(alloc),
             open_part: None,
@@ -143,7 +150,7 @@ impl Reader {
         ensures { (parts : Parts) → HasRead self.now parts → result ≡ may_stand parts form.now }
     {
         match form {
-            Form::Header => false,
+            Form::Header { version: _ } => false,
             Form::Subnet { name: _ } => self.open_part.is_none(),
             Form::End
             | Form::InPort {
@@ -234,7 +241,7 @@ impl Reader {
         if !named(form) {
             return Some(Reason::Name);
         }
-        if !numbered(form) {
+        if !numbered(self.version, form) {
             return Some(Reason::Number);
         }
         None
@@ -245,7 +252,7 @@ impl Reader {
         ensures { Takes (λ parts. Passes parts form) self.old line form self.new result }
     {
         match form {
-            Form::Header => Ok(()),
+            Form::Header { version: _ } => Ok(()),
             Form::Subnet { name } => self.open(alloc, line, name),
             Form::End => self.close(alloc, line),
             Form::Process { name, kind } => self.add(alloc, line, Form::Process { name, kind }),
@@ -316,9 +323,10 @@ impl Reader {
         if self.headed {
             return self.take(alloc, number, form);
         }
-        if !is_the_header(&form) {
+        let Some(version) = version_of_header(&form) else {
             return stop(number, Reason::Header);
-        }
+        };
+        self.version = version;
         self.headed = true;
         Ok(())
     }
@@ -327,7 +335,7 @@ impl Reader {
     pub fn line(&mut self, alloc: Global, number: u64, line: &[u8]) -> Result<(), ParseStop>
         ensures { Reads self.old number line.now self.new result }
     {
-        match read_line(alloc, line) {
+        match read_line(alloc, self.version, line) {
             Ok(None) => Ok(()),
             Ok(Some(form)) => self.heed(alloc, number, form),
             Err(stop) => Err(self.stopped(number, stop)),
@@ -340,6 +348,7 @@ impl Reader {
     {
         let Reader {
             headed,
+            version,
             main,
             subnets,
             open_part,
@@ -359,7 +368,7 @@ impl Reader {
         }
         match main.finish(alloc)? {
             Ok(main) => Ok(NetText {
-                version: 1,
+                version,
                 subnets: Items::of(subnets.into_rows()),
                 main,
             }),

@@ -2,9 +2,9 @@
 ghost use Rattle.std.specs.Prelude.{◌≡◌, [], ◌∷◌, ◌++◌, OnOk, IfSome, IfNone};
 ghost use Rattle.flow_parse.specs.declared.form.Form.{Form};
 ghost use Rattle.flow_parse.specs.Forms.{IsForm};
-ghost use Rattle.flow_parse.specs.Reading.{Gives, word_at, arrow_at, close_at, close_bracket_at, begins_open, begins_open_bracket, parenthesized_at, bracketed_at, mention_at, port_at, tail, receiver_at, header_at, subnet_at, initial_at, in_port_at, out_port_at, connection_at, named_at, form_after, form_at, form_of};
+ghost use Rattle.flow_parse.specs.Reading.{Gives, word_at, arrow_at, close_at, close_bracket_at, begins_open, begins_open_bracket, begins_automatic_input, begins_automatic_output, parenthesized_at, bracketed_at, mention_at, port_at, tail, end_at, output_at, input_at, receiver_at, header_at, subnet_at, initial_at, in_port_at, out_port_at, connection_at, named_at, form_after, form_at, form_of};
 
-use crate::form::{Form, Mention, PortMention};
+use crate::form::{EndMention, Form, Mention, PortMention};
 use crate::same::is;
 use crate::token::Token;
 use flow_items::Text;
@@ -91,6 +91,18 @@ impl Row {
         matches!(self.rest.front(), Some(Token::OpenBracket))
     }
 
+    fn begins_automatic_input(&self) -> bool
+        ensures { result ≡ begins_automatic_input self.now }
+    {
+        matches!(self.rest.front(), Some(Token::AutomaticInput))
+    }
+
+    fn begins_automatic_output(&self) -> bool
+        ensures { result ≡ begins_automatic_output self.now }
+    {
+        matches!(self.rest.front(), Some(Token::AutomaticOutput))
+    }
+
     fn skip(&mut self)
         ensures { self.new ≡ tail self.old }
     {
@@ -141,6 +153,34 @@ impl Row {
         Some(PortMention { name, element })
     }
 
+    /// The automatic port that the row begins with, or else a port.
+    fn end(&mut self, automatic: bool) -> Option<EndMention>
+        ensures { Gives result self.new (end_at automatic self.old) }
+    {
+        if automatic {
+            self.skip();
+            return Some(EndMention::Automatic);
+        }
+        let port = self.port()?;
+        Some(EndMention::Port(port))
+    }
+
+    #[tactic(auto, unfolding(crate::specs::Reading::output_at))]
+    fn output(&mut self) -> Option<EndMention>
+        ensures { Gives result self.new (output_at self.old) }
+    {
+        let automatic = self.begins_automatic_output();
+        self.end(automatic)
+    }
+
+    #[tactic(auto, unfolding(crate::specs::Reading::input_at))]
+    fn input(&mut self) -> Option<EndMention>
+        ensures { Gives result self.new (input_at self.old) }
+    {
+        let automatic = self.begins_automatic_input();
+        self.end(automatic)
+    }
+
     #[tactic(auto, unfolding(crate::specs::Reading::receiver_at))]
     fn receiver(&mut self) -> Option<(PortMention, Mention)>
         ensures { Gives result self.new (receiver_at self.old) }
@@ -156,7 +196,10 @@ impl Row {
     {
         let version = self.word()?;
         if is(&version, b"1") {
-            Some(Form::Header)
+            return Some(Form::Header { version: 1 });
+        }
+        if is(&version, b"2") {
+            Some(Form::Header { version: 2 })
         } else {
             None
         }
@@ -204,10 +247,11 @@ impl Row {
     fn connection(&mut self, from: Mention) -> Option<Form>
         ensures { Gives result self.new (connection_at from self.old) }
     {
-        let out = self.port()?;
+        let out = self.output()?;
         self.arrow()?;
         let capacity = self.parenthesized()?;
-        let (into, to) = self.receiver()?;
+        let into = self.input()?;
+        let to = self.mention()?;
         Some(Form::Connection {
             from,
             out,

@@ -10,3 +10,10 @@ pub fn is(text: &Text, bytes: &[u8]) -> bool
 {
     text.as_slice() == bytes
 }
+
+/// Whether bytes are these.
+pub fn are(bytes: &[u8], others: &[u8]) -> bool
+    ensures { result ≡ bytes_eq bytes.now others.now }
+{
+    bytes == others
+}

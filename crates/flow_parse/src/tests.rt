@@ -40,7 +40,7 @@ fn a_refused_file_has_its_first_fault(rt: HostRuntime) -> Result<(), Fail> {
     for (bytes, line, reason) in [
         ("", 1, Reason::Header),
         (" \t\n# a remark\n", 3, Reason::Header),
-        ("flow 2\n", 1, Reason::Header),
+        ("flow 3\n", 1, Reason::Header),
         ("flow 1\nA ; 'x\n", 2, Reason::Byte),
         ("flow 1\nA OUT - > IN B\n", 2, Reason::Byte),
         ("flow 1\n'a''b -> IN B\n", 2, Reason::Quote),
@@ -70,6 +70,15 @@ fn a_refused_file_has_its_first_fault(rt: HostRuntime) -> Result<(), Fail> {
             Reason::Subnet,
         ),
         ("flow 1\nsubnet S\n", 2, Reason::Subnet),
+        ("flow 1\nA *OUT -> *IN B\n", 2, Reason::Byte),
+        ("flow 2\nA *OUTS -> *IN B\n", 2, Reason::Byte),
+        ("flow 2\nA * OUT -> *IN B\n", 2, Reason::Byte),
+        ("flow 2\nA *IN -> *IN B\n", 2, Reason::Form),
+        ("flow 2\n'x' -> *IN B\n", 2, Reason::Form),
+        ("flow 2\nA *OUT[0] -> *IN B\n", 2, Reason::Form),
+        ("flow 2\nsubnet S\ninport IN -> *IN B\n", 3, Reason::Form),
+        ("flow 2\nA OUT -> (4097) IN B\n", 2, Reason::Number),
+        ("flow 2\nflow 2\n", 2, Reason::Form),
     ] {
         check_fault(&rt, alloc, bytes.as_bytes(), line, reason)?;
     }
@@ -120,6 +129,19 @@ fn a_subnet_stands_before_the_main_part(rt: HostRuntime) -> Result<(), Fail> {
         b"flow 1\n# a copy, in two steps\n'in.txt' -> FILE A(ReadLines)\nA OUT->( 3 )IN B ( Twice )\nsubnet Twice\n  inport IN -> IN W(Passthru)\n  outport W OUT -> OUT\nend\nB OUT -> IN C(WriteLines)\n'out.txt' -> FILE C\n";
     let spelled =
         b"flow 1\nsubnet Twice\nW(Passthru)\ninport IN -> IN W\noutport W OUT -> OUT\nend\nA(ReadLines)\nB(Twice)\nC(WriteLines)\n'in.txt' -> FILE A\nA OUT -> (3) IN B\nB OUT -> IN C\n'out.txt' -> FILE C\n";
+    check_spelling(&rt, alloc, file, spelled)?;
+    check_spelling(&rt, alloc, spelled, spelled)
+}
+
+#[test]
+fn the_second_version_has_automatic_ports(rt: HostRuntime) -> Result<(), Fail> {
+    let alloc = rt.alloc();
+    let file =
+        b"flow 2\nA(K) *OUT->(4096)*IN B(K)\nB OUT[3] -> *IN A\nA *OUT -> IN B # no remark\n";
+    check_fault(&rt, alloc, file, 4, Reason::Byte)?;
+    let file = b"flow 2\nA(K) *OUT->(4096)*IN B(K)\nB OUT[3] -> *IN A\nA *OUT -> IN B\n";
+    let spelled =
+        b"flow 2\nA(K)\nB(K)\nA *OUT -> (4096) *IN B\nB OUT[3] -> *IN A\nA *OUT -> IN B\n";
     check_spelling(&rt, alloc, file, spelled)?;
     check_spelling(&rt, alloc, spelled, spelled)
 }

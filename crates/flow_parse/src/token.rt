@@ -10,6 +10,10 @@ pub enum Token {
     Close,
     OpenBracket,
     CloseBracket,
+    /// `*IN`.
+    AutomaticInput,
+    /// `*OUT`.
+    AutomaticOutput,
     /// A quoted text, as what it stands for.
     Quoted(Text),
 }

@@ -3,7 +3,9 @@ use flow_items::{Items, Text};
 use flow_net::PortRef;
 
 /// What a line of a network file adds to its part. A process is named as its part names it; a port may
-/// be given with an element, and a connection with a capacity, from 1 to CAPACITY_LIMIT packets.
+/// be given with an element, and a connection with a capacity: from 1 to FIRST_CAPACITY_LIMIT packets in
+/// version 1, and to CAPACITY_LIMIT in version 2. There a connection may go from the automatic output,
+/// `*OUT`, and to the automatic input, `*IN`.
 #[derive(Debug, Drop)]
 pub enum Statement {
     /// A connection from an output port to an input port.

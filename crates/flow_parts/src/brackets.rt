@@ -92,4 +92,6 @@ impl Component for Brackets {
             Answer::Level(_) => unreachable!(),
         }
     }
+
+    fn end(&mut self) {}
 }

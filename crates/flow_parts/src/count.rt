@@ -131,4 +131,6 @@ impl Component for Count {
             Answer::Level(_) => unreachable!(),
         }
     }
+
+    fn end(&mut self) {}
 }

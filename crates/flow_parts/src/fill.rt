@@ -207,4 +207,6 @@ impl Component for Fill {
             Answer::Level(_) => unreachable!(),
         }
     }
+
+    fn end(&mut self) {}
 }

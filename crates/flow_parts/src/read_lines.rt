@@ -108,4 +108,6 @@ impl Component for ReadLines {
             Answer::Level(_) => unreachable!(),
         }
     }
+
+    fn end(&mut self) {}
 }

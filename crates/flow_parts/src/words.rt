@@ -156,4 +156,6 @@ impl Component for Words {
             Answer::Level(_) => unreachable!(),
         }
     }
+
+    fn end(&mut self) {}
 }

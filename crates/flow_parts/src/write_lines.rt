@@ -125,4 +125,6 @@ impl Component for WriteLines {
             Answer::Level(_) => unreachable!(),
         }
     }
+
+    fn end(&mut self) {}
 }

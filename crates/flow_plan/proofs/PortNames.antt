@@ -1,5 +1,5 @@
 -- Laws of the ports of a process by their numbers.
-use Rattle.std.proofs.Common.{add-one, drop-cons, ◌≡◌, ℕ, ◌+◌, ◌<◌, List, [], ◌∷◌, ◌++◌, Some, None, Bool, true, false, map, refl, ap, sym, ◌∙◌, zero, suc, slice_get, get_or, length, drop, arith, length-append}
+use Rattle.std.proofs.Common.{add-one, drop-cons, append_assoc, ◌≡◌, ℕ, ◌+◌, ◌<◌, ◌≤◌, List, [], ◌∷◌, ◌++◌, Some, None, Bool, true, false, map, refl, ap, sym, ◌∙◌, zero, suc, slice_get, get_or, length, drop, arith, length-append}
 use Rattle.std.specs.Prelude.{if◌then◌else◌}
 use Rattle.std.specs.Option.{option_map}
 use Rattle.std.specs.List.{range_with_len}
@@ -57,15 +57,33 @@ slice_get-right (x ∷ xs) ys (suc i) j is = slice_get-right xs ys i j (omega ar
 ports_of-drop : (rows : List PortRow) (i : ℕ) (d : PortRow) → i < length rows → ports_of (drop i rows) ≡ elements_of (get_or rows i d) ++ ports_of (drop (i + 1) rows)
 ports_of-drop rows i d within = ap ports_of (drop-more rows i d within)
 
+-- The ports of the rows from i on with one more behind them: those of row i, and those behind it.
+rest_of-drop : (rows : List PortRow) (i : ℕ) (d : PortRow) (last : PortRef) → i < length rows → ports_of (drop i rows) ++ last ∷ [] ≡ elements_of (get_or rows i d) ++ (ports_of (drop (i + 1) rows) ++ last ∷ [])
+rest_of-drop rows i d last within = ap (λ (ports : List PortRef). ports ++ last ∷ []) (ports_of-drop rows i d within) ∙ append_assoc (elements_of (get_or rows i d)) (ports_of (drop (i + 1) rows)) (last ∷ [])
+
 -- a number that falls into the first of the rows that are left
-pub ports_of-here : (rows : List PortRow) (i n : ℕ) (d : PortRow) → i < length rows → n < length (elements_of (get_or rows i d)) → slice_get (ports_of (drop i rows)) n ≡ slice_get (elements_of (get_or rows i d)) n
-ports_of-here rows i n d within here =
-    ap (λ (ports : List PortRef). slice_get ports n) (ports_of-drop rows i d within) ∙ slice_get-left (elements_of (get_or rows i d)) (ports_of (drop (i + 1) rows)) n here
+pub ports_of-here : (rows : List PortRow) (i n : ℕ) (d : PortRow) (last : PortRef) → i < length rows → n < length (elements_of (get_or rows i d)) → slice_get (ports_of (drop i rows) ++ last ∷ []) n ≡ slice_get (elements_of (get_or rows i d)) n
+ports_of-here rows i n d last within here =
+    ap (λ (ports : List PortRef). slice_get ports n) (rest_of-drop rows i d last within) ∙ slice_get-left (elements_of (get_or rows i d)) (ports_of (drop (i + 1) rows) ++ last ∷ []) n here
 
 -- a number past it
-pub ports_of-past : (rows : List PortRow) (i n m : ℕ) (d : PortRow) → i < length rows → n ≡ length (elements_of (get_or rows i d)) + m → slice_get (ports_of (drop i rows)) n ≡ slice_get (ports_of (drop (i + 1) rows)) m
-ports_of-past rows i n m d within is =
-    ap (λ (ports : List PortRef). slice_get ports n) (ports_of-drop rows i d within) ∙ slice_get-right (elements_of (get_or rows i d)) (ports_of (drop (i + 1) rows)) n m is
+pub ports_of-past : (rows : List PortRow) (i n m : ℕ) (d : PortRow) (last : PortRef) → i < length rows → n ≡ length (elements_of (get_or rows i d)) + m
+    → slice_get (ports_of (drop i rows) ++ last ∷ []) n ≡ slice_get (ports_of (drop (i + 1) rows) ++ last ∷ []) m
+ports_of-past rows i n m d last within is =
+    ap (λ (ports : List PortRef). slice_get ports n) (rest_of-drop rows i d last within) ∙ slice_get-right (elements_of (get_or rows i d)) (ports_of (drop (i + 1) rows) ++ last ∷ []) n m is
+
+drop-past : {X : Type 0} (xs : List X) (i : ℕ) → length xs ≤ i → drop i xs ≡ []
+drop-past [] zero past = refl
+drop-past [] (suc i) past = refl
+drop-past (x ∷ xs) zero past = absurd (omega arith)
+drop-past (x ∷ xs) (suc i) past = drop-past xs i (omega arith)
+
+-- no row is left: the number is that of the last
+pub ports_of-last : (rows : List PortRow) (i n : ℕ) (last : PortRef) → length rows ≤ i → n ≤ length (ports_of (drop i rows)) → slice_get (ports_of (drop i rows) ++ last ∷ []) n ≡ Some last
+ports_of-last rows i n last past within =
+    let none : drop i rows ≡ [] = drop-past rows i past in
+    let first : n ≡ 0 = omega (arith, within, ap (λ (left : List PortRow). length (ports_of left)) none) in
+    ap (λ (left : List PortRow). slice_get (ports_of left ++ last ∷ []) n) none ∙ ap (slice_get (last ∷ [])) first
 
 -- The rows from i on have the ports of row i and of those behind it.
 pub length-ports_of-drop : (rows : List PortRow) (i : ℕ) (d : PortRow) → i < length rows → length (ports_of (drop i rows)) ≡ length (elements_of (get_or rows i d)) + length (ports_of (drop (i + 1) rows))

@@ -1,5 +1,5 @@
 -- What a plan is seen as.
-use Rattle.std.specs.Prelude.{◌≡◌, ℕ, ◌<◌, if◌then◌else◌, Bool, true, false, List, [], ◌∷◌, ◌++◌, map, length, Option, Some, None, slice_get, codes}
+use Rattle.std.specs.Prelude.{◌≡◌, ℕ, ◌<◌, ◌≤◌, if◌then◌else◌, Bool, true, false, List, [], ◌∷◌, ◌++◌, map, length, Option, Some, None, slice_get, codes}
 use Rattle.std.specs.List.{flat_map, range_with_len}
 use Rattle.std.specs.Option.{option_and_then}
 use Rattle.std.specs.Fmt.{decimal}
@@ -42,13 +42,26 @@ spelled_element (Some e) = codes "[" ++ decimal e ++ codes "]"
 abbrev pub spelled : PortRef → List ℕ
 spelled port = port.name ++ spelled_element port.element
 
--- The input of this number of a process.
-abbrev pub input_port : Network → ℕ → ℕ → Option PortRef
-input_port network p i = option_and_then (λ (table : PortTable). slice_get (ports_of table.inputs) i) (slice_get network.tables p)
+-- A port that is named without an element.
+abbrev pub unnumbered : List ℕ → PortRef
+unnumbered name = record { name = name; element = None }
 
--- The output of this number of a process.
+-- The automatic ports, which every process has: the input that holds it up until a packet comes there, and the output that closes as it
+-- ends.
+abbrev pub automatic_input : PortRef
+automatic_input = unnumbered (codes "*IN")
+
+-- The automatic output.
+abbrev pub automatic_output : PortRef
+automatic_output = unnumbered (codes "*OUT")
+
+-- The input of this number of a process. The automatic input stands behind the others.
+abbrev pub input_port : Network → ℕ → ℕ → Option PortRef
+input_port network p i = option_and_then (λ (table : PortTable). slice_get (ports_of table.inputs ++ automatic_input ∷ []) i) (slice_get network.tables p)
+
+-- The output of this number of a process. The automatic output stands behind the others.
 abbrev pub output_port : Network → ℕ → ℕ → Option PortRef
-output_port network p o = option_and_then (λ (table : PortTable). slice_get (ports_of table.outputs) o) (slice_get network.tables p)
+output_port network p o = option_and_then (λ (table : PortTable). slice_get (ports_of table.outputs ++ automatic_output ∷ []) o) (slice_get network.tables p)
 
 -- Each process has one table, which has as many inputs and outputs as the process.
 abbrev pub LaidOut : List Process → List PortTable → Type 0
@@ -57,10 +70,18 @@ LaidOut [] (table ∷ tables) = ⊥
 LaidOut (process ∷ processes) [] = ⊥
 LaidOut (process ∷ processes) (table ∷ tables) = (length (ports_of table.inputs) ≡ process.inputs) × (length (ports_of table.outputs) ≡ process.outputs) × LaidOut processes tables
 
--- Process p has an input of this number.
+-- Process p has a stream input of this number.
 abbrev pub HasInput : Network → ℕ → ℕ → Type 0
 HasInput network p i = (process : Process) × (slice_get network.processes p ≡ Some process) × (i < process.inputs)
 
 -- Process p has an output of this number.
 abbrev pub HasOutput : Network → ℕ → ℕ → Type 0
 HasOutput network p o = (process : Process) × (slice_get network.processes p ≡ Some process) × (o < process.outputs)
+
+-- Process p can receive at an input of this number: one of its stream inputs, or its automatic input, whose number is that of the stream inputs.
+abbrev pub IsInputEnd : Network → ℕ → ℕ → Type 0
+IsInputEnd network p i = (process : Process) × (slice_get network.processes p ≡ Some process) × (i ≤ process.inputs)
+
+-- Process p can be a sender at an output of this number: one of its own, or its automatic output, whose number is that of the others.
+abbrev pub IsOutputEnd : Network → ℕ → ℕ → Type 0
+IsOutputEnd network p o = (process : Process) × (slice_get network.processes p ≡ Some process) × (o ≤ process.outputs)

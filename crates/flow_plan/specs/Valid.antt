@@ -8,7 +8,7 @@ use Rattle.flow_plan.specs.declared.plan.Process.{Process}
 use Rattle.flow_plan.specs.declared.plan.Connection.{Connection}
 use Rattle.flow_plan.specs.declared.plan.PortRow.{PortRow}
 use Rattle.flow_plan.specs.declared.plan.PortTable.{PortTable}
-use Rattle.flow_plan.specs.Network.{Network, LaidOut, HasInput, HasOutput, elements_of, is_stream}
+use Rattle.flow_plan.specs.Network.{Network, LaidOut, HasInput, IsInputEnd, IsOutputEnd, elements_of, is_stream}
 use Rattle.flow_plan.specs.Texts.{IsOfClass}
 
 -- Input i of process p receives from a connection.
@@ -83,15 +83,15 @@ pub record HasRows (n : Network) : Type 0 where
   pub inputs : (p i : ℕ) (table : PortTable) (row : PortRow) → slice_get n.tables p ≡ Some table → slice_get table.inputs i ≡ Some row → IsRow row
   pub outputs : (p o : ℕ) (table : PortTable) (row : PortRow) → slice_get n.tables p ≡ Some table → slice_get table.outputs o ≡ Some row → IsRow row
 
--- A wired plan: every connection and every sender names an input or an output that is there, no input receives from two connections, no output sends
--- twice, each input has a connection or an initial text and not both, and the numbers are within their limits. (It is what the machine asks of a plan:
+-- A wired plan: every connection and every sender names an input or an output that is there, the automatic ones among them, no input receives from two
+-- connections, no output sends twice, each stream input has a connection or an initial text and not both, and the numbers are within their limits. (It is what the machine asks of a plan:
 -- names, kinds and options are of no matter to it.)
 pub record IsWired (n : Network) : Type 0 where
   pub few_processes : length n.processes ≤ PROCESS_LIMIT
   pub few_connections : length n.connections ≤ CONNECTION_LIMIT
-  pub receivers : (c : ℕ) (x : Connection) → slice_get n.connections c ≡ Some x → HasInput n x.receiver x.input
+  pub receivers : (c : ℕ) (x : Connection) → slice_get n.connections c ≡ Some x → IsInputEnd n x.receiver x.input
   pub one_receiver : (c d : ℕ) (x y : Connection) → slice_get n.connections c ≡ Some x → slice_get n.connections d ≡ Some y → x.receiver ≡ y.receiver → x.input ≡ y.input → c ≡ d
-  pub senders : (c k : ℕ) (x : Connection) (s : Sender) → slice_get n.connections c ≡ Some x → slice_get x.senders k ≡ Some s → HasOutput n s.process s.output
+  pub senders : (c k : ℕ) (x : Connection) (s : Sender) → slice_get n.connections c ≡ Some x → slice_get x.senders k ≡ Some s → IsOutputEnd n s.process s.output
   pub one_sender : (c d k l : ℕ) (x y : Connection) (s : Sender) → slice_get n.connections c ≡ Some x → slice_get n.connections d ≡ Some y → slice_get x.senders k ≡ Some s → slice_get y.senders l ≡ Some s → (c ≡ d) × (k ≡ l)
   pub each_input : (p i : ℕ) → HasInput n p i → HasConnection n p i ⊎ HasText n p i
   pub not_both : (p i : ℕ) → HasConnection n p i → HasText n p i → ⊥
@@ -99,12 +99,13 @@ pub record IsWired (n : Network) : Type 0 where
   pub capacities : (c : ℕ) (x : Connection) → slice_get n.connections c ≡ Some x → (1 ≤ x.capacity) × (x.capacity ≤ CAPACITY_LIMIT)
   pub few_senders : (c : ℕ) (x : Connection) → slice_get n.connections c ≡ Some x → length x.senders ≤ SENDER_LIMIT
 
--- A valid plan: it is wired; names differ; no input has two texts; each output that is needed sends to a connection; each option port has its option, and
+-- A valid plan: it is wired; names differ; only stream inputs have texts, and none has two; each output that is needed sends to a connection; each option port has its option, and
 -- each port its elements; and the capacities together are within their limit.
 pub record IsValid (n : Network) : Type 0 where
   pub wired : IsWired n
   pub names : (p q : ℕ) (x y : Process) → slice_get n.processes p ≡ Some x → slice_get n.processes q ≡ Some y → x.name ≡ y.name → p ≡ q
   pub laid_out : LaidOut n.processes n.tables
+  pub stream_texts : (p i : ℕ) → HasText n p i → HasInput n p i
   pub one_text : (p k l i : ℕ) (x : Process) (text other : List ℕ) → slice_get n.processes p ≡ Some x → slice_get x.initials k ≡ Some (i, text) → slice_get x.initials l ≡ Some (i, other) → k ≡ l
   pub needed_outputs : (p o : ℕ) → NeedsOutput n p o → HasSender n p o
   pub capacity_sum : sum_by (λ (x : Connection). x.capacity) n.connections ≤ CAPACITY_SUM_LIMIT

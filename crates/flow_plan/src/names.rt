@@ -1,7 +1,7 @@
 //! Port names, by the numbers of inputs and outputs.
-ghost use Rattle.std.specs.Prelude.{◌≡◌, ◌<◌, ◌++◌, length, Some, IfOk, slice_get};
+ghost use Rattle.std.specs.Prelude.{◌≡◌, ◌<◌, ◌≤◌, ◌++◌, ◌∷◌, [], length, Some, IfOk, slice_get};
 ghost use Rattle.std.specs.Option.{option_map};
-ghost use Rattle.flow_plan.specs.Network.{elements_of, ports_of, spelled, spelled_element};
+ghost use Rattle.flow_plan.specs.Network.{elements_of, ports_of, spelled, spelled_element, unnumbered};
 
 use crate::kind::PortClass;
 use crate::plan::PortRow;
@@ -43,10 +43,15 @@ fn element_name(alloc: Global, row: &PortRow, element: u32) -> Result<Vec<u8>, A
     }
 }
 
-/// The port of this number, among the ports on one side of a process.
-pub fn name_at(alloc: Global, rows: &[PortRow], number: u32) -> Result<Vec<u8>, AllocError>
-    requires { number < length (ports_of rows.now) }
-    ensures { IfOk result (λ name. option_map spelled (slice_get (ports_of rows.now) number) ≡ Some name.items) }
+/// The port of this number, among the ports on one side of a process and the automatic one of this name behind them.
+pub fn name_at(
+    alloc: Global,
+    rows: &[PortRow],
+    automatic: &[u8],
+    number: u32,
+) -> Result<Vec<u8>, AllocError>
+    requires { number ≤ length (ports_of rows.now) }
+    ensures { IfOk result (λ name. option_map spelled (slice_get (ports_of rows.now ++ unnumbered automatic.now ∷ []) number) ≡ Some name.items) }
 {
     let mut left = number;
     for row in rows {
@@ -56,5 +61,5 @@ pub fn name_at(alloc: Global, rows: &[PortRow], number: u32) -> Result<Vec<u8>, 
         }
         left -= count;
     }
-    unreachable!()
+    Vec::from_slice(alloc, automatic)
 }

@@ -17,7 +17,8 @@ pub struct Sender {
 /// initial texts by input number, and its numbers of inputs and outputs.
 ///
 /// Inputs are numbered in the order of the kind's stream ports with arrays written out, and outputs in
-/// the order of its output ports. An output that isn't connected keeps its number.
+/// the order of its output ports. An output that isn't connected keeps its number. Each process has an
+/// automatic input and an automatic output besides: their numbers are `inputs` and `outputs`.
 #[derive(Debug, Drop)]
 pub struct Process {
     pub name: Text,
@@ -76,7 +77,7 @@ impl Model for Plan {
 impl Plan {
     ghost use Rattle.std.specs.Prelude.{◌≡◌, Some, IfOk};
     ghost use Rattle.std.specs.Option.{option_map};
-    ghost use Rattle.flow_plan.specs.Network.{HasInput, HasOutput, input_port, output_port, spelled};
+    ghost use Rattle.flow_plan.specs.Network.{IsInputEnd, IsOutputEnd, automatic_input, automatic_output, input_port, output_port, spelled};
     ghost use Rattle.flow_plan.specs.Valid.{IsValid};
 
     /// The plan of these processes, connections and tables, which are a valid one. Takes no memory.
@@ -111,31 +112,35 @@ impl Plan {
         self.connections.as_slice()
     }
 
-    /// Spells an input as a report does: the port's name, with the element of an array in brackets.
+    /// Spells an input as a report does: the port's name, with the element of an array in brackets. The
+    /// automatic input is `*IN`.
     pub fn input_name(&self, alloc: Global, process: u32, input: u32) -> Result<Vec<u8>, AllocError>
-        requires { HasInput self.now process input }
+        requires { IsInputEnd self.now process input }
         ensures { IfOk result (λ name. option_map spelled (input_port self.now process input) ≡ Some name.items) }
     {
         names::name_at(
             alloc,
             self.tables[process as usize].inputs.as_slice(),
+            b"*IN",
             input,
         )
     }
 
-    /// Spells an output as a report does: the port's name, with the element of an array in brackets.
+    /// Spells an output as a report does: the port's name, with the element of an array in brackets. The
+    /// automatic output is `*OUT`.
     pub fn output_name(
         &self,
         alloc: Global,
         process: u32,
         output: u32,
     ) -> Result<Vec<u8>, AllocError>
-        requires { HasOutput self.now process output }
+        requires { IsOutputEnd self.now process output }
         ensures { IfOk result (λ name. option_map spelled (output_port self.now process output) ≡ Some name.items) }
     {
         names::name_at(
             alloc,
             self.tables[process as usize].outputs.as_slice(),
+            b"*OUT",
             output,
         )
     }

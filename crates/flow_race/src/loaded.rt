@@ -59,4 +59,8 @@ impl Component for Loaded {
         self.sum = sum;
         Ok(wish)
     }
+
+    fn end(&mut self) {
+        self.component.end();
+    }
 }

@@ -1,5 +1,5 @@
 -- A valid plan with components that fit starts well.
-use Rattle.std.proofs.Common.{◌≡◌, ℕ, zero, suc, ◌+◌, ◌<◌, Bool, List, [], ◌∷◌, length, map, Some, refl, sym, ◌∙◌, ap, subst, arith}
+use Rattle.std.proofs.Common.{◌≡◌, ℕ, zero, suc, ◌+◌, ◌<◌, ◌≤◌, Bool, List, [], ◌∷◌, length, map, Some, refl, sym, ◌∙◌, ap, subst, arith}
 use Rattle.std.specs.Prelude.{IsSome, slice_get}
 use Rattle.std.specs.declared.option.Option.{Option}
 use Rattle.std.specs.Option.{option_and_then}
@@ -9,7 +9,7 @@ use Rattle.flow_packet.specs.Held.{Held}
 use Rattle.flow_component.specs.declared.Answer.{Answer}
 use Rattle.flow_component.specs.declared.Shape.{Shape}
 use Rattle.flow_plan.specs.declared.plan.Process.{Process as NetProcess}
-use Rattle.flow_plan.specs.Network.{Network, HasOutput}
+use Rattle.flow_plan.specs.Network.{Network, IsOutputEnd}
 use Rattle.flow_plan.specs.Valid.{IsValid, HasSender}
 use Rattle.flow_model.specs.States.{Process}
 use Rattle.flow_model.specs.Plans.{input_at, sends_at, process_at_start, processes_at_start, FitsProcess, StartsWell}
@@ -65,20 +65,21 @@ port-sends plan p outputs o within some =
     (subst (λ (m : ℕ). IsSome (sends_at plan p m)) number some)
 
 module _ {K : Type 0} (shape_of : K → Shape) (uses : K → ℕ → Bool) (ready : K → Held → Answer → Type 0) (network : Network) where
-  -- an output that is a sender of a connection is one of its process
-  sender-within : IsValid network → (p o : ℕ) (process : NetProcess) → slice_get network.processes p ≡ Some process → HasSender network p o → o < process.outputs
+  -- an output that is a sender of a connection is one of its process, or its automatic one
+  sender-within : IsValid network → (p o : ℕ) (process : NetProcess) → slice_get network.processes p ≡ Some process → HasSender network p o → o ≤ process.outputs
   sender-within valid p o process there has =
-      let output : HasOutput network p o = valid.wired.senders has.number has.place has.connection (record { process = p; output = o }) has.here has.sender in
-      subst (λ (x : NetProcess). o < x.outputs) (same-there network.processes p output.0 process output.1 there) output.2
+      let output : IsOutputEnd network p o = valid.wired.senders has.number has.place has.connection (record { process = p; output = o }) has.here has.sender in
+      subst (λ (x : NetProcess). o ≤ x.outputs) (same-there network.processes p output.0 process output.1 there) output.2
 
   fits-start : IsValid network → (p : ℕ) (process : NetProcess) (component : K) → slice_get network.processes p ≡ Some process → ComponentFits shape_of uses ready network p process component
       → FitsProcess shape_of uses ready component (process_at_start network p process component)
   fits-start valid p process component there fits = record {
     inputs = fits.inputs ∙ sym (length-ports (input_at network p process) 0 process.inputs);
-    outputs = fits.outputs ∙ sym (length-ports (sends_at network p) 0 process.outputs);
+    outputs = let long = length-ports (sends_at network p) 0 (process.outputs + 1) in omega (arith, fits.outputs, long);
     used = λ o used.
         let has = fits.used o used in
-        port-sends network p process.outputs o (sender-within valid p o process there has) (sends-there network p o has);
+        let within = sender-within valid p o process there has in
+        port-sends network p (process.outputs + 1) o (omega (arith, within)) (sends-there network p o has);
     can_start = fits.can_start;
   }
 

@@ -1,5 +1,5 @@
 -- How a report names the processes, ports and connections of a plan. The form of the names is this project's own.
-use Rattle.std.specs.Prelude.{◌++◌, ℕ, nat_lt, Bool, true, false, List, [], Option, Some, None, slice_get, unwrap_or, codes}
+use Rattle.std.specs.Prelude.{◌++◌, ℕ, nat_le, Bool, true, false, List, [], Option, Some, None, slice_get, unwrap_or, codes}
 use Rattle.std.specs.Option.{option_map}
 use Rattle.flow_plan.specs.declared.kind.PortRef.{PortRef}
 use Rattle.flow_plan.specs.declared.plan.Connection.{Connection}
@@ -11,21 +11,21 @@ spelled_if false port = []
 spelled_if true None = []
 spelled_if true (Some port) = spelled port
 
--- How many inputs a process has.
-abbrev pub inputs_at : Network → ℕ → ℕ
-inputs_at plan p = unwrap_or (option_map (λ x. x.inputs) (slice_get plan.processes p)) 0
+-- Whether a process has an input of this number: one of its own, or its automatic one.
+abbrev pub has_input : Network → ℕ → ℕ → Bool
+has_input plan p i = unwrap_or (option_map (λ x. nat_le i x.inputs) (slice_get plan.processes p)) false
 
--- How many outputs a process has.
-abbrev pub outputs_at : Network → ℕ → ℕ
-outputs_at plan p = unwrap_or (option_map (λ x. x.outputs) (slice_get plan.processes p)) 0
+-- Whether it has an output of this number.
+abbrev pub has_output : Network → ℕ → ℕ → Bool
+has_output plan p o = unwrap_or (option_map (λ x. nat_le o x.outputs) (slice_get plan.processes p)) false
 
 -- An input of a process as it is spelled, and no bytes where the process doesn't have it.
 abbrev pub input_text : Network → ℕ → ℕ → List ℕ
-input_text plan p i = spelled_if (nat_lt i (inputs_at plan p)) (input_port plan p i)
+input_text plan p i = spelled_if (has_input plan p i) (input_port plan p i)
 
 -- How an output of a process is spelled.
 abbrev pub output_text : Network → ℕ → ℕ → List ℕ
-output_text plan p o = spelled_if (nat_lt o (outputs_at plan p)) (output_port plan p o)
+output_text plan p o = spelled_if (has_output plan p o) (output_port plan p o)
 
 -- The flat name of a process.
 abbrev pub name_text : Network → ℕ → List ℕ

@@ -15,7 +15,9 @@ use Rattle.flow_report.specs.declared.report.Wait.{Wait}
 use Rattle.flow_report.specs.declared.report.Wait.TheVariants.{Empty, Full, Dormant}
 use Rattle.flow_report.specs.declared.report.Blocked.{Blocked}
 use Rattle.flow_report.specs.declared.report.Cause.{Cause}
-use Rattle.flow_report.specs.declared.report.Cause.TheVariants.{Unnested, TurnLimit, TextLimit, HandsLimit, TreeDepth, BracketIn}
+use Rattle.flow_report.specs.declared.report.Cause.TheVariants.{Unnested, TurnLimit, TextLimit, HandsLimit, TreeDepth, BracketIn, Own as OwnCause}
+use Rattle.flow_component.specs.declared.OwnFail.{OwnFail}
+use Rattle.flow_component.specs.declared.OwnFail.TheVariants as owns
 use Rattle.flow_report.specs.declared.report.Failure.{Failure}
 use Rattle.flow_report.specs.declared.report.LeftPacket.{LeftPacket}
 use Rattle.flow_report.specs.declared.report.Place.{Place}
@@ -57,6 +59,14 @@ wait_text (Empty port) = codes "empty " ++ port
 wait_text (Full port) = codes "full " ++ port
 wait_text Dormant = codes "dormant"
 
+-- How a component of the caller's own failed, in words.
+abbrev pub own_text : OwnFail → List ℕ
+own_text (owns.Own number) = codes "own fault " ++ decimal number
+own_text (owns.Packet id) = codes "own packet " ++ decimal id
+own_text (owns.Port port) = codes "own port " ++ decimal port
+own_text owns.TapeLimit = codes "own tape limit"
+own_text owns.Differs = codes "own tape differs"
+
 -- Why a process failed, in words.
 abbrev pub cause_text : Cause → List ℕ
 cause_text (Unnested port) = codes "unnested " ++ port
@@ -65,6 +75,7 @@ cause_text (TextLimit length) = codes "text limit " ++ decimal length
 cause_text HandsLimit = codes "hands limit"
 cause_text TreeDepth = codes "tree depth"
 cause_text (BracketIn port) = codes "bracket in " ++ port
+cause_text (OwnCause own) = own_text own
 
 -- The name of process p among these.
 abbrev pub process_name : List ProcessLine → ℕ → List ℕ

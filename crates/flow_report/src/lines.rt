@@ -2,11 +2,12 @@
 ghost use Rattle.std.specs.Prelude.{◌≡◌, ◌++◌, OnOk};
 ghost use Rattle.std.specs.List.{flat_map};
 ghost use Rattle.std.specs.Fmt.{decimal};
-ghost use Rattle.flow_report.specs.Text.{ended, verdict_line, process_line, connection_line, status_text, wait_text, cause_text, blocked_line, waits_line, failed_line, left_line, packet_text, place_text, process_name, connection_name, total_line};
+ghost use Rattle.flow_report.specs.Text.{ended, verdict_line, process_line, connection_line, status_text, wait_text, own_text, cause_text, blocked_line, waits_line, failed_line, left_line, packet_text, place_text, process_name, connection_name, total_line};
 
 use crate::report::{
     Blocked, Cause, ConnectionLine, Failure, LeftPacket, Place, ProcessLine, Verdict, Wait,
 };
+use flow_component::OwnFail;
 use flow_cycle::Waits;
 use flow_machine::Status;
 use flow_packet::PacketId;
@@ -163,6 +164,18 @@ fn put_failure(text: &mut Vec<u8>, process: &Failure) -> Result<(), AllocError>
     text.extend_from_slice(b"\n")
 }
 
+fn put_own(text: &mut Vec<u8>, own: &OwnFail) -> Result<(), AllocError>
+    ensures { OnOk result (text.new.items ≡ text.old.items ++ own_text own.now) }
+{
+    match own {
+        OwnFail::Own(number) => put_number(text, b"own fault ", u64::from(*number)),
+        OwnFail::Packet(id) => put_number(text, b"own packet ", *id),
+        OwnFail::Port(port) => put_number(text, b"own port ", u64::from(*port)),
+        OwnFail::TapeLimit => text.extend_from_slice(b"own tape limit"),
+        OwnFail::Differs => text.extend_from_slice(b"own tape differs"),
+    }
+}
+
 fn put_cause(text: &mut Vec<u8>, cause: &Cause) -> Result<(), AllocError>
     ensures { OnOk result (text.new.items ≡ text.old.items ++ cause_text cause.now) }
 {
@@ -173,6 +186,7 @@ fn put_cause(text: &mut Vec<u8>, cause: &Cause) -> Result<(), AllocError>
         Cause::HandsLimit => text.extend_from_slice(b"hands limit"),
         Cause::TreeDepth => text.extend_from_slice(b"tree depth"),
         Cause::BracketIn(port) => put_two(text, b"bracket in ", port.as_slice()),
+        Cause::Own(own) => put_own(text, own),
     }
 }
 

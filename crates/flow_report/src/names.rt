@@ -1,27 +1,27 @@
 //! How a report names the processes, ports and connections of a plan.
 ghost use Rattle.std.specs.Prelude.{◌≡◌, ◌++◌, codes, IfOk};
-ghost use Rattle.flow_report.specs.Names.{inputs_at, outputs_at, input_text, output_text, name_text, kind_text, connection_text};
+ghost use Rattle.flow_report.specs.Names.{has_input, has_output, input_text, output_text, name_text, kind_text, connection_text};
 
 use flow_component::Port;
 use flow_items::Text;
 use flow_net::Plan;
 use std::alloc::{AllocError, Global};
 
-fn inputs_at(plan: &Plan, process: u32) -> u32
-    ensures { result ≡ inputs_at plan.now process }
+fn has_input(plan: &Plan, process: u32, input: u32) -> bool
+    ensures { result ≡ has_input plan.now process input }
 {
     match plan.processes().get(process as usize) {
-        Some(entry) => entry.inputs,
-        None => 0,
+        Some(entry) => input <= entry.inputs,
+        None => false,
     }
 }
 
-fn outputs_at(plan: &Plan, process: u32) -> u32
-    ensures { result ≡ outputs_at plan.now process }
+fn has_output(plan: &Plan, process: u32, output: u32) -> bool
+    ensures { result ≡ has_output plan.now process output }
 {
     match plan.processes().get(process as usize) {
-        Some(entry) => entry.outputs,
-        None => 0,
+        Some(entry) => output <= entry.outputs,
+        None => false,
     }
 }
 
@@ -30,7 +30,7 @@ fn outputs_at(plan: &Plan, process: u32) -> u32
 pub fn input_text(alloc: Global, plan: &Plan, process: u32, port: Port) -> Result<Text, AllocError>
     ensures { IfOk result (λ text. text ≡ input_text plan.now process port.0) }
 {
-    if port.0 < inputs_at(plan, process) {
+    if has_input(plan, process, port.0) {
         let name = plan.input_name(alloc, process, port.0)?;
         Ok(Text::of(name))
     } else {
@@ -42,7 +42,7 @@ pub fn input_text(alloc: Global, plan: &Plan, process: u32, port: Port) -> Resul
 pub fn output_text(alloc: Global, plan: &Plan, process: u32, port: Port) -> Result<Text, AllocError>
     ensures { IfOk result (λ text. text ≡ output_text plan.now process port.0) }
 {
-    if port.0 < outputs_at(plan, process) {
+    if has_output(plan, process, port.0) {
         let name = plan.output_name(alloc, process, port.0)?;
         Ok(Text::of(name))
     } else {

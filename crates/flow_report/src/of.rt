@@ -213,6 +213,7 @@ fn cause_of(alloc: Global, plan: &Plan, process: u32, fail: Fail) -> Result<Caus
         Fail::HandsLimit => Ok(Cause::HandsLimit),
         Fail::TreeDepth => Ok(Cause::TreeDepth),
         Fail::BracketIn(port) => Ok(Cause::BracketIn(input_text(alloc, plan, process, port)?)),
+        Fail::Own(own) => Ok(Cause::Own(own)),
     }
 }
 

@@ -7,7 +7,7 @@ use crate::lines::{
 };
 use crate::of::{all_blocked, all_failed, all_waits, totals_of, verdict_of};
 use crate::rows::{all_connections, all_processes};
-use flow_component::Component;
+use flow_component::{Component, OwnFail};
 use flow_cycle::Waits;
 use flow_items::{Items, Text};
 use flow_machine::{Closed, Status};
@@ -82,6 +82,8 @@ pub enum Cause {
     HandsLimit,
     TreeDepth,
     BracketIn(Text),
+    /// A component of the caller's own failed.
+    Own(OwnFail),
 }
 
 /// A process that failed.

@@ -5,7 +5,7 @@ use Rattle.flow_component.specs.declared.Answer.{Answer}
 use Rattle.flow_component.specs.declared.Shape.{Shape}
 use Rattle.flow_component.specs.Laws.{Outcome}
 use Rattle.flow_model.specs.States.{State}
-use Rattle.flow_model.specs.Events.{Event, Starts, Finishes, Gets, Takes_text, Hears_end, Sends, Learns, Sleeps, Closes, seen_by}
+use Rattle.flow_model.specs.Events.{Event, Starts, Finishes, Gets, Takes_text, Hears_end, Sends, Learns, Sleeps, Closes, Signals, seen_by}
 use Rattle.flow_model.specs.Schedules.{Journal, LeadsBy, Leads}
 use Rattle.flow_model.specs.Plans.{start_of}
 use Rattle.flow_model.specs.Laws.{KeepsPrefixes}
@@ -26,6 +26,7 @@ sees-one (Hears_end port) = omega arith
 sees-one (Sends port c packet) = omega arith
 sees-one Sleeps = omega arith
 sees-one (Closes output c) = omega arith
+sees-one (Signals c packet) = omega arith
 
 -- so all turns see no more numbers than they are
 sees-few : {K : Type 0} (next : K → Held → Answer → Outcome K → Type 0) (s : State K) (turns seen : List ℕ) (s' : State K) → LeadsBy next s turns seen s' → length seen ≤ length turns

@@ -130,4 +130,6 @@ impl Component for Bundle {
             Answer::Level(_) => unreachable!(),
         }
     }
+
+    fn end(&mut self) {}
 }

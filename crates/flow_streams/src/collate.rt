@@ -464,4 +464,6 @@ impl Component for Collate {
             Answer::Level(_) => unreachable!(),
         }
     }
+
+    fn end(&mut self) {}
 }

@@ -82,4 +82,6 @@ impl Component for Concat {
             Answer::Level(_) => unreachable!(),
         }
     }
+
+    fn end(&mut self) {}
 }

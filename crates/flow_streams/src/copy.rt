@@ -126,4 +126,6 @@ impl Component for Copy {
             Answer::Level(_) => unreachable!(),
         }
     }
+
+    fn end(&mut self) {}
 }

@@ -57,4 +57,6 @@ impl Component for Discard {
             Answer::Level(_) => unreachable!(),
         }
     }
+
+    fn end(&mut self) {}
 }

@@ -54,4 +54,6 @@ impl Component for Hoard {
             Answer::Level(_) => unreachable!(),
         }
     }
+
+    fn end(&mut self) {}
 }

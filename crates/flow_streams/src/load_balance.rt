@@ -166,4 +166,6 @@ impl Component for LoadBalance {
             Answer::Level(level) => self.learn(hands, level),
         }
     }
+
+    fn end(&mut self) {}
 }

@@ -54,4 +54,6 @@ impl Component for Passthru {
             Answer::Level(_) => unreachable!(),
         }
     }
+
+    fn end(&mut self) {}
 }

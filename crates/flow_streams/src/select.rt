@@ -200,4 +200,6 @@ impl Component for Select {
             Answer::Level(_) => unreachable!(),
         }
     }
+
+    fn end(&mut self) {}
 }

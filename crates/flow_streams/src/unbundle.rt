@@ -132,4 +132,6 @@ impl Component for Unbundle {
             Answer::Level(_) => unreachable!(),
         }
     }
+
+    fn end(&mut self) {}
 }

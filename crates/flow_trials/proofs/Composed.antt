@@ -1,5 +1,5 @@
 -- The composition of the Telegram Problem.
-use Rattle.std.proofs.Common.{◌≡◌, ℕ, zero, suc, ◌≤◌, List, [], ◌∷◌, map, length, Some, None, refl, sym, ap, ◌∙◌, subst, arith, slice_get, inl}
+use Rattle.std.proofs.Common.{◌≡◌, ℕ, zero, suc, ◌<◌, ◌≤◌, List, [], ◌∷◌, map, length, Some, None, refl, sym, ap, ◌∙◌, subst, arith, slice_get, inl}
 use Rattle.std.specs.Prelude.{codes}
 use Rattle.std.specs.List.{flat_map}
 use Rattle.flow_packet.specs.Tree.{Tree}
@@ -14,7 +14,7 @@ use Rattle.flow_catalogue.specs.declared.standard.Std.{Std}
 use Rattle.flow_catalogue.specs.declared.standard.Std.TheVariants as components
 use Rattle.flow_catalogue.specs.declared.table.StdKind.TheVariants as kinds
 use Rattle.flow_catalogue.specs.Kinds.{name_of}
-use Rattle.flow_catalogue.specs.Std.{written_of}
+use Rattle.flow_catalogue.specs.Std.{std_shape, written_of}
 use Rattle.flow_model.specs.Plans.{input_at, sends_at}
 use Rattle.flow_model.proofs.Lists.{map-found}
 use Rattle.flow_meanings.specs.Means.{Means}
@@ -70,6 +70,19 @@ senders (suc zero) k sending is = own-sender 1 k sending refl is
 senders (suc (suc zero)) k sending is = own-sender 2 k sending refl is
 senders (suc (suc (suc c))) k sending is = absurd (cc)
 
+-- and was sent at an output of its component
+own-output : (c k : ℕ) (sending : Sending) (component : Std) → ((j : Std) → slice_get telegram_components c ≡ Some j → 0 < (std_shape j).outputs) → slice_get (telegram_on c) k ≡ Some sending → slice_get telegram_components sending.sender.process ≡ Some component
+    → sending.sender.output < (std_shape component).outputs
+own-output c k sending component first is at =
+    let found = map-found (sent_by c) (texts_from c) k sending is in
+    subst (λ (s : Sending). slice_get telegram_components s.sender.process ≡ Some component → s.sender.output < (std_shape component).outputs) found.2 (λ here. first component here) at
+
+own : (c k : ℕ) (sending : Sending) (component : Std) → slice_get (telegram_on c) k ≡ Some sending → slice_get telegram_components sending.sender.process ≡ Some component → sending.sender.output < (std_shape component).outputs
+own zero k sending component is at = own-output 0 k sending component (λ j here. subst (λ (i : Std). 0 < (std_shape i).outputs) (let e : components.ReadLines telegram_input ≡ j = cc in e) (omega arith)) is at
+own (suc zero) k sending component is at = own-output 1 k sending component (λ j here. subst (λ (i : Std). 0 < (std_shape i).outputs) (let e : components.Words words_parts.Waiting ≡ j = cc in e) (omega arith)) is at
+own (suc (suc zero)) k sending component is at = own-output 2 k sending component (λ j here. subst (λ (i : Std). 0 < (std_shape i).outputs) (let e : components.Fill (fresh_fill 12) ≡ j = cc in e) (omega arith)) is at
+own (suc (suc (suc c))) k sending component is at = absurd (cc)
+
 -- the words of the telegram in its lines
 abbrev telegram_lines : List Line
 telegram_lines = (codes "To" ∷ codes "be" ∷ codes "or" ∷ codes "not" ∷ []) ∷ (codes "to" ∷ codes "be" ∷ codes "that" ∷ []) ∷ (codes "is" ∷ codes "the" ∷ []) ∷ (codes "question" ∷ []) ∷ []
@@ -107,7 +120,7 @@ others (suc (suc (suc (suc p)))) component at none = refl
 
 -- The worked run composes, with these streams on its connections.
 pub composed : (m : Composes telegram telegram_components telegram_wrote) × (m.on ≡ telegram_on)
-composed = (record { one_each = refl; first = components-first telegram telegram_components are-components; on = telegram_on; senders = senders; each = each; others = others }, refl)
+composed = (record { one_each = refl; first = components-first telegram telegram_components are-components; on = telegram_on; senders = senders; own = own; each = each; others = others }, refl)
 
 -- There is no other file
 

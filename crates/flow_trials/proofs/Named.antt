@@ -31,19 +31,19 @@ abbrev with_input : Draft
 with_input = given named (at 0) (codes "in.txt")
 
 abbrev with_lines : Draft
-with_lines = joined with_input (at 1) (at 2) None
+with_lines = joined with_input (at 2) (at 4) None
 
 abbrev with_words : Draft
-with_words = joined with_lines (at 3) (at 5) (Some 20)
+with_words = joined with_lines (at 6) (at 9) (Some 20)
 
 abbrev with_size : Draft
-with_size = given with_words (at 4) (codes "12")
+with_size = given with_words (at 8) (codes "12")
 
 abbrev with_telegram : Draft
-with_telegram = joined with_size (at 6) (at 8) None
+with_telegram = joined with_size (at 11) (at 14) None
 
 abbrev with_output : Draft
-with_output = given with_telegram (at 7) (codes "out.txt")
+with_output = given with_telegram (at 13) (codes "out.txt")
 
 in_ascii : (i : ℕ) → slice_index (codes "in.txt") i < 128
 in_ascii zero = omega arith
@@ -96,7 +96,7 @@ drafted : IsDraft std_kinds telegram_component (Ok with_output)
 drafted = (
   Ok with_input,
   (at 0, refl, in_name, refl),
-  (Ok with_lines, refl, (Ok with_words, refl, (Ok with_size, (at 4, refl, twelve, refl), (Ok with_telegram, refl, (Ok with_output, (at 7, refl, out_name, refl), refl))))),
+  (Ok with_lines, refl, (Ok with_words, refl, (Ok with_size, (at 8, refl, twelve, refl), (Ok with_telegram, refl, (Ok with_output, (at 13, refl, out_name, refl), refl))))),
 )
 
 short : HasShortTexts telegram_component

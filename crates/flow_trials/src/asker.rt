@@ -49,4 +49,6 @@ impl Component for Asker {
             Answer::Level(_) => Ok(Wish::Deactivate),
         }
     }
+
+    fn end(&mut self) {}
 }

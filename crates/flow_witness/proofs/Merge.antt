@@ -5,7 +5,7 @@ use Rattle.std.specs.Prelude.{codes}
 use Rattle.flow_plan.specs.declared.plan.Sender.{Sender}
 use Rattle.flow_plan.specs.declared.plan.Process.{Process as Entry}
 use Rattle.flow_plan.specs.declared.plan.Connection.{Connection}
-use Rattle.flow_plan.specs.Network.{HasInput, HasOutput}
+use Rattle.flow_plan.specs.Network.{IsInputEnd, IsOutputEnd}
 use Rattle.flow_plan.specs.Valid.{HasConnection, IsWired}
 use Rattle.flow_model.specs.declared.Stage.TheVariants as stages
 use Rattle.flow_model.specs.States.{Process, State}
@@ -50,11 +50,11 @@ wired : IsWired merge
 wired = record {
   few_processes = omega arith;
   few_connections = omega arith;
-  receivers = at_one (λ c x. HasInput merge x.receiver x.input) c0 (q2, refl, omega arith);
+  receivers = at_one (λ c x. IsInputEnd merge x.receiver x.input) c0 (q2, refl, omega arith);
   one_receiver = λ c d x y hc hd receiver input. at_one (λ c x. c ≡ d) c0 (at_one (λ d y. 0 ≡ d) c0 refl d y hd) c x hc;
   senders = λ c k x s hc. at_one
-      (λ c x. (k : ℕ) (s : Sender) → slice_get x.senders k ≡ Some s → HasOutput merge s.process s.output) c0
-      (at_two (λ k s. HasOutput merge s.process s.output) s0 s1 (q0, refl, omega arith) (q1, refl, omega arith))
+      (λ c x. (k : ℕ) (s : Sender) → slice_get x.senders k ≡ Some s → IsOutputEnd merge s.process s.output) c0
+      (at_two (λ k s. IsOutputEnd merge s.process s.output) s0 s1 (q0, refl, omega arith) (q1, refl, omega arith))
       c x hc k s;
   one_sender = λ c d k l x y s hc hd hk hl. at_one
       (λ c x. slice_get x.senders k ≡ Some s → (c ≡ d) × (k ≡ l)) c0

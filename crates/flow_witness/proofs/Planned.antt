@@ -29,13 +29,13 @@ abbrev with_input : Draft
 with_input = given named (at 0) (codes "in.txt")
 
 abbrev with_first : Draft
-with_first = joined with_input (at 1) (at 2) None
+with_first = joined with_input (at 2) (at 4) None
 
 abbrev with_second : Draft
-with_second = joined with_first (at 3) (at 5) None
+with_second = joined with_first (at 6) (at 9) None
 
 abbrev with_output : Draft
-with_output = given with_second (at 4) (codes "out.txt")
+with_output = given with_second (at 8) (codes "out.txt")
 
 in_ascii : (i : ℕ) → slice_index (codes "in.txt") i < 128
 in_ascii zero = omega arith
@@ -82,7 +82,7 @@ out_name : IsFileName (codes "out.txt")
 out_name = (omega arith, omega arith, IsUtf8-from_ascii (codes "out.txt") out_ascii, out_bytes)
 
 drafted : IsDraft std_kinds first_component (Ok with_output)
-drafted = (Ok with_input, (at 0, refl, in_name, refl), (Ok with_first, refl, (Ok with_second, refl, (Ok with_output, (at 4, refl, out_name, refl), refl))))
+drafted = (Ok with_input, (at 0, refl, in_name, refl), (Ok with_first, refl, (Ok with_second, refl, (Ok with_output, (at 8, refl, out_name, refl), refl))))
 
 short : HasShortTexts first_component
 short zero d below = omega arith

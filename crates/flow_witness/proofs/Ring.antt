@@ -7,7 +7,7 @@ use Rattle.flow_component.specs.declared.Fail.{Fail}
 use Rattle.flow_plan.specs.declared.plan.Sender.{Sender}
 use Rattle.flow_plan.specs.declared.plan.Process.{Process as Entry}
 use Rattle.flow_plan.specs.declared.plan.Connection.{Connection}
-use Rattle.flow_plan.specs.Network.{HasInput, HasOutput}
+use Rattle.flow_plan.specs.Network.{IsInputEnd, IsOutputEnd}
 use Rattle.flow_plan.specs.Valid.{HasConnection, IsWired}
 use Rattle.flow_model.specs.declared.Stage.TheVariants as stages
 use Rattle.flow_model.specs.States.{Process, State}
@@ -45,16 +45,16 @@ wired : IsWired ring
 wired = record {
   few_processes = omega arith;
   few_connections = omega arith;
-  receivers = at_two (λ c x. HasInput ring x.receiver x.input) c0 c1 (q1, refl, omega arith) (q0, refl, omega arith);
+  receivers = at_two (λ c x. IsInputEnd ring x.receiver x.input) c0 c1 (q1, refl, omega arith) (q0, refl, omega arith);
   one_receiver = λ c d x y hc hd. at_two
       (λ c x. (d : ℕ) (y : Connection) → slice_get ring.connections d ≡ Some y → x.receiver ≡ y.receiver → x.input ≡ y.input → c ≡ d) c0 c1
       (at_two (λ d y. 1 ≡ y.receiver → 0 ≡ y.input → 0 ≡ d) c0 c1 (λ r i. refl) (λ r i. absurd (omega arith)))
       (at_two (λ d y. 0 ≡ y.receiver → 0 ≡ y.input → 1 ≡ d) c0 c1 (λ r i. absurd (omega arith)) (λ r i. refl))
       c x hc d y hd;
   senders = λ c k x s hc. at_two
-      (λ c x. (k : ℕ) (s : Sender) → slice_get x.senders k ≡ Some s → HasOutput ring s.process s.output) c0 c1
-      (at_one (λ k s. HasOutput ring s.process s.output) s0 (q0, refl, omega arith))
-      (at_one (λ k s. HasOutput ring s.process s.output) s1 (q1, refl, omega arith))
+      (λ c x. (k : ℕ) (s : Sender) → slice_get x.senders k ≡ Some s → IsOutputEnd ring s.process s.output) c0 c1
+      (at_one (λ k s. IsOutputEnd ring s.process s.output) s0 (q0, refl, omega arith))
+      (at_one (λ k s. IsOutputEnd ring s.process s.output) s1 (q1, refl, omega arith))
       c x hc k s;
   one_sender = λ c d k l x y s hc hd hk hl. at_two
       (λ c x. (k : ℕ) → slice_get x.senders k ≡ Some s → (d : ℕ) (y : Connection) → slice_get ring.connections d ≡ Some y → (l : ℕ) → slice_get y.senders l ≡ Some s → (c ≡ d) × (k ≡ l)) c0 c1

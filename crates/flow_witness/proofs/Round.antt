@@ -6,7 +6,7 @@ use Rattle.flow_component.specs.declared.Answer.{Answer}
 use Rattle.flow_component.specs.Laws.{Outcome}
 use Rattle.flow_model.specs.declared.Stage.TheVariants as stages
 use Rattle.flow_model.specs.States.{Process, Kept, State}
-use Rattle.flow_model.specs.Events.{Event, Starts, Finishes, Gets, Takes_text, Hears_end, Sends, Learns, Sleeps, Closes, looks, stage_event, seen_by}
+use Rattle.flow_model.specs.Events.{Event, Starts, Finishes, Gets, Takes_text, Hears_end, Sends, Learns, Sleeps, Closes, Signals, looks, stage_event, seen_by}
 use Rattle.flow_model.specs.Schedules.{Journal, no_turns}
 use Rattle.flow_model.specs.Verdicts.{HasNoTurn, IsFinished}
 use Rattle.flow_model.specs.Robin.{IsExact, TurnsOf, Pass, RoundRobin}
@@ -27,6 +27,7 @@ no-number (Hears_end port) rest is = (refl, sym is)
 no-number (Sends port c packet) rest is = (refl, sym is)
 no-number Sleeps rest is = (refl, sym is)
 no-number (Closes output c) rest is = (refl, sym is)
+no-number (Signals c packet) rest is = (refl, sym is)
 
 exact-none : {K : Type 0} (kept : Kept K) (x : Process K) (event : Event) → seen_by event ≡ [] → IsExact kept x event
 exact-none kept x (Learns port level) is = absurd (cc)
@@ -38,6 +39,7 @@ exact-none kept x (Hears_end port) is = tt
 exact-none kept x (Sends port c packet) is = tt
 exact-none kept x Sleeps is = tt
 exact-none kept x (Closes output c) is = tt
+exact-none kept x (Signals c packet) is = tt
 
 -- turns of one process that ask for no level, computed
 pub run-turns : {K : Type 0} (next : K → Held → Answer → Outcome K) (p n : ℕ) (s s' : State K) → run next s (replicate n p) [] ≡ Some s' → TurnsOf (Graph next) p s (replicate n p) [] s'
@@ -92,7 +94,7 @@ turns_only turns = record { turns = turns; seen = [] }
 
 abbrev process_of : Option (Process Std) → Process Std
 process_of (Some x) = x
-process_of None = record { stage = stages.Idle; has_run = false; component = components.Passthru passing; held = record { maker = 0; made = 0; packets = [] }; fresh = []; depths = []; turns = 0; inputs = []; outputs = [] }
+process_of None = record { stage = stages.Idle; has_run = false; component = components.Passthru passing; held = record { maker = 0; made = 0; packets = [] }; fresh = []; depths = []; turns = 0; inputs = []; outputs = []; signal = None; signalled = false }
 
 -- A process of a state.
 abbrev pub at : State Std → ℕ → Process Std

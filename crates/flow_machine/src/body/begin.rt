@@ -1,5 +1,5 @@
 //! A process at its start.
-ghost use Rattle.std.specs.Prelude.{◌≡◌, ◌<◌, ◌^◌, length, map, IfOk, IfSome, Some, slice_get};
+ghost use Rattle.std.specs.Prelude.{◌≡◌, ◌+◌, ◌<◌, ◌^◌, length, map, IfOk, IfSome, Some, slice_get};
 ghost use Rattle.flow_plan.specs.declared.plan.Process.{Process as NetProcess};
 ghost use Rattle.std.specs.List.{range_with_len};
 ghost use Rattle.flow_model.specs.Plans.{process_at_start, receives_at, sends_at};
@@ -8,7 +8,8 @@ ghost use Rattle.flow_machine.specs.Starts.{StartsBody};
 
 use super::Body;
 use crate::answers::Thought;
-use crate::start::{inlets_of, places};
+use crate::outlets::connection_in;
+use crate::start::{fits, inlets_of, places};
 use flow_component::Component;
 use flow_model::Stage;
 use flow_net::Plan;
@@ -16,7 +17,8 @@ use flow_packet::Hands;
 use std::alloc::{AllocError, Global};
 
 impl<K: Component> Body<K> {
-    /// A process of a plan that hasn't started, with the room of its first turn. The rows are the connections at its inputs and at its outputs.
+    /// A process of a plan that hasn't started, with the room of its first turn. The rows are the connections at its inputs and at its
+    /// outputs, the automatic ones last.
     pub(crate) fn begin(
         alloc: Global,
         plan: &Plan,
@@ -26,15 +28,20 @@ impl<K: Component> Body<K> {
         component: K,
     ) -> Result<Body<K>, AllocError>
         requires in_range { process < length plan.now.processes }
-        requires receiving { IfSome (slice_get plan.now.processes process) (λ x. receiving.now ≡ map (receives_at plan.now process) (range_with_len 0 x.inputs)) }
-        requires sending { IfSome (slice_get plan.now.processes process) (λ x. sending.now ≡ map (sends_at plan.now process) (range_with_len 0 x.outputs)) }
-        requires well { (x : NetProcess) → slice_get plan.now.processes process ≡ Some x → x.outputs < 2 ^ 32 → StandsWell K.shape_of K.uses K.ready (process_at_start plan.now process x component) }
-        ensures { IfOk result (λ body. (x : NetProcess) → slice_get plan.now.processes process ≡ Some x → StartsBody (process_at_start plan.now process x component) body) }
+        requires receiving { IfSome (slice_get plan.now.processes process) (λ x. receiving.now ≡ map (receives_at plan.now process) (range_with_len 0 (x.inputs + 1))) }
+        requires sending { IfSome (slice_get plan.now.processes process) (λ x. sending.now ≡ map (sends_at plan.now process) (range_with_len 0 (x.outputs + 1))) }
+        requires well { (x : NetProcess) → slice_get plan.now.processes process ≡ Some x → x.outputs + 1 < 2 ^ 32 → StandsWell K.shape_of K.uses K.ready (process_at_start plan.now process x (K.state_of component)) }
+        ensures { IfOk result (λ body. (x : NetProcess) → slice_get plan.now.processes process ≡ Some x → StartsBody (process_at_start plan.now process x (K.state_of component)) body) }
     {
         let entry = &plan.processes()[process as usize];
-        let fresh = vec![in alloc; false; places(entry.inputs)]?;
-        let depths = vec![in alloc; 0; places(entry.outputs)]?;
-        let inlets = inlets_of(alloc, entry, receiving)?;
+        if !fits(sending.len()) {
+            return Err(AllocError);
+        }
+        let own = places(entry.inputs);
+        let fresh = vec![in alloc; false; own]?;
+        let depths = vec![in alloc; 0; places(entry.outputs) + 1]?;
+        let inlets = inlets_of(alloc, entry, &receiving[..own])?;
+        let signal = connection_in(receiving, own);
         let outputs = Vec::from_slice(alloc, sending)?;
         let mut body = Body {
             number: process,
@@ -45,6 +52,8 @@ impl<K: Component> Body<K> {
             inlets,
             fresh,
             outputs,
+            signal,
+            signalled: false,
             depths,
             leaving: None,
             stamps: Vec::new(alloc),

@@ -136,6 +136,7 @@ impl<K: Component> Body<K> {
             Effect::Level(level) => self.learn(level, stamp),
             Effect::Deactivate => self.deactivate(stamp),
             Effect::Closed => self.close(stamp),
+            Effect::Signal(packet) => self.take_signal(packet, stamp),
         }
     }
 
@@ -255,6 +256,19 @@ impl<K: Component> Body<K> {
         ensures { TakesTurn self.old Effect.Deactivate stamp self.new }
     {
         self.has_run = true;
+        add_stamp(&mut self.stamps, stamp);
+        enter(&mut self.stage, self.stamps.len(), Stage::Idle);
+    }
+
+    #[cold]
+    #[inline(never)]
+    pub(crate) fn take_signal(&mut self, packet: Packet, stamp: u32)
+        requires room { HasRoom self.old }
+        requires effect { IsEffectFor self.old.process self.old.leaving (Effect.Signal packet) }
+        ensures { TakesTurn self.old (Effect.Signal packet) stamp self.new }
+    {
+        self.hands.swallow(packet);
+        self.signalled = true;
         add_stamp(&mut self.stamps, stamp);
         enter(&mut self.stage, self.stamps.len(), Stage::Idle);
     }

@@ -82,7 +82,7 @@ impl<K: Component> Body<K> {
         }
     }
 
-    /// Takes the room of the next turn, if there is to be one.
+    /// Takes the room of the next turn, if there is to be one; if there is none, the component is told its end.
     #[inline(always)]
     pub(crate) fn prepare(&mut self) -> Thought
         requires whole { self.old.leaving ≡ None }
@@ -91,8 +91,14 @@ impl<K: Component> Body<K> {
         ensures keeps { KeepsTurns self.old self.new }
     {
         match self.stage {
-            Stage::Failed(cause) => Thought::Failed(cause),
-            Stage::Ended => Thought::Wishing,
+            Stage::Failed(cause) => {
+                self.component.end();
+                Thought::Failed(cause)
+            }
+            Stage::Ended => {
+                self.component.end();
+                Thought::Wishing
+            }
             _ => match self.make_room() {
                 Ok(()) => Thought::Wishing,
                 Err(_) => Thought::NoMemory,

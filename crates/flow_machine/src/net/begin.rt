@@ -1,5 +1,5 @@
 //! A network at its start.
-ghost use Rattle.std.specs.Prelude.{◌≡◌, ◌<◌, ◌≤◌, length, IfOk, ℕ, Some, slice_get};
+ghost use Rattle.std.specs.Prelude.{◌≡◌, ◌<◌, ◌≤◌, length, map, IfOk, ℕ, Some, slice_get};
 ghost use Rattle.flow_plan.specs.declared.plan.Connection.{Connection as NetConnection};
 ghost use Rattle.flow_model.specs.Plans.{StartsWell};
 ghost use Rattle.flow_machine.specs.Starts.{StartsNet, StartsBodies, StartsChannels};
@@ -76,9 +76,9 @@ fn bodies_of<K: Component>(
     plan: &Plan,
     components: Vec<K>,
 ) -> Result<Vec<Body<K>>, AllocError>
-    requires well { StartsWell K.shape_of K.uses K.ready plan.now components.items }
+    requires well { StartsWell K.shape_of K.uses K.ready plan.now (map K.state_of components.items) }
     requires few { length plan.now.connections ≤ CONNECTION_LIMIT }
-    ensures { IfOk result (λ bodies. StartsBodies plan.now components.items bodies.items) }
+    ensures { IfOk result (λ bodies. StartsBodies plan.now (map K.state_of components.items) bodies.items) }
 {
     let receiving = receiving(alloc, plan)?;
     let sending = sending(alloc, plan)?;
@@ -105,9 +105,9 @@ impl<K: Component> Net<K> {
     /// A network of a plan with these components, one for each process. All processes are idle and set, nothing was made or put, each connection has
     /// the places of its capacity, and the net has a copy of the plan's connections.
     pub fn start(alloc: Global, plan: &Plan, components: Vec<K>) -> Result<Net<K>, AllocError>
-        requires well { StartsWell K.shape_of K.uses K.ready plan.now components.items }
+        requires well { StartsWell K.shape_of K.uses K.ready plan.now (map K.state_of components.items) }
         requires few { length plan.now.connections ≤ CONNECTION_LIMIT }
-        ensures { IfOk result (λ net. StartsNet plan.now components.items net) }
+        ensures { IfOk result (λ net. StartsNet plan.now (map K.state_of components.items) net) }
     {
         let connections = copied(alloc, plan.connections())?;
         let channels = channels_of(alloc, plan.connections())?;

@@ -38,17 +38,23 @@ fn full(channel: &Channel, connection: u32, port: Port) -> Option<Block>
     }
 }
 
-/// An idle process waits while it can neither start nor go to its end.
+/// An idle process waits while it can neither start nor go to its end nor take a packet from its automatic input.
 fn dormant<K: Component>(body: &Body<K>, channels: &[Channel]) -> Option<Block>
     ensures { result ≡ if is_some (idle_event (map look_shown channels.now) body.now.process) then None else Some Dormant }
 {
     if body.can_start(channels) {
         return None;
     }
-    if body.has_ended(channels) {
+    if body.can_finish(channels) {
         return None;
     }
-    Some(Block::Dormant)
+    if !body.takes_signal(channels) {
+        return Some(Block::Dormant);
+    }
+    match body.signal_source(channels) {
+        Some(_) => None,
+        None => Some(Block::Dormant),
+    }
 }
 
 /// The block of a process.

@@ -7,7 +7,7 @@ ghost use Rattle.flow_model.specs.declared.Stage.TheVariants.{Wishing, Idle};
 ghost use Rattle.flow_model.specs.declared.Block.{Block};
 ghost use Rattle.flow_model.specs.declared.Block.TheVariants.{Empty, Full, Dormant};
 ghost use Rattle.flow_machine.specs.Thoughts.{HasRoom};
-ghost use Rattle.flow_machine.specs.Nets.{PairTurns, AloneTurns, GetsSound, SendsAt, packet_wished};
+ghost use Rattle.flow_machine.specs.Nets.{PairTurns, WakeTurns, GetsSound, SendsAt, packet_wished};
 
 use crate::answers::Turn;
 use crate::body::Body;
@@ -66,22 +66,30 @@ pub(crate) fn send<K: Component>(
     Turn::Blocked(Block::Full { connection, port })
 }
 
-/// An idle process starts, or goes to its end, or is dormant.
+/// An idle process starts, or goes to its end, or takes a packet from its automatic input, or is dormant.
 #[cold]
 #[inline(never)]
-pub(crate) fn wake<K: Component>(body: &mut Body<K>, channels: &[Channel], stamp: u32) -> Turn
+pub(crate) fn wake<K: Component>(body: &mut Body<K>, channels: &mut [Channel], stamp: u32) -> Turn
     requires whole { body.old.leaving ≡ None }
     requires stage { body.old.process.stage ≡ Idle }
     requires room { HasRoom body.old }
-    ensures { AloneTurns (idle_event (map look_shown channels.now) body.old.process) Dormant stamp body.old result body.new }
+    ensures { WakeTurns (idle_event (map look_shown channels.old) body.old.process) Dormant stamp body.old channels.old result body.new channels.new }
 {
     if body.can_start(channels) {
         body.start(stamp);
         return Turn::Made(stamp);
     }
-    if body.has_ended(channels) {
+    if body.can_finish(channels) {
         body.begin_closing(stamp);
         return Turn::Made(stamp);
     }
-    Turn::Blocked(Block::Dormant)
+    if !body.takes_signal(channels) {
+        return Turn::Blocked(Block::Dormant);
+    }
+    let Some(connection) = body.signal_source(channels) else {
+        return Turn::Blocked(Block::Dormant);
+    };
+    let packet = channels[connection as usize].take();
+    body.take_signal(packet, stamp);
+    Turn::Made(stamp)
 }

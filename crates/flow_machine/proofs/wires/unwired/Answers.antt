@@ -8,10 +8,10 @@ use Rattle.flow_machine.proofs.wires.unwired.Goals as goal
 pub loop-process-preserved : goal.loop-process-preserved
 loop-process-preserved c =
     let x : Process = c.process-item.result in
-    let n : ℕ = c.places.result in
+    let n : ℕ = c.ports_of-ports.result in
     let one : c.of.result ≡ empty_row c.args.input x =
     c.of.ensures ∙ c.in_ok-resize.ensures.items ∙ (λ i. take {A = Option ℕ} n (c.new-row.ensures.items i) ++ replicate {A = Option ℕ} (n - c.new-row.ensures.len i) None) ∙ ap (λ (m : ℕ). take {A = Option ℕ} n [] ++ replicate {A = Option ℕ} m None) (let e : n - 0 ≡ n = omega arith in e)
-    ∙ ap (λ (r : List (Option ℕ)). r ++ replicate {A = Option ℕ} n None) (take-nil n) ∙ ap (λ (m : ℕ). replicate {A = Option ℕ} m None) (c.places.ensures.is ∙ c.ports_of-ports.ensures) in
+    ∙ ap (λ (r : List (Option ℕ)). r ++ replicate {A = Option ℕ} n None) (take-nil n) ∙ ap (λ (m : ℕ). replicate {A = Option ℕ} m None) c.ports_of-ports.ensures in
     c.in_ok-push.ensures.items ∙ (λ i. c.loop-process.invariant i ++ (one ∙ ap (empty_row c.args.input) c.process-item.is) i ∷ []) ∙ sym (map_more (empty_row c.args.input) c.args.processes.now c.loop-process.process-index x c.loop-process-test.true)
 
 pub returns : goal.returns

@@ -26,3 +26,6 @@ returns-in-Receive-clause-wired g c = wired-came g.K.Component.shape_of g.K.Comp
 
 pub returns-in-Send-clause-wired : goal.returns-in-Send-clause-wired
 returns-in-Send-clause-wired g c = wired-came g.K.Component.shape_of g.K.Component.uses g.K.Component.ready g.K.Component.next _ _ _ c.args.held.now c.send_turn.new.held c.args.worker.now c.send_turn.new.worker c.send_turn.result c.send_turn.ensures.turned c.requires.wired
+
+pub returns-in-Initial-clause-wired : goal.returns-in-Initial-clause-wired
+returns-in-Initial-clause-wired g c = wired-came g.K.Component.shape_of g.K.Component.uses g.K.Component.ready g.K.Component.next _ _ _ c.args.held.now c.text_turn.new.held c.args.worker.now c.text_turn.new.worker c.text_turn.result c.text_turn.ensures.turned c.requires.wired

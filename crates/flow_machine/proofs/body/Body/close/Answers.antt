@@ -10,7 +10,7 @@ use Rattle.flow_machine.proofs.body.Body.close.Goals as goal
 
 pub overflow_add-place : goal.overflow_add-place
 overflow_add-place g c =
-    let x : Process g.row.K.Denot = process_shown c.self.inside in
+    let x : Process g.row.K.Denot = process_shown g.K.Component.state_of c.self.inside in
     let none : c.self.inside.leaving ≡ None = ap (λ (b : BodyValue g.row.K.Denot). b.leaving) c.self.view_is ∙ c.requires.effect.0 in
     let well : StandsWell g.K.Component.shape_of g.K.Component.uses g.K.Component.ready x = subst (IsBody g.K.Component.shape_of g.K.Component.uses g.K.Component.ready x) none c.self.invariant in
     let h : c.in-Closing.place + 1 < 2 ^ 32 = closing-fits g.K.Component.shape_of g.K.Component.uses g.K.Component.ready x c.in-Closing.place well c.in-Closing.is in
@@ -18,7 +18,7 @@ overflow_add-place g c =
 
 pub invariant_of-self : goal.invariant_of-self
 invariant_of-self g c =
-    let x : Process g.row.K.Denot = process_shown c.self.inside in
+    let x : Process g.row.K.Denot = process_shown g.K.Component.state_of c.self.inside in
     let none : c.self.inside.leaving ≡ None = ap (λ (b : BodyValue g.row.K.Denot). b.leaving) c.self.view_is ∙ c.requires.effect.0 in
     let well : StandsWell g.K.Component.shape_of g.K.Component.uses g.K.Component.ready x = subst (IsBody g.K.Component.shape_of g.K.Component.uses g.K.Component.ready x) none c.self.invariant in
     rw (none, c.enter.ensures, c.closing_stage-next.ensures, c.deref.ensures.value, c.len.ensures, c.add_stamp.ensures.len)

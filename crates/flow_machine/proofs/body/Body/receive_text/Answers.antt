@@ -12,7 +12,7 @@ use Rattle.flow_machine.proofs.body.Body.receive_text.Goals as goal
 
 pub invariant_of-self : goal.invariant_of-self
 invariant_of-self g c =
-    let x : Process g.row.K.Denot = process_shown c.self.inside in
+    let x : Process g.row.K.Denot = process_shown g.K.Component.state_of c.self.inside in
     let none : c.self.inside.leaving ≡ None = ap (λ (b : BodyValue g.row.K.Denot). b.leaving) c.self.view_is ∙ c.requires.effect.0 in
     let well : StandsWell g.K.Component.shape_of g.K.Component.uses g.K.Component.ready x = subst (IsBody g.K.Component.shape_of g.K.Component.uses g.K.Component.ready x) none c.self.invariant in
     let stage : x.stage ≡ stages.Wishing (Receive c.requires.effect.1.0) = ap (λ (b : BodyValue g.row.K.Denot). b.process.stage) c.self.view_is ∙ c.requires.effect.1.2 in

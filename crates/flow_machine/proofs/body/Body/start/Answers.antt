@@ -14,7 +14,7 @@ use Rattle.flow_machine.proofs.body.Body.start.Goals as goal
 
 pub returns : goal.returns
 returns g c =
-    let x : Process g.row.K.Denot = process_shown c.self.inside in
+    let x : Process g.row.K.Denot = process_shown g.K.Component.state_of c.self.inside in
     let none : c.self.inside.leaving ≡ None = ap (λ (b : BodyValue g.row.K.Denot). b.leaving) c.self.view_is ∙ c.requires.effect.0 in
     let fresh : (with_items c.self.inside.fresh c.freshen.new.fresh).items ≡ map (λ (input : Input). not (is_connected input)) (map input_shown c.self.inside.inlets.items) =
     with_items_is c.self.inside.fresh c.freshen.new.fresh (search rules) ∙ c.freshen.ensures ∙ ap (map is_text) c.deref.ensures.value ∙ texts-shown c.self.inside.inlets.items in

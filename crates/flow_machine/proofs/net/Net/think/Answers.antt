@@ -22,7 +22,7 @@ invariant_of-self g c =
     let same = same-turns g.K.Component.shape_of g.K.Component.uses g.K.Component.ready g.K.Component.next g.met.K.Component.obeys g.met.K.Component.stays_ready g.met.K.Component.steady c.index_mut.result.now c.think.new.self (thinks-step g.K.Component.next c.index_mut.result.now c.think.result c.think.new.self c.think.ensures.thinks) in
     record {
       fit = fit-think g.K.Component.shape_of g.K.Component.uses g.K.Component.ready g.K.Component.next g.met.K.Component.obeys g.met.K.Component.stays_ready g.met.K.Component.steady old c.args.process c.think.result new thinks c.self.invariant.fit;
-      planned = planned-kept old new refl (wires-set c.self.inside.bodies.items c.args.process c.index_mut.result.now c.think.new.self there same.1 same.2) refl c.self.invariant.planned;
+      planned = planned-kept old new refl (wires-set c.self.inside.bodies.items c.args.process c.index_mut.result.now c.think.new.self there same.1 same.2 same.3) refl c.self.invariant.planned;
     }
 
 pub returns : goal.returns

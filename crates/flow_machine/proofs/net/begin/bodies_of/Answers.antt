@@ -1,10 +1,12 @@
-use Rattle.std.proofs.Common.{◌≡◌, ◌∙◌, ◌<◌, ℕ, [], ◌∷◌, List, length, ap, sym, arith, refl, Some, slice_get, length-append, length-drop, inl, inr}
+use Rattle.std.proofs.Common.{◌≡◌, ◌∙◌, ◌<◌, ℕ, [], ◌∷◌, List, length, map, ap, sym, arith, refl, Some, slice_get, length-append, length-drop, inl, inr}
 use Rattle.flow_plan.specs.declared.plan.Process.{Process as NetProcess}
 use Rattle.flow_machine.specs.Values.{BodyValue}
 use Rattle.std.proofs.Common.{true, false}
 use Rattle.flow_model.specs.Plans.{receives_at, sends_at}
 use Rattle.flow_machine.proofs.WireLemmas.{row-within, row-read}
-use Rattle.flow_machine.proofs.Lists.{element-there, last-or, nothing-there, some-same}
+use Rattle.std.proofs.lemmas.List.{length-map}
+use Rattle.flow_model.proofs.Lists.{map-found}
+use Rattle.flow_machine.proofs.Lists.{map-there, element-there, last-or, nothing-there, some-same}
 use Rattle.flow_machine.proofs.StartLemmas.{stands-start, rest-drops, first-of, starts-same}
 use Rattle.flow_machine.proofs.net.begin.bodies_of.Goals as goal
 
@@ -18,6 +20,7 @@ remove-component-requires g c =
       c.loop-process-test.true,
       ap (λ (ps : List NetProcess). length ps) c.processes-2.ensures.processes,
       c.requires.well.one_each,
+      length-map c.args.components.items g.K.Component.state_of,
       ap (λ (ps : List g.row.K.Denot). length ps) c.loop-process.invariant.rest,
       length-drop c.loop-process.process c.args.components.items,
     )
@@ -51,11 +54,11 @@ pub begin-requires-clause-well : goal.begin-requires-clause-well
 begin-requires-clause-well g c = λ x there small.
     let plan = c.args.plan.now in
     let p : ℕ = c.loop-process.process in
-    let within : p < length c.args.components.items = omega (arith, c.loop-process-test.true, ap (λ (ps : List NetProcess). length ps) c.processes-2.ensures.processes, c.requires.well.one_each) in
+    let within : p < length c.args.components.items = omega (arith, c.loop-process-test.true, ap (λ (ps : List NetProcess). length ps) c.processes-2.ensures.processes, c.requires.well.one_each, length-map c.args.components.items g.K.Component.state_of) in
     let component = element-there c.args.components.items p within in
     let same : c.remove-component.result ≡ component.0 = first-of c.args.components.items c.loop-process.components.items p c.remove-component.result component.0 c.loop-process.invariant.rest component.1 c.remove-component.ensures.value in
-    stands-start g.K.Component.shape_of g.K.Component.uses g.K.Component.ready plan c.args.components.items p x c.remove-component.result c.requires.well there
-    (component.1 ∙ ap (λ (z : g.row.K.Denot). Some z) (sym same)) small
+    stands-start g.K.Component.shape_of g.K.Component.uses g.K.Component.ready plan (map g.K.Component.state_of c.args.components.items) p x (g.K.Component.state_of c.remove-component.result) c.requires.well there
+    (map-there g.K.Component.state_of c.args.components.items p c.remove-component.result (component.1 ∙ ap (λ (z : g.row.K.Denot). Some z) (sym same))) small
 
 pub loop-process-init : goal.loop-process-init
 loop-process-init g c = record {
@@ -77,9 +80,11 @@ loop-process-preserved g c = record {
             let x = element-there c.args.plan.now.processes c.loop-process.process within in
             let spec_there : Some x.0 ≡ Some q = sym x.1 ∙ ap (λ (n : ℕ). slice_get c.args.plan.now.processes n) place ∙ is in
             let spec : x.0 ≡ q = some-same x.0 q spec_there in
-            let component_there : slice_get c.args.components.items c.loop-process.process ≡ Some component = ap (λ (n : ℕ). slice_get c.args.components.items n) place ∙ at in
-            let same : c.remove-component.result ≡ component = first-of c.args.components.items c.loop-process.components.items c.loop-process.process c.remove-component.result component c.loop-process.invariant.rest component_there c.remove-component.ensures.value in
-            starts-same c.args.plan.now c.loop-process.process p x.0 q c.remove-component.result component c.in-Ok.body b place spec same new.1 (c.in-Ok.ensures x.0 x.1))
+            let S = g.K.Component.state_of in
+            let found = map-found S c.args.components.items c.loop-process.process component (ap (λ (n : ℕ). slice_get (map S c.args.components.items) n) place ∙ at) in
+            let first : c.remove-component.result ≡ found.0 = first-of c.args.components.items c.loop-process.components.items c.loop-process.process c.remove-component.result found.0 c.loop-process.invariant.rest found.1 c.remove-component.ensures.value in
+            let same : S c.remove-component.result ≡ component = ap S first ∙ found.2 in
+            starts-same c.args.plan.now c.loop-process.process p x.0 q (S c.remove-component.result) component c.in-Ok.body b place spec same new.1 (c.in-Ok.ensures x.0 x.1))
       ]);
 }
 

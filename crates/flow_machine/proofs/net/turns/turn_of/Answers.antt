@@ -36,7 +36,7 @@ wake-requires-clause-room g c =
 pub returns-in-Idle : goal.returns-in-Idle
 returns-in-Idle g c =
     let at = at-place g.K.Component.shape_of g.K.Component.uses g.K.Component.ready c.args.bodies.now c.args.channels.now c.args.process (cases.Idle) c.index-bodies-process.result c.requires.fit c.requires.in_range c.in-Idle.ensures in
-    woken-net c.args.bodies.now c.args.channels.now c.args.process c.args.stamp (get_or c.args.bodies.now c.args.process c.index-bodies-process.result) c.wake.new.body (level_of (net_of c.args.bodies.now c.args.channels.now) c.args.process) c.wake.result at c.wake.ensures
+    woken-net c.args.bodies.now c.args.channels.now c.args.process c.args.stamp (get_or c.args.bodies.now c.args.process c.index-bodies-process.result) c.wake.new.body (level_of (net_of c.args.bodies.now c.args.channels.now) c.args.process) c.wake.new.channels c.wake.result at c.wake.ensures
 
 pub bounds-channels-connection : goal.bounds-channels-connection
 bounds-channels-connection g c =

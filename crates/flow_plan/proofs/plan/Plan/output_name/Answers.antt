@@ -1,9 +1,9 @@
-use Rattle.std.proofs.Common.{◌≡◌, ◌∙◌, sym, ap, List, slice_get, length, arith}
+use Rattle.std.proofs.Common.{◌≡◌, ◌∙◌, ◌++◌, ◌∷◌, [], sym, ap, List, slice_get, length, arith}
 use Rattle.std.specs.Option.{option_and_then}
 use Rattle.std.proofs.lemmas.Option.{slice_get_within, get_or_from_slice_get}
 use Rattle.flow_plan.specs.declared.plan.PortRow.{PortRow}
 use Rattle.flow_plan.specs.declared.plan.PortTable.{PortTable}
-use Rattle.flow_plan.specs.Network.{Network, ports_of, output_port}
+use Rattle.flow_plan.specs.Network.{Network, ports_of, automatic_output, output_port}
 use Rattle.flow_plan.proofs.PortNames.{LaidOut-at}
 use Rattle.flow_plan.proofs.plan.Plan.output_name.Goals as goal
 
@@ -27,9 +27,9 @@ returns c =
     let here = ap (λ (n : Network). slice_get n.processes c.args.process) c.self.view_is ∙ c.requires.1 in
     let laid = LaidOut-at c.self.inside.processes.items c.self.inside.tables.items c.args.process c.requires.0 c.self.invariant.laid_out here in
     let table : c.index.result.now ≡ laid.table = c.index.ensures ∙ get_or_from_slice_get c.self.inside.tables.items c.args.process laid.table c.index.result.now laid.here in
-    let port : output_port c.args.self.now c.args.process c.args.output ≡ slice_get (ports_of c.as_slice.result.now) c.args.output =
+    let port : output_port c.args.self.now c.args.process c.args.output ≡ slice_get (ports_of c.as_slice.result.now ++ automatic_output ∷ []) c.args.output =
     ap (λ (n : Network). output_port n c.args.process c.args.output) (sym c.self.view_is)
-    ∙ ap (option_and_then (λ (t : PortTable). slice_get (ports_of t.outputs) c.args.output)) laid.here
-    ∙ ap (λ (t : PortTable). slice_get (ports_of t.outputs) c.args.output) (sym table)
-    ∙ ap (λ (rows : List PortRow). slice_get (ports_of rows) c.args.output) (sym c.as_slice.ensures) in
+    ∙ ap (option_and_then (λ (t : PortTable). slice_get (ports_of t.outputs ++ automatic_output ∷ []) c.args.output)) laid.here
+    ∙ ap (λ (t : PortTable). slice_get (ports_of t.outputs ++ automatic_output ∷ []) c.args.output) (sym table)
+    ∙ ap (λ (rows : List PortRow). slice_get (ports_of rows ++ automatic_output ∷ []) c.args.output) (sym c.as_slice.ensures) in
     rw port c.name_at.ensures

@@ -3,7 +3,7 @@ use Rattle.std.proofs.Common.{◌≡◌, ℕ, ◌+◌, ◌≤◌, ◌∙◌, Lis
 use Rattle.std.specs.Fmt.{decimal}
 use Rattle.std.proofs.lemmas.Fmt.{length-decimal-le}
 use Rattle.flow_batch.specs.declared.TheConstants.{AMOUNT_LIMIT}
-use Rattle.flow_batch.proofs.update.Update.end.Goals as goal
+use Rattle.flow_batch.proofs.update.Update.finish.Goals as goal
 
 -- A new master is short.
 short : (key line : List ℕ) (amount : ℕ) → length key ≤ 255 → amount ≤ AMOUNT_LIMIT → line ≡ key ++ 77 ∷ decimal amount → length line ≤ TEXT_LIMIT

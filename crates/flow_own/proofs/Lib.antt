@@ -1,0 +1,4 @@
+pub mod Drops
+pub mod Desks
+pub mod Players
+pub mod Recording

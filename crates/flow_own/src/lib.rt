@@ -1,0 +1,16 @@
+//! Components of the caller's own: boxed objects that are changed through one interface, each with a tape of what it did; and players of such tapes.
+#![tactic(auto)]
+
+mod acts;
+mod desk;
+mod mixed;
+mod own;
+mod part;
+mod play;
+mod tape;
+
+pub use desk::{Desk, DeskStop};
+pub use mixed::{Mix, Mixed};
+pub use own::Own;
+pub use part::{Part, PartStop};
+pub use tape::{End, Entry, Tape};

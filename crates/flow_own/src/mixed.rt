@@ -1,0 +1,91 @@
+//! Components of networks in which some are the caller's own.
+
+use crate::own::Own;
+use crate::part::Part;
+use flow_component::{Answer, Component, Shape, Stop, Wish};
+use flow_packet::Hands;
+use std::marker::Model;
+
+/// The two sorts of components of such a network.
+#[derive(Drop)]
+pub enum Mix<K: Component, P: Part> {
+    Other(K),
+    Own(Own<P>),
+}
+
+/// A component of the caller's own, or another.
+#[derive(Drop)]
+pub struct Mixed<K: Component, P: Part> {
+    mix: Mix<K, P>,
+}
+
+impl<K: Component, P: Part> Model for Mixed<K, P> {
+    ghost use Rattle.flow_own.specs.Mixed.{Mixed, mixed_of};
+
+    ghost Value = { Mixed K };
+
+    ghost view = { λ m. mixed_of m.mix };
+}
+
+impl<K: Component, P: Part> Mixed<K, P> {
+    ghost use Rattle.std.specs.Prelude.{◌≡◌};
+    ghost use Rattle.flow_own.specs.Mixed.{Mixed, Other, Own, mixed_of};
+
+    pub fn of(mix: Mix<K, P>) -> Mixed<K, P>
+        ensures { result ≡ mixed_of mix }
+    {
+        Mixed { mix }
+    }
+
+    pub fn mix(&self) -> &Mix<K, P>
+        ensures { mixed_of result.now ≡ self.now }
+    {
+        &self.mix
+    }
+}
+
+impl<K: Component, P: Part> Component for Mixed<K, P> {
+    ghost use Rattle.flow_own.specs.Mixed.{MixedNext, MixedReady, mixed_shape, mixed_uses, mixed_state, mixed_told};
+    ghost use Rattle.flow_own.specs.MixedLaws.{mixed_obeys, mixed_stays_ready, mixed_steady, mixed_has_outcome};
+
+    ghost shape_of = { mixed_shape K.shape_of };
+
+    ghost uses = { mixed_uses K.uses };
+
+    ghost state_of = { mixed_state K.state_of };
+
+    ghost told_end = { mixed_told K.told_end };
+
+    ghost ready = { MixedReady K.ready };
+
+    ghost next = { MixedNext K.next };
+
+    ghost obeys = { mixed_obeys K.shape_of K.uses K.ready K.next K.obeys };
+
+    ghost stays_ready = { mixed_stays_ready K.shape_of K.uses K.ready K.next K.stays_ready };
+
+    ghost steady = { mixed_steady K.shape_of K.uses K.ready K.next K.steady };
+
+    ghost has_outcome = { mixed_has_outcome K.shape_of K.uses K.ready K.next K.has_outcome };
+
+    fn shape(&self) -> Shape {
+        match &self.mix {
+            Mix::Other(component) => component.shape(),
+            Mix::Own(own) => own.shape(),
+        }
+    }
+
+    fn resume(&mut self, hands: &mut Hands, answer: Answer) -> Result<Wish, Stop> {
+        match &mut self.mix {
+            Mix::Other(component) => return component.resume(hands, answer),
+            Mix::Own(own) => return own.resume(hands, answer),
+        }
+    }
+
+    fn end(&mut self) {
+        match &mut self.mix {
+            Mix::Other(component) => component.end(),
+            Mix::Own(own) => own.end(),
+        }
+    }
+}

@@ -1,0 +1,7 @@
+use Rattle.std.proofs.Common.{◌≡◌, ◌++◌, take}
+use Rattle.std.specs.List.{flat_map}
+use Rattle.flow_tape.specs.Files.{eight}
+use Rattle.flow_tape.proofs.file.put_ids.Given as goal
+
+abbrev pub invariant-loop-id : goal.invariant-loop-id
+invariant-loop-id l = l.bytes.items ≡ l.initial.bytes.items ++ flat_map eight (take l.id-index l.ids)

@@ -1,0 +1,6 @@
+//! The file of tapes.
+#![tactic(auto)]
+
+mod file;
+
+pub use file::to_bytes;
