@@ -1,5 +1,5 @@
 -- The marks of the processes on a way.
-use Rattle.std.proofs.Common.{◌≡◌, ℕ, ◌≤◌, Bool, true, false, zero, suc, List, [], ◌∷◌, ◌++◌, length, Option, Some, None, refl, sym, ap, ◌∙◌, cond, nat_eq, arith, slice_get, subst}
+use Rattle.std.proofs.Common.{◌≡◌, ℕ, Bool, true, false, zero, suc, List, [], ◌∷◌, ◌++◌, Option, Some, None, refl, sym, ap, ◌∙◌, cond, nat_eq, arith, slice_get, subst}
 use Rattle.std.specs.Prelude.{slice_set, option_map, option_and_then}
 use Rattle.std.proofs.lemmas.Bool.Decides.{nat_tests}
 use Rattle.flow_plan.specs.Network.{Network as Plan}
@@ -9,6 +9,7 @@ use Rattle.flow_model.specs.States.{Input, From, Text, Process}
 use Rattle.flow_model.specs.Verdicts.{block_of}
 use Rattle.flow_machine.specs.Values.{BodyValue, NetValue}
 use Rattle.flow_machine.specs.Nets.{looks_of}
+use Rattle.flow_machine.specs.Inlets.{watched}
 use Rattle.flow_cycle.specs.declared.Waits.{Waits}
 use Rattle.flow_cycle.specs.Waiting.{waits_for_sender, or_else, rest_from}
 use Rattle.flow_cycle.specs.Nets.{first_on, wakes_in, waits_in_by, waits_of_body, waits_in, AllMarked}
@@ -25,16 +26,16 @@ wakes-named plan bodies p (From c ∷ inputs) w is = by (option_map (waits_for_s
     by (Some v) at is rest = sender-named p c (first_on bodies (slice_get plan.connections c)) w (at ∙ is)
     by None at is rest = rest is
 
-named-by : {K : Type 0} (plan : Plan) (bodies : List (BodyValue K)) (p : ℕ) (x : Process K) (b : Block) (w : Waits) → waits_in_by plan bodies p x b ≡ Some w → w.process ≡ p
-named-by plan bodies p x (blocks.Full c port) w is = receiver-named p c (slice_get plan.connections c) w is
-named-by plan bodies p x (blocks.Empty c port) w is = sender-named p c (first_on bodies (slice_get plan.connections c)) w is
-named-by plan bodies p x blocks.Dormant w is = wakes-named plan bodies p x.inputs w is
+named-by : {K : Type 0} (plan : Plan) (net : NetValue K) (p : ℕ) (x : Process K) (b : Block) (w : Waits) → waits_in_by plan net p x b ≡ Some w → w.process ≡ p
+named-by plan net p x (blocks.Full c port) w is = receiver-named p c (slice_get plan.connections c) w is
+named-by plan net p x (blocks.Empty c port) w is = sender-named p c (first_on net.bodies (slice_get plan.connections c)) w is
+named-by plan net p x blocks.Dormant w is = wakes-named plan net.bodies p (watched (looks_of net.channels) x) w is
 
 pub named-in : {K : Type 0} (plan : Plan) (net : NetValue K) (p : ℕ) (w : Waits) → waits_in plan net p ≡ Some w → w.process ≡ p
 named-in {K} plan net p w is = by (slice_get net.bodies p) is
   where
-    of : (b : BodyValue K) (found : Option Block) → option_and_then (waits_in_by plan net.bodies p b.process) found ≡ Some w → w.process ≡ p
-    of b (Some block) is = named-by plan net.bodies p b.process block w is
+    of : (b : BodyValue K) (found : Option Block) → option_and_then (waits_in_by plan net p b.process) found ≡ Some w → w.process ≡ p
+    of b (Some block) is = named-by plan net p b.process block w is
     of b None is = absurd (cc)
 
     by : (found : Option (BodyValue K)) → option_and_then (waits_of_body plan net p) found ≡ Some w → w.process ≡ p
