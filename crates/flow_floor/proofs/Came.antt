@@ -1,8 +1,9 @@
 -- What a turn leaves of a body's connections, the connection of a turn, and what a call for a turn tells.
-use Rattle.std.proofs.Common.{◌≡◌, ℕ, zero, suc, ◌+◌, ◌<◌, ◌≤◌, arith, refl, inl, Bool, List, [], ◌∷◌, ◌++◌, Option, Some, None, slice_get, ap, sym, subst, ◌∙◌}
+use Rattle.std.proofs.Common.{◌≡◌, ℕ, zero, suc, ◌+◌, ◌<◌, ◌≤◌, arith, refl, inl, inr, Bool, List, [], ◌∷◌, ◌++◌, Option, Some, None, slice_get, ap, sym, subst, ◌∙◌}
 use Rattle.std.specs.Option.{option_map}
 use Rattle.std.specs.Prelude.{option_and_then, is_some}
 use Rattle.atomic_table.specs.Seated.{TableId}
+use Rattle.flow_packet.specs.Tree.{Tree}
 use Rattle.flow_packet.specs.Held.{Held as Hands}
 use Rattle.flow_component.specs.declared.Answer.{Answer}
 use Rattle.flow_component.specs.declared.Port.{Port}
@@ -18,7 +19,6 @@ use Rattle.flow_model.specs.States.{From, Process, Outlet, outlets, outlets_from
 use Rattle.flow_model.specs.Stands.{ChannelShown}
 use Rattle.flow_model.specs.Verdicts.{waits_for}
 use Rattle.flow_machine.specs.Values.{BodyValue, NetValue}
-use Rattle.flow_machine.specs.FitNets.{IsWiredBody}
 use Rattle.flow_machine.specs.Outlets.{connection_at}
 use Rattle.flow_machine.specs.Nets.{BodyTurn, SendsAt}
 use Rattle.flow_machine.specs.Answers.{case_of, stage_case, receive_case, send_case, level_case, close_case}
@@ -30,12 +30,15 @@ use Rattle.flow_floor.specs.declared.floor.Worker.{Worker}
 use Rattle.flow_floor.specs.declared.floor.Held.{Held}
 use Rattle.flow_floor.specs.declared.floor.Turned.{Turned}
 use Rattle.flow_floor.specs.declared.floor.Turned.TheVariants as turned
-use Rattle.flow_floor.specs.Looks.{InSeen, IsLook}
+use Rattle.flow_floor.specs.Law.{IsWiredIn}
+use Rattle.flow_floor.specs.declared.board.Look.{Look}
+use Rattle.flow_floor.specs.Looks.{InSeen, IsLook, MaySignal}
 use Rattle.flow_floor.specs.Plays.{Below, look_at, seeing, stamping, releasing, turn_of}
-use Rattle.flow_floor.specs.Turning.{MachineTurn, MachineTurnOf}
+use Rattle.flow_floor.specs.Turning.{MachineTurn, MachineTurnOf, signalled_event}
 use Rattle.flow_floor.specs.Turns.{Turns, IsMade, IsBusy, ToldLevel, connection_of_case}
-use Rattle.flow_floor.specs.Workers.{view, HasGrabbed, IsGrabbing, IsHeldBy}
+use Rattle.flow_floor.specs.Workers.{view, HasGrabbed, IsGrabbing, IsHeldBy, LooksOn}
 use Rattle.flow_floor.proofs.Thinking.{wired-turn}
+use Rattle.flow_floor.proofs.Looking.{signal-on}
 use Rattle.flow_floor.proofs.Turnings.{closed-is}
 
 outlet-back : (k : ℕ) (os : List (Option ℕ)) (j c : ℕ) → connection_at (outlets_from k os) j ≡ Some c → (m : ℕ) × (slice_get os m ≡ Some (Some c))
@@ -45,20 +48,25 @@ outlet-back k (Some d ∷ os) (suc j) c is = let r = outlet-back (k + 1) os j c 
 outlet-back k (None ∷ os) j c is = let r = outlet-back (k + 1) os j c is in (suc r.0, r.1)
 
 -- The connection that a body has to close is one of the net's.
-pub close-range : {K : Type 0} (m c : ℕ) (b : BodyValue K) → case_of b.process ≡ Some (cases.Close c) → IsWiredBody m b → c < m
+pub close-range : {K : Type 0} (m c : ℕ) (b : BodyValue K) → case_of b.process ≡ Some (cases.Close c) → IsWiredIn m b → c < m
 close-range m c b is wired =
     let t = case-is b.process (cases.Close c) is in
     let at : connection_at (outlets b.process) t.0 ≡ Some c = ap (option_map (λ (o : Outlet). o.connection)) t.3 ∙ ap (λ (n : ℕ). let r : Option ℕ = Some n in r) t.4 in
     let o = outlet-back 0 b.process.outputs t.0 c at in
     wired.outputs o.0 c (ap (option_and_then (λ (x : Option ℕ). x)) o.1)
 
+-- The turn that takes a packet from the automatic input tells no level.
+pub told-signalled : {K : Type 0} (n : ℕ) (b : BodyValue K) (v w : View K) (c : ℕ) (packets : List Tree) → ToldLevel n b v w (signalled_event c packets)
+told-signalled n b v w c [] = tt
+told-signalled n b v w c (packet ∷ packets) = tt
+
 module _ {K : Type 0} (shape_of : K → Shape) (uses : K → ℕ → Bool) (ready : K → Hands → Answer → Type 0) (next : K → Hands → Answer → Outcome K → Type 0) (n : ℕ) (start : NetValue K) where
   -- A held body that comes out of a turn has only connections of the net.
-  pub wired-came : (m : ℕ) (h h' : Held K) (w w' : Worker K) (r : Turned) → Turns shape_of uses ready next n start h w h' w' r → IsWiredBody m h.body → IsWiredBody m h'.body
+  pub wired-came : (m : ℕ) (h h' : Held K) (w w' : Worker K) (r : Turned) → Turns shape_of uses ready next n start h w h' w' r → IsWiredIn m h.body → IsWiredIn m h'.body
   wired-came m h h' w w' (turned.Made s) is wired = wired-turn m h.body h'.body is.event s is.turn wired
-  wired-came m h h' w w' (turned.Busy c word) is wired = subst (λ (x : Held K). IsWiredBody m x.body) (sym is.0.0) wired
-  wired-came m h h' w w' (turned.Blocked block word) is wired = subst (λ (x : Held K). IsWiredBody m x.body) (sym is.0.0) wired
-  wired-came m h h' w w' (turned.Over over) is wired = subst (λ (x : Held K). IsWiredBody m x.body) (sym is.0.0) wired
+  wired-came m h h' w w' (turned.Busy c word) is wired = subst (λ (x : Held K). IsWiredIn m x.body) (sym is.0.0) wired
+  wired-came m h h' w w' (turned.Blocked block word) is wired = subst (λ (x : Held K). IsWiredIn m x.body) (sym is.0.0) wired
+  wired-came m h h' w w' (turned.Over over) is wired = subst (λ (x : Held K). IsWiredIn m x.body) (sym is.0.0) wired
 
   -- The turn of a stamp that a seat made is that of the body that its process has become.
   pub machine-of : (o : NetValue K) (f : BodyValue K → BodyValue K) (e : Event) (r p : ℕ) (b d : BodyValue K) (held : Option (ℕ × BodyValue K)) → o ≡ start → held ≡ Some (p, b) → f b ≡ d → MachineTurnOf shape_of uses ready next o r f e held → MachineTurn shape_of uses ready next start r p d e
@@ -66,10 +74,10 @@ module _ {K : Type 0} (shape_of : K → Shape) (uses : K → ℕ → Bool) (read
       subst (λ (z : NetValue K). MachineTurn shape_of uses ready next z r p d e) opened (subst (λ (x : BodyValue K). MachineTurn shape_of uses ready next o r p x e) after (subst (MachineTurnOf shape_of uses ready next o r f e) is turn))
 
   -- A turn at a connection that was grabbed and given back.
-  pub made-at : (z : TableId) (h h' : Held K) (w grabbed stamped given w' : Worker K) (c i most word r : ℕ) (k : ChannelShown) (notes : List ℕ) (e : Event) (f : BodyValue K → BodyValue K) → HasGrabbed shape_of uses ready w grabbed i c most word k → IsGrabbing next z n grabbed h c k
+  pub made-at : (z : TableId) (h h' : Held K) (w grabbed stamped given w' : Worker K) (c m most word r : ℕ) (k : ChannelShown) (notes : List ℕ) (e : Event) (f : BodyValue K → BodyValue K) → HasGrabbed shape_of uses ready w grabbed m c most word k → IsGrabbing next z n grabbed h c k
       → view stamped ≡ stamping (view grabbed) r e f → view given ≡ releasing (view stamped) notes → (view w').made ≡ (view given).made → h'.process ≡ h.process → BodyTurn h.body e r h'.body → MachineTurn shape_of uses ready next start r h.process h.body e
       → Below r (view grabbed).made → ToldLevel n h.body (view w) (view w') e → IsMade shape_of uses ready next n start h w h' w' r
-  made-at z h h' w grabbed stamped given w' c i most word r k notes e f has q stamp give same process turn machine above told =
+  made-at z h h' w grabbed stamped given w' c m most word r k notes e f has q stamp give same process turn machine above told =
       let before : (view grabbed).made ≡ (view w).made = ap (λ (v : View K). v.made) has.view in
       record {
         process = process;
@@ -79,6 +87,22 @@ module _ {K : Type 0} (shape_of : K → Shape) (uses : K → ℕ → Bool) (read
         made = same ∙ ap (λ (v : View K). v.made) give ∙ ap (λ (v : View K). v.made) stamp ∙ ap (λ (x : Option (ℕ × BodyValue K)). (view grabbed).made ++ turn_of r x) q.agrees.held ∙ ap (λ (xs : List (ℕ × ℕ)). xs ++ (r, h.process) ∷ []) before;
         above = subst (Below r) before above;
         level = told;
+      }
+
+  -- A turn that took a packet from the automatic input, after looks.
+  pub made-signalled : (z : TableId) (h h' : Held K) (u w grabbed stamped given w' : Worker K) (c m most word r : ℕ) (k : ChannelShown) (notes : List ℕ) (f : BodyValue K → BodyValue K) → (view w).made ≡ (view u).made → HasGrabbed shape_of uses ready w grabbed m c most word k → IsGrabbing next z n grabbed h c k
+      → view stamped ≡ stamping (view grabbed) r (signalled_event c k.packets) f → view given ≡ releasing (view stamped) notes → (view w').made ≡ (view given).made → h'.process ≡ h.process → BodyTurn h.body (signalled_event c k.packets) r h'.body
+      → MachineTurn shape_of uses ready next start r h.process h.body (signalled_event c k.packets) → Below r (view grabbed).made → IsMade shape_of uses ready next n start h u h' w' r
+  made-signalled z h h' u w grabbed stamped given w' c m most word r k notes f looked has q stamp give same process turn machine above =
+      let before : (view grabbed).made ≡ (view u).made = ap (λ (v : View K). v.made) has.view ∙ looked in
+      record {
+        process = process;
+        event = signalled_event c k.packets;
+        turn = turn;
+        machine = machine;
+        made = same ∙ ap (λ (v : View K). v.made) give ∙ ap (λ (v : View K). v.made) stamp ∙ ap (λ (x : Option (ℕ × BodyValue K)). (view grabbed).made ++ turn_of r x) q.agrees.held ∙ ap (λ (xs : List (ℕ × ℕ)). xs ++ (r, h.process) ∷ []) before;
+        above = subst (Below r) before above;
+        level = told-signalled n h.body (view u) (view w') c k.packets;
       }
 
   -- A turn at no connection.
@@ -105,7 +129,7 @@ kept-now v w n c r is = subst (InSeen (IsLook n v.steps c r)) (sym is) (inl (ref
 -- The connection of this turn was found held.
 pub is-busy : {K : Type 0} (n : ℕ) (b : BodyValue K) (v w : View K) (c r : ℕ) → connection_of_case (case_of b.process) ≡ Some c → v.grab ≡ None → held_bit ≤ r → w ≡ seeing v (n + c) r → IsBusy n b v w c r
 is-busy {K} n b v w c r turn none taken is = record {
-  turn = turn;
+  turn = inl turn;
   look = seen-now v w n c r (ap (λ (x : View K). x.look) is);
   free = ap (λ (x : View K). x.look.holding) is ∙ ap (λ (x : Option (ℕ × ChannelShown)). is_some x) none;
   taken = taken;
@@ -135,3 +159,15 @@ waits-empty x port c stage input = ap (waits_for x) stage ∙ ap (option_and_the
 -- The same of a send.
 pub waits-full : {K : Type 0} (x : Process K) (port : Port) (c : ℕ) → SendsAt x.stage port → output_at x port.0 ≡ Some c → waits_for x x.stage ≡ Some (blocks.Full c port)
 waits-full x port c stage output = ap (waits_for x) stage.1 ∙ ap (option_and_then (λ m. let r : Option Block = Some (blocks.Full m port) in r)) output
+
+-- The connection at the automatic input was found held.
+pub is-busy_signal : {K : Type 0} (n : ℕ) (b : BodyValue K) (u v w : View K) (c r : ℕ) → b.process.stage ≡ stages.Idle → b.process.signal ≡ Some c → MaySignal n u.steps b.process v.seen → LooksOn u v → v.grab ≡ None → held_bit ≤ r → w ≡ seeing v (n + c) r → IsBusy n b u w c r
+is-busy_signal {K} n b u v w c r idle signal may on none taken is =
+    let look = seen-now v w n c r (ap (λ (x : View K). x.look) is) in
+    let le = on.steps in
+    record {
+      turn = inr (idle, signal, subst (λ (xs : List Look). MaySignal n u.steps b.process xs) (sym (ap (λ (x : View K). x.seen) is)) (signal-on n u.steps b.process (look_at v (n + c) r ∷ []) v.seen may));
+      look = (look.0, look.1, (let l = look.2 in omega (arith, l, le)));
+      free = ap (λ (x : View K). x.look.holding) is ∙ ap (λ (x : Option (ℕ × ChannelShown)). is_some x) none;
+      taken = taken;
+    }

@@ -6,13 +6,13 @@ use Rattle.flow_packet.specs.Held.{Held}
 use Rattle.flow_component.specs.declared.Answer.{Answer}
 use Rattle.flow_component.specs.declared.Shape.{Shape}
 use Rattle.flow_model.specs.declared.Stage.{Stage}
-use Rattle.flow_model.specs.States.{Channel, Outlet, outlets_from, change_at, changed, From}
-use Rattle.flow_model.specs.Events.{Event, Starts, Finishes, Gets, Takes_text, Hears_end, Sends, Learns, Sleeps, Closes, event_from}
+use Rattle.flow_model.specs.States.{Input, Process, Channel, Outlet, outlets_from, change_at, changed, From}
+use Rattle.flow_model.specs.Events.{Event, Starts, Finishes, Gets, Takes_text, Hears_end, Sends, Learns, Sleeps, Closes, Signals, event_from}
 use Rattle.flow_model.specs.Stands.{ChannelShown, shown_after, all_shown_after}
 use Rattle.flow_model.specs.Valid.{HasToClose}
-use Rattle.flow_model.specs.Order.{input_of, connection_of}
+use Rattle.flow_model.specs.Order.{input_of, signal_of, connection_of}
 use Rattle.flow_model.proofs.Lists.{slice_get-set_same, slice_get-set_other, same_or_not}
-use Rattle.flow_model.proofs.Inverse.{explains, GetsFrom, SendsTo}
+use Rattle.flow_model.proofs.Inverse.{explains, GetsFrom, SendsTo, SignalsAt}
 use Rattle.flow_model.proofs.Senders.{length-without_sender}
 use Rattle.flow_machine.specs.Values.{BodyValue, NetValue}
 use Rattle.flow_machine.specs.Nets.{looks_of}
@@ -50,6 +50,15 @@ changed-get {A} xs d c f x y is now = by (slice_get xs d) refl now
           let e : f z ≡ y = cc in inl (sym same, sym e ∙ ap f zx))
       | inr other ↦ (let h : Some x ≡ Some y = sym is ∙ sym (slice_get-set_other xs d c (f z) other) ∙ now in inr (let e : y ≡ x = cc in e))
     ]
+
+-- The inputs of a body are those of another, the automatic one too.
+abbrev pub SameInputs : {K : Type 0} → BodyValue K → BodyValue K → Type 0
+SameInputs b d = (d.process.inputs ≡ b.process.inputs) × (d.process.signal ≡ b.process.signal)
+
+-- Such bodies have the same connections at inputs.
+pub input-same : {K : Type 0} (c : ℕ) (b d : BodyValue K) → SameInputs b d → IsInput d c → IsInput b c
+input-same c b d same (inl i) = inl (i.0, ap (λ (xs : List Input). slice_get xs i.0) (sym same.0) ∙ i.1)
+input-same c b d same (inr s) = inr (sym same.1 ∙ s)
 
 -- What a turn of a process does to a connection: it has no fewer packets, unless the process receives there; where it is over, it stays over; and no
 -- sender opens.
@@ -93,7 +102,18 @@ module _ {K : Type 0} (shape_of : K → Shape) (uses : K → ℕ → Bool) (read
       let why : GetsFrom s.kept.channels b.process port d packet = explains s.kept.channels b.process n (Gets port d packet) (sym (happens-in now s b.process n fit.stands) ∙ happens) in
       elim (changed-get now.channels d c (shown_after (Gets port d packet)) k k' at at') [
         | inl here ↦ (subst (Moves b c k) (sym here.1) (record {
-          level = inr (port, why.input ∙ ap (λ (m : ℕ). let r : Option _ = Some (From m) in r) here.0);
+          level = inr (inl (port, why.input ∙ ap (λ (m : ℕ). let r : Option _ = Some (From m) in r) here.0));
+          over = λ o. (drop-none k.packets o.0, o.1);
+          senders = (let h : k.open_senders ≤ k.open_senders = omega arith in h);
+        }))
+        | inr same ↦ still b c k k' same
+      ]
+  channel-moves now p n b (Signals d packet) c k k' fit there happens at at' =
+      let s = fit.state in
+      let why : SignalsAt s.kept.channels b.process d packet = explains s.kept.channels b.process n (Signals d packet) (sym (happens-in now s b.process n fit.stands) ∙ happens) in
+      elim (changed-get now.channels d c (shown_after (Signals d packet)) k k' at at') [
+        | inl here ↦ (subst (Moves b c k) (sym here.1) (record {
+          level = inr (inr (why.signal ∙ ap (λ (m : ℕ). let r : Option ℕ = Some m in r) here.0));
           over = λ o. (drop-none k.packets o.0, o.1);
           senders = (let h : k.open_senders ≤ k.open_senders = omega arith in h);
         }))
@@ -127,9 +147,25 @@ module _ {K : Type 0} (shape_of : K → Shape) (uses : K → ℕ → Bool) (read
 
   -- two processes that receive from one connection are one
   pub one-receiver : (now : NetValue K) (p q c : ℕ) (b d : BodyValue K) → FitNet shape_of uses ready now → slice_get now.bodies p ≡ Some b → slice_get now.bodies q ≡ Some d → IsInput b c → IsInput d c → p ≡ q
-  one-receiver now p q c b d fit there there' input input' =
-      let s = fit.state in
-      (fit.fit.valid.one_receiver p q input.0 input'.0 c (of p b input (process-in now s p b fit.stands there)) (of q d input' (process-in now s q d fit.stands there'))).0
+  one-receiver now p q c b d fit there there' input input' = by input input'
     where
-      of : (r : ℕ) (x : BodyValue K) (i : IsInput x c) → slice_get fit.state.kept.processes r ≡ Some x.process → input_of i.0 (slice_get fit.state.kept.processes r) ≡ Some c
-      of r x i is = ap (input_of i.0) is ∙ ap connection_of i.1
+      xs : List (Process K)
+      xs = fit.state.kept.processes
+
+      first : slice_get xs p ≡ Some b.process
+      first = process-in now fit.state p b fit.stands there
+
+      second : slice_get xs q ≡ Some d.process
+      second = process-in now fit.state q d fit.stands there'
+
+      stream : (r : ℕ) (x : BodyValue K) (i : ℕ) → slice_get x.process.inputs i ≡ Some (From c) → slice_get xs r ≡ Some x.process → input_of i (slice_get xs r) ≡ Some c
+      stream r x i at is = ap (input_of i) is ∙ ap connection_of at
+
+      automatic : (r : ℕ) (x : BodyValue K) → x.process.signal ≡ Some c → slice_get xs r ≡ Some x.process → signal_of (slice_get xs r) ≡ Some c
+      automatic r x at is = ap signal_of is ∙ at
+
+      by : IsInput b c → IsInput d c → p ≡ q
+      by (inl i) (inl j) = (fit.fit.valid.one_receiver p q i.0 j.0 c (stream p b i.0 i.1 first) (stream q d j.0 j.1 second)).0
+      by (inl i) (inr z) = absurd (fit.fit.valid.signals_apart.apart q p i.0 c (automatic q d z second) (stream p b i.0 i.1 first))
+      by (inr z) (inl j) = absurd (fit.fit.valid.signals_apart.apart p q j.0 c (automatic p b z first) (stream q d j.0 j.1 second))
+      by (inr y) (inr z) = fit.fit.valid.signals_apart.one p q c (automatic p b y first) (automatic q d z second)

@@ -2,7 +2,7 @@
 use Rattle.std.proofs.lemmas.List.{length-map}
 use Rattle.std.specs.Prelude.{not, ◌||◌}
 use Rattle.std.proofs.lemmas.Bool.Decides.{nat_tests}
-use Rattle.std.proofs.Common.{◌≡◌, ℕ, ◌+◌, ◌<◌, nat_eq, cond, Bool, true, false, List, [], length, arith, map, get_or, refl, ap, sym, subst, ◌∙◌, Some, None, slice_get, ◌⊎◌, inl, inr}
+use Rattle.std.proofs.Common.{◌≡◌, ℕ, ◌+◌, nat_eq, cond, Bool, true, false, List, [], length, arith, map, get_or, refl, ap, sym, subst, ◌∙◌, Some, None, slice_get, ◌⊎◌, inl, inr}
 use lib.ListN.{get_elem?}
 use mathlib.Core.Option.{some}
 use Rattle.atomic_table.specs.Table.{Final, Seen}

@@ -1,5 +1,5 @@
 -- How a floor begins and ends, and how seats are cut and joined.
-use Rattle.std.proofs.Common.{◌≡◌, ◌≢◌, ℕ, zero, suc, ◌+◌, ◌<◌, ◌≤◌, Bool, true, false, List, [], ◌∷◌, ◌++◌, length, get_or, set, sym, refl, ap, ◌∙◌, subst, arith, Option, Some, None, slice_get, length-set, length-append, ◌⊎◌, inl, inr}
+use Rattle.std.proofs.Common.{◌≡◌, ◌≢◌, ℕ, zero, suc, ◌+◌, ◌<◌, ◌≤◌, Bool, true, false, cond, List, [], ◌∷◌, ◌++◌, length, map, get_or, set, eq-eqb, sym, refl, ap, ◌∙◌, subst, arith, Option, Some, None, slice_get, length-set, length-append, ◌⊎◌, inl, inr}
 use Rattle.std.specs.Prelude.{sum_by, ◌||◌}
 use Rattle.std.proofs.lemmas.List.{length-map}
 use Rattle.std.proofs.lemmas.List.Sums.{sum_by-append}
@@ -17,7 +17,11 @@ use Rattle.flow_model.specs.Stands.{ChannelShown}
 use Rattle.flow_machine.specs.Values.{BodyValue, NetValue}
 use Rattle.flow_machine.specs.Logs.{turns_made}
 use Rattle.flow_machine.specs.FitNets.{FitNet}
-use Rattle.flow_machine.specs.Joins.{IsPlanned}
+use Rattle.flow_plan.specs.declared.plan.Connection.{Connection}
+use Rattle.flow_model.specs.Order.{connection_of}
+use Rattle.flow_model.specs.Wires.{wires}
+use Rattle.flow_machine.specs.Joins.{IsPlanned, input_in}
+use Rattle.flow_machine.proofs.Standings.{get-map}
 use Rattle.flow_machine.proofs.SoloLemmas.{remember-none}
 use Rattle.flow_ring.specs.Words.{free_word, held_bit, level_in, senders_in}
 use Rattle.flow_floor.specs.declared.board.Slot.{Slot}
@@ -28,10 +32,19 @@ use Rattle.flow_floor.specs.Law.{IsOver, Receives, Stands, Lies, Knows, Beside, 
 use Rattle.flow_floor.specs.Waking.{counts, live_in, InList, IsNoted, AllBlock, Keeps}
 use Rattle.flow_floor.specs.Rule.{Law}
 use Rattle.flow_floor.specs.Plays.{cut, merged, merge, renamed}
-use Rattle.flow_floor.proofs.Seats.{some_Some, get-exists, at_inside, St, state}
+use Rattle.flow_floor.proofs.Seats.{some_Some, get-exists, get-within, at_inside, St, state}
 use Rattle.flow_floor.proofs.Wakes.{total_set, total_one}
 use Rattle.flow_floor.proofs.Retires.{low-undone}
 use Rattle.flow_floor.proofs.Merges.{below-more, turns_by-none, turns_by-all, merge-turns, turns_by-renamed_else, turns_by-renamed_gone, length-renamed, below-renamed}
+
+-- The connection at an automatic input of a planned net is there.
+signal-planned : {K : Type 0} (net : NetValue K) → IsPlanned net → (p c : ℕ) (b : BodyValue K) → slice_get net.bodies p ≡ Some b → b.process.signal ≡ Some c → c < length net.channels
+signal-planned {K} net planned p c b there at =
+    let i = length b.process.inputs in
+    let has : input_in i (slice_get (map (λ (x : BodyValue K). wires x.process) net.bodies) p) ≡ Some c =
+    ap (input_in i) (get-map (λ (x : BodyValue K). wires x.process) net.bodies p b there) ∙ ap (λ t. cond t b.process.signal (connection_of (slice_get b.process.inputs i))) (eq-eqb i i refl) ∙ at in
+    let x = planned.inputs p i c has in
+    omega (arith, get-within net.connections c x.0 x.1, length-map net.connections (λ (y : Connection). y.capacity), length-map net.channels (λ (k : ChannelShown). k.capacity), ap (λ (xs : List ℕ). length xs) planned.channels)
 
 -- an element of a list that was made one longer
 at_end : {A : Type 0} (l : List A) (a b : A) (j : ℕ) → get_elem? (l ++ a ∷ []) j ≡ some b → (get_elem? l j ≡ some b) ⊎ ((j ≡ length l) × (a ≡ b))
@@ -90,7 +103,7 @@ module _ {K : Type 0} (shape_of : K → Shape) (uses : K → ℕ → Bool) (read
       each_seat = λ j v e. subst (λ (u : View K). Knows (λ _. None) (λ _. None) start P (turns_made start) [] [] j u) (one j v e) (record { holds = tt; grabs = tt; idle = λ _. refl; made = refl; seen = tt });
     };
     wakes = record {
-      wired = record { inputs = λ p x y is is'. ap (λ (z : BodyValue K). z.process.inputs) (same start.bodies p x y is is'); outputs = λ p x y is is'. ap (λ (z : BodyValue K). z.process.outputs) (same start.bodies p x y is is'); signal = λ p x y is is'. ap (λ (z : BodyValue K). z.process.signal) (same start.bodies p x y is is'); capacities = λ c k l is is'. ap (λ (z : ChannelShown). z.capacity) (same start.channels c k l is is') };
+      wired = record { inputs = λ p x y is is'. ap (λ (z : BodyValue K). z.process.inputs) (same start.bodies p x y is is'); outputs = λ p x y is is'. ap (λ (z : BodyValue K). z.process.outputs) (same start.bodies p x y is is'); signal = λ p x y is is'. ap (λ (z : BodyValue K). z.process.signal) (same start.bodies p x y is is'); signals = λ p c x is at. signal-planned start planned p c x is at; capacities = λ c k l is is'. ap (λ (z : ChannelShown). z.capacity) (same start.channels c k l is is') };
       live = b.live ∙ sym (live-all P ws (omega (arith, b.wide)) (λ p lt. (let x = get-exists start.bodies p lt in (b.bodies p x.0 x.1).0))) ∙ (let e : live_in P ws ≡ live_in P ws + 0 = omega arith in e);
       shares = refl;
       each = λ j v e. subst (Keeps (get_or ws L 0)) (one j v e) (record { spare = omega arith; noted = λ _. refl; zero = λ z. absurd (cc); bare = λ z. (refl, refl) });

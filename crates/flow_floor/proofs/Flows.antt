@@ -7,11 +7,10 @@ use Rattle.flow_packet.specs.Held.{Held}
 use Rattle.flow_component.specs.declared.Answer.{Answer}
 use Rattle.flow_component.specs.declared.Shape.{Shape}
 use Rattle.flow_component.specs.Laws.{Outcome, Obeys, StaysReady, IsSteady}
-use Rattle.flow_model.specs.States.{Input}
 use Rattle.flow_model.specs.Events.{Event, event_from}
 use Rattle.flow_model.specs.Stands.{ChannelShown, shown_after, all_shown_after}
 use Rattle.flow_model.proofs.Lists.{slice_get-set_same, slice_get-set_other, same_or_not}
-use Rattle.flow_model.proofs.Order.{inputs-after}
+use Rattle.flow_model.proofs.Order.{inputs-after, signal-after}
 use Rattle.flow_machine.specs.Values.{BodyValue, NetValue}
 use Rattle.flow_machine.specs.Nets.{looks_of}
 use Rattle.flow_machine.specs.Logs.{turns_made}
@@ -22,17 +21,14 @@ use Rattle.flow_ring.specs.Words.{free_word, held_bit, level_in, senders_in}
 use Rattle.flow_floor.specs.declared.board.Slot.TheVariants as slot
 use Rattle.flow_floor.specs.declared.board.View.{View}
 use Rattle.flow_floor.specs.declared.board.Look.{Look}
-use Rattle.flow_floor.specs.Law.{IsTaken, IsFree, turns_by, AllBelow, IsInput, IsOver, Rests, Receives, Stands, Lies, SeenTrue, AllSeen, Holds, Grabs, Knows, Beside, Flow}
+use Rattle.flow_floor.specs.Law.{IsTaken, IsFree, turns_by, AllBelow, IsOver, Rests, Receives, Stands, Lies, SeenTrue, AllSeen, Holds, Grabs, Knows, Beside, Flow}
 use Rattle.flow_floor.specs.Turning.{turned_body, with_body, turned_net, logged, grab_after, At}
 use Rattle.flow_floor.proofs.Seats.{put, put_here, put_else, at_inside, some_Some, get-exists, get-within, turns_by-mine, turns_by-else, below-push, St, state, seats_stay, stands_keep, lies_keep, seen_keep, knows_keep}
-use Rattle.flow_floor.proofs.Channels.{channel-moves, one-receiver}
+use Rattle.flow_floor.proofs.Channels.{SameInputs, input-same, channel-moves, one-receiver}
 use Rattle.flow_floor.proofs.Going.{turned, rest-fit, rest-count, rest-goes, turn-goes}
 
-receives-same : {K : Type 0} (h h' : Option (ℕ × BodyValue K)) (p c : ℕ) (b d : BodyValue K) → h ≡ Some (p, b) → h' ≡ Some (p, d) → d.process.inputs ≡ b.process.inputs → Receives h c → Receives h' c
-receives-same {K} h h' p c b d is is' same r = subst (λ (x : Option (ℕ × BodyValue K)). Receives x c) (sym is') (let r' = subst (λ (x : Option (ℕ × BodyValue K)). Receives x c) is r in (r'.0, ap (λ (xs : List Input). slice_get xs r'.0) same ∙ r'.1))
-
-input-same : {K : Type 0} (c : ℕ) (b d : BodyValue K) → d.process.inputs ≡ b.process.inputs → IsInput d c → IsInput b c
-input-same c b d same i = (i.0, ap (λ (xs : List Input). slice_get xs i.0) (sym same) ∙ i.1)
+receives-same : {K : Type 0} (h h' : Option (ℕ × BodyValue K)) (p c : ℕ) (b d : BodyValue K) → h ≡ Some (p, b) → h' ≡ Some (p, d) → SameInputs b d → Receives h c → Receives h' c
+receives-same {K} h h' p c b d is is' same r = subst (λ (x : Option (ℕ × BodyValue K)). Receives x c) (sym is') (input-same c d b (sym same.0, sym same.1) (subst (λ (x : Option (ℕ × BodyValue K)). Receives x c) is r))
 
 -- what a word says
 pub level-of : (level senders : ℕ) → level < 65536 → senders < 65536 → level_in (free_word level senders) ≡ level
@@ -101,7 +97,8 @@ module _ {K : Type 0} (shape_of : K → Shape) (uses : K → ℕ → Bool) (read
       let now' = with_body g.now p d in
       let vs' = set s.views id w in
       let count = rest-count shape_of uses ready next obeys stays steady g.now p b d mine.1 r in
-      let inputs : d.process.inputs ≡ b.process.inputs = (same-turns shape_of uses ready next obeys stays steady b d r.0).1 in
+      let same_ports = same-turns shape_of uses ready next obeys stays steady b d r.0 in
+      let inputs : SameInputs b d = (same_ports.1, same_ports.3) in
       let inside_id = at_inside s.views id v at in
       record {
         fit = rest-fit shape_of uses ready next obeys stays steady g.now p b d mine.1 r f.fit;
@@ -414,7 +411,7 @@ module _ {K : Type 0} (shape_of : K → Shape) (uses : K → ℕ → Bool) (read
       let stamp : m ≡ turns_made g.now = m_is ∙ f.clock in
       let turn = turned g.now p n b e m there happens in
       let count = turn-count g.now p n e m now' turn in
-      let inputs : b'.process.inputs ≡ b.process.inputs = inputs-after b.process e in
+      let inputs : SameInputs b b' = (inputs-after b.process e, signal-after b.process e) in
       let grabbed : (grab : ℕ × ChannelShown) → v.grab ≡ Some grab → (g.grabber grab.0 ≡ Some id) × (slice_get g.now.channels grab.0 ≡ Some grab.1) = λ x is. subst (Grabs g.grabber g.now id) is ks.grabs in
       let grabbed_at : (grab : ℕ × ChannelShown) → v.grab ≡ Some grab → slice_get g.now.channels grab.0 ≡ Some grab.1 = λ x is. (grabbed x is).1 in
       record {
@@ -460,7 +457,7 @@ module _ {K : Type 0} (shape_of : K → Shape) (uses : K → ℕ → Bool) (read
       }
     where
       lies-turn : (s : St K) (g : Beside K) (id p n : ℕ) (v w : View K) (b b' : BodyValue K) (e : Event) (ws' : List ℕ) (d : ℕ) (k x : ChannelShown) (h : Option ℕ) → F s g → get_elem? s.views id ≡ some v → v.held ≡ Some (p, b) → w.held ≡ Some (p, b')
-          → slice_get g.now.bodies p ≡ Some b → event_from (looks_of g.now.channels) b.process n ≡ Some e → b'.process.inputs ≡ b.process.inputs → At e v.grab → w.grab ≡ grab_after e v.grab → w.word ≡ v.word
+          → slice_get g.now.bodies p ≡ Some b → event_from (looks_of g.now.channels) b.process n ≡ Some e → SameInputs b b' → At e v.grab → w.grab ≡ grab_after e v.grab → w.word ≡ v.word
           → ((grab : ℕ × ChannelShown) → v.grab ≡ Some grab → (g.grabber grab.0 ≡ Some id) × (slice_get g.now.channels grab.0 ≡ Some grab.1))
           → slice_get g.now.channels d ≡ Some k → slice_get (all_shown_after e g.now.channels) d ≡ Some x → get_or ws' (P + d) 0 ≡ get_or s.words (P + d) 0 → g.grabber d ≡ h
           → Lies s P d k h → Lies (state ws' s.homes (set s.views id w)) P d x h
@@ -483,7 +480,7 @@ module _ {K : Type 0} (shape_of : K → Shape) (uses : K → ℕ → Bool) (read
               let differs' : (level_in u.word ≤ length x.packets) ⊎ Receives w.held d = elim differs [
                 | inl le ↦ (elim mv.level [
                   | inl more ↦ inl (let h : level_in u.word ≤ length x.packets = omega (arith, le, more) in h)
-                  | inr own ↦ inr (subst (λ (z : Option (ℕ × BodyValue K)). Receives z d) (sym held) (own.0, ap (λ (xs : List Input). slice_get xs own.0) inputs ∙ own.1))
+                  | inr own ↦ inr (subst (λ (z : Option (ℕ × BodyValue K)). Receives z d) (sym held) (input-same d b' b (sym inputs.0, sym inputs.1) own))
                 ])
                 | inr r ↦ inr (receives-same v.held w.held p d b b' holds held inputs (subst (λ (z : View K). Receives z.held d) u_is r))
               ] in (

@@ -4,32 +4,31 @@ use Rattle.std.specs.Prelude.{◌&&◌, ◌||◌, not, unwrap_or}
 use Rattle.std.specs.List.{list_any, list_all}
 use Rattle.std.proofs.lemmas.Bool.Decides.{nat_tests}
 use Rattle.flow_packet.specs.Tree.{Tree}
-use Rattle.flow_packet.specs.Held.{Held as Hands}
-use Rattle.flow_component.specs.declared.Answer.{Answer}
-use Rattle.flow_component.specs.declared.Shape.{Shape}
 use Rattle.flow_component.specs.declared.Port.{Port}
 use Rattle.flow_component.specs.declared.Wish.TheVariants as wishes
 use Rattle.flow_model.specs.declared.Stage.TheVariants as stages
-use Rattle.flow_model.specs.States.{Input, From, Text, output_at}
-use Rattle.flow_model.specs.Events.{Starts, Finishes, stage_event, can_start, has_packet, has_ended, is_connected, passes, holds_packet, is_over, is_empty}
+use Rattle.flow_model.specs.States.{Input, From, Text, Process, output_at}
+use Rattle.flow_model.specs.Events.{Event, Starts, Finishes, Signals, stage_event, event_from, idle_event, rest_event, signal_event, signalled_from, signalled_by, takes_signal, signal_over, is_released, is_woken, can_start, can_finish, has_packet, has_ended, is_connected, passes, holds_packet, is_over, is_empty}
+use Rattle.flow_model.specs.Events.{Look as Seen}
 use Rattle.flow_model.specs.Schedules.{IsThoughtStage}
 use Rattle.flow_model.specs.Stands.{ChannelShown}
+use Rattle.flow_machine.specs.Inlets.{signal_input}
 use Rattle.flow_machine.specs.Values.{BodyValue, NetValue}
-use Rattle.flow_machine.specs.Nets.{looks_of}
-use Rattle.flow_machine.specs.FitNets.{FitNet}
+use Rattle.flow_machine.specs.Nets.{looks_of, SendsAt}
 use Rattle.flow_floor.specs.declared.board.Look.{Look}
-use Rattle.flow_floor.specs.Law.{IsOver, SeenTrue, AllSeen}
-use Rattle.flow_floor.specs.Turning.{Happens}
-use Rattle.flow_floor.specs.Waking.{StillBlocks, AllBlock, WordsBlock, capacity_at}
+use Rattle.flow_floor.specs.declared.floor.Idling.TheVariants as idling
+use Rattle.flow_floor.specs.Law.{IsOver, IsInput, IsWiredIn, SeenTrue, AllSeen}
+use Rattle.flow_floor.specs.Turning.{Happens, GrabIn, signalled_event}
+use Rattle.flow_floor.specs.Waking.{StillBlocks, AllBlock, WordsBlock, BlockSignal, BlockStreams, IsEmptyAt, IsOpenAt, HasWorked, capacity_at}
 use Rattle.std.specs.Option.{option_map}
-use Rattle.flow_machine.specs.Nets.{SendsAt}
 use Rattle.flow_ring.specs.Words.{level_in, senders_in}
-use Rattle.flow_floor.specs.Looks.{InSeen, IsLook, SawPacket, SawNone, SawOver, AllSaw, FirstOpen}
+use Rattle.flow_floor.specs.Looks.{InSeen, IsLook, SawPacket, SawNone, SawOver, SawOne, AllSaw, SawEnd, SawReleased, WaitsAlone, Watches, IsDormant, Idles, FirstOpen}
 use Rattle.flow_floor.specs.Workers.{SeenBlocks}
 use Rattle.flow_floor.proofs.Seats.{some_Some, get-exists, get-within}
-use Rattle.flow_floor.proofs.Quiet.{look-of, no-packets, none-held, some-connected}
+use Rattle.flow_floor.proofs.Quiet.{look-of, no-packets, none-held}
 
-seen-in : {K : Type 0} (n : ℕ) (now : NetValue K) (held : ℕ × BodyValue K) (seen : List Look) (is : Look → Type 0) → AllSeen n now (Some held) seen → InSeen is seen → (look : Look) × is look × SeenTrue n now held.1 look
+-- A look that was taken so is true.
+pub seen-in : {K : Type 0} (n : ℕ) (now : NetValue K) (held : ℕ × BodyValue K) (seen : List Look) (is : Look → Type 0) → AllSeen n now (Some held) seen → InSeen is seen → (look : Look) × is look × SeenTrue n now held.1 look
 seen-in n now held [] is all there = absurd there
 seen-in n now held (look ∷ seen) is all (inl here) = (look, here, all.0)
 seen-in n now held (look ∷ seen) is all (inr there) = seen-in n now held seen is all.1 there
@@ -56,78 +55,216 @@ some-held channels (x ∷ xs) (suc i) c k is at some_packet = ap (λ b. has_pack
     or-true true = refl
     or-true false = refl
 
+-- a connection that is over, as it is seen
+over-is : (channels : List ChannelShown) (c : ℕ) (k : ChannelShown) → slice_get channels c ≡ Some k → IsOver k → passes is_over (slice_get (looks_of channels) c) ≡ true
+over-is channels c k at over =
+    let z : nat_eq k.open_senders 0 ≡ true = (let e = over.1 in grind (arith, nat_tests)) in
+    ap (passes is_over) (look-of channels c k at) ∙ ap (λ (ps : List Tree). is_empty ps && nat_eq k.open_senders 0) (no-packets k.packets over.0) ∙ z
+
 -- inputs that are all over
 all-over : (channels : List ChannelShown) (xs : List Input) → ((i c : ℕ) → slice_get xs i ≡ Some (From c) → (k : ChannelShown) × (slice_get channels c ≡ Some k) × IsOver k) → list_all (has_ended (looks_of channels)) xs ≡ true
 all-over channels [] over = refl
 all-over channels (Text text ∷ xs) over = all-over channels xs (λ i c is. over (suc i) c is)
 all-over channels (From d ∷ xs) over =
     let k = over 0 d refl in
-    let z : nat_eq k.0.open_senders 0 ≡ true = (let e = k.2.1 in grind (arith, nat_tests)) in
-    let here : has_ended (looks_of channels) (From d) ≡ true = ap (passes is_over) (look-of channels d k.0 k.1) ∙ ap (λ (ps : List Tree). is_empty ps && nat_eq k.0.open_senders 0) (no-packets k.0.packets k.2.0) ∙ z in
-    ap (λ b. b && list_all (has_ended (looks_of channels)) xs) here ∙ all-over channels xs (λ i c is. over (suc i) c is)
+    ap (λ b. b && list_all (has_ended (looks_of channels)) xs) (over-is channels d k.0 k.1 k.2) ∙ all-over channels xs (λ i c is. over (suc i) c is)
 
-not-connected : (xs : List Input) → list_any is_connected xs ≡ false → (i c : ℕ) → slice_get xs i ≡ Some (From c) → ⊥
-not-connected xs none i c is = let e : true ≡ false = sym (some-connected xs i c is) ∙ none in cc
+-- What stands at an automatic input is its connection.
+pub signal-at : (signal : Option ℕ) (i c : ℕ) → slice_get (signal_input signal) i ≡ Some (From c) → signal ≡ Some c
+signal-at None i c is = absurd (cc)
+signal-at (Some d) zero c is = let same : d ≡ c = cc in ap (λ (n : ℕ). let r : Option ℕ = Some n in r) same
+signal-at (Some d) (suc i) c is = absurd (cc)
 
-module _ {K : Type 0} (shape_of : K → Shape) (uses : K → ℕ → Bool) (ready : K → Hands → Answer → Type 0) (n m p : ℕ) (d : BodyValue K) (seen : List Look) (idle : d.process.stage ≡ stages.Idle) where
-  -- it starts where an input was seen to hold a packet
-  pub starts-seen : (since i c : ℕ) → slice_get d.process.inputs i ≡ Some (From c) → InSeen (SawPacket n since c) seen → Happens (FitNet shape_of uses ready) n m p d None seen Starts
-  starts-seen since i c is there now fit at grab all len =
-      let k = get-exists now.channels c ((fit.wired p d at).inputs i c is) in
-      let s = seen-in n now (p, d) seen (SawPacket n since c) all there in
-      let full = (s.2 c k.0 s.1.0 k.1 (i, is)).0 s.1.1 in
-      let any = some-held now.channels d.process.inputs i c k.0 is k.1 full in
-      (0, ap (stage_event (looks_of now.channels) d.process 0) idle ∙ (λ j. cond (any j || (not (list_any is_connected d.process.inputs) && not d.process.has_run)) (Some Starts) (cond (list_all (has_ended (looks_of now.channels)) d.process.inputs) (Some Finishes) None)))
+-- an automatic input that was looked at
+saw-signal : (is : ℕ → Look → Type 0) (signal : Option ℕ) (c : ℕ) (seen : List Look) → signal ≡ Some c → AllSaw is (length (signal_input signal)) (signal_input signal) seen → InSeen (is c) seen
+saw-signal is signal c seen at all =
+    let one : 0 < length (signal_input signal) = subst (λ (s : Option ℕ). 0 < length (signal_input s)) (sym at) (let l : 0 < 1 = omega arith in l) in
+    all 0 c one (ap (λ (s : Option ℕ). slice_get (signal_input s) 0) at)
 
-  -- it starts where it has no connected input and hasn't run
-  pub starts-alone : list_any is_connected d.process.inputs ≡ false → d.process.has_run ≡ false → Happens (FitNet shape_of uses ready) n m p d None seen Starts
-  starts-alone none unrun now fit at grab all len = (
-    0,
-    ap (stage_event (looks_of now.channels) d.process 0) idle ∙ (λ j. cond (list_any (has_packet (looks_of now.channels)) d.process.inputs || (not (none j) && not (unrun j))) (Some Starts) (cond (list_all (has_ended (looks_of now.channels)) d.process.inputs) (Some Finishes) None))
-        ∙ ap (λ b. cond b (Some Starts) (cond (list_all (has_ended (looks_of now.channels)) d.process.inputs) (Some Finishes) None)) (or-true (list_any (has_packet (looks_of now.channels)) d.process.inputs)),
-  )
+or-true : (a b : Bool) → b ≡ true → (a || b) ≡ true
+or-true true b is = refl
+or-true false b is = is
+
+and-false : (a b : Bool) → b ≡ false → (a && b) ≡ false
+and-false true b is = is
+and-false false b is = refl
+
+-- What was seen at the inputs of an idle process, and is so.
+module _ {K : Type 0} (n m p since : ℕ) (d : BodyValue K) (seen : List Look) (wired : IsWiredIn m d) (now : NetValue K) (len : length now.channels ≡ m) (all : AllSeen n now (Some (p, d)) seen) where
+  abbrev ls : List Seen
+  ls = looks_of now.channels
+
+  abbrev x : Process K
+  x = d.process
+
+  channel-of : (c : ℕ) → IsInput d c → (k : ChannelShown) × (slice_get now.channels c ≡ Some k)
+  channel-of c (inl i) = get-exists now.channels c (subst (λ (l : ℕ). c < l) (sym len) (wired.inputs i.0 c i.1))
+  channel-of c (inr z) = get-exists now.channels c (subst (λ (l : ℕ). c < l) (sym len) (wired.signal c z))
+
+  over-there : (xs : List Input) → ((i c : ℕ) → slice_get xs i ≡ Some (From c) → IsInput d c) → SawEnd n since xs seen → (i c : ℕ) → slice_get xs i ≡ Some (From c) → (k : ChannelShown) × (slice_get now.channels c ≡ Some k) × IsOver k
+  over-there xs input saw i c is =
+      let k = channel-of c (input i c is) in
+      let s = seen-in n now (p, d) seen (SawOver n since c) all (saw i c (get-within xs i (From c) is) is) in
+      (k.0, k.1, (s.2 c k.0 s.1.0 k.1 (input i c is)).1 s.1.1 s.1.2)
+
+  streams-over : SawEnd n since x.inputs seen → list_all (has_ended ls) x.inputs ≡ true
+  streams-over saw = all-over now.channels x.inputs (over-there x.inputs (λ i c is. inl (i, is)) saw)
+
+  streams-empty : SawEnd n since x.inputs seen → list_any (has_packet ls) x.inputs ≡ false
+  streams-empty saw = none-held now.channels x.inputs (λ i c is. (let o = over-there x.inputs (λ j e at. inl (j, at)) saw i c is in (o.0, o.1, o.2.0)))
+
+  signal-over : SawEnd n since (signal_input x.signal) seen → signal_over ls x.signal ≡ true
+  signal-over saw = by x.signal refl
     where
-      or-true : (b : Bool) → (b || true) ≡ true
-      or-true true = refl
-      or-true false = refl
+      by : (found : Option ℕ) → x.signal ≡ found → signal_over ls x.signal ≡ true
+      by None is = ap (signal_over ls) is
+      by (Some c) is =
+          let o = over-there (signal_input x.signal) (λ i e at. inr (signal-at x.signal i e at)) saw 0 c (ap (λ (s : Option ℕ). slice_get (signal_input s) 0) is) in
+          ap (signal_over ls) is ∙ over-is now.channels c o.0 o.1 o.2
 
-  -- it goes to its end where each connected input was seen over
-  pub finishes-seen : (since : ℕ) → AllSaw (SawOver n since) (length d.process.inputs) d.process.inputs seen → (list_any is_connected d.process.inputs ≡ true) ⊎ (d.process.has_run ≡ true) → Happens (FitNet shape_of uses ready) n m p d None seen Finishes
-  finishes-seen since saw ran now fit at grab all len =
-      let over = λ (i c : ℕ) (is : slice_get d.process.inputs i ≡ Some (From c)).
-      (let k = get-exists now.channels c ((fit.wired p d at).inputs i c is) in
-      let s = seen-in n now (p, d) seen (SawOver n since c) all (saw i c (get-within d.process.inputs i (From c) is) is) in
-      let o = (s.2 c k.0 s.1.0 k.1 (i, is)).1 s.1.1 s.1.2 in
-      let t : (k : ChannelShown) × (slice_get now.channels c ≡ Some k) × IsOver k = (k.0, k.1, o) in t) in
-      let none = none-held now.channels d.process.inputs (λ i c is. (let o = over i c is in (o.0, o.1, o.2.0))) in
-      let ended = all-over now.channels d.process.inputs over in
-      let can : can_start (looks_of now.channels) d.process ≡ false = ap (λ b. b || (not (list_any is_connected d.process.inputs) && not d.process.has_run)) none ∙ cannot ran in
-      (0, ap (stage_event (looks_of now.channels) d.process 0) idle ∙ (λ j. cond (can j) (Some Starts) (cond (ended j) (Some Finishes) None)))
+  released-now : SawReleased n since x seen → is_released ls x ≡ true
+  released-now (inl signalled) = ap (λ b. b || signal_over ls x.signal) signalled
+  released-now (inr saw) = or-true x.signalled (signal_over ls x.signal) (signal-over saw)
+
+  -- one that has worked and sees no packet isn't woken
+  unwoken : list_any (has_packet ls) x.inputs ≡ false → HasWorked x → is_woken ls x ≡ false
+  unwoken none worked = ap (λ b. b || (not (list_any is_connected x.inputs) && not x.has_run)) none ∙ by worked
     where
-      and-false : (b : Bool) → (b && false) ≡ false
-      and-false true = refl
-      and-false false = refl
+      by : HasWorked x → (not (list_any is_connected x.inputs) && not x.has_run) ≡ false
+      by (inl some_one) = ap (λ b. not b && not x.has_run) some_one
+      by (inr run) = and-false (not (list_any is_connected x.inputs)) (not x.has_run) (ap not run)
 
-      cannot : (list_any is_connected d.process.inputs ≡ true) ⊎ (d.process.has_run ≡ true) → (not (list_any is_connected d.process.inputs) && not d.process.has_run) ≡ false
-      cannot (inl some_one) = ap (λ b. not b && not d.process.has_run) some_one
-      cannot (inr run) = ap (λ b. not (list_any is_connected d.process.inputs) && not b) run ∙ and-false (not (list_any is_connected d.process.inputs))
+  cannot-start : is_woken ls x ≡ false → can_start ls x ≡ false
+  cannot-start none = and-false (is_released ls x) (is_woken ls x) none
 
--- what was seen blocks an idle process
-pub dormant-seen : {K : Type 0} (start : NetValue K) (d : BodyValue K) (seen : List Look) (since w : ℕ) → d.process.stage ≡ stages.Idle → AllSaw (SawNone (length start.bodies) since) (length d.process.inputs) d.process.inputs seen
-    → FirstOpen (length start.bodies) since d.process.inputs seen w → SeenBlocks start d seen
-dormant-seen start d seen since w idle saw first = (
+  starts-now : SawReleased n since x seen → SawOne (SawPacket n since) x.inputs seen ⊎ ((list_any is_connected x.inputs ≡ false) × (x.has_run ≡ false)) → can_start ls x ≡ true
+  starts-now released why = (λ i. released-now released i && woken why i)
+    where
+      woken : SawOne (SawPacket n since) x.inputs seen ⊎ ((list_any is_connected x.inputs ≡ false) × (x.has_run ≡ false)) → is_woken ls x ≡ true
+      woken (inl (i, c, is, there)) =
+          let k = channel-of c (inl (i, is)) in
+          let s = seen-in n now (p, d) seen (SawPacket n since c) all there in
+          let full = (s.2 c k.0 s.1.0 k.1 (inl (i, is))).0 s.1.1 in
+          ap (λ b. b || (not (list_any is_connected x.inputs) && not x.has_run)) (some-held now.channels x.inputs i c k.0 is k.1 full)
+      woken (inr (none, unrun)) = or-true (list_any (has_packet ls) x.inputs) (not (list_any is_connected x.inputs) && not x.has_run) (λ i. not (none i) && not (unrun i))
+
+  -- what an idle process does that takes a packet from its automatic input
+  signals-now : (c : ℕ) (k : ChannelShown) (packet : Tree) (rest : List Tree) → x.signal ≡ Some c → slice_get now.channels c ≡ Some k → k.packets ≡ packet ∷ rest → WaitsAlone n since x seen
+      → idle_event ls x ≡ Some (Signals c packet)
+  signals-now c k packet rest signal at has alone =
+      let goes_on : signal_over ls x.signal ≡ false = ap (signal_over ls) signal ∙ ap (passes is_over) (look-of now.channels c k at) ∙ ap (λ (ps : List Tree). is_empty ps && nat_eq k.open_senders 0) has in
+      let may = both goes_on alone in
+      ap (λ b. cond b (Some Starts) (cond (can_finish ls x) (Some Finishes) (rest_event ls x))) may.0
+      ∙ ap (λ b. cond b (Some Finishes) (rest_event ls x)) (and-false (list_all (has_ended ls) x.inputs) (signal_over ls x.signal) goes_on)
+      ∙ ap (λ b. cond b (signal_event ls x.signal) None) may.1
+      ∙ ap (signal_event ls) signal ∙ ap (signalled_from c) (look-of now.channels c k at) ∙ ap (signalled_by c) has
+    where
+      both : signal_over ls x.signal ≡ false → WaitsAlone n since x seen → (can_start ls x ≡ false) × (takes_signal ls x ≡ true)
+      both goes_on (inl unsignalled) = (
+        ap (λ b. b && is_woken ls x) (let unreleased : is_released ls x ≡ false = (λ i. unsignalled i || goes_on i) in unreleased),
+        ap (λ b. not b || (list_all (has_ended ls) x.inputs && (list_any is_connected x.inputs || x.has_run))) unsignalled,
+      )
+      both goes_on (inr (saw, worked)) = (
+        cannot-start (unwoken (streams-empty saw) worked),
+        or-true (not x.signalled) (list_all (has_ended ls) x.inputs && (list_any is_connected x.inputs || x.has_run))
+            (ap (λ b. b && (list_any is_connected x.inputs || x.has_run)) (streams-over saw) ∙ run worked),
+      )
+        where
+          run : HasWorked x → (list_any is_connected x.inputs || x.has_run) ≡ true
+          run (inl some_one) = ap (λ b. b || x.has_run) some_one
+          run (inr ran) = or-true (list_any is_connected x.inputs) x.has_run ran
+
+module _ {K : Type 0} (fits : NetValue K → Type 0) (n m p since : ℕ) (d : BodyValue K) (seen : List Look) (wired : IsWiredIn m d) (idle : d.process.stage ≡ stages.Idle) where
+  -- It starts where it is released, and something wakes it.
+  pub starts-seen : Idles n since d.process seen idling.Start → Happens fits n m p d None seen Starts
+  starts-seen saw now fit at grab all len =
+      let ls = looks_of now.channels in
+      (0, ap (stage_event ls d.process 0) idle ∙ ap (λ b. cond b (Some Starts) (cond (can_finish ls d.process) (Some Finishes) (rest_event ls d.process))) (starts-now n m p since d seen wired now len all saw.0 saw.1))
+
+  -- It goes to its end where all its inputs were seen over.
+  pub finishes-seen : Idles n since d.process seen idling.Finish → Happens fits n m p d None seen Finishes
+  finishes-seen saw now fit at grab all len =
+      let ls = looks_of now.channels in
+      let cannot = cannot-start n m p since d seen wired now len all (unwoken n m p since d seen wired now len all (streams-empty n m p since d seen wired now len all saw.0) saw.2) in
+      let over = streams-over n m p since d seen wired now len all saw.0 in
+      let none = signal-over n m p since d seen wired now len all saw.1 in
+      let can : can_finish ls d.process ≡ true = (λ i. over i && none i) in
+      (0, ap (stage_event ls d.process 0) idle ∙ ap (λ b. cond b (Some Starts) (cond (can_finish ls d.process) (Some Finishes) (rest_event ls d.process))) cannot ∙ ap (λ b. cond b (Some Finishes) (rest_event ls d.process)) can)
+
+  -- It takes the packet at its automatic input that its worker holds.
+  pub signals-seen : (grab : Option (ℕ × ChannelShown)) (c : ℕ) (k : ChannelShown) (e : Event) → grab ≡ Some (c, k) → e ≡ signalled_event c k.packets → d.process.signal ≡ Some c → 0 < length k.packets → WaitsAlone n since d.process seen
+      → Happens fits n m p d grab seen e
+  signals-seen grab c k e is e_is signal some_packet alone now fit at grabs all len = by k.packets refl
+    where
+      ls : List Seen
+      ls = looks_of now.channels
+
+      by : (ps : List Tree) → k.packets ≡ ps → (level : ℕ) × (event_from (looks_of now.channels) d.process level ≡ Some e)
+      by [] none = absurd (let l : length k.packets ≡ 0 = ap (λ (xs : List Tree). length xs) none in omega (arith, l, some_packet))
+      by (packet ∷ rest) has =
+          let event : e ≡ Signals c packet = e_is ∙ ap (signalled_event c) has in
+          let there : slice_get now.channels c ≡ Some k = subst (GrabIn now) is grabs in
+          (0, ap (stage_event (looks_of now.channels) d.process 0) idle ∙ signals-now n m p since d seen wired now len all c k packet rest signal there has alone ∙ ap (λ (y : Event). let t : Option Event = Some y in t) (sym event))
+
+-- What was seen blocks a dormant process, as long as the words still do.
+module _ {K : Type 0} (start : NetValue K) (d : BodyValue K) (seen : List Look) (since : ℕ) (ws : List ℕ) (all : AllBlock (length start.bodies) start.channels ws d seen) where
+  abbrev P : ℕ
+  P = length start.bodies
+
+  empty-by : (c r : ℕ) (look : Look) → look.word ≡ P + c → look.read ≡ r → level_in r ≡ 0 → StillBlocks P start.channels ws d look → IsInput d c → IsEmptyAt P ws c
+  empty-by c r look word read none still input = ((still c word).0 input).0 (ap level_in read ∙ none)
+
+  open-by : (c r : ℕ) (look : Look) → look.word ≡ P + c → look.read ≡ r → 0 < senders_in r → StillBlocks P start.channels ws d look → IsInput d c → IsOpenAt P ws c
+  open-by c r look word read opened still input = ((still c word).0 input).1 (subst (λ (m : ℕ). 0 < senders_in m) (sym read) opened)
+
+  none-at : (c : ℕ) → IsInput d c → InSeen (SawNone P since c) seen → IsEmptyAt P ws c
+  none-at c input there = let s = block-in P start.channels ws d seen (SawNone P since c) all there in empty-by c s.0.read s.0 s.1.0 refl s.1.1 s.2 input
+
+  over-at : (c : ℕ) → IsInput d c → InSeen (SawOver P since c) seen → IsEmptyAt P ws c
+  over-at c input there = let s = block-in P start.channels ws d seen (SawOver P since c) all there in empty-by c s.0.read s.0 s.1.0 refl s.1.1 s.2 input
+
+  opened-at : (c w : ℕ) → IsInput d c → InSeen (IsLook P since c w) seen → 0 < senders_in w → IsOpenAt P ws c
+  opened-at c w input there opened = let s = block-in P start.channels ws d seen (IsLook P since c w) all there in open-by c w s.0 s.1.0 s.1.1 opened s.2 input
+
+  first-none : (c w : ℕ) → IsInput d c → InSeen (IsLook P since c w) seen → level_in w ≡ 0 → IsEmptyAt P ws c
+  first-none c w input there none = let s = block-in P start.channels ws d seen (IsLook P since c w) all there in empty-by c w s.0 s.1.0 s.1.1 none s.2 input
+
+  dormant-words : (w : ℕ) → IsDormant P since d.process seen w → BlockSignal P ws d ⊎ BlockStreams P ws d
+  dormant-words w dormant = by dormant.watches
+    where
+      first : FirstOpen P since dormant.inputs seen w
+      first = dormant.first
+
+      by : Watches P since d.process seen dormant.inputs → BlockSignal P ws d ⊎ BlockStreams P ws d
+      by (inl (are, alone)) =
+          let signal = signal-at d.process.signal first.input first.connection (ap (λ (xs : List Input). slice_get xs first.input) (sym are) ∙ first.at) in
+          inl (
+            first.connection,
+            signal,
+            first-none first.connection w (inr signal) first.look first.none_in,
+            opened-at first.connection w (inr signal) first.look first.opened,
+            elim alone [
+              | inl unsignalled ↦ inl unsignalled
+              | inr over ↦ inr (λ i c at. over-at c (inl (i, at)) (over.0 i c (get-within d.process.inputs i (From c) at) at), over.1)
+            ],
+          )
+      by (inr (are, released)) =
+          let at = ap (λ (xs : List Input). slice_get xs first.input) (sym are) ∙ first.at in
+          inr (
+            λ i c is. none-at c (inl (i, is)) (dormant.none_in i c (subst (λ (xs : List Input). i < length xs) (sym are) (get-within d.process.inputs i (From c) is)) (ap (λ (xs : List Input). slice_get xs i) are ∙ is)),
+            (first.input, first.connection, at, opened-at first.connection w (inl (first.input, at)) first.look first.opened),
+            elim released [
+              | inl signalled ↦ inl signalled
+              | inr over ↦ inr (λ c signal. over-at c (inr signal) (saw-signal (SawOver P since) d.process.signal c seen signal over))
+            ],
+          )
+
+-- What was seen blocks an idle process that is dormant.
+pub dormant-there : {K : Type 0} (start : NetValue K) (d : BodyValue K) (seen : List Look) (n since w : ℕ) → length start.bodies ≡ n → d.process.stage ≡ stages.Idle → IsDormant n since d.process seen w → SeenBlocks start d seen
+dormant-there start d seen n since w is idle dormant = (
   subst IsThoughtStage (sym idle) tt,
-  λ ws all. subst (WordsBlock (length start.bodies) start.channels ws d) (sym idle) (
-    λ e input. (let s = block-in (length start.bodies) start.channels ws d seen (SawNone (length start.bodies) since e) all (saw input.0 e (get-within d.process.inputs input.0 (From e) input.1) input.1) in ((s.2 e s.1.0).0 input).0 s.1.1),
-    (first.connection, (first.input, first.at), (let s = block-in (length start.bodies) start.channels ws d seen (IsLook (length start.bodies) since first.connection w) all first.look in ((s.2 first.connection s.1.0).0 (first.input, first.at)).1 (subst (λ m. 0 < senders_in m) (sym s.1.1) first.opened))),
-  ),
+  λ ws all. subst (WordsBlock (length start.bodies) start.channels ws d) (sym idle) (dormant-words start d seen since ws all w (subst (λ (m : ℕ). IsDormant m since d.process seen w) (sym is) dormant)),
 )
-
--- An idle process whose inputs were all seen empty, one of them with a sender, is dormant.
-pub dormant-there : {K : Type 0} (start : NetValue K) (d : BodyValue K) (seen : List Look) (n since w : ℕ) → length start.bodies ≡ n → d.process.stage ≡ stages.Idle → AllSaw (SawNone n since) (length d.process.inputs) d.process.inputs seen
-    → FirstOpen n since d.process.inputs seen w → SeenBlocks start d seen
-dormant-there start d seen n since w is idle none_in first =
-    dormant-seen start d seen since w idle (subst (λ m. AllSaw (SawNone m since) (length d.process.inputs) d.process.inputs seen) (sym is) none_in) (subst (λ m. FirstOpen m since d.process.inputs seen w) (sym is) first)
 
 -- what was seen blocks a process that wishes to receive
 pub empty-seen : {K : Type 0} (start : NetValue K) (d : BodyValue K) (seen : List Look) (n since c w : ℕ) (port : Port) → length start.bodies ≡ n → d.process.stage ≡ stages.Wishing (wishes.Receive port) → slice_get d.process.inputs port.0 ≡ Some (From c)
@@ -136,7 +273,7 @@ empty-seen start d seen n since c w port size stage is there none_in opened = (
   subst IsThoughtStage (sym stage) tt,
   λ ws all. subst (WordsBlock (length start.bodies) start.channels ws d) (sym stage)
       (let s = block-in (length start.bodies) start.channels ws d seen (IsLook n since c w) all there in
-      let b = (s.2 c (s.1.0 ∙ ap (λ m. m + c) (sym size))).0 (port.0, is) in (c, is, b.0 (ap level_in s.1.1 ∙ none_in), b.1 (subst (λ m. 0 < senders_in m) (sym s.1.1) opened))),
+      let b = (s.2 c (s.1.0 ∙ ap (λ m. m + c) (sym size))).0 (inl (port.0, is)) in (c, is, b.0 (ap level_in s.1.1 ∙ none_in), b.1 (subst (λ m. 0 < senders_in m) (sym s.1.1) opened))),
 )
 
 -- what was seen blocks a process that wishes to send

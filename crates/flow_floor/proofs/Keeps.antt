@@ -22,14 +22,14 @@ use Rattle.flow_model.specs.Stands.{ChannelShown}
 use Rattle.flow_machine.specs.Values.{BodyValue, NetValue}
 use Rattle.flow_machine.specs.Nets.{looks_of}
 use Rattle.flow_machine.specs.Logs.{turns_made, Logged}
-use Rattle.flow_machine.specs.FitNets.{FitNet, IsWiredBody}
+use Rattle.flow_machine.specs.FitNets.{FitNet}
 use Rattle.flow_machine.proofs.FitLemmas.{level-fits, turns-most}
 use Rattle.flow_ring.specs.Words.{free_word, held_bit, level_in, senders_in}
 use Rattle.flow_floor.specs.declared.board.Slot.{Slot}
 use Rattle.flow_floor.specs.declared.board.Slot.TheVariants as slot
 use Rattle.flow_floor.specs.declared.board.View.{View}
 use Rattle.flow_floor.specs.declared.board.Look.{Look}
-use Rattle.flow_floor.specs.Law.{IsTaken, IsFree, IsOver, Rests, Receives, Stands, Lies, SeenTrue, AllSeen, Grabs, Beside, turns_by}
+use Rattle.flow_floor.specs.Law.{IsTaken, IsFree, IsWiredIn, IsOver, Rests, Receives, Stands, Lies, SeenTrue, AllSeen, Grabs, Beside, turns_by}
 use Rattle.flow_floor.specs.Turning.{turned_body, with_body, turned_net, logged, GrabIn, Happens, At, MachineTurn, MachineTurnOf}
 use Rattle.flow_floor.specs.Waking.{counts, InList, IsDoneWord, IsRetired, WordsBlock, AllBlock, Keeps, Notes, Wakes, IsWiredAs, capacity_at}
 use Rattle.std.specs.Option.{option_map}
@@ -175,6 +175,13 @@ module _ {K : Type 0} (shape_of : K → Shape) (uses : K → ℕ → Bool) (read
     done = done-body s.words p d r.beside.now.bodies (word-taken shape_of uses ready next obeys stays steady start s r.beside id p v b r.flow at holds) r.done;
   }
 
+  -- a process is at connections that are there
+  wired-in : (s : St K) (r : Rule s) (p : ℕ) (b : BodyValue K) → slice_get r.beside.now.bodies p ≡ Some b → IsWiredIn C b
+  wired-in s r p b there =
+      let w = r.flow.fit.wired p b there in
+      let same = r.flow.same.1 in
+      record { inputs = λ i c is. omega (arith, w.inputs i c is, same); outputs = λ o c is. omega (arith, w.outputs o c is, same); signal = λ c is. r.wakes.wired.signals p c b there is }
+
   pub claims : (slots i id m : ℕ) (me : Sat K) → m ≡ C → i < P → me.0.held ≡ None → 0 < me.0.shares → Allows Rule slots id me i (λ n. either (n == 2) 1 n) (claimed m (step slots i 2 1 none) me)
   claims slots i id m me count below idle share s r deep at fits =
       let v = me.0 in
@@ -198,7 +205,7 @@ module _ {K : Type 0} (shape_of : K → Shape) (uses : K → ℕ → Bool) (read
           wakes = wakes-claim shape_of uses ready next obeys stays steady start s g id i (set s.homes i none) v w b f r.wakes at there.1 free.0 e share refl refl refl refl refl refl (put g.holder i (Some id));
           done = done-set s.words i 1 g.now.bodies (omega (arith, below, f.wide)) (λ x at_i is. absurd (low-undone 1 (omega arith) is)) r.done;
         }),
-        (λ _. (b, f.fit.whole i b there.1, subst (λ n. IsWiredBody n b) (f.same.1 ∙ sym count) (f.fit.wired i b there.1), refl), λ other. absurd (other e)),
+        (λ _. (b, f.fit.whole i b there.1, subst (λ n. IsWiredIn n b) (sym count) (wired-in s r i b there.1), refl), λ other. absurd (other e)),
       )))
       (λ other. (
         refusing v i x,
@@ -227,9 +234,9 @@ module _ {K : Type 0} (shape_of : K → Shape) (uses : K → ℕ → Bool) (read
   held-in : (now : NetValue K) (h : Option (ℕ × BodyValue K)) (p : ℕ) (b : BodyValue K) → h ≡ Some (p, b) → slice_get now.bodies p ≡ Some b → HeldIn now h
   held-in now h p b is there = subst (HeldIn now) (sym is) there
 
-  pub grabs : (slots i id p c most : ℕ) (me : Sat K) (b : BodyValue K) → i ≡ P + c → c < C → most ≡ capacity_at start.channels c → me.0.held ≡ Some (p, b) → me.0.grab ≡ None
-      → Allows Rule slots id me i (λ n. bit_or n 9223372036854775808) (grabbed shape_of uses ready c most (step slots i 9223372036854775808 0 none) me)
-  grabs slots i id p c most me b place below is_most holds no_grab s r deep at fits =
+  pub grabs : (slots i id p c most n : ℕ) (me : Sat K) (b : BodyValue K) → n ≡ P → i ≡ P + c → c < C → most ≡ capacity_at start.channels c → me.0.held ≡ Some (p, b) → me.0.grab ≡ None
+      → Allows Rule slots id me i (λ n. bit_or n 9223372036854775808) (grabbed shape_of uses ready n c most (step slots i 9223372036854775808 0 none) me)
+  grabs slots i id p c most n me b size place below is_most holds no_grab s r deep at fits =
       let v = me.0 in
       let f = r.flow in
       let g = r.beside in
@@ -266,7 +273,7 @@ module _ {K : Type 0} (shape_of : K → Shape) (uses : K → ℕ → Bool) (read
         takes i (slot.Channel k),
         ap (get_elem? s.homes) place ∙ free.2,
         subst (λ (z : ℕ × ℕ). Rule (state (set s.words z.0 z.1) (set s.homes z.0 none) vs')) (λ j. (sym place j, sym (top_unset x low) j)) law,
-        (λ _. (k, level, opens, capacity-start r.wakes.wired c k there.1 below ∙ sym is_most, (g.now, f.fit, there.1, held-in g.now v.held p b holds mine.1), refl), λ high. absurd (omega (arith, low, high))),
+        (λ _. (k, level, opens, capacity-start r.wakes.wired c k there.1 below ∙ sym is_most, (g.now, f.fit, there.1, held-in g.now v.held p b holds mine.1, subst (λ (l : ℕ). AllSeen l g.now v.held v.seen) (sym size) (f.each_seat id v at).seen), refl), λ high. absurd (omega (arith, low, high))),
       )))
       (λ high. (
         seeing v i x,

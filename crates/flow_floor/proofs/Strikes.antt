@@ -1,5 +1,5 @@
 -- A noted process is struck off without a token: a glance at its word, and a nudge.
-use Rattle.std.proofs.Common.{◌≡◌, ◌≢◌, ℕ, ◌+◌, ◌<◌, ◌≤◌, Bool, List, [], ◌∷◌, length, get_or, set, sym, refl, ap, ◌∙◌, subst, arith, Option, Some, slice_get, length-set, get_or-set_other, get_or-set_same, ◌⊎◌, inl, inr, ◌==◌}
+use Rattle.std.proofs.Common.{◌≡◌, ◌≢◌, ℕ, ◌<◌, Bool, List, ◌∷◌, length, get_or, set, sym, refl, ap, ◌∙◌, subst, arith, Some, length-set, get_or-set_other, get_or-set_same, inl, inr, ◌==◌}
 use mathlib.Core.Logic.{dite}
 use mathlib.Core.Option.{none, some}
 use native.Mathlib.Decide.{ℕ_discrete, dec_lt}
@@ -17,7 +17,7 @@ use Rattle.flow_floor.specs.Law.{IsTaken, IsFree}
 use Rattle.flow_floor.specs.Waking.{counts, IsDoneWord}
 use Rattle.flow_floor.specs.Rule.{Law}
 use Rattle.flow_floor.specs.Plays.{Sat, tail, counting, striking, glanced, nudged}
-use Rattle.flow_floor.proofs.Seats.{get-exists, St, state}
+use Rattle.flow_floor.proofs.Seats.{St, state}
 use Rattle.flow_floor.proofs.Flows.{flow-view}
 use Rattle.flow_floor.proofs.Retires.{low-undone, done-set}
 use Rattle.flow_floor.proofs.Wakings.{wakes-poke}

@@ -1,7 +1,7 @@
 -- A held body that thinks still agrees with what the machine has.
 use Rattle.flow_limits.specs.declared.TheConstants.{HANDS_LIMIT}
-use Rattle.std.proofs.Common.{◌≡◌, ℕ, ◌<◌, Bool, true, false, cond, List, [], ◌∷◌, length, Option, Some, None, nat_lt, ap, sym, subst, ◌∙◌, ◌⊎◌, inl, inr}
-use Rattle.std.specs.Prelude.{slice_index}
+use Rattle.std.proofs.Common.{◌≡◌, ℕ, ◌<◌, Bool, true, false, cond, List, [], ◌∷◌, length, Option, Some, None, nat_lt, slice_get, ap, sym, subst, ◌∙◌, ◌⊎◌, inl, inr}
+use Rattle.std.specs.Prelude.{slice_index, option_and_then}
 use Rattle.atomic_table.specs.Seated.{TableId}
 use Rattle.flow_packet.specs.Tree.{Tree, kind_of}
 use Rattle.flow_packet.specs.Hands.{packet_at}
@@ -13,22 +13,21 @@ use Rattle.flow_component.specs.declared.Fail.TheVariants as fails
 use Rattle.flow_component.specs.Laws.{Outcome, Wishes, Fails, held_after}
 use Rattle.flow_component.specs.Resumes.{drops_between, dropped_count}
 use Rattle.flow_model.specs.declared.Stage.TheVariants as stages
-use Rattle.flow_model.specs.States.{Process}
+use Rattle.flow_model.specs.States.{Input, Process}
 use Rattle.flow_model.specs.Works.{worked, judged, sending, nests}
 use Rattle.flow_model.specs.Schedules.{IsThoughtStage}
 use Rattle.flow_machine.specs.Values.{BodyValue}
 use Rattle.flow_machine.specs.declared.answers.Thought.{Thought}
 use Rattle.flow_machine.specs.Thoughts.{Thinks, SameBody, WorkedBody, KeepsTurns}
-use Rattle.flow_machine.proofs.FitLemmas.{thinks-step, wired-same}
-use Rattle.flow_machine.specs.FitNets.{IsWiredBody}
+use Rattle.flow_machine.proofs.FitLemmas.{thinks-step}
 use Rattle.flow_machine.specs.Nets.{BodyTurn}
 use Rattle.flow_model.specs.Events.{Event}
-use Rattle.flow_model.proofs.Order.{inputs-after, outputs-after, inputs-worked, outputs-worked}
+use Rattle.flow_model.proofs.Order.{inputs-after, outputs-after, signal-after, inputs-worked, outputs-worked, signal-worked}
 use Rattle.flow_machine.proofs.Thinking.{keeps-then}
 use Rattle.flow_floor.specs.declared.board.Slot.TheVariants as slot
 use Rattle.flow_floor.specs.declared.floor.Worker.{Worker}
 use Rattle.flow_floor.specs.declared.floor.Held.{Held}
-use Rattle.flow_floor.specs.Law.{Rests}
+use Rattle.flow_floor.specs.Law.{IsWiredIn, Rests}
 use Rattle.flow_floor.specs.Workers.{IsHeldBy}
 
 thought-judged : (depths : List ℕ) (held : Hands) (wish : Wish) → IsThoughtStage (judged depths held wish)
@@ -93,14 +92,24 @@ module _ {K : Type 0} (next : K → Hands → Answer → Outcome K → Type 0) w
     slots = q.slots ∙ ap (λ m. (m, slot.Vacant) ∷ []) (sym process);
   }
 
+-- A body with the ports of another has its connections.
+wired-as : {K : Type 0} (m : ℕ) (h h' : BodyValue K) → h'.process.inputs ≡ h.process.inputs → h'.process.outputs ≡ h.process.outputs → h'.process.signal ≡ h.process.signal → IsWiredIn m h → IsWiredIn m h'
+wired-as m h h' inputs outputs signal wired = record {
+  inputs = λ i c is. wired.inputs i c (ap (λ (xs : List Input). slice_get xs i) (sym inputs) ∙ is);
+  outputs = λ o c is. wired.outputs o c (ap (λ (xs : List (Option ℕ)). option_and_then (λ (y : Option ℕ). y) (slice_get xs o)) (sym outputs) ∙ is);
+  signal = λ c is. wired.signal c (sym signal ∙ is);
+}
+
 -- a held body's connections stay where it thinks, and where it has a turn
-pub wired-think : {K : Type 0} (next : K → Hands → Answer → Outcome K → Type 0) (m : ℕ) (h h' : BodyValue K) (t : Thought) → Thinks next h t h' → IsWiredBody m h → IsWiredBody m h'
+pub wired-think : {K : Type 0} (next : K → Hands → Answer → Outcome K → Type 0) (m : ℕ) (h h' : BodyValue K) (t : Thought) → Thinks next h t h' → IsWiredIn m h → IsWiredIn m h'
 wired-think {K} next m h h' t thinks wired = by (thinks-step next h t h' thinks)
   where
-    by : SameBody h h' ⊎ WorkedBody next h h' → IsWiredBody m h'
-    by (inl same) = wired-same m h h' (ap (λ (x : Process K). x.inputs) same.process) (ap (λ (x : Process K). x.outputs) same.process) wired
-    by (inr work) = wired-same m h h' (ap (λ (x : Process K). x.inputs) work.process ∙ inputs-worked h.process work.outcome) (ap (λ (x : Process K). x.outputs) work.process ∙ outputs-worked h.process work.outcome) wired
+    by : SameBody h h' ⊎ WorkedBody next h h' → IsWiredIn m h'
+    by (inl same) = wired-as m h h' (ap (λ (x : Process K). x.inputs) same.process) (ap (λ (x : Process K). x.outputs) same.process) (ap (λ (x : Process K). x.signal) same.process) wired
+    by (inr work) = wired-as m h h' (ap (λ (x : Process K). x.inputs) work.process ∙ inputs-worked h.process work.outcome) (ap (λ (x : Process K). x.outputs) work.process ∙ outputs-worked h.process work.outcome)
+        (ap (λ (x : Process K). x.signal) work.process ∙ signal-worked h.process work.outcome) wired
 
 -- A turn leaves a body with only connections of the net.
-pub wired-turn : {K : Type 0} (m : ℕ) (h h' : BodyValue K) (e : Event) (r : ℕ) → BodyTurn h e r h' → IsWiredBody m h → IsWiredBody m h'
-wired-turn {K} m h h' e r turn wired = wired-same m h h' (ap (λ (x : Process K). x.inputs) turn.process ∙ inputs-after h.process e) (ap (λ (x : Process K). x.outputs) turn.process ∙ outputs-after h.process e) wired
+pub wired-turn : {K : Type 0} (m : ℕ) (h h' : BodyValue K) (e : Event) (r : ℕ) → BodyTurn h e r h' → IsWiredIn m h → IsWiredIn m h'
+wired-turn {K} m h h' e r turn wired =
+    wired-as m h h' (ap (λ (x : Process K). x.inputs) turn.process ∙ inputs-after h.process e) (ap (λ (x : Process K). x.outputs) turn.process ∙ outputs-after h.process e) (ap (λ (x : Process K). x.signal) turn.process ∙ signal-after h.process e) wired

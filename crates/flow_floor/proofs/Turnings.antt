@@ -16,7 +16,7 @@ use Rattle.flow_component.specs.declared.Wish.TheVariants as wishes
 use Rattle.flow_component.specs.Laws.{Outcome}
 use Rattle.flow_model.specs.declared.Stage.TheVariants as stages
 use Rattle.flow_model.specs.States.{From, Outlet, outlets, output_at}
-use Rattle.flow_model.specs.Events.{Event, Hears_end, Gets, Sleeps, Sends, Learns, Closes, stage_event, received, sent}
+use Rattle.flow_model.specs.Events.{Event, Hears_end, Gets, Sleeps, Sends, Learns, Closes, Signals, stage_event, received, sent}
 use Rattle.flow_model.specs.Stands.{ChannelShown, look_shown, shown_after, all_shown_after}
 use Rattle.flow_machine.specs.Values.{BodyValue, NetValue}
 use Rattle.flow_machine.specs.Nets.{looks_of, BodyTurn, SendsAt, packet_wished}
@@ -30,10 +30,10 @@ use Rattle.flow_floor.specs.declared.board.Slot.TheVariants as slot
 use Rattle.flow_floor.specs.declared.floor.Worker.{Worker}
 use Rattle.flow_floor.specs.declared.floor.Held.{Held}
 use Rattle.flow_floor.specs.Law.{Rests}
-use Rattle.flow_floor.specs.Turning.{turned_body, grab_after, GrabIn, Happens, At, received_event, sent_event, closed_event}
-use Rattle.flow_floor.specs.Waking.{InList, Notes}
+use Rattle.flow_floor.specs.Turning.{turned_body, grab_after, GrabIn, Happens, At, received_event, signalled_event, sent_event, closed_event}
+use Rattle.flow_floor.specs.Waking.{InList, IsOutput, Notes}
 use Rattle.flow_floor.specs.Law.{IsInput}
-use Rattle.flow_ring.specs.Words.{level_in, free_word}
+use Rattle.flow_ring.specs.Words.{level_in, senders_in, free_word}
 use Rattle.flow_floor.specs.Plays.{tail, counting, striking, stamping, releasing, poking, held_after}
 use Rattle.flow_floor.specs.Workers.{Agrees, IsHeldBy, IsGrabbing, IsWaking}
 
@@ -105,6 +105,26 @@ got-deed {K} b d port c r k k' packet e e_is first rest takes =
     let is : e ≡ Gets port c packet = e_is ∙ ap (received_event port c) first in
     subst (λ (x : Event). BodyTurn b x r d × (k' ≡ shown_after x k) × (length k'.packets ≤ length k.packets) × (k'.open_senders ≡ k.open_senders)) (sym is)
     (body-turn b d (effects.Got packet) r (Gets port c packet) takes refl refl refl, rest, omega (arith, ap (λ (xs : List Tree). length xs) first), ap (λ (x : ChannelShown). x.open_senders) rest)
+
+-- Taking a packet from the automatic input happens at the connection that is held.
+pub signalled-at : (grab : Option (ℕ × ChannelShown)) (c : ℕ) (k : ChannelShown) (e : Event) → grab ≡ Some (c, k) → e ≡ signalled_event c k.packets → At e grab
+signalled-at grab c k e is e_is = subst (At e) (sym is) (subst (IsOn c) (sym e_is) (on k.packets))
+  where
+    on : (packets : List Tree) → IsOn c (signalled_event c packets)
+    on [] = tt
+    on (packet ∷ packets) = refl
+
+-- It changes the body as that event does.
+pub signalled-turn : {K : Type 0} (b d : BodyValue K) (c stamp : ℕ) (k : ChannelShown) (packet : Tree) (rest : List Tree) → k.packets ≡ packet ∷ rest → TakesTurn b (effects.Signal packet) stamp d → BodyTurn b (signalled_event c k.packets) stamp d
+signalled-turn b d c stamp k packet rest is takes = subst (λ (ps : List Tree). BodyTurn b (signalled_event c ps) stamp d) (sym is) (body-turn b d (effects.Signal packet) stamp (Signals c packet) takes refl refl refl)
+
+-- It changes body and connection so.
+pub signalled-deed : {K : Type 0} (b d : BodyValue K) (c r : ℕ) (k k' : ChannelShown) (packet : Tree) (e : Event) → e ≡ signalled_event c k.packets → k.packets ≡ packet ∷ k'.packets → k' ≡ record k { packets = drop 1 k.packets; takes = k.takes + 1 }
+    → TakesTurn b (effects.Signal packet) r d → BodyTurn b e r d × (k' ≡ shown_after e k) × (length k'.packets ≤ length k.packets) × (k'.open_senders ≡ k.open_senders)
+signalled-deed {K} b d c r k k' packet e e_is first rest takes =
+    let is : e ≡ Signals c packet = e_is ∙ ap (signalled_event c) first in
+    subst (λ (x : Event). BodyTurn b x r d × (k' ≡ shown_after x k) × (length k'.packets ≤ length k.packets) × (k'.open_senders ≡ k.open_senders)) (sym is)
+    (body-turn b d (effects.Signal packet) r (Signals c packet) takes refl refl refl, rest, omega (arith, ap (λ (xs : List Tree). length xs) first), ap (λ (x : ChannelShown). x.open_senders) rest)
 
 -- a connection was given back, and these processes are noted
 pub waking-after : {K : Type 0} (next : K → Hands → Answer → Outcome K → Type 0) (z : TableId) (n : ℕ) (w w' : Worker K) (h : Held K) (c : ℕ) (k : ChannelShown) (notes more : List ℕ) → IsGrabbing next z n w h c k → w'.seat.table_id ≡ w.seat.table_id → w'.seat.me.0 ≡ releasing w.seat.me.0 notes
@@ -275,3 +295,35 @@ send-notes {K} start c word port found k k' receivers noted after level small fe
     longer : (found : Option Tree) → k' ≡ shown_after (sent_event port c found) k → length k.packets ≤ length k'.packets
     longer (Some packet) is = omega (arith, ap (λ (x : ChannelShown). length x.packets) is, length-append k.packets (packet ∷ []))
     longer None is = omega (arith, ap (λ (x : ChannelShown). length x.packets) is)
+
+-- whom a turn has to note that takes a packet from the automatic input
+pub signalled-notes : {K : Type 0} (start : NetValue K) (c word : ℕ) (k k' : ChannelShown) (senders noted : List ℕ) → k' ≡ shown_after (signalled_event c k.packets) k → level_in word ≡ length k.packets → senders_in word ≡ k.open_senders → length k'.packets < 65536 → k'.open_senders < 65536
+    → ((q : ℕ) (b : BodyValue K) → slice_get start.bodies q ≡ Some b → IsOutput b c → InList q senders) → Notes start c word (free_word (length k'.packets) k'.open_senders) (senders ++ noted)
+signalled-notes {K} start c word k k' senders noted after level opens small few all = record {
+  receiver = inl (
+    (let l : level_in (free_word (length k'.packets) k'.open_senders) ≡ length k'.packets = omega (arith, small, few) in let s = (left k.packets refl).0 in omega (arith, l, level, s)),
+    (let l : senders_in (free_word (length k'.packets) k'.open_senders) ≡ k'.open_senders = omega (arith, small, few) in let s = (left k.packets refl).1 in omega (arith, l, opens, s)),
+  );
+  senders = inr (λ q b there output. in-front q senders noted (all q b there output));
+}
+  where
+    left : (ps : List Tree) → k.packets ≡ ps → (length k'.packets ≤ length k.packets) × (k'.open_senders ≡ k.open_senders)
+    left [] is =
+        let same : k' ≡ k = after ∙ ap (λ (xs : List Tree). shown_after (signalled_event c xs) k) is in
+        (omega (arith, ap (λ (x : ChannelShown). length x.packets) same), ap (λ (x : ChannelShown). x.open_senders) same)
+    left (packet ∷ rest) is =
+        let same : k' ≡ shown_after (Signals c packet) k = after ∙ ap (λ (xs : List Tree). shown_after (signalled_event c xs) k) is in
+        let shorter : length k'.packets ≡ length rest = ap (λ (x : ChannelShown). length x.packets) same ∙ ap (λ (xs : List Tree). length (drop 1 xs)) is in
+        (omega (arith, shorter, ap (λ (xs : List Tree). length xs) is), ap (λ (x : ChannelShown). x.open_senders) same)
+
+-- whom a close has to note
+pub close-notes : {K : Type 0} (start : NetValue K) (c word : ℕ) (found : Option Outlet) (k k' : ChannelShown) (receivers noted : List ℕ) → k' ≡ shown_after (closed_event found) k → level_in word ≡ length k.packets → length k'.packets < 65536 → k'.open_senders < 65536
+    → ((q : ℕ) (b : BodyValue K) → slice_get start.bodies q ≡ Some b → IsInput b c → InList q receivers) → Notes start c word (free_word (length k'.packets) k'.open_senders) (receivers ++ noted)
+close-notes {K} start c word found k k' receivers noted after level small few all = record {
+  receiver = inr (λ q b there input. in-front q receivers noted (all q b there input));
+  senders = inl (let l : level_in (free_word (length k'.packets) k'.open_senders) ≡ length k'.packets = omega (arith, small, few) in let s = kept found after in omega (arith, l, level, s));
+}
+  where
+    kept : (found : Option Outlet) → k' ≡ shown_after (closed_event found) k → length k'.packets ≡ length k.packets
+    kept (Some outlet) is = ap (λ (x : ChannelShown). length x.packets) is
+    kept None is = ap (λ (x : ChannelShown). length x.packets) is

@@ -17,7 +17,7 @@ use Rattle.flow_ring.specs.Words.{level_in, senders_in}
 use Rattle.flow_floor.specs.declared.board.View.{View}
 use Rattle.flow_floor.specs.declared.board.Look.{Look}
 use Rattle.flow_floor.specs.Law.{Beside, IsInput}
-use Rattle.flow_floor.specs.Waking.{counts, live_in, InList, IsOutput, IsNoted, WordsBlock, AllBlock, IsWiredAs, Keeps, Wakes}
+use Rattle.flow_floor.specs.Waking.{counts, live_in, InList, IsEmptyAt, IsOpenAt, IsOutput, IsNoted, WordsBlock, AllBlock, IsWiredAs, Keeps, Wakes}
 use Rattle.flow_floor.proofs.Seats.{at_inside, St, Homes, state, seats_stay}
 
 -- one process word of the first n changes
@@ -77,11 +77,35 @@ module _ {K : Type 0} where
   Calm n b ws ws' = (c : ℕ) → (IsInput b c → (level_in (get_or ws' (n + c) 0) ≤ level_in (get_or ws (n + c) 0)) × (senders_in (get_or ws (n + c) 0) ≤ senders_in (get_or ws' (n + c) 0)))
       × (IsOutput b c → level_in (get_or ws (n + c) 0) ≤ level_in (get_or ws' (n + c) 0))
 
+  -- An empty input stays empty, and an open one open.
+  still-empty : (n : ℕ) (b : BodyValue K) (ws ws' : List ℕ) → Calm n b ws ws' → (c : ℕ) → IsInput b c → IsEmptyAt n ws c → IsEmptyAt n ws' c
+  still-empty n b ws ws' calm c input empty = let a = ((calm c).0 input).0 in omega (arith, a, empty)
+
+  still-open : (n : ℕ) (b : BodyValue K) (ws ws' : List ℕ) → Calm n b ws ws' → (c : ℕ) → IsInput b c → IsOpenAt n ws c → IsOpenAt n ws' c
+  still-open n b ws ws' calm c input opened = let a = ((calm c).0 input).1 in omega (arith, a, opened)
+
   pub block-calm : (n : ℕ) (channels : List ChannelShown) (ws ws' : List ℕ) (b : BodyValue K) (stage : Stage) → Calm n b ws ws' → WordsBlock n channels ws b stage → WordsBlock n channels ws' b stage
-  block-calm n channels ws ws' b stages.Idle calm (empty, (c, input, some_sender)) =
-      (λ d i. (let a = ((calm d).0 i).0 in let e = empty d i in omega (arith, a, e)), (c, input, (let a = ((calm c).0 input).1 in omega (arith, a, some_sender))))
+  block-calm n channels ws ws' b stages.Idle calm (inl (c, signal, empty, opened, why)) = inl (
+    c,
+    signal,
+    still-empty n b ws ws' calm c (inr signal) empty,
+    still-open n b ws ws' calm c (inr signal) opened,
+    elim why [
+      | inl unsignalled ↦ inl unsignalled
+      | inr worked ↦ inr (λ i d at. still-empty n b ws ws' calm d (inl (i, at)) (worked.0 i d at), worked.1)
+    ],
+  )
+  block-calm n channels ws ws' b stages.Idle calm (inr (streams, (i, c, at, opened), signal)) =
+      inr (
+        λ j d is. still-empty n b ws ws' calm d (inl (j, is)) (streams j d is),
+        (i, c, at, still-open n b ws ws' calm c (inl (i, at)) opened),
+        elim signal [
+          | inl signalled ↦ inl signalled
+          | inr empties ↦ inr (λ d is. still-empty n b ws ws' calm d (inr is) (empties d is))
+        ],
+      )
   block-calm n channels ws ws' b (stages.Wishing (wishes.Receive port)) calm (c, is, empty, some_sender) =
-      let a = (calm c).0 (port.0, is) in (c, is, omega (arith, a.0, empty), omega (arith, a.1, some_sender))
+      let a = (calm c).0 (inl (port.0, is)) in (c, is, omega (arith, a.0, empty), omega (arith, a.1, some_sender))
   block-calm n channels ws ws' b (stages.Wishing (wishes.Send port id)) calm (c, k, is, there, full) = let a = (calm c).1 (port.0, is) in (c, k, is, there, omega (arith, a, full))
   block-calm n channels ws ws' b (stages.Wishing (wishes.Level port)) calm x = x
   block-calm n channels ws ws' b (stages.Wishing wishes.Deactivate) calm x = x

@@ -24,7 +24,7 @@ use Rattle.flow_floor.specs.Law.{IsTaken, IsFree, IsInput, Rests, Stands, Holds,
 use Rattle.flow_floor.specs.Turning.{turned_body, with_body, turned_net}
 use Rattle.flow_floor.specs.Waking.{counts, live_in, InList, IsOutput, IsNoted, WordsBlock, StillBlocks, AllBlock, IsWiredAs, Keeps, Notes, Wakes}
 use Rattle.flow_floor.proofs.Seats.{at_inside, some_Some, get-exists, get-within, St, Homes, state}
-use Rattle.flow_floor.proofs.Channels.{changed-get}
+use Rattle.flow_floor.proofs.Channels.{SameInputs, input-same, changed-get}
 use Rattle.flow_floor.proofs.Wakes.{live-set, live-other, total_set, Calm, block-calm, still-calm, calm-same, wakes-keep}
 
 taken-counts : (w : ℕ) → IsTaken w → counts w ≡ 1
@@ -107,10 +107,10 @@ module _ {K : Type 0} (shape_of : K → Shape) (uses : K → ℕ → Bool) (read
   has-share : (live p : ℕ) (b : BodyValue K) (v w : View K) → Keeps live v → v.held ≡ Some (p, b) → w.shares ≡ v.shares → w.shares ≡ 0 → ⊥
   has-share live p b v w ks holds shares e = let a : v.held ≡ None = (ks.bare (sym shares ∙ e)).0 in let gone : None ≡ Some (p, b) = sym a ∙ holds in absurd (cc)
 
-  still-body : (ws : List ℕ) (b d : BodyValue K) (seen : List Look) → d.process.inputs ≡ b.process.inputs → d.process.outputs ≡ b.process.outputs → AllBlock P start.channels ws b seen → AllBlock P start.channels ws d seen
+  still-body : (ws : List ℕ) (b d : BodyValue K) (seen : List Look) → SameInputs b d → d.process.outputs ≡ b.process.outputs → AllBlock P start.channels ws b seen → AllBlock P start.channels ws d seen
   still-body ws b d [] inputs outputs all = tt
   still-body ws b d (look ∷ seen) inputs outputs (first, rest) = (
-    λ c at. (λ input. (first c at).0 (input.0, ap (λ (xs : List Input). slice_get xs input.0) (sym inputs) ∙ input.1), λ output. (first c at).1 (output.0, by output)),
+    λ c at. (λ input. (first c at).0 (input-same c b d inputs input), λ output. (first c at).1 (output.0, by output)),
     still-body ws b d seen inputs outputs rest,
   )
     where
@@ -131,6 +131,10 @@ module _ {K : Type 0} (shape_of : K → Shape) (uses : K → ℕ → Bool) (read
     signal = λ q x x0 is is0. elim (same_or_not q p) [
       | inl same ↦ (ap (λ (y : BodyValue K). y.process.signal) (sym (here q x same is)) ∙ signal ∙ wired.signal p b x0 there (ap (slice_get start.bodies) (sym same) ∙ is0))
       | inr other ↦ wired.signal q x x0 (sym (slice_get-set_other now.bodies p q d other) ∙ is) is0
+    ];
+    signals = λ q c x is at. elim (same_or_not q p) [
+      | inl same ↦ wired.signals p c b there (sym signal ∙ ap (λ (y : BodyValue K). y.process.signal) (here q x same is) ∙ at)
+      | inr other ↦ wired.signals q c x (sym (slice_get-set_other now.bodies p q d other) ∙ is) at
     ];
     capacities = capacities;
   }
@@ -157,7 +161,7 @@ module _ {K : Type 0} (shape_of : K → Shape) (uses : K → ℕ → Bool) (read
       let qp : p ≡ q = ap (λ (y : ℕ × BodyValue K). y.0) pair in
       let xd : d ≡ x = ap (λ (y : ℕ × BodyValue K). y.1) pair in
       elim (k.held id p v b at holds (ap (λ n. get_or s.words n 0) qp ∙ one)) [
-        | inl all ↦ inl (subst (λ (y : BodyValue K). AllBlock P start.channels s.words y w.seen) xd (subst (AllBlock P start.channels s.words d) (sym seen) (still-body s.words b d v.seen same.1 same.2 all)))
+        | inl all ↦ inl (subst (λ (y : BodyValue K). AllBlock P start.channels s.words y w.seen) xd (subst (AllBlock P start.channels s.words d) (sym seen) (still-body s.words b d v.seen (same.1, same.3) same.2 all)))
         | inr note ↦ inr (subst (λ n. IsNoted (set s.views id w) n) qp (noted-same s id p v w at noted note))
       ]))
       (λ j q u x other u_at u_holds one. (one, (holds-of s g j q u x f u_at u_holds).1))
@@ -233,11 +237,15 @@ module _ {K : Type 0} (shape_of : K → Shape) (uses : K → ℕ → Bool) (read
       ]
 
   -- a process is at connections that are there
-  pub calm-in : (s : St K) (g : Beside K) (q : ℕ) (x : BodyValue K) (ws' : List ℕ) → F s g → slice_get g.now.bodies q ≡ Some x
+  pub calm-in : (s : St K) (g : Beside K) (q : ℕ) (x : BodyValue K) (ws' : List ℕ) → F s g → IsWiredAs start g.now → slice_get g.now.bodies q ≡ Some x
       → ((c : ℕ) → c < C → (level_in (get_or ws' (P + c) 0) ≡ level_in (get_or s.words (P + c) 0)) × (senders_in (get_or ws' (P + c) 0) ≡ senders_in (get_or s.words (P + c) 0))) → Calm P x s.words ws'
-  calm-in s g q x ws' f there same c =
+  calm-in s g q x ws' f wires there same c =
       let wired = f.fit.wired q x there in
-      (λ input. (let e = same c (omega (arith, wired.inputs input.0 c input.1, f.same.1)) in (omega (arith, e.0), omega (arith, e.1))), λ output. (let e = same c (omega (arith, wired.outputs output.0 c output.1, f.same.1)) in omega (arith, e.0)))
+      (λ input. (let e = same c (input-below g q c x f wires there input) in (omega (arith, e.0), omega (arith, e.1))), λ output. (let e = same c (omega (arith, wired.outputs output.0 c output.1, f.same.1)) in omega (arith, e.0)))
+    where
+      input-below : (g : Beside K) (q c : ℕ) (x : BodyValue K) → F s g → IsWiredAs start g.now → slice_get g.now.bodies q ≡ Some x → IsInput x c → c < C
+      input-below g q c x f wires there (inl i) = omega (arith, (f.fit.wired q x there).inputs i.0 c i.1, f.same.1)
+      input-below g q c x f wires there (inr z) = wires.signals q c x there z
 
   -- notes that a seat keeps
   pub notes-kept : (s : St K) (id q : ℕ) (v w : View K) → get_elem? s.views id ≡ some v → (InList q v.noted → InList q w.noted) → IsNoted s.views q → IsNoted (set s.views id w) q
@@ -261,12 +269,12 @@ module _ {K : Type 0} (shape_of : K → Shape) (uses : K → ℕ → Bool) (read
       → ((q : ℕ) (b : BodyValue K) → v.held ≡ Some (q, b) → AllBlock P start.channels ws' b v.seen → AllBlock P start.channels ws' b w.seen) → W (state ws' hs' (set s.views id w)) g'
   wakes-view s g g' ws' hs' id v w f k at now same counted levels live zeros held shares mine notes seen =
       wakes-keep start s g g' ws' hs' id v w k at (subst (IsWiredAs start) (sym now) k.wired) (omega (arith, live, counted, k.live, total_set (λ (x : View K). x.spare) s.views id v w at)) shares zeros mine
-      (λ q there. inl (notes q there)) (λ q x is. inl (calm-in s g q x ws' f is levels))
+      (λ q there. inl (notes q there)) (λ q x is. inl (calm-in s g q x ws' f k.wired is levels))
       (λ q x is empty. (let was : slice_get g.now.bodies q ≡ Some x = ap (λ (n : NetValue K). slice_get n.bodies q) (sym now) ∙ is in inl (sym (same q (body-below s g q x f was)) ∙ empty, was)))
       (λ q x is one. (let is_v : v.held ≡ Some (q, x) = sym held ∙ is in
       let h = holds-of s g id q v x f at is_v in
       elim (k.held id q v x at is_v (sym (same q (body-below s g q x f h.1)) ∙ one)) [
-        | inl all ↦ inl (seen q x is_v (still-calm P start.channels s.words ws' x v.seen (calm-in s g q x ws' f h.1 levels) all))
+        | inl all ↦ inl (seen q x is_v (still-calm P start.channels s.words ws' x v.seen (calm-in s g q x ws' f k.wired h.1 levels) all))
         | inr note ↦ inr (notes-kept s id q v w at (notes q) note)
       ]))
       (λ j q u x other u_at u_holds one. (let h = holds-of s g j q u x f u_at u_holds in (sym (same q (body-below s g q x f h.1)) ∙ one, h.1)))
@@ -288,7 +296,7 @@ module _ {K : Type 0} (shape_of : K → Shape) (uses : K → ℕ → Bool) (read
       (λ c x x0 is is0. (let old = get-exists g.now.channels c (omega (arith, get-within (all_shown_after e g.now.channels) c x is, channels-len e g.now.channels)) in capacity-after e g.now.channels c old.0 x old.1 is ∙ k.wired.capacities c old.0 x0 old.1 is0))))
       (omega (arith, same_live, k.live, live-other P i y s.words (omega arith), total_set (λ (x : View K). x.spare) s.views id v w at, spare)) shares (λ z. same_live ∙ z)
       (keeps-held (get_or ws' L 0) p d w held (omega (arith, ks.spare, spare, shares)) (λ z. same_live ∙ ks.zero (sym zeros ∙ z)) (has-share (get_or s.words L 0) p b v w ks holds shares))
-      (λ q there. inl (subst (InList q) (sym noted) there)) (λ q x is. inl (calm-in s g q x ws' f is (λ c below. (let same = get_or-set_other s.words i (P + c) y 0 (λ e. omega arith) in (ap level_in same, ap senders_in same)))))
+      (λ q there. inl (subst (InList q) (sym noted) there)) (λ q x is. inl (calm-in s g q x ws' f k.wired is (λ c below. (let same = get_or-set_other s.words i (P + c) y 0 (λ e. omega arith) in (ap level_in same, ap senders_in same)))))
       (λ q x is empty.
       (let is' : slice_get (slice_set g.now.bodies p d) q ≡ Some x = ap (λ (n : NetValue K). slice_get n.bodies q) (sym now) ∙ is in
       let below : q < P = omega (arith, get-within (slice_set g.now.bodies p d) q x is', length-set g.now.bodies p d, f.same.0) in
@@ -297,9 +305,9 @@ module _ {K : Type 0} (shape_of : K → Shape) (uses : K → ℕ → Bool) (read
       (λ q x is one. inl (subst (AllBlock P start.channels ws' x) (sym seen) tt))
       (λ j q u x other u_at u_holds one. (let h = holds-of s g j q u x f u_at u_holds in (sym (word q (body-below s g q x f h.1)) ∙ one, h.1)))
 
-  input-or-not : (xs : List Input) (c : ℕ) → ((i : ℕ) × (slice_get xs i ≡ Some (From c))) ⊎ ((i : ℕ) → slice_get xs i ≡ Some (From c) → ⊥)
-  input-or-not [] c = inr (λ i is. cc)
-  input-or-not (Text text ∷ xs) c = elim (input-or-not xs c) [
+  stream-or-not : (xs : List Input) (c : ℕ) → ((i : ℕ) × (slice_get xs i ≡ Some (From c))) ⊎ ((i : ℕ) → slice_get xs i ≡ Some (From c) → ⊥)
+  stream-or-not [] c = inr (λ i is. cc)
+  stream-or-not (Text text ∷ xs) c = elim (stream-or-not xs c) [
     | inl there ↦ inl (suc there.0, there.1)
     | inr other ↦ inr (λ i is. none-here i is other)
   ]
@@ -307,9 +315,9 @@ module _ {K : Type 0} (shape_of : K → Shape) (uses : K → ℕ → Bool) (read
       none-here : (i : ℕ) → slice_get (Text text ∷ xs) i ≡ Some (From c) → ((i : ℕ) → slice_get xs i ≡ Some (From c) → ⊥) → ⊥
       none-here zero is other = cc
       none-here (suc i) is other = other i is
-  input-or-not (From d ∷ xs) c = elim (same_or_not d c) [
+  stream-or-not (From d ∷ xs) c = elim (same_or_not d c) [
     | inl same ↦ inl (0, ap (λ n. let r : Option Input = Some (From n) in r) same)
-    | inr differs ↦ (elim (input-or-not xs c) [
+    | inr differs ↦ (elim (stream-or-not xs c) [
       | inl there ↦ inl (suc there.0, there.1)
       | inr other ↦ inr (λ i is. none-here i is differs other)
     ])
@@ -322,6 +330,23 @@ module _ {K : Type 0} (shape_of : K → Shape) (uses : K → ℕ → Bool) (read
           number (From n) = n
           number (Text t) = 0
       none-here (suc i) is differs other = other i is
+
+  input-or-not : (x : BodyValue K) (c : ℕ) → IsInput x c ⊎ (IsInput x c → ⊥)
+  input-or-not x c = elim (stream-or-not x.process.inputs c) [
+    | inl there ↦ inl (inl there)
+    | inr other ↦ by x.process.signal refl other
+  ]
+    where
+      neither : ((i : ℕ) → slice_get x.process.inputs i ≡ Some (From c) → ⊥) → (x.process.signal ≡ Some c → ⊥) → IsInput x c → ⊥
+      neither other none (inl i) = other i.0 i.1
+      neither other none (inr z) = none z
+
+      by : (found : Option ℕ) → x.process.signal ≡ found → ((i : ℕ) → slice_get x.process.inputs i ≡ Some (From c) → ⊥) → IsInput x c ⊎ (IsInput x c → ⊥)
+      by None is other = inr (neither other (λ z. (let e : None ≡ Some c = sym is ∙ z in cc)))
+      by (Some d) is other = elim (same_or_not d c) [
+        | inl same ↦ inl (inr (is ∙ ap (λ n. let r : Option ℕ = Some n in r) same))
+        | inr differs ↦ inr (neither other (λ z. differs (some_Some d c (sym is ∙ z))))
+      ]
 
   output-or-not : (xs : List (Option ℕ)) (c : ℕ) → ((o : ℕ) × (output_in xs o ≡ Some c)) ⊎ ((o : ℕ) → output_in xs o ≡ Some c → ⊥)
   output-or-not [] c = inr (λ o is. cc)
@@ -393,16 +418,16 @@ module _ {K : Type 0} (shape_of : K → Shape) (uses : K → ℕ → Bool) (read
       calm : (q : ℕ) (x : BodyValue K) → slice_get g.now.bodies q ≡ Some x → get_or (set s.words (P + c) y) (P + c) 0 ≡ y → Calm P x s.words (set s.words (P + c) y) ⊎ IsNoted (set s.views id w) q
       calm q x is here =
           let old = get-exists start.bodies q (body-below s g q x f is) in
-          let ins = ap (λ (xs : List Input). xs) (k.wired.inputs q x old.0 is old.1) in
+          let ins : SameInputs old.0 x = (k.wired.inputs q x old.0 is old.1, k.wired.signal q x old.0 is old.1) in
           let outs = k.wired.outputs q x old.0 is old.1 in
-          let to_old_in : IsInput x c → IsInput old.0 c = λ input. (input.0, ap (λ (xs : List Input). slice_get xs input.0) (sym ins) ∙ input.1) in
+          let to_old_in : IsInput x c → IsInput old.0 c = input-same c old.0 x ins in
           let to_old_out : IsOutput x c → IsOutput old.0 c = λ output. (output.0, ap (λ (xs : List (Option ℕ)). output_in xs output.0) (sym outs) ∙ output.1) in
-          elim (input-or-not x.process.inputs c) [
+          elim (input-or-not x c) [
             | inl input ↦ (elim notes.receiver [
               | inr all ↦ inr (note-by q (all q old.0 old.1 (to_old_in input)))
               | inl low ↦ out-case q x here old.0 old.1 (λ _. low) to_old_out
             ])
-            | inr no_input ↦ out-case q x here old.0 old.1 (λ input. absurd (no_input input.0 input.1)) to_old_out
+            | inr no_input ↦ out-case q x here old.0 old.1 (λ input. absurd (no_input input)) to_old_out
           ]
         where
           out-case : (q : ℕ) (x : BodyValue K) → get_or (set s.words (P + c) y) (P + c) 0 ≡ y → (x0 : BodyValue K) → slice_get start.bodies q ≡ Some x0

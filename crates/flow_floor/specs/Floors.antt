@@ -5,7 +5,6 @@ use Rattle.flow_packet.specs.Held.{Held as Hands}
 use Rattle.flow_component.specs.declared.Answer.{Answer}
 use Rattle.flow_component.specs.declared.Shape.{Shape}
 use Rattle.flow_component.specs.Laws.{Outcome}
-use Rattle.flow_machine.specs.FitNets.{IsWiredBody}
 use Rattle.flow_machine.specs.Values.{NetValue}
 use Rattle.flow_machine.specs.declared.answers.Over.{Over}
 use Rattle.flow_floor.specs.declared.floor.Floor.{Floor}
@@ -14,6 +13,7 @@ use Rattle.flow_floor.specs.declared.floor.Turned.{Turned}
 use Rattle.flow_floor.specs.declared.floor.Worker.{Worker}
 use Rattle.flow_floor.specs.declared.rooms.Rooms.{Rooms}
 use Rattle.flow_floor.specs.Crew.{IsCrew}
+use Rattle.flow_floor.specs.Law.{IsWiredIn}
 use Rattle.flow_floor.specs.Rooms.{HasRooms}
 use Rattle.flow_floor.specs.Turns.{Turns}
 use Rattle.flow_floor.specs.Workers.{view, IsIdle, IsHeldBy, IsSameSeat, RetiresAs, SeenBlocks}
@@ -63,9 +63,9 @@ module _ {K : Type 0} where
   abbrev pub IsHeldAt : (K → Hands → Answer → Outcome K → Type 0) → Floor K → Worker K → Held K → Type 0
   IsHeldAt next f w h = IsHeldBy next f.table.shared.table_id (process_count f) w h
 
-  -- Each connection at a port of the held body is one of this floor's.
+  -- Each connection at a port of the held body, the automatic ports too, is one of this floor's.
   abbrev pub IsWiredAt : Floor K → Held K → Type 0
-  IsWiredAt f h = IsWiredBody (connection_count f) h.body
+  IsWiredAt f h = IsWiredIn (connection_count f) h.body
 
   -- The worker has seen the body that it holds blocked: what it read since the claim, or since its last turn, leaves the process no turn, as long as the
   -- words still say so; and the body owes no work.

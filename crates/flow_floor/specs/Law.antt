@@ -7,7 +7,7 @@ use Rattle.flow_packet.specs.Held.{Held}
 use Rattle.flow_component.specs.declared.Answer.{Answer}
 use Rattle.flow_component.specs.declared.Shape.{Shape}
 use Rattle.flow_component.specs.Laws.{Outcome}
-use Rattle.flow_model.specs.States.{From}
+use Rattle.flow_model.specs.States.{From, output_at}
 use Rattle.flow_model.specs.Stands.{ChannelShown}
 use Rattle.flow_machine.specs.Values.{BodyValue, NetValue}
 use Rattle.flow_machine.specs.Logs.{Logged, turns_made}
@@ -53,9 +53,15 @@ abbrev pub Rests : {K : Type 0} → (K → Held → Answer → Outcome K → Typ
 Rests next old new = (SameBody old new ⊎ WorkedBody next old new) × KeepsTurns old new
 
 module _ {K : Type 0} where
-  -- The connection is an input of the process.
+  -- The connection is an input of the process: one of its stream inputs, or its automatic input.
   abbrev pub IsInput : BodyValue K → ℕ → Type 0
-  IsInput b c = (i : ℕ) × (slice_get b.process.inputs i ≡ Some (From c))
+  IsInput b c = ((i : ℕ) × (slice_get b.process.inputs i ≡ Some (From c))) ⊎ (b.process.signal ≡ Some c)
+
+  -- Each connection that a body has at a port is there, the one at its automatic input too.
+  pub record IsWiredIn (channels : ℕ) (b : BodyValue K) : Type 0 where
+    pub inputs : (i c : ℕ) → slice_get b.process.inputs i ≡ Some (From c) → c < channels
+    pub outputs : (o c : ℕ) → output_at b.process o ≡ Some c → c < channels
+    pub signal : (c : ℕ) → b.process.signal ≡ Some c → c < channels
 
   -- The process that is held receives from the connection.
   abbrev pub Receives : Option (ℕ × BodyValue K) → ℕ → Type 0

@@ -8,13 +8,14 @@ use Rattle.flow_component.specs.Laws.{Outcome}
 use Rattle.flow_model.specs.Events.{Event}
 use Rattle.flow_model.specs.Stands.{ChannelShown}
 use Rattle.flow_machine.specs.Values.{BodyValue, NetValue}
-use Rattle.flow_machine.specs.FitNets.{FitNet, IsWiredBody}
+use Rattle.flow_machine.specs.FitNets.{FitNet}
 use Rattle.flow_ring.specs.declared.layout.TheConstants.{SPACING}
 use Rattle.flow_ring.specs.Words.{level_in, senders_in, held_bit}
 use Rattle.flow_floor.specs.declared.board.Slot.{Slot}
 use Rattle.flow_floor.specs.declared.board.Slot.TheVariants as slot
 use Rattle.flow_floor.specs.declared.board.View.{View}
 use Rattle.flow_floor.specs.declared.board.Look.{Look}
+use Rattle.flow_floor.specs.Law.{AllSeen, IsWiredIn}
 use Rattle.flow_floor.specs.Turning.{turned_body, grab_after, MachineTurnOf}
 
 -- A worker's seat at the table.
@@ -111,16 +112,17 @@ module _ {K : Type 0} where
   HeldIn now (Some held) = slice_get now.bodies held.0 ≡ Some held.1
   HeldIn now None = Unit {0}
 
-  -- At some moment the machine had this channel at connection c, and the body that is held.
-  abbrev pub WasSo : (K → Shape) → (K → ℕ → Bool) → (K → Held → Answer → Type 0) → Option (ℕ × BodyValue K) → ℕ → ChannelShown → Type 0
-  WasSo shape_of uses ready held c k = (now : NetValue K) × FitNet shape_of uses ready now × (slice_get now.channels c ≡ Some k) × HeldIn now held
+  -- At some moment the machine had this channel at connection c, and the body that is held, and what was seen for that was so. Here n is the number of
+  -- processes.
+  abbrev pub WasSo : (K → Shape) → (K → ℕ → Bool) → (K → Held → Answer → Type 0) → ℕ → Option (ℕ × BodyValue K) → List Look → ℕ → ChannelShown → Type 0
+  WasSo shape_of uses ready n held seen c k = (now : NetValue K) × FitNet shape_of uses ready now × (slice_get now.channels c ≡ Some k) × HeldIn now held × AllSeen n now held seen
 
   abbrev pub claimed : ℕ → Step (Slot K) → Sat K → ℕ → Sat K → Type 0
-  claimed n st m r m' = (r ≡ 2 → (b : BodyValue K) × (b.leaving ≡ None) × IsWiredBody n b × (m' ≡ (claiming m.0 st.word b, (st.word, slot.Body b) ∷ m.1))) × (r ≢ 2 → m' ≡ (refusing m.0 st.word r, m.1))
+  claimed n st m r m' = (r ≡ 2 → (b : BodyValue K) × (b.leaving ≡ None) × IsWiredIn n b × (m' ≡ (claiming m.0 st.word b, (st.word, slot.Body b) ∷ m.1))) × (r ≢ 2 → m' ≡ (refusing m.0 st.word r, m.1))
 
-  abbrev pub grabbed : (K → Shape) → (K → ℕ → Bool) → (K → Held → Answer → Type 0) → ℕ → ℕ → Step (Slot K) → Sat K → ℕ → Sat K → Type 0
-  grabbed shape_of uses ready c most st m r m' =
-      (r < held_bit → (k : ChannelShown) × (level_in r ≡ length k.packets) × (senders_in r ≡ k.open_senders) × (k.capacity ≡ most) × WasSo shape_of uses ready m.0.held c k × (m' ≡ (grabbing m.0 st.word r c k, (st.word, slot.Channel k) ∷ m.1)))
+  abbrev pub grabbed : (K → Shape) → (K → ℕ → Bool) → (K → Held → Answer → Type 0) → ℕ → ℕ → ℕ → Step (Slot K) → Sat K → ℕ → Sat K → Type 0
+  grabbed shape_of uses ready n c most st m r m' =
+      (r < held_bit → (k : ChannelShown) × (level_in r ≡ length k.packets) × (senders_in r ≡ k.open_senders) × (k.capacity ≡ most) × WasSo shape_of uses ready n m.0.held m.0.seen c k × (m' ≡ (grabbing m.0 st.word r c k, (st.word, slot.Channel k) ∷ m.1)))
       × (held_bit ≤ r → m' ≡ (seeing m.0 st.word r, m.1))
 
   abbrev pub saw : Step (Slot K) → Sat K → ℕ → Sat K → Type 0

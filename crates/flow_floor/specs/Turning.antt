@@ -5,7 +5,7 @@ use Rattle.flow_packet.specs.Held.{Held}
 use Rattle.flow_component.specs.declared.Answer.{Answer}
 use Rattle.flow_component.specs.declared.Shape.{Shape}
 use Rattle.flow_component.specs.Laws.{Outcome}
-use Rattle.flow_model.specs.Events.{Event, Gets, Hears_end, Sends, Sleeps, Closes, seen_by, event_from}
+use Rattle.flow_model.specs.Events.{Event, Gets, Hears_end, Sends, Sleeps, Closes, Signals, seen_by, event_from}
 use Rattle.flow_model.specs.States.{Outlet}
 use Rattle.flow_model.specs.Turns.{process_after}
 use Rattle.flow_model.specs.Stands.{ChannelShown, dropped_after, shown_after, all_shown_after}
@@ -73,6 +73,11 @@ At e (Some grab) = IsOn grab.0 e
 abbrev pub received_event : ℕ → ℕ → List Tree → Event
 received_event port c [] = Hears_end port
 received_event port c (packet ∷ packets) = Gets port c packet
+
+-- The turn of an idle process that takes the oldest of these packets from its automatic input.
+abbrev pub signalled_event : ℕ → List Tree → Event
+signalled_event c [] = Sleeps
+signalled_event c (packet ∷ packets) = Signals c packet
 
 -- The turn of a send of this packet.
 abbrev pub sent_event : ℕ → ℕ → Option Tree → Event

@@ -1,13 +1,14 @@
 -- What a call for a turn tells. Here n is the number of processes, `start` the net that was opened, and `old` and `new` are the worker's view before
 -- and after the call.
-use Rattle.std.specs.Prelude.{◌≡◌, ℕ, ◌<◌, ◌≤◌, Bool, false, List, [], ◌∷◌, ◌++◌, length, Option, Some, None}
+use Rattle.std.specs.Prelude.{◌≡◌, ℕ, ◌<◌, ◌≤◌, ◌⊎◌, Bool, false, List, [], ◌∷◌, ◌++◌, Option, Some, None}
 use Rattle.flow_packet.specs.Held.{Held as Hands}
 use Rattle.flow_component.specs.declared.Answer.{Answer}
 use Rattle.flow_component.specs.declared.Shape.{Shape}
 use Rattle.flow_component.specs.Laws.{Outcome}
+use Rattle.flow_model.specs.declared.Stage.TheVariants as stages
 use Rattle.flow_model.specs.declared.Block.{Block}
 use Rattle.flow_model.specs.declared.Block.TheVariants as blocks
-use Rattle.flow_model.specs.States.{Input, output_at}
+use Rattle.flow_model.specs.States.{Process, output_at}
 use Rattle.flow_model.specs.Events.{Event, Starts, Finishes, Gets, Takes_text, Hears_end, Sends, Learns, Sleeps, Closes, Signals}
 use Rattle.flow_model.specs.Verdicts.{waits_for}
 use Rattle.flow_model.specs.Stands.{ChannelShown}
@@ -23,7 +24,7 @@ use Rattle.flow_floor.specs.declared.floor.Held.{Held}
 use Rattle.flow_floor.specs.declared.floor.Worker.{Worker}
 use Rattle.flow_floor.specs.declared.floor.Turned.{Turned}
 use Rattle.flow_floor.specs.declared.floor.Turned.TheVariants as turned
-use Rattle.flow_floor.specs.Looks.{InSeen, IsLook, SawNone, AllSaw, FirstOpen}
+use Rattle.flow_floor.specs.Looks.{InSeen, IsLook, IsDormant, MaySignal}
 use Rattle.flow_floor.specs.Plays.{Below}
 use Rattle.flow_floor.specs.Turning.{MachineTurn}
 use Rattle.flow_floor.specs.Waking.{capacity_at}
@@ -42,16 +43,20 @@ connection_of_case (Some (cases.Over over)) = None
 connection_of_case None = None
 
 -- The words that were read after so many steps block a process so, and w is among them: the connection is empty and has an open sender; it is full; or
--- each connected input is empty, and w is the word of the lowest one that has an open sender.
-abbrev pub ReadBlocks : ℕ → ℕ → List ChannelShown → List Input → List Look → Block → ℕ → Type 0
-ReadBlocks n since channels inputs seen (blocks.Empty c port) w = InSeen (IsLook n since c w) seen × (level_in w ≡ 0) × (0 < senders_in w)
-ReadBlocks n since channels inputs seen (blocks.Full c port) w = InSeen (IsLook n since c w) seen × (capacity_at channels c ≤ level_in w)
-ReadBlocks n since channels inputs seen blocks.Dormant w = AllSaw (SawNone n since) (length inputs) inputs seen × FirstOpen n since inputs seen w
+-- each input that the process watches is empty, and w is the word of the lowest one that has an open sender.
+abbrev pub ReadBlocks : {K : Type 0} → ℕ → ℕ → List ChannelShown → Process K → List Look → Block → ℕ → Type 0
+ReadBlocks n since channels x seen (blocks.Empty c port) w = InSeen (IsLook n since c w) seen × (level_in w ≡ 0) × (0 < senders_in w)
+ReadBlocks n since channels x seen (blocks.Full c port) w = InSeen (IsLook n since c w) seen × (capacity_at channels c ≤ level_in w)
+ReadBlocks n since channels x seen blocks.Dormant w = IsDormant n since x seen w
+
+-- The process takes a packet from its automatic input, which has connection c, by the words that were read after so many steps.
+abbrev pub SignalsAt : {K : Type 0} → ℕ → ℕ → Process K → List Look → ℕ → Type 0
+SignalsAt n since x seen c = (x.stage ≡ stages.Idle) × (x.signal ≡ Some c) × MaySignal n since x seen
 
 module _ {K : Type 0} where
   -- The connection of this turn was held: the call's last look read its word, with the held bit, while this worker held no connection.
   pub record IsBusy (n : ℕ) (b : BodyValue K) (old new : View K) (c w : ℕ) : Type 0 where
-    pub turn : connection_of_case (case_of b.process) ≡ Some c
+    pub turn : (connection_of_case (case_of b.process) ≡ Some c) ⊎ SignalsAt n old.steps b.process new.seen c
     pub look : IsLook n old.steps c w new.look
     pub free : new.look.holding ≡ false
     pub taken : held_bit ≤ w
@@ -59,7 +64,7 @@ module _ {K : Type 0} where
   -- The process waits for this, and by the words that the call read it has to.
   pub record IsBlocked (n : ℕ) (start : NetValue K) (b : BodyValue K) (old new : View K) (block : Block) (w : ℕ) : Type 0 where
     pub waits : waits_for b.process b.process.stage ≡ Some block
-    pub read : ReadBlocks n old.steps start.channels b.process.inputs new.seen block w
+    pub read : ReadBlocks n old.steps start.channels b.process new.seen block w
     pub stays : SeenBlocks start b new.seen
 
   -- A turn that asks for a level is told the one in the word that the call read, as its last look shows.

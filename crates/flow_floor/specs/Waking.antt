@@ -1,13 +1,15 @@
 -- The second half of the rule: who is woken, and when nothing is left to do.
-use Rattle.std.specs.Prelude.{◌≡◌, ℕ, zero, suc, ◌+◌, ◌<◌, ◌≤◌, ◌⊎◌, ◌==◌, ◌||◌, if◌then◌else◌, true, List, [], ◌∷◌, length, slice_index, slice_get, sum_by, Some, None, unwrap_or}
+use Rattle.std.specs.Prelude.{◌≡◌, ℕ, zero, suc, ◌+◌, ◌<◌, ◌≤◌, ◌⊎◌, ◌==◌, ◌||◌, if◌then◌else◌, true, false, List, [], ◌∷◌, length, slice_index, slice_get, sum_by, Some, None, unwrap_or}
 use Rattle.std.specs.Option.{option_map}
+use Rattle.std.specs.List.{list_any}
 use mathlib.Core.Option.{some}
 use lib.ListN.{get_elem?}
 use Rattle.atomic_table.specs.Table.{State}
 use Rattle.flow_component.specs.declared.Wish.TheVariants as wishes
 use Rattle.flow_model.specs.declared.Stage.{Stage}
 use Rattle.flow_model.specs.declared.Stage.TheVariants as stages
-use Rattle.flow_model.specs.States.{From, output_at}
+use Rattle.flow_model.specs.States.{From, Process, output_at}
+use Rattle.flow_model.specs.Events.{is_connected}
 use Rattle.flow_model.specs.Schedules.{IsThoughtStage}
 use Rattle.flow_model.specs.Stands.{ChannelShown}
 use Rattle.flow_machine.specs.Values.{BodyValue, NetValue}
@@ -50,6 +52,18 @@ InList q (x ∷ xs) = (q ≡ x) ⊎ InList q xs
 abbrev pub capacity_at : List ChannelShown → ℕ → ℕ
 capacity_at channels c = unwrap_or (option_map (λ (k : ChannelShown). k.capacity) (slice_get channels c)) 0
 
+-- By the words the connection is empty.
+abbrev pub IsEmptyAt : ℕ → List ℕ → ℕ → Type 0
+IsEmptyAt n words c = level_in (slice_index words (n + c)) ≡ 0
+
+-- By the words it has an open sender.
+abbrev pub IsOpenAt : ℕ → List ℕ → ℕ → Type 0
+IsOpenAt n words c = 0 < senders_in (slice_index words (n + c))
+
+-- The process has a stream input, or has run.
+abbrev pub HasWorked : {K : Type 0} → Process K → Type 0
+HasWorked x = (list_any is_connected x.inputs ≡ true) ⊎ (x.has_run ≡ true)
+
 module _ {K : Type 0} where
   -- The connection is an output of the process.
   abbrev pub IsOutput : BodyValue K → ℕ → Type 0
@@ -59,9 +73,24 @@ module _ {K : Type 0} where
   abbrev pub IsNoted : List (View K) → ℕ → Type 0
   IsNoted views q = (j : ℕ) × (v : View K) × (get_elem? views j ≡ some v) × InList q v.noted
 
+  -- By the words each stream input is empty.
+  abbrev pub AreStreamsEmpty : ℕ → List ℕ → BodyValue K → Type 0
+  AreStreamsEmpty n words b = (i c : ℕ) → slice_get b.process.inputs i ≡ Some (From c) → IsEmptyAt n words c
+
+  -- The words block an idle process that waits at its automatic input: it is empty and has an open sender; and no packet came there before, or the
+  -- stream inputs are empty too, of a process that has some or has run.
+  abbrev pub BlockSignal : ℕ → List ℕ → BodyValue K → Type 0
+  BlockSignal n words b = (c : ℕ) × (b.process.signal ≡ Some c) × IsEmptyAt n words c × IsOpenAt n words c × ((b.process.signalled ≡ false) ⊎ (AreStreamsEmpty n words b × HasWorked b.process))
+
+  -- They block one that waits at its stream inputs: each is empty, and one has an open sender; and a packet came at its automatic input before, or that
+  -- is empty, if it has one.
+  abbrev pub BlockStreams : ℕ → List ℕ → BodyValue K → Type 0
+  BlockStreams n words b =
+      AreStreamsEmpty n words b × ((i : ℕ) × (c : ℕ) × (slice_get b.process.inputs i ≡ Some (From c)) × IsOpenAt n words c) × ((b.process.signalled ≡ true) ⊎ ((c : ℕ) → b.process.signal ≡ Some c → IsEmptyAt n words c))
+
   -- The words block a process at this stage, where n is the number of processes and the connections are these.
   abbrev pub WordsBlock : ℕ → List ChannelShown → List ℕ → BodyValue K → Stage → Type 0
-  WordsBlock n channels words b stages.Idle = ((c : ℕ) → IsInput b c → level_in (slice_index words (n + c)) ≡ 0) × ((c : ℕ) × IsInput b c × (0 < senders_in (slice_index words (n + c))))
+  WordsBlock n channels words b stages.Idle = BlockSignal n words b ⊎ BlockStreams n words b
   WordsBlock n channels words b (stages.Wishing (wishes.Receive port)) = (c : ℕ) × (slice_get b.process.inputs port.0 ≡ Some (From c)) × (level_in (slice_index words (n + c)) ≡ 0) × (0 < senders_in (slice_index words (n + c)))
   WordsBlock n channels words b (stages.Wishing (wishes.Send port id)) =
       (c : ℕ) × (k : ChannelShown) × (output_at b.process port.0 ≡ Some c) × (slice_get channels c ≡ Some k) × (k.capacity ≤ level_in (slice_index words (n + c)))
@@ -90,11 +119,12 @@ module _ {K : Type 0} where
   abbrev pub AllRetired : List ℕ → List (BodyValue K) → Type 0
   AllRetired words bodies = (q : ℕ) (b : BodyValue K) → slice_get bodies q ≡ Some b → IsDoneWord (slice_index words q) → IsRetired b
 
-  -- What stays as it was when the floor was opened.
+  -- What stays as it was when the floor was opened; and each connection at an automatic input is there.
   pub record IsWiredAs (start now : NetValue K) : Type 0 where
     pub inputs : (p : ℕ) (b b0 : BodyValue K) → slice_get now.bodies p ≡ Some b → slice_get start.bodies p ≡ Some b0 → b.process.inputs ≡ b0.process.inputs
     pub outputs : (p : ℕ) (b b0 : BodyValue K) → slice_get now.bodies p ≡ Some b → slice_get start.bodies p ≡ Some b0 → b.process.outputs ≡ b0.process.outputs
     pub signal : (p : ℕ) (b b0 : BodyValue K) → slice_get now.bodies p ≡ Some b → slice_get start.bodies p ≡ Some b0 → b.process.signal ≡ b0.process.signal
+    pub signals : (p c : ℕ) (b : BodyValue K) → slice_get now.bodies p ≡ Some b → b.process.signal ≡ Some c → c < length start.channels
     pub capacities : (c : ℕ) (k k0 : ChannelShown) → slice_get now.channels c ≡ Some k → slice_get start.channels c ≡ Some k0 → k.capacity ≡ k0.capacity
 
   -- What holds of a seat: it has no more spare tokens than shares; only a seat that holds a process has noted one; where it has read 0 the live word is

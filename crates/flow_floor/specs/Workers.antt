@@ -1,5 +1,5 @@
 -- What clauses say of a worker and of what it holds.
-use Rattle.std.specs.Prelude.{◌≡◌, ℕ, ◌+◌, ◌<◌, Bool, List, [], ◌∷◌, length, None, Some}
+use Rattle.std.specs.Prelude.{◌≡◌, ℕ, ◌+◌, ◌<◌, ◌≤◌, Bool, List, [], ◌∷◌, ◌++◌, length, None, Some}
 use Rattle.atomic_table.specs.Seated.{TableId}
 use Rattle.flow_packet.specs.Held.{Held as Hands}
 use Rattle.flow_component.specs.declared.Answer.{Answer}
@@ -84,18 +84,25 @@ module _ {K : Type 0} where
     pub senders : k.open_senders < 65536
 
   -- The connection was just taken: the word that was found has the channel's level and open senders, and at that moment the machine had both this
-  -- channel and the body that is held.
-  pub record HasGrabbed (shape_of : K → Shape) (uses : K → ℕ → Bool) (ready : K → Hands → Answer → Type 0) (old new : Worker K) (i c most word : ℕ) (k : ChannelShown) : Type 0 where
+  -- channel and the body that is held, and what was seen for that was so.
+  pub record HasGrabbed (shape_of : K → Shape) (uses : K → ℕ → Bool) (ready : K → Hands → Answer → Type 0) (old new : Worker K) (n c most word : ℕ) (k : ChannelShown) : Type 0 where
     pub level : level_in word ≡ length k.packets
     pub senders : senders_in word ≡ k.open_senders
     pub capacity : k.capacity ≡ most
-    pub so : WasSo shape_of uses ready old.seat.me.0.held c k
-    pub view : new.seat.me.0 ≡ grabbing old.seat.me.0 i word c k
+    pub so : WasSo shape_of uses ready n old.seat.me.0.held old.seat.me.0.seen c k
+    pub view : new.seat.me.0 ≡ grabbing old.seat.me.0 (n + c) word c k
 
   -- Beside the process at hand all stays: the worker's shares, and whether it has read 0.
   pub record IsSameSeat (old new : View K) : Type 0 where
     pub shares : new.shares ≡ old.shares
     pub zero : new.read_zero ≡ old.read_zero
+
+  -- Looks were made and nothing else: they are kept in front of those that were kept before.
+  pub record LooksOn (old new : View K) : Type 0 where
+    pub made : new.made ≡ old.made
+    pub steps : old.steps ≤ new.steps
+    pub more : List Look
+    pub seen : new.seen ≡ more ++ old.seen
 
   -- It holds nothing and has noted nobody, and has this many spare tokens.
   pub record IsDone (z : TableId) (w : Worker K) (tokens : ℕ) : Type 0 where

@@ -9,7 +9,8 @@ ghost use Rattle.flow_machine.specs.Nets.{BodyTurn};
 ghost use Rattle.flow_machine.specs.FitNets.{FitNet};
 ghost use Rattle.flow_model.specs.States.{From, Text};
 ghost use Rattle.flow_machine.specs.Effects.{text_event};
-ghost use Rattle.flow_floor.specs.Workers.{view, IsHeldBy, IsSameSeat};
+ghost use Rattle.flow_machine.specs.Inlets.{signal_input};
+ghost use Rattle.flow_floor.specs.Workers.{view, IsHeldBy, IsSameSeat, LooksOn};
 ghost use Rattle.flow_floor.specs.Looks.{Saws, first_open};
 ghost use Rattle.flow_floor.specs.Plays.{seeing, stamping, Below};
 ghost use Rattle.flow_floor.specs.Turning.{Happens, MachineTurn};
@@ -48,7 +49,7 @@ impl<K: Component> Floor<K> {
         requires held { IsHeldBy K.next self.now.table.shared.table_id self.now.processes worker.old held.now }
         requires wired { (i c : ℕ) → slice_get held.now.body.process.inputs i ≡ Some (From c) → c < self.now.connections }
         ensures held { IsHeldBy K.next self.now.table.shared.table_id self.now.processes worker.new held.now }
-        ensures made { (view worker.new).made ≡ (view worker.old).made }
+        ensures looks { LooksOn (view worker.old) (view worker.new) }
         ensures seat { IsSameSeat (view worker.old) (view worker.new) }
         ensures saw { Saws self.now.processes (view worker.old).steps held.now.body.process.inputs (view worker.new).seen result }
     {
@@ -63,6 +64,28 @@ impl<K: Component> Floor<K> {
             }
         }
         match open {
+            Some(word) => Saw::Sender(word),
+            None => Saw::Over,
+        }
+    }
+
+    /// Looks at the automatic input, if it has a connection.
+    pub(crate) fn look_signal(&self, worker: &mut Worker<K>, held: &Held<K>) -> Saw
+        requires held { IsHeldBy K.next self.now.table.shared.table_id self.now.processes worker.old held.now }
+        requires wired { (c : ℕ) → held.now.body.process.signal ≡ Some c → c < self.now.connections }
+        ensures held { IsHeldBy K.next self.now.table.shared.table_id self.now.processes worker.new held.now }
+        ensures looks { LooksOn (view worker.old) (view worker.new) }
+        ensures seat { IsSameSeat (view worker.old) (view worker.new) }
+        ensures saw { Saws self.now.processes (view worker.old).steps (signal_input held.now.body.process.signal) (view worker.new).seen result }
+    {
+        let Some(connection) = held.body.signal() else {
+            return Saw::Over;
+        };
+        let word = self.look(worker, held, connection as usize);
+        if level(word) != 0 {
+            return Saw::Packet;
+        }
+        match first_open(None, word) {
             Some(word) => Saw::Sender(word),
             None => Saw::Over,
         }

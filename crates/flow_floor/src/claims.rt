@@ -4,7 +4,7 @@ ghost use Rattle.flow_floor.specs.Looks.{IsLook};
 ghost use Rattle.atomic_table.specs.Seated.{TableId};
 ghost use Rattle.flow_floor.specs.declared.floor.Worker.{Worker};
 ghost use Rattle.flow_machine.specs.Thoughts.{Thinks, KeepsTurns};
-ghost use Rattle.flow_machine.specs.FitNets.{IsWiredBody};
+ghost use Rattle.flow_floor.specs.Law.{IsWiredIn};
 ghost use Rattle.flow_floor.specs.Floors.{process_count, connection_count, turns_of, HasReadZero, IsHeldAt, IsIdleAt, IsOverAs, IsSameWorker, IsStuckAt, IsWiredAt};
 ghost use Rattle.flow_floor.specs.Workers.{view, IsIdle, IsHeldBy, IsDone, MatchClaim};
 ghost use Rattle.flow_floor.specs.Plays.{looked, refusing, claiming, leaving, lowering, parking, reading};
@@ -29,7 +29,7 @@ impl<K: Component> Floor<K> {
         requires spot { S.connection ≡ self.now.connections }
         requires worker { IsIdle self.now.table.shared.table_id worker.old }
         requires range { process < self.now.processes }
-        ensures { MatchClaim result (λ h. (h.process ≡ process) × IsHeldBy K.next self.now.table.shared.table_id self.now.processes worker.new h × IsWiredBody self.now.connections h.body × (view worker.new ≡ claiming (view worker.old) process h.body)) (λ n. (n ≢ 2) × IsIdle self.now.table.shared.table_id worker.new × (view worker.new ≡ refusing (view worker.old) process n)) }
+        ensures { MatchClaim result (λ h. (h.process ≡ process) × IsHeldBy K.next self.now.table.shared.table_id self.now.processes worker.new h × IsWiredIn self.now.connections h.body × (view worker.new ≡ claiming (view worker.old) process h.body)) (λ n. (n ≢ 2) × IsIdle self.now.table.shared.table_id worker.new × (view worker.new ≡ refusing (view worker.old) process n)) }
     {
         let shared = &self.table.shared;
         let place = self.layout().process_word(process);
@@ -150,7 +150,7 @@ impl<K: Component> Held<K> {
         ensures thinks { Thinks K.next self.old.body result self.new.body }
         ensures keeps { KeepsTurns self.old.body self.new.body }
         ensures process { self.new.process ≡ self.old.process }
-        ensures wired { (m : ℕ) → IsWiredBody m self.old.body → IsWiredBody m self.new.body }
+        ensures wired { (m : ℕ) → IsWiredIn m self.old.body → IsWiredIn m self.new.body }
         ensures held { (z : TableId) (n : ℕ) (w : Worker _) → IsHeldBy K.next z n w self.old → IsHeldBy K.next z n w self.new }
     {
         self.body.think(gate)

@@ -1,7 +1,8 @@
 //! The floor, its workers, and what they hold.
 ghost use Rattle.std.specs.Prelude.{◌≡◌, ℕ, ◌+◌, ◌<◌, length, Some, slice_get};
 ghost use Rattle.flow_machine.specs.Values.{BodyValue};
-ghost use Rattle.flow_model.specs.States.{From, output_at};
+ghost use Rattle.flow_model.specs.States.{output_at};
+ghost use Rattle.flow_floor.specs.Law.{IsInput};
 ghost use Rattle.flow_ring.specs.Places.{slot_count, word_count};
 ghost use Rattle.std.specs.List.{list_any};
 ghost use Rattle.std.specs.Option.{option_map};
@@ -32,7 +33,7 @@ pub struct Floor<K: Component> {
     pub(crate) receivers: Vec<Vec<u32>>,
     pub(crate) senders: Vec<Vec<u32>>,
     pub ghost rows: { (length receivers.items ≡ connections) × (length senders.items ≡ connections) },
-    pub ghost receives: { (p : ℕ) (b : BodyValue _) (i c : ℕ) → slice_get table.shared.key.value.bodies p ≡ Some b → slice_get b.process.inputs i ≡ Some (From c) → c < connections → list_any (λ q. q == p) (unwrap_or (option_map (λ w. w.items) (slice_get receivers.items c)) []) ≡ true },
+    pub ghost receives: { (p : ℕ) (b : BodyValue _) (c : ℕ) → slice_get table.shared.key.value.bodies p ≡ Some b → IsInput b c → c < connections → list_any (λ q. q == p) (unwrap_or (option_map (λ w. w.items) (slice_get receivers.items c)) []) ≡ true },
     pub ghost sends: { (p : ℕ) (b : BodyValue _) (o c : ℕ) → slice_get table.shared.key.value.bodies p ≡ Some b → output_at b.process o ≡ Some c → c < connections → list_any (λ q. q == p) (unwrap_or (option_map (λ w. w.items) (slice_get senders.items c)) []) ≡ true },
     pub ghost named: { (c : ℕ) → All (λ q. q < processes) (unwrap_or (option_map (λ w. w.items) (slice_get receivers.items c)) []) × All (λ q. q < processes) (unwrap_or (option_map (λ w. w.items) (slice_get senders.items c)) []) },
 }
@@ -67,7 +68,8 @@ pub enum Turned {
     Made(u32),
     /// Another worker holds this connection of the turn; the word that the call read there.
     Busy(u32, u64),
-    /// What the process waits for, and the word that the call read of that connection; of a dormant process, that of its lowest connected input that has an open sender.
+    /// What the process waits for, and the word that the call read of that connection; of a dormant process, that of the lowest input that it watches
+    /// and that has an open sender.
     Blocked(Block, u64),
     /// It has ended or failed.
     Over(Over),
@@ -78,4 +80,13 @@ pub(crate) enum Saw {
     Packet,
     Sender(u64),
     Over,
+}
+
+/// What an idle process does by what it saw: it takes the packet at its automatic input, starts, goes to its end, or is dormant, with this word of the
+/// lowest input that it watches and that has an open sender.
+pub(crate) enum Idling {
+    Signal,
+    Start,
+    Finish,
+    Dormant(u64),
 }

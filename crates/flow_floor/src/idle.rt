@@ -1,38 +1,96 @@
 //! A whole turn of an idle process.
-ghost use Rattle.std.specs.Prelude.{◌≡◌, ℕ, ◌+◌, ◌<◌, ◌++◌, ◌∷◌, [], length, Some, None, slice_get};
+ghost use Rattle.std.specs.Prelude.{◌≡◌, ℕ, ◌+◌, ◌<◌, ◌++◌, ◌∷◌, [], All, length, Some, None, slice_get};
 ghost use Rattle.flow_model.specs.States.{From};
 ghost use Rattle.flow_model.specs.Events.{Event};
 ghost use Rattle.flow_model.specs.declared.Stage.TheVariants.{Idle};
+ghost use Rattle.flow_machine.specs.Values.{BodyValue};
 ghost use Rattle.flow_machine.specs.Thoughts.{HasRoom};
 ghost use Rattle.flow_machine.specs.Nets.{BodyTurn};
+ghost use Rattle.flow_floor.specs.Law.{IsWiredIn};
+ghost use Rattle.flow_floor.specs.Looks.{SawHeld, Idles};
 ghost use Rattle.flow_floor.specs.Turns.{Turns};
-ghost use Rattle.flow_floor.specs.Workers.{view, IsHeldBy, IsSameSeat};
+ghost use Rattle.flow_floor.specs.Waking.{InList, IsOutput};
+ghost use Rattle.flow_floor.specs.Workers.{view, IsHeldBy, IsSameSeat, LooksOn};
 
-use crate::floor::{Floor, Held, Saw, Turned, Worker};
+use crate::floor::{Floor, Grabbed, Held, Idling, Saw, Turned, Worker};
 use flow_component::Component;
 use flow_machine::Block;
 use std::marker::Brand;
 
 impl<K: Component> Floor<K> {
-    /// Starts, or goes to its end, or is dormant, by what it sees at its inputs.
+    /// Looks whether the process is released, which it is where a packet came at its automatic input before.
+    fn look_released(&self, worker: &mut Worker<K>, held: &Held<K>) -> Saw
+        requires held { IsHeldBy K.next self.now.table.shared.table_id self.now.processes worker.old held.now }
+        requires wired { IsWiredIn self.now.connections held.now.body }
+        ensures held { IsHeldBy K.next self.now.table.shared.table_id self.now.processes worker.new held.now }
+        ensures looks { LooksOn (view worker.old) (view worker.new) }
+        ensures seat { IsSameSeat (view worker.old) (view worker.new) }
+        ensures saw { SawHeld self.now.processes (view worker.old).steps held.now.body.process (view worker.new).seen result }
+    {
+        if held.body.signalled() {
+            return Saw::Over;
+        }
+        self.look_signal(worker, held)
+    }
+
+    /// Looks at the automatic input, at the stream inputs, and at the automatic input again, as far as it is needed to tell what the process does.
+    fn look_idle(&self, worker: &mut Worker<K>, held: &Held<K>) -> Idling
+        requires held { IsHeldBy K.next self.now.table.shared.table_id self.now.processes worker.old held.now }
+        requires wired { IsWiredIn self.now.connections held.now.body }
+        ensures held { IsHeldBy K.next self.now.table.shared.table_id self.now.processes worker.new held.now }
+        ensures looks { LooksOn (view worker.old) (view worker.new) }
+        ensures seat { IsSameSeat (view worker.old) (view worker.new) }
+        ensures idles { Idles self.now.processes (view worker.old).steps held.now.body.process (view worker.new).seen result }
+    {
+        match self.look_released(worker, held) {
+            Saw::Packet => return Idling::Signal,
+            Saw::Sender(word) => return Idling::Dormant(word),
+            Saw::Over => {}
+        }
+        match self.look_over(worker, held) {
+            Saw::Packet => return Idling::Start,
+            Saw::Sender(word) => return Idling::Dormant(word),
+            Saw::Over => {}
+        }
+        if !held.body.is_connected() && !held.body.has_run() {
+            return Idling::Start;
+        }
+        match self.look_signal(worker, held) {
+            Saw::Packet => Idling::Signal,
+            Saw::Sender(word) => Idling::Dormant(word),
+            Saw::Over => Idling::Finish,
+        }
+    }
+
+    /// Starts, goes to its end, takes the packet at its automatic input, or is dormant, by what it sees at its inputs. The processes that send to the
+    /// automatic input are woken.
     pub(crate) fn idle_turn(&self, worker: &mut Worker<K>, held: &mut Held<K>) -> Turned
         requires held { IsHeldBy K.next self.now.table.shared.table_id self.now.processes worker.old held.old }
-        requires wired { (i c : ℕ) → slice_get held.old.body.process.inputs i ≡ Some (From c) → c < self.now.connections }
+        requires wired { IsWiredIn self.now.connections held.old.body }
         requires stage { held.old.body.process.stage ≡ Idle }
         requires room { HasRoom held.old.body }
         ensures held { IsHeldBy K.next self.now.table.shared.table_id self.now.processes worker.new held.new }
         ensures turned { Turns K.shape_of K.uses K.ready K.next self.now.processes self.now.table.shared.key.value held.old worker.old held.new worker.new result }
         ensures seat { IsSameSeat (view worker.old) (view worker.new) }
     {
-        let saw = self.look_over(worker, held);
-        match saw {
-            Saw::Packet => Turned::Made(self.start_as::<Brand>(worker, held)),
-            Saw::Sender(word) => Turned::Blocked(Block::Dormant, word),
-            Saw::Over => {
-                if !held.body.is_connected() && !held.body.has_run() {
-                    Turned::Made(self.start_as::<Brand>(worker, held))
-                } else {
-                    Turned::Made(self.finish_as::<Brand>(worker, held))
+        match self.look_idle(worker, held) {
+            Idling::Start => Turned::Made(self.start_as::<Brand>(worker, held)),
+            Idling::Finish => Turned::Made(self.finish_as::<Brand>(worker, held)),
+            Idling::Dormant(word) => Turned::Blocked(Block::Dormant, word),
+            Idling::Signal => {
+                let Some(connection) = held.body.signal() else {
+                    unreachable!()
+                };
+                let c = connection as usize;
+                match self.grab::<Brand>(worker, held, c) {
+                    Grabbed::Busy(word) => Turned::Busy(connection, word),
+                    Grabbed::Got(_, mut channel) => {
+                        let stamp = self.signal_as::<Brand>(worker, held, &mut channel, c);
+                        let senders = self.senders_of(c);
+                        self.give_back(worker, held, channel, c, senders);
+                        self.wake_all(worker, held, senders);
+                        Turned::Made(stamp)
+                    }
                 }
             }
         }

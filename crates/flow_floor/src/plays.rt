@@ -6,9 +6,12 @@ use atomic_table::{Join, Play, Split};
 use flow_component::Component;
 use std::marker::{Brand, PhantomData};
 
-/// Which connection a step is at, and the capacity that it had at the start; or how many connections there are. Each call picks it.
+/// Which connection a step is at, the capacity that it had at the start, and how many processes there are; or how many connections there are. Each
+/// call picks it.
 pub trait Spot {
     ghost use Rattle.std.specs.Prelude.{ℕ};
+
+    ghost processes: { ℕ };
 
     ghost connection: { ℕ };
 
@@ -16,6 +19,8 @@ pub trait Spot {
 }
 
 impl Spot for Brand {
+    ghost processes = { 0 };
+
     ghost connection = { 0 };
 
     ghost most = { 0 };
@@ -71,7 +76,7 @@ pub struct Grab<S: Spot> {
 }
 
 impl<K: Component, S: Spot> Play<Slot<K>, View<K>> for Grab<S> {
-    ghost then = { λ st. grabbed K.shape_of K.uses K.ready S.connection S.most (ordered st) };
+    ghost then = { λ st. grabbed K.shape_of K.uses K.ready S.processes S.connection S.most (ordered st) };
 }
 
 pub struct Look;

@@ -26,11 +26,12 @@ impl<K: Component> Floor<K> {
         held: &Held<K>,
         connection: usize,
     ) -> Grabbed
+        requires processes { S.processes ≡ self.now.processes }
         requires spot { S.connection ≡ connection }
         requires most { S.most ≡ capacity_at self.now.table.shared.key.value.channels connection }
         requires held { IsHeldBy K.next self.now.table.shared.table_id self.now.processes worker.old held.now }
         requires range { connection < self.now.connections }
-        ensures { MatchGrabbed result (λ w. (held_bit ≤ w) × IsHeldBy K.next self.now.table.shared.table_id self.now.processes worker.new held.now × (view worker.new ≡ seeing (view worker.old) (self.now.processes + connection) w)) (λ w k. IsGrabbing K.next self.now.table.shared.table_id self.now.processes worker.new held.now connection k × HasGrabbed K.shape_of K.uses K.ready worker.old worker.new (self.now.processes + connection) connection (capacity_at self.now.table.shared.key.value.channels connection) w k) }
+        ensures { MatchGrabbed result (λ w. (held_bit ≤ w) × IsHeldBy K.next self.now.table.shared.table_id self.now.processes worker.new held.now × (view worker.new ≡ seeing (view worker.old) (self.now.processes + connection) w)) (λ w k. IsGrabbing K.next self.now.table.shared.table_id self.now.processes worker.new held.now connection k × HasGrabbed K.shape_of K.uses K.ready worker.old worker.new self.now.processes connection (capacity_at self.now.table.shared.key.value.channels connection) w k) }
     {
         let shared = &self.table.shared;
         let place = self.layout().connection_word(connection);

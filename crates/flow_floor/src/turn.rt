@@ -2,7 +2,6 @@
 ghost use Rattle.std.specs.Prelude.{◌≡◌, ℕ, ◌<◌, List, All, Some, slice_get};
 ghost use Rattle.flow_machine.specs.Values.{BodyValue};
 ghost use Rattle.flow_machine.specs.Thoughts.{HasRoom, IsSet};
-ghost use Rattle.flow_machine.specs.FitNets.{IsWiredBody};
 ghost use Rattle.flow_model.specs.declared.Stage.TheVariants.{Wishing};
 ghost use Rattle.flow_component.specs.declared.Wish.TheVariants.{Receive, Deactivate};
 ghost use Rattle.flow_model.specs.States.{Text};
@@ -18,7 +17,7 @@ use flow_machine::{Case, Stage};
 use std::marker::Brand;
 
 impl<K: Component> Floor<K> {
-    /// The processes that receive from the connection.
+    /// The processes that receive from the connection, or take from it at their automatic input.
     pub(crate) fn receivers_of(&self, connection: usize) -> &[u32]
         requires { connection < self.now.connections }
         ensures receivers { (q : ℕ) (b : BodyValue _) → slice_get self.now.table.shared.key.value.bodies q ≡ Some b → IsInput b connection → InList q result.now }

@@ -1,7 +1,7 @@
 //! Turns of a held body.
 ghost use Rattle.std.specs.Prelude.{◌≡◌, ℕ, ◌+◌, ◌-◌, ◌^◌, ◌<◌, ◌≤◌, ◌⊎◌, length, IsSome, Some, None, slice_get};
 ghost use Rattle.flow_component.specs.declared.Wish.TheVariants.{Receive, Level};
-ghost use Rattle.flow_model.specs.declared.Stage.TheVariants.{Wishing, Closing};
+ghost use Rattle.flow_model.specs.declared.Stage.TheVariants.{Idle, Wishing, Closing};
 ghost use Rattle.flow_model.specs.States.{From, outlets, output_at};
 ghost use Rattle.flow_model.specs.Events.{Learns};
 ghost use Rattle.flow_model.specs.Stands.{shown_after};
@@ -11,7 +11,8 @@ ghost use Rattle.flow_machine.specs.Nets.{BodyTurn, GetsSound, SendsAt, packet_w
 ghost use Rattle.flow_machine.specs.Outlets.{connection_at};
 ghost use Rattle.flow_floor.specs.Workers.{view, IsGrabbing};
 ghost use Rattle.flow_floor.specs.Plays.{stamping, Below};
-ghost use Rattle.flow_floor.specs.Turning.{MachineTurn, received_event, sent_event, closed_event};
+ghost use Rattle.flow_machine.specs.FitNets.{FitNet};
+ghost use Rattle.flow_floor.specs.Turning.{Happens, MachineTurn, received_event, signalled_event, sent_event, closed_event};
 
 use crate::floor::{Floor, Held, Worker};
 use crate::plays::Deed;
@@ -52,6 +53,37 @@ impl<K: Component> Floor<K> {
         }
         let packet = channel.take();
         held.body.effect(Effect::Got(packet), stamp);
+        stamp
+    }
+
+    /// Takes the oldest packet of the connection at the automatic input, which the worker holds. It is dropped, with its tree.
+    pub(crate) fn signal_as<D: Deed<K>>(
+        &self,
+        worker: &mut Worker<K>,
+        held: &mut Held<K>,
+        channel: &mut Channel,
+        connection: usize,
+    ) -> u32
+        requires event { D.event ≡ signalled_event connection channel.old.packets }
+        requires after { (b : BodyValue _) → D.after b ≡ held.old.body }
+        requires start { D.start ≡ self.now.table.shared.key.value }
+        requires held { IsGrabbing K.next self.now.table.shared.table_id self.now.processes worker.old held.old connection channel.old }
+        requires stage { held.old.body.process.stage ≡ Idle }
+        requires room { HasRoom held.old.body }
+        requires there { 0 < length channel.old.packets }
+        requires happens { Happens (FitNet K.shape_of K.uses K.ready) self.now.processes self.now.connections held.old.process held.old.body (view worker.old).grab (view worker.old).seen D.event }
+        ensures held { IsGrabbing K.next self.now.table.shared.table_id self.now.processes worker.new held.new connection channel.new }
+        ensures process { held.new.process ≡ held.old.process }
+        ensures body { BodyTurn held.old.body (signalled_event connection channel.old.packets) result held.new.body }
+        ensures channel { channel.new ≡ shown_after (signalled_event connection channel.old.packets) channel.old }
+        ensures view { view worker.new ≡ stamping (view worker.old) result D.event D.after }
+        ensures above { Below result (view worker.old).made }
+        ensures machine { MachineTurn K.shape_of K.uses K.ready K.next self.now.table.shared.key.value result held.old.process held.old.body D.event }
+    {
+        let _ = connection;
+        let stamp = self.stamp::<D>(worker, held);
+        let signal = channel.take();
+        held.body.effect(Effect::Signal(signal), stamp);
         stamp
     }
 

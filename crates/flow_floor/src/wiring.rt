@@ -31,7 +31,17 @@ fn is_output<K: Component>(body: &Body<K>, output: usize, connection: u32) -> bo
     }
 }
 
-/// The process receives from the connection.
+/// The connection is at the automatic input.
+fn is_signal<K: Component>(body: &Body<K>, connection: u32) -> bool
+    ensures { body.now.process.signal ≡ Some connection → result ≡ true }
+{
+    match body.signal() {
+        Some(other) => other == connection,
+        None => false,
+    }
+}
+
+/// The process receives from the connection, or takes from it at its automatic input.
 fn has_input<K: Component>(body: &Body<K>, connection: u32) -> bool
     ensures { IsInput body.now connection → result ≡ true }
 {
@@ -40,7 +50,7 @@ fn has_input<K: Component>(body: &Body<K>, connection: u32) -> bool
             return true;
         }
     }
-    false
+    is_signal(body, connection)
 }
 
 /// The process sends to the connection.

@@ -30,7 +30,7 @@ invariant_of-floor-clause-rows g c = (
 
 pub invariant_of-floor-clause-receives : goal.invariant_of-floor-clause-receives
 invariant_of-floor-clause-receives g c = let key : c.in-Ok.table.shared.key.value ≡ c.args.net = search rules in
-    λ p b i d there is below. row-any (λ w. w.items) false c.args.net c.args.laid.receivers.items c.requires.receivers p d b (ap (λ n. slice_get n.bodies p) (sym key) ∙ there) (i, is) (omega (arith, below, c.connections-connections.ensures))
+    λ p b d there is below. row-any (λ w. w.items) false c.args.net c.args.laid.receivers.items c.requires.receivers p d b (ap (λ n. slice_get n.bodies p) (sym key) ∙ there) is (omega (arith, below, c.connections-connections.ensures))
 
 pub invariant_of-floor-clause-sends : goal.invariant_of-floor-clause-sends
 invariant_of-floor-clause-sends g c = let key : c.in-Ok.table.shared.key.value ≡ c.args.net = search rules in

@@ -4,7 +4,7 @@ use prog.Atomic.{either}
 use Rattle.atomic_table.specs.Table.{rest, step}
 use Rattle.flow_floor.specs.declared.board.Slot.TheVariants as slot
 use Rattle.flow_floor.specs.Plays.{claimed, claiming}
-use Rattle.flow_machine.specs.FitNets.{IsWiredBody}
+use Rattle.flow_floor.specs.Law.{IsWiredIn}
 use Rattle.flow_floor.proofs.Keeps.{claims}
 use Rattle.flow_floor.proofs.Spacing.{apart, took, told}
 use Rattle.flow_floor.proofs.Going.{rests-same}
@@ -49,7 +49,7 @@ returns g c = let q = c.requires.worker in let e = c.compare_exchange-found.ensu
         agrees = record { base = b; held = ap (λ v. v.held) me0; rests = rests-same g.K.Component.next b c.in-Body.body body_is; whole = subst (λ z. z.leaving ≡ None) body_is t.1 };
         slots = me1;
       },
-      subst (λ z. IsWiredBody c.args.self.now.connections z) body_is (subst (λ n. IsWiredBody n b) c.requires.spot t.2),
+      subst (λ z. IsWiredIn c.args.self.now.connections z) body_is (subst (λ n. IsWiredIn n b) c.requires.spot t.2),
       me0 ∙ ap (λ z. claiming c.args.worker.now.seat.me.0 c.args.process z) body_is,
     )
 

@@ -15,15 +15,15 @@ pub fetch_or-word-requires : goal.fetch_or-word-requires
 fetch_or-word-requires g c = let q = c.requires.held in let f = c.args.self.now in let a = q.agrees in let s = c.args.worker.now.seat in let place = c.connection_word-place.ensures in (
   q.calm.table,
   omega (arith, f.words, c.layout.ensures.processes, place, c.requires.range),
-  apart g.K.Component.shape_of g.K.Component.uses g.K.Component.ready g.K.Component.next f.table.shared.key.value f.table.shared.table_id.slots s.id s.me (f.processes + c.args.connection) c.connection_word-place.result (λ n. bit_or n held_bit) (λ i. grabbed g.K.Component.shape_of g.K.Component.uses g.K.Component.ready g.S.Spot.connection g.S.Spot.most (step f.table.shared.table_id.slots i held_bit 0 none) s.me) (omega (arith, place, c.layout.ensures.processes))
+  apart g.K.Component.shape_of g.K.Component.uses g.K.Component.ready g.K.Component.next f.table.shared.key.value f.table.shared.table_id.slots s.id s.me (f.processes + c.args.connection) c.connection_word-place.result (λ n. bit_or n held_bit) (λ i. grabbed g.K.Component.shape_of g.K.Component.uses g.K.Component.ready g.S.Spot.processes g.S.Spot.connection g.S.Spot.most (step f.table.shared.table_id.slots i held_bit 0 none) s.me) (omega (arith, place, c.layout.ensures.processes))
       (rw c.requires.spot
-      (grabs g.K.Component.shape_of g.K.Component.uses g.K.Component.ready g.K.Component.next g.met.K.Component.obeys g.met.K.Component.stays_ready g.met.K.Component.steady f.table.shared.key.value _ _ _ _ c.args.connection _ _ a.base (ap (λ n. n + c.args.connection) (sym f.bodies)) (omega (arith, f.channels, c.requires.range)) c.requires.most a.held q.calm.grab)),
+      (grabs g.K.Component.shape_of g.K.Component.uses g.K.Component.ready g.K.Component.next g.met.K.Component.obeys g.met.K.Component.stays_ready g.met.K.Component.steady f.table.shared.key.value _ _ _ _ c.args.connection _ _ _ a.base (c.requires.processes ∙ sym f.bodies) (ap (λ n. n + c.args.connection) (sym f.bodies)) (omega (arith, f.channels, c.requires.range)) c.requires.most a.held q.calm.grab)),
 )
 
 -- what the step told, of the connection's number
-told-of : (g : _) (c : After-fetch_or-word g) → grabbed g.K.Component.shape_of g.K.Component.uses g.K.Component.ready g.S.Spot.connection g.S.Spot.most (step c.args.self.now.table.shared.table_id.slots (c.args.self.now.processes + c.args.connection) held_bit 0 none) c.args.worker.now.seat.me c.fetch_or-word.result c.fetch_or-word.new.seat.me
+told-of : (g : _) (c : After-fetch_or-word g) → grabbed g.K.Component.shape_of g.K.Component.uses g.K.Component.ready g.S.Spot.processes g.S.Spot.connection g.S.Spot.most (step c.args.self.now.table.shared.table_id.slots (c.args.self.now.processes + c.args.connection) held_bit 0 none) c.args.worker.now.seat.me c.fetch_or-word.result c.fetch_or-word.new.seat.me
 told-of g c = let f = c.args.self.now in let place = c.connection_word-place.ensures in
-    told (λ i. grabbed g.K.Component.shape_of g.K.Component.uses g.K.Component.ready g.S.Spot.connection g.S.Spot.most (step f.table.shared.table_id.slots i held_bit 0 none) c.args.worker.now.seat.me c.fetch_or-word.result c.fetch_or-word.new.seat.me)
+    told (λ i. grabbed g.K.Component.shape_of g.K.Component.uses g.K.Component.ready g.S.Spot.processes g.S.Spot.connection g.S.Spot.most (step f.table.shared.table_id.slots i held_bit 0 none) c.args.worker.now.seat.me c.fetch_or-word.result c.fetch_or-word.new.seat.me)
     (f.processes + c.args.connection) c.connection_word-place.result (omega (arith, place, c.layout.ensures.processes)) c.fetch_or-word.ensures.2
 
 pub returns-then-word-ge-HELD : goal.returns-then-word-ge-HELD
@@ -68,5 +68,5 @@ returns g c = let q = c.requires.held in let e = c.fetch_or-word.ensures in let 
         level = omega (arith, level);
         senders = omega (arith, senders);
       },
-      record { level = level; senders = senders; capacity = ap (λ z. z.capacity) (sym k_is) ∙ t.3 ∙ c.requires.most; so = subst (λ (z : ℕ × ChannelShown). WasSo g.K.Component.shape_of g.K.Component.uses g.K.Component.ready old.0.held z.0 z.1) (λ j. (c.requires.spot j, k_is j)) t.4; view = me0 ∙ ap (λ z. grabbing old.0 i r c.args.connection z) k_is },
+      record { level = level; senders = senders; capacity = ap (λ z. z.capacity) (sym k_is) ∙ t.3 ∙ c.requires.most; so = subst (λ (z : ℕ × ℕ × ChannelShown). WasSo g.K.Component.shape_of g.K.Component.uses g.K.Component.ready z.0 old.0.held old.0.seen z.1 z.2) (λ j. (c.requires.processes j, c.requires.spot j, k_is j)) t.4; view = me0 ∙ ap (λ z. grabbing old.0 i r c.args.connection z) k_is },
     )

@@ -1,11 +1,11 @@
-use Rattle.std.proofs.Common.{◌≡◌, ◌+◌, ◌≤◌, ◌<◌, arith, refl, sym, ap, ◌∙◌, subst, List, Option, ℕ}
+use Rattle.std.proofs.Common.{◌≡◌, ◌+◌, ◌<◌, arith, refl, sym, ap, ◌∙◌, subst, List, Option, ℕ}
 use Rattle.flow_ring.specs.Words.{level_in}
 use Rattle.flow_floor.specs.declared.board.Look.{Look}
 use Rattle.flow_floor.specs.declared.floor.Worker.{Worker}
 use Rattle.flow_floor.specs.Looks.{Looked, first_open}
-use Rattle.flow_floor.specs.Workers.{view, IsHeldBy, IsSameSeat}
+use Rattle.flow_floor.specs.Workers.{view, IsHeldBy, IsSameSeat, LooksOn}
 use Rattle.flow_floor.specs.Plays.{look_at}
-use Rattle.flow_floor.proofs.Looking.{looked-skip, looked-more}
+use Rattle.flow_floor.proofs.Looking.{looked-skip, looked-more, looks-one, looks-then}
 use Rattle.flow_floor.proofs.floor.Floor.look_over.Goals as goal
 use Rattle.flow_floor.proofs.floor.Floor.look_over.Goals.{in-Some+else-level-ne0, in_default}
 
@@ -18,25 +18,33 @@ loop-i-preserved g c =
     let n = f.processes in
     let inputs = h.body.process.inputs in
     let at = c.input.ensures in
-    let Goal : Worker g.row.K.Denot → Option ℕ → Type 0 = λ w o. IsHeldBy g.K.Component.next f.table.shared.table_id n w h × ((view w).made ≡ old.made) × IsSameSeat old (view w) × (old.steps ≤ (view w).steps) × Looked n old.steps (c.loop-i.i + 1) inputs (view w).seen o in
+    let Goal : Worker g.row.K.Denot → Option ℕ → Type 0 = λ w o. IsHeldBy g.K.Component.next f.table.shared.table_id n w h × LooksOn old (view w) × IsSameSeat old (view w) × Looked n old.steps (c.loop-i.i + 1) inputs (view w).seen o in
     elim c.match-input.branch [
       | in-Some+else-level-ne0 w ↦ (let e = w.look-word.ensures in let r = w.look-word.result in
           let look = look_at (view c.loop-i.worker) (n + w.in-Some.connection) r in
-          let late : old.steps < look.at = omega (arith, inv.3) in
+          let steps = inv.1.steps in
+          let late : old.steps < look.at = omega (arith, steps) in
           let none_in : level_in r ≡ 0 = sym w.level.ensures.word ∙ w.if-level-ne0.false in
           subst (λ (x : Worker g.row.K.Denot). Goal x c.match-input.open) (sym w.worker-is) (subst (λ (o : Option ℕ). Goal w.look-word.new.worker o) (sym (w.open-is ∙ w.first_open-open.ensures)) (
             e.held,
-            ap (λ v. v.made) e.view ∙ inv.1,
+            looks-then old (view c.loop-i.worker) (view w.look-word.new.worker) inv.1 (looks-one (view c.loop-i.worker) (view w.look-word.new.worker) (n + w.in-Some.connection) r e.view),
             record { shares = ap (λ v. v.shares) e.view ∙ inv.2.shares; zero = ap (λ v. v.read_zero) e.view ∙ inv.2.zero },
-            subst (λ (m : ℕ). old.steps ≤ m) (sym (ap (λ v. v.steps) e.view)) (omega (arith, inv.3)),
             subst (λ (xs : List Look). Looked n old.steps (c.loop-i.i + 1) inputs xs (first_open c.loop-i.open r)) (sym (ap (λ v. v.seen) e.view))
-                (looked-more n old.steps c.loop-i.i w.in-Some.connection inputs look (view c.loop-i.worker).seen c.loop-i.open inv.4 (at ∙ w.in-Some.is) refl late none_in),
+                (looked-more n old.steps c.loop-i.i w.in-Some.connection inputs look (view c.loop-i.worker).seen c.loop-i.open inv.3 (at ∙ w.in-Some.is) refl late none_in),
           )))
       | in_default w ↦ subst (λ (x : Worker g.row.K.Denot). Goal x c.match-input.open) (sym w.worker-is) (subst (λ (o : Option ℕ). Goal c.loop-i.worker o) (sym w.open-is) (
         inv.0,
         inv.1,
         inv.2,
-        inv.3,
-        looked-skip n old.steps c.loop-i.i inputs (view c.loop-i.worker).seen c.loop-i.open inv.4 (at ∙ w.in_default.is),
+        looked-skip n old.steps c.loop-i.i inputs (view c.loop-i.worker).seen c.loop-i.open inv.3 (at ∙ w.in_default.is),
       ))
     ]
+
+pub returns-then-level-ne0-clause-looks : goal.returns-then-level-ne0-clause-looks
+returns-then-level-ne0-clause-looks g c = looks-then (view c.args.worker.now) (view c.loop-i.worker) (view c.look-word.new.worker) c.loop-i.invariant.1 (looks-one (view c.loop-i.worker) (view c.look-word.new.worker) _ _ c.look-word.ensures.view)
+
+pub returns-in-Some-open-clause-looks : goal.returns-in-Some-open-clause-looks
+returns-in-Some-open-clause-looks g c = c.loop-i.invariant.1
+
+pub returns-in-None-clause-looks : goal.returns-in-None-clause-looks
+returns-in-None-clause-looks g c = c.loop-i.invariant.1

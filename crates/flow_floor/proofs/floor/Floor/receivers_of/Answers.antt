@@ -10,7 +10,7 @@ pub returns-clause-receivers : goal.returns-clause-receivers
 returns-clause-receivers g c = let f = c.args.self.now in
     let at = slice_get_read f.receivers.items f.connections c.args.connection c.index.result.now (sym f.rows.0) c.requires c.index.ensures in
     let row = ap (λ o. unwrap_or (option_map (λ w. w.items) o) []) at ∙ sym c.as_slice.ensures.value in
-    λ q b there is. any-in q c.as_slice.result.now (subst (λ (xs : List ℕ). list_any (λ (x : ℕ). nat_eq x q) xs ≡ true) row (f.receives q b is.0 c.args.connection there is.1 c.requires))
+    λ q b there is. any-in q c.as_slice.result.now (subst (λ (xs : List ℕ). list_any (λ (x : ℕ). nat_eq x q) xs ≡ true) row (f.receives q b c.args.connection there is c.requires))
 
 pub returns-clause-below : goal.returns-clause-below
 returns-clause-below g c = let f = c.args.self.now in

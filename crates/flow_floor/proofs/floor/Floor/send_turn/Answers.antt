@@ -26,15 +26,15 @@ returns-then-level-capacity-clause-turned g c = let f = c.args.self.now in let h
 
 pub send_as-stamp-requires-clause-most : goal.send_as-stamp-requires-clause-most
 send_as-stamp-requires-clause-most g c = let q = c.requires.held.agrees in
-    (sent-grabbed g.K.Component.shape_of g.K.Component.uses g.K.Component.ready g.K.Component.next g.met.K.Component.obeys g.met.K.Component.stays_ready g.met.K.Component.steady _ c.args.held.now.process c.args.connection q.base c.args.held.now.body c.in-Got.channel c.args.port c.in-Got.ensures.1.so q.held q.rests c.requires.stage).0
+    (sent-grabbed g.K.Component.shape_of g.K.Component.uses g.K.Component.ready g.K.Component.next g.met.K.Component.obeys g.met.K.Component.stays_ready g.met.K.Component.steady _ _ _ c.args.held.now.process c.args.connection q.base c.args.held.now.body c.in-Got.channel c.args.port c.in-Got.ensures.1.so q.held q.rests c.requires.stage).0
 
 pub send_as-stamp-requires-clause-counted : goal.send_as-stamp-requires-clause-counted
 send_as-stamp-requires-clause-counted g c = let q = c.requires.held.agrees in
-    let r = (sent-grabbed g.K.Component.shape_of g.K.Component.uses g.K.Component.ready g.K.Component.next g.met.K.Component.obeys g.met.K.Component.stays_ready g.met.K.Component.steady _ c.args.held.now.process c.args.connection q.base c.args.held.now.body c.in-Got.channel c.args.port c.in-Got.ensures.1.so q.held q.rests c.requires.stage).1 in omega (arith, r)
+    let r = (sent-grabbed g.K.Component.shape_of g.K.Component.uses g.K.Component.ready g.K.Component.next g.met.K.Component.obeys g.met.K.Component.stays_ready g.met.K.Component.steady _ _ _ c.args.held.now.process c.args.connection q.base c.args.held.now.body c.in-Got.channel c.args.port c.in-Got.ensures.1.so q.held q.rests c.requires.stage).1 in omega (arith, r)
 
 pub send_as-stamp-requires-clause-wished : goal.send_as-stamp-requires-clause-wished
 send_as-stamp-requires-clause-wished g c = let q = c.requires.held.agrees in
-    (sent-grabbed g.K.Component.shape_of g.K.Component.uses g.K.Component.ready g.K.Component.next g.met.K.Component.obeys g.met.K.Component.stays_ready g.met.K.Component.steady _ c.args.held.now.process c.args.connection q.base c.args.held.now.body c.in-Got.channel c.args.port c.in-Got.ensures.1.so q.held q.rests c.requires.stage).2
+    (sent-grabbed g.K.Component.shape_of g.K.Component.uses g.K.Component.ready g.K.Component.next g.met.K.Component.obeys g.met.K.Component.stays_ready g.met.K.Component.steady _ _ _ c.args.held.now.process c.args.connection q.base c.args.held.now.body c.in-Got.channel c.args.port c.in-Got.ensures.1.so q.held q.rests c.requires.stage).2
 
 pub give_back-requires-in-Got-clause-notes : goal.give_back-requires-in-Got-clause-notes
 give_back-requires-in-Got-clause-notes g c = let f = c.args.self.now in let h = c.in-Got.ensures.1 in let s = c.send_as-stamp.ensures in

@@ -5,7 +5,7 @@ use Rattle.flow_floor.proofs.floor.Floor.send_turn.Given as goal
 
 -- the connection, with its capacity
 abbrev pub ghosts-grab : goal.ghosts-grab
-ghosts-grab g a = record { connection = a.connection; most = capacity_at a.self.now.table.shared.key.value.channels a.connection }
+ghosts-grab g a = record { processes = a.self.now.processes; connection = a.connection; most = capacity_at a.self.now.table.shared.key.value.channels a.connection }
 
 -- the packet of its wish is sent
 abbrev pub ghosts-send_as : goal.ghosts-send_as
