@@ -68,12 +68,12 @@ module _ {K : Type 0} where
   Receives None c = ⊥
   Receives (Some held) c = IsInput held.1 c
 
-  -- F3. A process that no seat holds has its body at home. That of a held one is with the seat, which knows what the machine has of it.
+  -- Bodies. A process that no seat holds has its body at home. That of a held one is with the seat, which knows what the machine has of it.
   abbrev pub Stands : State (Slot K) (View K) → ℕ → BodyValue K → Option ℕ → Type 0
   Stands s p b None = IsFree (slice_index s.words p) × (get_elem? s.homes p ≡ some (some (slot.Body b)))
   Stands s p b (Some j) = IsTaken (slice_index s.words p) × ((v : View K) × (get_elem? s.views j ≡ some v) × (v.held ≡ Some (p, b)))
 
-  -- F4. The word of a connection that no seat holds has the machine's level and open senders, and its channel is at home. That of a held one has
+  -- Channels. The word of a connection that no seat holds has the machine's level and open senders, and its channel is at home. That of a held one has
   -- the held bit beside what the seat found, which its stamped turn may have left behind: the machine's level isn't below, unless the seat's process
   -- receives there; and where the word says that the connection is over, it is.
   abbrev pub Lies : State (Slot K) (View K) → ℕ → ℕ → ChannelShown → Option ℕ → Type 0
@@ -82,7 +82,7 @@ module _ {K : Type 0} where
       (v : View K) × (get_elem? s.views j ≡ some v) × (v.grab ≡ Some (c, k)) × (slice_index s.words (n + c) ≡ v.word + held_bit) × (v.word < 4294967296)
       × ((level_in v.word ≤ length k.packets) ⊎ Receives v.held c) × (level_in v.word ≡ 0 → senders_in v.word ≡ 0 → IsOver k)
 
-  -- F5. What was looked at for the present wish of a held process is still so: an input that was seen non-empty isn't empty, and one that was seen
+  -- Looks. What was looked at for the present wish of a held process is still so: an input that was seen non-empty isn't empty, and one that was seen
   -- empty without open sender is so.
   abbrev pub SeenTrue : ℕ → NetValue K → BodyValue K → Look → Type 0
   SeenTrue n now b look = (c : ℕ) (k : ChannelShown) → look.word ≡ n + c → slice_get now.channels c ≡ Some k → IsInput b c
@@ -120,7 +120,7 @@ pub record Beside (K : Type 0) : Type 0 where
 
 -- The first half of the rule: what runs on the floor is a schedule.
 pub record Flow {K : Type 0} (shape_of : K → Shape) (uses : K → ℕ → Bool) (ready : K → Held → Answer → Type 0) (next : K → Held → Answer → Outcome K → Type 0) (start : NetValue K) (s : State (Slot K) (View K)) (g : Beside K) : Type 0 where
-  -- F1 and F2
+  -- stamps
   pub fit : FitNet shape_of uses ready g.now
   pub goes : GoesBy shape_of uses ready (reached next) start (turns_made start) g.log g.now
   pub clock : slice_index s.words (length start.bodies + length start.channels) ≡ turns_made g.now
@@ -132,7 +132,7 @@ pub record Flow {K : Type 0} (shape_of : K → Shape) (uses : K → ℕ → Bool
   pub wide : length s.words ≡ length start.bodies + length start.channels + 2
   pub deep : length s.homes ≡ length start.bodies + length start.channels
   pub senders : (c : ℕ) (k : ChannelShown) → slice_get g.now.channels c ≡ Some k → k.open_senders < 65536
-  -- F3, F4, and what seats know
+  -- bodies, channels, and what seats know
   pub each_process : (p : ℕ) (b : BodyValue K) → slice_get g.now.bodies p ≡ Some b → Stands s p b (g.holder p)
   pub each_channel : (c : ℕ) (k : ChannelShown) → slice_get g.now.channels c ≡ Some k → Lies s (length start.bodies) c k (g.grabber c)
   pub each_seat : (j : ℕ) (v : View K) → get_elem? s.views j ≡ some v → Knows g.holder g.grabber g.now (length start.bodies) (turns_made start) g.by g.log j v

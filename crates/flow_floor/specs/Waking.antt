@@ -115,7 +115,7 @@ module _ {K : Type 0} where
   abbrev pub IsRetired : BodyValue K → Type 0
   IsRetired b = IsOverStage b.process.stage ⊎ IsUnset b
 
-  -- Q5. Each process whose word says that it is done has such a body.
+  -- Done. Each process whose word says that it is done has such a body.
   abbrev pub AllRetired : List ℕ → List (BodyValue K) → Type 0
   AllRetired words bodies = (q : ℕ) (b : BodyValue K) → slice_get bodies q ≡ Some b → IsDoneWord (slice_index words q) → IsRetired b
 
@@ -137,12 +137,12 @@ module _ {K : Type 0} where
 
   pub record Wakes (start : NetValue K) (s : State (Slot K) (View K)) (g : Beside K) : Type 0 where
     pub wired : IsWiredAs start g.now
-    -- Q1
+    -- live
     pub live : slice_index s.words (length start.bodies + length start.channels + 1) ≡ live_in (length start.bodies) s.words + sum_by (λ (v : View K). v.spare) s.views
     pub shares : sum_by (λ (v : View K). v.shares) s.views ≡ 32
-    -- Q3 and Q4
+    -- notes and zero
     pub each : (j : ℕ) (v : View K) → get_elem? s.views j ≡ some v → Keeps (slice_index s.words (length start.bodies + length start.channels + 1)) v
-    -- Q2
+    -- parked and held
     pub parked : (q : ℕ) (b : BodyValue K) → slice_get g.now.bodies q ≡ Some b → slice_index s.words q ≡ 0
         → IsThoughtStage b.process.stage × (WordsBlock (length start.bodies) start.channels s.words b b.process.stage ⊎ IsNoted s.views q)
     pub held : (j q : ℕ) (v : View K) (b : BodyValue K) → get_elem? s.views j ≡ some v → v.held ≡ Some (q, b) → slice_index s.words q ≡ 1
