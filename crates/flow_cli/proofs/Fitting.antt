@@ -1,7 +1,10 @@
--- The components of a plan over the standard kinds fit its processes.
-use Rattle.std.proofs.Common.{◌≡◌, List, subst}
+-- The components of a plan over the standard kinds fit its processes, and a network starts with just these.
+use Rattle.std.proofs.Common.{◌≡◌, List, map, map-id, sym, subst}
 use Rattle.flow_plan.specs.declared.plan.Process.{Process}
 use Rattle.flow_plan.specs.Network.{Network}
+use Rattle.flow_model.specs.Plans.{StartsWell}
+use Rattle.flow_machine.specs.Values.{NetValue}
+use Rattle.flow_machine.specs.Starts.{StartsNet}
 use Rattle.flow_ready.specs.Ready.{ComponentsFit}
 use Rattle.flow_catalogue.specs.declared.standard.Std.{Std}
 use Rattle.flow_catalogue.specs.Std.{std_shape, std_uses, StdReady}
@@ -25,3 +28,11 @@ components-fit plan components has = record {
 } where
   are : AreComponents plan has.0 components
   are = has.1
+
+-- What a network knows of a standard component is all of it: a plan that starts well with such components starts well with what is known of them.
+pub known-well : (plan : Network) (components : List Std) → StartsWell std_shape std_uses StdReady plan components → StartsWell std_shape std_uses StdReady plan (map (λ (component : Std). component) components)
+known-well plan components well = subst (λ (ks : List Std). StartsWell std_shape std_uses StdReady plan ks) (sym (map-id components)) well
+
+-- And a network that started with what is known of them started with them.
+pub starts-known : (plan : Network) (components : List Std) (net : NetValue Std) → StartsNet plan (map (λ (component : Std). component) components) net → StartsNet plan components net
+starts-known plan components net starts = subst (λ (ks : List Std). StartsNet plan ks net) (map-id components) starts

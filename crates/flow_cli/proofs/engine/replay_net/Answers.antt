@@ -1,4 +1,4 @@
-use Rattle.flow_cli.proofs.Fitting.{components-fit}
+use Rattle.flow_cli.proofs.Fitting.{components-fit, known-well, starts-known}
 use Rattle.flow_cli.proofs.Leaving.{stopped-again, told-again}
 use Rattle.flow_cli.proofs.engine.replay_net.Goals as goal
 
@@ -6,14 +6,14 @@ pub start-requires-clause-well : goal.start-requires-clause-well
 start-requires-clause-well c =
     let plan = c.args.job.plan in
     let components = c.args.job.components.items in
-    c.a_valid_plan_is_ready.ensures.starts plan components c.requires.standard.valid (components-fit plan components c.requires.components)
+    known-well plan components (c.a_valid_plan_is_ready.ensures.starts plan components c.requires.standard.valid (components-fit plan components c.requires.components))
 
 pub returns-in-Ok : goal.returns-in-Ok
 returns-in-Ok c =
     let plan = c.args.job.plan in
     let components = c.args.job.components.items in
     let well = c.a_valid_plan_is_ready.ensures.starts plan components c.requires.standard.valid (components-fit plan components c.requires.components) in
-    let comes = c.a_replay_of_a_net_is_scheduled.ensures.scheduled plan components c.in_ok-net.net c.in-Ok.closed.net c.args.journal.now well c.in_ok-net.ensures c.in-Ok.ensures.replays in
+    let comes = c.a_replay_of_a_net_is_scheduled.ensures.scheduled plan components c.in_ok-net.net c.in-Ok.closed.net c.args.journal.now well (starts-known plan components c.in_ok-net.net c.in_ok-net.ensures) c.in-Ok.ensures.replays in
     told-again plan components c.in-Ok.closed.net c.args.journal.now c.in_ok-told-in-Ok.field-0 c.requires.standard c.a_report_tells_of_its_state.ensures well comes c.in_ok-told-in-Ok.ensures
 
 pub returns : goal.returns
@@ -22,5 +22,5 @@ returns c =
     let components = c.args.job.components.items in
     let well = c.a_valid_plan_is_ready.ensures.starts plan components c.requires.standard.valid (components-fit plan components c.requires.components) in
     stopped-again plan components c.in_ok-net.net c.args.journal.now c.in-Err.stop c.replay_stop.result
-    (λ place p refusal stops. c.a_replay_of_a_net_is_scheduled.ensures.stops plan components c.in_ok-net.net c.args.journal.now place p refusal well c.in_ok-net.ensures stops)
+    (λ place p refusal stops. c.a_replay_of_a_net_is_scheduled.ensures.stops plan components c.in_ok-net.net c.args.journal.now place p refusal well (starts-known plan components c.in_ok-net.net c.in_ok-net.ensures) stops)
     c.in-Err.ensures.stops c.replay_stop.ensures

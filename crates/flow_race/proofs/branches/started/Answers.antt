@@ -1,4 +1,4 @@
-use Rattle.std.proofs.Common.{◌≡◌, List, map, rules, subst, sym}
+use Rattle.std.proofs.Common.{◌≡◌, ◌∙◌, List, map, map-id, rules, subst, sym}
 use Rattle.flow_plan.specs.Valid.{IsValid}
 use Rattle.flow_model.specs.Plans.{StartsWell}
 use Rattle.flow_trials.specs.Networks.{AreComponentsOn}
@@ -17,4 +17,4 @@ start-requires-clause-well c =
     let loaded : c.in_ok-loaded.loaded.items ≡ map (loaded_as c.args.rounds 0) components = search rules in
     let fit = loaded-fit plan c.args.rounds components (components-fit c.args.bytes.now plan components are) in
     let well = c.a_valid_plan_is_ready.ensures.starts plan (map (loaded_as c.args.rounds 0) components) valid fit in
-    subst (λ (items : List Loaded). StartsWell loaded_shape loaded_uses LoadedReady plan items) (sym loaded) well
+    subst (λ (items : List Loaded). StartsWell loaded_shape loaded_uses LoadedReady plan items) (sym (map-id c.in_ok-loaded.loaded.items ∙ loaded)) well
