@@ -3,3 +3,4 @@ pub mod Crews
 pub mod Fairs
 pub mod Lined
 pub mod Budgets
+pub mod Crossing

@@ -1,7 +1,10 @@
+use denote.Param.Send.{sendable}
 use Rattle.std.proofs.Common.{◌<◌, length, arith}
 use Rattle.flow_floor.proofs.Crews.{crew-each}
 use Rattle.flow_runner.proofs.Budgets.{made-new}
 use Rattle.flow_runner.proofs.Crews.{has-kept}
+use Rattle.flow_runner.proofs.Crossing.{worker-send, floor-sync, number-sync}
+use Rattle.flow_runner.proofs.rest.Bell.TheSendSync as Bell
 use Rattle.flow_runner.proofs.paused.serve_all_for.Goals as goal
 
 pub returns-clause-crew : goal.returns-clause-crew
@@ -13,3 +16,9 @@ returns-clause-crew g c = (
 
 pub returns-clause-spent : goal.returns-clause-spent
 returns-clause-spent g c k d lt = let below : k < length c.args.crew.now = omega (arith, lt, c.for_each_mut.auto.s) in let at = (c.for_each_mut.ensures k d below).1 in made-new c.args.budget _ _ at.argument.now at.after_call.now at.argument_is at.left (c.requires.new k d below) at.call.1.1
+
+pub for_each_mut-requires-send-T : goal.for_each_mut-requires-send-T
+for_each_mut-requires-send-T g c κs within = search (sendable, worker-send) depth 20
+
+pub for_each_mut-requires-sync-F : goal.for_each_mut-requires-sync-F
+for_each_mut-requires-sync-F g c κs within = search (sendable, floor-sync, number-sync, Bell.the_sync) depth 20

@@ -1,0 +1,76 @@
+-- A worker may go to a thread, and its floor may be shared by all, wherever a component may go to one. The parts of both are taken one by one: a search
+-- over all of them at once meets its limits.
+use mir.Syntax.{Lifetime}
+use base.Fml.{Lft}
+use denote.Builtin.{u32, u64}
+use denote.RattleType.{RattleType}
+use denote.Ref.{ShrRef}
+use denote.Param.Send.{IsSend, IsSync, sendable}
+use Rattle.std.proofs.Crossing as heap
+use Rattle.std.proofs.Crossing.{crosses}
+use Rattle.std.specs.contracts.alloc.Global as Heap
+use Rattle.std.specs.contracts.impls.GlobalAllocator.TheImpl.{ghosts}
+use Rattle.std.specs.contracts.vec.Vec as Vec
+use Rattle.atomic_table.specs.declared.shared.TableRule as Rule
+use Rattle.atomic_table.specs.contracts.owned.Table as Table
+use Rattle.atomic_table.proofs.shared.Seat.TheSendSync as Seat
+use Rattle.atomic_table.proofs.shared.Shared.TheSendSync as Shared
+use Rattle.atomic_table.proofs.send_lease.SendLease.TheSendSync as Lease
+use Rattle.flow_component.specs.declared.Component as Component
+use Rattle.flow_packet.specs.contracts.packet.Packet as Packet
+use Rattle.flow_packet.proofs.packet.Packet.TheLaws.TheKnot as PacketLaws
+use Rattle.flow_packet.specs.contracts.hands.Hands as Hands
+use Rattle.flow_plan.specs.contracts.plan.Connection as Connection
+use Rattle.flow_machine.specs.contracts.inlet.Inlet as Inlet
+use Rattle.flow_machine.specs.contracts.body.Body as Body
+use Rattle.flow_machine.specs.contracts.channel.Channel as Channel
+use Rattle.flow_floor.specs.contracts.board.Slot as Slot
+use Rattle.flow_floor.specs.contracts.floor.Worker as Worker
+use Rattle.flow_floor.specs.contracts.floor.Floor as Floor
+
+inlet-send : IsSend Inlet.the_row
+inlet-send = search (sendable, crosses) depth 20
+
+packet-send : IsSend Packet.the_row
+packet-send = search (sendable, crosses, PacketLaws.send-Packet) depth 20
+
+hands-send : IsSend Hands.the_row
+hands-send = search (sendable, crosses, packet-send) depth 20
+
+channel-send : IsSend Channel.the_row
+channel-send = search (sendable, crosses, packet-send) depth 20
+
+body-send : (K : RattleType) (g : Component.Ghosts K.Denot) → IsSend K → IsSend (Body.the_row K g)
+body-send K g s = search (sendable, crosses, inlet-send, hands-send) depth 40 fits 10000
+
+slot-send : (K : RattleType) (g : Component.Ghosts K.Denot) → IsSend K → IsSend (Slot.the_row K g)
+slot-send K g s = search (sendable, body-send, channel-send) depth 20
+
+-- A worker has a seat at the table.
+pub worker-send : (K : RattleType) (g : Component.Ghosts K.Denot) → IsSend K → IsSend (Worker.the_row K g)
+worker-send K g s = search (sendable, slot-send, Seat.the_send) depth 20
+
+-- a table on the heap, whose leases of words and of slots stay with it
+table-sync : (S V K P : RattleType) (g : Rule.Ghosts P.Denot S.Denot V.Denot K.Denot) → IsSend S → IsSync (Table.the_field S V K P Heap.the_row g ghosts).row
+table-sync S V K P g s =
+    let shared = Shared.the_sync S V K P g s in
+    let words = Lease.the_sync u64 Heap.the_row ghosts heap.send (record { frees = heap.frees.frees }) in
+    let slots = Lease.the_sync S Heap.the_row ghosts heap.send (record { frees = heap.frees.frees }) in
+    search (sendable, heap.sync) depth 20
+
+connection-sync : IsSync Connection.the_row
+connection-sync = search (sendable, crosses) depth 20
+
+connections-sync : IsSync (Vec.the_row Connection.the_row Heap.the_row ghosts)
+connections-sync = search (sendable, crosses, connection-sync) depth 20
+
+rows-sync : IsSync (Vec.the_row (Vec.the_row u32 Heap.the_row ghosts) Heap.the_row ghosts)
+rows-sync = search (sendable, crosses) depth 20
+
+-- A floor has the table, the plan's connections, and who is at them.
+pub floor-sync : (K : RattleType) (g : Component.Ghosts K.Denot) → IsSend K → IsSync (Floor.the_row K g)
+floor-sync K g s = let slot = slot-send K g s in search (sendable, table-sync, connections-sync, rows-sync) depth 20
+
+-- So may a reference to a number.
+pub number-sync : (ℓ : Lifetime) (κ : Lft) → IsSync (ShrRef ℓ κ u64)
+number-sync ℓ κ = search sendable
