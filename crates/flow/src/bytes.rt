@@ -1,5 +1,6 @@
 //! Bytes of a network file that begin no token, and files that don't begin as one.
-use crate::pieces::{after_blanks, first, is_word_byte};
+use crate::kinds::{Side, automatic};
+use crate::pieces::{after_blanks, behind, first, is_word_byte, word};
 use crate::shown::put_word;
 use std::alloc::AllocError;
 
@@ -17,15 +18,34 @@ pub fn put_header(page: &mut String, line: &[u8]) -> Result<(), AllocError> {
     } else if is_wide || line.contains(&0) {
         page.push_str("This isn't ASCII or UTF-8: it seems to have two bytes for each letter.\n")?;
     } else if rest.starts_with(b"flow") {
-        page.push_str("Behind flow stands the version of the language alone, which is 1.\n")?;
+        page.push_str("Behind flow stands the version of the language alone, which is 1 or 2.\n")?;
     } else if first(rest, 4).eq_ignore_ascii_case(b"flow") {
         page.push_str("Upper and lower case differ.\n")?;
     }
-    page.push_str("The first line that is no remark has to be: flow 1\n")
+    page.push_str("The first line that is no remark has to be: flow 1, or flow 2\n")
+}
+
+// Whether this is the name of the automatic port of a side, but for upper and lower case.
+fn is_nearly(name: &[u8], side: Side) -> bool {
+    name.eq_ignore_ascii_case(behind(automatic(side), 1))
+}
+
+// What a `*` was meant for that begins no automatic port in a file of this version.
+fn meant_star(rest: &[u8], version: u32) -> Option<&'static str> {
+    let (name, _) = word(behind(rest, 1));
+    let is_nearly = is_nearly(name, Side::Input) || is_nearly(name, Side::Output);
+    match (version, is_nearly) {
+        (1, true) => Some("The automatic ports *IN and *OUT need a file that begins with flow 2."),
+        (1, false) => None,
+        (_, true) => Some("Upper and lower case differ: the automatic ports are *IN and *OUT."),
+        (_, false) => Some(
+            "The automatic ports are *IN and *OUT, with nothing within them; no other word begins with *.",
+        ),
+    }
 }
 
 // What a byte that begins no token was meant for, by those who write it most often. Lines with it go on like this.
-fn meant(rest: &[u8], line: &[u8]) -> Option<&'static str> {
+fn meant(rest: &[u8], line: &[u8], version: u32) -> Option<&'static str> {
     let byte = rest.first()?;
     match *byte {
         b'#' => Some("A remark stands in a line of its own."),
@@ -35,6 +55,7 @@ fn meant(rest: &[u8], line: &[u8]) -> Option<&'static str> {
         b'\r' => Some(
             "Lines end with byte 10; a byte 13 may stand before it, and nowhere else outside of a quoted text.",
         ),
+        b'*' => meant_star(rest, version),
         b'{' | b'}' => Some("The parentheses are ( and ), the brackets [ and ]."),
         0 => Some("This seems to be no text, or one with two bytes for each letter."),
         b'.' | b'/' | b'\\' | b'~' => Some(if is_dotted(line) {
@@ -85,8 +106,13 @@ fn is_dotted(line: &[u8]) -> bool {
     }
 }
 
-/// What is wrong with a byte that begins no token. What is left of its line begins with it.
-pub fn put_bad_byte(page: &mut String, line: &[u8], rest: &[u8]) -> Result<(), AllocError> {
+/// What is wrong with a byte that begins no token in a file of this version. What is left of its line begins with it.
+pub fn put_bad_byte(
+    page: &mut String,
+    line: &[u8],
+    rest: &[u8],
+    version: u32,
+) -> Result<(), AllocError> {
     let before = line.len().saturating_sub(rest.len());
     let column = before.saturating_add(1);
     write!(page, "At byte {column} of the line, ")?;
@@ -100,7 +126,7 @@ pub fn put_bad_byte(page: &mut String, line: &[u8], rest: &[u8]) -> Result<(), A
     };
     put_word(page, first(rest, width))?;
     page.push_str(" begins no word, number or sign.\n")?;
-    match meant(rest, line) {
+    match meant(rest, line, version) {
         Some(meant) => {
             page.push_str(meant)?;
             page.push('\n')?;

@@ -1,15 +1,32 @@
 //! Lines that are none of the forms: which slip it is, for those that are made most often.
 use crate::found::Found;
+use crate::kinds::Side;
 use crate::pieces::Piece;
+use std::alloc::AllocError;
 
-/// The forms of a line.
-pub const FORMS: &str = "A line says one thing, as
+// The forms of a line: processes and connections, and the others.
+const FIRST_FORMS: &str = "A line says one thing, as
   A(ReadLines)              a process and its kind
   A OUT -> (20) IN B        a connection, maybe with a capacity
-  'in.txt' -> FILE A        a text or a number, always in quotes
+";
+
+// What a connection may be besides in a file of version 2.
+const AUTOMATIC_FORM: &str =
+    "  A *OUT -> *IN B           one by which B begins only when A has ended\n";
+
+const OTHER_FORMS: &str = "  'in.txt' -> FILE A        a text or a number, always in quotes
   subnet S, inport IN -> IN B, outport B OUT -> OUT, end
 A remark stands in a line of its own, which begins with #.
 ";
+
+/// The forms of a line in a file of this version.
+pub fn put_forms(page: &mut String, version: u32) -> Result<(), AllocError> {
+    page.push_str(FIRST_FORMS)?;
+    if version != 1 {
+        page.push_str(AUTOMATIC_FORM)?;
+    }
+    page.push_str(OTHER_FORMS)
+}
 
 /// Whether a word is a number.
 pub fn is_digits(word: &[u8]) -> bool {
@@ -46,6 +63,9 @@ pub fn slip(found: &Found<'_>, pieces: &[Piece<'_>]) -> &'static str {
     if let Some(slip) = reserved_slip(found, pieces) {
         return slip;
     }
+    if let Some(slip) = automatic_slip(pieces) {
+        return slip;
+    }
     if let [Piece::Quoted(_), Piece::Word(_), ..] = pieces {
         return "Behind a text stands an arrow; a quote within a text is written twice, as in 'it''s'.\n";
     }
@@ -67,7 +87,9 @@ pub fn slip(found: &Found<'_>, pieces: &[Piece<'_>]) -> &'static str {
 // Lines that begin with a word of the language.
 fn reserved_slip(found: &Found<'_>, pieces: &[Piece<'_>]) -> Option<&'static str> {
     match pieces {
-        [Piece::Word(b"flow"), ..] => Some("The line flow 1 stands once, before all others.\n"),
+        [Piece::Word(b"flow"), ..] => {
+            Some("The line flow 1, or flow 2, stands once, before all others.\n")
+        }
         [Piece::Word(b"end"), ..] if found.part.is_none() => {
             Some("No subnet is open here: the line end closes the one that was begun above it.\n")
         }
@@ -81,6 +103,51 @@ fn reserved_slip(found: &Found<'_>, pieces: &[Piece<'_>]) -> Option<&'static str
         [Piece::Word(b"subnet"), ..] => Some("A subnet begins with a line subnet NAME.\n"),
         _ => None,
     }
+}
+
+fn is_automatic(piece: &Piece<'_>) -> bool {
+    matches!(piece, Piece::Automatic(_))
+}
+
+// Lines with an automatic port that don't say of it what a connection does.
+fn automatic_slip(pieces: &[Piece<'_>]) -> Option<&'static str> {
+    if !pieces.iter().any(is_automatic) {
+        return None;
+    }
+    match pieces {
+        [Piece::Quoted(_), ..] => {
+            Some("An automatic port takes no text: it stands in a connection, and nowhere else.\n")
+        }
+        [Piece::Word(b"inport" | b"outport"), ..] => {
+            Some(
+                "An outer port stands for no automatic port: those stand in connections, and nowhere else.\n",
+            )
+        }
+        _ => element_slip(pieces),
+    }
+}
+
+// An automatic port with an element, or on the wrong side of the arrow.
+fn element_slip(pieces: &[Piece<'_>]) -> Option<&'static str> {
+    let mut neighbours = pieces.iter().zip(pieces.iter().skip(1));
+    if neighbours.any(|(piece, next)| is_automatic(piece) && matches!(next, Piece::OpenBracket)) {
+        return Some("An automatic port has no elements.\n");
+    }
+    let arrow = pieces.iter().position(is_arrow)?;
+    let (before, behind) = pieces.split_at(arrow.min(pieces.len()));
+    if before
+        .iter()
+        .any(|piece| matches!(piece, Piece::Automatic(Side::Input)))
+    {
+        return Some("*IN is an input: it stands behind the arrow, before its process.\n");
+    }
+    if behind
+        .iter()
+        .any(|piece| matches!(piece, Piece::Automatic(Side::Output)))
+    {
+        return Some("*OUT is an output: it stands before the arrow, behind its process.\n");
+    }
+    None
 }
 
 // Lines without an arrow.
@@ -112,6 +179,9 @@ fn before_slip(pieces: &[Piece<'_>]) -> Option<&'static str> {
             Piece::Arrow,
             ..
         ] => { Some("Before the arrow an output stands behind its process.\n") }
+        [Piece::Automatic(_), ..] => {
+            Some("Before the arrow an output stands behind its process.\n")
+        }
         [Piece::Arrow, ..] => Some("Nothing stands before the arrow.\n"),
         _ => None,
     }
@@ -124,7 +194,10 @@ fn behind_slip(behind: &[Piece<'_>]) -> &'static str {
         [Piece::Word(word), Piece::Word(_), Piece::Word(_), ..] if is_digits(word) => {
             "A capacity stands in parentheses, directly behind the arrow.\n"
         }
-        [Piece::Word(_)] | [Piece::Word(_), Piece::Open, ..] => {
+        [Piece::Word(_)]
+        | [Piece::Automatic(_)]
+        | [Piece::Word(_), Piece::Open, ..]
+        | [Piece::Word(_), Piece::Automatic(_), ..] => {
             "Behind the arrow an input stands before its process.\n"
         }
         [Piece::Quoted(_), ..] => {

@@ -1,5 +1,6 @@
 //! Lines of a network file that are looked for, each in its part: the main part, or a subnet.
 use crate::kinds::Side;
+use crate::pieces::is_remark;
 use crate::said::{Mention, Said, Tag, said_by};
 use flow_limits::LAST_ELEMENT;
 use flow_text::decimal;
@@ -29,10 +30,11 @@ pub enum Wanted<'a> {
     Subnet(&'a [u8]),
 }
 
-/// A line of a file: its number from 1, the subnet in which it stands, and what it says.
+/// A line of a file: its number from 1, the version of the file, the subnet in which the line stands, and what it says.
 #[derive(Clone, Copy)]
 pub struct Found<'a> {
     pub number: u64,
+    pub version: u32,
     pub part: Option<&'a [u8]>,
     pub line: &'a [u8],
     pub said: Said<'a>,
@@ -135,10 +137,20 @@ fn is_wanted(found: &Found<'_>, wanted: &Wanted<'_>) -> bool {
     }
 }
 
-/// A walk over the lines of a file.
+// The version of a file whose first line that is no remark says this. Where that is no header the file is refused for it.
+fn version_of(said: &Said<'_>) -> u32 {
+    if said.tag == Tag::Header && said.name == b"2".as_slice() {
+        2
+    } else {
+        1
+    }
+}
+
+/// A walk over the lines of a file. Its version is told by its first line that is no remark.
 #[derive(Drop)]
 pub struct Walk<'a> {
     pub number: u64,
+    pub version: Option<u32>,
     pub part: Option<&'a [u8]>,
 }
 
@@ -146,6 +158,7 @@ impl<'a> Walk<'a> {
     pub fn new() -> Self {
         Walk {
             number: 0,
+            version: None,
             part: None,
         }
     }
@@ -154,7 +167,10 @@ impl<'a> Walk<'a> {
     pub fn next_line(&mut self, alloc: Global, line: &'a [u8]) -> Result<Found<'a>, AllocError> {
         self.number = self.number.saturating_add(1);
         let line = bare(line);
-        let said = said_by(alloc, line)?;
+        let said = said_by(alloc, self.version.unwrap_or(1), line)?;
+        if self.version.is_none() && !is_remark(line) {
+            self.version = Some(version_of(&said));
+        }
         if said.tag == Tag::Subnet {
             self.part = Some(said.name);
         }
@@ -164,6 +180,7 @@ impl<'a> Walk<'a> {
         }
         Ok(Found {
             number: self.number,
+            version: self.version.unwrap_or(1),
             part,
             line,
             said,

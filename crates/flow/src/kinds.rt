@@ -28,6 +28,14 @@ impl Side {
     }
 }
 
+/// The name of the automatic port that each process has on a side, in a file of version 2.
+pub fn automatic(side: Side) -> &'static [u8] {
+    match side {
+        Side::Input => b"*IN",
+        Side::Output => b"*OUT",
+    }
+}
+
 /// The side across the arrow.
 pub fn other_side(side: Side) -> Side {
     match side {
@@ -85,15 +93,20 @@ pub fn names(net: Net<'_>) -> Result<Vec<&[u8]>, AllocError> {
     Ok(names)
 }
 
-/// The name of a port of a kind's side that is nearest to a wrong one.
+/// The name of a port of a kind's side that is nearest to a wrong one, in a file of this version.
 pub fn nearest_port<'a>(
     alloc: Global,
-    ports: &'a [PortSpec],
+    kind: &'a KindSpec,
+    side: Side,
+    version: u32,
     wrong: &[u8],
 ) -> Result<Option<&'a [u8]>, AllocError> {
     let mut names: Vec<&'a [u8]> = Vec::new(alloc);
-    for port in ports {
+    for port in ports(kind, side) {
         names.push(port.name.as_slice())?;
+    }
+    if version != 1 {
+        names.push(automatic(side))?;
     }
     nearest(alloc, wrong, &names)
 }
@@ -149,15 +162,21 @@ fn put_side(page: &mut String, kind: &KindSpec, side: Side) -> Result<(), AllocE
     Ok(())
 }
 
-/// The ports of a kind, on both sides.
-pub fn put_ports(page: &mut String, kind: &KindSpec) -> Result<(), AllocError> {
+/// The ports of a kind, on both sides, in a file of this version.
+pub fn put_ports(page: &mut String, kind: &KindSpec, version: u32) -> Result<(), AllocError> {
     page.push_str("The ports of the kind ")?;
     put_word(page, kind.name.as_slice())?;
     page.push_str(": ")?;
     put_side(page, kind, Side::Input)?;
     page.push_str("; ")?;
     put_side(page, kind, Side::Output)?;
-    page.push_str(".\n")
+    page.push_str(".\n")?;
+    if version == 1 {
+        return Ok(());
+    }
+    page.push_str(
+        "Besides, every process has an automatic input *IN and an automatic output *OUT.\n",
+    )
 }
 
 /// What the text of an option may be.

@@ -1,6 +1,6 @@
 //! A line that is at fault by itself: what is wrong with it, and what would be right.
 use crate::bytes::{put_bad_byte, put_header};
-use crate::forms::{FORMS, is_digits, slip};
+use crate::forms::{is_digits, put_forms, slip};
 use crate::found::{Found, Wanted, find, find_in, kind_given};
 use crate::kinds::is_port_name;
 use crate::net::{Net, put_found};
@@ -8,7 +8,9 @@ use crate::pieces::{Piece, bad_rest, pieces};
 use crate::said::Mention;
 use crate::shown::{put_line, put_word};
 use flow_catalogue::kinds;
-use flow_limits::{CAPACITY_LIMIT, LAST_ELEMENT, STATEMENT_LIMIT, TEXT_LIMIT};
+use flow_limits::{
+    CAPACITY_LIMIT, FIRST_CAPACITY_LIMIT, LAST_ELEMENT, STATEMENT_LIMIT, TEXT_LIMIT,
+};
 use flow_parse::{NetFault, Reason};
 use flow_text::decimal;
 use std::alloc::{AllocError, Global};
@@ -39,7 +41,7 @@ fn put_reason<'a>(
     reason: Reason,
 ) -> Result<(), AllocError> {
     let rest = match reason {
-        Reason::Byte => bad_rest(found.line),
+        Reason::Byte => bad_rest(found.version, found.line),
         _ => None,
     };
     let place = match rest {
@@ -51,14 +53,14 @@ fn put_reason<'a>(
     }
     match reason {
         Reason::Header => put_header(page, found.line),
-        Reason::Byte => put_bad_byte(page, found.line, rest.unwrap_or(b"")),
+        Reason::Byte => put_bad_byte(page, found.line, rest.unwrap_or(b""), found.version),
         Reason::Quote => page.push_str(
             "A quoted text isn't closed in its line; two quotes stand for one in it.\n",
         ),
         Reason::Form => {
-            let pieces = pieces(net.alloc, found.line)?;
+            let pieces = pieces(net.alloc, found.version, found.line)?;
             page.push_str(slip(found, &pieces))?;
-            page.push_str(FORMS)
+            put_forms(page, found.version)
         }
         Reason::Name => put_name(net, page, found),
         Reason::Number => put_number(net, page, found),
@@ -104,10 +106,19 @@ fn role_of(before: &[Piece<'_>]) -> Role {
     }
 }
 
-fn is_fine(word: &[u8], role: Role) -> bool {
+// The greatest capacity in a file of this version.
+fn most_capacity(version: u32) -> u32 {
+    if version == 1 {
+        FIRST_CAPACITY_LIMIT
+    } else {
+        CAPACITY_LIMIT
+    }
+}
+
+fn is_fine(word: &[u8], role: Role, version: u32) -> bool {
     match role {
         Role::Name | Role::Kind => is_name(word),
-        Role::Capacity => decimal(word, 1, u64::from(CAPACITY_LIMIT)).is_some(),
+        Role::Capacity => decimal(word, 1, u64::from(most_capacity(version))).is_some(),
         Role::Element => decimal(word, 0, u64::from(LAST_ELEMENT)).is_some(),
     }
 }
@@ -116,13 +127,13 @@ fn is_number(role: Role) -> bool {
     role == Role::Capacity || role == Role::Element
 }
 
-// The first word of a line that isn't what it is to be: a name, or else a number.
-fn wrong_word<'a>(pieces: &[Piece<'a>], numbers: bool) -> Option<(&'a [u8], Role)> {
+// The first word of a line that isn't what it is to be in a file of this version: a name, or else a number.
+fn wrong_word<'a>(pieces: &[Piece<'a>], numbers: bool, version: u32) -> Option<(&'a [u8], Role)> {
     for (place, piece) in pieces.iter().enumerate() {
         if let Piece::Word(word) = piece {
             let role = role_of(pieces.split_at(place.min(pieces.len())).0);
             let begins = place == 0 && is_reserved(word);
-            if is_number(role) == numbers && !begins && !is_fine(word, role) {
+            if is_number(role) == numbers && !begins && !is_fine(word, role, version) {
                 return Some((*word, role));
             }
         }
@@ -131,8 +142,8 @@ fn wrong_word<'a>(pieces: &[Piece<'a>], numbers: bool) -> Option<(&'a [u8], Role
 }
 
 fn put_name(net: Net<'_>, page: &mut String, found: &Found<'_>) -> Result<(), AllocError> {
-    let pieces = pieces(net.alloc, found.line)?;
-    if let Some((word, role)) = wrong_word(&pieces, false) {
+    let pieces = pieces(net.alloc, found.version, found.line)?;
+    if let Some((word, role)) = wrong_word(&pieces, false, found.version) {
         put_word(page, word)?;
         page.push_str(" is no name. ")?;
         if role == Role::Kind && is_digits(word) {
@@ -153,21 +164,29 @@ fn put_name(net: Net<'_>, page: &mut String, found: &Found<'_>) -> Result<(), Al
 }
 
 fn put_number(net: Net<'_>, page: &mut String, found: &Found<'_>) -> Result<(), AllocError> {
-    let pieces = pieces(net.alloc, found.line)?;
-    let role = match wrong_word(&pieces, true) {
-        Some((word, role)) => {
-            put_word(page, word)?;
-            page.push_str(" is none: ")?;
-            role
-        }
-        None => Role::Capacity,
+    let pieces = pieces(net.alloc, found.version, found.line)?;
+    let (word, role) = match wrong_word(&pieces, true, found.version) {
+        Some((word, role)) => (word, role),
+        None => (b"".as_slice(), Role::Capacity),
     };
+    if !word.is_empty() {
+        put_word(page, word)?;
+        page.push_str(" is none: ")?;
+    }
+    let most = most_capacity(found.version);
     if role == Role::Element {
         write!(page, "an element is a number from 0 to {LAST_ELEMENT}")?;
     } else {
-        write!(page, "a capacity is a number from 1 to {CAPACITY_LIMIT}")?;
+        write!(page, "a capacity is a number from 1 to {most}")?;
     }
-    page.push_str(", in digits without zeros in front.\n")
+    page.push_str(", in digits without zeros in front.\n")?;
+    if role == Role::Capacity && is_fine(word, role, 2) {
+        write!(
+            page,
+            "In a file that begins with flow 2 it may be up to {CAPACITY_LIMIT}.\n"
+        )?;
+    }
+    Ok(())
 }
 
 // Whether a mention gives its process another kind than a mention before it, and where that stands.

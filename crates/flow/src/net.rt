@@ -1,5 +1,5 @@
 //! A network file that is explained, beside the table of kinds.
-use crate::found::{Found, Home, Wanted, find_in, home_of, is_same_part, kind_of};
+use crate::found::{Found, Home, Walk, Wanted, find_in, home_of, is_same_part, kind_of};
 use crate::kinds::{Side, row};
 use crate::place::{Counted, canonical, fewest, statement};
 use crate::shown::put_line;
@@ -48,6 +48,18 @@ pub fn has_port(found: &Found<'_>, process: &[u8], port: &[u8], side: Side) -> b
 }
 
 impl<'a> Net<'a> {
+    /// The version of the file.
+    pub fn version(&self) -> Result<u32, AllocError> {
+        let mut walk = Walk::new();
+        for line in self.bytes.split(|byte| *byte == b'\n') {
+            let _ = walk.next_line(self.alloc, line)?;
+            if let Some(version) = walk.version {
+                return Ok(version);
+            }
+        }
+        Ok(1)
+    }
+
     /// The part and the name there of the process with this flat name.
     pub fn home(&self, flat: &'a [u8]) -> Result<Home<'a>, AllocError> {
         home_of(self.alloc, self.bytes, flat)

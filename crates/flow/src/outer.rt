@@ -1,6 +1,6 @@
 //! Outer ports of subnets.
 use crate::found::{Found, Walk, is_same_part};
-use crate::kinds::Side;
+use crate::kinds::{Side, automatic};
 use crate::net::{Net, put_found};
 use crate::said::Tag;
 use crate::shown::put_word;
@@ -16,6 +16,10 @@ fn tag_of(side: Side) -> Tag {
         Side::Input => Tag::OuterInput,
         Side::Output => Tag::OuterOutput,
     }
+}
+
+fn is_automatic(name: &[u8]) -> bool {
+    name == automatic(Side::Input) || name == automatic(Side::Output)
 }
 
 /// An outer port that a subnet hasn't, or has twice.
@@ -36,6 +40,9 @@ pub fn put_outer_port(
     }
     if let Some(found) = net.statement(fault)? {
         put_found(page, &found)?;
+    }
+    if is_automatic(port.name.as_slice()) {
+        page.push_str("A subnet has no automatic ports: each process in it has its own. ")?;
     }
     if port.element.is_some() {
         page.push_str("An outer port has no elements. ")?;

@@ -1,4 +1,5 @@
 //! The pieces of a line, for whoever looks for a fault in it. Any bytes have pieces.
+use crate::kinds::{Side, automatic};
 use std::alloc::{AllocError, Global};
 
 /// A line that is none of the forms is looked at no further: the longest form has fewer pieces.
@@ -13,6 +14,8 @@ pub enum Piece<'a> {
     Close,
     OpenBracket,
     CloseBracket,
+    /// `*IN` or `*OUT`, in a file of version 2.
+    Automatic(Side),
     /// A quoted text as it is spelled between its quotes, or to the line's end where it isn't closed.
     Quoted(&'a [u8]),
     /// A byte that begins no token.
@@ -81,20 +84,34 @@ fn quoted(text: &[u8]) -> (Piece<'_>, &[u8]) {
     }
 }
 
-fn word(text: &[u8]) -> (Piece<'_>, &[u8]) {
+/// The word with which a text begins, and what is left of it.
+pub fn word(text: &[u8]) -> (&[u8], &[u8]) {
     match text.iter().position(|byte| !is_word_byte(*byte)) {
-        Some(end) => (Piece::Word(first(text, end)), behind(text, end)),
-        None => (Piece::Word(text), b""),
+        Some(end) => (first(text, end), behind(text, end)),
+        None => (text, b""),
     }
 }
 
-// The first piece of a line behind its blanks, and what is left of it.
-fn cut(line: &[u8]) -> Option<(Piece<'_>, &[u8])> {
+// An automatic port behind its `*`, if it is one, and what is left.
+fn starred(text: &[u8]) -> Option<(Piece<'_>, &[u8])> {
+    let (name, after) = word(text);
+    if name == behind(automatic(Side::Input), 1) {
+        return Some((Piece::Automatic(Side::Input), after));
+    }
+    if name == behind(automatic(Side::Output), 1) {
+        return Some((Piece::Automatic(Side::Output), after));
+    }
+    None
+}
+
+// The first piece of a line behind its blanks, in a file of this version, and what is left of it.
+fn cut(version: u32, line: &[u8]) -> Option<(Piece<'_>, &[u8])> {
     let rest = after_blanks(line);
     let (byte, more) = rest.split_first()?;
     let byte = *byte;
     if is_word_byte(byte) {
-        return Some(word(rest));
+        let (word, after) = word(rest);
+        return Some((Piece::Word(word), after));
     }
     match byte {
         b'(' => Some((Piece::Open, more)),
@@ -106,16 +123,20 @@ fn cut(line: &[u8]) -> Option<(Piece<'_>, &[u8])> {
             Some((b'>', after)) => (Piece::Arrow, after),
             _ => (Piece::Other(byte), more),
         }),
+        b'*' if version == 2 => match starred(more) {
+            Some(cut) => Some(cut),
+            None => Some((Piece::Other(byte), more)),
+        },
         _ => Some((Piece::Other(byte), more)),
     }
 }
 
-/// The first pieces of a line, as many as a form can have and some more.
-pub fn pieces(alloc: Global, line: &[u8]) -> Result<Vec<Piece<'_>>, AllocError> {
+/// The first pieces of a line in a file of this version, as many as a form can have and some more.
+pub fn pieces(alloc: Global, version: u32, line: &[u8]) -> Result<Vec<Piece<'_>>, AllocError> {
     let mut found = Vec::new(alloc);
     let mut rest = line;
     for _ in 0..MOST {
-        let Some((piece, after)) = cut(rest) else {
+        let Some((piece, after)) = cut(version, rest) else {
             return Ok(found);
         };
         found.push(piece)?;
@@ -124,11 +145,11 @@ pub fn pieces(alloc: Global, line: &[u8]) -> Result<Vec<Piece<'_>>, AllocError> 
     Ok(found)
 }
 
-/// What is left of a line from its first byte on that begins no token.
-pub fn bad_rest(line: &[u8]) -> Option<&[u8]> {
+/// What is left of a line from its first byte on that begins no token in a file of this version.
+pub fn bad_rest(version: u32, line: &[u8]) -> Option<&[u8]> {
     let mut rest = line;
     for _ in line {
-        let (piece, after) = cut(rest)?;
+        let (piece, after) = cut(version, rest)?;
         if let Piece::Other(_) = piece {
             return Some(after_blanks(rest));
         }

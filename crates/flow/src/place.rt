@@ -28,7 +28,7 @@ enum Line {
 }
 
 fn line_of(line: &[u8], counted: Counted) -> Line {
-    let is_frame = line == b"flow 1".as_slice()
+    let is_frame = line.starts_with(b"flow ")
         || line == b"end".as_slice()
         || line.starts_with(b"subnet ");
     if line.is_empty() || is_frame {

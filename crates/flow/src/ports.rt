@@ -1,7 +1,7 @@
 //! Ports that a network names, gives or leaves out wrongly.
 use crate::found::{Found, Wanted, find_in};
 use crate::kinds::{
-    Side, is_option, nearest_port, other_side, port, ports, put_example, put_option, put_ports,
+    Side, automatic, is_option, nearest_port, other_side, port, put_example, put_option, put_ports,
 };
 use crate::net::{Net, put_found, put_if_found};
 use crate::shown::put_word;
@@ -40,8 +40,9 @@ pub fn put_unknown(
         side = Side::Input;
     }
     net.put_statement(page, fault, &home, wrong, side)?;
-    put_hint(net, page, kind, side, wrong)?;
-    put_ports(page, kind)
+    let version = net.version()?;
+    put_hint(net, page, kind, side, version, wrong)?;
+    put_ports(page, kind, version)
 }
 
 // What may have been meant by an unknown port.
@@ -50,6 +51,7 @@ fn put_hint(
     page: &mut String,
     kind: &KindSpec,
     side: Side,
+    version: u32,
     wrong: &[u8],
 ) -> Result<(), AllocError> {
     if port(kind, side, wrong).is_some() {
@@ -64,7 +66,7 @@ fn put_hint(
             " is an {word}: an output stands before the arrow, an input behind it.\n"
         );
     }
-    let Some(near) = nearest_port(net.alloc, ports(kind, side), wrong)? else {
+    let Some(near) = nearest_port(net.alloc, kind, side, version, wrong)? else {
         return Ok(());
     };
     page.push_str(if near.eq_ignore_ascii_case(wrong) {
@@ -129,6 +131,11 @@ fn other_use<'a>(
     find_in(net.alloc, net.bytes, found.part, &wanted)
 }
 
+// Whether a process of this kind has an output of this name.
+fn is_output(kind: &KindSpec, name: &[u8]) -> bool {
+    name == automatic(Side::Output) || port(kind, Side::Output, name).is_some()
+}
+
 /// A port that has its connection or text already.
 pub fn put_taken(
     net: Net<'_>,
@@ -140,7 +147,7 @@ pub fn put_taken(
     let home = net.home(process)?;
     let taken = name.name.as_slice();
     let side = match net.row(&home)? {
-        Some(kind) if port(kind, Side::Output, taken).is_some() => Side::Output,
+        Some(kind) if is_output(kind, taken) => Side::Output,
         _ => Side::Input,
     };
     let shown = net.put_statement(page, fault, &home, taken, side)?;

@@ -1,10 +1,12 @@
 //! What a line of a network file says, as far as a fault is about it: which processes and ports it mentions.
+use crate::kinds::automatic;
 use crate::pieces::{Piece, is_remark, pieces};
 use std::alloc::{AllocError, Global};
 
 /// Which form a line is.
 #[derive(Clone, Copy, PartialEq, Eq)]
 pub enum Tag {
+    Header,
     Process,
     Connection,
     Initial,
@@ -15,7 +17,8 @@ pub enum Tag {
     Other,
 }
 
-/// A process as a line mentions it, maybe with its kind, and with the port and its element that stand beside it.
+/// A process as a line mentions it, maybe with its kind, and with the port and its element that stand beside it. An
+/// automatic port has its name with the `*`.
 #[derive(Clone, Copy)]
 pub struct Mention<'a> {
     pub process: &'a [u8],
@@ -24,8 +27,8 @@ pub struct Mention<'a> {
     pub element: Option<&'a [u8]>,
 }
 
-/// What a line says: the name of its subnet or outer port, its process before the arrow, its capacity, and its process
-/// behind the arrow.
+/// What a line says: the name of its subnet or outer port, or the version of a header; its process before the arrow, its
+/// capacity, and its process behind the arrow.
 #[derive(Clone, Copy)]
 pub struct Said<'a> {
     pub tag: Tag,
@@ -89,11 +92,22 @@ impl<'p, 'a> Rest<'p, 'a> {
         }
     }
 
+    // The name of a port, maybe of an automatic one.
+    fn port(&mut self) -> Option<&'a [u8]> {
+        match self.left {
+            [Piece::Automatic(side), more @ ..] => {
+                self.left = more;
+                Some(automatic(*side))
+            }
+            _ => self.word(),
+        }
+    }
+
     // A process before the arrow, which stands before its port.
     fn sender(&mut self) -> Option<Mention<'a>> {
         let process = self.word()?;
         let kind = self.parenthesized();
-        let port = self.word().unwrap_or(b"");
+        let port = self.port().unwrap_or(b"");
         let element = self.bracketed();
         Some(Mention {
             process,
@@ -105,7 +119,7 @@ impl<'p, 'a> Rest<'p, 'a> {
 
     // A process behind the arrow, which stands behind its port.
     fn receiver(&mut self) -> Option<Mention<'a>> {
-        let port = self.word()?;
+        let port = self.port()?;
         let element = self.bracketed();
         let process = self.word()?;
         let kind = self.parenthesized();
@@ -177,7 +191,11 @@ fn said_of<'a>(pieces: &[Piece<'a>]) -> Said<'a> {
     };
     let mut rest = Rest { left };
     match first {
-        Piece::Word(b"flow") => NOTHING,
+        Piece::Word(b"flow") => Said {
+            tag: Tag::Header,
+            name: rest.word().unwrap_or(b""),
+            ..NOTHING
+        },
         Piece::Word(b"subnet") => rest.named(Tag::Subnet),
         Piece::Word(b"end") => Said {
             tag: Tag::End,
@@ -198,11 +216,11 @@ fn said_of<'a>(pieces: &[Piece<'a>]) -> Said<'a> {
     }
 }
 
-/// What a line says.
-pub fn said_by(alloc: Global, line: &[u8]) -> Result<Said<'_>, AllocError> {
+/// What a line says in a file of this version.
+pub fn said_by(alloc: Global, version: u32, line: &[u8]) -> Result<Said<'_>, AllocError> {
     if is_remark(line) {
         return Ok(NOTHING);
     }
-    let pieces = pieces(alloc, line)?;
+    let pieces = pieces(alloc, version, line)?;
     Ok(said_of(pieces.as_slice()))
 }

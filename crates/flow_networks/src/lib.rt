@@ -18,6 +18,8 @@ mod refused;
 #[cfg(test)]
 mod run;
 #[cfg(test)]
+mod steps;
+#[cfg(test)]
 mod subnets;
 #[cfg(test)]
 mod worked;

@@ -7,3 +7,5 @@ mod called;
 mod gates;
 #[cfg(test)]
 mod rows;
+#[cfg(test)]
+mod steps;
