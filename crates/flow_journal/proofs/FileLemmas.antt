@@ -1,11 +1,9 @@
 -- Numbers in bytes, and the parts of a journal file.
-use Rattle.std.proofs.Common.{◌≡◌, ℕ, ◌+◌, ◌*◌, ◌<◌, ◌≤◌, ◌^◌, List, [], ◌∷◌, ◌++◌, length, take, drop, get_or, slice_get, Some, suc, zero, refl, ap, sym, ◌∙◌, arith, subst, append_assoc, append-nil, length-append}
-use Rattle.std.specs.Prelude.{All}
+use Rattle.std.proofs.Common.{◌≡◌, ℕ, ◌+◌, ◌*◌, ◌<◌, ◌≤◌, List, [], ◌∷◌, ◌++◌, length, take, drop, get_or, slice_get, Some, suc, zero, refl, ap, sym, ◌∙◌, arith, subst, append_assoc, append-nil, length-append}
 use Rattle.std.specs.Int.{w16, w32, to_le_bytes, from_le_bytes}
-use Rattle.std.proofs.lemmas.List.{drop-drop, take-append-drop, length-take, length-drop}
 use Rattle.std.proofs.lemmas.Nat.{le_bytes_2, le_bytes_4, from_le_bytes-to_le_bytes_4}
 use Rattle.flow_journal.specs.declared.merge.Journal.{Journal}
-use Rattle.flow_journal.specs.Files.{name, numbers_written, written, number_at, whole_length, IsFileOf, BeginsWithName, HasHeader, StraysFromName}
+use Rattle.flow_journal.specs.Files.{numbers_written, number_at, IsFileOf, BeginsWithName, StraysFromName}
 
 -- two bytes for each number
 pub numbers-length : (numbers : List ℕ) → length (numbers_written numbers) ≡ 2 * length numbers
@@ -77,7 +75,8 @@ never-strays bytes place begins strays = strays.other (sym (within-front 8 place
 abbrev pub AreBytes : List ℕ → Type 0
 AreBytes bytes = (i : ℕ) → get_or bytes i 0 < 256
 
-bytes-behind : (n : ℕ) (bytes : List ℕ) → AreBytes bytes → AreBytes (drop n bytes)
+-- What stands behind some of them are bytes too.
+pub bytes-behind : (n : ℕ) (bytes : List ℕ) → AreBytes bytes → AreBytes (drop n bytes)
 bytes-behind zero bytes small = small
 bytes-behind (suc n) [] small = small
 bytes-behind (suc n) (b ∷ bytes) small = bytes-behind n bytes (λ i. small (suc i))
@@ -109,20 +108,3 @@ numbers-read numbers rest bytes front after n small read long is left number =
 pub numbers-done : (numbers rest bytes : List ℕ) (count : ℕ) → numbers_written numbers ++ rest ≡ bytes → length rest < 2 → length bytes ≡ 2 * count → (numbers_written numbers ≡ bytes) × (length numbers ≡ count)
 numbers-done numbers [] bytes count read less even = (sym (append-nil (numbers_written numbers)) ∙ read, omega (arith, even, ap length read, length-append (numbers_written numbers) [], numbers-length numbers))
 numbers-done numbers (b ∷ rest) bytes count read less even = absurd (omega (arith, less, even, ap length read, length-append (numbers_written numbers) (b ∷ rest), numbers-length numbers))
-
--- what a whole file holds behind its header is the file of these turns and numbers
-pub file-of-parts : (bytes turns seen : List ℕ) → AreBytes bytes → HasHeader bytes → length bytes ≡ whole_length bytes → turns ≡ take (number_at bytes 8) (drop 16 bytes) → numbers_written seen ≡ drop (number_at bytes 8) (drop 16 bytes) → length seen ≡ number_at bytes 12
-    → All (λ n. n < 2 ^ 16) seen → IsFileOf (record { turns = turns; seen = seen }) bytes
-file-of-parts bytes turns seen small header whole turns_are seen_are count numbers =
-    let m : ℕ = number_at bytes 8 in
-    let n : ℕ = number_at bytes 12 in
-    let turns_count : length turns ≡ m = ap length turns_are ∙ omega (arith, whole, length-take m (drop 16 bytes), length-drop 16 bytes) in
-    let first : to_le_bytes w32 (length turns) ++ drop 12 bytes ≡ drop 8 bytes =
-    (λ i. to_le_bytes w32 (turns_count i) ++ sym (drop-drop 4 8 bytes) i) ∙ four-in-front (drop 8 bytes) (omega (arith, header.whole, length-drop 8 bytes)) (bytes-behind 8 bytes small) in
-    let second : to_le_bytes w32 (length seen) ++ drop 16 bytes ≡ drop 12 bytes =
-    (λ i. to_le_bytes w32 (count i) ++ sym (drop-drop 4 12 bytes) i) ∙ four-in-front (drop 12 bytes) (omega (arith, header.whole, length-drop 12 bytes)) (bytes-behind 12 bytes small) in
-    let third : turns ++ numbers_written seen ≡ drop 16 bytes = (λ i. turns_are i ++ seen_are i) ∙ take-append-drop m (drop 16 bytes) in
-    let journal : Journal = record { turns = turns; seen = seen } in
-    let same : bytes ≡ written journal =
-    sym (take-append-drop 8 bytes) ∙ (λ i. header.turns.begins i ++ sym first i) ∙ ap (λ (xs : List ℕ). name ++ (to_le_bytes w32 (length turns) ++ xs)) (sym second) ∙ ap (λ (xs : List ℕ). name ++ (to_le_bytes w32 (length turns) ++ (to_le_bytes w32 (length seen) ++ xs))) (sym third) in
-    record { writable = record { turns = omega (arith, turns_count, header.turns.few); seen = omega (arith, turns_count, count, header.few) }; numbers = numbers; is = same }

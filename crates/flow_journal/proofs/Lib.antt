@@ -1,5 +1,6 @@
 mod FileLaws
 mod FileLemmas
+pub mod HeaderLemmas
 mod Levels
 mod Refusing
 mod Replayed

@@ -1,8 +1,8 @@
 -- Journal files. (The format is this project's own.)
-use Rattle.std.specs.Prelude.{◌≡◌, ◌≢◌, ◌⊎◌, ℕ, ◌+◌, ◌*◌, ◌<◌, ◌≤◌, ◌^◌, List, ◌++◌, All, length, take, drop, slice_get, codes}
+use Rattle.std.specs.Prelude.{◌≡◌, ◌≢◌, ◌⊎◌, ℕ, ◌+◌, ◌*◌, ◌<◌, ◌≤◌, ◌^◌, List, [], ◌++◌, All, length, take, drop, slice_get, codes}
 use Rattle.std.specs.Int.{w16, w32, to_le_bytes, from_le_bytes}
 use Rattle.std.specs.List.{flat_map}
-use Rattle.flow_journal.specs.declared.file.TheConstants.{RUN_LIMIT}
+use Rattle.flow_journal.specs.declared.file.TheConstants.{HEADER_LENGTH, RUN_LIMIT}
 use Rattle.flow_journal.specs.declared.fault.JournalStop.{JournalStop}
 use Rattle.flow_journal.specs.declared.fault.JournalStop.TheVariants.{Fault, NoMemory}
 use Rattle.flow_journal.specs.declared.merge.Journal.{Journal}
@@ -15,10 +15,17 @@ name = codes "FLOWJ001"
 abbrev pub numbers_written : List ℕ → List ℕ
 numbers_written numbers = flat_map (to_le_bytes w16) numbers
 
--- What a journal is written as: the name; how many turns and how many seen numbers there are, in four bytes each, the least byte first; the processes of
--- the turns, in a byte each; the seen numbers.
+-- The header of a file: the name; how many turns and how many seen numbers there are, in four bytes each, the least byte first.
+abbrev pub header_written : ℕ → ℕ → List ℕ
+header_written turns seen = name ++ to_le_bytes w32 turns ++ to_le_bytes w32 seen
+
+-- How many bytes follow a header that tells these numbers.
+abbrev pub body_length : ℕ → ℕ → ℕ
+body_length turns seen = turns + 2 * seen
+
+-- What a journal is written as: the header; the processes of the turns, in a byte each; the seen numbers.
 abbrev pub written : Journal → List ℕ
-written journal = name ++ to_le_bytes w32 (length journal.turns) ++ to_le_bytes w32 (length journal.seen) ++ journal.turns ++ numbers_written journal.seen
+written journal = header_written (length journal.turns) (length journal.seen) ++ journal.turns ++ numbers_written journal.seen
 
 -- A journal has a file where it has no more turns than a run may have, and no more seen numbers than turns.
 pub record IsWritable (journal : Journal) : Type 0 where
@@ -85,6 +92,10 @@ pub data IsFault (bytes : List ℕ) (place : ℕ) : Type 0 where
   many_seen : TellsManySeen bytes → place ≡ 12 → IsFault bytes place
   ends : EndsEarly bytes → place ≡ length bytes → IsFault bytes place
   goes_on : HasHeader bytes → whole_length bytes < length bytes → place ≡ whole_length bytes → IsFault bytes place
+
+-- The fault of each file that begins with these bytes is at this place, whatever follows them. Where they are fewer than a header they are the whole file.
+abbrev pub IsHeaderFault : List ℕ → ℕ → Type 0
+IsHeaderFault front place = (rest : List ℕ) → (length front < HEADER_LENGTH → rest ≡ []) → IsFault (front ++ rest) place
 
 -- Why reading a journal stopped: the file has this fault; or there was no memory.
 abbrev pub StopsReading : List ℕ → JournalStop → Type 0

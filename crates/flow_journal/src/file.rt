@@ -10,7 +10,7 @@ use std::alloc::{AllocError, Global};
 pub const RUN_LIMIT: usize = PROCESS_LIMIT * TURN_LIMIT;
 
 /// The bytes before the turns: the name, and two numbers of four bytes.
-const HEADER: usize = 16;
+pub const HEADER_LENGTH: usize = 16;
 
 /// Appends numbers of two bytes.
 fn put_numbers(bytes: &mut Vec<u8>, numbers: &[u16]) -> Result<(), AllocError>
@@ -30,7 +30,7 @@ impl Journal {
     {
         let turns = self.turns.as_slice();
         let seen = self.seen.as_slice();
-        let mut bytes = Vec::with_capacity(alloc, HEADER + turns.len() + 2 * seen.len())?;
+        let mut bytes = Vec::with_capacity(alloc, HEADER_LENGTH + turns.len() + 2 * seen.len())?;
         bytes.extend_from_slice(b"FLOWJ001")?;
         bytes.extend_from_slice(&(turns.len() as u32).to_le_bytes())?;
         bytes.extend_from_slice(&(seen.len() as u32).to_le_bytes())?;

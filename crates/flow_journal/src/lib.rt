@@ -4,6 +4,7 @@
 mod again;
 mod fault;
 mod file;
+mod header;
 mod law;
 mod merge;
 mod parse;
@@ -12,7 +13,8 @@ mod turn;
 
 pub use again::replay;
 pub use fault::{JournalFault, JournalStop};
-pub use file::RUN_LIMIT;
+pub use file::{HEADER_LENGTH, RUN_LIMIT};
+pub use header::Header;
 pub use law::{a_file_has_one_journal_or_one_fault, a_journal_that_stops_is_no_schedule};
 pub use merge::Journal;
 pub use refusal::{Refusal, ReplayStop};

@@ -63,6 +63,32 @@ fn faults_have_their_place(rt: HostRuntime) {
     }
 }
 
+/// A header is read off the first 16 bytes, and what follows them makes no difference. The body goes with it.
+#[test]
+fn a_header_is_judged_alone(rt: HostRuntime) -> Result<(), Fail> {
+    let alloc = rt.alloc();
+    for bytes in [LEVELS, &LEVELS[..16]] {
+        let header = Header::from_bytes(bytes).ok().ok_or("refused")?;
+        assert_eq!(rt; header.turns, 3);
+        assert_eq!(rt; header.seen, 2);
+        assert_eq!(rt; header.body_length(), 7);
+        let read = Journal::from_body(alloc, &header, &LEVELS[16..])
+            .ok()
+            .ok_or("refused")?;
+        assert_eq!(rt; read.to_bytes(alloc)?.as_slice(), LEVELS);
+    }
+    let rows: [(&[u8], u64); 3] = [
+        (b"FLOWJ001\x01\0\0\0\x02\0\0\0and more", 12),
+        (b"FLOWJ001\x01\0\0\x40\0\0\0\0", 8),
+        (&LEVELS[..15], 15),
+    ];
+    for (bytes, place) in rows {
+        let fault = Header::from_bytes(bytes).err().ok_or("not refused")?;
+        assert_eq!(rt; fault.place, place);
+    }
+    Ok(())
+}
+
 /// The place of a file's fault; none where it has no fault, or there was no memory.
 fn fault_of(alloc: std::alloc::Global, bytes: &[u8]) -> Option<u64> {
     match Journal::from_bytes(alloc, bytes) {
