@@ -3,7 +3,7 @@
 use crate::line::put_fault;
 use crate::refused::put_refused;
 use crate::words::{put_help, put_wrong};
-use flow_cli::{FILE_LIMIT, JOURNAL_FILE_LIMIT, Refusal, Status, Stop, network, read_file};
+use flow_cli::{FILE_LIMIT, Refusal, Status, Stop, network, read_file};
 use flow_files::FileShelf;
 use flow_words::{Command, command};
 use std::alloc::{AllocError, Global};
@@ -52,7 +52,7 @@ fn page<R: Files<File = File> + Eprint + Drop>(
         Status::JournalRefused => page.push_str(OTHER_RUN)?,
         Status::TooLong => write!(
             page,
-            "A network file and an input file have at most {FILE_LIMIT} bytes, the file of a journal {JOURNAL_FILE_LIMIT}.\n"
+            "A network file and an input file have at most {FILE_LIMIT} bytes.\n"
         )?,
         _ => {}
     }

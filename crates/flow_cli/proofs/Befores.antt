@@ -16,10 +16,9 @@ use Rattle.flow_catalogue.specs.declared.standard.Std.{Std}
 use Rattle.flow_cli.specs.Step.{Filled, OnlyReads, FailsToRead, MayRead, Unended, IsRead, GivesMore, HoldsMore, whole}
 use Rattle.flow_cli.specs.Networks.{ReadsAs}
 use Rattle.flow_cli.specs.Components.{inputs_of, AreRead, IsNext, StopsAtFile, ReadsComponents}
-use Rattle.flow_cli.specs.Reads.{Asks, file_of, IsCommand, IsEmptyJournal, IsFile, IsJournalFile, IsBetween, IsReady, IsNextFile}
+use Rattle.flow_cli.specs.Reads.{Asks, file_of, IsCommand, IsEmptyJournal, IsFile, IsJournalFile, IsBetween, IsReady, IsLimitedNext, IsNextFile, ShowsFault}
 use Rattle.flow_cli.specs.Causes.{Work, IsUntouched, HasCause}
 use Rattle.flow_cli.specs.Prepare.{Loads, ReadsJournal, StopsCommand}
-use Rattle.flow_cli.specs.declared.components.TheConstants.{JOURNAL_FILE_LIMIT}
 use Rattle.flow_cli.specs.declared.net_file.NetFile.{NetFile}
 use Rattle.flow_cli.specs.declared.stop.JournalRefusal.TheVariants.{Byte, Turn}
 use Rattle.flow_cli.specs.declared.stop.Stop.{Stop}
@@ -50,8 +49,7 @@ file-stopped old new name (ReadFault read) limit s = λ words journal command em
   name = name;
   command = command;
   earlier = [];
-  most = limit;
-  next = inl (s.0, refl, refl);
+  next = inl (inl (s.0, refl));
   opened = s.1.0;
   unended = subst (λ (n : Name). Unended n s.1.0) (sym s.0) s.1.1;
   shelf = subst (λ (n : Name). FailsToRead old new s.1.0 n) (sym s.0) s.1.2;
@@ -61,8 +59,7 @@ file-stopped old new name (TooLong read) limit s = λ words journal command empt
   name = name;
   command = command;
   earlier = [];
-  most = limit;
-  next = inl (s.0, refl, refl);
+  next = inl (s.0, refl);
   more = subst (λ (n : Name). HoldsMore old.files n limit) (sym s.0) s.2;
   shelf = subst (λ (n : Name). GivesMore old new [] n limit) (sym s.0) s.1;
   journal = empty;
@@ -98,16 +95,15 @@ module _ (old mid new : Outside) (name kept net : Name) (text : NetText) (plan :
   told : mid.files ≡ old.files
   told = OnlyReads-files old mid (whole (name, net) ∷ []) only
 
-  behind : (words : List (String Global)) → Asks words (Replay name kept) → (read : Name) → read ≡ kept → IsNextFile words old.files limit name ((name, net) ∷ []) read JOURNAL_FILE_LIMIT
-  behind words asks read same = inr (inl (record {
+  behind : (words : List (String Global)) → Asks words (Replay name kept) → (read : Name) → read ≡ kept → IsNextFile words old.files limit name ((name, net) ∷ []) read
+  behind words asks read same = inr (record {
     asks = subst (λ (n : Name). Asks words (Replay name n)) (sym same) asks;
     net = net;
     text = text;
     plan = plan;
     file = file;
     earlier_are = refl;
-    most_is = refl;
-  }))
+  })
 
   pub journal-stopped : (stop : Stop) → ReadsJournal mid new kept (Err stop) → (words : List (String Global)) (journal : Journal) → Asks words (Replay name kept) → IsEmptyJournal journal
       → HasCause (so_far words old new journal) limit stop
@@ -119,10 +115,9 @@ module _ (old mid new : Outside) (name kept net : Name) (text : NetText) (plan :
     text = text;
     plan = plan;
     file = file;
-    bytes = r.0;
-    read = subst (λ (t : Option Files). IsRead t JOURNAL_FILE_LIMIT (kept, r.0)) told r.2;
-    fault = r.3;
-    shelf = OnlyReads-trans old mid new (whole (name, net) ∷ []) (whole (kept, r.0) ∷ []) only r.1;
+    given = r.0;
+    shows = subst (λ (t : Option Files). ShowsFault t kept r.0 place) told r.2;
+    shelf = OnlyReads-trans old mid new (whole (name, net) ∷ []) (r.0 ∷ []) only r.1;
     journal = empty;
   }
   journal-stopped (JournalRefused (Turn place p refusal)) r words journal asks empty = absurd r
@@ -130,7 +125,6 @@ module _ (old mid new : Outside) (name kept net : Name) (text : NetText) (plan :
     name = name;
     command = on-file words (Replay name kept) name refl asks;
     earlier = (name, net) ∷ [];
-    most = JOURNAL_FILE_LIMIT;
     next = behind words asks (string_bytes read) r.0;
     opened = r.1.0;
     unended = subst (λ (n : Name). Unended n r.1.0) (sym r.0) r.1.1;
@@ -138,31 +132,11 @@ module _ (old mid new : Outside) (name kept net : Name) (text : NetText) (plan :
         (FailsToRead-after old mid new (whole (name, net) ∷ []) r.1.0 kept only r.1.2);
     journal = empty;
   }
-  journal-stopped (TooLong read) r words journal asks empty = record {
-    name = name;
-    command = on-file words (Replay name kept) name refl asks;
-    earlier = (name, net) ∷ [];
-    most = JOURNAL_FILE_LIMIT;
-    next = behind words asks (string_bytes read) r.0;
-    more = subst (λ (n : Name). HoldsMore old.files n JOURNAL_FILE_LIMIT) (sym r.0) (subst (λ (t : Option Files). HoldsMore t kept JOURNAL_FILE_LIMIT) told r.2);
-    shelf = subst (λ (n : Name). GivesMore old new (whole (name, net) ∷ []) n JOURNAL_FILE_LIMIT) (sym r.0)
-        (GivesMore-after old mid new (whole (name, net) ∷ []) [] kept JOURNAL_FILE_LIMIT only r.1);
-    journal = empty;
-  }
   journal-stopped NoMemory may words journal asks empty = inl (untouched (so_far words old new journal) (MayRead-trans old mid new (may-read old mid _ only) may) empty)
   journal-stopped Words r words journal asks empty = absurd r
   journal-stopped (Refused refusal) r words journal asks empty = absurd r
   journal-stopped (WriteFault written) r words journal asks empty = absurd r
-
--- A stop at the journal's file is one of reading the journal.
-pub journal-read-stopped : (old new : Outside) (name : Name) (stop : Stop) → StopsAtFile old new [] name stop JOURNAL_FILE_LIMIT → ReadsJournal old new name (Err stop)
-journal-read-stopped old new name (ReadFault read) s = s
-journal-read-stopped old new name (TooLong read) s = s
-journal-read-stopped old new name NoMemory s = s
-journal-read-stopped old new name Words s = absurd s
-journal-read-stopped old new name (Refused refusal) s = absurd s
-journal-read-stopped old new name (JournalRefused refusal) s = absurd s
-journal-read-stopped old new name (WriteFault written) s = absurd s
+  journal-stopped (TooLong read) r words journal asks empty = absurd r
 
 -- The journal's file is one of the shelf before the network file was read.
 pub journal-file-of : (old mid : Outside) (name net kept bytes : List ℕ) (journal : Journal) → OnlyReads old mid (whole (name, net) ∷ []) → IsJournalFile mid.files kept bytes journal
@@ -185,8 +159,8 @@ module _ (old mid new : Outside) (name net : Name) (between : List Filled) (text
   all-read inputs = sym (map-append whole ((name, net) ∷ between) inputs)
 
   behind-between : (words : List (String Global)) → IsBetween words old.files name between → (inputs : List Filled) (input read : Name) → read ≡ input → IsNext mid.files limit plan inputs input
-      → IsNextFile words old.files limit name ((name, net) ∷ (between ++ inputs)) read limit
-  behind-between words is_between inputs input read same is = inr (inr (record {
+      → IsLimitedNext words old.files limit name ((name, net) ∷ (between ++ inputs)) read
+  behind-between words is_between inputs input read same is = inr (record {
     net = net;
     text = text;
     plan = plan;
@@ -196,8 +170,7 @@ module _ (old mid new : Outside) (name net : Name) (between : List Filled) (text
     inputs = inputs;
     next = subst (λ (n : Name). IsNext old.files limit plan inputs n) (sym same) (subst (λ (t : Option Files). IsNext t limit plan inputs input) told-between is);
     earlier_are = refl;
-    most_is = refl;
-  }))
+  })
 
   -- the files that were opened, up to one that stops
   opened-all : (inputs : List Filled) (more : List Logged) → map whole ((name, net) ∷ between) ++ (map whole inputs ++ more) ≡ map whole ((name, net) ∷ (between ++ inputs)) ++ more
@@ -209,8 +182,7 @@ module _ (old mid new : Outside) (name net : Name) (between : List Filled) (text
     name = name;
     command = command;
     earlier = (name, net) ∷ (between ++ r.0);
-    most = limit;
-    next = behind-between words is_between r.0 r.1 (string_bytes read) r.3.0 r.2;
+    next = inl (behind-between words is_between r.0 r.1 (string_bytes read) r.3.0 r.2);
     opened = r.3.1.0;
     unended = subst (λ (n : Name). Unended n r.3.1.0) (sym r.3.0) r.3.1.1;
     shelf = subst (λ (n : Name). FailsToRead old new (map whole ((name, net) ∷ (between ++ r.0)) ++ r.3.1.0) n) (sym r.3.0)
@@ -222,7 +194,6 @@ module _ (old mid new : Outside) (name net : Name) (between : List Filled) (text
     name = name;
     command = command;
     earlier = (name, net) ∷ (between ++ r.0);
-    most = limit;
     next = behind-between words is_between r.0 r.1 (string_bytes read) r.3.0 r.2;
     more = subst (λ (n : Name). HoldsMore old.files n limit) (sym r.3.0) (subst (λ (t : Option Files). HoldsMore t r.1 limit) told-between r.3.2);
     shelf = subst (λ (n : Name). GivesMore old new (map whole ((name, net) ∷ (between ++ r.0))) n limit) (sym r.3.0)

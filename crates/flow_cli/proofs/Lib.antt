@@ -2,7 +2,9 @@ pub mod Befores
 pub mod Concluding
 pub mod Ends
 pub mod Fitting
+pub mod Fronts
 pub mod Giving
+pub mod JournalFiles
 pub mod Leaving
 pub mod Lining
 pub mod Meaning

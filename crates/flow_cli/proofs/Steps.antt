@@ -85,8 +85,8 @@ pub moved-begun : (name : Name) (n : List ℕ) (e : Bool) (files : List Logged)
     → last_moved n e (files ++ begun name ∷ []) ≡ files ++ record { name = name; bytes = n; ended = e } ∷ []
 moved-begun name n e files = last_moved-push n e files (begun name)
 
--- what a source gave of what the name holds
-held-all : (told : Option Files) (name : Name) (left after : Option (List ℕ)) (bytes : List ℕ) → IsHeld told name left → Consumes left after bytes → IsAtEnd after
+-- A source that came to its end gave what the name holds.
+pub held-all : (told : Option Files) (name : Name) (left after : Option (List ℕ)) (bytes : List ℕ) → IsHeld told name left → Consumes left after bytes → IsAtEnd after
     → IfSome told (λ files. files name ≡ Some bytes)
 held-all None name left after bytes held gives end = tt
 held-all (Some files) name None after bytes held gives end = absurd (let none = held.1 in cc)
@@ -108,11 +108,13 @@ module _ (old mid new : Outside) (name : Name) (opens : mid ≡ after_open old n
       → new ≡ record old { open_name = Some name; left = new.left; opened = last_moved n e (old.opened ++ begun name ∷ []) }
   opened n e is = is ∙ ap (λ o. after_read o new.left n e) opens
 
-  gave : (n : List ℕ) (e : Bool) → new ≡ after_read mid new.left n e → OnlyReads old new (record { name = name; bytes = n; ended = e } ∷ [])
+  -- A file that was opened gave this.
+  pub gave : (n : List ℕ) (e : Bool) → new ≡ after_read mid new.left n e → OnlyReads old new (record { name = name; bytes = n; ended = e } ∷ [])
   gave n e is = fit-reads old new (Some name) new.left (last_moved n e (old.opened ++ begun name ∷ []))
       (record { name = name; bytes = n; ended = e } ∷ []) (opened n e is) (moved-begun name n e old.opened)
 
-  failed : (n : List ℕ) → new ≡ after_read_fault (after_read mid new.left n false) mid.open_name new.read_faults → Rose mid.read_faults new.read_faults
+  -- It gave this, and then a read failed.
+  pub failed : (n : List ℕ) → new ≡ after_read_fault (after_read mid new.left n false) mid.open_name new.read_faults → Rose mid.read_faults new.read_faults
       → FailsToRead old new (partly n name ∷ []) name
   failed n is rose = fit-failed-read old new (Some name) new.left (last_moved n false (old.opened ++ begun name ∷ [])) (partly n name ∷ []) name
       (is ∙ ap (λ o. after_read_fault (after_read o new.left n false) o.open_name new.read_faults) opens)

@@ -1,6 +1,7 @@
 -- Where no count of faults rose and all that was read is valid, a stop is want of memory.
 use Rattle.std.proofs.Common.{◌≡◌, ℕ, List, [], ◌∷◌, ◌++◌, length, None, inl, inr, arith, refl, sym, ap, ◌∙◌, subst}
 use mathlib.Core.Path.{ap₂}
+use mathlib.Core.List.{append-nil}
 use Rattle.std.proofs.lemmas.List.{length-map}
 use Rattle.std.specs.Prelude.{String, string_bytes, map}
 use Rattle.std.specs.Option.{option_and_then}
@@ -18,9 +19,9 @@ use Rattle.flow_journal.specs.declared.merge.Journal.{Journal}
 use Rattle.flow_journal.specs.declared.refusal.Refusal.{Refusal as NoTurn}
 use Rattle.flow_cli.specs.Step.{Filled, OnlyReads, whole, partly}
 use Rattle.flow_cli.specs.Components.{inputs_of}
-use Rattle.flow_cli.specs.Reads.{Asks, file_of, IsCommand, IsBetween, IsNextFile}
+use Rattle.flow_cli.specs.Reads.{Asks, file_of, IsCommand, IsBetween, IsLimitedNext}
 use Rattle.flow_cli.specs.Causes.{Work, IsRefused, IsFaulty, IsNoSchedule, IsTooLong, HasCause}
-use Rattle.flow_cli.specs.Top.{IsReplay, IsMost, AreValid, IsValid}
+use Rattle.flow_cli.specs.Top.{IsReplay, IsJournalAt, HasSchedule, AreValid, IsValid}
 use Rattle.flow_cli.specs.declared.stop.Refusal.{Refusal}
 use Rattle.flow_cli.specs.declared.stop.JournalRefusal.TheVariants.{Byte, Turn}
 use Rattle.flow_cli.specs.declared.stop.Stop.{Stop}
@@ -44,14 +45,12 @@ no-replay words name keeps workers asks replay = let h = replay.2 in cc
 one-schedule : (a b : Journal) → a.turns ≡ b.turns → a.seen ≡ b.seen → schedule_of a ≡ schedule_of b
 one-schedule a b turns seen = ap₂ (λ t s. record { turns = t; seen = s }) turns seen
 
--- how many bytes the next file may give, by its place
-most-at : (words : List (String Global)) (told : Option Files) (limit : ℕ) (name : Name) (earlier : List Filled) (read : Name) (most : ℕ) → IsNextFile words told limit name earlier read most
-    → IsMost words limit (length (map whole earlier)) most
-most-at words told limit name earlier read most (inl next) = subst (λ (l : List Filled). IsMost words limit (length (map whole l)) most) (sym next.1) (inr (λ one replay. omega (arith, one), next.2))
-most-at words told limit name earlier read most (inr (inl next)) =
-    subst (λ (l : List Filled). IsMost words limit (length (map whole l)) most) (sym next.earlier_are) (inl (refl, (name, read, next.asks), next.most_is))
-most-at words told limit name earlier read most (inr (inr next)) =
-    subst (λ (l : List Filled). IsMost words limit (length (map whole l)) most) (sym next.earlier_are) (inr (far next.is_between, next.most_is)) where
+-- a file that has a limit isn't that of a journal
+limited-at : (words : List (String Global)) (told : Option Files) (limit : ℕ) (name : Name) (earlier : List Filled) (read : Name) → IsLimitedNext words told limit name earlier read
+    → IsJournalAt words (length (map whole earlier)) → ⊥
+limited-at words told limit name earlier read (inl next) at = omega (arith, at.0, ap (λ (l : List Filled). length (map whole l)) next.1)
+limited-at words told limit name earlier read (inr next) at =
+    far next.is_between (ap (λ (l : List Filled). length (map whole l)) (sym next.earlier_are) ∙ at.0) at.1 where
       far : IsBetween words told name next.between → length (map whole ((name, next.net) ∷ (next.between ++ next.inputs))) ≡ 1 → IsReplay words → ⊥
       far (inl b) one replay = no-replay words name b.0 b.1 b.2 replay
       far (inr b) one replay =
@@ -72,15 +71,17 @@ module _ (w : Work) (limit : ℕ) (valid : (read : List Logged) → w.after.open
 
   no-fault : HasJournalOrFault → (place : ℕ) → IsFaulty w limit place → ⊥
   no-fault apart place c =
-      let v = all-valid (map whole ((c.name, c.net) ∷ (c.kept, c.bytes) ∷ [])) c.shelf in
-      let has = v.schedule c.net c.text c.plan c.bytes (c.name, c.kept, c.asks) (c.name, refl) c.file.holds (c.kept, refl) in
-      apart c.bytes has.journal place has.is c.fault
+      let v = all-valid (whole (c.name, c.net) ∷ c.given ∷ []) c.shelf in
+      let begins = v.schedule c.net c.text c.plan 1 c.given (c.name, refl) c.file.holds (refl, (c.name, c.kept, c.asks)) refl in
+      apart (c.given.bytes ++ begins.0) begins.2.journal place begins.2.is (c.shows.fault begins.0 begins.1)
 
   no-stop : AtMostOneOutcome StdNext → StopsAreNoSchedules StdNext → HasOneJournal → (place p : ℕ) (refusal : NoTurn) → IsNoSchedule w limit place p refusal → ⊥
   no-stop one no_schedule single place p refusal c =
       let r = c.ready in
       let v = all-valid (map whole ((c.name, r.net) ∷ (((c.kept, c.bytes) ∷ []) ++ inputs_of c.plan.processes r.given))) r.reads in
-      let has = v.schedule r.net r.text c.plan c.bytes (c.name, c.kept, c.asks) (c.name, refl) r.file.holds (c.kept, refl) in
+      let begins = v.schedule r.net r.text c.plan 1 (whole (c.kept, c.bytes)) (c.name, refl) r.file.holds (refl, (c.name, c.kept, c.asks)) refl in
+      let bytes : c.bytes ++ begins.0 ≡ c.bytes = ap (λ (rest : List ℕ). c.bytes ++ rest) (begins.1 refl) ∙ append-nil c.bytes in
+      let has = subst (HasSchedule (map whole ((c.name, r.net) ∷ (((c.kept, c.bytes) ∷ []) ++ inputs_of c.plan.processes r.given))) c.plan) bytes begins.2 in
       let leads = has.leads r.given c.components refl r.are_components in
       let same = single c.bytes c.tells has.journal c.is_journal.is has.is in
       let schedule : schedule_of c.tells ≡ schedule_of has.journal = one-schedule c.tells has.journal same.0 same.1 in
@@ -93,7 +94,7 @@ module _ (w : Work) (limit : ℕ) (valid : (read : List Logged) → w.after.open
       let more = c.shelf in
       let v = all-valid (map whole c.earlier ++ partly more.0 read ∷ []) more.2 in
       let at = get-last (map whole c.earlier) (partly more.0 read) in
-      let few = v.short (length (map whole c.earlier)) c.most (partly more.0 read) at (most-at w.words w.before.files limit c.name c.earlier read c.most c.next) in
+      let few = v.short (length (map whole c.earlier)) (partly more.0 read) at (limited-at w.words w.before.files limit c.name c.earlier read c.next) in
       let many = more.1 in
       omega (arith, few, many)
 

@@ -10,16 +10,15 @@ use Rattle.flow_model.specs.States.{State}
 use Rattle.flow_model.specs.Plans.{start_of}
 use Rattle.flow_catalogue.specs.declared.standard.Std.{Std}
 use Rattle.flow_catalogue.specs.Std.{StdNext}
-use Rattle.flow_journal.specs.Files.{IsFault, IsWritable}
+use Rattle.flow_journal.specs.Files.{IsWritable}
 use Rattle.flow_journal.specs.Replays.{schedule_of, StopsAtTurn}
 use Rattle.flow_journal.specs.declared.merge.Journal.{Journal}
 use Rattle.flow_journal.specs.declared.refusal.Refusal.{Refusal as NoTurn}
 use Rattle.flow_cli.specs.Step.{Filled, OnlyReads, FailsToRead, Unended, IsRead, GivesMore, HoldsMore, whole}
 use Rattle.flow_cli.specs.Many.{FailsAt, EndsAt}
 use Rattle.flow_cli.specs.Networks.{RefusedFor}
-use Rattle.flow_cli.specs.Reads.{Asks, IsCommand, IsEmptyJournal, IsFile, IsJournalFile, IsReady, IsNextFile}
+use Rattle.flow_cli.specs.Reads.{Asks, IsCommand, IsEmptyJournal, IsFile, IsJournalFile, IsReady, IsLimitedNext, IsNextFile, ShowsFault}
 use Rattle.flow_cli.specs.Runs.{RunsTo, files_of_run}
-use Rattle.flow_cli.specs.declared.components.TheConstants.{JOURNAL_FILE_LIMIT}
 use Rattle.flow_cli.specs.declared.stop.Refusal.{Refusal}
 use Rattle.flow_cli.specs.declared.stop.JournalRefusal.{JournalRefusal}
 use Rattle.flow_cli.specs.declared.stop.JournalRefusal.TheVariants.{Byte, Turn}
@@ -63,8 +62,8 @@ pub record IsRefused (w : Work) (limit : ℕ) (refusal : Refusal) : Type 0 where
   pub shelf : OnlyReads w.before w.after (whole (name, net) ∷ [])
   pub journal : IsEmptyJournal w.journal
 
--- The network file was read whole, then that of the journal, and nothing else; and the byte at this place can't stand in a journal's file, or the file ends there
--- too early.
+-- The network file was read whole, and then that of the journal as far as its fault shows; the byte at this place can't stand in a journal's file, or the file ends
+-- there too early.
 pub record IsFaulty (w : Work) (limit place : ℕ) : Type 0 where
   pub name : Name
   pub kept : Name
@@ -73,10 +72,9 @@ pub record IsFaulty (w : Work) (limit place : ℕ) : Type 0 where
   pub text : NetText
   pub plan : Network
   pub file : IsFile w.before.files limit name net text plan
-  pub bytes : List ℕ
-  pub read : IsRead w.before.files JOURNAL_FILE_LIMIT (kept, bytes)
-  pub fault : IsFault bytes place
-  pub shelf : OnlyReads w.before w.after (map whole ((name, net) ∷ (kept, bytes) ∷ []))
+  pub given : Logged
+  pub shows : ShowsFault w.before.files kept given place
+  pub shelf : OnlyReads w.before w.after (whole (name, net) ∷ given ∷ [])
   pub journal : IsEmptyJournal w.journal
 
 -- All that a replay reads was read, and the journal of the file, which is the one that it is the file of, is no schedule from the start of the network: this is the
@@ -104,22 +102,20 @@ pub record IsReadFault (w : Work) (limit : ℕ) (read : Name) : Type 0 where
   pub name : Name
   pub command : IsCommand w.words name
   pub earlier : List Filled
-  pub most : ℕ
-  pub next : IsNextFile w.words w.before.files limit name earlier read most
+  pub next : IsNextFile w.words w.before.files limit name earlier read
   pub opened : List Logged
   pub unended : Unended read opened
   pub shelf : FailsToRead w.before w.after (map whole earlier ++ opened) read
   pub journal : IsEmptyJournal w.journal
 
--- This file gave one byte more than it may have. Each file before it was read whole, and none behind it.
+-- This file, the network file or one of a reader, gave one byte more than it may have. Each file before it was read whole, and none behind it.
 pub record IsTooLong (w : Work) (limit : ℕ) (read : Name) : Type 0 where
   pub name : Name
   pub command : IsCommand w.words name
   pub earlier : List Filled
-  pub most : ℕ
-  pub next : IsNextFile w.words w.before.files limit name earlier read most
-  pub more : HoldsMore w.before.files read most
-  pub shelf : GivesMore w.before w.after (map whole earlier) read most
+  pub next : IsLimitedNext w.words w.before.files limit name earlier read
+  pub more : HoldsMore w.before.files read limit
+  pub shelf : GivesMore w.before w.after (map whole earlier) read limit
   pub journal : IsEmptyJournal w.journal
 
 -- A run was made, and writing one of its files failed: this one. Those before it were written whole.

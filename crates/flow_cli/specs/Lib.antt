@@ -2,6 +2,7 @@ pub mod After
 pub mod Causes
 pub mod Components
 pub mod Engines
+pub mod Front
 pub mod Makes
 pub mod Many
 pub mod Meant

@@ -1,21 +1,18 @@
 -- What a call does before its network runs: the words, the network file, a journal's file, the input files.
-use Rattle.std.specs.Prelude.{◌≡◌, ◌≤◌, ℕ, List, [], ◌∷◌, Ok, Err, String}
+use Rattle.std.specs.Prelude.{◌≡◌, ◌≤◌, ℕ, List, [], ◌∷◌, Ok, Err, String, string_bytes}
 use Rattle.std.specs.declared.alloc.Global.{Global}
 use Rattle.std.specs.declared.option.Option.{Option}
 use Rattle.std.specs.declared.result.Result.{Result}
 use Rattle.std.specs.Option.{option_map}
 use Rattle.flow_limits.specs.declared.TheConstants.{NUMBER_LIMIT, WORKER_LIMIT}
-use Rattle.flow_text.specs.Edge.{Outside, Name}
+use Rattle.flow_text.specs.Edge.{Outside, Name, Logged}
 use Rattle.flow_plan.specs.Network.{Network}
 use Rattle.flow_words.specs.Words.{Run, Check, Judge, Replay, Make, Kinds}
-use Rattle.flow_journal.specs.Files.{IsFault}
 use Rattle.flow_parse.specs.declared.value.NetText.{NetText}
 use Rattle.flow_journal.specs.declared.merge.Journal.{Journal}
-use Rattle.flow_cli.specs.Step.{OnlyReads, IsRead, whole}
-use Rattle.flow_cli.specs.Components.{StopsAtFile}
-use Rattle.flow_cli.specs.Reads.{Asks, IsCommand, IsEmptyJournal, IsFile, IsJournalFile, IsReady}
+use Rattle.flow_cli.specs.Step.{OnlyReads, FailsToRead, MayRead, Unended, whole}
+use Rattle.flow_cli.specs.Reads.{Asks, IsCommand, IsEmptyJournal, IsFile, IsJournalFile, IsReady, ShowsFault}
 use Rattle.flow_cli.specs.Causes.{HasCause}
-use Rattle.flow_cli.specs.declared.components.TheConstants.{JOURNAL_FILE_LIMIT}
 use Rattle.flow_cli.specs.declared.net_file.NetFile.{NetFile}
 use Rattle.flow_cli.specs.declared.before.Job.{Job}
 use Rattle.flow_cli.specs.declared.before.Again.{Again}
@@ -23,7 +20,7 @@ use Rattle.flow_cli.specs.declared.before.Task.{Task}
 use Rattle.flow_cli.specs.declared.before.Task.TheVariants as tasks
 use Rattle.flow_cli.specs.declared.stop.JournalRefusal.TheVariants.{Byte}
 use Rattle.flow_cli.specs.declared.stop.Stop.{Stop}
-use Rattle.flow_cli.specs.declared.stop.Stop.TheVariants.{JournalRefused}
+use Rattle.flow_cli.specs.declared.stop.Stop.TheVariants.{JournalRefused, NoMemory, ReadFault}
 
 -- The stop has its cause in every call on this network file that does no more.
 abbrev pub StopsCommand : Outside → Outside → Name → Stop → ℕ → Type 0
@@ -35,12 +32,13 @@ abbrev pub Loads : Outside → Outside → Name → Result NetFile Stop → ℕ 
 Loads old new name (Ok file) limit = (net : List ℕ) × OnlyReads old new (whole (name, net) ∷ []) × IsFile old.files limit name net file.text file.plan
 Loads old new name (Err stop) limit = StopsCommand old new name stop limit
 
--- What reading a journal's file does to the shelf.
+-- What reading a journal's file does to the shelf. It is never too long: its header tells how long it is.
 abbrev pub ReadsJournal : Outside → Outside → Name → Result Journal Stop → Type 0
 ReadsJournal old new name (Ok journal) = (bytes : List ℕ) × OnlyReads old new (whole (name, bytes) ∷ []) × IsJournalFile old.files name bytes journal
-ReadsJournal old new name (Err (JournalRefused (Byte place))) = (bytes : List ℕ) × OnlyReads old new (whole (name, bytes) ∷ [])
-    × IsRead old.files JOURNAL_FILE_LIMIT (name, bytes) × IsFault bytes place
-ReadsJournal old new name (Err stop) = StopsAtFile old new [] name stop JOURNAL_FILE_LIMIT
+ReadsJournal old new name (Err (JournalRefused (Byte place))) = (given : Logged) × OnlyReads old new (given ∷ []) × ShowsFault old.files name given place
+ReadsJournal old new name (Err (ReadFault read)) = (string_bytes read ≡ name) × ((files : List Logged) × Unended name files × FailsToRead old new files name)
+ReadsJournal old new name (Err NoMemory) = MayRead old new
+ReadsJournal old new name (Err other) = ⊥
 
 -- What reading the network file and then the files of its readers does to the shelf.
 abbrev pub ReadsInputs : Outside → Outside → Name → Result Job Stop → ℕ → Type 0

@@ -1,17 +1,18 @@
 -- What a call reads before a network runs, or is made to run again: the network file, a journal's file, the files of the network's readers.
-use Rattle.std.specs.Prelude.{◌≡◌, ◌⊎◌, ◌≤◌, ℕ, List, [], ◌∷◌, ◌++◌, map, Some, None, String, string_bytes}
+use Rattle.std.specs.Prelude.{◌≡◌, ◌⊎◌, ◌≤◌, ◌+◌, ℕ, max, List, [], ◌∷◌, ◌++◌, length, map, Some, None, String, string_bytes}
 use Rattle.std.specs.declared.alloc.Global.{Global}
 use Rattle.std.specs.declared.option.Option.{Option}
 use Rattle.std.specs.Option.{option_and_then}
 use Rattle.flow_limits.specs.declared.TheConstants.{WORKER_LIMIT}
-use Rattle.flow_text.specs.Edge.{Outside, Name, Files}
+use Rattle.flow_text.specs.Edge.{Outside, Name, Files, Logged}
 use Rattle.flow_plan.specs.Network.{Network}
 use Rattle.flow_words.specs.Words.{Asked, Run, Check, Judge, Replay, Make, Kinds, workers_asked, command_of}
 use Rattle.flow_parse.specs.declared.value.NetText.{NetText}
 use Rattle.flow_catalogue.specs.declared.standard.Std.{Std}
-use Rattle.flow_journal.specs.Files.{IsFileOf}
+use Rattle.flow_journal.specs.Files.{IsFileOf, IsFault}
+use Rattle.flow_journal.specs.declared.file.TheConstants.{HEADER_LENGTH}
 use Rattle.flow_journal.specs.declared.merge.Journal.{Journal}
-use Rattle.flow_cli.specs.Step.{Filled, OnlyReads, IsRead, whole}
+use Rattle.flow_cli.specs.Step.{Filled, OnlyReads, IsRead, IsFrontOf, MayFollow, whole}
 use Rattle.flow_cli.specs.Components.{inputs_of, AreRead, AreComponents, IsNext}
 use Rattle.flow_cli.specs.Networks.{Holds, IsStandardPlan}
 use Rattle.flow_cli.specs.declared.components.TheConstants.{JOURNAL_FILE_LIMIT}
@@ -62,6 +63,13 @@ pub record IsJournalFile (told : Option Files) (name : Name) (bytes : List ℕ) 
   pub read : IsRead told JOURNAL_FILE_LIMIT (name, bytes)
   pub is : IsFileOf journal bytes
 
+-- The fault of a journal's file is at this place, whatever may follow what the file gave. It gave no more than its header, or than its bytes up to that place.
+pub record ShowsFault (told : Option Files) (kept : Name) (given : Logged) (place : ℕ) : Type 0 where
+  pub named : given.name ≡ kept
+  pub held : IsFrontOf told given
+  pub few : length given.bytes ≤ max HEADER_LENGTH (place + 1)
+  pub fault : (rest : List ℕ) → MayFollow given rest → IsFault (given.bytes ++ rest) place
+
 -- What a call with these words reads between the network file and the files of its network: nothing in a run, and in a replay the file of its journal.
 abbrev pub IsBetween : List (String Global) → Option Files → Name → List Filled → Type 0
 IsBetween words told name between =
@@ -79,18 +87,8 @@ pub record IsReady (old new : Outside) (limit : ℕ) (name : Name) (between : Li
   pub reads : OnlyReads old new (map whole ((name, net) ∷ (between ++ inputs_of plan.processes given)))
   pub are_components : AreComponents plan given components
 
--- The file `read` is that of the journal, which a replay reads behind the network file, and may have so many bytes.
-pub record IsJournalNext (words : List (String Global)) (told : Option Files) (limit : ℕ) (name : Name) (earlier : List Filled) (read : Name) (most : ℕ) : Type 0 where
-  pub asks : Asks words (Replay name read)
-  pub net : List ℕ
-  pub text : NetText
-  pub plan : Network
-  pub file : IsFile told limit name net text plan
-  pub earlier_are : earlier ≡ (name, net) ∷ []
-  pub most_is : most ≡ JOURNAL_FILE_LIMIT
-
 -- The file `read` is that of a reader of the network, and these are all files before it.
-pub record IsInputNext (words : List (String Global)) (told : Option Files) (limit : ℕ) (name : Name) (earlier : List Filled) (read : Name) (most : ℕ) : Type 0 where
+pub record IsInputNext (words : List (String Global)) (told : Option Files) (limit : ℕ) (name : Name) (earlier : List Filled) (read : Name) : Type 0 where
   pub net : List ℕ
   pub text : NetText
   pub plan : Network
@@ -100,12 +98,22 @@ pub record IsInputNext (words : List (String Global)) (told : Option Files) (lim
   pub inputs : List Filled
   pub next : IsNext told limit plan inputs read
   pub earlier_are : earlier ≡ (name, net) ∷ (between ++ inputs)
-  pub most_is : most ≡ limit
 
--- The file `read` is the next one that the call reads behind these, which it read whole, and it may have so many bytes: the network file first; then, in a replay,
--- the journal's file; then, in a run and in a replay, those of its network.
-abbrev pub IsNextFile : List (String Global) → Option Files → ℕ → Name → List Filled → Name → ℕ → Type 0
-IsNextFile words told limit name earlier read most =
-    ((read ≡ name) × (earlier ≡ []) × (most ≡ limit))
-    ⊎ IsJournalNext words told limit name earlier read most
-    ⊎ IsInputNext words told limit name earlier read most
+-- The file `read` is that of the journal, which a replay reads behind the network file.
+pub record IsJournalNext (words : List (String Global)) (told : Option Files) (limit : ℕ) (name : Name) (earlier : List Filled) (read : Name) : Type 0 where
+  pub asks : Asks words (Replay name read)
+  pub net : List ℕ
+  pub text : NetText
+  pub plan : Network
+  pub file : IsFile told limit name net text plan
+  pub earlier_are : earlier ≡ (name, net) ∷ []
+
+-- The file `read` is the next one that the call reads behind these, which it read whole, and has a limit: the network file first; then, in a run and in a replay,
+-- those of its network.
+abbrev pub IsLimitedNext : List (String Global) → Option Files → ℕ → Name → List Filled → Name → Type 0
+IsLimitedNext words told limit name earlier read = ((read ≡ name) × (earlier ≡ [])) ⊎ IsInputNext words told limit name earlier read
+
+-- The file `read` is the next one that the call reads behind these: one that has a limit; or, in a replay, behind the network file, the journal's, which tells itself
+-- how long it is.
+abbrev pub IsNextFile : List (String Global) → Option Files → ℕ → Name → List Filled → Name → Type 0
+IsNextFile words told limit name earlier read = IsLimitedNext words told limit name earlier read ⊎ IsJournalNext words told limit name earlier read

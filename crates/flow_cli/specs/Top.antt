@@ -21,7 +21,7 @@ use Rattle.flow_journal.specs.declared.merge.Journal.{Journal}
 use Rattle.flow_runs.specs.Runs.{IsScheduled}
 use Rattle.flow_report.specs.Text.{Told as Report, report_text}
 use Rattle.flow_report.specs.States.{TellsOf}
-use Rattle.flow_cli.specs.Step.{Filled, OnlyReads, whole}
+use Rattle.flow_cli.specs.Step.{Filled, OnlyReads, MayFollow, whole}
 use Rattle.flow_cli.specs.Components.{inputs_of, AreComponents}
 use Rattle.flow_cli.specs.Networks.{Holds, IsStandardPlan}
 use Rattle.flow_cli.specs.Many.{WritesAll, WritesFiles}
@@ -32,7 +32,6 @@ use Rattle.flow_cli.specs.Statuses.{IsOver}
 use Rattle.flow_cli.specs.Stops.{status_of, text_of}
 use Rattle.flow_cli.specs.Causes.{Work, IsRunOf, HasCause}
 use Rattle.flow_cli.specs.Makes.{make_text, IsRunOfMade}
-use Rattle.flow_cli.specs.declared.components.TheConstants.{JOURNAL_FILE_LIMIT}
 use Rattle.flow_cli.specs.declared.engine.Told.{Told}
 use Rattle.flow_cli.specs.declared.run.Kept.{Kept}
 use Rattle.flow_cli.specs.declared.run.Said.{Said}
@@ -271,9 +270,9 @@ ComesToEnd c limit = ((name : Name) × (keeps : Option Name) × (workers : ℕ) 
 abbrev pub GaveAt : List Logged → ℕ → List ℕ → Type 0
 GaveAt read place bytes = (name : Name) × (slice_get read place ≡ Some (whole (name, bytes)))
 
--- How many bytes the file at this place may give, in a call with these words. That of a journal, which a replay reads behind the network file, has its own limit.
-abbrev pub IsMost : List (String Global) → ℕ → ℕ → ℕ → Type 0
-IsMost words limit place most = ((place ≡ 1) × IsReplay words × (most ≡ JOURNAL_FILE_LIMIT)) ⊎ ((place ≡ 1 → IsReplay words → ⊥) × (most ≡ limit))
+-- The file at this place is that of a journal, which a replay reads behind the network file.
+abbrev pub IsJournalAt : List (String Global) → ℕ → Type 0
+IsJournalAt words place = (place ≡ 1) × IsReplay words
 
 -- These bytes are the file of a journal, and what it tells is a schedule from the start of the plan, on what the files behind it gave.
 pub record HasSchedule (read : List Logged) (plan : Network) (bytes : List ℕ) : Type 0 where
@@ -282,12 +281,17 @@ pub record HasSchedule (read : List Logged) (plan : Network) (bytes : List ℕ) 
   pub leads : (given : List (List ℕ)) (components : List Std) → drop 2 read ≡ map whole (inputs_of plan.processes given) → AreComponents plan given components
       → (last : State Std) × Leads StdNext (start_of plan components) (schedule_of journal) last
 
--- What the files gave that were read in a call with these words, in order, is valid: the network file holds a value with a plan; no file gave more than it may; and
--- in a replay the journal's file holds a schedule of that network.
+-- What the journal's file gave is the file of a journal, or begins one and isn't at its end; and what that tells is a schedule from the start of the plan.
+abbrev pub BeginsSchedule : List Logged → Network → Logged → Type 0
+BeginsSchedule read plan given = (rest : List ℕ) × MayFollow given rest × HasSchedule read plan (given.bytes ++ rest)
+
+-- What the files gave that were read in a call with these words, in order, is valid: the network file holds a value with a plan; no file but a journal's gave more
+-- than the limit; and in a replay the journal's file holds a schedule of that network, as far as it was read.
 pub record AreValid (words : List (String Global)) (read : List Logged) (limit : ℕ) : Type 0 where
   pub network : (net : List ℕ) → GaveAt read 0 net → (text : NetText) × (plan : Network) × Holds net text plan
-  pub short : (place most : ℕ) (file : Logged) → slice_get read place ≡ Some file → IsMost words limit place most → length file.bytes ≤ most
-  pub schedule : (net : List ℕ) (text : NetText) (plan : Network) (bytes : List ℕ) → IsReplay words → GaveAt read 0 net → Holds net text plan → GaveAt read 1 bytes → HasSchedule read plan bytes
+  pub short : (place : ℕ) (file : Logged) → slice_get read place ≡ Some file → (IsJournalAt words place → ⊥) → length file.bytes ≤ limit
+  pub schedule : (net : List ℕ) (text : NetText) (plan : Network) (place : ℕ) (given : Logged) → GaveAt read 0 net → Holds net text plan → IsJournalAt words place
+      → slice_get read place ≡ Some given → BeginsSchedule read plan given
 
 -- The words ask for what has no network file; or they name one, and what was read is valid, whatever that was.
 abbrev pub IsValid : Work → ℕ → Type 0

@@ -1,13 +1,14 @@
 //! The steps before a network runs, or is checked or judged: the words, the network file, a journal's file, the input files.
 ghost use Rattle.std.specs.Prelude.{◌≡◌};
-ghost use Rattle.flow_cli.specs.Prepare.{Loads, Prepares, ReadsAgain, ReadsInputs, ReadsJournal};
+ghost use Rattle.flow_cli.specs.Prepare.{Loads, Prepares, ReadsAgain, ReadsInputs};
 
-use crate::components::{FILE_LIMIT, JOURNAL_FILE_LIMIT, read_components};
+use crate::components::{FILE_LIMIT, read_components};
+use crate::journal_file::read_journal;
 use crate::net_file::{NetFile, network};
 use crate::step::read_file;
-use crate::stop::{JournalRefusal, Stop, read_stop};
+use crate::stop::{Stop, read_stop};
 use flow_catalogue::Std;
-use flow_journal::{Journal, JournalStop};
+use flow_journal::Journal;
 use flow_net::Plan;
 use flow_parse::NetText;
 use flow_text::Shelf;
@@ -139,21 +140,4 @@ fn load<F: Shelf>(alloc: Global, shelf: &mut F, name: &str) -> Result<NetFile, S
         Err(stop) => return Err(read_stop(alloc, stop, name)),
     };
     network(alloc, &net)
-}
-
-// The journal that the file of this name tells.
-fn read_journal<F: Shelf>(alloc: Global, shelf: &mut F, name: &str) -> Result<Journal, Stop>
-    ensures { ReadsJournal (F.outside shelf.old) (F.outside shelf.new) name.now result }
-{
-    let bytes = match read_file(alloc, shelf, name, JOURNAL_FILE_LIMIT) {
-        Ok(bytes) => bytes,
-        Err(stop) => return Err(read_stop(alloc, stop, name)),
-    };
-    match Journal::from_bytes(alloc, &bytes) {
-        Ok(journal) => Ok(journal),
-        Err(JournalStop::Fault(fault)) => {
-            Err(Stop::JournalRefused(JournalRefusal::Byte(fault.place)))
-        }
-        Err(JournalStop::NoMemory) => Err(Stop::NoMemory),
-    }
 }

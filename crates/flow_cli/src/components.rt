@@ -15,7 +15,7 @@ use std::alloc::{AllocError, Global};
 pub const FILE_LIMIT: u64 = 16_777_216;
 
 /// A journal's file has at most so many bytes: a header of 16, and 3 for each turn that a run may have, one for its process and two for the number
-/// that it saw.
+/// that it saw. No header tells more.
 pub const JOURNAL_FILE_LIMIT: u64 = 3_221_225_488;
 
 /// Reads the files of the plan's readers in the order of the processes, and makes the component of each process.

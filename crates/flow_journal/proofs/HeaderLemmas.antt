@@ -7,7 +7,7 @@ use Rattle.std.proofs.lemmas.Nat.{from_le_bytes-to_le_bytes_4}
 use Rattle.std.proofs.lemmas.Bool.Decides.{nat_tests}
 use Rattle.flow_journal.specs.declared.file.TheConstants.{RUN_LIMIT}
 use Rattle.flow_journal.specs.declared.merge.Journal.{Journal}
-use Rattle.flow_journal.specs.Files.{name, numbers_written, written, header_written, body_length, number_at, IsFileOf, HasHeader, IsFault, IsHeaderFault, strays, many_turns, many_seen, ends, goes_on}
+use Rattle.flow_journal.specs.Files.{name, numbers_written, written, header_written, body_length, number_at, BeginsWithName, IsFileOf, HasHeader, IsFault, IsHeaderFault, strays, many_turns, many_seen, ends, goes_on}
 use Rattle.flow_journal.proofs.FileLemmas.{AreBytes, bytes-behind, four-in-front, never-strays, parts-of}
 
 -- A header stands in front of what follows it.
@@ -114,6 +114,18 @@ header-fault bytes place within fault = λ rest follows. elim (whole-or-short (l
   | inl short ↦ subst (λ (r : List ℕ). IsFault (bytes ++ r) place) (sym (follows short)) (subst (λ (b : List ℕ). IsFault b place) (sym (append-nil bytes)) fault)
   | inr long ↦ fault-before bytes rest place long within fault
 ]
+
+-- A header that tells more turns than a run may have.
+pub many-turns-fault : (bytes : List ℕ) (turns place : ℕ) → BeginsWithName bytes → turns ≡ number_at bytes 8 → 12 ≤ length bytes → RUN_LIMIT < turns → place ≡ 8 → IsHeaderFault bytes place
+many-turns-fault bytes turns place begins turns_are whole many at =
+    header-fault bytes place (omega (arith, at)) (many_turns (record { begins = begins; whole = whole; many = omega (arith, many, turns_are) }) at)
+
+-- One that tells more seen numbers than turns.
+pub many-seen-fault : (bytes : List ℕ) (turns seen place : ℕ) → BeginsWithName bytes → turns ≡ number_at bytes 8 → turns ≤ RUN_LIMIT → seen ≡ number_at bytes 12 → 16 ≤ length bytes → turns < seen → place ≡ 12
+    → IsHeaderFault bytes place
+many-seen-fault bytes turns seen place begins turns_are few seen_are whole many at =
+    header-fault bytes place (omega (arith, at))
+    (many_seen (record { turns = record { begins = begins; whole = omega (arith, whole); few = omega (arith, few, turns_are) }; whole = whole; many = omega (arith, many, turns_are, seen_are) }) at)
 
 -- A fault of a file's first bytes is one of the file.
 pub fault-alone : (bytes : List ℕ) (place : ℕ) → IsHeaderFault bytes place → IsFault bytes place
