@@ -126,7 +126,7 @@ asleep n is = by (n == TURN_LIMIT) is
     by false is = is
 
 -- where a process is over after a turn, it was over, or it has just finished
-over-before : {K : Type 0} (channels : List Channel) (x : Process K) (n : ℕ) (e : Event) → event_of channels x n ≡ Some e → IsOverStage (process_after x e).stage → IsOverStage x.stage ⊎ (e ≡ Finishes)
+pub over-before : {K : Type 0} (channels : List Channel) (x : Process K) (n : ℕ) (e : Event) → event_of channels x n ≡ Some e → IsOverStage (process_after x e).stage → IsOverStage x.stage ⊎ (e ≡ Finishes)
 over-before channels x n Starts is over = absurd (at-work (x.turns + 1) answers.Start over)
 over-before channels x n Finishes is over = inr refl
 over-before channels x n (Gets port c packet) is over = absurd (at-work (x.turns + 1) (answers.Got (id_of packet)) over)
@@ -138,7 +138,7 @@ over-before channels x n Sleeps is over = absurd (asleep (x.turns + 1) over)
 over-before channels x n (Signals w signal) is over = absurd (asleep (x.turns + 1) over)
 over-before channels x n (Closes output c) is over = let at = explains channels x n (Closes output c) is in inl (subst IsOverStage (sym at.stage) tt)
 
-judged-works : (depths : List ℕ) (held : Held) (wish : Wish) → IsOverStage (judged depths held wish) → ⊥
+pub judged-works : (depths : List ℕ) (held : Held) (wish : Wish) → IsOverStage (judged depths held wish) → ⊥
 judged-works depths held (wishes.Receive port) is = by (nat_lt (length held.packets) HANDS_LIMIT) is
   where
     by : (b : Bool) → IsOverStage (cond b (stages.Wishing (wishes.Receive port)) (stages.Failed fails.HandsLimit)) → ⊥

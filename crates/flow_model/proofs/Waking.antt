@@ -25,7 +25,7 @@ use Rattle.flow_model.proofs.Rising.{found-set}
 use Rattle.flow_model.proofs.Schedules.{Valid-turn, Valid-settles}
 use Rattle.flow_model.proofs.Start.{Valid-start}
 
-starts-append : (es fs : List Happening) → starts (es ++ fs) ≡ starts es + starts fs
+pub starts-append : (es fs : List Happening) → starts (es ++ fs) ≡ starts es + starts fs
 starts-append [] fs = omega arith
 starts-append (Started ∷ es) fs = omega (arith, starts-append es fs)
 starts-append (Received i t ∷ es) fs = starts-append es fs
@@ -55,7 +55,7 @@ put-stays put p (Signals w signal) c some = some
 put-stays put p (Closes output d) c some = some
 
 -- a turn is a start, or starts nothing
-starts-heard : {K : Type 0} (x : Process K) (e : Event) → (e ≡ Starts) ⊎ (starts (heard x e) ≡ 0)
+pub starts-heard : {K : Type 0} (x : Process K) (e : Event) → (e ≡ Starts) ⊎ (starts (heard x e) ≡ 0)
 starts-heard x Starts = inl refl
 starts-heard x Finishes = inr refl
 starts-heard x (Gets port c packet) = inr refl

@@ -3,6 +3,7 @@ ghost use Rattle.flow_model.specs.Laws.{KeepsPackets, KeepsOrder, KeepsPrefixes,
 ghost use Rattle.flow_model.specs.Wires.{KeepsWires};
 ghost use Rattle.flow_model.specs.Rising.{FinishedLeadsOn};
 ghost use Rattle.flow_model.specs.Woken.{KeepsWoken};
+ghost use Rattle.flow_model.specs.Released.{KeepsReleased};
 ghost use Rattle.flow_model.specs.Runs.{KeepsRuns, KeepsRunsOpen, KeepsGotAll};
 
 use flow_component::Component;
@@ -103,4 +104,10 @@ pub fn a_finished_network_leads_on<K: Component>()
 /// After every schedule from such a start a process that was started has no connected input, or a packet was put for it.
 pub fn every_start_was_woken<K: Component>()
     ensures { KeepsWoken K.shape_of K.uses K.ready K.next }
+{}
+
+/// After every schedule from such a start each process knows whether a packet came at its automatic input; for each that was started one
+/// came there, or none comes there any more; and each that has ended took all that was put into the connection there.
+pub fn every_start_was_released<K: Component>()
+    ensures { KeepsReleased K.shape_of K.uses K.ready K.next }
 {}
