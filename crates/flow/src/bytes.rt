@@ -15,6 +15,10 @@ pub fn put_header(page: &mut String, line: &[u8]) -> Result<(), AllocError> {
         page.push_str(
             "The file begins with a byte order mark: three bytes, which are to be left out.\n",
         )?;
+    } else if line.starts_with(b"FLOWJ001") {
+        page.push_str(
+            "This is a journal: it stands behind --replay, and then the network file.\n",
+        )?;
     } else if is_wide || line.contains(&0) {
         page.push_str("This isn't ASCII or UTF-8: it seems to have two bytes for each letter.\n")?;
     } else if rest.starts_with(b"flow") {
@@ -51,6 +55,9 @@ fn meant(rest: &[u8], line: &[u8], version: u32) -> Option<&'static str> {
         b'#' => Some("A remark stands in a line of its own."),
         b'"' | b'`' => Some("A text stands between two quotes '."),
         b'-' | b'=' | b'>' | b'<' => Some("The arrow is ->, with nothing within it."),
+        b',' if begins_with_digit(behind(rest, 1)) => {
+            Some("A number is written in digits alone, as 4096.")
+        }
         b',' | b';' => Some("A statement ends with its line, and no sign stands behind it."),
         b'\r' => Some(
             "Lines end with byte 10; a byte 13 may stand before it, and nowhere else outside of a quoted text.",
@@ -64,6 +71,13 @@ fn meant(rest: &[u8], line: &[u8], version: u32) -> Option<&'static str> {
             "A text, as the name of a file, stands in quotes."
         }),
         _ => letters(rest),
+    }
+}
+
+fn begins_with_digit(bytes: &[u8]) -> bool {
+    match bytes.first() {
+        Some(byte) => byte.is_ascii_digit(),
+        None => false,
     }
 }
 
@@ -93,13 +107,18 @@ fn letters(rest: &[u8]) -> Option<&'static str> {
     None
 }
 
-// Whether the line has a process and its port in capitals with a point between them, as A.OUT.
+// Whether the line has a process and its port in capitals with a point between them, as A.OUT or A.*OUT.
 fn is_dotted(line: &[u8]) -> bool {
     let mut parts = line.split(|byte| *byte == b'.');
     let _ = parts.next();
     match parts.next() {
-        Some(behind) => {
-            let mut word = behind.iter().take_while(|byte| is_word_byte(**byte));
+        Some(part) => {
+            let port = if part.starts_with(b"*") {
+                behind(part, 1)
+            } else {
+                part
+            };
+            let mut word = port.iter().take_while(|byte| is_word_byte(**byte));
             word.any(|byte| byte.is_ascii_uppercase())
         }
         None => false,
