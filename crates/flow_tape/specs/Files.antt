@@ -102,8 +102,3 @@ pub record IsTapeWritable (tape : List Entry) : Type 0 where
 pub record IsWritable (tapes : List (List Entry)) : Type 0 where
   pub few : length tapes ≤ PROCESS_LIMIT
   pub each : (k : ℕ) (tape : List Entry) → slice_get tapes k ≡ Some tape → IsTapeWritable tape
-
--- These bytes are the file of the tapes.
-pub record IsFileOf (tapes : List (List Entry)) (bytes : List ℕ) : Type 0 where
-  pub writable : IsWritable tapes
-  pub is : bytes ≡ written tapes

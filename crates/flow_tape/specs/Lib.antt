@@ -1,1 +1,4 @@
 pub mod Files
+pub mod Fields
+pub mod Faults
+pub mod Reading

@@ -1,9 +1,11 @@
 //! From tapes to their file.
 
-ghost use Rattle.std.specs.Prelude.{◌≡◌, ◌++◌, ◌∷◌, ◌≤◌, ◌<◌, [], ℕ, List, Some, slice_get, length, OnOk, IfOk};
+ghost use Rattle.std.specs.Prelude.{◌≡◌, ◌++◌, ◌∷◌, ◌≤◌, ◌<◌, [], ℕ, List, Some, slice_get, length, map, OnOk, IfOk};
 ghost use Rattle.flow_own.specs.declared.tape.Entry.{Entry};
-ghost use Rattle.std.specs.List.{flat_map};
-ghost use Rattle.flow_tape.specs.Files.{four, eight, kind_byte, answer_written, made_written, dropped_written, end_written, entry_written, tape_written, IsShort, IsOfPart, IsEntryWritable, IsTapeWritable, IsWritable, IsFileOf};
+ghost use Rattle.std.specs.List.{flat_map, AllByRecursion};
+ghost use Rattle.flow_tape.specs.Files.{four, eight, kind_byte, answer_written, made_written, dropped_written, end_written, entry_written, tape_written, IsShort, IsOfPart, IsEntryWritable, IsTapeWritable, IsWritable};
+ghost use Rattle.flow_tape.specs.Fields.{IsWhole, any_eight, answer_fields, made_fields, dropped_fields, end_fields, entry_fields, tape_fields};
+ghost use Rattle.flow_tape.specs.Faults.{IsFileOf};
 
 use flow_component::{Answer, OwnFail, Wish};
 use flow_items::Text;
@@ -47,7 +49,8 @@ fn put_id(bytes: &mut Vec<u8>, case: u8, id: u64) -> Result<(), AllocError>
 }
 
 fn put_answer(bytes: &mut Vec<u8>, answer: &Answer) -> Result<(), AllocError>
-    ensures { OnOk result (bytes.new.items ≡ bytes.old.items ++ answer_written answer.now) }
+    ensures bytes { OnOk result (bytes.new.items ≡ bytes.old.items ++ answer_written answer.now) }
+    ensures whole { OnOk result (AllByRecursion IsWhole (answer_fields answer.now)) }
 {
     match answer {
         Answer::Start => put_byte(bytes, 0),
@@ -68,21 +71,30 @@ fn kind_byte(kind: Kind) -> u8
     }
 }
 
+fn put_text(bytes: &mut Vec<u8>, text: &[u8]) -> Result<(), AllocError>
+    ensures bytes { OnOk result (bytes.new.items ≡ bytes.old.items ++ text.now) }
+    ensures whole { AllByRecursion (λ b. b < 256) text.now }
+{
+    bytes.extend_from_slice(text)
+}
+
 fn put_made(bytes: &mut Vec<u8>, made: &Option<(Kind, Text)>) -> Result<(), AllocError>
     requires { IsShort made.now }
-    ensures { OnOk result (bytes.new.items ≡ bytes.old.items ++ made_written made.now) }
+    ensures bytes { OnOk result (bytes.new.items ≡ bytes.old.items ++ made_written made.now) }
+    ensures whole { OnOk result (AllByRecursion IsWhole (made_fields made.now)) }
 {
     match made {
         Some((kind, text)) => {
             put_case(bytes, kind_byte(*kind), text.len() as u32)?;
-            bytes.extend_from_slice(text.as_slice())
+            put_text(bytes, text.as_slice())
         }
         None => put_byte(bytes, 0),
     }
 }
 
 fn put_ids(bytes: &mut Vec<u8>, ids: &[PacketId]) -> Result<(), AllocError>
-    ensures { OnOk result (bytes.new.items ≡ bytes.old.items ++ flat_map eight ids.now) }
+    ensures bytes { OnOk result (bytes.new.items ≡ bytes.old.items ++ flat_map eight ids.now) }
+    ensures whole { OnOk result (AllByRecursion IsWhole (map any_eight ids.now)) }
 {
     for id in ids {
         put_eight(bytes, id.number())?;
@@ -92,14 +104,16 @@ fn put_ids(bytes: &mut Vec<u8>, ids: &[PacketId]) -> Result<(), AllocError>
 
 fn put_dropped(bytes: &mut Vec<u8>, ids: &[PacketId]) -> Result<(), AllocError>
     requires { length ids.now ≤ 4096 }
-    ensures { OnOk result (bytes.new.items ≡ bytes.old.items ++ dropped_written ids.now) }
+    ensures bytes { OnOk result (bytes.new.items ≡ bytes.old.items ++ dropped_written ids.now) }
+    ensures whole { OnOk result (AllByRecursion IsWhole (dropped_fields ids.now)) }
 {
     bytes.extend_from_slice(&(ids.len() as u16).to_le_bytes())?;
     put_ids(bytes, ids)
 }
 
 fn put_end(bytes: &mut Vec<u8>, end: &End) -> Result<(), AllocError>
-    ensures { OnOk result (bytes.new.items ≡ bytes.old.items ++ end_written end.now) }
+    ensures bytes { OnOk result (bytes.new.items ≡ bytes.old.items ++ end_written end.now) }
+    ensures whole { OnOk result (AllByRecursion IsWhole (end_fields end.now)) }
 {
     match end {
         End::Wish(Wish::Receive(port)) => put_case(bytes, 0, port.0),
@@ -119,7 +133,8 @@ fn put_end(bytes: &mut Vec<u8>, end: &End) -> Result<(), AllocError>
 
 fn put_entry(bytes: &mut Vec<u8>, entry: &Entry) -> Result<(), AllocError>
     requires { IsEntryWritable entry.now }
-    ensures { OnOk result (bytes.new.items ≡ bytes.old.items ++ entry_written entry.now) }
+    ensures bytes { OnOk result (bytes.new.items ≡ bytes.old.items ++ entry_written entry.now) }
+    ensures whole { OnOk result (AllByRecursion IsWhole (entry_fields entry.now)) }
 {
     put_answer(bytes, &entry.answer)?;
     put_made(bytes, &entry.made)?;
@@ -129,7 +144,8 @@ fn put_entry(bytes: &mut Vec<u8>, entry: &Entry) -> Result<(), AllocError>
 
 fn put_entries(bytes: &mut Vec<u8>, entries: &[Entry]) -> Result<(), AllocError>
     requires { (k : ℕ) (entry : Entry) → slice_get entries.now k ≡ Some entry → IsEntryWritable entry }
-    ensures { OnOk result (bytes.new.items ≡ bytes.old.items ++ flat_map entry_written entries.now) }
+    ensures bytes { OnOk result (bytes.new.items ≡ bytes.old.items ++ flat_map entry_written entries.now) }
+    ensures whole { OnOk result (AllByRecursion IsWhole (flat_map entry_fields entries.now)) }
 {
     for entry in entries {
         put_entry(bytes, entry)?;
@@ -139,7 +155,8 @@ fn put_entries(bytes: &mut Vec<u8>, entries: &[Entry]) -> Result<(), AllocError>
 
 fn put_tape(bytes: &mut Vec<u8>, tape: &Tape) -> Result<(), AllocError>
     requires { IsTapeWritable tape.now }
-    ensures { OnOk result (bytes.new.items ≡ bytes.old.items ++ tape_written tape.now) }
+    ensures bytes { OnOk result (bytes.new.items ≡ bytes.old.items ++ tape_written tape.now) }
+    ensures whole { OnOk result (AllByRecursion IsWhole (tape_fields tape.now)) }
 {
     let entries = tape.entries();
     put_four(bytes, entries.len() as u32)?;
@@ -148,7 +165,8 @@ fn put_tape(bytes: &mut Vec<u8>, tape: &Tape) -> Result<(), AllocError>
 
 fn put_tapes(bytes: &mut Vec<u8>, tapes: &[Tape]) -> Result<(), AllocError>
     requires { (k : ℕ) (tape : List Entry) → slice_get tapes.now k ≡ Some tape → IsTapeWritable tape }
-    ensures { OnOk result (bytes.new.items ≡ bytes.old.items ++ flat_map tape_written tapes.now) }
+    ensures bytes { OnOk result (bytes.new.items ≡ bytes.old.items ++ flat_map tape_written tapes.now) }
+    ensures whole { OnOk result (AllByRecursion IsWhole (flat_map tape_fields tapes.now)) }
 {
     for tape in tapes {
         put_tape(bytes, tape)?;

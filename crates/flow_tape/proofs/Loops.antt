@@ -1,0 +1,128 @@
+-- Reading and writing one after the other, as loops do.
+use Rattle.std.proofs.Common.{◌≡◌, ℕ, suc, true, false, ◌-◌, ◌+◌, ◌≤◌, ◌<◌, eqb, List, [], ◌∷◌, ◌++◌, length, map, drop, get_or, Option, Some, Result, Ok, Err, refl, sym, ap, ◌∙◌, subst, append_assoc, append-nil, add-one, drop-cons, arith}
+use Rattle.std.specs.Prelude.{OnOk}
+use Rattle.std.specs.List.{flat_map, AllByRecursion}
+use Rattle.std.proofs.lemmas.Bool.{eq-eqb, ne_eqb}
+use Rattle.std.proofs.lemmas.List.{drop_all}
+use Rattle.flow_limits.specs.declared.TheConstants.{TEXT_LIMIT}
+use Rattle.flow_packet.specs.declared.packet.Kind.{Kind}
+use Rattle.flow_packet.specs.declared.packet.Kind.TheVariants as kinds
+use Rattle.flow_own.specs.Acts.{Made}
+use Rattle.flow_tape.specs.Files.{kind_byte, IsShort}
+use Rattle.flow_tape.specs.declared.fault.Unread.{Unread}
+use Rattle.flow_tape.specs.declared.fault.Unread.TheVariants as stops
+use Rattle.flow_tape.specs.Fields.{Field, IsWhole, any_eight, made_fields}
+use Rattle.flow_tape.specs.Reading.{Read, ◌>>=◌, Stops, many_at, letter_at, letters_at}
+use Rattle.flow_tape.proofs.Readers.{whole-join}
+
+-- ---- many of the same sort
+
+-- What was read before, and what is still read.
+abbrev pub with_front : {A : Type 0} → List A → Read (List A) → Read (List A)
+with_front front read = read >>= λ x. Ok (front ++ x.0, x.1)
+
+module _ {A : Type 0} (read : List ℕ → Read A) where
+  regroup : (front : List A) (a : A) (rest : Read (List A)) → with_front front (rest >>= λ x. Ok (a ∷ x.0, x.1)) ≡ with_front (front ++ a ∷ []) rest
+  regroup front a (Ok x) = ap (λ (xs : List A). Ok (xs, x.1)) (sym (append_assoc front (a ∷ []) x.0))
+  regroup front a (Err left) = refl
+
+  step : (front : List A) (count i : ℕ) (bytes : List ℕ) → i < count → with_front front (many_at read (count - i) bytes) ≡ with_front front (read bytes >>= λ first. many_at read (count - (i + 1)) first.1 >>= λ others. Ok (first.0 ∷ others.0, others.1))
+  unfolding many_at
+  step front count i bytes less =
+      let one_more : count - i ≡ suc (count - (i + 1)) = omega arith in
+      ap (λ (n : ℕ). with_front front (many_at read n bytes)) one_more
+
+  pub goes_on : (front : List A) (count i : ℕ) (bytes : List ℕ) (a : A) (after : List ℕ) (total : Read (List A)) → i < count → read bytes ≡ Ok (a, after) → with_front front (many_at read (count - i) bytes) ≡ total
+      → with_front (front ++ a ∷ []) (many_at read (count - (i + 1)) after) ≡ total
+  goes_on front count i bytes a after total less here so_far =
+      let rest : Read A → Read (List A) = λ r. with_front front (r >>= λ first. many_at read (count - (i + 1)) first.1 >>= λ others. Ok (first.0 ∷ others.0, others.1)) in
+      sym (step front count i bytes less ∙ ap rest here ∙ regroup front a (many_at read (count - (i + 1)) after)) ∙ so_far
+
+  pub stops_here : (stop : Unread) (front : List A) (count i : ℕ) (bytes : List ℕ) (total : Read (List A)) → i < count → Stops stop (read bytes) → with_front front (many_at read (count - i) bytes) ≡ total → Stops stop total
+  stops_here stops.NoMemory front count i bytes total less here so_far = tt
+  stops_here (stops.Fault left) front count i bytes total less here so_far =
+      let rest : Read A → Read (List A) = λ r. with_front front (r >>= λ first. many_at read (count - (i + 1)) first.1 >>= λ others. Ok (first.0 ∷ others.0, others.1)) in
+      sym so_far ∙ step front count i bytes less ∙ ap rest here
+
+  pub all_read : (front : List A) (count i : ℕ) (bytes : List ℕ) (total : Read (List A)) → count ≤ i → with_front front (many_at read (count - i) bytes) ≡ total → total ≡ Ok (front, bytes)
+  unfolding many_at
+  all_read front count i bytes total most so_far =
+      let none : count - i ≡ 0 = omega arith in
+      sym so_far ∙ ap (λ (n : ℕ). with_front front (many_at read n bytes)) none ∙ ap (λ (xs : List A). Ok (xs, bytes)) (append-nil front)
+
+-- ---- letters
+
+next-letter : (letters : List ℕ) (i : ℕ) → i < length letters → drop i letters ≡ get_or letters i 0 ∷ drop (i + 1) letters
+next-letter letters i less = drop-cons letters i 0 less ∙ ap (λ (n : ℕ). get_or letters i 0 ∷ drop n letters) (sym (add-one i))
+
+at-letter : (letters : List ℕ) (i first : ℕ) (rest after : List ℕ) → i < length letters → rest ≡ first ∷ after → letters_at (drop i letters) rest ≡ letters_at (get_or letters i 0 ∷ drop (i + 1) letters) (first ∷ after)
+at-letter letters i first rest after less front = λ j. letters_at (next-letter letters i less j) (front j)
+
+-- The letter is there.
+pub letter_on : (letters : List ℕ) (i first : ℕ) (rest after : List ℕ) (total : Read (Unit {0})) → i < length letters → rest ≡ first ∷ after → first ≡ get_or letters i 0 → letters_at (drop i letters) rest ≡ total → letters_at (drop (i + 1) letters) after ≡ total
+unfolding letters_at
+letter_on letters i first rest after total less front same so_far =
+    let equal : eqb first (get_or letters i 0) ≡ true = eq-eqb first (get_or letters i 0) same in
+    let read : letter_at (get_or letters i 0) (first ∷ after) ≡ Ok (tt, after) = rw equal refl in
+    sym (at-letter letters i first rest after less front ∙ ap (λ (r : Read (Unit {0})). r >>= λ x. letters_at (drop (i + 1) letters) x.1) read) ∙ so_far
+
+-- There are no bytes any more.
+pub letter_ends : (letters : List ℕ) (i : ℕ) (rest : List ℕ) (total : Read (Unit {0})) → i < length letters → rest ≡ [] → letters_at (drop i letters) rest ≡ total → total ≡ Err 0
+unfolding letters_at
+letter_ends letters i rest total less none so_far =
+    let here : letters_at (drop i letters) rest ≡ letters_at (get_or letters i 0 ∷ drop (i + 1) letters) [] = λ j. letters_at (next-letter letters i less j) (none j) in
+    sym so_far ∙ here
+
+-- Another byte is there.
+pub letter_strays : (letters : List ℕ) (i first : ℕ) (rest after : List ℕ) (total : Read (Unit {0})) → i < length letters → rest ≡ first ∷ after → (first ≡ get_or letters i 0 → ⊥) → letters_at (drop i letters) rest ≡ total → total ≡ Err (length rest)
+unfolding letters_at
+letter_strays letters i first rest after total less front apart so_far =
+    let other : eqb first (get_or letters i 0) ≡ false = ne_eqb first (get_or letters i 0) apart in
+    let read : letter_at (get_or letters i 0) (first ∷ after) ≡ Err (length (first ∷ after)) = rw other refl in
+    sym so_far ∙ at-letter letters i first rest after less front ∙ ap (λ (r : Read (Unit {0})). r >>= λ x. letters_at (drop (i + 1) letters) x.1) read ∙ ap (λ (bs : List ℕ). Err (length bs)) (sym front)
+
+-- All letters are there.
+pub letters_read : (letters : List ℕ) (i : ℕ) (rest : List ℕ) (total : Read (Unit {0})) → length letters ≤ i → letters_at (drop i letters) rest ≡ total → total ≡ Ok (tt, rest)
+unfolding letters_at
+letters_read letters i rest total most so_far = sym so_far ∙ ap (λ (ls : List ℕ). letters_at ls rest) (drop_all i letters most)
+
+-- ---- fields that hold what they may
+
+-- Where what is left is whole, all is.
+abbrev pub Completes : {X : Type 0} → (X → List Field) → List X → ℕ → Type 0
+Completes fields xs i = AllByRecursion IsWhole (flat_map fields (drop i xs)) → AllByRecursion IsWhole (flat_map fields xs)
+
+pub completes-more : {X : Type 0} (fields : X → List Field) (xs : List X) (i : ℕ) (x : X) → i < length xs → x ≡ get_or xs i x → Completes fields xs i → AllByRecursion IsWhole (fields x) → Completes fields xs (i + 1)
+completes-more {X} fields xs i x less is so_far whole rest =
+    let next : drop i xs ≡ x ∷ drop (i + 1) xs = drop-cons xs i x less ∙ (λ j. sym is j ∷ drop (sym (add-one i) j) xs) in
+    so_far (subst (λ (ys : List X). AllByRecursion IsWhole (flat_map fields ys)) (sym next) (whole-join (fields x) (flat_map fields (drop (i + 1) xs)) whole rest))
+
+pub completes-all : {X : Type 0} (fields : X → List Field) (xs : List X) (i : ℕ) → length xs ≤ i → Completes fields xs i → AllByRecursion IsWhole (flat_map fields xs)
+completes-all {X} fields xs i most so_far = so_far (subst (λ (ys : List X). AllByRecursion IsWhole (flat_map fields ys)) (sym (drop_all i xs most)) tt)
+
+-- The field of an id that was dropped.
+abbrev pub id_fields : ℕ → List Field
+id_fields id = any_eight id ∷ []
+
+-- The fields of ids, as one list.
+pub whole-ids : (ids : List ℕ) → AllByRecursion IsWhole (flat_map id_fields ids) → AllByRecursion IsWhole (map any_eight ids)
+whole-ids [] whole = tt
+whole-ids (id ∷ ids) whole = (whole.0, whole-ids ids whole.1)
+
+-- ---- what was made
+
+few-kinds : (kind : Kind) → kind_byte kind ≤ 3
+few-kinds kinds.Normal = omega arith
+few-kinds kinds.Open = omega arith
+few-kinds kinds.Close = omega arith
+
+-- A packet whose text isn't too long fits its fields.
+pub whole-packet : (made : Option Made) (kind : Kind) (text : List ℕ) → made ≡ Some (kind, text) → IsShort made → AllByRecursion (λ b. b < 256) text → AllByRecursion IsWhole (made_fields made)
+whole-packet made kind text is short small =
+    let few : length text ≤ TEXT_LIMIT = subst IsShort is short in
+    subst (λ (m : Option Made). AllByRecursion IsWhole (made_fields m)) (sym is) (few-kinds kind, (few, (small, tt)))
+
+-- What holds anyhow holds where the call gives a value.
+pub on_ok : {T E : Type 0} (result : Result T E) (P : Type 0) → P → OnOk result P
+on_ok (Ok x) P p = p
+on_ok (Err e) P p = tt
