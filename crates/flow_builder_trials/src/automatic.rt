@@ -66,7 +66,9 @@ fn an_automatic_port_has_the_last_number(rt: HostRuntime) -> Result<(), PlanStop
     assert_eq!(rt; connections.len(), 3);
     let ended = &connections[1];
     assert_eq!(rt; (ended.receiver, ended.input), (1, 1));
-    let sender = ended.senders.as_slice()[0];
+    let senders = ended.senders.as_slice();
+    assert_eq!(rt; senders.len(), 1);
+    let sender = senders[0];
     assert_eq!(rt; (sender.process, sender.output), (0, 1));
     Ok(())
 }
