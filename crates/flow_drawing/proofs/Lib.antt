@@ -1,0 +1,6 @@
+pub mod Reading
+pub mod Each
+pub mod Opening
+pub mod PortNames
+pub mod Stands
+pub mod Options

@@ -1,0 +1,22 @@
+//! Pictures of networks: what a drawing of a plan shows, and how it is spelled for Mermaid and for Graphviz.
+#![tactic(auto)]
+
+mod boxes;
+mod dot;
+mod drawing;
+mod edges;
+mod givens;
+mod labels;
+mod mermaid;
+mod of;
+mod ports;
+mod print;
+mod quote;
+mod rows;
+
+pub use drawing::{Drawing, Edge, Given, Mark, Node, Remark, Remarks, Row};
+pub use quote::{Form, a_quoted_text_reads_back, put_quoted};
+pub use rows::each_process_stands_in_its_boxes;
+
+#[cfg(test)]
+mod tests;
