@@ -3,8 +3,9 @@
 use crate::line::put_fault;
 use crate::refused::put_refused;
 use crate::words::{put_help, put_wrong};
-use flow_cli::{FILE_LIMIT, Refusal, Status, Stop, network, read_file};
+use flow_cli::{NetRefusal, Status, Stop, network, read_file};
 use flow_files::FileShelf;
+use flow_limits::FILE_LIMIT;
 use flow_words::{Command, command};
 use std::alloc::{AllocError, Global};
 use std::fs::{File, Files};
@@ -62,15 +63,7 @@ fn page<R: Files<File = File> + Eprint + Drop>(
 // The network file that the words name.
 fn net_named<'a>(alloc: Global, words: &'a [String]) -> Option<&'a str> {
     match command(alloc, words) {
-        Ok(
-            Some(
-                Command::Run {
-                    net,
-                    journal: _,
-                    workers: _,
-                },
-            ),
-        ) => Some(net),
+        Ok(Some(Command::Run(asked))) => Some(asked.net),
         Ok(Some(Command::Check(net))) => Some(net),
         Ok(Some(Command::Judge(net))) => Some(net),
         Ok(Some(Command::Replay { net, journal: _ })) => Some(net),
@@ -94,12 +87,12 @@ fn put_refusal<R: Files<File = File> + Eprint + Drop>(
         _ => return Ok(()),
     }
     let mut shelf = FileShelf::new(alloc, rt);
-    let Ok(net) = read_file(alloc, &mut shelf, name, FILE_LIMIT) else {
+    let Ok(net) = read_file(alloc, &mut shelf, name) else {
         return Ok(());
     };
     match network(alloc, &net) {
-        Err(Stop::Refused(Refusal::Line(fault))) => put_fault(alloc, page, &net, fault),
-        Err(Stop::Refused(Refusal::Network(fault))) => put_refused(alloc, page, &net, &fault),
+        Err(Stop::Refused(NetRefusal::Line(fault))) => put_fault(alloc, page, &net, fault),
+        Err(Stop::Refused(NetRefusal::Network(fault))) => put_refused(alloc, page, &net, &fault),
         _ => Ok(()),
     }
 }

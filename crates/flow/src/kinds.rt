@@ -5,7 +5,7 @@ use crate::net::Net;
 use crate::said::Tag;
 use crate::shown::put_word;
 use flow_items::Text;
-use flow_limits::LAST_ELEMENT;
+use flow_limits::{FILE_NAME_LIMIT, LAST_ELEMENT};
 use flow_plan::{KindSpec, PortClass, PortSpec};
 use std::alloc::{AllocError, Global};
 
@@ -193,9 +193,12 @@ pub fn put_option(page: &mut String, name: &Text, class: PortClass) -> Result<()
         PortClass::Fields => page.push_str(
             " is one to eight numbers from 1 to 255, with one space between two.\n",
         ),
-        PortClass::File => page.push_str(
-            " is the name of a file: 1 to 255 bytes that are UTF-8, and no byte 0 among them.\n",
-        ),
+        PortClass::File => {
+            write!(
+                page,
+                " is the name of a file: 1 to {FILE_NAME_LIMIT} bytes that are UTF-8, and no byte 0 among them.\n"
+            )
+        }
     }
 }
 

@@ -9,7 +9,7 @@ use crate::said::Mention;
 use crate::shown::{put_line, put_word};
 use flow_catalogue::kinds;
 use flow_limits::{
-    CAPACITY_LIMIT, FIRST_CAPACITY_LIMIT, LAST_ELEMENT, STATEMENT_LIMIT, TEXT_LIMIT,
+    CAPACITY_LIMIT, FIRST_CAPACITY_LIMIT, LAST_ELEMENT, NAME_LIMIT, STATEMENT_LIMIT, TEXT_LIMIT,
 };
 use flow_parse::{NetFault, Reason};
 use flow_text::decimal;
@@ -73,9 +73,6 @@ fn put_reason<'a>(
 /// The words of the language, which are no names.
 const RESERVED: [&[u8]; 5] = [b"flow", b"subnet", b"end", b"inport", b"outport"];
 
-/// The longest name.
-const MOST_NAME: usize = 64;
-
 fn is_reserved(word: &[u8]) -> bool {
     RESERVED.iter().any(|reserved| *reserved == word)
 }
@@ -85,7 +82,7 @@ fn is_name(word: &[u8]) -> bool {
         Some(first) => first.is_ascii_alphabetic(),
         None => false,
     };
-    begins && word.len() <= MOST_NAME && !is_reserved(word)
+    begins && word.len() <= NAME_LIMIT && !is_reserved(word)
 }
 
 // What a word is to be, by the two pieces before it.
@@ -152,7 +149,7 @@ fn put_name(net: Net<'_>, page: &mut String, found: &Found<'_>) -> Result<(), Al
     }
     write!(
         page,
-        "A name begins with a letter, has letters, digits and _, at most {MOST_NAME} of them, and is none of the words"
+        "A name begins with a letter, has letters, digits and _, at most {NAME_LIMIT} of them, and is none of the words"
     )?;
     let mut between = " ";
     for reserved in &RESERVED {

@@ -48,12 +48,10 @@ fn words_of(alloc: Global, args: io::Result<env::Args>) -> Result<Vec<String>, A
 // The name of the file to which the run's journal goes.
 fn journal_of(alloc: Global, words: &[String]) -> Result<Option<String>, AllocError> {
     match command(alloc, words)? {
-        Some(
-            Command::Run {
-                journal: Some(name),
-                ..
-            },
-        ) => Ok(Some(String::from_str(alloc, name)?)),
+        Some(Command::Run(asked)) => match asked.journal {
+            Some(name) => Ok(Some(String::from_str(alloc, name)?)),
+            None => Ok(None),
+        },
         _ => Ok(None),
     }
 }

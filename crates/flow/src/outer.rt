@@ -5,7 +5,7 @@ use crate::net::{Net, put_found};
 use crate::said::Tag;
 use crate::shown::put_word;
 use flow_flat::ExpandFault;
-use flow_net::PortRef;
+use flow_plan::PortRef;
 use std::alloc::AllocError;
 
 /// So many outer ports of a side are named.

@@ -2,7 +2,7 @@
 //! the same way.
 use crate::found::{Found, Walk};
 use crate::said::Tag;
-use flow_cli::{Refusal, Stop, network};
+use flow_cli::{NetRefusal, Stop, network};
 use flow_flat::ExpandFault;
 use flow_parse::{parse, print};
 use std::alloc::{AllocError, Global};
@@ -80,7 +80,7 @@ fn count(spelling: &[u8], counted: Counted) -> usize {
 // Whether a network is refused for this fault.
 fn is_refused(alloc: Global, net: &[u8], fault: &ExpandFault) -> bool {
     match network(alloc, net) {
-        Err(Stop::Refused(Refusal::Network(found))) => found == *fault,
+        Err(Stop::Refused(NetRefusal::Network(found))) => found == *fault,
         _ => false,
     }
 }

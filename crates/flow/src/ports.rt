@@ -6,7 +6,7 @@ use crate::kinds::{
 use crate::net::{Net, put_found, put_if_found};
 use crate::shown::put_word;
 use flow_flat::ExpandFault;
-use flow_net::{KindSpec, PortRef, PortSpec};
+use flow_plan::{KindSpec, PortRef, PortSpec};
 use std::alloc::AllocError;
 
 // Whether a kind has no such port on a side.

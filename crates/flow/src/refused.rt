@@ -13,7 +13,8 @@ use crate::shown::put_word;
 use flow_catalogue::kinds;
 use flow_flat::ExpandFault;
 use flow_limits::{
-    CAPACITY_SUM_LIMIT, CONNECTION_LIMIT, PROCESS_LIMIT, SENDER_LIMIT, SUBNET_PROCESS_LIMIT,
+    CAPACITY_SUM_LIMIT, CONNECTION_LIMIT, DEFAULT_CAPACITY, PROCESS_LIMIT, SENDER_LIMIT,
+    SUBNET_PROCESS_LIMIT,
 };
 use flow_net::{Many, PlanFault};
 use std::alloc::{AllocError, Global};
@@ -158,7 +159,7 @@ fn put_too_many(
         }
         Many::CapacitySum => write!(
             page,
-            "All capacities come to at most {CAPACITY_SUM_LIMIT} packets; where no line gives one, a connection has room for 10.\n"
+            "All capacities come to at most {CAPACITY_SUM_LIMIT} packets; where no line gives one, a connection has room for {DEFAULT_CAPACITY}.\n"
         ),
     }
 }

@@ -19,8 +19,8 @@ use Rattle.flow_batch.specs.declared.records.Posting.TheVariants.{Applied, Refus
 use Rattle.flow_batch.specs.Records.{posted, balance_after, refused_by}
 use Rattle.flow_batch.specs.Ledger.{line_of}
 use Rattle.flow_batch.specs.Around.{Around, Outside, InGroup, UpdateState}
-use Rattle.flow_batch.specs.Update.{refuses, posts, closes, comes, update_shape, update_uses, UpdateNext, UpdateReady}
-use Rattle.flow_batch.specs.UpdateLaws.{update_obeys}
+use Rattle.flow_batch.specs.Update.{refuses, posts, closes, comes, update_shape, update_uses, update_rules}
+use Rattle.flow_batch.specs.UpdateLaws.{update_lawful}
 use Rattle.flow_batch.specs.Updated.{around_after, made_with, refused_with, new_masters, refused_packets, fresh_update, UpdateMeaning}
 
 -- the packet that is on its way to an output
@@ -116,12 +116,12 @@ still p m held wish zs none is later = (
 abbrev OneInput : Poise UpdateState → Type 0
 OneInput p = (port : ℕ) → p.wish ≡ wishes.Receive (record { 0 = port }) → port < 1
 
-one-input : (p : Poise UpdateState) (e : Happening) (m : Poise UpdateState) → Steps UpdateReady UpdateNext p e m → OneInput m
+one-input : (p : Poise UpdateState) (e : Happening) (m : Poise UpdateState) → Steps update_rules p e m → OneInput m
 one-input p e m s port is =
-    let allowed : IsAllowed update_shape (update_uses p.component) m.held m.wish = (update_obeys p.component s.held (answer_of e) (outcome_of m) s.is_ready s.comes_to).1 in
+    let allowed : IsAllowed update_shape (update_uses p.component) m.held m.wish = (update_lawful.obeys p.component s.held (answer_of e) (outcome_of m) s.is_ready s.comes_to).1 in
     rw is at allowed
 
-step : (p : Poise UpdateState) (e : Happening) (m : Poise UpdateState) (zs : List Tree) → OneInput p → Steps UpdateReady UpdateNext p e m → Goes p e m zs
+step : (p : Poise UpdateState) (e : Happening) (m : Poise UpdateState) (zs : List Tree) → OneInput p → Steps update_rules p e m → Goes p e m zs
 step p Started m zs g s = still p m s.held receive_first zs (λ o. ap (owes o p.held) s.grants.0) s.comes_to (λ o. refl)
 step p (Received port t) m zs g s =
     let h = s.is_ready in
@@ -152,7 +152,7 @@ nothing-left : (rep : Bool) → (if rep then nothing else nothing) ≡ nothing
 nothing-left true = refl
 nothing-left false = refl
 
-run : (es : List Happening) (p q : Poise UpdateState) → OneInput p → Runs UpdateReady UpdateNext p es q → q.wish ≡ wishes.Deactivate
+run : (es : List Happening) (p q : Poise UpdateState) → OneInput p → Runs update_rules p es q → q.wish ≡ wishes.Deactivate
     → (owes 0 p.held p.wish ++ masters_of p.component (got 0 es) ≡ sent 0 es) × (owes 1 p.held p.wish ++ refusals_of p.component (got 0 es) ≡ sent 1 es)
 run [] p q g r d =
     let w : p.wish ≡ wishes.Deactivate = ap (λ (u : Poise UpdateState). u.wish) (sym r) ∙ d in

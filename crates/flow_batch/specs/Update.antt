@@ -11,7 +11,7 @@ use Rattle.flow_component.specs.declared.Fail.TheVariants.{BracketIn}
 use Rattle.flow_component.specs.declared.Port.{Port}
 use Rattle.flow_component.specs.declared.Shape.{Shape}
 use Rattle.flow_component.specs.declared.Wish.TheVariants.{Send, Deactivate}
-use Rattle.flow_component.specs.Laws.{Outcome, Wishes, Fails}
+use Rattle.flow_component.specs.Laws.{Rules, Outcome, Wishes, Fails}
 use Rattle.flow_component.specs.Ports.{first_port, receive_first, send_first}
 use Rattle.flow_component.specs.Alone.{HoldsOnly}
 use Rattle.flow_batch.specs.Records.{posted}
@@ -79,3 +79,7 @@ UpdateReady state held (answers.Got id) = HoldsOnly held id
 UpdateReady state held answers.End = held.packets ≡ []
 UpdateReady state held answers.Sent = held.packets ≡ []
 UpdateReady state held (answers.Level n) = ⊥
+
+-- All that a network knows of it.
+abbrev pub update_rules : Rules UpdateState
+update_rules = record { shape = λ _. update_shape; uses = update_uses; ready = UpdateReady; next = UpdateNext }

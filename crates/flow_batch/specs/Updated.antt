@@ -8,7 +8,7 @@ use Rattle.flow_component.specs.Happenings.{Happening}
 use Rattle.flow_batch.specs.Records.{posted, balance_after, refused_by}
 use Rattle.flow_batch.specs.Ledger.{line_of}
 use Rattle.flow_batch.specs.Around.{Around, Outside, InGroup, UpdateState}
-use Rattle.flow_batch.specs.Update.{UpdateNext, UpdateReady}
+use Rattle.flow_batch.specs.Update.{update_rules}
 
 -- Where it stands behind a packet: in a group, from an Open packet to the next Close packet, with the balance to which the group's records came. (A bracket elsewhere is a failure.)
 abbrev pub around_after : ℕ → Around → Tree → Kind → Around
@@ -62,4 +62,4 @@ fresh_update keylen rep = record { keylen = keylen; rep = rep; around = Outside 
 
 -- The meaning of Update, over whole runs.
 abbrev pub UpdateMeaning : Type 0
-UpdateMeaning = (keylen : ℕ) (rep : Bool) (told : List Happening) → EndedRun UpdateReady UpdateNext (fresh_update keylen rep) told → IsUpdated keylen rep (got 0 told) (sent 0 told) (sent 1 told)
+UpdateMeaning = (keylen : ℕ) (rep : Bool) (told : List Happening) → EndedRun update_rules (fresh_update keylen rep) told → IsUpdated keylen rep (got 0 told) (sent 0 told) (sent 1 told)

@@ -145,25 +145,12 @@ impl Update {
 }
 
 impl Component for Update {
-    ghost use Rattle.std.specs.Prelude.{refl};
-    ghost use Rattle.flow_batch.specs.Update.{UpdateReady, UpdateNext, update_shape, update_uses, update_next};
-    ghost use Rattle.flow_batch.specs.UpdateLaws.{update_obeys, update_stays_ready, update_steady};
+    ghost use Rattle.flow_batch.specs.Update.{update_rules};
+    ghost use Rattle.flow_batch.specs.UpdateLaws.{update_lawful};
 
-    ghost shape_of = { λ _. update_shape };
+    ghost rules = { update_rules };
 
-    ghost uses = { update_uses };
-
-    ghost ready = { UpdateReady };
-
-    ghost next = { UpdateNext };
-
-    ghost obeys = { update_obeys };
-
-    ghost stays_ready = { update_stays_ready };
-
-    ghost steady = { update_steady };
-
-    ghost has_outcome = { λ component held answer _. (update_next component held answer, refl) };
+    ghost lawful = { update_lawful };
 
     fn shape(&self) -> Shape {
         Shape {

@@ -1,118 +1,116 @@
 -- The standard kinds, each as one record: its own crate has its rule and its laws.
-use Rattle.std.specs.Prelude.{ℕ, List, Some, None}
+use Rattle.std.specs.Prelude.{ℕ, List, Some, None, refl}
 use Rattle.flow_component.specs.Laws.{Wishes}
-use Rattle.flow_component.specs.Ports.{none_to_one, one_to_none, one_to_one, uses_none, uses_first}
-use Rattle.flow_component.specs.Outcomes.{IsAtHand}
-use Rattle.flow_parts.specs.ReadLines.{reads, ReadLinesReady}
-use Rattle.flow_parts.specs.ReadLinesLaws.{read_lines_obeys, read_lines_stays_ready, read_lines_steady}
-use Rattle.flow_parts.specs.WriteLines.{writes}
-use Rattle.flow_parts.specs.WriteLinesLaws.{write_lines_obeys, write_lines_stays_ready, write_lines_steady}
-use Rattle.flow_parts.specs.Words.{words_next, WordsReady}
+use Rattle.flow_parts.specs.ReadLines.{reads, read_lines_rules}
+use Rattle.flow_parts.specs.ReadLinesLaws.{read_lines_lawful}
+use Rattle.flow_parts.specs.WriteLines.{writes, write_lines_rules}
+use Rattle.flow_parts.specs.WriteLinesLaws.{write_lines_lawful}
+use Rattle.flow_parts.specs.Words.{words_next, words_rules}
 use Rattle.flow_parts.specs.declared.words.Words.{Words}
-use Rattle.flow_parts.specs.WordsLaws.{words_obeys, words_stays_ready, words_steady}
-use Rattle.flow_parts.specs.Fill.{fill_next, FillReady}
+use Rattle.flow_parts.specs.WordsLaws.{words_lawful}
+use Rattle.flow_parts.specs.Fill.{fill_next, fill_rules}
 use Rattle.flow_parts.specs.FillState.{FillState}
-use Rattle.flow_parts.specs.FillLaws.{fill_obeys, fill_stays_ready, fill_steady}
-use Rattle.flow_parts.specs.Brackets.{brackets_next, BracketsReady}
+use Rattle.flow_parts.specs.FillLaws.{fill_lawful}
+use Rattle.flow_parts.specs.Brackets.{brackets_next, brackets_rules}
 use Rattle.flow_parts.specs.declared.brackets.Brackets.{Brackets}
-use Rattle.flow_parts.specs.BracketsLaws.{brackets_obeys, brackets_stays_ready, brackets_steady}
-use Rattle.flow_streams.specs.Passthru.{passes}
+use Rattle.flow_parts.specs.BracketsLaws.{brackets_lawful}
+use Rattle.flow_streams.specs.Passthru.{passes, passthru_rules}
 use Rattle.flow_streams.specs.declared.passthru.Passthru.{Passthru}
-use Rattle.flow_streams.specs.PassthruLaws.{passthru_obeys, passthru_stays_ready, passthru_steady}
-use Rattle.flow_streams.specs.Copy.{CopyState, copy_next, CopyReady, copy_shape, copy_uses}
-use Rattle.flow_streams.specs.CopyLaws.{copy_obeys, copy_stays_ready, copy_steady}
-use Rattle.flow_streams.specs.Concat.{ConcatState, concat_next, ConcatReady, concat_shape}
-use Rattle.flow_streams.specs.ConcatLaws.{concat_obeys, concat_stays_ready, concat_steady}
-use Rattle.flow_streams.specs.Collate.{collate_next, CollateReady, collate_shape}
+use Rattle.flow_streams.specs.PassthruLaws.{passthru_lawful}
+use Rattle.flow_streams.specs.Copy.{CopyState, copy_next, copy_rules}
+use Rattle.flow_streams.specs.CopyLaws.{copy_lawful}
+use Rattle.flow_streams.specs.Concat.{ConcatState, concat_next, concat_rules}
+use Rattle.flow_streams.specs.ConcatLaws.{concat_lawful}
+use Rattle.flow_streams.specs.Collate.{collate_next, collate_rules}
 use Rattle.flow_streams.specs.CollateState.{CollateState}
-use Rattle.flow_streams.specs.CollateLaws.{collate_obeys, collate_stays_ready, collate_steady}
-use Rattle.flow_streams.specs.Discard.{discards}
+use Rattle.flow_streams.specs.CollateLaws.{collate_lawful}
+use Rattle.flow_streams.specs.Discard.{discards, discard_rules}
 use Rattle.flow_streams.specs.declared.discard.Discard.{Discard}
-use Rattle.flow_streams.specs.DiscardLaws.{discard_obeys, discard_stays_ready, discard_steady}
-use Rattle.flow_streams.specs.Bundle.{bundle_next, BundleReady}
+use Rattle.flow_streams.specs.DiscardLaws.{discard_lawful}
+use Rattle.flow_streams.specs.Bundle.{bundle_next, bundle_rules}
 use Rattle.flow_streams.specs.declared.bundle.Bundle.{Bundle}
-use Rattle.flow_streams.specs.BundleLaws.{bundle_obeys, bundle_stays_ready, bundle_steady}
-use Rattle.flow_streams.specs.Unbundle.{unbundle_next, UnbundleReady}
+use Rattle.flow_streams.specs.BundleLaws.{bundle_lawful}
+use Rattle.flow_streams.specs.Unbundle.{unbundle_next, unbundle_rules}
 use Rattle.flow_streams.specs.declared.unbundle.Unbundle.{Unbundle}
-use Rattle.flow_streams.specs.UnbundleLaws.{unbundle_obeys, unbundle_stays_ready, unbundle_steady}
-use Rattle.flow_streams.specs.Hoard.{hoards}
+use Rattle.flow_streams.specs.UnbundleLaws.{unbundle_lawful}
+use Rattle.flow_streams.specs.Hoard.{hoards, hoard_rules}
 use Rattle.flow_streams.specs.declared.hoard.Hoard.{Hoard}
-use Rattle.flow_streams.specs.HoardLaws.{hoard_obeys, hoard_stays_ready, hoard_steady}
-use Rattle.flow_parts.specs.Count.{CountState, count_next, CountReady, count_shape, count_uses}
-use Rattle.flow_parts.specs.CountLaws.{count_obeys, count_stays_ready, count_steady}
-use Rattle.flow_streams.specs.LoadBalance.{LoadState, load_next, LoadReady, load_shape, load_uses}
-use Rattle.flow_streams.specs.LoadBalanceLaws.{load_obeys, load_stays_ready, load_steady}
-use Rattle.flow_streams.specs.Select.{SelectState, select_next, SelectReady, select_shape, select_uses}
-use Rattle.flow_streams.specs.SelectLaws.{select_obeys, select_stays_ready, select_steady}
+use Rattle.flow_streams.specs.HoardLaws.{hoard_lawful}
+use Rattle.flow_parts.specs.Count.{CountState, count_next, count_rules}
+use Rattle.flow_parts.specs.CountLaws.{count_lawful}
+use Rattle.flow_streams.specs.LoadBalance.{LoadState, load_next, load_rules}
+use Rattle.flow_streams.specs.LoadBalanceLaws.{load_lawful}
+use Rattle.flow_streams.specs.Select.{SelectState, select_next, select_rules}
+use Rattle.flow_streams.specs.SelectLaws.{select_lawful}
 use Rattle.flow_batch.specs.Around.{UpdateState}
-use Rattle.flow_batch.specs.Update.{update_next, UpdateReady, update_shape, update_uses}
-use Rattle.flow_batch.specs.UpdateLaws.{update_obeys, update_stays_ready, update_steady}
+use Rattle.flow_batch.specs.Update.{update_next, update_rules}
+use Rattle.flow_batch.specs.UpdateLaws.{update_lawful}
 use Rattle.flow_catalogue.specs.Kinded.{Kinded}
 
 -- Reads the lines of its file.
 abbrev pub read_lines_kind : Kinded (List (List ℕ))
-read_lines_kind = record { shape = λ _. none_to_one; uses = λ _. uses_first; ready = ReadLinesReady; next = λ left held answer. reads held left; written = λ _. None; obeys = read_lines_obeys; stays_ready = read_lines_stays_ready; steady = read_lines_steady }
+read_lines_kind = record { rules = read_lines_rules; lawful = read_lines_lawful; next = λ left held answer. reads held left; comes = λ _ _ _. refl; alone = λ _ _ _ _ is. is; written = λ _. None }
 
 -- Writes what it gets to its file.
 abbrev pub write_lines_kind : Kinded (List ℕ)
-write_lines_kind = record { shape = λ _. one_to_none; uses = λ _. uses_none; ready = λ _. IsAtHand; next = writes; written = λ bytes. Some bytes; obeys = write_lines_obeys; stays_ready = write_lines_stays_ready; steady = write_lines_steady }
+write_lines_kind = record { rules = write_lines_rules; lawful = write_lines_lawful; next = writes; comes = λ _ _ _. refl; alone = λ _ _ _ _ is. is; written = λ bytes. Some bytes }
 
 -- Cuts texts into words.
 abbrev pub words_kind : Kinded Words
-words_kind = record { shape = λ _. one_to_one; uses = λ _. uses_first; ready = WordsReady; next = words_next; written = λ _. None; obeys = words_obeys; stays_ready = words_stays_ready; steady = words_steady }
+words_kind = record { rules = words_rules; lawful = words_lawful; next = words_next; comes = λ _ _ _. refl; alone = λ _ _ _ _ is. is; written = λ _. None }
 
 -- Fills lines with words.
 abbrev pub fill_kind : Kinded FillState
-fill_kind = record { shape = λ _. one_to_one; uses = λ _. uses_first; ready = FillReady; next = fill_next; written = λ _. None; obeys = fill_obeys; stays_ready = fill_stays_ready; steady = fill_steady }
+fill_kind = record { rules = fill_rules; lawful = fill_lawful; next = fill_next; comes = λ _ _ _. refl; alone = λ _ _ _ _ is. is; written = λ _. None }
 
 -- Makes brackets of texts that name them.
 abbrev pub brackets_kind : Kinded Brackets
-brackets_kind = record { shape = λ _. one_to_one; uses = λ _. uses_first; ready = BracketsReady; next = brackets_next; written = λ _. None; obeys = brackets_obeys; stays_ready = brackets_stays_ready; steady = brackets_steady }
+brackets_kind = record { rules = brackets_rules; lawful = brackets_lawful; next = brackets_next; comes = λ _ _ _. refl; alone = λ _ _ _ _ is. is; written = λ _. None }
 
 -- Passes on what it gets.
 abbrev pub passthru_kind : Kinded Passthru
-passthru_kind = record { shape = λ _. one_to_one; uses = λ _. uses_first; ready = λ _. IsAtHand; next = λ component held answer. Wishes component held (passes answer); written = λ _. None; obeys = passthru_obeys; stays_ready = passthru_stays_ready; steady = passthru_steady }
+passthru_kind = record { rules = passthru_rules; lawful = passthru_lawful; next = λ component held answer. Wishes component held (passes answer); comes = λ _ _ _. refl; alone = λ _ _ _ _ is. is; written = λ _. None }
 
 -- Sends a copy of each packet to each of its outputs.
 abbrev pub copy_kind : Kinded CopyState
-copy_kind = record { shape = copy_shape; uses = copy_uses; ready = CopyReady; next = copy_next; written = λ _. None; obeys = copy_obeys; stays_ready = copy_stays_ready; steady = copy_steady }
+copy_kind = record { rules = copy_rules; lawful = copy_lawful; next = copy_next; comes = λ _ _ _. refl; alone = λ _ _ _ _ is. is; written = λ _. None }
 
 -- Passes on one input after another.
 abbrev pub concat_kind : Kinded ConcatState
-concat_kind = record { shape = concat_shape; uses = λ _. uses_first; ready = ConcatReady; next = concat_next; written = λ _. None; obeys = concat_obeys; stays_ready = concat_stays_ready; steady = concat_steady }
+concat_kind = record { rules = concat_rules; lawful = concat_lawful; next = concat_next; comes = λ _ _ _. refl; alone = λ _ _ _ _ is. is; written = λ _. None }
 
 -- Merges its inputs by their keys.
 abbrev pub collate_kind : Kinded CollateState
-collate_kind = record { shape = collate_shape; uses = λ _. uses_first; ready = CollateReady; next = collate_next; written = λ _. None; obeys = collate_obeys; stays_ready = collate_stays_ready; steady = collate_steady }
+collate_kind = record { rules = collate_rules; lawful = collate_lawful; next = collate_next; comes = λ _ _ _. refl; alone = λ _ _ _ _ is. is; written = λ _. None }
 
 -- Drops what it gets.
 abbrev pub discard_kind : Kinded Discard
-discard_kind = record { shape = λ _. one_to_none; uses = λ _. uses_none; ready = λ _. IsAtHand; next = discards; written = λ _. None; obeys = discard_obeys; stays_ready = discard_stays_ready; steady = discard_steady }
+discard_kind = record { rules = discard_rules; lawful = discard_lawful; next = discards; comes = λ _ _ _. refl; alone = λ _ _ _ _ is. is; written = λ _. None }
 
 -- Makes one packet of each substream.
 abbrev pub bundle_kind : Kinded Bundle
-bundle_kind = record { shape = λ _. one_to_one; uses = λ _. uses_first; ready = BundleReady; next = bundle_next; written = λ _. None; obeys = bundle_obeys; stays_ready = bundle_stays_ready; steady = bundle_steady }
+bundle_kind = record { rules = bundle_rules; lawful = bundle_lawful; next = bundle_next; comes = λ _ _ _. refl; alone = λ _ _ _ _ is. is; written = λ _. None }
 
 -- Makes a substream of each bundle.
 abbrev pub unbundle_kind : Kinded Unbundle
-unbundle_kind = record { shape = λ _. one_to_one; uses = λ _. uses_first; ready = UnbundleReady; next = unbundle_next; written = λ _. None; obeys = unbundle_obeys; stays_ready = unbundle_stays_ready; steady = unbundle_steady }
+unbundle_kind = record { rules = unbundle_rules; lawful = unbundle_lawful; next = unbundle_next; comes = λ _ _ _. refl; alone = λ _ _ _ _ is. is; written = λ _. None }
 
 -- Keeps what it gets.
 abbrev pub hoard_kind : Kinded Hoard
-hoard_kind = record { shape = λ _. one_to_none; uses = λ _. uses_none; ready = λ _. IsAtHand; next = λ component held answer. Wishes component held (hoards answer); written = λ _. None; obeys = hoard_obeys; stays_ready = hoard_stays_ready; steady = hoard_steady }
+hoard_kind = record { rules = hoard_rules; lawful = hoard_lawful; next = λ component held answer. Wishes component held (hoards answer); comes = λ _ _ _. refl; alone = λ _ _ _ _ is. is; written = λ _. None }
 
 -- Counts packets.
 abbrev pub count_kind : Kinded CountState
-count_kind = record { shape = λ _. count_shape; uses = count_uses; ready = CountReady; next = count_next; written = λ _. None; obeys = count_obeys; stays_ready = count_stays_ready; steady = count_steady }
+count_kind = record { rules = count_rules; lawful = count_lawful; next = count_next; comes = λ _ _ _. refl; alone = λ _ _ _ _ is. is; written = λ _. None }
 
 -- Shares packets out among its outputs.
 abbrev pub load_balance_kind : Kinded LoadState
-load_balance_kind = record { shape = load_shape; uses = load_uses; ready = LoadReady; next = load_next; written = λ _. None; obeys = load_obeys; stays_ready = load_stays_ready; steady = load_steady }
+load_balance_kind = record { rules = load_rules; lawful = load_lawful; next = load_next; comes = λ _ _ _. refl; alone = λ _ _ _ _ is. is; written = λ _. None }
 
 -- Accepts packets whose text begins with a key.
 abbrev pub select_kind : Kinded SelectState
-select_kind = record { shape = λ _. select_shape; uses = select_uses; ready = SelectReady; next = select_next; written = λ _. None; obeys = select_obeys; stays_ready = select_stays_ready; steady = select_steady }
+select_kind = record { rules = select_rules; lawful = select_lawful; next = select_next; comes = λ _ _ _. refl; alone = λ _ _ _ _ is. is; written = λ _. None }
 
 -- Updates masters by details.
 abbrev pub update_kind : Kinded UpdateState
-update_kind = record { shape = λ _. update_shape; uses = update_uses; ready = UpdateReady; next = update_next; written = λ _. None; obeys = update_obeys; stays_ready = update_stays_ready; steady = update_steady }
+update_kind = record { rules = update_rules; lawful = update_lawful; next = update_next; comes = λ _ _ _. refl; alone = λ _ _ _ _ is. is; written = λ _. None }

@@ -1,18 +1,14 @@
--- A kind of components as one record: all that a network knows of it.
-use Rattle.std.specs.Prelude.{◌≡◌, ℕ, Bool, List, Option}
+-- A kind of components as one record: all that a network knows of it, and its one outcome.
+use Rattle.std.specs.Prelude.{◌≡◌, ℕ, List, Option}
 use Rattle.flow_packet.specs.Held.{Held}
 use Rattle.flow_component.specs.declared.Answer.{Answer}
-use Rattle.flow_component.specs.declared.Shape.{Shape}
-use Rattle.flow_component.specs.Laws.{Outcome, Obeys, StaysReady, IsSteady}
+use Rattle.flow_component.specs.Laws.{Rules, Lawful, Outcome}
 
--- What a component of this state has and does: its numbers of inputs and outputs, the outputs that it uses, the answers and hands for which it is ready, its rule,
--- and the bytes of its file where it writes one; and that it keeps the laws of components.
+-- The rules of a component of this state, which keep the laws of components; what it comes to, which is that alone; and the bytes of its file where it writes one.
 pub record Kinded (K : Type 0) : Type 1 where
-  pub shape : K → Shape
-  pub uses : K → ℕ → Bool
-  pub ready : K → Held → Answer → Type 0
+  pub rules : Rules K
+  pub lawful : Lawful rules
   pub next : K → Held → Answer → Outcome K
+  pub comes : (component : K) (held : Held) (answer : Answer) → rules.next component held answer (next component held answer)
+  pub alone : (component : K) (held : Held) (answer : Answer) (outcome : Outcome K) → rules.next component held answer outcome → outcome ≡ next component held answer
   pub written : K → Option (List ℕ)
-  pub obeys : (component : K) (held : Held) (answer : Answer) (outcome : Outcome K) → ready component held answer → outcome ≡ next component held answer → Obeys (shape component) (uses component) held outcome
-  pub stays_ready : (component : K) (held : Held) (answer : Answer) (outcome : Outcome K) → ready component held answer → outcome ≡ next component held answer → StaysReady ready outcome
-  pub steady : (component : K) (held : Held) (answer : Answer) (outcome : Outcome K) → outcome ≡ next component held answer → IsSteady shape uses component outcome

@@ -3,7 +3,7 @@ use Rattle.std.specs.Prelude.{◌≡◌, ℕ, Bool, List, Option}
 use Rattle.flow_packet.specs.Held.{Held}
 use Rattle.flow_component.specs.declared.Answer.{Answer}
 use Rattle.flow_component.specs.declared.Shape.{Shape}
-use Rattle.flow_component.specs.Laws.{Outcome}
+use Rattle.flow_component.specs.Laws.{Rules, Outcome}
 use Rattle.flow_component.specs.Outcomes.{outcome_as}
 use Rattle.flow_catalogue.specs.declared.standard.Std.{Std}
 use Rattle.flow_catalogue.specs.declared.standard.Std.TheVariants as components
@@ -37,15 +37,15 @@ standing (components.Update component) = Stands _ update_kind components.Update 
 -- What its kind says of it: its numbers of inputs and outputs, the outputs that it uses, the answers and hands for which it is ready, what it comes to, and the
 -- bytes of its file.
 abbrev pub shape_standing : Standing → Shape
-shape_standing (Stands K kind within component) = kind.shape component
+shape_standing (Stands K kind within component) = kind.rules.shape component
 
 -- The outputs that it uses are those that its kind says.
 abbrev pub uses_standing : Standing → ℕ → Bool
-uses_standing (Stands K kind within component) = kind.uses component
+uses_standing (Stands K kind within component) = kind.rules.uses component
 
 -- It is ready where its kind says so.
 abbrev pub ReadyStanding : Standing → Held → Answer → Type 0
-ReadyStanding (Stands K kind within component) held answer = kind.ready component held answer
+ReadyStanding (Stands K kind within component) held answer = kind.rules.ready component held answer
 
 -- What it comes to is what its kind says, as a standard component.
 abbrev pub next_standing : Standing → Held → Answer → Outcome Std
@@ -78,3 +78,7 @@ StdNext component held answer outcome = outcome ≡ std_next component held answ
 -- The bytes of a WriteLines.
 abbrev pub written_of : Std → Option (List ℕ)
 written_of component = written_standing (standing component)
+
+-- All that a network knows of it.
+abbrev pub std_rules : Rules Std
+std_rules = record { shape = std_shape; uses = std_uses; ready = StdReady; next = StdNext }

@@ -8,7 +8,8 @@ ghost use Rattle.flow_text.specs.Text.{number_of};
 ghost use Rattle.flow_plan.specs.Texts.{IsNumberWithin, IsFields};
 ghost use Rattle.flow_catalogue.specs.Processes.{option_text, fields_of, has_sender, is_connected};
 
-use flow_net::{Connection, Plan, Process, first_field};
+use flow_net::first_field;
+use flow_plan::{Connection, Plan, Process};
 use flow_text::decimal;
 use std::alloc::{AllocError, Global};
 

@@ -13,8 +13,8 @@ use crate::standard::Std;
 use crate::table::StdKind;
 use flow_batch::Update;
 use flow_limits::TEXT_LIMIT;
-use flow_net::{Plan, PortClass, Process};
 use flow_parts::{Brackets, Count, Fill, ReadLines, Words, WriteLines};
+use flow_plan::{Plan, PortClass, Process};
 use flow_streams::{
     Bundle, Collate, Concat, Copy as CopyEach, Discard, Hoard, LoadBalance, Passthru, Select,
     Unbundle,

@@ -3,7 +3,7 @@
 ghost use Rattle.std.specs.Prelude.{◌≡◌};
 ghost use Rattle.std.specs.Option.{option_copied};
 ghost use Rattle.flow_component.specs.Laws.{AtMostOneOutcome};
-ghost use Rattle.flow_catalogue.specs.Std.{StdNext};
+ghost use Rattle.flow_catalogue.specs.Std.{std_rules};
 
 use flow_batch::Update;
 use flow_component::{Answer, Component, Shape, Stop, Wish};
@@ -51,25 +51,12 @@ impl Std {
 }
 
 impl Component for Std {
-    ghost use Rattle.std.specs.Prelude.{refl};
-    ghost use Rattle.flow_catalogue.specs.Std.{std_shape, std_uses, StdReady, StdNext, std_next};
-    ghost use Rattle.flow_catalogue.specs.StdLaws.{std_obeys, std_stays_ready, std_steady};
+    ghost use Rattle.flow_catalogue.specs.Std.{std_rules};
+    ghost use Rattle.flow_catalogue.specs.StdLaws.{std_lawful};
 
-    ghost shape_of = { std_shape };
+    ghost rules = { std_rules };
 
-    ghost uses = { std_uses };
-
-    ghost ready = { StdReady };
-
-    ghost next = { StdNext };
-
-    ghost obeys = { std_obeys };
-
-    ghost stays_ready = { std_stays_ready };
-
-    ghost steady = { std_steady };
-
-    ghost has_outcome = { λ component held answer _. (std_next component held answer, refl) };
+    ghost lawful = { std_lawful };
 
     fn shape(&self) -> Shape {
         match self {
@@ -121,5 +108,5 @@ impl Component for Std {
 
 /// Told the same in the same state with the same hands, a standard component comes to at most one outcome.
 pub fn standard_components_come_to_one_outcome()
-    ensures { AtMostOneOutcome StdNext }
+    ensures { AtMostOneOutcome std_rules }
 {}

@@ -6,7 +6,7 @@ ghost use Rattle.flow_catalogue.specs.Rows.{option_port, stream_port, array_port
 
 use flow_items::{Items, Text};
 use flow_limits::TEXT_LIMIT;
-use flow_net::{KindSpec, PortClass, PortSpec};
+use flow_plan::{KindSpec, PortClass, PortSpec};
 use std::alloc::{AllocError, Global};
 
 /// The kinds of the standard components.

@@ -2,8 +2,8 @@
 use Rattle.std.proofs.Common.{ℕ, List, inl, inr}
 use Rattle.flow_plan.specs.Network.{Network}
 use Rattle.flow_catalogue.specs.declared.standard.Std.{Std}
-use Rattle.flow_catalogue.specs.Std.{std_shape, std_uses, StdReady}
-use Rattle.flow_ready.specs.Ready.{StartsPlans}
+use Rattle.flow_catalogue.specs.Std.{std_rules}
+use Rattle.flow_model.specs.Ready.{StartsPlans}
 use Rattle.flow_determinate.specs.Standard.{AreFirstOf, DeterminatePlansEndAsAlone}
 use Rattle.flow_model.specs.States.{State}
 use Rattle.flow_report.specs.States.{HasOneReport}
@@ -17,16 +17,14 @@ are-first : (plan : Network) (given : List (List ℕ)) (ks : List Std) → AreCo
 are-first plan given ks are p component at = let is = are.each p component at in record { process = is.2.process; there = is.2.there; file = is.0; made = is.2.made }
 
 -- With the laws of plans, of one outcome and of one report, a call that came to its end did so as on one thread.
-pub alone : StartsPlans std_shape std_uses StdReady → DeterminatePlansEndAsAlone → ((s : State Std) → HasOneReport s) → (c : Call) (limit : ℕ) → ComesToEnd c limit → ComesToEndAsAlone c limit
-alone starts law one_report c limit (inr says) = inr says
-alone starts law one_report c limit (inl (name, keeps, workers, asks, ends)) =
+pub alone : StartsPlans std_rules → DeterminatePlansEndAsAlone → ((s : State Std) → HasOneReport s) → (c : Call) → ComesToEnd c → ComesToEndAsAlone c
+alone starts law one_report c (inr says) = inr says
+alone starts law one_report c (inl (asked, asks, ends)) =
     let run = ends.whole.run in
     let of = run.ready in
     let plan = ends.whole.plan in
     inl (
-      name,
-      keeps,
-      workers,
+      asked,
       asks,
       record {
         ends = ends;

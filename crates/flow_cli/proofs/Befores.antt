@@ -6,6 +6,7 @@ use Rattle.std.specs.Option.{option_and_then, option_map}
 use Rattle.std.specs.declared.alloc.Global.{Global}
 use Rattle.std.specs.declared.option.Option.{Option}
 use Rattle.std.specs.declared.result.Result.{Result}
+use Rattle.flow_limits.specs.declared.TheConstants.{FILE_LIMIT}
 use Rattle.flow_text.specs.Edge.{Outside, Name, Files, Logged}
 use Rattle.flow_plan.specs.Network.{Network}
 use Rattle.flow_words.specs.declared.asked.Command.{Command}
@@ -44,8 +45,8 @@ pub asks-as : (words : List (String Global)) (found : Option Command) (command :
 asks-as words found command read is = sym read ∙ ap (option_map asked_by) is
 
 -- a stop at the network file
-pub file-stopped : (old new : Outside) (name : Name) (stop : Stop) (limit : ℕ) → StopsAtFile old new [] name stop limit → StopsCommand old new name stop limit
-file-stopped old new name (ReadFault read) limit s = λ words journal command empty. record {
+pub file-stopped : (old new : Outside) (name : Name) (stop : Stop) → StopsAtFile old new [] name stop → StopsCommand old new name stop
+file-stopped old new name (ReadFault read) s = λ words journal command empty. record {
   name = name;
   command = command;
   earlier = [];
@@ -55,26 +56,26 @@ file-stopped old new name (ReadFault read) limit s = λ words journal command em
   shelf = subst (λ (n : Name). FailsToRead old new s.1.0 n) (sym s.0) s.1.2;
   journal = empty;
 }
-file-stopped old new name (TooLong read) limit s = λ words journal command empty. record {
+file-stopped old new name (TooLong read) s = λ words journal command empty. record {
   name = name;
   command = command;
   earlier = [];
   next = inl (s.0, refl);
-  more = subst (λ (n : Name). HoldsMore old.files n limit) (sym s.0) s.2;
-  shelf = subst (λ (n : Name). GivesMore old new [] n limit) (sym s.0) s.1;
+  more = subst (λ (n : Name). HoldsMore old.files n) (sym s.0) s.2;
+  shelf = subst (λ (n : Name). GivesMore old new [] n) (sym s.0) s.1;
   journal = empty;
 }
-file-stopped old new name NoMemory limit s = λ words journal command empty. inl (untouched (so_far words old new journal) s empty)
-file-stopped old new name Words limit s = absurd s
-file-stopped old new name (Refused refusal) limit s = absurd s
-file-stopped old new name (JournalRefused refusal) limit s = absurd s
-file-stopped old new name (WriteFault written) limit s = absurd s
+file-stopped old new name NoMemory s = λ words journal command empty. inl (untouched (so_far words old new journal) s empty)
+file-stopped old new name Words s = absurd s
+file-stopped old new name (Refused refusal) s = absurd s
+file-stopped old new name (JournalRefused refusal) s = absurd s
+file-stopped old new name (WriteFault written) s = absurd s
 
 -- what a network file that was read is taken for
-pub loads : (old new : Outside) (name net : Name) (limit : ℕ) → OnlyReads old new (whole (name, net) ∷ []) → IsRead old.files limit (name, net)
-    → (r : Result NetFile Stop) → ReadsAs net r → Loads old new name r limit
-loads old new name net limit only read (Ok file) taken = (net, only, record { read = read; holds = taken.0; standard = taken.1 })
-loads old new name net limit only read (Err (Refused refusal)) taken = λ words journal command empty. record {
+pub loads : (old new : Outside) (name net : Name) → OnlyReads old new (whole (name, net) ∷ []) → IsRead old.files FILE_LIMIT (name, net)
+    → (r : Result NetFile Stop) → ReadsAs net r → Loads old new name r
+loads old new name net only read (Ok file) taken = (net, only, record { read = read; holds = taken.0; standard = taken.1 })
+loads old new name net only read (Err (Refused refusal)) taken = λ words journal command empty. record {
   name = name;
   command = command;
   net = net;
@@ -83,19 +84,19 @@ loads old new name net limit only read (Err (Refused refusal)) taken = λ words 
   shelf = only;
   journal = empty;
 }
-loads old new name net limit only read (Err NoMemory) taken = λ words journal command empty. inl (untouched (so_far words old new journal) (may-read old new _ only) empty)
-loads old new name net limit only read (Err Words) taken = absurd taken
-loads old new name net limit only read (Err (JournalRefused refusal)) taken = absurd taken
-loads old new name net limit only read (Err (ReadFault name')) taken = absurd taken
-loads old new name net limit only read (Err (WriteFault name')) taken = absurd taken
-loads old new name net limit only read (Err (TooLong name')) taken = absurd taken
+loads old new name net only read (Err NoMemory) taken = λ words journal command empty. inl (untouched (so_far words old new journal) (may-read old new _ only) empty)
+loads old new name net only read (Err Words) taken = absurd taken
+loads old new name net only read (Err (JournalRefused refusal)) taken = absurd taken
+loads old new name net only read (Err (ReadFault name')) taken = absurd taken
+loads old new name net only read (Err (WriteFault name')) taken = absurd taken
+loads old new name net only read (Err (TooLong name')) taken = absurd taken
 
 -- a stop at a journal's file, behind the network file
-module _ (old mid new : Outside) (name kept net : Name) (text : NetText) (plan : Network) (limit : ℕ) (only : OnlyReads old mid (whole (name, net) ∷ [])) (file : IsFile old.files limit name net text plan) where
+module _ (old mid new : Outside) (name kept net : Name) (text : NetText) (plan : Network) (only : OnlyReads old mid (whole (name, net) ∷ [])) (file : IsFile old.files name net text plan) where
   told : mid.files ≡ old.files
   told = OnlyReads-files old mid (whole (name, net) ∷ []) only
 
-  behind : (words : List (String Global)) → Asks words (Replay name kept) → (read : Name) → read ≡ kept → IsNextFile words old.files limit name ((name, net) ∷ []) read
+  behind : (words : List (String Global)) → Asks words (Replay name kept) → (read : Name) → read ≡ kept → IsNextFile words old.files name ((name, net) ∷ []) read
   behind words asks read same = inr (record {
     asks = subst (λ (n : Name). Asks words (Replay name n)) (sym same) asks;
     net = net;
@@ -106,7 +107,7 @@ module _ (old mid new : Outside) (name kept net : Name) (text : NetText) (plan :
   })
 
   pub journal-stopped : (stop : Stop) → ReadsJournal mid new kept (Err stop) → (words : List (String Global)) (journal : Journal) → Asks words (Replay name kept) → IsEmptyJournal journal
-      → HasCause (so_far words old new journal) limit stop
+      → HasCause (so_far words old new journal) stop
   journal-stopped (JournalRefused (Byte place)) r words journal asks empty = record {
     name = name;
     kept = kept;
@@ -149,8 +150,8 @@ pub behind-net : (old mid low : Outside) (name kept net bytes : Name) → OnlyRe
 behind-net old mid low name kept net bytes only more = OnlyReads-trans old mid low (whole (name, net) ∷ []) (whole (kept, bytes) ∷ []) only more
 
 -- a stop at an input, behind the network file and what stands between
-module _ (old mid new : Outside) (name net : Name) (between : List Filled) (text : NetText) (plan : Network) (limit : ℕ)
-    (only : OnlyReads old mid (map whole ((name, net) ∷ between))) (file : IsFile old.files limit name net text plan) where
+module _ (old mid new : Outside) (name net : Name) (between : List Filled) (text : NetText) (plan : Network)
+    (only : OnlyReads old mid (map whole ((name, net) ∷ between))) (file : IsFile old.files name net text plan) where
   told-between : mid.files ≡ old.files
   told-between = OnlyReads-files old mid (map whole ((name, net) ∷ between)) only
 
@@ -158,8 +159,8 @@ module _ (old mid new : Outside) (name net : Name) (between : List Filled) (text
   all-read : (inputs : List Filled) → map whole ((name, net) ∷ between) ++ map whole inputs ≡ map whole ((name, net) ∷ (between ++ inputs))
   all-read inputs = sym (map-append whole ((name, net) ∷ between) inputs)
 
-  behind-between : (words : List (String Global)) → IsBetween words old.files name between → (inputs : List Filled) (input read : Name) → read ≡ input → IsNext mid.files limit plan inputs input
-      → IsLimitedNext words old.files limit name ((name, net) ∷ (between ++ inputs)) read
+  behind-between : (words : List (String Global)) → IsBetween words old.files name between → (inputs : List Filled) (input read : Name) → read ≡ input → IsNext mid.files plan inputs input
+      → IsLimitedNext words old.files name ((name, net) ∷ (between ++ inputs)) read
   behind-between words is_between inputs input read same is = inr (record {
     net = net;
     text = text;
@@ -168,7 +169,7 @@ module _ (old mid new : Outside) (name net : Name) (between : List Filled) (text
     between = between;
     is_between = is_between;
     inputs = inputs;
-    next = subst (λ (n : Name). IsNext old.files limit plan inputs n) (sym same) (subst (λ (t : Option Files). IsNext t limit plan inputs input) told-between is);
+    next = subst (λ (n : Name). IsNext old.files plan inputs n) (sym same) (subst (λ (t : Option Files). IsNext t plan inputs input) told-between is);
     earlier_are = refl;
   })
 
@@ -176,8 +177,8 @@ module _ (old mid new : Outside) (name net : Name) (between : List Filled) (text
   opened-all : (inputs : List Filled) (more : List Logged) → map whole ((name, net) ∷ between) ++ (map whole inputs ++ more) ≡ map whole ((name, net) ∷ (between ++ inputs)) ++ more
   opened-all inputs more = sym (append_assoc (map whole ((name, net) ∷ between)) (map whole inputs) more) ∙ ap (λ l. l ++ more) (all-read inputs)
 
-  pub inputs-stopped : (stop : Stop) → ReadsComponents mid new plan (Err stop) limit → (words : List (String Global)) (journal : Journal) → IsCommand words name → IsBetween words old.files name between
-      → IsEmptyJournal journal → HasCause (so_far words old new journal) limit stop
+  pub inputs-stopped : (stop : Stop) → ReadsComponents mid new plan (Err stop) → (words : List (String Global)) (journal : Journal) → IsCommand words name → IsBetween words old.files name between
+      → IsEmptyJournal journal → HasCause (so_far words old new journal) stop
   inputs-stopped (ReadFault read) r words journal command is_between empty = record {
     name = name;
     command = command;
@@ -195,10 +196,10 @@ module _ (old mid new : Outside) (name net : Name) (between : List Filled) (text
     command = command;
     earlier = (name, net) ∷ (between ++ r.0);
     next = behind-between words is_between r.0 r.1 (string_bytes read) r.3.0 r.2;
-    more = subst (λ (n : Name). HoldsMore old.files n limit) (sym r.3.0) (subst (λ (t : Option Files). HoldsMore t r.1 limit) told-between r.3.2);
-    shelf = subst (λ (n : Name). GivesMore old new (map whole ((name, net) ∷ (between ++ r.0))) n limit) (sym r.3.0)
-        (subst (λ (l : List Logged). GivesMore old new l r.1 limit) (all-read r.0)
-        (GivesMore-after old mid new (map whole ((name, net) ∷ between)) (map whole r.0) r.1 limit only r.3.1));
+    more = subst (λ (n : Name). HoldsMore old.files n) (sym r.3.0) (subst (λ (t : Option Files). HoldsMore t r.1) told-between r.3.2);
+    shelf = subst (λ (n : Name). GivesMore old new (map whole ((name, net) ∷ (between ++ r.0))) n) (sym r.3.0)
+        (subst (λ (l : List Logged). GivesMore old new l r.1) (all-read r.0)
+        (GivesMore-after old mid new (map whole ((name, net) ∷ between)) (map whole r.0) r.1 only r.3.1));
     journal = empty;
   }
   inputs-stopped NoMemory may words journal command is_between empty = inl (untouched (so_far words old new journal) (MayRead-trans old mid new (may-read old mid _ only) may) empty)
@@ -207,13 +208,13 @@ module _ (old mid new : Outside) (name net : Name) (between : List Filled) (text
   inputs-stopped (JournalRefused refusal) r words journal command is_between empty = absurd r.3
   inputs-stopped (WriteFault written) r words journal command is_between empty = absurd r.3
 
-  pub ready : (components : Vec Std Global) → ReadsComponents mid new plan (Ok components) limit → IsReady old new limit name between plan components.items
+  pub ready : (components : Vec Std Global) → ReadsComponents mid new plan (Ok components) → IsReady old new name between plan components.items
   ready components r = record {
     net = net;
     text = text;
     file = file;
     given = r.0;
-    inputs = subst (λ (t : Option Files). AreRead t limit (inputs_of plan.processes r.0)) told-between r.2;
+    inputs = subst (λ (t : Option Files). AreRead t (inputs_of plan.processes r.0)) told-between r.2;
     reads = subst (λ (l : List Logged). OnlyReads old new l) (all-read (inputs_of plan.processes r.0))
         (OnlyReads-trans old mid new (map whole ((name, net) ∷ between)) (map whole (inputs_of plan.processes r.0)) only r.1);
     are_components = r.3;

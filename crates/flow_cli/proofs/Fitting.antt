@@ -5,14 +5,14 @@ use Rattle.flow_plan.specs.Network.{Network}
 use Rattle.flow_model.specs.Plans.{StartsWell}
 use Rattle.flow_machine.specs.Values.{NetValue}
 use Rattle.flow_machine.specs.Starts.{StartsNet}
-use Rattle.flow_ready.specs.Ready.{ComponentsFit}
+use Rattle.flow_model.specs.Ready.{ComponentsFit}
 use Rattle.flow_catalogue.specs.declared.standard.Std.{Std}
-use Rattle.flow_catalogue.specs.Std.{std_shape, std_uses, StdReady}
+use Rattle.flow_catalogue.specs.Std.{std_rules}
 use Rattle.flow_catalogue.specs.Processes.{Fits}
 use Rattle.flow_cli.specs.Components.{IsComponent, AreComponents, HasComponents}
 
 -- Components that were made for a plan fit its processes.
-pub components-fit : (plan : Network) (components : List Std) → HasComponents plan components → ComponentsFit std_shape std_uses StdReady plan components
+pub components-fit : (plan : Network) (components : List Std) → HasComponents plan components → ComponentsFit std_rules plan components
 components-fit plan components has = record {
   one_each = are.count;
   fit = λ p process component there at.
@@ -30,8 +30,8 @@ components-fit plan components has = record {
   are = has.1
 
 -- What a network knows of a standard component is all of it: a plan that starts well with such components starts well with what is known of them.
-pub known-well : (plan : Network) (components : List Std) → StartsWell std_shape std_uses StdReady plan components → StartsWell std_shape std_uses StdReady plan (map (λ (component : Std). component) components)
-known-well plan components well = subst (λ (ks : List Std). StartsWell std_shape std_uses StdReady plan ks) (sym (map-id components)) well
+pub known-well : (plan : Network) (components : List Std) → StartsWell std_rules plan components → StartsWell std_rules plan (map (λ (component : Std). component) components)
+known-well plan components well = subst (λ (ks : List Std). StartsWell std_rules plan ks) (sym (map-id components)) well
 
 -- And a network that started with what is known of them started with them.
 pub starts-known : (plan : Network) (components : List Std) (net : NetValue Std) → StartsNet plan (map (λ (component : Std). component) components) net → StartsNet plan components net

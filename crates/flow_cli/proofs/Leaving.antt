@@ -23,8 +23,8 @@ use Rattle.flow_journal.specs.declared.refusal.ReplayStop.TheVariants as replays
 use Rattle.flow_cli.specs.declared.stop.Stop.{Stop}
 use Rattle.flow_journal.specs.declared.merge.Journal.{Journal}
 use Rattle.flow_catalogue.specs.declared.standard.Std.{Std}
-use Rattle.flow_catalogue.specs.Std.{std_shape, std_uses, StdReady, StdNext, written_of}
-use Rattle.flow_runs.specs.Runs.{IsScheduled, RoundsAreRuns, ReachesAreRuns, ComesOfRun, ComesOfSchedule, SeesNoMoreThanTurns}
+use Rattle.flow_catalogue.specs.Std.{std_rules, written_of}
+use Rattle.flow_journal.specs.Runs.{IsScheduled, RoundsAreRuns, ReachesAreRuns, ComesOfRun, ComesOfSchedule, SeesNoMoreThanTurns}
 use Rattle.flow_report.specs.Of.{told_of}
 use Rattle.flow_report.specs.States.{ReportsTell}
 use Rattle.flow_report.proofs.Shown.{processes-shown}
@@ -34,8 +34,8 @@ use Rattle.flow_cli.specs.Components.{written_by}
 use Rattle.flow_cli.specs.Makes.{output_lines_at, output_lines_from}
 use Rattle.flow_cli.specs.Engines.{RanBy}
 use Rattle.flow_cli.specs.Runs.{IsToldOf, IsToldOfNet, IsJournalOfNet, Leaves, TellsAgain, MakesAgain, stop_of_replay, outputs_at, outputs_from}
-use Rattle.flow_cli.specs.declared.engine.Told.{Told}
-use Rattle.flow_cli.specs.declared.engine.Ran.{Ran}
+use Rattle.flow_cli.specs.declared.ran.PrintedReport.{PrintedReport}
+use Rattle.flow_cli.specs.declared.ran.Ran.{Ran}
 
 -- the bytes that each process wrote are those of its body
 bytes-same : (bodies : List (BodyValue Std)) (xs : List (Process Std)) (p : ℕ) → map (λ b. b.process) bodies ≡ xs
@@ -63,8 +63,8 @@ lines-same one other same p (x ∷ xs) =
     ap (λ (l : List ℕ). l ++ output_lines_from one (p + 1) xs) first ∙ ap (λ (l : List ℕ). output_lines_at other p x ++ l) rest
 
 -- what is told of a net that stands for a state is the report of that
-told-of : (plan : Network) (net : NetValue Std) (last : State Std) (told : Told) → IsStandardPlan plan → ReportsTell std_shape std_uses StdReady StdNext
-    → Fit std_shape std_uses StdReady last → length last.kept.processes ≡ length plan.processes → IsReached std_shape std_uses StdReady StdNext plan net last → IsToldOfNet plan net told → IsToldOf plan last told
+told-of : (plan : Network) (net : NetValue Std) (last : State Std) (told : PrintedReport) → IsStandardPlan plan → ReportsTell std_rules
+    → Fit std_rules last → length last.kept.processes ≡ length plan.processes → IsReached std_rules plan net last → IsToldOfNet plan net told → IsToldOf plan last told
 told-of plan net last told standard tell fit count reached is =
     let few : length last.kept.processes ≤ PROCESS_LIMIT = omega (arith, count, standard.valid.wired.few_processes) in
     record {
@@ -75,15 +75,15 @@ told-of plan net last told standard tell fit count reached is =
     }
 
 -- a journal of a run has a file
-has-file : (plan : Network) (components : List Std) (net : NetValue Std) (journal : Journal) (last : State Std) → SeesNoMoreThanTurns StdNext
-    → IsScheduled StdNext plan components (schedule_of journal) last → IsJournalOfNet net journal → IsWritable journal
+has-file : (plan : Network) (components : List Std) (net : NetValue Std) (journal : Journal) (last : State Std) → SeesNoMoreThanTurns std_rules
+    → IsScheduled std_rules plan components (schedule_of journal) last → IsJournalOfNet net journal → IsWritable journal
 has-file plan components net journal last sees schedule is = record {
   turns = is.few;
   seen = sees plan components (schedule_of journal) last schedule;
 }
 
-leaves-one : (workers : ℕ) (plan : Network) (components : List Std) (net : NetValue Std) (journal : Journal) (told : Told) → IsStandardPlan plan → ReportsTell std_shape std_uses StdReady StdNext → SeesNoMoreThanTurns StdNext
-    → StartsWell std_shape std_uses StdReady plan components → ComesOfRun std_shape std_uses StdReady StdNext workers plan components (schedule_of journal) net → IsToldOfNet plan net told → IsJournalOfNet net journal → Leaves workers plan components net journal told
+leaves-one : (workers : ℕ) (plan : Network) (components : List Std) (net : NetValue Std) (journal : Journal) (told : PrintedReport) → IsStandardPlan plan → ReportsTell std_rules → SeesNoMoreThanTurns std_rules
+    → StartsWell std_rules plan components → ComesOfRun std_rules workers plan components (schedule_of journal) net → IsToldOfNet plan net told → IsJournalOfNet net journal → Leaves workers plan components net journal told
 leaves-one workers plan components net journal told standard tell sees well comes is names =
     let last = comes.last in
     let procs = processes-shown last.past.dropped 0 net.bodies last.kept.processes (ap (λ v. v.bodies) comes.stands) in
@@ -96,19 +96,19 @@ leaves-one workers plan components net journal told standard tell sees well come
     }
 
 -- whatever the account answers
-pub leaves : (workers : ℕ) (plan : Network) (components : List Std) (net : NetValue Std) (result : Result Ran AllocError) → IsStandardPlan plan → ReportsTell std_shape std_uses StdReady StdNext → SeesNoMoreThanTurns StdNext
-    → StartsWell std_shape std_uses StdReady plan components → ((journal : Journal) → IsJournalOfNet net journal → ComesOfRun std_shape std_uses StdReady StdNext workers plan components (schedule_of journal) net)
-    → IfOk result (λ ran. ran.net ≡ net) → IfOk result (λ ran. IsToldOfNet plan net ran.told) → IfOk result (λ ran. IsJournalOfNet net ran.journal)
-    → IfOk result (λ ran. Leaves workers plan components ran.net ran.journal ran.told)
+pub leaves : (workers : ℕ) (plan : Network) (components : List Std) (net : NetValue Std) (result : Result Ran AllocError) → IsStandardPlan plan → ReportsTell std_rules → SeesNoMoreThanTurns std_rules
+    → StartsWell std_rules plan components → ((journal : Journal) → IsJournalOfNet net journal → ComesOfRun std_rules workers plan components (schedule_of journal) net)
+    → IfOk result (λ ran. ran.net ≡ net) → IfOk result (λ ran. IsToldOfNet plan net ran.report) → IfOk result (λ ran. IsJournalOfNet net ran.journal)
+    → IfOk result (λ ran. Leaves workers plan components ran.net ran.journal ran.report)
 leaves workers plan components net (Ok ran) standard tell sees well comes same told names =
-    subst (λ (n : NetValue Std). Leaves workers plan components n ran.journal ran.told) (sym same) (leaves-one workers plan components net ran.journal ran.told standard tell sees well (comes ran.journal names) told names)
+    subst (λ (n : NetValue Std). Leaves workers plan components n ran.journal ran.report) (sym same) (leaves-one workers plan components net ran.journal ran.report standard tell sees well (comes ran.journal names) told names)
 leaves workers plan components net (Err e) standard tell sees well comes same told names = tt
 
 -- A net that was run on from the start of a plan comes of a run, by one thread or by workers.
 pub comes-of-run : (workers : ℕ) (plan : Network) (components : List Std) (start net : NetValue Std) (journal : Journal)
-    → RoundsAreRuns std_shape std_uses StdReady StdNext → ReachesAreRuns std_shape std_uses StdReady StdNext
-    → StartsWell std_shape std_uses StdReady plan components → StartsNet plan components start → RanBy workers start net → IsJournalOfNet net journal
-    → ComesOfRun std_shape std_uses StdReady StdNext workers plan components (schedule_of journal) net
+    → RoundsAreRuns std_rules → ReachesAreRuns std_rules
+    → StartsWell std_rules plan components → StartsNet plan components start → RanBy workers start net → IsJournalOfNet net journal
+    → ComesOfRun std_rules workers plan components (schedule_of journal) net
 comes-of-run zero plan components start net journal rounds reaches well starts ran is = rounds plan components start net journal.turns journal.seen well starts (ran.alone refl) is.turns is.seen
 comes-of-run (suc more) plan components start net journal rounds reaches well starts ran is =
     let some : 0 < suc more = omega arith in
@@ -116,8 +116,8 @@ comes-of-run (suc more) plan components start net journal rounds reaches well st
     reaches (suc more) plan components start net journal.turns journal.seen some well starts (ran.reaches one) (ran.quiet one) is.turns is.seen
 
 -- What making a journal again tells of the net to which it led.
-pub told-again : (plan : Network) (components : List Std) (net : NetValue Std) (journal : Journal) (told : Told) → IsStandardPlan plan → ReportsTell std_shape std_uses StdReady StdNext
-    → StartsWell std_shape std_uses StdReady plan components → ComesOfSchedule std_shape std_uses StdReady StdNext plan components (schedule_of journal) net → IsToldOfNet plan net told → TellsAgain plan components journal told
+pub told-again : (plan : Network) (components : List Std) (net : NetValue Std) (journal : Journal) (told : PrintedReport) → IsStandardPlan plan → ReportsTell std_rules
+    → StartsWell std_rules plan components → ComesOfSchedule std_rules plan components (schedule_of journal) net → IsToldOfNet plan net told → TellsAgain plan components journal told
 told-again plan components net journal told standard tell well comes is = record {
   last = comes.last;
   schedule = comes.schedule;
@@ -126,8 +126,8 @@ told-again plan components net journal told standard tell well comes is = record
 
 -- A replay that stops has stopped from the start of the plan.
 pub stopped-again : (plan : Network) (components : List Std) (start : NetValue Std) (journal : Journal) (stop : ReplayStop) (result : Stop)
-    → ((place p : ℕ) (refusal : NoTurn) → StopsFrom std_shape std_uses StdReady StdNext start journal (replays.NoTurn place p refusal) → StopsAtTurn StdNext (start_of plan components) (schedule_of journal) place p refusal)
-    → StopsFrom std_shape std_uses StdReady StdNext start journal stop → result ≡ stop_of_replay stop → MakesAgain plan components journal (Err result)
+    → ((place p : ℕ) (refusal : NoTurn) → StopsFrom std_rules start journal (replays.NoTurn place p refusal) → StopsAtTurn std_rules (start_of plan components) (schedule_of journal) place p refusal)
+    → StopsFrom std_rules start journal stop → result ≡ stop_of_replay stop → MakesAgain plan components journal (Err result)
 stopped-again plan components start journal (replays.NoTurn place p refusal) result law stops is =
     subst (λ (s : Stop). MakesAgain plan components journal (Err s)) (sym is) (law place p refusal stops)
 stopped-again plan components start journal replays.NoMemory result law stops is = subst (λ (s : Stop). MakesAgain plan components journal (Err s)) (sym is) tt

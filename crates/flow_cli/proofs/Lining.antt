@@ -12,6 +12,7 @@ use Rattle.flow_text.specs.Edge.{Name}
 use Rattle.flow_cli.specs.Components.{written_by}
 use Rattle.flow_cli.specs.Makes.{output_lines_at, output_lines_from}
 use Rattle.flow_cli.proofs.Written.{there_at}
+use Rattle.flow_machine.proofs.Lists.{read-there}
 
 step : (wrote : ℕ → List ℕ) (p k : ℕ) (ps : List Process) (process : Process) → slice_get ps k ≡ Some process
     → output_lines_from wrote p (take (suc k) ps) ≡ output_lines_from wrote p (take k ps) ++ output_lines_at wrote (p + k) process
@@ -49,11 +50,6 @@ one-line wrote k (Some p) old new file name bytes puts named is h =
     ∙ ap (λ (b : List ℕ). old ++ (codes "output " ++ p.name ++ 32 ∷ decimal (length b) ++ 10 ∷ [])) is
     ∙ ap (λ l. old ++ l) (sym (append-nil (codes "output " ++ p.name ++ 32 ∷ decimal (length (wrote k)) ++ 10 ∷ [])))
     ∙ ap (λ names. old ++ flat_map (λ (name : Name). codes "output " ++ p.name ++ 32 ∷ decimal (length (wrote k)) ++ 10 ∷ []) names) (sym h)
-
-read-there : {T : Type 0} (xs : List T) (k : ℕ) (x : T) → k < length xs → x ≡ get_or xs k x → slice_get xs k ≡ Some x
-read-there [] k x lt is = absurd (omega (arith, lt))
-read-there (y ∷ ys) zero x lt is = ap Some (sym is)
-read-there (y ∷ ys) (suc k) x lt is = read-there ys k x (omega (arith, lt)) is
 
 -- The line of a process that writes a file was appended, where memory wasn't wanting.
 pub puts-line : (wrote : ℕ → List ℕ) (k : ℕ) (ps : List Process) (process : Process) (r : Result (Unit {0}) AllocError) (old new file name bytes : List ℕ)

@@ -5,11 +5,11 @@ use Rattle.std.specs.declared.alloc.Global.{Global}
 use Rattle.flow_text.specs.Edge.{Outside}
 use Rattle.flow_plan.specs.Network.{Network}
 use Rattle.flow_catalogue.specs.declared.standard.Std.{Std}
-use Rattle.flow_catalogue.specs.Std.{std_shape, std_uses, StdReady, StdNext}
+use Rattle.flow_catalogue.specs.Std.{std_rules}
 use Rattle.flow_model.specs.States.{State}
 use Rattle.flow_model.specs.Rising.{FinishedLeadsOn}
 use Rattle.flow_model.specs.Verdicts.{IsFinished}
-use Rattle.flow_ready.specs.Ready.{StartsPlans}
+use Rattle.flow_model.specs.Ready.{StartsPlans}
 use Rattle.flow_report.specs.declared.report.Verdict.{Verdict}
 use Rattle.flow_report.specs.declared.report.Verdict.TheVariants.{Finished, FinishedLeft, Deadlock, Failed, Running}
 use Rattle.flow_report.specs.States.{IsVerdict}
@@ -58,19 +58,17 @@ finished-over statuses.TooLong is = absurd is
 finished-over statuses.Running is = absurd is
 
 -- with the laws of plans and of meanings, a run that finished left what its network means
-module _ (starts : StartsPlans std_shape std_uses StdReady) (composes : FinishedComposes) (rises : FinishedLeadsOn std_shape std_uses StdReady StdNext) (words : List (String Global)) (o a n po pn : Outside) (run : Unwritten) (status : Status) (limit : ℕ)
-    (has : HasRun o a words limit run) where
-  left : WritesAll a n (outputs_of_run run) → Prints po pn run.ran.told.report.items (verdict_status run.ran.told.verdict) status → IsFinishedStatus status
-      → LeavesMeaning (so_far words o n run.ran.journal) limit
+module _ (starts : StartsPlans std_rules) (composes : FinishedComposes) (rises : FinishedLeadsOn std_rules) (words : List (String Global)) (o a n po pn : Outside) (run : Unwritten) (status : Status)
+    (has : HasRun o a words run) where
+  left : WritesAll a n (outputs_of_run run) → Prints po pn run.ran.report.text.items (verdict_status run.ran.report.verdict) status → IsFinishedStatus status
+      → LeavesMeaning (so_far words o n run.ran.journal)
   left w (inl p) finished =
       let plan = run.ran.plan in
       let of = has.ready in
       let well = starts plan has.components of.file.standard.valid (components-fit plan has.components (of.given, of.are_components)) in
       let ends = finished-of has.leaves.last has.leaves.told_is.report.verdict has.leaves.told_is.tells.verdict (subst IsFinishedStatus (p.0 ∙ ap verdict_status has.leaves.told_is.verdict) finished) in
       inl (
-        has.name,
-        has.keeps,
-        has.workers,
+        has.asked,
         has.asks,
         record {
           report = has.leaves.told_is.report;
@@ -79,7 +77,7 @@ module _ (starts : StartsPlans std_shape std_uses StdReady) (composes : Finished
             last = has.leaves.last;
             middle = a;
             run = record { components = has.components; ready = of; run = has.leaves.run; writable = has.leaves.writable };
-            writes = subst (λ (l : List Filled). WritesAll a n l) (files o a n words limit run has) w;
+            writes = subst (λ (l : List Filled). WritesAll a n l) (files o a n words run has) w;
             tells = has.leaves.told_is.tells;
           };
           composes = composes plan has.components (schedule_of run.ran.journal) has.leaves.last well (are-first plan of.given has.components of.are_components) has.leaves.run.schedule.leads ends;
@@ -88,6 +86,6 @@ module _ (starts : StartsPlans std_shape std_uses StdReady) (composes : Finished
       )
   left w (inr p) finished = absurd (subst IsFinishedStatus p.0 finished)
 
-  pub meant : Finishes a n po pn run status → IsFinishedStatus status → LeavesMeaning (so_far words o n run.ran.journal) limit
+  pub meant : Finishes a n po pn run status → IsFinishedStatus status → LeavesMeaning (so_far words o n run.ran.journal)
   meant (inl (w, p)) finished = left w p finished
   meant (inr (stop, w, p)) finished = absurd (stop-not-over po pn stop status p (finished-over status finished))

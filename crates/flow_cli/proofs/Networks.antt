@@ -11,14 +11,14 @@ use Rattle.flow_catalogue.specs.Kinds.{std_kinds}
 use Rattle.flow_cli.specs.Networks.{Holds, RefusedFor, ReadsAs}
 use Rattle.flow_cli.specs.declared.stop.Stop.{Stop}
 use Rattle.flow_cli.specs.declared.stop.Stop.TheVariants.{Words, Refused, JournalRefused, ReadFault, WriteFault, TooLong, NoMemory}
-use Rattle.flow_cli.specs.declared.stop.Refusal.{Refusal}
-use Rattle.flow_cli.specs.declared.stop.Refusal.TheVariants as refusals
+use Rattle.flow_cli.specs.declared.stop.NetRefusal.{NetRefusal}
+use Rattle.flow_cli.specs.declared.stop.NetRefusal.TheVariants as refusals
 
 one-text : (net : List ℕ) (a b : NetText) → Spells net a → Spells net b → a ≡ b
 one-text net a b is other = let same = one_outcome 1 None (lines net) (Ok a) (Ok b) is other in cc
 
 -- bytes that hold a network aren't refused
-pub holds-or-refused : (net : List ℕ) (text : NetText) (plan : Network) (refusal : Refusal) → Holds net text plan → RefusedFor net refusal → ⊥
+pub holds-or-refused : (net : List ℕ) (text : NetText) (plan : Network) (refusal : NetRefusal) → Holds net text plan → RefusedFor net refusal → ⊥
 holds-or-refused net text plan (refusals.Line fault) holds refused = let same = one_outcome 1 None (lines net) (Ok text) (Err fault) holds.spelled refused in cc
 holds-or-refused net text plan (refusals.Network fault) holds refused =
     let same = one-text net refused.0 text refused.1 holds.spelled in

@@ -19,46 +19,46 @@ use Rattle.flow_cli.proofs.Steps.{no-reads, may-read, may-fail-to-read, MayRead-
 use Rattle.flow_cli.proofs.Readings.{OnlyReads-trans, FailsToRead-after, GivesMore-after, OnlyReads-files, are-read-append, none-read, inputs-none, inputs-more, get-more, get-last}
 
 -- the stop of a read is that of its file
-pub read-stopped : (old new : Outside) (name : Name) (why : ReadStop) (stop : Stop) (limit : ℕ) → ReadsFile old new (Err why) name limit → IsReadStop why name stop
-    → StopsAtFile old new [] name stop limit
-read-stopped old new name reads.Fault (ReadFault read) limit r is = (is, r)
-read-stopped old new name (reads.TooLong told) (TooLong read) limit r is = (is, r.0, r.1)
-read-stopped old new name reads.NoMemory NoMemory limit r is = r
-read-stopped old new name reads.Fault NoMemory limit r is = may-fail-to-read old new r.0 name r.2
-read-stopped old new name (reads.TooLong told) NoMemory limit r is = may-read old new _ r.0.2
-read-stopped old new name reads.Fault Words limit r is = absurd is
-read-stopped old new name reads.Fault (Refused refusal) limit r is = absurd is
-read-stopped old new name reads.Fault (JournalRefused refusal) limit r is = absurd is
-read-stopped old new name reads.Fault (WriteFault written) limit r is = absurd is
-read-stopped old new name reads.Fault (TooLong read) limit r is = absurd is
-read-stopped old new name (reads.TooLong told) Words limit r is = absurd is
-read-stopped old new name (reads.TooLong told) (Refused refusal) limit r is = absurd is
-read-stopped old new name (reads.TooLong told) (JournalRefused refusal) limit r is = absurd is
-read-stopped old new name (reads.TooLong told) (ReadFault read) limit r is = absurd is
-read-stopped old new name (reads.TooLong told) (WriteFault written) limit r is = absurd is
-read-stopped old new name reads.NoMemory Words limit r is = absurd is
-read-stopped old new name reads.NoMemory (Refused refusal) limit r is = absurd is
-read-stopped old new name reads.NoMemory (JournalRefused refusal) limit r is = absurd is
-read-stopped old new name reads.NoMemory (ReadFault read) limit r is = absurd is
-read-stopped old new name reads.NoMemory (WriteFault written) limit r is = absurd is
-read-stopped old new name reads.NoMemory (TooLong read) limit r is = absurd is
+pub read-stopped : (old new : Outside) (name : Name) (why : ReadStop) (stop : Stop) → ReadsFile old new (Err why) name → IsReadStop why name stop
+    → StopsAtFile old new [] name stop
+read-stopped old new name reads.Fault (ReadFault read) r is = (is, r)
+read-stopped old new name (reads.TooLong told) (TooLong read) r is = (is, r.0, r.1)
+read-stopped old new name reads.NoMemory NoMemory r is = r
+read-stopped old new name reads.Fault NoMemory r is = may-fail-to-read old new r.0 name r.2
+read-stopped old new name (reads.TooLong told) NoMemory r is = may-read old new _ r.0.2
+read-stopped old new name reads.Fault Words r is = absurd is
+read-stopped old new name reads.Fault (Refused refusal) r is = absurd is
+read-stopped old new name reads.Fault (JournalRefused refusal) r is = absurd is
+read-stopped old new name reads.Fault (WriteFault written) r is = absurd is
+read-stopped old new name reads.Fault (TooLong read) r is = absurd is
+read-stopped old new name (reads.TooLong told) Words r is = absurd is
+read-stopped old new name (reads.TooLong told) (Refused refusal) r is = absurd is
+read-stopped old new name (reads.TooLong told) (JournalRefused refusal) r is = absurd is
+read-stopped old new name (reads.TooLong told) (ReadFault read) r is = absurd is
+read-stopped old new name (reads.TooLong told) (WriteFault written) r is = absurd is
+read-stopped old new name reads.NoMemory Words r is = absurd is
+read-stopped old new name reads.NoMemory (Refused refusal) r is = absurd is
+read-stopped old new name reads.NoMemory (JournalRefused refusal) r is = absurd is
+read-stopped old new name reads.NoMemory (ReadFault read) r is = absurd is
+read-stopped old new name reads.NoMemory (WriteFault written) r is = absurd is
+read-stopped old new name reads.NoMemory (TooLong read) r is = absurd is
 
 -- The files of the first processes were read, and these are their parts.
-pub record SoFar (old new : Outside) (plan : Network) (limit k : ℕ) (components : List Std) : Type 0 where
+pub record SoFar (old new : Outside) (plan : Network) (k : ℕ) (components : List Std) : Type 0 where
   pub given : List (List ℕ)
   pub each_given : length given ≡ k
   pub reads : OnlyReads old new (map whole (inputs_of plan.processes given))
-  pub were_read : AreRead old.files limit (inputs_of plan.processes given)
+  pub were_read : AreRead old.files (inputs_of plan.processes given)
   pub count : length components ≡ k
   pub each : (p : ℕ) (component : Std) → slice_get components p ≡ Some component → (bytes : List ℕ) × (slice_get given p ≡ Some bytes) × IsComponent plan p bytes component
 
 -- Before anything was read, nothing was.
-pub nothing-so-far : (old : Outside) (plan : Network) (limit : ℕ) → SoFar old old plan limit 0 []
-nothing-so-far old plan limit = record {
+pub nothing-so-far : (old : Outside) (plan : Network) → SoFar old old plan 0 []
+nothing-so-far old plan = record {
   given = [];
   each_given = refl;
   reads = subst (λ (l : List Filled). OnlyReads old old (map whole l)) (sym (inputs-none plan.processes)) (no-reads old old refl);
-  were_read = subst (λ (l : List Filled). AreRead old.files limit l) (sym (inputs-none plan.processes)) (none-read old.files limit);
+  were_read = subst (λ (l : List Filled). AreRead old.files l) (sym (inputs-none plan.processes)) (none-read old.files);
   count = refl;
   each = λ p component at. absurd cc;
 }
@@ -74,9 +74,9 @@ pushed (x ∷ xs) y z (suc p) at = go (pushed xs y z p at) where
   go (inr h) = inr (ap suc h.0, h.1)
 
 -- one process more
-pub more-so-far : (old mid new : Outside) (plan : Network) (limit k : ℕ) (components : List Std) (component : Std) → SoFar old mid plan limit k components → ReadsComponent mid new plan k (Ok component) limit
-    → SoFar old new plan limit (k + 1) (components ++ component ∷ [])
-more-so-far old mid new plan limit k components component s r =
+pub more-so-far : (old mid new : Outside) (plan : Network) (k : ℕ) (components : List Std) (component : Std) → SoFar old mid plan k components → ReadsComponent mid new plan k (Ok component)
+    → SoFar old new plan (k + 1) (components ++ component ∷ [])
+more-so-far old mid new plan k components component s r =
     let process = r.0 in
     let bytes = r.1 in
     let at : slice_get plan.processes (length s.given) ≡ Some process = ap (λ n. slice_get plan.processes n) s.each_given ∙ r.2 in
@@ -87,8 +87,8 @@ more-so-far old mid new plan limit k components component s r =
       each_given = omega (arith, length-append s.given (bytes ∷ []), s.each_given);
       reads = subst (λ (l : List Logged). OnlyReads old new l) (sym (ap (λ l. map whole l) inputs ∙ map-append whole (inputs_of plan.processes s.given) (input_of process bytes)))
           (OnlyReads-trans old mid new (map whole (inputs_of plan.processes s.given)) (map whole (input_of process bytes)) s.reads r.3);
-      were_read = subst (λ (l : List Filled). AreRead old.files limit l) (sym inputs)
-          (are-read-append old.files limit (inputs_of plan.processes s.given) (input_of process bytes) s.were_read (subst (λ (t : Option Files). AreRead t limit (input_of process bytes)) told r.4));
+      were_read = subst (λ (l : List Filled). AreRead old.files l) (sym inputs)
+          (are-read-append old.files (inputs_of plan.processes s.given) (input_of process bytes) s.were_read (subst (λ (t : Option Files). AreRead t (input_of process bytes)) told r.4));
       count = omega (arith, length-append components (component ∷ []), s.count);
       each = λ p one at. each p one (pushed components component one p at);
     } where
@@ -103,24 +103,24 @@ more-so-far old mid new plan limit k components component s r =
           )
 
 -- a stop behind other files
-stopped-behind : (old mid new : Outside) (earlier : List Filled) (name : Name) (stop : Stop) (limit : ℕ) → OnlyReads old mid (map whole earlier) → StopsAtFile mid new [] name stop limit
-    → StopsAtFile old new earlier name stop limit
-stopped-behind old mid new earlier name (ReadFault read) limit r s = (s.0, (s.1.0, s.1.1, FailsToRead-after old mid new (map whole earlier) s.1.0 name r s.1.2))
-stopped-behind old mid new earlier name (TooLong read) limit r s = (
+stopped-behind : (old mid new : Outside) (earlier : List Filled) (name : Name) (stop : Stop) → OnlyReads old mid (map whole earlier) → StopsAtFile mid new [] name stop
+    → StopsAtFile old new earlier name stop
+stopped-behind old mid new earlier name (ReadFault read) r s = (s.0, (s.1.0, s.1.1, FailsToRead-after old mid new (map whole earlier) s.1.0 name r s.1.2))
+stopped-behind old mid new earlier name (TooLong read) r s = (
   s.0,
-  subst (λ (l : List Logged). GivesMore old new l name limit) (append-nil (map whole earlier)) (GivesMore-after old mid new (map whole earlier) [] name limit r s.1),
-  subst (λ (t : Option Files). HoldsMore t name limit) (OnlyReads-files old mid (map whole earlier) r) s.2,
+  subst (λ (l : List Logged). GivesMore old new l name) (append-nil (map whole earlier)) (GivesMore-after old mid new (map whole earlier) [] name r s.1),
+  subst (λ (t : Option Files). HoldsMore t name) (OnlyReads-files old mid (map whole earlier) r) s.2,
 )
-stopped-behind old mid new earlier name NoMemory limit r s = MayRead-trans old mid new (may-read old mid (map whole earlier) r) s
-stopped-behind old mid new earlier name Words limit r s = absurd s
-stopped-behind old mid new earlier name (Refused refusal) limit r s = absurd s
-stopped-behind old mid new earlier name (JournalRefused refusal) limit r s = absurd s
-stopped-behind old mid new earlier name (WriteFault written) limit r s = absurd s
+stopped-behind old mid new earlier name NoMemory r s = MayRead-trans old mid new (may-read old mid (map whole earlier) r) s
+stopped-behind old mid new earlier name Words r s = absurd s
+stopped-behind old mid new earlier name (Refused refusal) r s = absurd s
+stopped-behind old mid new earlier name (JournalRefused refusal) r s = absurd s
+stopped-behind old mid new earlier name (WriteFault written) r s = absurd s
 
 -- the next file is that of process k
-next : (old mid : Outside) (plan : Network) (limit k : ℕ) (components : List Std) (s : SoFar old mid plan limit k components) (process : Process) (name : Name)
-    → slice_get plan.processes k ≡ Some process → read_by process ≡ name ∷ [] → IsNext old.files limit plan (inputs_of plan.processes s.given) name
-next old mid plan limit k components s process name there reads = record {
+next : (old mid : Outside) (plan : Network) (k : ℕ) (components : List Std) (s : SoFar old mid plan k components) (process : Process) (name : Name)
+    → slice_get plan.processes k ≡ Some process → read_by process ≡ name ∷ [] → IsNext old.files plan (inputs_of plan.processes s.given) name
+next old mid plan k components s process name there reads = record {
   place = k;
   process = process;
   there = there;
@@ -132,14 +132,14 @@ next old mid plan limit k components s process name there reads = record {
 }
 
 -- Reading that stops at a component stops there, behind those that were read.
-pub stop-so-far : (old mid new : Outside) (plan : Network) (limit k : ℕ) (components : List Std) (stop : Stop) → SoFar old mid plan limit k components → ReadsComponent mid new plan k (Err stop) limit
-    → ReadsComponents old new plan (Err stop) limit
-stop-so-far old mid new plan limit k components NoMemory s r = MayRead-trans old mid new (may-read old mid (map whole (inputs_of plan.processes s.given)) s.reads) r
-stop-so-far old mid new plan limit k components (ReadFault read) s r =
-    (inputs_of plan.processes s.given, r.1, next old mid plan limit k components s r.0 r.1 r.2 r.3, stopped-behind old mid new (inputs_of plan.processes s.given) r.1 (ReadFault read) limit s.reads r.4)
-stop-so-far old mid new plan limit k components (TooLong read) s r =
-    (inputs_of plan.processes s.given, r.1, next old mid plan limit k components s r.0 r.1 r.2 r.3, stopped-behind old mid new (inputs_of plan.processes s.given) r.1 (TooLong read) limit s.reads r.4)
-stop-so-far old mid new plan limit k components Words s r = absurd r.4
-stop-so-far old mid new plan limit k components (Refused refusal) s r = absurd r.4
-stop-so-far old mid new plan limit k components (JournalRefused refusal) s r = absurd r.4
-stop-so-far old mid new plan limit k components (WriteFault written) s r = absurd r.4
+pub stop-so-far : (old mid new : Outside) (plan : Network) (k : ℕ) (components : List Std) (stop : Stop) → SoFar old mid plan k components → ReadsComponent mid new plan k (Err stop)
+    → ReadsComponents old new plan (Err stop)
+stop-so-far old mid new plan k components NoMemory s r = MayRead-trans old mid new (may-read old mid (map whole (inputs_of plan.processes s.given)) s.reads) r
+stop-so-far old mid new plan k components (ReadFault read) s r =
+    (inputs_of plan.processes s.given, r.1, next old mid plan k components s r.0 r.1 r.2 r.3, stopped-behind old mid new (inputs_of plan.processes s.given) r.1 (ReadFault read) s.reads r.4)
+stop-so-far old mid new plan k components (TooLong read) s r =
+    (inputs_of plan.processes s.given, r.1, next old mid plan k components s r.0 r.1 r.2 r.3, stopped-behind old mid new (inputs_of plan.processes s.given) r.1 (TooLong read) s.reads r.4)
+stop-so-far old mid new plan k components Words s r = absurd r.4
+stop-so-far old mid new plan k components (Refused refusal) s r = absurd r.4
+stop-so-far old mid new plan k components (JournalRefused refusal) s r = absurd r.4
+stop-so-far old mid new plan k components (WriteFault written) s r = absurd r.4

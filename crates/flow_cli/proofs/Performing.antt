@@ -4,24 +4,26 @@ use Rattle.std.specs.Prelude.{String}
 use Rattle.std.specs.declared.alloc.Global.{Global}
 use Rattle.flow_text.specs.Edge.{Outside, Name}
 use Rattle.flow_plan.specs.Network.{Network}
-use Rattle.flow_words.specs.Words.{Judge, Kinds, Replay}
+use Rattle.flow_words.specs.Words.{AskedRun, Judge, Kinds, Replay}
 use Rattle.flow_parse.specs.declared.value.NetText.{NetText}
-use Rattle.flow_catalogue.specs.Std.{StdNext}
+use Rattle.flow_catalogue.specs.Std.{std_rules}
 use Rattle.flow_determinate.specs.Standard.{IsDeterminate}
 use Rattle.flow_kinds.specs.Page.{kinds_page}
 use Rattle.flow_journal.specs.Replays.{schedule_of}
 use Rattle.flow_journal.specs.declared.merge.Journal.{Journal}
-use Rattle.flow_runs.specs.Runs.{IsScheduled}
+use Rattle.flow_journal.specs.Runs.{IsScheduled}
 use Rattle.flow_cli.specs.Step.{OnlyReads, MayRead, whole}
 use Rattle.flow_cli.specs.After.{verdict_status}
-use Rattle.flow_cli.specs.Reads.{Asks, IsEmptyJournal, IsFile, IsJournalFile}
+use Rattle.flow_cli.specs.Reads.{Asks, IsEmptyJournal, IsFile, IsJournalFile, IsReady}
 use Rattle.flow_cli.specs.Causes.{HasCause}
-use Rattle.flow_cli.specs.Prepare.{AsksMake, IsReadyAgain}
-use Rattle.flow_cli.specs.Runs.{MakesAgain}
+use Rattle.flow_cli.specs.Prepare.{AsksMake, AsksRun, IsReadyAgain}
+use Rattle.flow_cli.specs.Runs.{Leaves, MakesAgain}
 use Rattle.flow_cli.specs.Makes.{SaysMadeRun}
-use Rattle.flow_cli.specs.Top.{Says, SaysTurnsAgain, TellsWhether, answer}
+use Rattle.flow_cli.specs.Top.{HasRun, KeepsRun, Says, SaysTurnsAgain, TellsWhether, answer}
 use Rattle.flow_cli.specs.declared.before.Again.{Again}
+use Rattle.flow_cli.specs.declared.before.Job.{Job}
 use Rattle.flow_cli.specs.declared.run.Said.{Said}
+use Rattle.flow_cli.specs.declared.run.Unwritten.{Unwritten}
 use Rattle.flow_cli.specs.declared.status.Status.TheVariants.{Finished}
 use Rattle.flow_cli.specs.declared.stop.JournalRefusal.TheVariants.{Byte, Turn}
 use Rattle.flow_cli.specs.declared.stop.Stop.{Stop}
@@ -30,12 +32,24 @@ use Rattle.flow_cli.proofs.Steps.{may-read}
 use Rattle.flow_cli.proofs.Befores.{so_far, untouched}
 
 -- Want of memory behind reading.
-pub wants-memory : (o a : Outside) (words : List (String Global)) (limit : ℕ) (journal : Journal) → MayRead o a → IsEmptyJournal journal → HasCause (so_far words o a journal) limit NoMemory
-wants-memory o a words limit journal may empty = inl (untouched (so_far words o a journal) may empty)
+pub wants-memory : (o a : Outside) (words : List (String Global)) (journal : Journal) → MayRead o a → IsEmptyJournal journal → HasCause (so_far words o a journal) NoMemory
+wants-memory o a words journal may empty = inl (untouched (so_far words o a journal) may empty)
+
+-- A run that was asked for has been made.
+pub has-run : (o a : Outside) (words : List (String Global)) (job : Job) (asked : AskedRun) (run : Unwritten) → AsksRun o a words job asked
+    → KeepsRun asked job.plan job.components.items run → HasRun o a words run
+has-run o a words job asked run asks keeps = record {
+  asked = asked;
+  asks = asks.asks;
+  components = job.components.items;
+  ready = subst (λ (plan : Network). IsReady o a asked.net [] plan job.components.items) (sym keeps.plan_is) asks.ready;
+  leaves = subst (λ (plan : Network). Leaves asked.workers plan job.components.items run.ran.net run.ran.journal run.ran.report) (sym keeps.plan_is) keeps.leaves;
+  kept = keeps.kept;
+}
 
 -- a replay
-module _ (o a : Outside) (words : List (String Global)) (limit : ℕ) (name kept : Name) (again : Again) (asks : Asks words (Replay name kept)) (ready : IsReadyAgain o a limit name kept again) where
-  pub says-again : (said : Said) → SaysTurnsAgain again.job.plan again.job.components.items again.journal (Ok said) → Says (so_far words o a said.journal) limit said.text.items said.status
+module _ (o a : Outside) (words : List (String Global)) (name kept : Name) (again : Again) (asks : Asks words (Replay name kept)) (ready : IsReadyAgain o a name kept again) where
+  pub says-again : (said : Said) → SaysTurnsAgain again.job.plan again.job.components.items again.journal (Ok said) → Says (so_far words o a said.journal) said.text.items said.status
   says-again said s =
       let told = s.1 in
       let same : said.journal ≡ again.journal = s.4 in
@@ -51,7 +65,7 @@ module _ (o a : Outside) (words : List (String Global)) (limit : ℕ) (name kept
           components = again.job.components.items;
           ready = ready.ready;
           last = told.last;
-          schedule = subst (λ (j : Journal). IsScheduled StdNext again.job.plan again.job.components.items (schedule_of j) told.last) (sym same) told.schedule;
+          schedule = subst (λ (j : Journal). IsScheduled std_rules again.job.plan again.job.components.items (schedule_of j) told.last) (sym same) told.schedule;
           tells = told.told_is.tells;
         };
         text_is = s.2 ∙ told.told_is.text;
@@ -59,7 +73,7 @@ module _ (o a : Outside) (words : List (String Global)) (limit : ℕ) (name kept
       }))
 
   pub again-stopped : (stop : Stop) → MakesAgain again.job.plan again.job.components.items again.journal (Err stop) → (journal : Journal) → IsEmptyJournal journal
-      → HasCause (so_far words o a journal) limit stop
+      → HasCause (so_far words o a journal) stop
   again-stopped (JournalRefused (Turn place process refusal)) stops journal empty = record {
     name = name;
     kept = kept;
@@ -74,7 +88,7 @@ module _ (o a : Outside) (words : List (String Global)) (limit : ℕ) (name kept
     journal = empty;
   }
   again-stopped (JournalRefused (Byte place)) stops journal empty = absurd stops
-  again-stopped NoMemory stops journal empty = wants-memory o a words limit journal (may-read o a _ ready.ready.reads) empty
+  again-stopped NoMemory stops journal empty = wants-memory o a words journal (may-read o a _ ready.ready.reads) empty
   again-stopped Words stops journal empty = absurd stops
   again-stopped (Refused refusal) stops journal empty = absurd stops
   again-stopped (ReadFault read) stops journal empty = absurd stops
@@ -82,8 +96,8 @@ module _ (o a : Outside) (words : List (String Global)) (limit : ℕ) (name kept
   again-stopped (TooLong read) stops journal empty = absurd stops
 
 -- a make
-module _ (o a : Outside) (words : List (String Global)) (limit number workers : ℕ) (asks : AsksMake o a words number workers) where
-  pub says-made : (said : Said) → SaysMadeRun number workers (Ok said) → Says (so_far words o a said.journal) limit said.text.items said.status
+module _ (o a : Outside) (words : List (String Global)) (number workers : ℕ) (asks : AsksMake o a words number workers) where
+  pub says-made : (said : Said) → SaysMadeRun number workers (Ok said) → Says (so_far words o a said.journal) said.text.items said.status
   says-made said s = inr (inr (inl (record {
     number = number;
     workers = workers;
@@ -104,10 +118,10 @@ tells plan true text exact is = inl (exact.0 refl, is)
 tells plan false text exact is = inr (λ determinate. let h : false ≡ true = exact.1 determinate in cc, is)
 
 -- a judge
-pub says-judged : (o a : Outside) (words : List (String Global)) (limit : ℕ) (name net : Name) (text : NetText) (plan : Network) (said : Said) → Asks words (Judge name)
-    → OnlyReads o a (whole (name, net) ∷ []) → IsFile o.files limit name net text plan → TellsWhether plan said.text.items → said.status ≡ Finished → IsEmptyJournal said.journal
-    → Says (so_far words o a said.journal) limit said.text.items said.status
-says-judged o a words limit name net text plan said asks only file tells status empty = inr (inr (inr (inl (record {
+pub says-judged : (o a : Outside) (words : List (String Global)) (name net : Name) (text : NetText) (plan : Network) (said : Said) → Asks words (Judge name)
+    → OnlyReads o a (whole (name, net) ∷ []) → IsFile o.files name net text plan → TellsWhether plan said.text.items → said.status ≡ Finished → IsEmptyJournal said.journal
+    → Says (so_far words o a said.journal) said.text.items said.status
+says-judged o a words name net text plan said asks only file tells status empty = inr (inr (inr (inl (record {
   name = name;
   asks = asks;
   value = text;
@@ -117,6 +131,6 @@ says-judged o a words limit name net text plan said asks only file tells status 
 }))))
 
 -- the page of kinds
-pub says-kinds : (o a : Outside) (words : List (String Global)) (limit : ℕ) (said : Said) → Asks words Kinds → a ≡ o → said.text.items ≡ kinds_page → said.status ≡ Finished
-    → IsEmptyJournal said.journal → Says (so_far words o a said.journal) limit said.text.items said.status
-says-kinds o a words limit said asks same text status empty = inr (inr (inr (inr (record { asks = asks; shelf = same; journal = empty; text_is = text; status_is = status }))))
+pub says-kinds : (o a : Outside) (words : List (String Global)) (said : Said) → Asks words Kinds → a ≡ o → said.text.items ≡ kinds_page → said.status ≡ Finished
+    → IsEmptyJournal said.journal → Says (so_far words o a said.journal) said.text.items said.status
+says-kinds o a words said asks same text status empty = inr (inr (inr (inr (record { asks = asks; shelf = same; journal = empty; text_is = text; status_is = status }))))

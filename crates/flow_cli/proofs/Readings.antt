@@ -3,6 +3,7 @@ use Rattle.std.proofs.Common.{◌≡◌, ℕ, zero, suc, List, [], ◌∷◌, �
 use mathlib.Core.List.{append-nil}
 use Rattle.std.specs.Prelude.{slice_get}
 use Rattle.std.specs.declared.option.Option.{Option}
+use Rattle.flow_limits.specs.declared.TheConstants.{FILE_LIMIT}
 use Rattle.flow_text.specs.Edge.{Outside, Name, Files, Logged, Rose}
 use Rattle.flow_plan.specs.declared.plan.Process.{Process}
 use Rattle.flow_cli.specs.Step.{Filled, OnlyReads, FailsToRead, IsRead, GivesMore, partly}
@@ -25,8 +26,8 @@ FailsToRead-after a b c xs ys name p q = record {
 }
 
 -- A file that gives more than it may gives so behind others that were read.
-pub GivesMore-after : (a b c : Outside) (xs ys : List Logged) (name : Name) (limit : ℕ) → OnlyReads a b xs → GivesMore b c ys name limit → GivesMore a c (xs ++ ys) name limit
-GivesMore-after a b c xs ys name limit p q = (
+pub GivesMore-after : (a b c : Outside) (xs ys : List Logged) (name : Name) → OnlyReads a b xs → GivesMore b c ys name → GivesMore a c (xs ++ ys) name
+GivesMore-after a b c xs ys name p q = (
   q.0,
   q.1,
   subst (λ (l : List Logged). OnlyReads a c l) (sym (append_assoc xs ys (partly q.0 name ∷ []))) (OnlyReads-trans a b c xs (ys ++ partly q.0 name ∷ []) p q.2),
@@ -37,18 +38,18 @@ pub OnlyReads-files : (a b : Outside) (xs : List Logged) → OnlyReads a b xs �
 OnlyReads-files a b xs p = ap (λ (o : Outside). o.files) p
 
 -- each of two lists was read
-pub are-read-append : (told : Option Files) (limit : ℕ) (xs ys : List Filled) → AreRead told limit xs → AreRead told limit ys → AreRead told limit (xs ++ ys)
-are-read-append told limit [] ys p q at file there = q at file there
-are-read-append told limit (x ∷ xs) ys p q zero file there = p zero file there
-are-read-append told limit (x ∷ xs) ys p q (suc at) file there = are-read-append told limit xs ys (λ k. p (suc k)) q at file there
+pub are-read-append : (told : Option Files) (xs ys : List Filled) → AreRead told xs → AreRead told ys → AreRead told (xs ++ ys)
+are-read-append told [] ys p q at file there = q at file there
+are-read-append told (x ∷ xs) ys p q zero file there = p zero file there
+are-read-append told (x ∷ xs) ys p q (suc at) file there = are-read-append told xs ys (λ k. p (suc k)) q at file there
 
 -- Of no files nothing was read.
-pub none-read : (told : Option Files) (limit : ℕ) → AreRead told limit []
-none-read told limit at file there = absurd cc
+pub none-read : (told : Option Files) → AreRead told []
+none-read told at file there = absurd cc
 
-pub one-read : (told : Option Files) (limit : ℕ) (file : Filled) → IsRead told limit file → AreRead told limit (file ∷ [])
-one-read told limit file is zero other there = let same : file ≡ other = cc in subst (λ (f : Filled). IsRead told limit f) same is
-one-read told limit file is (suc at) other there = absurd cc
+pub one-read : (told : Option Files) (file : Filled) → IsRead told FILE_LIMIT file → AreRead told (file ∷ [])
+one-read told file is zero other there = let same : file ≡ other = cc in subst (λ (f : Filled). IsRead told FILE_LIMIT f) same is
+one-read told file is (suc at) other there = absurd cc
 
 -- the inputs of no bytes, and of one process more
 pub inputs-none : (ps : List Process) → inputs_of ps [] ≡ []

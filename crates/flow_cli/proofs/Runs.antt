@@ -17,8 +17,8 @@ use Rattle.flow_cli.specs.declared.stop.Stop.{Stop}
 use Rattle.flow_cli.specs.declared.stop.Stop.TheVariants.{Words, Refused, JournalRefused, ReadFault, WriteFault, TooLong, NoMemory}
 use Rattle.flow_cli.proofs.Befores.{so_far}
 
-module _ (o a n : Outside) (words : List (String Global)) (limit : ℕ) (run : Unwritten) (has : HasRun o a words limit run) where
-  run-of : IsRunOf (so_far words o n run.ran.journal) limit has.name has.workers run.ran.plan has.leaves.last a
+module _ (o a n : Outside) (words : List (String Global)) (run : Unwritten) (has : HasRun o a words run) where
+  run-of : IsRunOf (so_far words o n run.ran.journal) has.asked run.ran.plan has.leaves.last a
   run-of = record {
     components = has.components;
     ready = has.ready;
@@ -27,14 +27,12 @@ module _ (o a n : Outside) (words : List (String Global)) (limit : ℕ) (run : U
   }
 
   -- The files of the code are those of the run.
-  pub files : outputs_of_run run ≡ files_of_run run.ran.plan has.leaves.last has.keeps run.ran.journal
+  pub files : outputs_of_run run ≡ files_of_run run.ran.plan has.leaves.last has.asked.journal run.ran.journal
   files = ap (λ l. l ++ kept_file run.kept) (outputs-same (bytes_at run.ran.net.bodies) (bytes_in has.leaves.last) has.leaves.wrote 0 run.ran.plan.processes) ∙ ap (λ l. outputs_of run.ran.plan has.leaves.last ++ l) has.kept
 
-  fails : (written : Name) → FailsAt a n (outputs_of_run run) written → IsWriteFault (so_far words o n run.ran.journal) limit written
+  fails : (written : Name) → FailsAt a n (outputs_of_run run) written → IsWriteFault (so_far words o n run.ran.journal) written
   fails written w = record {
-    name = has.name;
-    keeps = has.keeps;
-    workers = has.workers;
+    asked = has.asked;
     asks = has.asks;
     plan = run.ran.plan;
     last = has.leaves.last;
@@ -44,12 +42,10 @@ module _ (o a n : Outside) (words : List (String Global)) (limit : ℕ) (run : U
   }
 
   -- a stop in writing
-  pub stops-writing : (stop : Stop) → WritesFiles {T = Unit {0}} a n (Err stop) (outputs_of_run run) → HasCause (so_far words o n run.ran.journal) limit stop
+  pub stops-writing : (stop : Stop) → WritesFiles {T = Unit {0}} a n (Err stop) (outputs_of_run run) → HasCause (so_far words o n run.ran.journal) stop
   stops-writing (WriteFault written) w = fails (string_bytes written) w
   stops-writing NoMemory (inl w) = inr (inl (record {
-    name = has.name;
-    keeps = has.keeps;
-    workers = has.workers;
+    asked = has.asked;
     asks = has.asks;
     plan = run.ran.plan;
     last = has.leaves.last;
@@ -65,7 +61,7 @@ module _ (o a n : Outside) (words : List (String Global)) (limit : ℕ) (run : U
   stops-writing (TooLong read) w = absurd w
 
   -- all files were written
-  pub whole-run : WritesAll a n (outputs_of_run run) → IsWhole (so_far words o n run.ran.journal) limit has.name has.keeps has.workers has.leaves.told_is.report
+  pub whole-run : WritesAll a n (outputs_of_run run) → IsWhole (so_far words o n run.ran.journal) has.asked has.leaves.told_is.report
   whole-run w = record {
     plan = run.ran.plan;
     last = has.leaves.last;
@@ -76,8 +72,8 @@ module _ (o a n : Outside) (words : List (String Global)) (limit : ℕ) (run : U
   }
 
   -- what was printed is the report
-  pub printed-report : (po pn : Outside) (status : Status) → Prints po pn run.ran.told.report.items (verdict_status run.ran.told.verdict) status
+  pub printed-report : (po pn : Outside) (status : Status) → Prints po pn run.ran.report.text.items (verdict_status run.ran.report.verdict) status
       → Prints po pn (report_text has.leaves.told_is.report) (verdict_status has.leaves.told_is.report.verdict) status
   printed-report po pn status p =
       subst (λ (s : Status). Prints po pn (report_text has.leaves.told_is.report) s status) (ap verdict_status has.leaves.told_is.verdict)
-      (subst (λ (t : List ℕ). Prints po pn t (verdict_status run.ran.told.verdict) status) has.leaves.told_is.text p)
+      (subst (λ (t : List ℕ). Prints po pn t (verdict_status run.ran.report.verdict) status) has.leaves.told_is.text p)

@@ -4,7 +4,7 @@ use Rattle.std.specs.Prelude.{◌≢◌, String, string_bytes}
 use Rattle.std.specs.declared.alloc.Global.{Global}
 use Rattle.flow_text.specs.Edge.{Outside, Rose}
 use Rattle.flow_component.specs.Laws.{AtMostOneOutcome}
-use Rattle.flow_catalogue.specs.Std.{StdNext}
+use Rattle.flow_catalogue.specs.Std.{std_rules}
 use Rattle.flow_journal.specs.Files.{HasJournalOrFault, HasOneJournal}
 use Rattle.flow_journal.specs.Replays.{StopsAreNoSchedules}
 use Rattle.flow_journal.specs.declared.merge.Journal.{Journal}
@@ -23,24 +23,24 @@ use Rattle.flow_cli.proofs.Befores.{so_far, untouched}
 use Rattle.flow_cli.proofs.Valid.{valid-at}
 
 -- want of memory for the text of a stop
-as-memory : (w : Work) (limit : ℕ) (stop : Stop) → HasCause w limit stop → HasCause w limit NoMemory
-as-memory w limit Words c = inl (record { journal = c.journal; files = ap (λ (o : Outside). o.files) c.shelf; created = ap (λ (o : Outside). o.created) c.shelf })
-as-memory w limit (Refused refusal) c = inl (untouched w (may-read w.before w.after _ c.shelf) c.journal)
-as-memory w limit (JournalRefused (Byte place)) c = inl (untouched w (may-read w.before w.after _ c.shelf) c.journal)
-as-memory w limit (JournalRefused (Turn place process refusal)) c = inl (untouched w (may-read w.before w.after _ c.ready.reads) c.journal)
-as-memory w limit (ReadFault read) c = inl (untouched w (may-fail-to-read w.before w.after _ _ c.shelf) c.journal)
-as-memory w limit (TooLong read) c = inl (untouched w (may-read w.before w.after _ c.shelf.2) c.journal)
-as-memory w limit (WriteFault written) c = inr (inr (string_bytes written, c))
-as-memory w limit NoMemory c = c
+as-memory : (w : Work) (stop : Stop) → HasCause w stop → HasCause w NoMemory
+as-memory w Words c = inl (record { journal = c.journal; files = ap (λ (o : Outside). o.files) c.shelf; created = ap (λ (o : Outside). o.created) c.shelf })
+as-memory w (Refused refusal) c = inl (untouched w (may-read w.before w.after _ c.shelf) c.journal)
+as-memory w (JournalRefused (Byte place)) c = inl (untouched w (may-read w.before w.after _ c.shelf) c.journal)
+as-memory w (JournalRefused (Turn place process refusal)) c = inl (untouched w (may-read w.before w.after _ c.ready.reads) c.journal)
+as-memory w (ReadFault read) c = inl (untouched w (may-fail-to-read w.before w.after _ _ c.shelf) c.journal)
+as-memory w (TooLong read) c = inl (untouched w (may-read w.before w.after _ c.shelf.2) c.journal)
+as-memory w (WriteFault written) c = inr (inr (string_bytes written, c))
+as-memory w NoMemory c = c
 
 -- a stop, and what was printed of it
-module _ (words : List (String Global)) (o n po pn : Outside) (journal : Journal) (status : Status) (limit : ℕ) (stop : Stop)
-    (cause : HasCause (so_far words o n journal) limit stop) (prints : PrintsStop po pn stop status) where
-  told : PrintsStop po pn stop status → TellsStop (call_of words o n po pn journal status) limit
+module _ (words : List (String Global)) (o n po pn : Outside) (journal : Journal) (status : Status) (stop : Stop)
+    (cause : HasCause (so_far words o n journal) stop) (prints : PrintsStop po pn stop status) where
+  told : PrintsStop po pn stop status → TellsStop (call_of words o n po pn journal status)
   told (inl p) = record { stop = stop; cause = cause; prints = p }
-  told (inr p) = record { stop = NoMemory; cause = as-memory (so_far words o n journal) limit stop cause; prints = p }
+  told (inr p) = record { stop = NoMemory; cause = as-memory (so_far words o n journal) stop cause; prints = p }
 
-  pub stopped : IsCaused (call_of words o n po pn journal status) limit
+  pub stopped : IsCaused (call_of words o n po pn journal status)
   stopped = inr (inr (told prints))
 
 not-over : (stop : Stop) → IsOver (status_of stop) → ⊥
@@ -83,8 +83,8 @@ own-or-memory po pn stop status (inr (inl p)) is quiet = p.0
 own-or-memory po pn stop status (inr (inr p)) is quiet = absurd (quiet p.1.1.rose)
 
 -- What a stopped call says of its cause is complete.
-pub stop-complete : AtMostOneOutcome StdNext → StopsAreNoSchedules StdNext → HasJournalOrFault → HasOneJournal
-    → (words : List (String Global)) (o n po pn : Outside) (journal : Journal) (status : Status) (limit : ℕ) (stop : Stop)
-    → HasCause (so_far words o n journal) limit stop → PrintsStop po pn stop status → IsComplete (call_of words o n po pn journal status) limit
-stop-complete one no_schedule apart single words o n po pn journal status limit stop cause prints quiet valid =
-    inr (own-or-memory po pn stop status prints (valid-at one no_schedule apart single (so_far words o n journal) limit stop cause valid quiet.reads quiet.writes) quiet.prints)
+pub stop-complete : AtMostOneOutcome std_rules → StopsAreNoSchedules std_rules → HasJournalOrFault → HasOneJournal
+    → (words : List (String Global)) (o n po pn : Outside) (journal : Journal) (status : Status) (stop : Stop)
+    → HasCause (so_far words o n journal) stop → PrintsStop po pn stop status → IsComplete (call_of words o n po pn journal status)
+stop-complete one no_schedule apart single words o n po pn journal status stop cause prints quiet valid =
+    inr (own-or-memory po pn stop status prints (valid-at one no_schedule apart single (so_far words o n journal) stop cause valid quiet.reads quiet.writes) quiet.prints)

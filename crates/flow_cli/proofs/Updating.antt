@@ -2,8 +2,8 @@
 use Rattle.std.proofs.Common.{ℕ, List, inl, inr}
 use Rattle.flow_plan.specs.Network.{Network}
 use Rattle.flow_catalogue.specs.declared.standard.Std.{Std}
-use Rattle.flow_catalogue.specs.Std.{std_shape, std_uses, StdReady}
-use Rattle.flow_ready.specs.Ready.{StartsPlans}
+use Rattle.flow_catalogue.specs.Std.{std_rules}
+use Rattle.flow_model.specs.Ready.{StartsPlans}
 use Rattle.flow_meanings.specs.Batches.{EndedCollates, BatchMeans}
 use Rattle.flow_determinate.specs.Standard.{AreFirstOf}
 use Rattle.flow_cli.specs.Causes.{Work}
@@ -15,8 +15,8 @@ use Rattle.flow_cli.proofs.Fitting.{components-fit}
 use Rattle.flow_cli.proofs.Meaning.{are-first}
 
 -- Wherever a run stood, its ended Collates had sent their collations.
-pub collates-each : StartsPlans std_shape std_uses StdReady → EndedCollates → (w : Work) (limit : ℕ) → CollatesEach w limit
-collates-each starts collates w limit name workers plan last middle run front mid prefix =
+pub collates-each : StartsPlans std_rules → EndedCollates → (w : Work) → CollatesEach w
+collates-each starts collates w asked plan last middle run front mid prefix =
     let of = run.ready in
     collates plan run.components front mid (starts plan run.components of.file.standard.valid (components-fit plan run.components (of.given, of.are_components))) (are-first plan of.given run.components of.are_components) prefix.first
 
@@ -24,9 +24,9 @@ of-plan : (plan : Network) (given : List (List ℕ)) (ks : List Std) → AreComp
 of-plan plan given ks are p component at = let is = are.each p component at in record { process = is.2.process; there = is.2.there; file = is.0; made = is.2.made }
 
 -- A network that left what it means left its books.
-pub leaves-books : BatchMeans → (w : Work) (limit : ℕ) → LeavesMeaning w limit → LeavesBooks w limit
-leaves-books means w limit (inl l) =
-    let meant = l.4 in
+pub leaves-books : BatchMeans → (w : Work) → LeavesMeaning w → LeavesBooks w
+leaves-books means w (inl l) =
+    let meant = l.2 in
     let run = meant.whole.run in
-    inl (l.0, l.1, l.2, l.3, meant, means meant.whole.plan run.components (bytes_in meant.whole.last) (of-plan meant.whole.plan run.ready.given run.components run.ready.are_components) meant.composes)
-leaves-books means w limit (inr l) = inr l
+    inl (l.0, l.1, meant, means meant.whole.plan run.components (bytes_in meant.whole.last) (of-plan meant.whole.plan run.ready.given run.components run.ready.are_components) meant.composes)
+leaves-books means w (inr l) = inr l

@@ -8,11 +8,11 @@ use Rattle.std.specs.Option.{option_and_then}
 use Rattle.std.specs.declared.alloc.Global.{Global}
 use Rattle.std.specs.declared.option.Option.{Option}
 use Rattle.flow_text.specs.Edge.{Outside, Name, Files, Logged, Rose}
-use Rattle.flow_words.specs.Words.{Asked, Run, Replay, command_of}
+use Rattle.flow_words.specs.Words.{Asked, AskedRun, run_of, Replay, command_of}
 use Rattle.flow_component.specs.Laws.{AtMostOneOutcome}
 use Rattle.flow_model.specs.Schedules.{Journal as Schedule}
 use Rattle.flow_model.specs.Plans.{start_of}
-use Rattle.flow_catalogue.specs.Std.{StdNext}
+use Rattle.flow_catalogue.specs.Std.{std_rules}
 use Rattle.flow_journal.specs.Files.{HasJournalOrFault, HasOneJournal}
 use Rattle.flow_journal.specs.Replays.{schedule_of, StopsAreNoSchedules, StopsAtTurn}
 use Rattle.flow_journal.specs.declared.merge.Journal.{Journal}
@@ -22,7 +22,7 @@ use Rattle.flow_cli.specs.Components.{inputs_of}
 use Rattle.flow_cli.specs.Reads.{Asks, file_of, IsCommand, IsBetween, IsLimitedNext}
 use Rattle.flow_cli.specs.Causes.{Work, IsRefused, IsFaulty, IsNoSchedule, IsTooLong, HasCause}
 use Rattle.flow_cli.specs.Top.{IsReplay, IsJournalAt, HasSchedule, AreValid, IsValid}
-use Rattle.flow_cli.specs.declared.stop.Refusal.{Refusal}
+use Rattle.flow_cli.specs.declared.stop.NetRefusal.{NetRefusal}
 use Rattle.flow_cli.specs.declared.stop.JournalRefusal.TheVariants.{Byte, Turn}
 use Rattle.flow_cli.specs.declared.stop.Stop.{Stop}
 use Rattle.flow_cli.specs.declared.stop.Stop.TheVariants.{Words, Refused, JournalRefused, ReadFault, WriteFault, TooLong, NoMemory}
@@ -38,44 +38,44 @@ no-file : (words : List (String Global)) (name : Name) (asked : Asked) → Asks 
 no-file words name asked asks none is = let h : option_and_then file_of (command_of (map string_bytes words)) ≡ None = ap (λ c. option_and_then file_of c) asks ∙ none in cc
 
 -- a run is no replay
-no-replay : (words : List (String Global)) (name : Name) (keeps : Option Name) (workers : ℕ) → Asks words (Run name keeps workers) → IsReplay words → ⊥
-no-replay words name keeps workers asks replay = let h = replay.2 in cc
+no-replay : (words : List (String Global)) (asked : AskedRun) → Asks words (run_of asked) → IsReplay words → ⊥
+no-replay words asked asks replay = let h = replay.2 in cc
 
 -- two journals of the same turns and numbers are one schedule
 one-schedule : (a b : Journal) → a.turns ≡ b.turns → a.seen ≡ b.seen → schedule_of a ≡ schedule_of b
 one-schedule a b turns seen = ap₂ (λ t s. record { turns = t; seen = s }) turns seen
 
 -- a file that has a limit isn't that of a journal
-limited-at : (words : List (String Global)) (told : Option Files) (limit : ℕ) (name : Name) (earlier : List Filled) (read : Name) → IsLimitedNext words told limit name earlier read
+limited-at : (words : List (String Global)) (told : Option Files) (name : Name) (earlier : List Filled) (read : Name) → IsLimitedNext words told name earlier read
     → IsJournalAt words (length (map whole earlier)) → ⊥
-limited-at words told limit name earlier read (inl next) at = omega (arith, at.0, ap (λ (l : List Filled). length (map whole l)) next.1)
-limited-at words told limit name earlier read (inr next) at =
+limited-at words told name earlier read (inl next) at = omega (arith, at.0, ap (λ (l : List Filled). length (map whole l)) next.1)
+limited-at words told name earlier read (inr next) at =
     far next.is_between (ap (λ (l : List Filled). length (map whole l)) (sym next.earlier_are) ∙ at.0) at.1 where
       far : IsBetween words told name next.between → length (map whole ((name, next.net) ∷ (next.between ++ next.inputs))) ≡ 1 → IsReplay words → ⊥
-      far (inl b) one replay = no-replay words name b.0 b.1 b.2 replay
+      far (inl b) one replay = no-replay words b.0 b.1 replay
       far (inr b) one replay =
           let count : length (next.between ++ next.inputs) ≡ length (((b.0, b.1) ∷ []) ++ next.inputs) = ap (λ (l : List Filled). length (l ++ next.inputs)) b.5 in
           let mapped = length-map (next.between ++ next.inputs) whole in
           omega (arith, one, count, mapped)
 
-module _ (w : Work) (limit : ℕ) (valid : (read : List Logged) → w.after.opened ≡ w.before.opened ++ read → AreValid w.words read limit) where
+module _ (w : Work) (valid : (read : List Logged) → w.after.opened ≡ w.before.opened ++ read → AreValid w.words read) where
   -- what was read is valid
-  all-valid : (read : List Logged) → OnlyReads w.before w.after read → AreValid w.words read limit
+  all-valid : (read : List Logged) → OnlyReads w.before w.after read → AreValid w.words read
   all-valid read only = valid read (ap (λ (o : Outside). o.opened) only)
 
-  no-refusal : (refusal : Refusal) → IsRefused w limit refusal → ⊥
+  no-refusal : (refusal : NetRefusal) → IsRefused w refusal → ⊥
   no-refusal refusal c =
       let v = all-valid (whole (c.name, c.net) ∷ []) c.shelf in
       let has = v.network c.net (c.name, refl) in
       holds-or-refused c.net has.0 has.1 refusal has.2 c.refused
 
-  no-fault : HasJournalOrFault → (place : ℕ) → IsFaulty w limit place → ⊥
+  no-fault : HasJournalOrFault → (place : ℕ) → IsFaulty w place → ⊥
   no-fault apart place c =
       let v = all-valid (whole (c.name, c.net) ∷ c.given ∷ []) c.shelf in
       let begins = v.schedule c.net c.text c.plan 1 c.given (c.name, refl) c.file.holds (refl, (c.name, c.kept, c.asks)) refl in
       apart (c.given.bytes ++ begins.0) begins.2.journal place begins.2.is (c.shows.fault begins.0 begins.1)
 
-  no-stop : AtMostOneOutcome StdNext → StopsAreNoSchedules StdNext → HasOneJournal → (place p : ℕ) (refusal : NoTurn) → IsNoSchedule w limit place p refusal → ⊥
+  no-stop : AtMostOneOutcome std_rules → StopsAreNoSchedules std_rules → HasOneJournal → (place p : ℕ) (refusal : NoTurn) → IsNoSchedule w place p refusal → ⊥
   no-stop one no_schedule single place p refusal c =
       let r = c.ready in
       let v = all-valid (map whole ((c.name, r.net) ∷ (((c.kept, c.bytes) ∷ []) ++ inputs_of c.plan.processes r.given))) r.reads in
@@ -85,20 +85,20 @@ module _ (w : Work) (limit : ℕ) (valid : (read : List Logged) → w.after.open
       let leads = has.leads r.given c.components refl r.are_components in
       let same = single c.bytes c.tells has.journal c.is_journal.is has.is in
       let schedule : schedule_of c.tells ≡ schedule_of has.journal = one-schedule c.tells has.journal same.0 same.1 in
-      let stops = subst (λ (s : Schedule). StopsAtTurn StdNext (start_of c.plan c.components) s place p refusal) schedule c.stops in
+      let stops = subst (λ (s : Schedule). StopsAtTurn std_rules (start_of c.plan c.components) s place p refusal) schedule c.stops in
       no_schedule one (start_of c.plan c.components) (schedule_of has.journal) place p refusal leads.0 stops leads.1
 
   -- a file that the call reads isn't too long
-  not-too-long : (read : Name) → IsTooLong w limit read → ⊥
+  not-too-long : (read : Name) → IsTooLong w read → ⊥
   not-too-long read c =
       let more = c.shelf in
       let v = all-valid (map whole c.earlier ++ partly more.0 read ∷ []) more.2 in
       let at = get-last (map whole c.earlier) (partly more.0 read) in
-      let few = v.short (length (map whole c.earlier)) (partly more.0 read) at (limited-at w.words w.before.files limit c.name c.earlier read c.next) in
+      let few = v.short (length (map whole c.earlier)) (partly more.0 read) at (limited-at w.words w.before.files c.name c.earlier read c.next) in
       let many = more.1 in
       omega (arith, few, many)
 
-  valid-stop : AtMostOneOutcome StdNext → StopsAreNoSchedules StdNext → HasJournalOrFault → HasOneJournal → (name : Name) → IsCommand w.words name → (stop : Stop) → HasCause w limit stop
+  valid-stop : AtMostOneOutcome std_rules → StopsAreNoSchedules std_rules → HasJournalOrFault → HasOneJournal → (name : Name) → IsCommand w.words name → (stop : Stop) → HasCause w stop
       → (Rose w.before.read_faults w.after.read_faults → ⊥) → (Rose w.before.write_faults w.after.write_faults → ⊥) → stop ≡ NoMemory
   valid-stop one no_schedule apart single name command NoMemory c reads writes = refl
   valid-stop one no_schedule apart single name command (ReadFault read) c reads writes = absurd (reads c.shelf.rose)
@@ -111,19 +111,19 @@ module _ (w : Work) (limit : ℕ) (valid : (read : List Logged) → w.after.open
   valid-stop one no_schedule apart single name command (TooLong read) c reads writes = absurd (not-too-long (string_bytes read) c)
 
 -- what has no network file is stopped by nothing else
-still-stop : (w : Work) (limit : ℕ) (asked : Asked) (stop : Stop) → Asks w.words asked → file_of asked ≡ None → HasCause w limit stop
+still-stop : (w : Work) (asked : Asked) (stop : Stop) → Asks w.words asked → file_of asked ≡ None → HasCause w stop
     → (Rose w.before.read_faults w.after.read_faults → ⊥) → (Rose w.before.write_faults w.after.write_faults → ⊥) → stop ≡ NoMemory
-still-stop w limit asked NoMemory asks none c reads writes = refl
-still-stop w limit asked (ReadFault read) asks none c reads writes = absurd (reads c.shelf.rose)
-still-stop w limit asked (WriteFault file) asks none c reads writes = absurd (no-file w.words c.name asked asks none (on-file w.words (Run c.name c.keeps c.workers) c.name refl c.asks))
-still-stop w limit asked Words asks none c reads writes = let h = c.none in absurd cc
-still-stop w limit asked (Refused refusal) asks none c reads writes = absurd (no-file w.words c.name asked asks none c.command)
-still-stop w limit asked (JournalRefused (Byte place)) asks none c reads writes = absurd (no-file w.words c.name asked asks none (on-file w.words (Replay c.name c.kept) c.name refl c.asks))
-still-stop w limit asked (JournalRefused (Turn place process refusal)) asks none c reads writes = absurd (no-file w.words c.name asked asks none (on-file w.words (Replay c.name c.kept) c.name refl c.asks))
-still-stop w limit asked (TooLong read) asks none c reads writes = absurd (no-file w.words c.name asked asks none c.command)
+still-stop w asked NoMemory asks none c reads writes = refl
+still-stop w asked (ReadFault read) asks none c reads writes = absurd (reads c.shelf.rose)
+still-stop w asked (WriteFault file) asks none c reads writes = absurd (no-file w.words c.asked.net asked asks none (on-file w.words (run_of c.asked) c.asked.net refl c.asks))
+still-stop w asked Words asks none c reads writes = let h = c.none in absurd cc
+still-stop w asked (Refused refusal) asks none c reads writes = absurd (no-file w.words c.name asked asks none c.command)
+still-stop w asked (JournalRefused (Byte place)) asks none c reads writes = absurd (no-file w.words c.name asked asks none (on-file w.words (Replay c.name c.kept) c.name refl c.asks))
+still-stop w asked (JournalRefused (Turn place process refusal)) asks none c reads writes = absurd (no-file w.words c.name asked asks none (on-file w.words (Replay c.name c.kept) c.name refl c.asks))
+still-stop w asked (TooLong read) asks none c reads writes = absurd (no-file w.words c.name asked asks none c.command)
 
 -- Where the words ask for what has no network file, or what was read is valid, and no count of faults of the shelf rose, a stop is want of memory.
-pub valid-at : AtMostOneOutcome StdNext → StopsAreNoSchedules StdNext → HasJournalOrFault → HasOneJournal → (w : Work) (limit : ℕ) (stop : Stop)
-    → HasCause w limit stop → IsValid w limit → (Rose w.before.read_faults w.after.read_faults → ⊥) → (Rose w.before.write_faults w.after.write_faults → ⊥) → stop ≡ NoMemory
-valid-at one no_schedule apart single w limit stop c (inl still) reads writes = still-stop w limit still.0 stop still.1 still.2 c reads writes
-valid-at one no_schedule apart single w limit stop c (inr valid) reads writes = valid-stop w limit valid.2 one no_schedule apart single valid.0 valid.1 stop c reads writes
+pub valid-at : AtMostOneOutcome std_rules → StopsAreNoSchedules std_rules → HasJournalOrFault → HasOneJournal → (w : Work) (stop : Stop)
+    → HasCause w stop → IsValid w → (Rose w.before.read_faults w.after.read_faults → ⊥) → (Rose w.before.write_faults w.after.write_faults → ⊥) → stop ≡ NoMemory
+valid-at one no_schedule apart single w stop c (inl still) reads writes = still-stop w still.0 stop still.1 still.2 c reads writes
+valid-at one no_schedule apart single w stop c (inr valid) reads writes = valid-stop w valid.2 one no_schedule apart single valid.0 valid.1 stop c reads writes

@@ -1,15 +1,15 @@
 -- Why a call stops: each cause, once.
 use Rattle.std.specs.Prelude.{◌≡◌, ◌⊎◌, ℕ, List, [], ◌∷◌, ◌++◌, map, None, String, string_bytes}
 use Rattle.std.specs.declared.alloc.Global.{Global}
-use Rattle.std.specs.declared.option.Option.{Option}
+use Rattle.flow_limits.specs.declared.TheConstants.{FILE_LIMIT}
 use Rattle.flow_text.specs.Edge.{Outside, Name, Logged}
 use Rattle.flow_plan.specs.Network.{Network}
-use Rattle.flow_words.specs.Words.{Run, Replay, command_of}
+use Rattle.flow_words.specs.Words.{AskedRun, Replay, run_of, command_of}
 use Rattle.flow_parse.specs.declared.value.NetText.{NetText}
 use Rattle.flow_model.specs.States.{State}
 use Rattle.flow_model.specs.Plans.{start_of}
 use Rattle.flow_catalogue.specs.declared.standard.Std.{Std}
-use Rattle.flow_catalogue.specs.Std.{StdNext}
+use Rattle.flow_catalogue.specs.Std.{std_rules}
 use Rattle.flow_journal.specs.Files.{IsWritable}
 use Rattle.flow_journal.specs.Replays.{schedule_of, StopsAtTurn}
 use Rattle.flow_journal.specs.declared.merge.Journal.{Journal}
@@ -19,7 +19,7 @@ use Rattle.flow_cli.specs.Many.{FailsAt, EndsAt}
 use Rattle.flow_cli.specs.Networks.{RefusedFor}
 use Rattle.flow_cli.specs.Reads.{Asks, IsCommand, IsEmptyJournal, IsFile, IsJournalFile, IsReady, IsLimitedNext, IsNextFile, ShowsFault}
 use Rattle.flow_cli.specs.Runs.{RunsTo, files_of_run}
-use Rattle.flow_cli.specs.declared.stop.Refusal.{Refusal}
+use Rattle.flow_cli.specs.declared.stop.NetRefusal.{NetRefusal}
 use Rattle.flow_cli.specs.declared.stop.JournalRefusal.{JournalRefusal}
 use Rattle.flow_cli.specs.declared.stop.JournalRefusal.TheVariants.{Byte, Turn}
 use Rattle.flow_cli.specs.declared.stop.Stop.{Stop}
@@ -32,12 +32,12 @@ pub record Work : Type 0 where
   pub after : Outside
   pub journal : Journal
 
--- The network of the file of this name was run by so many workers on what its input files gave. This is its plan, this is the state to which the journal leads, and
+-- The run that was asked for was made, on what its input files gave. This is its plan, this is the state to which the journal leads, and
 -- so stood the shelf when all was read. The journal has a file.
-pub record IsRunOf (w : Work) (limit : ℕ) (name : Name) (workers : ℕ) (plan : Network) (last : State Std) (middle : Outside) : Type 0 where
+pub record IsRunOf (w : Work) (asked : AskedRun) (plan : Network) (last : State Std) (middle : Outside) : Type 0 where
   pub components : List Std
-  pub ready : IsReady w.before middle limit name [] plan components
-  pub run : RunsTo workers plan components w.journal last
+  pub ready : IsReady w.before middle asked.net [] plan components
+  pub run : RunsTo asked.workers plan components w.journal last
   pub writable : IsWritable w.journal
 
 -- No turn was made, and no file was created.
@@ -53,25 +53,25 @@ pub record IsNoCommand (w : Work) : Type 0 where
   pub journal : IsEmptyJournal w.journal
 
 -- The network file was read whole, and nothing but it; and it is refused for this.
-pub record IsRefused (w : Work) (limit : ℕ) (refusal : Refusal) : Type 0 where
+pub record IsRefused (w : Work) (refusal : NetRefusal) : Type 0 where
   pub name : Name
   pub command : IsCommand w.words name
   pub net : List ℕ
-  pub read : IsRead w.before.files limit (name, net)
+  pub read : IsRead w.before.files FILE_LIMIT (name, net)
   pub refused : RefusedFor net refusal
   pub shelf : OnlyReads w.before w.after (whole (name, net) ∷ [])
   pub journal : IsEmptyJournal w.journal
 
 -- The network file was read whole, and then that of the journal as far as its fault shows; the byte at this place can't stand in a journal's file, or the file ends
 -- there too early.
-pub record IsFaulty (w : Work) (limit place : ℕ) : Type 0 where
+pub record IsFaulty (w : Work) (place : ℕ) : Type 0 where
   pub name : Name
   pub kept : Name
   pub asks : Asks w.words (Replay name kept)
   pub net : List ℕ
   pub text : NetText
   pub plan : Network
-  pub file : IsFile w.before.files limit name net text plan
+  pub file : IsFile w.before.files name net text plan
   pub given : Logged
   pub shows : ShowsFault w.before.files kept given place
   pub shelf : OnlyReads w.before w.after (whole (name, net) ∷ given ∷ [])
@@ -79,7 +79,7 @@ pub record IsFaulty (w : Work) (limit place : ℕ) : Type 0 where
 
 -- All that a replay reads was read, and the journal of the file, which is the one that it is the file of, is no schedule from the start of the network: this is the
 -- first of its turns that isn't defined, and why.
-pub record IsNoSchedule (w : Work) (limit place process : ℕ) (refusal : NoTurn) : Type 0 where
+pub record IsNoSchedule (w : Work) (place process : ℕ) (refusal : NoTurn) : Type 0 where
   pub name : Name
   pub kept : Name
   pub asks : Asks w.words (Replay name kept)
@@ -88,66 +88,62 @@ pub record IsNoSchedule (w : Work) (limit place process : ℕ) (refusal : NoTurn
   pub is_journal : IsJournalFile w.before.files kept bytes tells
   pub plan : Network
   pub components : List Std
-  pub ready : IsReady w.before w.after limit name ((kept, bytes) ∷ []) plan components
-  pub stops : StopsAtTurn StdNext (start_of plan components) (schedule_of tells) place process refusal
+  pub ready : IsReady w.before w.after name ((kept, bytes) ∷ []) plan components
+  pub stops : StopsAtTurn std_rules (start_of plan components) (schedule_of tells) place process refusal
   pub journal : IsEmptyJournal w.journal
 
 -- The journal's file is refused for this.
-abbrev pub IsJournalRefused : Work → ℕ → JournalRefusal → Type 0
-IsJournalRefused w limit (Byte place) = IsFaulty w limit place
-IsJournalRefused w limit (Turn place process refusal) = IsNoSchedule w limit place process refusal
+abbrev pub IsJournalRefused : Work → JournalRefusal → Type 0
+IsJournalRefused w (Byte place) = IsFaulty w place
+IsJournalRefused w (Turn place process refusal) = IsNoSchedule w place process refusal
 
 -- A read of this file failed: it couldn't be opened, or it gave an error before its end. Each file before it was read whole, and none behind it.
-pub record IsReadFault (w : Work) (limit : ℕ) (read : Name) : Type 0 where
+pub record IsReadFault (w : Work) (read : Name) : Type 0 where
   pub name : Name
   pub command : IsCommand w.words name
   pub earlier : List Filled
-  pub next : IsNextFile w.words w.before.files limit name earlier read
+  pub next : IsNextFile w.words w.before.files name earlier read
   pub opened : List Logged
   pub unended : Unended read opened
   pub shelf : FailsToRead w.before w.after (map whole earlier ++ opened) read
   pub journal : IsEmptyJournal w.journal
 
 -- This file, the network file or one of a reader, gave one byte more than it may have. Each file before it was read whole, and none behind it.
-pub record IsTooLong (w : Work) (limit : ℕ) (read : Name) : Type 0 where
+pub record IsTooLong (w : Work) (read : Name) : Type 0 where
   pub name : Name
   pub command : IsCommand w.words name
   pub earlier : List Filled
-  pub next : IsLimitedNext w.words w.before.files limit name earlier read
-  pub more : HoldsMore w.before.files read limit
-  pub shelf : GivesMore w.before w.after (map whole earlier) read limit
+  pub next : IsLimitedNext w.words w.before.files name earlier read
+  pub more : HoldsMore w.before.files read
+  pub shelf : GivesMore w.before w.after (map whole earlier) read
   pub journal : IsEmptyJournal w.journal
 
 -- A run was made, and writing one of its files failed: this one. Those before it were written whole.
-pub record IsWriteFault (w : Work) (limit : ℕ) (written : Name) : Type 0 where
-  pub name : Name
-  pub keeps : Option Name
-  pub workers : ℕ
-  pub asks : Asks w.words (Run name keeps workers)
+pub record IsWriteFault (w : Work) (written : Name) : Type 0 where
+  pub asked : AskedRun
+  pub asks : Asks w.words (run_of asked)
   pub plan : Network
   pub last : State Std
   pub middle : Outside
-  pub run : IsRunOf w limit name workers plan last middle
-  pub fails : FailsAt middle w.after (files_of_run plan last keeps w.journal) written
+  pub run : IsRunOf w asked plan last middle
+  pub fails : FailsAt middle w.after (files_of_run plan last asked.journal w.journal) written
 
 -- A run was made, and memory was wanting before its last file was begun. Those that were begun were written whole.
-pub record IsCutOff (w : Work) (limit : ℕ) : Type 0 where
-  pub name : Name
-  pub keeps : Option Name
-  pub workers : ℕ
-  pub asks : Asks w.words (Run name keeps workers)
+pub record IsCutOff (w : Work) : Type 0 where
+  pub asked : AskedRun
+  pub asks : Asks w.words (run_of asked)
   pub plan : Network
   pub last : State Std
   pub middle : Outside
-  pub run : IsRunOf w limit name workers plan last middle
-  pub ends : EndsAt middle w.after (files_of_run plan last keeps w.journal)
+  pub run : IsRunOf w asked plan last middle
+  pub ends : EndsAt middle w.after (files_of_run plan last asked.journal w.journal)
 
 -- Each stop has its cause. That of want of memory says only what stands: all files of a run stand only behind its report.
-abbrev pub HasCause : Work → ℕ → Stop → Type 0
-HasCause w limit Words = IsNoCommand w
-HasCause w limit (Refused refusal) = IsRefused w limit refusal
-HasCause w limit (JournalRefused refusal) = IsJournalRefused w limit refusal
-HasCause w limit (ReadFault read) = IsReadFault w limit (string_bytes read)
-HasCause w limit (TooLong read) = IsTooLong w limit (string_bytes read)
-HasCause w limit (WriteFault written) = IsWriteFault w limit (string_bytes written)
-HasCause w limit NoMemory = IsUntouched w ⊎ IsCutOff w limit ⊎ ((written : Name) × IsWriteFault w limit written)
+abbrev pub HasCause : Work → Stop → Type 0
+HasCause w Words = IsNoCommand w
+HasCause w (Refused refusal) = IsRefused w refusal
+HasCause w (JournalRefused refusal) = IsJournalRefused w refusal
+HasCause w (ReadFault read) = IsReadFault w (string_bytes read)
+HasCause w (TooLong read) = IsTooLong w (string_bytes read)
+HasCause w (WriteFault written) = IsWriteFault w (string_bytes written)
+HasCause w NoMemory = IsUntouched w ⊎ IsCutOff w ⊎ ((written : Name) × IsWriteFault w written)

@@ -4,6 +4,7 @@ use Rattle.std.specs.Str.{bytes_eq}
 use Rattle.std.specs.declared.alloc.Global.{Global}
 use Rattle.std.specs.declared.option.Option.{Option}
 use Rattle.std.specs.declared.result.Result.{Result}
+use Rattle.flow_limits.specs.declared.TheConstants.{FILE_LIMIT}
 use Rattle.flow_text.specs.Edge.{Outside, Name, Files, Logged}
 use Rattle.flow_plan.specs.declared.plan.Process.{Process}
 use Rattle.flow_plan.specs.Network.{Network}
@@ -44,8 +45,8 @@ pub record IsInput (plan : Network) (name : Name) : Type 0 where
   pub reads : read_by process ≡ name ∷ []
 
 -- Each of these files gave its bytes, which aren't too many.
-abbrev pub AreRead : Option Files → ℕ → List Filled → Type 0
-AreRead told limit files = (at : ℕ) (file : Filled) → slice_get files at ≡ Some file → IsRead told limit file
+abbrev pub AreRead : Option Files → List Filled → Type 0
+AreRead told files = (at : ℕ) (file : Filled) → slice_get files at ≡ Some file → IsRead told FILE_LIMIT file
 
 -- The component is the one of process p in its first state, on these bytes.
 pub record IsComponent (plan : Network) (p : ℕ) (bytes : List ℕ) (component : Std) : Type 0 where
@@ -64,7 +65,7 @@ abbrev pub HasComponents : Network → List Std → Type 0
 HasComponents plan components = (given : List (List ℕ)) × AreComponents plan given components
 
 -- The file `read` is that of a process of the plan, and these are the files of the processes before it, which were read whole.
-pub record IsNext (told : Option Files) (limit : ℕ) (plan : Network) (earlier : List Filled) (read : Name) : Type 0 where
+pub record IsNext (told : Option Files) (plan : Network) (earlier : List Filled) (read : Name) : Type 0 where
   pub place : ℕ
   pub process : Process
   pub there : slice_get plan.processes place ≡ Some process
@@ -72,31 +73,31 @@ pub record IsNext (told : Option Files) (limit : ℕ) (plan : Network) (earlier 
   pub given : List (List ℕ)
   pub count : length given ≡ place
   pub earlier_are : earlier ≡ inputs_of plan.processes given
-  pub were_read : AreRead told limit earlier
+  pub were_read : AreRead told earlier
 
 -- Behind these files, which were read whole, a read of this one stopped.
-abbrev pub StopsAtFile : Outside → Outside → List Filled → Name → Stop → ℕ → Type 0
-StopsAtFile old new earlier name (ReadFault read) limit = (string_bytes read ≡ name)
+abbrev pub StopsAtFile : Outside → Outside → List Filled → Name → Stop → Type 0
+StopsAtFile old new earlier name (ReadFault read) = (string_bytes read ≡ name)
     × ((files : List Logged) × Unended name files × FailsToRead old new (map whole earlier ++ files) name)
-StopsAtFile old new earlier name (TooLong read) limit = (string_bytes read ≡ name)
-    × GivesMore old new (map whole earlier) name limit × HoldsMore old.files name limit
-StopsAtFile old new earlier name NoMemory limit = MayRead old new
-StopsAtFile old new earlier name other limit = ⊥
+StopsAtFile old new earlier name (TooLong read) = (string_bytes read ≡ name)
+    × GivesMore old new (map whole earlier) name × HoldsMore old.files name
+StopsAtFile old new earlier name NoMemory = MayRead old new
+StopsAtFile old new earlier name other = ⊥
 
 -- What making one component does to the outside.
-abbrev pub ReadsComponent : Outside → Outside → Network → ℕ → Result Std Stop → ℕ → Type 0
-ReadsComponent old new plan p (Ok component) limit = (process : Process) × (bytes : List ℕ) × (slice_get plan.processes p ≡ Some process)
-    × OnlyReads old new (map whole (input_of process bytes)) × AreRead old.files limit (input_of process bytes) × IsComponent plan p bytes component
-ReadsComponent old new plan p (Err NoMemory) limit = MayRead old new
-ReadsComponent old new plan p (Err stop) limit = (process : Process) × (name : Name) × (slice_get plan.processes p ≡ Some process)
-    × (read_by process ≡ name ∷ []) × StopsAtFile old new [] name stop limit
+abbrev pub ReadsComponent : Outside → Outside → Network → ℕ → Result Std Stop → Type 0
+ReadsComponent old new plan p (Ok component) = (process : Process) × (bytes : List ℕ) × (slice_get plan.processes p ≡ Some process)
+    × OnlyReads old new (map whole (input_of process bytes)) × AreRead old.files (input_of process bytes) × IsComponent plan p bytes component
+ReadsComponent old new plan p (Err NoMemory) = MayRead old new
+ReadsComponent old new plan p (Err stop) = (process : Process) × (name : Name) × (slice_get plan.processes p ≡ Some process)
+    × (read_by process ≡ name ∷ []) × StopsAtFile old new [] name stop
 
 -- What making all components does to the outside.
-abbrev pub ReadsComponents : Outside → Outside → Network → Result (Vec Std Global) Stop → ℕ → Type 0
-ReadsComponents old new plan (Ok components) limit = (given : List (List ℕ)) × OnlyReads old new (map whole (inputs_of plan.processes given))
-    × AreRead old.files limit (inputs_of plan.processes given) × AreComponents plan given components.items
-ReadsComponents old new plan (Err NoMemory) limit = MayRead old new
-ReadsComponents old new plan (Err stop) limit = (earlier : List Filled) × (name : Name) × IsNext old.files limit plan earlier name × StopsAtFile old new earlier name stop limit
+abbrev pub ReadsComponents : Outside → Outside → Network → Result (Vec Std Global) Stop → Type 0
+ReadsComponents old new plan (Ok components) = (given : List (List ℕ)) × OnlyReads old new (map whole (inputs_of plan.processes given))
+    × AreRead old.files (inputs_of plan.processes given) × AreComponents plan given components.items
+ReadsComponents old new plan (Err NoMemory) = MayRead old new
+ReadsComponents old new plan (Err stop) = (earlier : List Filled) × (name : Name) × IsNext old.files plan earlier name × StopsAtFile old new earlier name stop
 
 -- All these files hold these bytes.
 abbrev pub AllHold : List ℕ → List Filled → Type 0

@@ -1,13 +1,16 @@
 pub mod After
+pub mod Alone
 pub mod Causes
 pub mod Components
 pub mod Engines
 pub mod Front
+pub mod Made
 pub mod Makes
 pub mod Many
 pub mod Meant
 pub mod Networks
 pub mod Prepare
+pub mod Promises
 pub mod Reads
 pub mod Runs
 pub mod Statuses
@@ -15,4 +18,3 @@ pub mod Step
 pub mod Stops
 pub mod Top
 pub mod Updates
-pub mod Alone

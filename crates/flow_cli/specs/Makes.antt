@@ -18,7 +18,7 @@ use Rattle.flow_cli.specs.Components.{GivesComponents, written_by}
 use Rattle.flow_cli.specs.Networks.{Holds, IsStandardPlan}
 use Rattle.flow_cli.specs.Runs.{RunsTo, bytes_at, bytes_in}
 use Rattle.flow_cli.specs.After.{verdict_status}
-use Rattle.flow_cli.specs.declared.engine.Ran.{Ran}
+use Rattle.flow_cli.specs.declared.ran.Ran.{Ran}
 use Rattle.flow_cli.specs.declared.made.MadeJob.{MadeJob}
 use Rattle.flow_cli.specs.declared.run.Said.{Said}
 use Rattle.flow_cli.specs.declared.stop.Stop.{Stop}

@@ -1,9 +1,8 @@
 -- What a network means, without a word of turns or states: streams on its connections of which each process makes what its kind
 -- means, and files that are what its writers make of theirs.
 use Rattle.std.specs.Prelude.{◌≡◌, ◌⊎◌, ℕ}
-use Rattle.std.specs.declared.option.Option.{Option}
 use Rattle.flow_text.specs.Edge.{Name}
-use Rattle.flow_words.specs.Words.{Run, Check, Judge, Replay, Make, Kinds}
+use Rattle.flow_words.specs.Words.{AskedRun, run_of, Check, Judge, Replay, Make, Kinds}
 use Rattle.flow_model.specs.Rising.{LeadsOn}
 use Rattle.flow_report.specs.Text.{Told as Report}
 use Rattle.flow_meanings.specs.Composition.{Composes}
@@ -12,11 +11,11 @@ use Rattle.flow_cli.specs.Causes.{Work}
 use Rattle.flow_cli.specs.Runs.{bytes_in}
 use Rattle.flow_cli.specs.Top.{IsWhole}
 
--- The network of the file of this name was run by so many workers, and all its files were written whole. Of this one network and this one run its writers' files are
+-- The run that was asked for was made, and all its files were written whole. Of this one network and this one run its writers' files are
 -- what the network means, on what its input files gave; and no connection leads back, so that the meaning is one of streams that come to an end.
-pub record IsMeant (w : Work) (limit : ℕ) (name : Name) (keeps : Option Name) (workers : ℕ) : Type 0 where
+pub record IsMeant (w : Work) (asked : AskedRun) : Type 0 where
   pub report : Report
-  pub whole : IsWhole w limit name keeps workers report
+  pub whole : IsWhole w asked report
   pub composes : Composes whole.plan whole.run.components (bytes_in whole.last)
   pub leads_on : LeadsOn whole.plan
 
@@ -27,5 +26,5 @@ pub record ChangesNoName (w : Work) : Type 0 where
   pub created : w.after.created ≡ w.before.created
 
 -- A run that finished left the files that its network means; nothing else leaves any.
-abbrev pub LeavesMeaning : Work → ℕ → Type 0
-LeavesMeaning w limit = ((name : Name) × (keeps : Option Name) × (workers : ℕ) × Asks w.words (Run name keeps workers) × IsMeant w limit name keeps workers) ⊎ ChangesNoName w
+abbrev pub LeavesMeaning : Work → Type 0
+LeavesMeaning w = ((asked : AskedRun) × Asks w.words (run_of asked) × IsMeant w asked) ⊎ ChangesNoName w

@@ -8,8 +8,8 @@ use Rattle.flow_parse.specs.declared.value.NetText.{NetText}
 use Rattle.flow_parse.specs.Files.{Spells, Refused}
 use Rattle.flow_flat.specs.Texts.{TextComesTo}
 use Rattle.flow_catalogue.specs.Kinds.{std_kinds}
-use Rattle.flow_cli.specs.declared.stop.Refusal.{Refusal}
-use Rattle.flow_cli.specs.declared.stop.Refusal.TheVariants as refusals
+use Rattle.flow_cli.specs.declared.stop.NetRefusal.{NetRefusal}
+use Rattle.flow_cli.specs.declared.stop.NetRefusal.TheVariants as refusals
 use Rattle.flow_cli.specs.declared.net_file.NetFile.{NetFile}
 use Rattle.flow_cli.specs.declared.stop.Stop.{Stop}
 use Rattle.flow_cli.specs.declared.stop.Stop.TheVariants.{Refused as IsRefused, NoMemory}
@@ -20,7 +20,7 @@ pub record Holds (net : List ℕ) (text : NetText) (plan : Network) : Type 0 whe
   pub comes : TextComesTo std_kinds text (Ok plan)
 
 -- The bytes are refused: a line has a fault; or they spell a value whose network has one.
-abbrev pub RefusedFor : List ℕ → Refusal → Type 0
+abbrev pub RefusedFor : List ℕ → NetRefusal → Type 0
 RefusedFor net (refusals.Line fault) = Refused net fault
 RefusedFor net (refusals.Network fault) = (text : NetText) × Spells net text × TextComesTo std_kinds text (Err fault)
 

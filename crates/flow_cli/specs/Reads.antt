@@ -3,10 +3,10 @@ use Rattle.std.specs.Prelude.{◌≡◌, ◌⊎◌, ◌≤◌, ◌+◌, ℕ, max
 use Rattle.std.specs.declared.alloc.Global.{Global}
 use Rattle.std.specs.declared.option.Option.{Option}
 use Rattle.std.specs.Option.{option_and_then}
-use Rattle.flow_limits.specs.declared.TheConstants.{WORKER_LIMIT}
+use Rattle.flow_limits.specs.declared.TheConstants.{FILE_LIMIT, JOURNAL_FILE_LIMIT, WORKER_LIMIT}
 use Rattle.flow_text.specs.Edge.{Outside, Name, Files, Logged}
 use Rattle.flow_plan.specs.Network.{Network}
-use Rattle.flow_words.specs.Words.{Asked, Run, Check, Judge, Replay, Make, Kinds, workers_asked, command_of}
+use Rattle.flow_words.specs.Words.{Asked, AskedRun, Run, run_of, Check, Judge, Replay, Make, Kinds, workers_asked, command_of}
 use Rattle.flow_parse.specs.declared.value.NetText.{NetText}
 use Rattle.flow_catalogue.specs.declared.standard.Std.{Std}
 use Rattle.flow_journal.specs.Files.{IsFileOf, IsFault}
@@ -15,7 +15,6 @@ use Rattle.flow_journal.specs.declared.merge.Journal.{Journal}
 use Rattle.flow_cli.specs.Step.{Filled, OnlyReads, IsRead, IsFrontOf, MayFollow, whole}
 use Rattle.flow_cli.specs.Components.{inputs_of, AreRead, AreComponents, IsNext}
 use Rattle.flow_cli.specs.Networks.{Holds, IsStandardPlan}
-use Rattle.flow_cli.specs.declared.components.TheConstants.{JOURNAL_FILE_LIMIT}
 
 -- What the words ask for, if they are a command line.
 abbrev pub Asks : List (String Global) → Asked → Type 0
@@ -44,17 +43,13 @@ IsServed serves words = (asked : Asked) → Asks words asked → workers_asked a
 abbrev pub IsCommand : List (String Global) → Name → Type 0
 IsCommand words name = option_and_then file_of (command_of (map string_bytes words)) ≡ Some name
 
--- The words ask that turns are made in the network of this file: in a run or in a replay.
-abbrev pub MakesTurns : List (String Global) → Name → Type 0
-MakesTurns words name = ((keeps : Option Name) × (workers : ℕ) × Asks words (Run name keeps workers)) ⊎ ((kept : Name) × Asks words (Replay name kept))
-
 -- No turn was made.
 abbrev pub IsEmptyJournal : Journal → Type 0
 IsEmptyJournal journal = (journal.turns ≡ []) × (journal.seen ≡ [])
 
 -- The network file of this name gave these bytes, which spell this value; and this is its plan, a valid one over the standard kinds.
-pub record IsFile (told : Option Files) (limit : ℕ) (name : Name) (net : List ℕ) (text : NetText) (plan : Network) : Type 0 where
-  pub read : IsRead told limit (name, net)
+pub record IsFile (told : Option Files) (name : Name) (net : List ℕ) (text : NetText) (plan : Network) : Type 0 where
+  pub read : IsRead told FILE_LIMIT (name, net)
   pub holds : Holds net text plan
   pub standard : IsStandardPlan plan
 
@@ -73,47 +68,47 @@ pub record ShowsFault (told : Option Files) (kept : Name) (given : Logged) (plac
 -- What a call with these words reads between the network file and the files of its network: nothing in a run, and in a replay the file of its journal.
 abbrev pub IsBetween : List (String Global) → Option Files → Name → List Filled → Type 0
 IsBetween words told name between =
-    ((keeps : Option Name) × (workers : ℕ) × Asks words (Run name keeps workers) × (between ≡ []))
+    ((asked : AskedRun) × Asks words (run_of asked) × (between ≡ []))
     ⊎ ((kept : Name) × (bytes : List ℕ) × (journal : Journal) × Asks words (Replay name kept) × IsJournalFile told kept bytes journal × (between ≡ (kept, bytes) ∷ []))
 
 -- The network file was read, then these files, then those of the readers, in the order of the processes; each once, to its end, and nothing else. This is the
 -- network's plan, and these are the components of its processes, each reader on what its file gave.
-pub record IsReady (old new : Outside) (limit : ℕ) (name : Name) (between : List Filled) (plan : Network) (components : List Std) : Type 0 where
+pub record IsReady (old new : Outside) (name : Name) (between : List Filled) (plan : Network) (components : List Std) : Type 0 where
   pub net : List ℕ
   pub text : NetText
-  pub file : IsFile old.files limit name net text plan
+  pub file : IsFile old.files name net text plan
   pub given : List (List ℕ)
-  pub inputs : AreRead old.files limit (inputs_of plan.processes given)
+  pub inputs : AreRead old.files (inputs_of plan.processes given)
   pub reads : OnlyReads old new (map whole ((name, net) ∷ (between ++ inputs_of plan.processes given)))
   pub are_components : AreComponents plan given components
 
 -- The file `read` is that of a reader of the network, and these are all files before it.
-pub record IsInputNext (words : List (String Global)) (told : Option Files) (limit : ℕ) (name : Name) (earlier : List Filled) (read : Name) : Type 0 where
+pub record IsInputNext (words : List (String Global)) (told : Option Files) (name : Name) (earlier : List Filled) (read : Name) : Type 0 where
   pub net : List ℕ
   pub text : NetText
   pub plan : Network
-  pub file : IsFile told limit name net text plan
+  pub file : IsFile told name net text plan
   pub between : List Filled
   pub is_between : IsBetween words told name between
   pub inputs : List Filled
-  pub next : IsNext told limit plan inputs read
+  pub next : IsNext told plan inputs read
   pub earlier_are : earlier ≡ (name, net) ∷ (between ++ inputs)
 
 -- The file `read` is that of the journal, which a replay reads behind the network file.
-pub record IsJournalNext (words : List (String Global)) (told : Option Files) (limit : ℕ) (name : Name) (earlier : List Filled) (read : Name) : Type 0 where
+pub record IsJournalNext (words : List (String Global)) (told : Option Files) (name : Name) (earlier : List Filled) (read : Name) : Type 0 where
   pub asks : Asks words (Replay name read)
   pub net : List ℕ
   pub text : NetText
   pub plan : Network
-  pub file : IsFile told limit name net text plan
+  pub file : IsFile told name net text plan
   pub earlier_are : earlier ≡ (name, net) ∷ []
 
 -- The file `read` is the next one that the call reads behind these, which it read whole, and has a limit: the network file first; then, in a run and in a replay,
 -- those of its network.
-abbrev pub IsLimitedNext : List (String Global) → Option Files → ℕ → Name → List Filled → Name → Type 0
-IsLimitedNext words told limit name earlier read = ((read ≡ name) × (earlier ≡ [])) ⊎ IsInputNext words told limit name earlier read
+abbrev pub IsLimitedNext : List (String Global) → Option Files → Name → List Filled → Name → Type 0
+IsLimitedNext words told name earlier read = ((read ≡ name) × (earlier ≡ [])) ⊎ IsInputNext words told name earlier read
 
 -- The file `read` is the next one that the call reads behind these: one that has a limit; or, in a replay, behind the network file, the journal's, which tells itself
 -- how long it is.
-abbrev pub IsNextFile : List (String Global) → Option Files → ℕ → Name → List Filled → Name → Type 0
-IsNextFile words told limit name earlier read = IsLimitedNext words told limit name earlier read ⊎ IsJournalNext words told limit name earlier read
+abbrev pub IsNextFile : List (String Global) → Option Files → Name → List Filled → Name → Type 0
+IsNextFile words told name earlier read = IsLimitedNext words told name earlier read ⊎ IsJournalNext words told name earlier read

@@ -13,8 +13,8 @@ use Rattle.flow_cli.specs.declared.stop.Stop.TheVariants.{Words, Refused, Journa
 use Rattle.flow_expand.specs.Refusals.{fault_text, net_fault_text}
 use Rattle.flow_journal.specs.declared.refusal.Refusal.{Refusal as NoTurn}
 use Rattle.flow_journal.specs.declared.refusal.Refusal.TheVariants.{NoProcess, Over, Blocked, Seen}
-use Rattle.flow_cli.specs.declared.stop.Refusal.{Refusal}
-use Rattle.flow_cli.specs.declared.stop.Refusal.TheVariants as refusals
+use Rattle.flow_cli.specs.declared.stop.NetRefusal.{NetRefusal}
+use Rattle.flow_cli.specs.declared.stop.NetRefusal.TheVariants as refusals
 use Rattle.flow_cli.specs.declared.stop.JournalRefusal.{JournalRefusal}
 use Rattle.flow_cli.specs.declared.stop.JournalRefusal.TheVariants.{Byte, Turn}
 
@@ -29,7 +29,7 @@ status_of NoMemory = statuses.NoMemory
 status_of (TooLong name) = statuses.TooLong
 
 -- What is said of a refused network.
-abbrev pub refusal_text : Refusal → List ℕ
+abbrev pub refusal_text : NetRefusal → List ℕ
 refusal_text (refusals.Line fault) = net_fault_text fault
 refusal_text (refusals.Network fault) = fault_text fault
 

@@ -3,22 +3,23 @@ use Rattle.std.specs.Prelude.{◌≡◌, ◌⊎◌, ℕ, ◌≤◌, Bool, true, 
 use Rattle.std.specs.declared.alloc.Global.{Global}
 use Rattle.std.specs.declared.option.Option.{Option}
 use Rattle.std.specs.declared.result.Result.{Result}
+use Rattle.flow_limits.specs.declared.TheConstants.{FILE_LIMIT}
 use Rattle.flow_text.specs.Edge.{Outside, Name, Logged, Rose, after_write}
 use Rattle.flow_plan.specs.Network.{Network}
-use Rattle.flow_words.specs.Words.{Asked, Run, Check, Judge, Replay, Make, Kinds}
+use Rattle.flow_words.specs.Words.{Asked, AskedRun, run_of, Check, Judge, Replay, Make, Kinds}
 use Rattle.flow_parse.specs.declared.value.NetText.{NetText}
 use Rattle.flow_parse.specs.Canonical.{canonical}
 use Rattle.flow_model.specs.States.{State}
 use Rattle.flow_model.specs.Schedules.{Leads}
 use Rattle.flow_model.specs.Plans.{start_of}
 use Rattle.flow_catalogue.specs.declared.standard.Std.{Std}
-use Rattle.flow_catalogue.specs.Std.{StdNext}
+use Rattle.flow_catalogue.specs.Std.{std_rules}
 use Rattle.flow_determinate.specs.Standard.{IsDeterminate}
 use Rattle.flow_kinds.specs.Page.{kinds_page}
 use Rattle.flow_journal.specs.Files.{IsFileOf}
 use Rattle.flow_journal.specs.Replays.{schedule_of}
 use Rattle.flow_journal.specs.declared.merge.Journal.{Journal}
-use Rattle.flow_runs.specs.Runs.{IsScheduled}
+use Rattle.flow_journal.specs.Runs.{IsScheduled}
 use Rattle.flow_report.specs.Text.{Told as Report, report_text}
 use Rattle.flow_report.specs.States.{TellsOf}
 use Rattle.flow_cli.specs.Step.{Filled, OnlyReads, MayFollow, whole}
@@ -32,7 +33,7 @@ use Rattle.flow_cli.specs.Statuses.{IsOver}
 use Rattle.flow_cli.specs.Stops.{status_of, text_of}
 use Rattle.flow_cli.specs.Causes.{Work, IsRunOf, HasCause}
 use Rattle.flow_cli.specs.Makes.{make_text, IsRunOfMade}
-use Rattle.flow_cli.specs.declared.engine.Told.{Told}
+use Rattle.flow_cli.specs.declared.ran.PrintedReport.{PrintedReport}
 use Rattle.flow_cli.specs.declared.run.Kept.{Kept}
 use Rattle.flow_cli.specs.declared.run.Said.{Said}
 use Rattle.flow_cli.specs.declared.run.Unwritten.{Unwritten}
@@ -44,53 +45,53 @@ use Rattle.flow_cli.specs.declared.status.Status.TheVariants.{Finished}
 use Rattle.flow_cli.specs.declared.stop.Stop.{Stop}
 use Rattle.flow_cli.specs.declared.stop.Stop.TheVariants.{NoMemory}
 
--- A run by so many workers was made, and all its files were written whole: those of its writers, in the order of the processes, and then that of its journal, where one was named; and
+-- The run that was asked for was made, and all its files were written whole: those of its writers, in the order of the processes, and then that of its journal, where one was named; and
 -- nothing else. This report tells of its last state.
-pub record IsWhole (w : Work) (limit : ℕ) (name : Name) (keeps : Option Name) (workers : ℕ) (report : Report) : Type 0 where
+pub record IsWhole (w : Work) (asked : AskedRun) (report : Report) : Type 0 where
   pub plan : Network
   pub last : State Std
   pub middle : Outside
-  pub run : IsRunOf w limit name workers plan last middle
-  pub writes : WritesAll middle w.after (files_of_run plan last keeps w.journal)
+  pub run : IsRunOf w asked plan last middle
+  pub writes : WritesAll middle w.after (files_of_run plan last asked.journal w.journal)
   pub tells : TellsOf plan last report
 
 -- The network file was read whole, and nothing else was done; it holds this value, which has a plan.
-pub record IsChecked (w : Work) (limit : ℕ) (name : Name) (text : NetText) : Type 0 where
+pub record IsChecked (w : Work) (name : Name) (text : NetText) : Type 0 where
   pub net : List ℕ
   pub plan : Network
-  pub file : IsFile w.before.files limit name net text plan
+  pub file : IsFile w.before.files name net text plan
   pub shelf : OnlyReads w.before w.after (whole (name, net) ∷ [])
   pub journal : IsEmptyJournal w.journal
 
 -- The journal of this file is a schedule of the network of that one, on what its input files gave: after each of its prefixes each packet is in one place and
 -- each connection is in order. All files were read whole, and nothing else was done. This report tells of the state to which the journal leads, which needn't
 -- be quiet.
-pub record IsReplayed (w : Work) (limit : ℕ) (name kept : Name) (report : Report) : Type 0 where
+pub record IsReplayed (w : Work) (name kept : Name) (report : Report) : Type 0 where
   pub bytes : List ℕ
   pub is_journal : IsJournalFile w.before.files kept bytes w.journal
   pub plan : Network
   pub components : List Std
-  pub ready : IsReady w.before w.after limit name ((kept, bytes) ∷ []) plan components
+  pub ready : IsReady w.before w.after name ((kept, bytes) ∷ []) plan components
   pub last : State Std
-  pub schedule : IsScheduled StdNext plan components (schedule_of w.journal) last
+  pub schedule : IsScheduled std_rules plan components (schedule_of w.journal) last
   pub tells : TellsOf plan last report
 
 -- A check says the canonical spelling of what its network file holds.
-pub record SaysSpelling (w : Work) (limit : ℕ) (text : List ℕ) (status : Status) : Type 0 where
+pub record SaysSpelling (w : Work) (text : List ℕ) (status : Status) : Type 0 where
   pub name : Name
   pub asks : Asks w.words (Check name)
   pub value : NetText
-  pub checked : IsChecked w limit name value
+  pub checked : IsChecked w name value
   pub text_is : text ≡ canonical value
   pub status_is : status ≡ Finished
 
 -- A replay says the report of the state to which its journal leads, and its verdict is the status.
-pub record SaysAgain (w : Work) (limit : ℕ) (text : List ℕ) (status : Status) : Type 0 where
+pub record SaysAgain (w : Work) (text : List ℕ) (status : Status) : Type 0 where
   pub name : Name
   pub kept : Name
   pub asks : Asks w.words (Replay name kept)
   pub report : Report
-  pub replayed : IsReplayed w limit name kept report
+  pub replayed : IsReplayed w name kept report
   pub text_is : text ≡ report_text report
   pub status_is : status ≡ verdict_status report.verdict
 
@@ -118,11 +119,11 @@ abbrev pub TellsWhether : Network → List ℕ → Type 0
 TellsWhether plan text = (IsDeterminate plan × (text ≡ answer true)) ⊎ ((IsDeterminate plan → ⊥) × (text ≡ answer false))
 
 -- A judge says whether the plan of its network file is determinate.
-pub record SaysJudged (w : Work) (limit : ℕ) (text : List ℕ) (status : Status) : Type 0 where
+pub record SaysJudged (w : Work) (text : List ℕ) (status : Status) : Type 0 where
   pub name : Name
   pub asks : Asks w.words (Judge name)
   pub value : NetText
-  pub checked : IsChecked w limit name value
+  pub checked : IsChecked w name value
   pub text_is : TellsWhether checked.plan text
   pub status_is : status ≡ Finished
 
@@ -135,9 +136,9 @@ pub record SaysKinds (w : Work) (text : List ℕ) (status : Status) : Type 0 whe
   pub status_is : status ≡ Finished
 
 -- What a call says that writes no file, and with which status: a check, a replay, a make, a judge or the page of kinds.
-abbrev pub Says : Work → ℕ → List ℕ → Status → Type 0
-Says w limit text status =
-    SaysSpelling w limit text status ⊎ SaysAgain w limit text status ⊎ SaysMade w text status ⊎ SaysJudged w limit text status ⊎ SaysKinds w text status
+abbrev pub Says : Work → List ℕ → Status → Type 0
+Says w text status =
+    SaysSpelling w text status ⊎ SaysAgain w text status ⊎ SaysMade w text status ⊎ SaysJudged w text status ⊎ SaysKinds w text status
 
 -- The file of a run's journal as the code holds it.
 abbrev pub kept_file : Option Kept → List Filled
@@ -149,33 +150,31 @@ abbrev pub outputs_of_run : Unwritten → List Filled
 outputs_of_run run = net_outputs run.ran.plan run.ran.net ++ kept_file run.kept
 
 -- A network has run, on what was read, and nothing is written yet.
-pub record HasRun (old new : Outside) (words : List (String Global)) (limit : ℕ) (run : Unwritten) : Type 0 where
-  pub name : Name
-  pub keeps : Option Name
-  pub workers : ℕ
-  pub asks : Asks words (Run name keeps workers)
+pub record HasRun (old new : Outside) (words : List (String Global)) (run : Unwritten) : Type 0 where
+  pub asked : AskedRun
+  pub asks : Asks words (run_of asked)
   pub components : List Std
-  pub ready : IsReady old new limit name [] run.ran.plan components
-  pub leaves : Leaves workers run.ran.plan components run.ran.net run.ran.journal run.ran.told
-  pub kept : kept_file run.kept ≡ journal_file keeps run.ran.journal
+  pub ready : IsReady old new asked.net [] run.ran.plan components
+  pub leaves : Leaves asked.workers run.ran.plan components run.ran.net run.ran.journal run.ran.report
+  pub kept : kept_file run.kept ≡ journal_file asked.journal run.ran.journal
 
--- A run of this plan with these components by so many workers has left this, with the file of its journal where one was named.
-pub record KeepsRun (workers : ℕ) (plan : Network) (components : List Std) (keeps : Option Name) (run : Unwritten) : Type 0 where
+-- The run that was asked for, of this plan with these components, has left this, with the file of its journal where one was named.
+pub record KeepsRun (asked : AskedRun) (plan : Network) (components : List Std) (run : Unwritten) : Type 0 where
   pub plan_is : run.ran.plan ≡ plan
-  pub leaves : Leaves workers plan components run.ran.net run.ran.journal run.ran.told
-  pub kept : kept_file run.kept ≡ journal_file keeps run.ran.journal
+  pub leaves : Leaves asked.workers plan components run.ran.net run.ran.journal run.ran.report
+  pub kept : kept_file run.kept ≡ journal_file asked.journal run.ran.journal
 
 -- What is said of the turns of a journal that were made again, or why they couldn't be made.
 abbrev pub SaysTurnsAgain : Network → List Std → Journal → Result Said Stop → Type 0
-SaysTurnsAgain plan components journal (Ok said) = (told : Told) × TellsAgain plan components journal told
-    × (said.text.items ≡ told.report.items) × (said.status ≡ verdict_status told.verdict) × (said.journal ≡ journal)
+SaysTurnsAgain plan components journal (Ok said) = (told : PrintedReport) × TellsAgain plan components journal told
+    × (said.text.items ≡ told.text.items) × (said.status ≡ verdict_status told.verdict) × (said.journal ≡ journal)
 SaysTurnsAgain plan components journal (Err stop) = MakesAgain plan components journal (Err stop)
 
 -- What a call does before something is written or printed.
-abbrev pub Performs : Outside → Outside → List (String Global) → Result Done Stop → ℕ → Type 0
-Performs old new words (Ok (dones.Ran run)) limit = HasRun old new words limit run
-Performs old new words (Ok (dones.Said said)) limit = Says (record { words = words; before = old; after = new; journal = said.journal }) limit said.text.items said.status
-Performs old new words (Err stop) limit = (journal : Journal) → IsEmptyJournal journal → HasCause (record { words = words; before = old; after = new; journal = journal }) limit stop
+abbrev pub Performs : Outside → Outside → List (String Global) → Result Done Stop → Type 0
+Performs old new words (Ok (dones.Ran run)) = HasRun old new words run
+Performs old new words (Ok (dones.Said said)) = Says (record { words = words; before = old; after = new; journal = said.journal }) said.text.items said.status
+Performs old new words (Err stop) = (journal : Journal) → IsEmptyJournal journal → HasCause (record { words = words; before = old; after = new; journal = journal }) stop
 
 -- The text of the stop was printed, or, where there was no memory for it, that of want of memory.
 abbrev pub PrintsStop : Outside → Outside → Stop → Status → Type 0
@@ -184,7 +183,7 @@ PrintsStop old new stop status = Prints old new (text_of stop) (status_of stop) 
 -- The files of a run were written and then its report was printed, or writing them stopped and the text of that was.
 abbrev pub Finishes : Outside → Outside → Outside → Outside → Unwritten → Status → Type 0
 Finishes shelf shelf_after out out_after run status =
-    (WritesAll shelf shelf_after (outputs_of_run run) × Prints out out_after run.ran.told.report.items (verdict_status run.ran.told.verdict) status)
+    (WritesAll shelf shelf_after (outputs_of_run run) × Prints out out_after run.ran.report.text.items (verdict_status run.ran.report.verdict) status)
     ⊎ ((stop : Stop) × WritesFiles {T = Unit {0}} shelf shelf_after (Err stop) (outputs_of_run run) × PrintsStop out out_after stop status)
 
 -- What has run is a network of a plan over the standard kinds.
@@ -218,53 +217,50 @@ call_of words shelf shelf_after out out_after journal status = record {
 }
 
 -- A run was made, and its report was printed; or a first part of that, and the output failed.
-pub record TellsRun (c : Call) (limit : ℕ) : Type 0 where
-  pub name : Name
-  pub keeps : Option Name
-  pub workers : ℕ
-  pub asks : Asks c.work.words (Run name keeps workers)
+pub record TellsRun (c : Call) : Type 0 where
+  pub asked : AskedRun
+  pub asks : Asks c.work.words (run_of asked)
   pub report : Report
-  pub whole : IsWhole c.work limit name keeps workers report
+  pub whole : IsWhole c.work asked report
   pub prints : Prints c.out c.out_after (report_text report) (verdict_status report.verdict) c.status
 
 -- What a call says that writes no file was printed; or a first part of that, and the output failed.
-pub record TellsSaid (c : Call) (limit : ℕ) : Type 0 where
+pub record TellsSaid (c : Call) : Type 0 where
   pub text : List ℕ
   pub own : Status
-  pub says : Says c.work limit text own
+  pub says : Says c.work text own
   pub prints : Prints c.out c.out_after text own c.status
 
 -- The call stopped for this cause, and the text of that was printed; or a first part of that, and the output failed.
-pub record TellsStop (c : Call) (limit : ℕ) : Type 0 where
+pub record TellsStop (c : Call) : Type 0 where
   pub stop : Stop
-  pub cause : HasCause c.work limit stop
+  pub cause : HasCause c.work stop
   pub prints : Prints c.out c.out_after (text_of stop) (status_of stop) c.status
 
 -- Whatever its status is, a call has run a network, or done what writes no file, or stopped for a cause; and has told what came of it.
-abbrev pub IsCaused : Call → ℕ → Type 0
-IsCaused c limit = TellsRun c limit ⊎ TellsSaid c limit ⊎ TellsStop c limit
+abbrev pub IsCaused : Call → Type 0
+IsCaused c = TellsRun c ⊎ TellsSaid c ⊎ TellsStop c
 
--- The headline. The network of the file of this name was run by so many workers: its plan is a valid one over the standard kinds; the journal of the outcome is a
+-- The headline. The network of the file that was asked for was run by so many workers as were asked for: its plan is a valid one over the standard kinds; the journal of the outcome is a
 -- schedule of the machine from the plan's start, after each of whose prefixes each packet is in one place and each connection is in order, and no process can
 -- go on after the whole of it; where there were no workers, it is the round robin of one thread. The network file and the readers' files were read whole, in order, and nothing else; then the files of the state to which the
 -- journal leads were written whole, in order, and then the journal's own, where one was named, and nothing else. Exactly the report of that state was printed, and
 -- the status is its verdict.
-pub record EndsWell (c : Call) (limit : ℕ) (name : Name) (keeps : Option Name) (workers : ℕ) : Type 0 where
+pub record EndsWell (c : Call) (asked : AskedRun) : Type 0 where
   pub report : Report
-  pub whole : IsWhole c.work limit name keeps workers report
+  pub whole : IsWhole c.work asked report
   pub printed : c.out_after ≡ after_write c.out (report_text report)
   pub status : c.status ≡ verdict_status report.verdict
 
 -- Exactly what a call says that writes no file was printed, with its status.
-pub record SaysWell (c : Call) (limit : ℕ) : Type 0 where
+pub record SaysWell (c : Call) : Type 0 where
   pub text : List ℕ
-  pub says : Says c.work limit text c.status
+  pub says : Says c.work text c.status
   pub printed : c.out_after ≡ after_write c.out text
 
 -- A call that came to its end: a run did, or what writes no file.
-abbrev pub ComesToEnd : Call → ℕ → Type 0
-ComesToEnd c limit = ((name : Name) × (keeps : Option Name) × (workers : ℕ) × Asks c.work.words (Run name keeps workers) × EndsWell c limit name keeps workers)
-    ⊎ SaysWell c limit
+abbrev pub ComesToEnd : Call → Type 0
+ComesToEnd c = ((asked : AskedRun) × Asks c.work.words (run_of asked) × EndsWell c asked) ⊎ SaysWell c
 
 -- The file at this place among those that were opened was read to its end, and gave these bytes.
 abbrev pub GaveAt : List Logged → ℕ → List ℕ → Type 0
@@ -279,7 +275,7 @@ pub record HasSchedule (read : List Logged) (plan : Network) (bytes : List ℕ) 
   pub journal : Journal
   pub is : IsFileOf journal bytes
   pub leads : (given : List (List ℕ)) (components : List Std) → drop 2 read ≡ map whole (inputs_of plan.processes given) → AreComponents plan given components
-      → (last : State Std) × Leads StdNext (start_of plan components) (schedule_of journal) last
+      → (last : State Std) × Leads std_rules (start_of plan components) (schedule_of journal) last
 
 -- What the journal's file gave is the file of a journal, or begins one and isn't at its end; and what that tells is a schedule from the start of the plan.
 abbrev pub BeginsSchedule : List Logged → Network → Logged → Type 0
@@ -287,16 +283,16 @@ BeginsSchedule read plan given = (rest : List ℕ) × MayFollow given rest × Ha
 
 -- What the files gave that were read in a call with these words, in order, is valid: the network file holds a value with a plan; no file but a journal's gave more
 -- than the limit; and in a replay the journal's file holds a schedule of that network, as far as it was read.
-pub record AreValid (words : List (String Global)) (read : List Logged) (limit : ℕ) : Type 0 where
+pub record AreValid (words : List (String Global)) (read : List Logged) : Type 0 where
   pub network : (net : List ℕ) → GaveAt read 0 net → (text : NetText) × (plan : Network) × Holds net text plan
-  pub short : (place : ℕ) (file : Logged) → slice_get read place ≡ Some file → (IsJournalAt words place → ⊥) → length file.bytes ≤ limit
+  pub short : (place : ℕ) (file : Logged) → slice_get read place ≡ Some file → (IsJournalAt words place → ⊥) → length file.bytes ≤ FILE_LIMIT
   pub schedule : (net : List ℕ) (text : NetText) (plan : Network) (place : ℕ) (given : Logged) → GaveAt read 0 net → Holds net text plan → IsJournalAt words place
       → slice_get read place ≡ Some given → BeginsSchedule read plan given
 
 -- The words ask for what has no network file; or they name one, and what was read is valid, whatever that was.
-abbrev pub IsValid : Work → ℕ → Type 0
-IsValid w limit = ((asked : Asked) × Asks w.words asked × (file_of asked ≡ None))
-    ⊎ ((name : Name) × IsCommand w.words name × ((read : List Logged) → w.after.opened ≡ w.before.opened ++ read → AreValid w.words read limit))
+abbrev pub IsValid : Work → Type 0
+IsValid w = ((asked : Asked) × Asks w.words asked × (file_of asked ≡ None))
+    ⊎ ((name : Name) × IsCommand w.words name × ((read : List Logged) → w.after.opened ≡ w.before.opened ++ read → AreValid w.words read))
 
 -- No count of faults rose.
 pub record NoFaults (c : Call) : Type 0 where
@@ -305,5 +301,5 @@ pub record NoFaults (c : Call) : Type 0 where
   pub prints : Rose c.out.write_faults c.out_after.write_faults → ⊥
 
 -- Where no count of faults rose and all that was read is valid, a call comes to its end, or memory was wanting.
-abbrev pub IsComplete : Call → ℕ → Type 0
-IsComplete c limit = NoFaults c → IsValid c.work limit → IsOver c.status ⊎ (c.status ≡ status_of NoMemory)
+abbrev pub IsComplete : Call → Type 0
+IsComplete c = NoFaults c → IsValid c.work → IsOver c.status ⊎ (c.status ≡ status_of NoMemory)

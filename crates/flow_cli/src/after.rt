@@ -28,6 +28,7 @@ pub fn write_outputs<F: Shelf>(
             name: kept.name,
             bytes: &kept.bytes,
         };
+        // The error of a push holds what wasn't pushed, and so is no `Stop`.
         if outputs.push(output).is_err() {
             return Err(Stop::NoMemory);
         }
@@ -49,7 +50,7 @@ pub fn verdict_status(verdict: Verdict) -> Status
 }
 
 /// Prints a text, and gives the status that comes of it.
-pub fn print<O: Sink>(out: &mut O, text: &[u8], status: Status) -> Status
+pub fn print_text<O: Sink>(out: &mut O, text: &[u8], status: Status) -> Status
     ensures { Prints (O.outside out.old) (O.outside out.new) text.now status result }
 {
     match write_all(out, text) {

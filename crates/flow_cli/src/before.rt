@@ -1,18 +1,19 @@
 //! The steps before a network runs, or is checked or judged: the words, the network file, a journal's file, the input files.
 ghost use Rattle.std.specs.Prelude.{◌≡◌};
+ghost use Rattle.flow_words.specs.Words.{run_by};
 ghost use Rattle.flow_cli.specs.Prepare.{Loads, Prepares, ReadsAgain, ReadsInputs};
 
-use crate::components::{FILE_LIMIT, read_components};
+use crate::components::read_components;
 use crate::journal_file::read_journal;
 use crate::net_file::{NetFile, network};
 use crate::step::read_file;
 use crate::stop::{Stop, read_stop};
 use flow_catalogue::Std;
 use flow_journal::Journal;
-use flow_net::Plan;
 use flow_parse::NetText;
+use flow_plan::Plan;
 use flow_text::Shelf;
-use flow_words::{Command, command};
+use flow_words::{Command, RunCommand, command};
 use std::alloc::Global;
 
 /// A network that can run: its plan, and the components of its processes on what their files hold.
@@ -32,12 +33,8 @@ pub struct Again {
 /// What is to be done.
 #[derive(Drop)]
 pub enum Task<'a> {
-    /// A network is to run by so many workers, or on one thread where there are none; and its journal is to be kept in a file, where one is named.
-    Run {
-        job: Job,
-        journal: Option<&'a str>,
-        workers: u32,
-    },
+    /// A network is to run, as it was asked for.
+    Run { job: Job, asked: RunCommand<'a> },
     /// The value of a network file is to be printed.
     Check(NetText),
     /// Whether this plan is determinate is to be told.
@@ -47,10 +44,7 @@ pub enum Task<'a> {
     /// The turns of a journal are to be made again.
     Replay(Again),
     /// The network that is made from this number is to run by so many workers, or on one thread where there are none.
-    Make {
-        number: u32,
-        workers: u32,
-    },
+    Make { number: u32, workers: u32 },
 }
 
 /// Reads the words, and what they name. The first stop comes in the order of these steps.
@@ -59,7 +53,7 @@ pub fn prepare<'a, F: Shelf>(
     words: &'a [String],
     shelf: &mut F,
 ) -> Result<Task<'a>, Stop>
-    ensures { Prepares (F.outside shelf.old) (F.outside shelf.new) words.entry.now result FILE_LIMIT }
+    ensures { Prepares (F.outside shelf.old) (F.outside shelf.new) words.entry.now result }
 {
     let asked = match command(alloc, words) {
         Ok(Some(asked)) => asked,
@@ -67,16 +61,8 @@ pub fn prepare<'a, F: Shelf>(
         Err(_) => return Err(Stop::NoMemory),
     };
     match asked {
-        Command::Run {
-            net,
-            journal,
-            workers,
-        } => match runnable(alloc, shelf, net) {
-            Ok(job) => Ok(Task::Run {
-                job,
-                journal,
-                workers,
-            }),
+        Command::Run(asked) => match runnable(alloc, shelf, asked) {
+            Ok(job) => Ok(Task::Run { job, asked }),
             Err(stop) => Err(stop),
         },
         Command::Check(name) => match load(alloc, shelf, name) {
@@ -96,11 +82,11 @@ pub fn prepare<'a, F: Shelf>(
     }
 }
 
-// The network of this file, with its components.
-fn runnable<F: Shelf>(alloc: Global, shelf: &mut F, name: &str) -> Result<Job, Stop>
-    ensures { ReadsInputs (F.outside shelf.old) (F.outside shelf.new) name.now result FILE_LIMIT }
+// The network of a run, with its components.
+fn runnable<F: Shelf>(alloc: Global, shelf: &mut F, asked: RunCommand<'_>) -> Result<Job, Stop>
+    ensures { ReadsInputs (F.outside shelf.old) (F.outside shelf.new) (run_by asked.entry) result }
 {
-    let plan = match load(alloc, shelf, name) {
+    let plan = match load(alloc, shelf, asked.net) {
         Ok(file) => file.plan,
         Err(stop) => return Err(stop),
     };
@@ -112,7 +98,7 @@ fn runnable<F: Shelf>(alloc: Global, shelf: &mut F, name: &str) -> Result<Job, S
 
 // The network of this file, then the journal of that one, then the components.
 fn replayable<F: Shelf>(alloc: Global, shelf: &mut F, name: &str, kept: &str) -> Result<Again, Stop>
-    ensures { ReadsAgain (F.outside shelf.old) (F.outside shelf.new) name.now kept.now result FILE_LIMIT }
+    ensures { ReadsAgain (F.outside shelf.old) (F.outside shelf.new) name.now kept.now result }
 {
     let plan = match load(alloc, shelf, name) {
         Ok(file) => file.plan,
@@ -133,9 +119,9 @@ fn replayable<F: Shelf>(alloc: Global, shelf: &mut F, name: &str, kept: &str) ->
 
 // What the network file of this name holds.
 fn load<F: Shelf>(alloc: Global, shelf: &mut F, name: &str) -> Result<NetFile, Stop>
-    ensures { Loads (F.outside shelf.old) (F.outside shelf.new) name.now result FILE_LIMIT }
+    ensures { Loads (F.outside shelf.old) (F.outside shelf.new) name.now result }
 {
-    let net = match read_file(alloc, shelf, name, FILE_LIMIT) {
+    let net = match read_file(alloc, shelf, name) {
         Ok(net) => net,
         Err(stop) => return Err(read_stop(alloc, stop, name)),
     };

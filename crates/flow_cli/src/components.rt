@@ -7,16 +7,9 @@ ghost use Rattle.flow_catalogue.specs.Processes.{IsStandard};
 use crate::step::read_file;
 use crate::stop::{Stop, read_stop};
 use flow_catalogue::{FileUse, Std, a_plan_over_the_table_is_standard, file_of, make};
-use flow_net::Plan;
+use flow_plan::Plan;
 use flow_text::Shelf;
 use std::alloc::{AllocError, Global};
-
-/// A network file and each input file has at most so many bytes. The limit is this project's own.
-pub const FILE_LIMIT: u64 = 16_777_216;
-
-/// A journal's file has at most so many bytes: a header of 16, and 3 for each turn that a run may have, one for its process and two for the number
-/// that it saw. No header tells more.
-pub const JOURNAL_FILE_LIMIT: u64 = 3_221_225_488;
 
 /// Reads the files of the plan's readers in the order of the processes, and makes the component of each process.
 pub fn read_components<F: Shelf>(
@@ -25,7 +18,7 @@ pub fn read_components<F: Shelf>(
     plan: &Plan,
 ) -> Result<Vec<Std>, Stop>
     requires { IsStandardPlan plan.now }
-    ensures { ReadsComponents (F.outside shelf.old) (F.outside shelf.new) plan.now result FILE_LIMIT }
+    ensures { ReadsComponents (F.outside shelf.old) (F.outside shelf.new) plan.now result }
 {
     a_plan_over_the_table_is_standard();
     let mut components = Vec::new(alloc);
@@ -34,6 +27,7 @@ pub fn read_components<F: Shelf>(
             Ok(component) => component,
             Err(stop) => return Err(stop),
         };
+        // The error of a push holds what wasn't pushed, and so is no `Stop`.
         if components.push(component).is_err() {
             return Err(Stop::NoMemory);
         }
@@ -49,10 +43,10 @@ fn read_component<F: Shelf>(
     process: u32,
 ) -> Result<Std, Stop>
     requires { IsStandard plan.now process }
-    ensures { ReadsComponent (F.outside shelf.old) (F.outside shelf.new) plan.now process result FILE_LIMIT }
+    ensures { ReadsComponent (F.outside shelf.old) (F.outside shelf.new) plan.now process result }
 {
     match file_of(plan, process) {
-        Some(FileUse::Read(name)) => match read_file(alloc, shelf, name, FILE_LIMIT) {
+        Some(FileUse::Read(name)) => match read_file(alloc, shelf, name) {
             Ok(bytes) => Ok(make(alloc, plan, process, bytes)?),
             Err(stop) => Err(read_stop(alloc, stop, name)),
         },

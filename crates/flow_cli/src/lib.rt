@@ -2,35 +2,40 @@
 #![tactic(auto)]
 
 mod after;
+mod again;
 mod before;
 mod components;
 mod crew;
-mod engine;
 mod front;
 mod journal_file;
 mod made;
+mod made_plan;
 mod many;
 mod net_file;
+mod outputs;
+mod ran;
 mod run;
 mod status;
 mod step;
 mod stop;
 mod top;
 
-pub use after::{print, verdict_status, write_outputs};
+pub use after::{print_text, verdict_status, write_outputs};
+pub use again::replay_net;
 pub use before::{Again, Job, Task, prepare};
-pub use components::{FILE_LIMIT, JOURNAL_FILE_LIMIT, give_components, read_components};
+pub use components::{give_components, read_components};
 pub use crew::{run_alone, run_by_workers};
-pub use engine::{Ran, Told, replay_net, run_net};
 pub use front::read_front;
 pub use journal_file::read_journal;
 pub use made::run_made;
+pub use made_plan::the_made_network_has_a_plan;
 pub use many::{Output, write_files};
 pub use net_file::{NetFile, network};
+pub use ran::{PrintedReport, Ran, run_net};
 pub use run::{Done, Kept, Said, Unwritten, perform};
 pub use status::Status;
 pub use step::{read_file, write_file};
-pub use stop::{JournalRefusal, Refusal, Stop, read_stop, write_stop};
+pub use stop::{JournalRefusal, NetRefusal, Stop, read_stop, write_stop};
 pub use top::{Outcome, busy_top, needs_workers, plain_top};
 
 #[cfg(test)]

@@ -10,14 +10,15 @@ ghost use Rattle.flow_cli.specs.Runs.{bytes_at};
 use crate::after::verdict_status;
 use crate::before::Job;
 use crate::components::give_components;
-use crate::engine::{Ran, run_net, written_at, written_name};
+use crate::made_plan::the_made_network_has_a_plan;
 use crate::net_file::network;
+use crate::outputs::{written_at, written_name};
+use crate::ran::{Ran, run_net};
 use crate::run::Said;
 use crate::stop::Stop;
 use flow_catalogue::{Std, a_plan_over_the_table_is_standard};
 use flow_limits::NUMBER_LIMIT;
 use flow_machine::{Closed, Net};
-use flow_made::the_made_network_has_a_plan;
 use flow_make::make;
 use flow_text::put_decimal;
 use std::alloc::{AllocError, Global};
@@ -44,11 +45,11 @@ where
     };
     let ran = run_net(alloc, engine, made.job, workers)?;
     let text = text_of(alloc, number, made.bytes, &ran);
-    let (told, journal) = ran.into_told();
+    let (report, journal) = ran.into_report();
     match text {
         Ok(text) => Ok(Said {
             text,
-            status: verdict_status(told.verdict),
+            status: verdict_status(report.verdict),
             journal,
         }),
         Err(AllocError) => Err(Stop::NoMemory),
@@ -79,14 +80,14 @@ fn job_of(alloc: Global, number: u32) -> Result<MadeJob, Stop>
 fn text_of(alloc: Global, number: u32, bytes: usize, ran: &Ran) -> Result<Vec<u8>, AllocError>
     requires standard { IsStandardPlan ran.now.plan }
     requires input { bytes ≡ length (made_input number) }
-    ensures { IfOk result (λ text. text.items ≡ make_text number ran.now.told.report.items (bytes_at ran.now.net.bodies) ran.now.plan) }
+    ensures { IfOk result (λ text. text.items ≡ make_text number ran.now.report.text.items (bytes_at ran.now.net.bodies) ran.now.plan) }
 {
     let mut text = b"make ".to_vec(alloc)?;
     put_decimal(&mut text, u64::from(number))?;
     text.extend_from_slice(b" input ")?;
     put_decimal(&mut text, bytes as u64)?;
     text.push(10)?;
-    text.extend_from_slice(&ran.told.report)?;
+    text.extend_from_slice(&ran.report.text)?;
     put_outputs(&mut text, ran)?;
     Ok(text)
 }

@@ -2,11 +2,11 @@
 ghost use Rattle.std.specs.Prelude.{◌≡◌};
 ghost use Rattle.flow_cli.specs.Networks.{ReadsAs};
 
-use crate::stop::{Refusal, Stop};
+use crate::stop::{NetRefusal, Stop};
 use flow_catalogue::kinds;
 use flow_expand::{ExpandStop, expand};
-use flow_net::Plan;
 use flow_parse::{NetText, ParseStop, parse};
+use flow_plan::Plan;
 use std::alloc::Global;
 
 /// A network file that was read: its value, and the plan of that.
@@ -22,13 +22,13 @@ pub fn network(alloc: Global, net: &[u8]) -> Result<NetFile, Stop>
 {
     let text = match parse(alloc, net) {
         Ok(text) => text,
-        Err(ParseStop::Fault(fault)) => return Err(Stop::Refused(Refusal::Line(fault))),
+        Err(ParseStop::Fault(fault)) => return Err(Stop::Refused(NetRefusal::Line(fault))),
         Err(ParseStop::NoMemory) => return Err(Stop::NoMemory),
     };
     let kinds = kinds(alloc)?;
     match expand(alloc, &text, kinds) {
         Ok(plan) => Ok(NetFile { text, plan }),
-        Err(ExpandStop::Fault(fault)) => Err(Stop::Refused(Refusal::Network(fault))),
+        Err(ExpandStop::Fault(fault)) => Err(Stop::Refused(NetRefusal::Network(fault))),
         Err(ExpandStop::NoMemory) => Err(Stop::NoMemory),
     }
 }

@@ -5,6 +5,7 @@ ghost use Rattle.std.specs.Option.{option_map};
 ghost use Rattle.flow_journal.specs.Files.{IsWritable};
 ghost use Rattle.flow_kinds.specs.Page.{kinds_page};
 ghost use Rattle.flow_parse.specs.Canonical.{canonical};
+ghost use Rattle.flow_words.specs.Words.{run_by};
 ghost use Rattle.flow_cli.specs.Components.{HasComponents};
 ghost use Rattle.flow_cli.specs.Engines.{Runs};
 ghost use Rattle.flow_cli.specs.Networks.{IsStandardPlan};
@@ -14,10 +15,10 @@ ghost use Rattle.flow_cli.specs.Top.{KeepsRun, Performs, SaysTurnsAgain, TellsWh
 ghost use Rattle.flow_cli.specs.declared.status.Status.TheVariants.{Finished};
 
 use crate::after::verdict_status;
+use crate::again::replay_net;
 use crate::before::{Again, Job, Task, prepare};
-use crate::components::FILE_LIMIT;
-use crate::engine::{Ran, replay_net, run_net};
 use crate::made::run_made;
+use crate::ran::{Ran, run_net};
 use crate::status::Status;
 use crate::stop::Stop;
 use flow_catalogue::Std;
@@ -26,9 +27,10 @@ use flow_items::Items;
 use flow_journal::Journal;
 use flow_kinds::kinds_page;
 use flow_machine::{Closed, Net};
-use flow_net::Plan;
-use flow_parse::{NetText, print as spelled};
+use flow_parse::{NetText, print};
+use flow_plan::Plan;
 use flow_text::Shelf;
+use flow_words::RunCommand;
 use std::alloc::{AllocError, Global};
 
 /// The file of a run's journal.
@@ -73,18 +75,14 @@ pub fn perform<'a, E, F: Shelf>(
 where
     E: Fn(Net<Std>, u32) -> Result<Closed<Std>, AllocError>,
     requires { IsServed (Runs (E.pre engine.now) (E.post engine.now)) words.now }
-    ensures { Performs (F.outside shelf.old) (F.outside shelf.new) words.entry.now result FILE_LIMIT }
+    ensures { Performs (F.outside shelf.old) (F.outside shelf.new) words.entry.now result }
 {
     let task = match prepare(alloc, words, shelf) {
         Ok(task) => task,
         Err(stop) => return Err(stop),
     };
     match task {
-        Task::Run {
-            job,
-            journal,
-            workers,
-        } => match run_and_keep(alloc, engine, job, journal, workers) {
+        Task::Run { job, asked } => match run_and_keep(alloc, engine, job, asked) {
             Ok(run) => Ok(Done::Ran(run)),
             Err(AllocError) => Err(Stop::NoMemory),
         },
@@ -116,18 +114,17 @@ fn run_and_keep<'a, E>(
     alloc: Global,
     engine: &E,
     job: Job,
-    name: Option<&'a str>,
-    workers: u32,
+    asked: RunCommand<'a>,
 ) -> Result<Unwritten<'a>, AllocError>
 where
     E: Fn(Net<Std>, u32) -> Result<Closed<Std>, AllocError>,
     requires standard { IsStandardPlan job.plan }
     requires components { HasComponents job.plan job.components.items }
-    requires engine { Runs (E.pre engine.now) (E.post engine.now) workers }
-    ensures { IfOk result (KeepsRun workers job.plan job.components.items (option_map (λ s. s.now) name.entry)) }
+    requires engine { Runs (E.pre engine.now) (E.post engine.now) asked.workers }
+    ensures { IfOk result (KeepsRun (run_by asked.entry) job.plan job.components.items) }
 {
-    let ran = run_net(alloc, engine, job, workers)?;
-    match keep(alloc, &ran.journal, name) {
+    let ran = run_net(alloc, engine, job, asked.workers)?;
+    match keep(alloc, &ran.journal, asked.journal) {
         Ok(kept) => Ok(Unwritten { ran, kept }),
         Err(AllocError) => {
             ran.discard();
@@ -161,7 +158,7 @@ fn spelling(alloc: Global, text: &NetText) -> Result<Said, AllocError>
     ensures journal { IfOk result (λ said. IsEmptyJournal said.journal) }
 {
     Ok(Said {
-        text: spelled(alloc, text)?,
+        text: print(alloc, text)?,
         status: Status::Finished,
         journal: no_journal(alloc),
     })
@@ -214,9 +211,9 @@ fn run_again(alloc: Global, again: Again) -> Result<Said, Stop>
 {
     let Again { job, journal } = again;
     match replay_net(alloc, job, &journal) {
-        Ok(told) => Ok(Said {
-            text: told.report,
-            status: verdict_status(told.verdict),
+        Ok(report) => Ok(Said {
+            text: report.text,
+            status: verdict_status(report.verdict),
             journal,
         }),
         Err(stop) => Err(stop),

@@ -13,7 +13,7 @@ use std::alloc::{AllocError, Global};
 
 /// Why a network file is refused. The order in which faults are looked for is this project's own.
 #[derive(Debug, Drop)]
-pub enum Refusal {
+pub enum NetRefusal {
     /// A line of the file has a fault.
     Line(NetFault),
     /// The network that the file spells has a fault.
@@ -39,7 +39,7 @@ pub enum Stop {
     /// The words are no command line.
     Words,
     /// The network file is refused.
-    Refused(Refusal),
+    Refused(NetRefusal),
     /// The file of a journal is refused, or its journal is no schedule of the network.
     JournalRefused(JournalRefusal),
     /// The file of this name couldn't be read.
@@ -96,7 +96,7 @@ impl Stop {
 }
 
 // The line for a refused network.
-fn refused_line(alloc: Global, refusal: &Refusal) -> Result<Vec<u8>, AllocError>
+fn refused_line(alloc: Global, refusal: &NetRefusal) -> Result<Vec<u8>, AllocError>
     ensures { IfOk result (λ text. text.items ≡ codes "network refused: " ++ refusal_text refusal.now ++ 10 ∷ []) }
 {
     let mut text = b"network refused: ".to_vec(alloc)?;
@@ -105,12 +105,12 @@ fn refused_line(alloc: Global, refusal: &Refusal) -> Result<Vec<u8>, AllocError>
     Ok(text)
 }
 
-fn put_refusal(text: &mut Vec<u8>, refusal: &Refusal) -> Result<(), AllocError>
+fn put_refusal(text: &mut Vec<u8>, refusal: &NetRefusal) -> Result<(), AllocError>
     ensures { OnOk result (text.new.items ≡ text.old.items ++ refusal_text refusal.now) }
 {
     match refusal {
-        Refusal::Line(fault) => put_net_fault(text, fault),
-        Refusal::Network(fault) => put_fault(text, fault),
+        NetRefusal::Line(fault) => put_net_fault(text, fault),
+        NetRefusal::Network(fault) => put_fault(text, fault),
     }
 }
 

@@ -6,6 +6,7 @@ use std::process::Abort;
 use std::test::Fail;
 
 mod automatic;
+mod journal_files;
 
 const ROOM: usize = 33_554_432;
 

@@ -1,17 +1,12 @@
 //! The top calls.
 ghost use Rattle.std.specs.Prelude.{◌≡◌, ◌≤◌, ◌↔◌, IfOk, IsTrue};
-ghost use Rattle.flow_cli.specs.Alone.{ComesToEndAsAlone};
 ghost use Rattle.flow_cli.specs.Engines.{RanBy, Runs};
-ghost use Rattle.flow_cli.specs.Meant.{LeavesMeaning};
 ghost use Rattle.flow_cli.specs.Networks.{IsStandardPlan};
+ghost use Rattle.flow_cli.specs.Promises.{KeepsPromises};
 ghost use Rattle.flow_cli.specs.Reads.{AsksWorkers, IsServed};
-ghost use Rattle.flow_cli.specs.Statuses.{IsFinished, IsOver};
-ghost use Rattle.flow_cli.specs.Updates.{CollatesEach, LeavesBooks};
-ghost use Rattle.flow_cli.specs.Top.{ComesToEnd, Concludes, Finishes, IsCaused, IsComplete, IsReplay, IsRunnable, PrintsStop, call_of};
-ghost use Rattle.flow_cli.specs.declared.status.Status.TheVariants.{Running};
+ghost use Rattle.flow_cli.specs.Top.{Concludes, Finishes, IsRunnable, PrintsStop, call_of};
 
-use crate::after::{print, verdict_status, write_outputs};
-use crate::components::FILE_LIMIT;
+use crate::after::{print_text, verdict_status, write_outputs};
 use crate::crew::{run_alone, run_by_workers};
 use crate::run::{Done, Unwritten, no_journal, perform};
 use crate::status::Status;
@@ -30,8 +25,7 @@ use flow_meanings::{
     a_batch_update_writes_its_book, a_finished_network_composes_its_meanings,
     an_ended_collate_has_sent_the_collation,
 };
-use flow_model::a_finished_network_leads_on;
-use flow_ready::a_valid_plan_is_ready;
+use flow_model::{a_finished_network_leads_on, a_valid_plan_is_ready};
 use flow_report::a_state_has_one_report;
 use flow_text::{Shelf, Sink};
 use flow_words::{Command, command};
@@ -53,7 +47,7 @@ pub fn needs_workers(alloc: Global, words: &[String]) -> Result<bool, AllocError
     ensures { IfOk result (λ needs. IsTrue needs ↔ AsksWorkers words.now) }
 {
     match command(alloc, words)? {
-        Some(Command::Run { workers, .. }) => Ok(workers > 0),
+        Some(Command::Run(asked)) => Ok(asked.workers > 0),
         Some(Command::Make { workers, .. }) => Ok(workers > 0),
         Some(Command::Check(_)) => Ok(false),
         Some(Command::Judge(_)) => Ok(false),
@@ -73,31 +67,7 @@ pub fn plain_top<F: Shelf, O: Sink>(
     out: &mut O,
 ) -> Outcome
     requires { AsksWorkers words.now → ⊥ }
-
-    // A run came to its end, or what writes no file did: a check, a judge, a replay, a make, or the page of kinds.
-    ensures over { IsOver result.status → ComesToEnd (call_of words.now (F.outside shelf.old) (F.outside shelf.new) (O.outside out.old) (O.outside out.new) result.journal result.status) FILE_LIMIT }
-
-    // A run of a determinate plan ends as on one thread, with its status, report and files, whatever its workers did.
-    ensures one_outcome { IsOver result.status → ComesToEndAsAlone (call_of words.now (F.outside shelf.old) (F.outside shelf.new) (O.outside out.old) (O.outside out.new) result.journal result.status) FILE_LIMIT }
-
-    // A run that finished left the files that its network means.
-    ensures meaning { IsFinished result.status
-        → LeavesMeaning (record { words = words.now; before = F.outside shelf.old; after = F.outside shelf.new; journal = result.journal }) FILE_LIMIT }
-
-    // A run that finished left the book of each of its batch updates of sorted files.
-    ensures books { IsFinished result.status → LeavesBooks (record { words = words.now; before = F.outside shelf.old; after = F.outside shelf.new; journal = result.journal }) FILE_LIMIT }
-
-    // Wherever the run stood, a Collate that had ended had sent the collation of what its elements got.
-    ensures collated { CollatesEach (record { words = words.now; before = F.outside shelf.old; after = F.outside shelf.new; journal = result.journal }) FILE_LIMIT }
-
-    // Each status has the cause of what the call came to.
-    ensures cause { IsCaused (call_of words.now (F.outside shelf.old) (F.outside shelf.new) (O.outside out.old) (O.outside out.new) result.journal result.status) FILE_LIMIT }
-
-    // No call but a replay ends while its network can go on.
-    ensures status { result.status ≡ Running → IsReplay words.now }
-
-    // Where no count rose and all that was read is valid, the call comes to its end, or memory is wanting.
-    ensures complete { IsComplete (call_of words.now (F.outside shelf.old) (F.outside shelf.new) (O.outside out.old) (O.outside out.new) result.journal result.status) FILE_LIMIT }
+    ensures { KeepsPromises (call_of words.now (F.outside shelf.old) (F.outside shelf.new) (O.outside out.old) (O.outside out.new) result.journal result.status) }
 {
     let engine = |net: Net<Std>, workers: u32| -> Result<Closed<Std>, AllocError>
         requires { workers ≡ 0 }
@@ -117,31 +87,7 @@ pub fn busy_top<R: Threads + Wait + Sync, F: Shelf, O: Sink, G: Gate + Sync>(
     gate: &G,
 ) -> Outcome
     requires { AsksWorkers words.now }
-
-    // A run came to its end, or what writes no file did: a check, a judge, a replay, a make, or the page of kinds.
-    ensures over { IsOver result.status → ComesToEnd (call_of words.now (F.outside shelf.old) (F.outside shelf.new) (O.outside out.old) (O.outside out.new) result.journal result.status) FILE_LIMIT }
-
-    // A run of a determinate plan ends as on one thread, with its status, report and files, whatever its workers did.
-    ensures one_outcome { IsOver result.status → ComesToEndAsAlone (call_of words.now (F.outside shelf.old) (F.outside shelf.new) (O.outside out.old) (O.outside out.new) result.journal result.status) FILE_LIMIT }
-
-    // A run that finished left the files that its network means.
-    ensures meaning { IsFinished result.status
-        → LeavesMeaning (record { words = words.now; before = F.outside shelf.old; after = F.outside shelf.new; journal = result.journal }) FILE_LIMIT }
-
-    // A run that finished left the book of each of its batch updates of sorted files.
-    ensures books { IsFinished result.status → LeavesBooks (record { words = words.now; before = F.outside shelf.old; after = F.outside shelf.new; journal = result.journal }) FILE_LIMIT }
-
-    // Wherever the run stood, a Collate that had ended had sent the collation of what its elements got.
-    ensures collated { CollatesEach (record { words = words.now; before = F.outside shelf.old; after = F.outside shelf.new; journal = result.journal }) FILE_LIMIT }
-
-    // Each status has the cause of what the call came to.
-    ensures cause { IsCaused (call_of words.now (F.outside shelf.old) (F.outside shelf.new) (O.outside out.old) (O.outside out.new) result.journal result.status) FILE_LIMIT }
-
-    // No call but a replay ends while its network can go on.
-    ensures status { result.status ≡ Running → IsReplay words.now }
-
-    // Where no count rose and all that was read is valid, the call comes to its end, or memory is wanting.
-    ensures complete { IsComplete (call_of words.now (F.outside shelf.old) (F.outside shelf.new) (O.outside out.old) (O.outside out.new) result.journal result.status) FILE_LIMIT }
+    ensures { KeepsPromises (call_of words.now (F.outside shelf.old) (F.outside shelf.new) (O.outside out.old) (O.outside out.new) result.journal result.status) }
 {
     let engine = |net: Net<Std>, workers: u32| -> Result<Closed<Std>, AllocError>
         requires { (1 ≤ workers) × (workers ≤ WORKER_LIMIT) }
@@ -161,15 +107,7 @@ fn carry_out<E, F: Shelf, O: Sink>(
 where
     E: Fn(Net<Std>, u32) -> Result<Closed<Std>, AllocError>,
     requires { IsServed (Runs (E.pre engine.now) (E.post engine.now)) words.now }
-    ensures over { IsOver result.status → ComesToEnd (call_of words.now (F.outside shelf.old) (F.outside shelf.new) (O.outside out.old) (O.outside out.new) result.journal result.status) FILE_LIMIT }
-    ensures one_outcome { IsOver result.status → ComesToEndAsAlone (call_of words.now (F.outside shelf.old) (F.outside shelf.new) (O.outside out.old) (O.outside out.new) result.journal result.status) FILE_LIMIT }
-    ensures meaning { IsFinished result.status
-        → LeavesMeaning (record { words = words.now; before = F.outside shelf.old; after = F.outside shelf.new; journal = result.journal }) FILE_LIMIT }
-    ensures books { IsFinished result.status → LeavesBooks (record { words = words.now; before = F.outside shelf.old; after = F.outside shelf.new; journal = result.journal }) FILE_LIMIT }
-    ensures collated { CollatesEach (record { words = words.now; before = F.outside shelf.old; after = F.outside shelf.new; journal = result.journal }) FILE_LIMIT }
-    ensures cause { IsCaused (call_of words.now (F.outside shelf.old) (F.outside shelf.new) (O.outside out.old) (O.outside out.new) result.journal result.status) FILE_LIMIT }
-    ensures status { result.status ≡ Running → IsReplay words.now }
-    ensures complete { IsComplete (call_of words.now (F.outside shelf.old) (F.outside shelf.new) (O.outside out.old) (O.outside out.new) result.journal result.status) FILE_LIMIT }
+    ensures { KeepsPromises (call_of words.now (F.outside shelf.old) (F.outside shelf.new) (O.outside out.old) (O.outside out.new) result.journal result.status) }
 {
     a_plan_over_the_table_is_standard();
     a_valid_plan_is_ready::<Std>();
@@ -199,7 +137,7 @@ fn conclude<F: Shelf, O: Sink>(alloc: Global, shelf: &mut F, out: &mut O, done: 
     match done {
         Done::Ran(run) => finish(alloc, shelf, out, run),
         Done::Said(said) => Outcome {
-            status: print(out, &said.text, said.status),
+            status: print_text(out, &said.text, said.status),
             journal: said.journal,
         },
     }
@@ -218,10 +156,10 @@ fn finish<F: Shelf, O: Sink>(
 {
     let written = write_outputs(alloc, shelf, &run);
     let Unwritten { ran, kept: _ } = run;
-    let (told, journal) = ran.into_told();
+    let (report, journal) = ran.into_report();
     match written {
         Ok(()) => Outcome {
-            status: print(out, &told.report, verdict_status(told.verdict)),
+            status: print_text(out, &report.text, verdict_status(report.verdict)),
             journal,
         },
         Err(fault) => Outcome {
@@ -236,7 +174,7 @@ fn print_stop<O: Sink>(alloc: Global, out: &mut O, stop: &Stop) -> Status
     ensures { PrintsStop (O.outside out.old) (O.outside out.new) stop.now result }
 {
     match stop.text(alloc) {
-        Ok(text) => print(out, &text, stop.status()),
-        Err(_) => print(out, b"no memory\n", Status::NoMemory),
+        Ok(text) => print_text(out, &text, stop.status()),
+        Err(_) => print_text(out, b"no memory\n", Status::NoMemory),
     }
 }

@@ -7,7 +7,7 @@ use Rattle.flow_component.specs.declared.Wish.{Wish}
 use Rattle.flow_component.specs.declared.Stop.{Stop}
 use Rattle.flow_component.specs.declared.Stop.TheVariants as stops
 use Rattle.flow_component.specs.declared.Shape.{Shape}
-use Rattle.flow_component.specs.Laws.{Outcome, Wishes, Fails, Obeys, StaysReady, ReadyAfter, component_after}
+use Rattle.flow_component.specs.Laws.{Rules, Outcome, Wishes, Fails, Obeys, StaysReady, ReadyAfter, component_after}
 use Rattle.flow_component.specs.Resumes.{Resumes}
 use Rattle.flow_component.specs.Outcomes.{outcome_as}
 
@@ -17,7 +17,7 @@ Obeys-as f shape uses held (Wishes component new wish) o = o
 Obeys-as f shape uses held (Fails component new cause) o = o
 
 -- So does what holds of the component's next answer.
-pub StaysReady-as : {K L : Type 0} (f : K → L) (own : K → Held → Answer → Type 0) (all : L → Held → Answer → Type 0) → ((component : K) (held : Held) (wish : Wish) → ReadyAfter (own component) held wish → ReadyAfter (all (f component)) held wish)
+pub StaysReady-as : {K L : Type 0} (f : K → L) (own : Rules K) (all : Rules L) → ((component : K) (held : Held) (wish : Wish) → ReadyAfter (own.ready component) held wish → ReadyAfter (all.ready (f component)) held wish)
     → (outcome : Outcome K) → StaysReady own outcome → StaysReady all (outcome_as f outcome)
 StaysReady-as f own all up (Wishes component held wish) r = up component held wish r
 StaysReady-as f own all up (Fails component held cause) r = tt

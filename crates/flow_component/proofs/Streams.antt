@@ -8,7 +8,7 @@ use Rattle.flow_packet.specs.Hands.{packet_at, without, kind_at, kind_in, text_a
 use Rattle.flow_packet.specs.Held.{Held, next_id, with_made}
 use Rattle.flow_component.specs.declared.Answer.{Answer}
 use Rattle.flow_component.specs.declared.Shape.{Shape}
-use Rattle.flow_component.specs.Laws.{Outcome, Wishes, Obeys, IsAllowed}
+use Rattle.flow_component.specs.Laws.{Rules, Lawful, Wishes, IsAllowed}
 use Rattle.flow_component.specs.Happenings.{Happening, answer_of}
 use Rattle.flow_component.specs.Runs.{Poise, Steps, Runs, Comes, from_connection, from_text, content_got, content_sent, got, sent, text_packet}
 use Rattle.flow_component.proofs.Roots.{same_id}
@@ -24,14 +24,14 @@ Comes-packets old packet new (from_connection is) = ap (λ (h : Held). h.packets
 Comes-packets old packet new (from_text text named is) = ap (λ (h : Held). h.packets) is ∙ ap (λ (t : Tree). old.packets ++ t ∷ []) (sym named)
 
 -- where each step sends to an output what was owed there, and owes what it got, a run does
-pub owed-to : {K : Type 0} (ready : K → Held → Answer → Type 0) (next : K → Held → Answer → Outcome K → Type 0) (output : ℕ) (Good : Poise K → Type 0) (f : Tree → List Tree) (owed : Poise K → List Tree)
-    → ((p : Poise K) (e : Happening) (q : Poise K) → Good p → Steps ready next p e q → Good q × (owed p ++ flat_map f (content_got 0 e) ≡ content_sent output e ++ owed q))
-    → (p : Poise K) (es : List Happening) (q : Poise K) → Good p → Runs ready next p es q → owed p ++ flat_map f (got 0 es) ≡ sent output es ++ owed q
-owed-to ready next output Good f owed step p [] q g r = rw r (simp (append-nil))
-owed-to ready next output Good f owed step p (e ∷ es) q g r =
+pub owed-to : {K : Type 0} (rules : Rules K) (output : ℕ) (Good : Poise K → Type 0) (f : Tree → List Tree) (owed : Poise K → List Tree)
+    → ((p : Poise K) (e : Happening) (q : Poise K) → Good p → Steps rules p e q → Good q × (owed p ++ flat_map f (content_got 0 e) ≡ content_sent output e ++ owed q))
+    → (p : Poise K) (es : List Happening) (q : Poise K) → Good p → Runs rules p es q → owed p ++ flat_map f (got 0 es) ≡ sent output es ++ owed q
+owed-to rules output Good f owed step p [] q g r = rw r (simp (append-nil))
+owed-to rules output Good f owed step p (e ∷ es) q g r =
     let m = r.0 in
     let s = step p e m g r.1 in
-    let t : owed m ++ flat_map f (got 0 es) ≡ sent output es ++ owed q = owed-to ready next output Good f owed step m es q s.0 r.2 in
+    let t : owed m ++ flat_map f (got 0 es) ≡ sent output es ++ owed q = owed-to rules output Good f owed step m es q s.0 r.2 in
     let x = content_got 0 e in
     let y = content_sent output e in
     ap (λ zs. owed p ++ zs) (flat_map-append f x (got 0 es)) ∙ sym (append_assoc (owed p) (flat_map f x) (flat_map f (got 0 es)))
@@ -39,28 +39,26 @@ owed-to ready next output Good f owed step p (e ∷ es) q g r =
     ∙ ap (λ zs. y ++ zs) t ∙ sym (append_assoc y (sent output es) (owed q))
 
 -- the same at the first output
-pub owed-run : {K : Type 0} (ready : K → Held → Answer → Type 0) (next : K → Held → Answer → Outcome K → Type 0) (Good : Poise K → Type 0) (f : Tree → List Tree) (owed : Poise K → List Tree)
-    → ((p : Poise K) (e : Happening) (q : Poise K) → Good p → Steps ready next p e q → Good q × (owed p ++ flat_map f (content_got 0 e) ≡ content_sent 0 e ++ owed q))
-    → (p : Poise K) (es : List Happening) (q : Poise K) → Good p → Runs ready next p es q → owed p ++ flat_map f (got 0 es) ≡ sent 0 es ++ owed q
-owed-run ready next Good f owed step p es q g r = owed-to ready next 0 Good f owed step p es q g r
+pub owed-run : {K : Type 0} (rules : Rules K) (Good : Poise K → Type 0) (f : Tree → List Tree) (owed : Poise K → List Tree)
+    → ((p : Poise K) (e : Happening) (q : Poise K) → Good p → Steps rules p e q → Good q × (owed p ++ flat_map f (content_got 0 e) ≡ content_sent 0 e ++ owed q))
+    → (p : Poise K) (es : List Happening) (q : Poise K) → Good p → Runs rules p es q → owed p ++ flat_map f (got 0 es) ≡ sent 0 es ++ owed q
+owed-run rules Good f owed step p es q g r = owed-to rules 0 Good f owed step p es q g r
 
 -- what holds of a component between answers, and is kept by each step, holds after a run
-pub good-run : {K : Type 0} (ready : K → Held → Answer → Type 0) (next : K → Held → Answer → Outcome K → Type 0) (Good : Poise K → Type 0)
-    → ((p : Poise K) (e : Happening) (q : Poise K) → Good p → Steps ready next p e q → Good q) → (p : Poise K) (es : List Happening) (q : Poise K) → Good p → Runs ready next p es q → Good q
-good-run ready next Good step p [] q g r = subst Good (sym r) g
-good-run ready next Good step p (e ∷ es) q g r = good-run ready next Good step r.0 es q (step p e r.0 g r.1) r.2
+pub good-run : {K : Type 0} (rules : Rules K) (Good : Poise K → Type 0)
+    → ((p : Poise K) (e : Happening) (q : Poise K) → Good p → Steps rules p e q → Good q) → (p : Poise K) (es : List Happening) (q : Poise K) → Good p → Runs rules p es q → Good q
+good-run rules Good step p [] q g r = subst Good (sym r) g
+good-run rules Good step p (e ∷ es) q g r = good-run rules Good step r.0 es q (step p e r.0 g r.1) r.2
 
 -- the law on wishes holds at each step
-pub stays-allowed : {K : Type 0} (ready : K → Held → Answer → Type 0) (next : K → Held → Answer → Outcome K → Type 0) (shape : Shape) (uses : ℕ → Bool)
-    → ((component : K) (held : Held) (answer : Answer) (outcome : Outcome K) → ready component held answer → next component held answer outcome → Obeys shape uses held outcome)
-    → (p : Poise K) (e : Happening) (q : Poise K) → Steps ready next p e q → IsAllowed shape uses q.held q.wish
-stays-allowed ready next shape uses obeys p e q s = (obeys p.component s.held (answer_of e) (Wishes q.component q.held q.wish) s.is_ready s.comes_to).1
+pub stays-allowed : {K : Type 0} (rules : Rules K) → Lawful rules → (p : Poise K) (e : Happening) (q : Poise K) → Steps rules p e q → IsAllowed (rules.shape p.component) (rules.uses p.component) q.held q.wish
+stays-allowed rules lawful p e q s = (lawful.obeys p.component s.held (answer_of e) (Wishes q.component q.held q.wish) s.is_ready s.comes_to).1
 
 -- one step more
-pub Runs-more : {K : Type 0} (ready : K → Held → Answer → Type 0) (next : K → Held → Answer → Outcome K → Type 0) (p : Poise K) (es : List Happening) (m : Poise K) (e : Happening) (q : Poise K)
-    → Runs ready next p es m → Steps ready next m e q → Runs ready next p (es ++ e ∷ []) q
-Runs-more ready next p [] m e q r s = (q, subst (λ (u : Poise _). Steps ready next u e q) r s, refl)
-Runs-more ready next p (f ∷ es) m e q r s = (r.0, r.1, Runs-more ready next r.0 es m e q r.2 s)
+pub Runs-more : {K : Type 0} (rules : Rules K) (p : Poise K) (es : List Happening) (m : Poise K) (e : Happening) (q : Poise K)
+    → Runs rules p es m → Steps rules m e q → Runs rules p (es ++ e ∷ []) q
+Runs-more rules p [] m e q r s = (q, subst (λ (u : Poise _). Steps rules u e q) r s, refl)
+Runs-more rules p (f ∷ es) m e q r s = (r.0, r.1, Runs-more rules r.0 es m e q r.2 s)
 
 -- One more happening adds at its end what it got at the port.
 pub got-more : (port : ℕ) (es : List Happening) (e : Happening) → got port (es ++ e ∷ []) ≡ got port es ++ content_got port e

@@ -9,7 +9,7 @@ use Rattle.flow_packet.specs.Held.{Held, Sound, next_id, with_packet, without_pa
 use Rattle.flow_component.specs.declared.Answer.{Answer}
 use Rattle.flow_component.specs.declared.Wish.{Wish}
 use Rattle.flow_component.specs.declared.Wish.TheVariants as wishes
-use Rattle.flow_component.specs.Laws.{Outcome, Wishes}
+use Rattle.flow_component.specs.Laws.{Rules, Wishes}
 use Rattle.flow_component.specs.Happenings.{Happening, Started, Received, Ended, Sent, Learned, answer_of}
 
 -- A component between two answers: its state, its hands and its wish. One that hasn't started stands as one that has deactivated.
@@ -36,17 +36,17 @@ Grants old wish (Sent port packet) new = (wish ≡ wishes.Send (record { 0 = por
 Grants old wish (Learned port level) new = (wish ≡ wishes.Level (record { 0 = port })) × (new ≡ old)
 
 -- One answer, for which the component is ready with sound hands, and the work after it up to the next wish.
-pub record Steps {K : Type 0} (ready : K → Held → Answer → Type 0) (next : K → Held → Answer → Outcome K → Type 0) (p : Poise K) (happening : Happening) (q : Poise K) : Type 0 where
+pub record Steps {K : Type 0} (rules : Rules K) (p : Poise K) (happening : Happening) (q : Poise K) : Type 0 where
   pub held : Held
   pub grants : Grants p.held p.wish happening held
   pub sound : Sound held
-  pub is_ready : ready p.component held (answer_of happening)
-  pub comes_to : next p.component held (answer_of happening) (Wishes q.component q.held q.wish)
+  pub is_ready : rules.ready p.component held (answer_of happening)
+  pub comes_to : rules.next p.component held (answer_of happening) (Wishes q.component q.held q.wish)
 
 -- A run over these happenings, in order.
-abbrev pub Runs : {K : Type 0} → (K → Held → Answer → Type 0) → (K → Held → Answer → Outcome K → Type 0) → Poise K → List Happening → Poise K → Type 0
-Runs ready next p [] q = q ≡ p
-Runs {K} ready next p (happening ∷ happenings) q = (m : Poise K) × Steps ready next p happening m × Runs ready next m happenings q
+abbrev pub Runs : {K : Type 0} → Rules K → Poise K → List Happening → Poise K → Type 0
+Runs rules p [] q = q ≡ p
+Runs {K} rules p (happening ∷ happenings) q = (m : Poise K) × Steps rules p happening m × Runs rules m happenings q
 
 -- A Normal packet with this text and no chains, as content.
 abbrev pub text_packet : List ℕ → Tree
@@ -149,8 +149,8 @@ starts (Sent output packet ∷ later) = starts later
 starts (Learned output level ∷ later) = starts later
 
 -- A run from the first state of a component to a deactivation: all that a process that has ended was told.
-pub record EndedRun {K : Type 0} (ready : K → Held → Answer → Type 0) (next : K → Held → Answer → Outcome K → Type 0) (component : K) (happenings : List Happening) : Type 0 where
+pub record EndedRun {K : Type 0} (rules : Rules K) (component : K) (happenings : List Happening) : Type 0 where
   pub maker : ℕ
   pub last : Poise K
-  pub runs : Runs ready next (fresh component maker) happenings last
+  pub runs : Runs rules (fresh component maker) happenings last
   pub idle : last.wish ≡ wishes.Deactivate

@@ -6,12 +6,9 @@ use Rattle.std.proofs.lemmas.Bool.Decides.{nat_tests}
 use Rattle.std.proofs.lemmas.Option.{slice_get-map}
 use Rattle.std.proofs.lemmas.List.Quantifiers.{position-Some}
 use Rattle.flow_packet.specs.Tree.{Tree}
-use Rattle.flow_packet.specs.Held.{Held}
 use Rattle.flow_component.specs.declared.Port.{Port}
-use Rattle.flow_component.specs.declared.Answer.{Answer}
-use Rattle.flow_component.specs.declared.Shape.{Shape}
 use Rattle.flow_component.specs.declared.Wish.TheVariants as wishes
-use Rattle.flow_component.specs.Laws.{Outcome, Obeys, StaysReady, IsSteady}
+use Rattle.flow_component.specs.Laws.{Rules, Lawful}
 use Rattle.flow_plan.specs.Network.{Network as Plan}
 use Rattle.flow_plan.specs.declared.plan.Sender.{Sender}
 use Rattle.flow_plan.specs.declared.plan.Connection.{Connection as PlanConnection}
@@ -24,16 +21,17 @@ use Rattle.flow_model.specs.Events.{Event, Starts, Finishes, Gets, Hears_end, Lo
 use Rattle.flow_model.specs.Schedules.{Journal, Leads}
 use Rattle.flow_model.specs.Verdicts.{exact_level, waits_for, block_of, block, IsDeadlock}
 use Rattle.flow_model.specs.Order.{connection_of, input_of, signal_of}
-use Rattle.flow_model.specs.Valid.{HasToClose, IsFailedStage, IsOpenSender}
+use Rattle.flow_model.specs.Stages.{HasToClose, IsFailedStage, IsOverOrOwes, HasBegunToClose}
+use Rattle.flow_model.specs.Valid.{IsOpenSender}
 use Rattle.flow_model.specs.Fit.{Fit}
 use Rattle.flow_model.specs.Plans.{leads_to, receives_at, input_at, connected_or, text_at, process_at_start, processes_at_start, start_of, StartsWell}
 use Rattle.flow_model.specs.Wires.{Wires, wires}
 use Rattle.flow_model.proofs.Lists.{map-found, same_or_not}
 use Rattle.flow_model.proofs.Start.{Valid-start, start-input, start-signal, no_connection}
 use Rattle.flow_model.proofs.Senders.{both-true}
-use Rattle.flow_model.proofs.Blocks.{IsOverOrOwes, turn-or-block, outlet-of}
+use Rattle.flow_model.proofs.Blocks.{turn-or-block, outlet-of}
 use Rattle.flow_model.proofs.Exhausting.{IsDry}
-use Rattle.flow_model.proofs.Telling.{IsOverStage, AllTell-start, AllTell-leads}
+use Rattle.flow_model.proofs.Telling.{AllTell-start, AllTell-leads}
 use Rattle.flow_model.proofs.Fits.{Fit-start, Fit-leads}
 use Rattle.flow_model.proofs.Wiring.{wires-leads}
 use Rattle.flow_model.proofs.Leaving.{process-there, ports-at, position-only}
@@ -94,13 +92,8 @@ blocked-so {K} x b is = by x.stage refl is
     by : (stage : Stage) → x.stage ≡ stage → waits_for x stage ≡ Some b → BlockedSo x b
     by (stages.Wishing (wishes.Receive port)) at is = from port (slice_get x.inputs port.0) at refl is
     by (stages.Wishing (wishes.Send port id)) at is = to port id (output_at x port.0) at refl is
-    by (stages.Wishing (wishes.Level port)) at is = absurd (cc)
-    by (stages.Wishing wishes.Deactivate) at is = absurd (cc)
     by stages.Idle at is = dormant at (sym (one-of blocks.Dormant b is))
-    by (stages.Told answer) at is = absurd (cc)
-    by (stages.Closing i) at is = absurd (cc)
-    by stages.Ended at is = absurd (cc)
-    by (stages.Failed cause) at is = absurd (cc)
+    by stage at is = absurd (cc)
 
 -- What blocks a process is what its stage waits for.
 pub block-waits : {K : Type 0} (channels : List Look) (x : Process K) (b : Block) → block_of channels x ≡ Some b → waits_for x x.stage ≡ Some b
@@ -271,29 +264,26 @@ module _ {K : Type 0} (channels : List Channel) (p : ℕ) (x : Process K) (none 
           )
       by (Some c) at true released false over = so true true false (ap is_some at) released over (others released over)
 
-module _ {K : Type 0} (shape_of : K → Shape) (uses : K → ℕ → Bool) (ready : K → Held → Answer → Type 0) (next : K → Held → Answer → Outcome K → Type 0)
-    (obeys : (component : K) (held : Held) (answer : Answer) (outcome : Outcome K) → ready component held answer → next component held answer outcome → Obeys (shape_of component) (uses component) held outcome)
-    (stays : (component : K) (held : Held) (answer : Answer) (outcome : Outcome K) → ready component held answer → next component held answer outcome → StaysReady ready outcome)
-    (steady : (component : K) (held : Held) (answer : Answer) (outcome : Outcome K) → next component held answer outcome → IsSteady shape_of uses component outcome)
-    (plan : Plan) (components : List K) (journal : Journal) (s : State K) (well : StartsWell shape_of uses ready plan components) (leads : Leads next (start_of plan components) journal s) (deadlock : IsDeadlock s) where
+module _ {K : Type 0} (rules : Rules K) (lawful : Lawful rules)
+    (plan : Plan) (components : List K) (journal : Journal) (s : State K) (well : StartsWell rules plan components) (leads : Leads rules (start_of plan components) journal s) (deadlock : IsDeadlock s) where
   -- The state is fit.
-  pub fit : Fit shape_of uses ready s
-  fit = Fit-leads shape_of uses ready next obeys stays steady (start_of plan components) journal s (Fit-start shape_of uses ready plan components well) leads
+  pub fit : Fit rules s
+  fit = Fit-leads rules lawful (start_of plan components) journal s (Fit-start rules plan components well) leads
 
   -- It has a connection for each of the plan's.
   pub channels : ChannelsOf plan.connections s.kept.channels
-  channels = channels-of next plan components journal s leads
+  channels = channels-of rules plan components journal s leads
 
   -- what has ended left its inputs dry
   ended-dry : (p i c : ℕ) (x : Process K) → slice_get s.kept.processes p ≡ Some x → x.stage ≡ stages.Ended → slice_get x.inputs i ≡ Some (From c) → IsDry s.kept.channels c
   ended-dry p i c x there ended at =
-      (AllTell-leads ready next shape_of uses obeys stays components (start_of plan components) journal s (Valid-start ready shape_of uses plan components well) (AllTell-start ready next plan components) leads p x there).over
-      (subst IsOverStage (sym ended) tt) i c at
+      (AllTell-leads rules lawful components (start_of plan components) journal s (Valid-start rules plan components well) (AllTell-start rules plan components) leads p x there).over
+      (subst HasBegunToClose (sym ended) tt) i c at
 
   -- and its automatic input
   signal-dry_then : (p c : ℕ) (x : Process K) → slice_get s.kept.processes p ≡ Some x → x.stage ≡ stages.Ended → x.signal ≡ Some c → IsDry s.kept.channels c
   signal-dry_then p c x there ended at =
-      signals-over ready next shape_of uses obeys stays plan components (Valid-start ready shape_of uses plan components well) journal s leads p c x there (subst IsOverStage (sym ended) tt) at
+      signals-over rules lawful plan components (Valid-start rules plan components well) journal s leads p c x there (subst HasBegunToClose (sym ended) tt) at
 
   -- whoever hasn't ended is blocked
   pub blocked : (p : ℕ) (x : Process K) → slice_get s.kept.processes p ≡ Some x → (x.stage ≡ stages.Ended → ⊥) → IsSome (block_of (looks s.kept.channels) x)
@@ -304,9 +294,7 @@ module _ {K : Type 0} (shape_of : K → Shape) (uses : K → ℕ → Bool) (read
       not_over stages.Ended at over = on at
       not_over (stages.Failed cause) at over = deadlock.1 (p, x, cause, there, at)
       not_over (stages.Told answer) at over = deadlock.0.thought p x there answer at
-      not_over stages.Idle at over = over
-      not_over (stages.Wishing wish) at over = over
-      not_over (stages.Closing i) at over = over
+      not_over stage at over = over
 
   block-at : (p : ℕ) (x : Process K) → slice_get s.kept.processes p ≡ Some x → IsSome (block_of (looks s.kept.channels) x) → IsSome (block s.kept p)
   block-at p x there some = subst (λ (found : Option (Process K)). IsSome (option_and_then (block_of (looks s.kept.channels)) found)) (sym there) some
@@ -324,7 +312,7 @@ module _ {K : Type 0} (shape_of : K → Shape) (uses : K → ℕ → Bool) (read
   -- a process of the plan is there, wired by it
   wired-now : (q : ℕ) (z : Process K) → slice_get (processes_at_start plan 0 plan.processes components) q ≡ Some z → (y : Process K) × (slice_get s.kept.processes q ≡ Some y) × (wires y ≡ wires z)
   wired-now q z there =
-      let same = (wires-leads next plan components journal s leads).0 in
+      let same = (wires-leads rules plan components journal s leads).0 in
       let h : slice_get (map wires s.kept.processes) q ≡ Some (wires z) =
       ap (λ (ws : List Wires). slice_get ws q) same ∙ slice_get-map wires (processes_at_start plan 0 plan.processes components) q ∙ ap (option_map wires) there in
       map-found wires s.kept.processes q (wires z) h
@@ -332,7 +320,7 @@ module _ {K : Type 0} (shape_of : K → Shape) (uses : K → ℕ → Bool) (read
   -- and each of its inputs is wired as at the start
   wired-then : (q : ℕ) (y : Process K) → slice_get s.kept.processes q ≡ Some y → (z : Process K) × (slice_get (processes_at_start plan 0 plan.processes components) q ≡ Some z) × (wires z ≡ wires y)
   wired-then q y there =
-      let same = (wires-leads next plan components journal s leads).0 in
+      let same = (wires-leads rules plan components journal s leads).0 in
       let h : slice_get (map wires (processes_at_start plan 0 plan.processes components)) q ≡ Some (wires y) =
       ap (λ (ws : List Wires). slice_get ws q) (sym same) ∙ slice_get-map wires s.kept.processes q ∙ ap (option_map wires) there in
       map-found wires (processes_at_start plan 0 plan.processes components) q (wires y) h

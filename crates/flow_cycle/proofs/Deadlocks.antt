@@ -1,14 +1,11 @@
 -- Each deadlock that a schedule reaches from a start has its one waiting cycle.
-use Rattle.std.proofs.Common.{◌≡◌, ◌⊎◌, ℕ, ◌+◌, ◌<◌, Bool, true, false, List, [], ◌∷◌, length, Option, Some, None, IsSome, refl, sym, ap, ◌∙◌, subst, nat_eq, arith, inl, inr, slice_get, zero, suc, get_or}
+use Rattle.std.proofs.Common.{◌≡◌, ◌⊎◌, ℕ, ◌+◌, ◌<◌, Bool, true, false, List, [], ◌∷◌, length, Option, Some, None, IsSome, refl, sym, ap, ◌∙◌, subst, nat_eq, arith, inl, inr, slice_get, get_or}
 use Rattle.std.specs.Prelude.{option_map, option_and_then, is_some, position}
 use Rattle.std.proofs.lemmas.List.Quantifiers.{position-Some}
 use Rattle.std.proofs.lemmas.Map.Keys.{IsDistinct-from_apart}
 use Rattle.std.proofs.lemmas.Option.{get_or_from_slice_get, slice_get_within}
-use Rattle.flow_packet.specs.Held.{Held}
 use Rattle.flow_packet.proofs.Trees.{position-None}
-use Rattle.flow_component.specs.declared.Answer.{Answer}
-use Rattle.flow_component.specs.declared.Shape.{Shape}
-use Rattle.flow_component.specs.Laws.{Outcome, Obeys, StaysReady, IsSteady}
+use Rattle.flow_component.specs.Laws.{Rules, Lawful}
 use Rattle.flow_plan.specs.Network.{Network as Plan}
 use Rattle.flow_plan.specs.declared.plan.Sender.{Sender}
 use Rattle.flow_plan.specs.declared.plan.Connection.{Connection as PlanConnection}
@@ -21,6 +18,7 @@ use Rattle.flow_model.specs.Events.{looks}
 use Rattle.flow_model.specs.Schedules.{Journal, Leads}
 use Rattle.flow_model.specs.Verdicts.{block_of, block, IsDeadlock}
 use Rattle.flow_model.specs.Plans.{start_of, StartsWell}
+use Rattle.flow_model.proofs.Lists.{get-there}
 use Rattle.flow_machine.specs.Inlets.{watched}
 use Rattle.flow_cycle.specs.declared.Waits.{Waits}
 use Rattle.flow_cycle.specs.Waiting.{first_open_sender, waits_for_sender, waits_for_receiver, or_else, waits_to_wake, waits_by, waits_of, waits_at, lowest_blocked, IsWaitingCycle}
@@ -84,30 +82,17 @@ true-some None is = absurd (cc)
 -- A process has ended or it hasn't.
 pub ended-or : (stage : Stage) → (stage ≡ stages.Ended) ⊎ (stage ≡ stages.Ended → ⊥)
 ended-or stages.Ended = inl refl
-ended-or stages.Idle = inr (λ h. cc)
-ended-or (stages.Told answer) = inr (λ h. cc)
-ended-or (stages.Wishing wish) = inr (λ h. cc)
-ended-or (stages.Closing i) = inr (λ h. cc)
-ended-or (stages.Failed cause) = inr (λ h. cc)
+ended-or stage = inr (λ h. cc)
 
--- What stands below the length.
-pub get-there : {A : Type 0} (xs : List A) (i : ℕ) (d : A) → i < length xs → slice_get xs i ≡ Some (get_or xs i d)
-get-there [] i d below = absurd (omega (arith, below))
-get-there (x ∷ xs) zero d below = refl
-get-there (x ∷ xs) (suc i) d below = get-there xs i d (omega (arith, below))
-
-module _ {K : Type 0} (shape_of : K → Shape) (uses : K → ℕ → Bool) (ready : K → Held → Answer → Type 0) (next : K → Held → Answer → Outcome K → Type 0)
-    (obeys : (component : K) (held : Held) (answer : Answer) (outcome : Outcome K) → ready component held answer → next component held answer outcome → Obeys (shape_of component) (uses component) held outcome)
-    (stays : (component : K) (held : Held) (answer : Answer) (outcome : Outcome K) → ready component held answer → next component held answer outcome → StaysReady ready outcome)
-    (steady : (component : K) (held : Held) (answer : Answer) (outcome : Outcome K) → next component held answer outcome → IsSteady shape_of uses component outcome) where
-  module _ (plan : Plan) (components : List K) (journal : Journal) (s : State K) (well : StartsWell shape_of uses ready plan components) (leads : Leads next (start_of plan components) journal s) (deadlock : IsDeadlock s) where
+module _ {K : Type 0} (rules : Rules K) (lawful : Lawful rules) where
+  module _ (plan : Plan) (components : List K) (journal : Journal) (s : State K) (well : StartsWell rules plan components) (leads : Leads rules (start_of plan components) journal s) (deadlock : IsDeadlock s) where
     -- Whoever hasn't ended is blocked.
     pub blocks-too : (p : ℕ) (x : Process K) → slice_get s.kept.processes p ≡ Some x → (x.stage ≡ stages.Ended → ⊥) → IsSome (block_of (looks s.kept.channels) x)
-    blocks-too = blocked shape_of uses ready next obeys stays steady plan components journal s well leads deadlock
+    blocks-too = blocked rules lawful plan components journal s well leads deadlock
 
     -- Each blocked process waits for one.
     pub waits-too : (p : ℕ) → IsSome (block s.kept p) → (w : Waits) × (waits_at plan s.kept p ≡ Some w) × IsSome (block s.kept w.to) × (w.process ≡ p)
-    waits-too = blocked-waits shape_of uses ready next obeys stays steady plan components journal s well leads deadlock
+    waits-too = blocked-waits rules lawful plan components journal s well leads deadlock
 
     -- some process is blocked, and one is the lowest
     pub lowest : (p : ℕ) × (lowest_blocked s.kept ≡ Some p) × IsSome (block s.kept p)
@@ -151,5 +136,5 @@ module _ {K : Type 0} (shape_of : K → Shape) (uses : K → ℕ → Bool) (read
     )
 
   -- The law.
-  pub deadlocks-wait : DeadlocksWait shape_of uses ready next
+  pub deadlocks-wait : DeadlocksWait rules
   deadlocks-wait = λ plan components journal s well leads deadlock. waits-in_a_cycle plan components journal s well leads deadlock

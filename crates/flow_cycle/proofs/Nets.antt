@@ -6,10 +6,8 @@ use Rattle.std.specs.List.{list_all, position_or_len}
 use Rattle.std.proofs.lemmas.List.{length-map}
 use Rattle.std.proofs.lemmas.List.Quantifiers.{position-Some}
 use Rattle.std.proofs.lemmas.Option.{slice_get-map}
-use Rattle.flow_packet.specs.Held.{Held}
 use Rattle.flow_component.specs.declared.Answer.{Answer}
-use Rattle.flow_component.specs.declared.Shape.{Shape}
-use Rattle.flow_component.specs.Laws.{Outcome, Obeys, StaysReady, IsSteady}
+use Rattle.flow_component.specs.Laws.{Rules, Lawful}
 use Rattle.flow_plan.specs.Network.{Network as Plan}
 use Rattle.flow_plan.specs.declared.plan.Sender.{Sender}
 use Rattle.flow_plan.specs.declared.plan.Connection.{Connection as PlanConnection}
@@ -20,7 +18,8 @@ use Rattle.flow_model.specs.declared.Block.TheVariants as blocks
 use Rattle.flow_model.specs.States.{Input, From, Text, Process, Channel, State}
 use Rattle.flow_model.specs.Events.{Look, looks, event_of, stage_event}
 use Rattle.flow_model.specs.Verdicts.{waits_for, block_of, block, IsDeadlock}
-use Rattle.flow_model.specs.Valid.{HasToClose, IsFailedStage, IsOpenSender, AllDifferent}
+use Rattle.flow_model.specs.Stages.{HasToClose, IsFailedStage, has_ended}
+use Rattle.flow_model.specs.Valid.{IsOpenSender, AllDifferent}
 use Rattle.flow_model.specs.Plans.{comes_from, sends_at, channel_at_start}
 use Rattle.flow_model.specs.Stands.{BodyShown, NetShown, bodies_from, show_body, look_shown, StandsForOpen}
 use Rattle.flow_model.proofs.Lists.{map-found}
@@ -33,9 +32,10 @@ use Rattle.flow_machine.specs.Nets.{looks_of}
 use Rattle.flow_machine.specs.Inlets.{watched}
 use Rattle.flow_cycle.specs.declared.Waits.{Waits}
 use Rattle.flow_cycle.specs.Waiting.{first_open_sender, waits_for_sender, or_else, waits_to_wake, waits_by, waits_of, waits_at, lowest_blocked, walk, IsWaitingCycle}
-use Rattle.flow_cycle.specs.Nets.{has_ended, not_ended, first_on, wakes_in, waits_in_by, waits_of_body, waits_in, is_blocked, is_stuck, cycle_in, IsReached, IsCycleOf}
+use Rattle.flow_cycle.specs.Nets.{not_ended, first_on, wakes_in, waits_in_by, waits_of_body, waits_in, is_blocked, is_stuck, cycle_in, IsReached, IsCycleOf}
 use Rattle.flow_cycle.proofs.Blocked.{one-of, is-there, there-below, BlockedSo, empty, full, dormant, blocked-so, block-waits, fit, channels}
-use Rattle.flow_cycle.proofs.Deadlocks.{ended-or, some-true, get-there, blocks-too, lowest, found, is-cycle}
+use Rattle.flow_model.proofs.Lists.{get-there}
+use Rattle.flow_cycle.proofs.Deadlocks.{ended-or, some-true, blocks-too, lowest, found, is-cycle}
 use Rattle.flow_cycle.proofs.Channels.{ChannelsOf}
 use Rattle.flow_cycle.proofs.Firsts.{first-among, outlet-found}
 
@@ -79,11 +79,7 @@ data StuckSo {K : Type 0} (ls : List Look) (x : Process K) : Type 0 where
 
 ended-is : (stage : Stage) → has_ended stage ≡ true → stage ≡ stages.Ended
 ended-is stages.Ended is = refl
-ended-is stages.Idle is = absurd (cc)
-ended-is (stages.Told answer) is = absurd (cc)
-ended-is (stages.Wishing wish) is = absurd (cc)
-ended-is (stages.Closing i) is = absurd (cc)
-ended-is (stages.Failed cause) is = absurd (cc)
+ended-is stage is = absurd (cc)
 
 stuck-so : {K : Type 0} (ls : List Look) (x : Process K) → (has_ended x.stage || is_some (block_of ls x)) ≡ true → StuckSo ls x
 stuck-so {K} ls x is = by (has_ended x.stage) (block_of ls x) refl refl is
@@ -116,11 +112,7 @@ close-any {K} ls x some j = of (block_of ls x) refl some
 left-on : (stage : Stage) (j : ℕ) → HasToClose stage j ⊎ IsFailedStage stage → not (has_ended stage) ≡ true
 left-on stages.Ended j (inl has) = absurd has
 left-on stages.Ended j (inr failed) = absurd failed
-left-on stages.Idle j left = refl
-left-on (stages.Told answer) j left = refl
-left-on (stages.Wishing wish) j left = refl
-left-on (stages.Closing i) j left = refl
-left-on (stages.Failed cause) j left = refl
+left-on stage j left = refl
 
 module _ {K : Type 0} (net : NetValue K) (s : State K) (stands : StandsForOpen (shown_net net) s) where
   same-processes : map (λ (b : BodyValue K). b.process) net.bodies ≡ s.kept.processes
@@ -182,19 +174,16 @@ module _ {K : Type 0} (net : NetValue K) (s : State K) (stands : StandsForOpen (
           of b None at is over = (let h : false ≡ true = sym (ap is_some at) ∙ is in cc)
           of b (Some block) at is over = (let h : None ≡ Some block = waits-at_stage (looks_of net.channels) b.process block stages.Ended at over in cc)
 
-module _ {K : Type 0} (shape_of : K → Shape) (uses : K → ℕ → Bool) (ready : K → Held → Answer → Type 0) (next : K → Held → Answer → Outcome K → Type 0)
-    (obeys : (component : K) (held : Held) (answer : Answer) (outcome : Outcome K) → ready component held answer → next component held answer outcome → Obeys (shape_of component) (uses component) held outcome)
-    (stays : (component : K) (held : Held) (answer : Answer) (outcome : Outcome K) → ready component held answer → next component held answer outcome → StaysReady ready outcome)
-    (steady : (component : K) (held : Held) (answer : Answer) (outcome : Outcome K) → next component held answer outcome → IsSteady shape_of uses component outcome)
-    (plan : Plan) (net : NetValue K) (s : State K) (reached : IsReached shape_of uses ready next plan net s) where
+module _ {K : Type 0} (rules : Rules K) (lawful : Lawful rules)
+    (plan : Plan) (net : NetValue K) (s : State K) (reached : IsReached rules plan net s) where
   module _ (deadlock : IsDeadlock s) where
     blocks-now : (p : ℕ) (x : Process K) → slice_get s.kept.processes p ≡ Some x → (x.stage ≡ stages.Ended → ⊥) → IsSome (block_of (looks s.kept.channels) x)
-    blocks-now = blocks-too shape_of uses ready next obeys stays steady plan reached.components reached.journal s reached.well reached.leads deadlock
+    blocks-now = blocks-too rules lawful plan reached.components reached.journal s reached.well reached.leads deadlock
 
     -- an open sender's process hasn't ended
     open-on : (c : ℕ) (channel : Channel) (sender : Sender) → slice_get s.kept.channels c ≡ Some channel → IsOpenSender sender channel.open_senders → not_ended (slice_get net.bodies sender.process) ≡ true
     open-on c channel sender there is =
-        let left = (fit shape_of uses ready next obeys stays steady plan reached.components reached.journal s reached.well reached.leads deadlock).senders.only c channel sender there is in
+        let left = (fit rules lawful plan reached.components reached.journal s reached.well reached.leads deadlock).senders.only c channel sender there is in
         let b = body-at net s reached.stands sender.process left.process left.there in
         ap not_ended b.1 ∙ ap (λ (x : Process K). not (has_ended x.stage)) b.2 ∙ left-on left.process.stage left.place left.left
 
@@ -209,7 +198,7 @@ module _ {K : Type 0} (shape_of : K → Shape) (uses : K → ℕ → Bool) (read
         let other = open-place sender y.senders passes in
         (reached.well.wired.one_sender k c other.0 place.0 y connection sender at' at other.1 place.1).0
         )) in
-        let now = sends-now shape_of uses ready next plan reached.components reached.journal s reached.well reached.leads p o c sends in
+        let now = sends-now rules plan reached.components reached.journal s reached.well reached.leads p o c sends in
         let b = body-at net s reached.stands p now.0 now.1 in
         let alive : not (has_ended now.0.stage) ≡ true = sym (ap not_ended b.1 ∙ ap (λ (x : Process K). not (has_ended x.stage)) b.2) ∙ on in
         let some = blocks-now p now.0 now.1 (λ over. (let h : false ≡ true = sym (ap (λ (st : Stage). not (has_ended st)) over) ∙ alive in cc)) in
@@ -222,7 +211,7 @@ module _ {K : Type 0} (shape_of : K → Shape) (uses : K → ℕ → Bool) (read
         by x here has (Some (Some d)) out is =
             let same : d ≡ c = one-of d c is in
             let outlet = outlet-found 0 x.outputs sender.output c (out ∙ ap (λ k. Some (Some k)) same) in
-            let open_one = (fit shape_of uses ready next obeys stays steady plan reached.components reached.journal s reached.well reached.leads deadlock).valid.senders sender.process outlet.0 x _ here outlet.1 (has outlet.0) in
+            let open_one = (fit rules lawful plan reached.components reached.journal s reached.well reached.leads deadlock).valid.senders sender.process outlet.0 x _ here outlet.1 (has outlet.0) in
             let one : open_one.0 ≡ channel = one-of open_one.0 channel (sym open_one.1 ∙ there) in
             subst (λ (ch : Channel). IsOpenSender sender ch.open_senders) one (let n : 0 + sender.output ≡ sender.output = omega arith in subst (λ k. IsOpenSender (record { process = sender.process; output = k }) open_one.0.open_senders) n open_one.2)
 
@@ -231,7 +220,7 @@ module _ {K : Type 0} (shape_of : K → Shape) (uses : K → ℕ → Bool) (read
     first-same c = by (slice_get plan.connections c) refl
       where
         those : ChannelsOf plan.connections s.kept.channels
-        those = channels shape_of uses ready next obeys stays steady plan reached.components reached.journal s reached.well reached.leads deadlock
+        those = channels rules lawful plan reached.components reached.journal s reached.well reached.leads deadlock
 
         none : (found : Option Channel) → slice_get s.kept.channels c ≡ found → slice_get plan.connections c ≡ None → None ≡ first_open_sender found
         none None there at = refl
@@ -249,7 +238,7 @@ module _ {K : Type 0} (shape_of : K → Shape) (uses : K → ℕ → Bool) (read
             let below = there-below plan.connections c connection at in
             let channel = is-there s.kept.channels c (omega (arith, below, those.as_many)) in
             let different : AllDifferent connection.senders =
-            (OpenSendersTell-start shape_of uses ready plan reached.components reached.well).once c (channel_at_start connection) (slice_get-map channel_at_start plan.connections c ∙ ap (option_map channel_at_start) at) in
+            (OpenSendersTell-start rules plan reached.components reached.well).once c (channel_at_start connection) (slice_get-map channel_at_start plan.connections c ∙ ap (option_map channel_at_start) at) in
             first-among (λ (t : Sender). not_ended (slice_get net.bodies t.process)) channel.0.open_senders connection.senders (those.senders c channel.0 connection channel.1 at) different
             (λ t is. open-on c channel.0 t channel.1 is) (λ t is on. on-open c connection channel.0 t at channel.1 is on)
             ∙ sym (ap first_open_sender channel.1)
@@ -290,14 +279,14 @@ module _ {K : Type 0} (shape_of : K → Shape) (uses : K → ℕ → Bool) (read
     -- and the cycle is found in it
     finds : (cycle : List Waits) × (cycle_in plan net ≡ Some cycle) × IsWaitingCycle plan s.kept cycle
     finds =
-        let low = lowest shape_of uses ready next obeys stays steady plan reached.components reached.journal s reached.well reached.leads deadlock in
-        let walked = found shape_of uses ready next obeys stays steady plan reached.components reached.journal s reached.well reached.leads deadlock in
+        let low = lowest rules lawful plan reached.components reached.journal s reached.well reached.leads deadlock in
+        let walked = found rules lawful plan reached.components reached.journal s reached.well reached.leads deadlock in
         let many : length net.bodies ≡ length s.kept.processes = sym (length-map net.bodies (λ (b : BodyValue K). b.process)) ∙ ap length (same-processes net s reached.stands) in (
           walked.cycle,
           ap (λ b. cond b (option_and_then (walk (waits_in plan net) (length net.bodies + 1) []) (position (is_blocked net) net.bodies)) None) is-stuck
               ∙ ap (option_and_then (walk (waits_in plan net) (length net.bodies + 1) [])) (sym (same-lowest net s reached.stands) ∙ low.1)
               ∙ (λ i. walk (λ p. waits-same p i) (many i + 1) [] low.0) ∙ walked.found,
-          is-cycle shape_of uses ready next obeys stays steady plan reached.components reached.journal s reached.well reached.leads deadlock,
+          is-cycle rules lawful plan reached.components reached.journal s reached.well reached.leads deadlock,
         )
 
   -- what is found is the waiting cycle, and nothing is found where there is no deadlock

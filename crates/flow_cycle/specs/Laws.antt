@@ -1,9 +1,6 @@
 -- What is promised of each deadlock that a schedule reaches from a start, whatever the components choose.
-use Rattle.std.specs.Prelude.{◌≡◌, ℕ, Bool, List, Some, IsSome}
-use Rattle.flow_packet.specs.Held.{Held}
-use Rattle.flow_component.specs.declared.Answer.{Answer}
-use Rattle.flow_component.specs.declared.Shape.{Shape}
-use Rattle.flow_component.specs.Laws.{Outcome}
+use Rattle.std.specs.Prelude.{◌≡◌, ℕ, List, Some, IsSome}
+use Rattle.flow_component.specs.Laws.{Rules}
 use Rattle.flow_plan.specs.Network.{Network as Plan}
 use Rattle.flow_model.specs.States.{State}
 use Rattle.flow_model.specs.Schedules.{Journal, Leads}
@@ -23,6 +20,6 @@ pub record HasOneWaitingCycle {K : Type 0} (plan : Plan) (s : State K) : Type 0 
   pub only : (other : List Waits) → IsWaitingCycle plan s.kept other → other ≡ cycle
 
 -- So it is in each deadlock.
-abbrev pub DeadlocksWait : {K : Type 0} → (K → Shape) → (K → ℕ → Bool) → (K → Held → Answer → Type 0) → (K → Held → Answer → Outcome K → Type 0) → Type 0
-DeadlocksWait {K} shape_of uses ready next =
-    (plan : Plan) (components : List K) (journal : Journal) (s : State K) → StartsWell shape_of uses ready plan components → Leads next (start_of plan components) journal s → IsDeadlock s → BlockedOnBlocked plan s × HasOneWaitingCycle plan s
+abbrev pub DeadlocksWait : {K : Type 0} → Rules K → Type 0
+DeadlocksWait {K} rules =
+    (plan : Plan) (components : List K) (journal : Journal) (s : State K) → StartsWell rules plan components → Leads rules (start_of plan components) journal s → IsDeadlock s → BlockedOnBlocked plan s × HasOneWaitingCycle plan s

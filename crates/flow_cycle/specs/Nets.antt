@@ -1,19 +1,15 @@
 -- The waiting cycle as it is found in a running net, which counts the open senders of a connection: in a deadlock a sender is open where
 -- its process hasn't ended. (This project's own.)
-use Rattle.std.specs.Prelude.{◌≡◌, ℕ, ◌+◌, ◌||◌, not, if◌then◌else◌, Bool, true, false, List, [], ◌∷◌, length, Option, Some, None, slice_get, is_some, position, option_map, option_and_then, find}
+use Rattle.std.specs.Prelude.{◌≡◌, ℕ, ◌+◌, ◌||◌, not, if◌then◌else◌, Bool, false, List, [], ◌∷◌, length, Option, Some, None, slice_get, is_some, position, option_map, option_and_then, find}
 use Rattle.std.specs.List.{list_all}
-use Rattle.flow_component.specs.declared.Answer.{Answer}
-use Rattle.flow_component.specs.declared.Shape.{Shape}
-use Rattle.flow_component.specs.Laws.{Outcome}
-use Rattle.flow_packet.specs.Held.{Held}
+use Rattle.flow_component.specs.Laws.{Rules}
 use Rattle.flow_plan.specs.Network.{Network as Plan}
 use Rattle.flow_plan.specs.declared.plan.Sender.{Sender}
 use Rattle.flow_plan.specs.declared.plan.Connection.{Connection as PlanConnection}
-use Rattle.flow_model.specs.declared.Stage.{Stage}
-use Rattle.flow_model.specs.declared.Stage.TheVariants as stages
 use Rattle.flow_model.specs.declared.Block.{Block}
 use Rattle.flow_model.specs.declared.Block.TheVariants as blocks
 use Rattle.flow_model.specs.States.{Input, From, Text, Process, State}
+use Rattle.flow_model.specs.Stages.{has_ended}
 use Rattle.flow_model.specs.Schedules.{Journal, Leads}
 use Rattle.flow_model.specs.Verdicts.{block_of, IsDeadlock}
 use Rattle.flow_model.specs.Plans.{start_of, StartsWell}
@@ -23,24 +19,6 @@ use Rattle.flow_machine.specs.Nets.{looks_of}
 use Rattle.flow_machine.specs.Inlets.{watched}
 use Rattle.flow_cycle.specs.declared.Waits.{Waits}
 use Rattle.flow_cycle.specs.Waiting.{waits_for_sender, waits_for_receiver, or_else, rest_from, walk, IsWaitingCycle}
-
--- The process at this stage has ended.
-abbrev pub has_ended : Stage → Bool
-has_ended stages.Ended = true
-has_ended stages.Idle = false
-has_ended (stages.Told answer) = false
-has_ended (stages.Wishing wish) = false
-has_ended (stages.Closing place) = false
-has_ended (stages.Failed cause) = false
-
--- The process has a work that is still to come.
-abbrev pub owes_work : Stage → Bool
-owes_work (stages.Told answer) = true
-owes_work stages.Idle = false
-owes_work (stages.Wishing wish) = false
-owes_work (stages.Closing place) = false
-owes_work stages.Ended = false
-owes_work (stages.Failed cause) = false
 
 -- The process is there and hasn't ended.
 abbrev pub not_ended : {K : Type 0} → Option (BodyValue K) → Bool
@@ -89,11 +67,11 @@ abbrev pub AllMarked : List Bool → List Waits → Type 0
 AllMarked marks way = (p : ℕ) → slice_get marks p ≡ Some false → rest_from p way ≡ None
 
 -- The net stands for this state, which a schedule reaches from a start of the plan.
-pub record IsReached {K : Type 0} (shape_of : K → Shape) (uses : K → ℕ → Bool) (ready : K → Held → Answer → Type 0) (next : K → Held → Answer → Outcome K → Type 0) (plan : Plan) (net : NetValue K) (s : State K) : Type 0 where
+pub record IsReached {K : Type 0} (rules : Rules K) (plan : Plan) (net : NetValue K) (s : State K) : Type 0 where
   pub components : List K
-  pub well : StartsWell shape_of uses ready plan components
+  pub well : StartsWell rules plan components
   pub journal : Journal
-  pub leads : Leads next (start_of plan components) journal s
+  pub leads : Leads rules (start_of plan components) journal s
   pub stands : StandsForOpen (shown_net net) s
 
 -- What is found in a net is the waiting cycle of the state that it stands for; and nothing is found exactly where that is no deadlock.
@@ -102,5 +80,5 @@ IsCycleOf plan s (Some cycle) = IsDeadlock s × IsWaitingCycle plan s.kept cycle
 IsCycleOf plan s None = IsDeadlock s → ⊥
 
 -- So it is for each state that the net stands for and a schedule reaches.
-abbrev pub FindsCycles : {K : Type 0} → (K → Shape) → (K → ℕ → Bool) → (K → Held → Answer → Type 0) → (K → Held → Answer → Outcome K → Type 0) → Type 0
-FindsCycles {K} shape_of uses ready next = (plan : Plan) (net : NetValue K) (s : State K) → IsReached shape_of uses ready next plan net s → IsCycleOf plan s (cycle_in plan net)
+abbrev pub FindsCycles : {K : Type 0} → Rules K → Type 0
+FindsCycles {K} rules = (plan : Plan) (net : NetValue K) (s : State K) → IsReached rules plan net s → IsCycleOf plan s (cycle_in plan net)

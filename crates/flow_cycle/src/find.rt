@@ -6,12 +6,13 @@ ghost use Rattle.flow_machine.specs.Nets.{block_at, looks_of};
 ghost use Rattle.flow_machine.specs.Inlets.{watched};
 ghost use Rattle.flow_plan.specs.declared.plan.Sender.{Sender};
 ghost use Rattle.flow_cycle.specs.Waiting.{waits_for_sender, waits_for_receiver, rest_from, walk};
-ghost use Rattle.flow_cycle.specs.Nets.{has_ended, owes_work, not_ended, first_on, wakes_in, waits_in, is_blocked, is_stuck, cycle_in, AllMarked, IsReached, IsCycleOf};
+ghost use Rattle.flow_model.specs.Stages.{has_ended, owes_work};
+ghost use Rattle.flow_cycle.specs.Nets.{not_ended, first_on, wakes_in, waits_in, is_blocked, is_stuck, cycle_in, AllMarked, IsReached, IsCycleOf};
 
 use crate::Waits;
 use flow_component::Component;
 use flow_machine::{Block, Body, Net, Stage};
-use flow_net::{Plan, Sender};
+use flow_plan::{Plan, Sender};
 use std::alloc::{AllocError, Global};
 
 fn has_ended(stage: Stage) -> bool
@@ -307,7 +308,7 @@ pub fn cycle<K: Component>(
     net: &Net<K>,
 ) -> Result<Option<Vec<Waits>>, AllocError>
     ensures found { IfOk result (λ found. option_map (λ cycle. cycle.items) found ≡ cycle_in plan.now net.now) }
-    ensures exact { IfOk result (λ found. (s : State K) → IsReached K.shape_of K.uses K.ready K.next plan.now net.now s → IsCycleOf plan.now s (option_map (λ cycle. cycle.items) found)) }
+    ensures exact { IfOk result (λ found. (s : State K) → IsReached K.rules plan.now net.now s → IsCycleOf plan.now s (option_map (λ cycle. cycle.items) found)) }
 {
     if !is_stuck(net) {
         return Ok(None);

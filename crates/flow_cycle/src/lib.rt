@@ -20,11 +20,11 @@ pub struct Waits {
 /// In every deadlock that a schedule reaches from the start of a plan whose components fit, each process that is blocked waits for one
 /// that is blocked, and whoever follows for whom each waits, from the lowest one on, comes to one cycle.
 pub fn every_deadlock_has_its_waiting_cycle<K: Component>()
-    ensures { DeadlocksWait K.shape_of K.uses K.ready K.next }
+    ensures { DeadlocksWait K.rules }
 {}
 
 /// What `cycle` finds in a net is the waiting cycle of each state that the net stands for and a schedule reaches, and it finds none
 /// exactly where that is no deadlock.
 pub fn a_net_tells_its_waiting_cycle<K: Component>()
-    ensures { FindsCycles K.shape_of K.uses K.ready K.next }
+    ensures { FindsCycles K.rules }
 {}

@@ -3,11 +3,8 @@ use Rattle.std.proofs.Common.{◌≡◌, ℕ, ◌+◌, ◌≤◌, Bool, false, L
 use Rattle.std.specs.Prelude.{option_and_then}
 use Rattle.std.specs.List.{list_any, range_with_len}
 use Rattle.std.proofs.lemmas.List.Quantifiers.{position-Some}
-use Rattle.flow_packet.specs.Held.{Held}
-use Rattle.flow_component.specs.declared.Answer.{Answer}
 use Rattle.flow_component.specs.declared.Answer.TheVariants as answers
-use Rattle.flow_component.specs.declared.Shape.{Shape}
-use Rattle.flow_component.specs.Laws.{Outcome, Wishes, Fails, component_after, Obeys, StaysReady, IsSteady}
+use Rattle.flow_component.specs.Laws.{Rules, Lawful, Outcome, Wishes, Fails, component_after}
 use Rattle.flow_plan.specs.Network.{Network as Plan}
 use Rattle.flow_plan.specs.declared.plan.Sender.{Sender}
 use Rattle.flow_plan.specs.declared.plan.Process.{Process as PlanProcess}
@@ -29,13 +26,14 @@ use Rattle.flow_model.proofs.Start.{start-process, port-at, no_connection}
 use Rattle.flow_model.proofs.Leaving.{open-place}
 use Rattle.flow_model.proofs.Rising.{found-set}
 use Rattle.flow_model.proofs.Fits.{Fit-start, Fit-turn, Fit-settles}
+use Rattle.flow_model.proofs.Lists.{get-there}
 use Rattle.flow_determinate.specs.Determinate.{EachHasOneSender, OnlyTheseAsk, NoneMayAsk}
 use Rattle.flow_determinate.proofs.Moves.{one-of, ComesTo, whole-move}
 use Rattle.flow_determinate.proofs.Staying.{OneWriter}
 
-module _ {K : Type 0} (ready : K → Held → Answer → Type 0) (next : K → Held → Answer → Outcome K → Type 0) (may_ask : K → Bool) (only : OnlyTheseAsk ready next may_ask) where
+module _ {K : Type 0} (rules : Rules K) (may_ask : K → Bool) (only : OnlyTheseAsk rules may_ask) where
   -- a whole turn leaves its process's component one that never asks
-  asks-after : (x : Process K) (e : Event) (after : Process K) (dropped : List ℕ) → ComesTo next (process_after x e) after dropped → may_ask x.component ≡ false → may_ask after.component ≡ false
+  asks-after : (x : Process K) (e : Event) (after : Process K) (dropped : List ℕ) → ComesTo rules (process_after x e) after dropped → may_ask x.component ≡ false → may_ask after.component ≡ false
   asks-after x e after dropped (inl none) asks = ap (λ (z : Process K). may_ask z.component) none.1 ∙ ap may_ask (component-after x e) ∙ asks
   asks-after x e after dropped (inr work) asks =
       ap (λ (z : Process K). may_ask z.component) work.4 ∙ ap may_ask (component-worked (process_after x e) work.1)
@@ -46,9 +44,9 @@ module _ {K : Type 0} (ready : K → Held → Answer → Type 0) (next : K → H
       component-worked y (Fails component held cause) = refl
 
 -- a process's outputs stay
-outputs-stay : {K : Type 0} (next : K → Held → Answer → Outcome K → Type 0) (x : Process K) (e : Event) (after : Process K) (dropped : List ℕ) → ComesTo next (process_after x e) after dropped → after.outputs ≡ x.outputs
-outputs-stay {K} next x e after dropped (inl none) = ap (λ (z : Process K). z.outputs) none.1 ∙ outputs-after x e
-outputs-stay {K} next x e after dropped (inr work) = ap (λ (z : Process K). z.outputs) work.4 ∙ outputs-worked (process_after x e) work.1 ∙ outputs-after x e
+outputs-stay : {K : Type 0} (rules : Rules K) (x : Process K) (e : Event) (after : Process K) (dropped : List ℕ) → ComesTo rules (process_after x e) after dropped → after.outputs ≡ x.outputs
+outputs-stay {K} rules x e after dropped (inl none) = ap (λ (z : Process K). z.outputs) none.1 ∙ outputs-after x e
+outputs-stay {K} rules x e after dropped (inr work) = ap (λ (z : Process K). z.outputs) work.4 ∙ outputs-worked (process_after x e) work.1 ∙ outputs-after x e
 
 -- The start of a plan
 
@@ -84,11 +82,6 @@ at-most-one (x ∷ []) (suc i) k a b few is at = absurd (cc)
 at-most-one (x ∷ []) zero (suc k) a b few is at = absurd (cc)
 at-most-one (x ∷ y ∷ xs) i k a b few is at = absurd (omega (arith, few))
 
-get-there : {A : Type 0} (xs : List A) (c : ℕ) (d : A) → c < length xs → slice_get xs c ≡ Some (get_or xs c d)
-get-there [] c d l = absurd (omega (arith, l))
-get-there (x ∷ xs) zero d l = refl
-get-there (x ∷ xs) (suc c) d l = get-there xs c d (omega (arith, l))
-
 -- where no connection has two senders, no two outputs send to one
 one-writer : {K : Type 0} (plan : Plan) (components : List K) → EachHasOneSender plan → OneWriter (start_of plan components).kept.processes
 one-writer plan components unmerged p q o k c is at =
@@ -102,36 +95,33 @@ one-writer plan components unmerged p q o k c is at =
     let same : a ≡ b = at-most-one connection.senders here.0 there.0 a b (unmerged c connection (get-there plan.connections c no_connection one.0)) here.1 there.1 in
     (ap (λ (s : Sender). s.process) same, ap (λ (s : Sender). s.output) same)
 
-module _ {K : Type 0} (shape_of : K → Shape) (uses : K → ℕ → Bool) (ready : K → Held → Answer → Type 0) (next : K → Held → Answer → Outcome K → Type 0)
-    (obeys : (component : K) (held : Held) (answer : Answer) (outcome : Outcome K) → ready component held answer → next component held answer outcome → Obeys (shape_of component) (uses component) held outcome)
-    (stays : (component : K) (held : Held) (answer : Answer) (outcome : Outcome K) → ready component held answer → next component held answer outcome → StaysReady ready outcome)
-    (steady : (component : K) (held : Held) (answer : Answer) (outcome : Outcome K) → next component held answer outcome → IsSteady shape_of uses component outcome)
-    (may_ask : K → Bool) (only : OnlyTheseAsk ready next may_ask) where
+module _ {K : Type 0} (rules : Rules K) (lawful : Lawful rules)
+    (may_ask : K → Bool) (only : OnlyTheseAsk rules may_ask) where
   -- what holds along every schedule
   pub record Settled (s : State K) : Type 0 where
-    pub fit : Fit shape_of uses ready s
+    pub fit : Fit rules s
     pub asks : (p : ℕ) (x : Process K) → slice_get s.kept.processes p ≡ Some x → may_ask x.component ≡ false
     pub writers : OneWriter s.kept.processes
 
   -- it holds at the start
-  pub settled-start : (plan : Plan) (components : List K) → StartsWell shape_of uses ready plan components → EachHasOneSender plan → NoneMayAsk may_ask components → Settled (start_of plan components)
+  pub settled-start : (plan : Plan) (components : List K) → StartsWell rules plan components → EachHasOneSender plan → NoneMayAsk may_ask components → Settled (start_of plan components)
   settled-start plan components well unmerged none = record {
-    fit = Fit-start shape_of uses ready plan components well;
+    fit = Fit-start rules plan components well;
     asks = λ p x is. none p x.component (component-at plan 0 plan.processes components p x is);
     writers = one-writer plan components unmerged;
   }
 
   -- every whole turn keeps it
-  pub settled-whole : (s : State K) (p : ℕ) (e : Event) (s' : State K) → WholeTurn next s p e s' → Settled s → Settled s'
+  pub settled-whole : (s : State K) (p : ℕ) (e : Event) (s' : State K) → WholeTurn rules s p e s' → Settled s → Settled s'
   settled-whole s p e s' whole old =
-      let move = whole-move next s p e s' whole in
+      let move = whole-move rules s p e s' whole in
       let processes : s'.kept.processes ≡ slice_set s.kept.processes p move.after = ap (λ (t : State K). t.kept.processes) move.is in
       let same : (o q : ℕ) → output_of o (slice_get s'.kept.processes q) ≡ output_of o (slice_get s.kept.processes q) = λ o q.
-      (ap (λ (ps : List (Process K)). output_of o (slice_get ps q)) processes ∙ output_of-set o s.kept.processes p move.before move.after q move.there (outputs-stay next move.before e move.after move.dropped move.comes)) in
+      (ap (λ (ps : List (Process K)). output_of o (slice_get ps q)) processes ∙ output_of-set o s.kept.processes p move.before move.after q move.there (outputs-stay rules move.before e move.after move.dropped move.comes)) in
       record {
-        fit = Fit-settles shape_of uses ready next obeys stays steady whole.0 p s' whole.2 (Fit-turn shape_of uses ready s p e whole.0 whole.1 old.fit);
+        fit = Fit-settles rules lawful whole.0 p s' whole.2 (Fit-turn rules s p e whole.0 whole.1 old.fit);
         asks = λ q x is. elim (found-set s.kept.processes p move.before move.after move.there q x (ap (λ (ps : List (Process K)). slice_get ps q) (sym processes) ∙ is)) as (λ _. may_ask x.component ≡ false) [
-          | inl here ↦ subst (λ (z : Process K). may_ask z.component ≡ false) here.1 (asks-after ready next may_ask only move.before e move.after move.dropped move.comes (old.asks p move.before move.there))
+          | inl here ↦ subst (λ (z : Process K). may_ask z.component ≡ false) here.1 (asks-after rules may_ask only move.before e move.after move.dropped move.comes (old.asks p move.before move.there))
           | inr other ↦ old.asks q x other.1
         ];
         writers = λ q r o k c is at. old.writers q r o k c (sym (same o q) ∙ is) (sym (same k r) ∙ at);
@@ -144,5 +134,5 @@ module _ {K : Type 0} (shape_of : K → Shape) (uses : K → ℕ → Bool) (read
       let was = settled.fit.valid.each p x there in
       let below : x.held.made < 4294967296 = omega (arith, was.made, was.turns) in
       let sound = sound-hands s p x there was.maker below settled.fit.valid.one_place in
-      let now : ready x.component x.held (answers.Level 0) = subst (ReadyAt (ready x.component) x.held) at.stage was.is_ready 0 (omega arith) sound in
+      let now : rules.ready x.component x.held (answers.Level 0) = subst (ReadyAt (rules.ready x.component) x.held) at.stage was.is_ready 0 (omega arith) sound in
       only.told_none x.component x.held 0 (settled.asks p x there) now

@@ -3,8 +3,8 @@ use Rattle.std.proofs.Common.{◌≡◌, ◌≢◌, ℕ, Bool, true, false, List
 use Rattle.std.proofs.lemmas.Bool.Decides.{nat_tests}
 use Rattle.flow_packet.specs.Tree.{Tree, ids}
 use Rattle.flow_model.specs.States.{Channel, Put, Entry, entry_of, change_at, changed}
-use Rattle.flow_model.specs.Events.{Event, Starts, Finishes, Gets, Takes_text, Hears_end, Sends, Learns, Sleeps, Closes, Signals}
-use Rattle.flow_model.specs.Turns.{channel_after, channels_after, signals_after, put_after, drops_after, add_at}
+use Rattle.flow_model.specs.Events.{Event, Starts, Gets, Sends, Closes, Signals}
+use Rattle.flow_model.specs.Turns.{channel_after, channels_after, signals_after, put_after, drops_after, add_at, ChangeAt, change_of, change_one}
 use Rattle.flow_model.proofs.Lists.{slice_get-set_same, slice_get-set_other, same_or_not, change_at-some}
 use Rattle.flow_determinate.proofs.Moves.{set-twice, one-of, dropped_then}
 
@@ -57,33 +57,31 @@ module _ {A : Type 0} (xs : List A) (c : ℕ) (f : A → A) where
 -- The connection of a turn
 
 -- The connection that a turn changes, if it changes one.
+abbrev pub touched_by : Option ChangeAt → Option ℕ
+touched_by (Some at) = Some at.connection
+touched_by None = None
+
 abbrev pub touches : Event → Option ℕ
-touches (Gets port c packet) = Some c
-touches (Sends port c packet) = Some c
-touches (Closes output c) = Some c
-touches (Signals c packet) = Some c
-touches Starts = None
-touches Finishes = None
-touches (Takes_text port text) = None
-touches (Hears_end port) = None
-touches (Learns port level) = None
-touches Sleeps = None
+touches e = touched_by (change_of e)
+
+-- A connection after a turn of process p there.
+abbrev pub changed_by : ℕ → Channel → Option ChangeAt → Channel
+changed_by p channel (Some at) = channel_after p at.change channel
+changed_by p channel None = channel
+
+abbrev pub channel_by : ℕ → Channel → Event → Channel
+channel_by p channel e = changed_by p channel (change_of e)
 
 abbrev after_at : List Channel → ℕ → Event → Option ℕ → List Channel
-after_at channels p e (Some c) = change_at channels c (λ channel. channel_after p channel e)
+after_at channels p e (Some c) = change_at channels c (λ channel. channel_by p channel e)
 after_at channels p e None = channels
 
 pub channels-at : (channels : List Channel) (p : ℕ) (e : Event) → channels_after channels p e ≡ after_at channels p e (touches e)
-channels-at channels p Starts = refl
-channels-at channels p Finishes = refl
-channels-at channels p (Gets port c packet) = refl
-channels-at channels p (Takes_text port text) = refl
-channels-at channels p (Hears_end port) = refl
-channels-at channels p (Sends port c packet) = refl
-channels-at channels p (Learns port level) = refl
-channels-at channels p Sleeps = refl
-channels-at channels p (Closes output c) = refl
-channels-at channels p (Signals c packet) = refl
+channels-at channels p e = by (change_of e) refl
+  where
+    by : (change : Option ChangeAt) → change_of e ≡ change → change_one (channel_after p) change channels ≡ after_at channels p e (touched_by change)
+    by (Some at) is = ap (λ (change : Option ChangeAt). change_at channels at.connection (λ channel. changed_by p channel change)) (sym is)
+    by None is = refl
 
 -- What a turn at a connection is: a get, a send, a close, or a signal.
 pub data Touching (e : Event) (c : ℕ) : Type 0 where
@@ -97,31 +95,26 @@ touching (Gets port d packet) c is = gets port packet (ap (λ k. Gets port k pac
 touching (Sends port d packet) c is = sends port packet (ap (λ k. Sends port k packet) (one-of d c is))
 touching (Closes output d) c is = closes output (ap (Closes output) (one-of d c is))
 touching (Signals d packet) c is = signals packet (ap (λ k. Signals k packet) (one-of d c is))
-touching Starts c is = absurd (cc)
-touching Finishes c is = absurd (cc)
-touching (Takes_text port text) c is = absurd (cc)
-touching (Hears_end port) c is = absurd (cc)
-touching (Learns port level) c is = absurd (cc)
-touching Sleeps c is = absurd (cc)
+touching e c is = absurd (cc)
 
 -- A connection after a turn of some process: as it was, or changed by the turn.
 pub after-turn : (channels : List Channel) (p : ℕ) (e : Event) (c : ℕ) (channel : Channel) → slice_get channels c ≡ Some channel
-    → (slice_get (channels_after channels p e) c ≡ Some channel) ⊎ ((touches e ≡ Some c) × (slice_get (channels_after channels p e) c ≡ Some (channel_after p channel e)))
+    → (slice_get (channels_after channels p e) c ≡ Some channel) ⊎ ((touches e ≡ Some c) × (slice_get (channels_after channels p e) c ≡ Some (channel_by p channel e)))
 after-turn channels p e c channel there = by (touches e) refl
   where
-    by : (at : Option ℕ) → touches e ≡ at → (slice_get (channels_after channels p e) c ≡ Some channel) ⊎ ((touches e ≡ Some c) × (slice_get (channels_after channels p e) c ≡ Some (channel_after p channel e)))
+    by : (at : Option ℕ) → touches e ≡ at → (slice_get (channels_after channels p e) c ≡ Some channel) ⊎ ((touches e ≡ Some c) × (slice_get (channels_after channels p e) c ≡ Some (channel_by p channel e)))
     by None at = inl (ap (λ cs. slice_get cs c) (channels-at channels p e ∙ ap (after_at channels p e) at) ∙ there)
     by (Some d) at = elim (same_or_not c d) [
       | inl same ↦ inr (
         at ∙ ap Some (sym same),
-        ap (λ cs. slice_get cs c) (channels-at channels p e ∙ ap (after_at channels p e) (at ∙ ap Some (sym same))) ∙ change-here channels c (λ ch. channel_after p ch e) channel there,
+        ap (λ cs. slice_get cs c) (channels-at channels p e ∙ ap (after_at channels p e) (at ∙ ap Some (sym same))) ∙ change-here channels c (λ ch. channel_by p ch e) channel there,
       )
-      | inr other ↦ inl (ap (λ cs. slice_get cs c) (channels-at channels p e ∙ ap (after_at channels p e) at) ∙ change-other channels d (λ ch. channel_after p ch e) c other ∙ there)
+      | inr other ↦ inl (ap (λ cs. slice_get cs c) (channels-at channels p e ∙ ap (after_at channels p e) at) ∙ change-other channels d (λ ch. channel_by p ch e) c other ∙ there)
     ]
 
 -- Turns of two processes at one connection commute there.
 abbrev pub CommuteAt : List Channel → ℕ → Event → ℕ → Event → Type 0
-CommuteAt channels p e q f = (c : ℕ) (channel : Channel) → touches e ≡ Some c → touches f ≡ Some c → slice_get channels c ≡ Some channel → channel_after q (channel_after p channel e) f ≡ channel_after p (channel_after q channel f) e
+CommuteAt channels p e q f = (c : ℕ) (channel : Channel) → touches e ≡ Some c → touches f ≡ Some c → slice_get channels c ≡ Some channel → channel_by q (channel_by p channel e) f ≡ channel_by p (channel_by q channel f) e
 
 -- The turns of two processes change the connections alike in either order.
 pub channels-commute : (channels : List Channel) (p : ℕ) (e : Event) (q : ℕ) (f : Event) → CommuteAt channels p e q f → channels_after (channels_after channels p e) q f ≡ channels_after (channels_after channels q f) p e
@@ -133,10 +126,10 @@ channels-commute channels p e q f commute =
     by None on at is = refl
     by (Some c) None at is = refl
     by (Some c) (Some d) at is = elim (same_or_not c d) [
-      | inl same ↦ (let at_c : (x : Channel) → slice_get channels c ≡ Some x → channel_after q (channel_after p x e) f ≡ channel_after p (channel_after q x f) e = λ x there. commute c x at (is ∙ ap Some (sym same)) there in
-          let whole = change-same channels c (λ ch. channel_after p ch e) (λ ch. channel_after q ch f) at_c in
-          subst (λ (k : ℕ). change_at (change_at channels c (λ ch. channel_after p ch e)) k (λ ch. channel_after q ch f) ≡ change_at (change_at channels k (λ ch. channel_after q ch f)) c (λ ch. channel_after p ch e)) same whole)
-      | inr other ↦ change-commute channels c (λ ch. channel_after p ch e) d (λ ch. channel_after q ch f) other
+      | inl same ↦ (let at_c : (x : Channel) → slice_get channels c ≡ Some x → channel_by q (channel_by p x e) f ≡ channel_by p (channel_by q x f) e = λ x there. commute c x at (is ∙ ap Some (sym same)) there in
+          let whole = change-same channels c (λ ch. channel_by p ch e) (λ ch. channel_by q ch f) at_c in
+          subst (λ (k : ℕ). change_at (change_at channels c (λ ch. channel_by p ch e)) k (λ ch. channel_by q ch f) ≡ change_at (change_at channels k (λ ch. channel_by q ch f)) c (λ ch. channel_by p ch e)) same whole)
+      | inr other ↦ change-commute channels c (λ ch. channel_by p ch e) d (λ ch. channel_by q ch f) other
     ]
 
 -- What grows at two places
@@ -155,15 +148,7 @@ not-twice r p q ne t u = ne (grind (arith, nat_tests))
 -- What a turn of process p puts, and where.
 abbrev puts : ℕ → Event → Option (ℕ × Put)
 puts p (Sends port c packet) = Some (c, record { sender = record { process = p; output = port }; entry = entry_of packet })
-puts p Starts = None
-puts p Finishes = None
-puts p (Gets port c packet) = None
-puts p (Takes_text port text) = None
-puts p (Hears_end port) = None
-puts p (Learns port level) = None
-puts p Sleeps = None
-puts p (Closes output c) = None
-puts p (Signals c packet) = None
+puts p event = None
 
 abbrev put_at : (ℕ → List Put) → Option (ℕ × Put) → ℕ → List Put
 put_at put (Some new) = add_at new.0 new.1 put
@@ -171,27 +156,11 @@ put_at put None = put
 
 put-at : (put : ℕ → List Put) (p : ℕ) (e : Event) → put_after put p e ≡ put_at put (puts p e)
 put-at put p Starts = refl
-put-at put p Finishes = refl
-put-at put p (Gets port c packet) = refl
-put-at put p (Takes_text port text) = refl
-put-at put p (Hears_end port) = refl
-put-at put p (Sends port c packet) = refl
-put-at put p (Learns port level) = refl
-put-at put p Sleeps = refl
-put-at put p (Closes output c) = refl
-put-at put p (Signals c packet) = refl
+put-at put p e = refl
 
 puts-touches : (p : ℕ) (e : Event) (new : ℕ × Put) → puts p e ≡ Some new → (port : ℕ) × (packet : Tree) × (e ≡ Sends port new.0 packet)
 puts-touches p (Sends port c packet) new is = (port, packet, ap (λ k. Sends port k packet) (ap (λ (n : ℕ × Put). n.0) (one-of (c, record { sender = record { process = p; output = port }; entry = entry_of packet }) new is)))
-puts-touches p Starts new is = absurd (cc)
-puts-touches p Finishes new is = absurd (cc)
-puts-touches p (Gets port c packet) new is = absurd (cc)
-puts-touches p (Takes_text port text) new is = absurd (cc)
-puts-touches p (Hears_end port) new is = absurd (cc)
-puts-touches p (Learns port level) new is = absurd (cc)
-puts-touches p Sleeps new is = absurd (cc)
-puts-touches p (Closes output c) new is = absurd (cc)
-puts-touches p (Signals c packet) new is = absurd (cc)
+puts-touches p e new is = absurd (cc)
 
 -- Two turns don't both send to one connection.
 abbrev pub SendApart : Event → Event → Type 0
@@ -219,27 +188,11 @@ puts-commute put p e q f apart =
 -- What comes at an automatic input by a turn, and the ids that it drops.
 abbrev signals_by : Event → List Entry
 signals_by (Signals c packet) = entry_of packet ∷ []
-signals_by Starts = []
-signals_by Finishes = []
-signals_by (Gets port c packet) = []
-signals_by (Takes_text port text) = []
-signals_by (Hears_end port) = []
-signals_by (Sends port c packet) = []
-signals_by (Learns port level) = []
-signals_by Sleeps = []
-signals_by (Closes output c) = []
+signals_by event = []
 
 abbrev drops_by : Event → List ℕ
 drops_by (Signals c packet) = ids packet
-drops_by Starts = []
-drops_by Finishes = []
-drops_by (Gets port c packet) = []
-drops_by (Takes_text port text) = []
-drops_by (Hears_end port) = []
-drops_by (Sends port c packet) = []
-drops_by (Learns port level) = []
-drops_by Sleeps = []
-drops_by (Closes output c) = []
+drops_by event = []
 
 -- A list that grows by nothing.
 grown-none : {A : Type 0} (t : Bool) (xs : List A) → xs ≡ cond t (xs ++ []) xs
@@ -248,27 +201,11 @@ grown-none false xs = refl
 
 signals-at : (old : ℕ → List Entry) (p : ℕ) (e : Event) (r : ℕ) → signals_after old p e r ≡ cond (nat_eq r p) (old r ++ signals_by e) (old r)
 signals-at old p (Signals c packet) r = refl
-signals-at old p Starts r = grown-none (nat_eq r p) (old r)
-signals-at old p Finishes r = grown-none (nat_eq r p) (old r)
-signals-at old p (Gets port c packet) r = grown-none (nat_eq r p) (old r)
-signals-at old p (Takes_text port text) r = grown-none (nat_eq r p) (old r)
-signals-at old p (Hears_end port) r = grown-none (nat_eq r p) (old r)
-signals-at old p (Sends port c packet) r = grown-none (nat_eq r p) (old r)
-signals-at old p (Learns port level) r = grown-none (nat_eq r p) (old r)
-signals-at old p Sleeps r = grown-none (nat_eq r p) (old r)
-signals-at old p (Closes output c) r = grown-none (nat_eq r p) (old r)
+signals-at old p e r = grown-none (nat_eq r p) (old r)
 
 drops-at : (old : ℕ → List ℕ) (p : ℕ) (e : Event) (r : ℕ) → drops_after old p e r ≡ cond (nat_eq r p) (old r ++ drops_by e) (old r)
 drops-at old p (Signals c packet) r = refl
-drops-at old p Starts r = grown-none (nat_eq r p) (old r)
-drops-at old p Finishes r = grown-none (nat_eq r p) (old r)
-drops-at old p (Gets port c packet) r = grown-none (nat_eq r p) (old r)
-drops-at old p (Takes_text port text) r = grown-none (nat_eq r p) (old r)
-drops-at old p (Hears_end port) r = grown-none (nat_eq r p) (old r)
-drops-at old p (Sends port c packet) r = grown-none (nat_eq r p) (old r)
-drops-at old p (Learns port level) r = grown-none (nat_eq r p) (old r)
-drops-at old p Sleeps r = grown-none (nat_eq r p) (old r)
-drops-at old p (Closes output c) r = grown-none (nat_eq r p) (old r)
+drops-at old p e r = grown-none (nat_eq r p) (old r)
 
 -- The turns of two processes bring signals alike in either order.
 pub signals-commute : (old : ℕ → List Entry) (p : ℕ) (e : Event) (q : ℕ) (f : Event) → p ≢ q → (r : ℕ) → signals_after (signals_after old p e) q f r ≡ signals_after (signals_after old q f) p e r

@@ -1,16 +1,13 @@
 -- Two whole turns of two processes may come in either order, and two of one process are one. So two quiet schedules end in one state.
 use Rattle.std.proofs.Common.{◌≡◌, ◌≢◌, ℕ, ◌+◌, Bool, true, false, List, [], ◌∷◌, ◌++◌, drop, Some, None, refl, sym, ap, ◌∙◌, subst, cond, nat_eq, arith, inl, inr, slice_get}
 use Rattle.flow_packet.specs.Tree.{Tree}
-use Rattle.flow_packet.specs.Held.{Held}
 use Rattle.flow_packet.specs.Ids.{times}
-use Rattle.flow_component.specs.declared.Answer.{Answer}
-use Rattle.flow_component.specs.declared.Shape.{Shape}
-use Rattle.flow_component.specs.Laws.{Outcome, Obeys, StaysReady, IsSteady, AtMostOneOutcome}
+use Rattle.flow_component.specs.Laws.{Rules, Lawful, AtMostOneOutcome}
 use Rattle.flow_plan.specs.Network.{Network as Plan}
 use Rattle.flow_plan.specs.declared.plan.Sender.{Sender}
 use Rattle.flow_model.specs.States.{is_sender, without_sender, Process, Channel, Kept, State}
-use Rattle.flow_model.specs.Events.{Event, Starts, Finishes, Gets, Takes_text, Hears_end, Sends, Learns, Sleeps, Closes, Signals, event_of, seen_by}
-use Rattle.flow_model.specs.Turns.{channel_after, heard}
+use Rattle.flow_model.specs.Events.{Event, Gets, Sends, Learns, Closes, Signals, event_of, seen_by}
+use Rattle.flow_model.specs.Turns.{heard}
 use Rattle.flow_model.specs.Schedules.{Journal, WholeTurn, LeadsBy, Leads}
 use Rattle.flow_model.specs.Robin.{IsExact, ExactTurn}
 use Rattle.flow_model.specs.Plans.{start_of, StartsWell}
@@ -21,7 +18,7 @@ use Rattle.flow_model.proofs.Senders.{both-true}
 use Rattle.flow_model.proofs.OneRobin.{same-exact}
 use Rattle.flow_determinate.specs.Determinate.{EachHasOneSender, OnlyTheseAsk, NoneMayAsk, IsStill, SameEnd}
 use Rattle.flow_determinate.proofs.Moves.{one-of, moved, Move, whole-move, move-whole}
-use Rattle.flow_determinate.proofs.Commuting.{set-commute, Touching, gets, sends, closes, signals, touching, CommuteAt, channels-commute, grow-commute, not-twice, SendApart, puts-commute, signals-commute, drops-commute}
+use Rattle.flow_determinate.proofs.Commuting.{set-commute, Touching, gets, sends, closes, signals, touching, CommuteAt, channels-commute, grow-commute, not-twice, SendApart, puts-commute, signals-commute, drops-commute, channel_by}
 use Rattle.flow_determinate.proofs.Staying.{OneWriter, no-get, no-signal, no-get_there, no-signal_there, no-send, turn-stays}
 use Rattle.flow_determinate.proofs.Calm.{Settled, settled-start, settled-whole, no-level}
 
@@ -75,10 +72,10 @@ module _ {K : Type 0} (kept : Kept K) (p : ℕ) (x : Process K) (n : ℕ) (e : E
   commute-at : CommuteAt kept.channels p e q f
   commute-at c channel at on_c here = by (touching e c at) (touching f c on_c)
     where
-      both : (g h : Event) → e ≡ g → f ≡ h → channel_after q (channel_after p channel g) h ≡ channel_after p (channel_after q channel h) g → channel_after q (channel_after p channel e) f ≡ channel_after p (channel_after q channel f) e
-      both g h is is' same = (λ i. channel_after q (channel_after p channel (is i)) (is' i)) ∙ same ∙ sym (λ i. channel_after p (channel_after q channel (is' i)) (is i))
+      both : (g h : Event) → e ≡ g → f ≡ h → channel_by q (channel_by p channel g) h ≡ channel_by p (channel_by q channel h) g → channel_by q (channel_by p channel e) f ≡ channel_by p (channel_by q channel f) e
+      both g h is is' same = (λ i. channel_by q (channel_by p channel (is i)) (is' i)) ∙ same ∙ sym (λ i. channel_by p (channel_by q channel (is' i)) (is i))
 
-      by : Touching e c → Touching f c → channel_after q (channel_after p channel e) f ≡ channel_after p (channel_after q channel f) e
+      by : Touching e c → Touching f c → channel_by q (channel_by p channel e) f ≡ channel_by p (channel_by q channel f) e
       by (gets port packet is) (gets k other is') = absurd (get-apart port k c packet other is is')
       by (gets port packet is) (sends k other is') =
           let from = explains kept.channels x n (Gets port c packet) (happens ∙ ap Some is) in
@@ -124,45 +121,34 @@ moved-commute s p x e x' ds q y f y' es apart commute sends_apart = λ i. record
 
 is-exact : {K : Type 0} (kept : Kept K) (x : Process K) (e : Event) → ((port level : ℕ) → e ≡ Learns port level → ⊥) → IsExact kept x e
 is-exact kept x (Learns port level) none = absurd (none port level refl)
-is-exact kept x Starts none = tt
-is-exact kept x Finishes none = tt
-is-exact kept x (Gets port c packet) none = tt
-is-exact kept x (Takes_text port text) none = tt
-is-exact kept x (Hears_end port) none = tt
-is-exact kept x (Sends port c packet) none = tt
-is-exact kept x Sleeps none = tt
-is-exact kept x (Closes output c) none = tt
-is-exact kept x (Signals c packet) none = tt
+is-exact kept x e none = tt
 
-module _ {K : Type 0} (shape_of : K → Shape) (uses : K → ℕ → Bool) (ready : K → Held → Answer → Type 0) (next : K → Held → Answer → Outcome K → Type 0)
-    (obeys : (component : K) (held : Held) (answer : Answer) (outcome : Outcome K) → ready component held answer → next component held answer outcome → Obeys (shape_of component) (uses component) held outcome)
-    (stays : (component : K) (held : Held) (answer : Answer) (outcome : Outcome K) → ready component held answer → next component held answer outcome → StaysReady ready outcome)
-    (steady : (component : K) (held : Held) (answer : Answer) (outcome : Outcome K) → next component held answer outcome → IsSteady shape_of uses component outcome)
-    (one : AtMostOneOutcome next) (may_ask : K → Bool) (only : OnlyTheseAsk ready next may_ask) where
+module _ {K : Type 0} (rules : Rules K) (lawful : Lawful rules)
+    (one : AtMostOneOutcome rules) (may_ask : K → Bool) (only : OnlyTheseAsk rules may_ask) where
   abbrev Good : State K → Type 0
-  Good = Settled shape_of uses ready next obeys stays steady may_ask only
+  Good = Settled rules lawful may_ask only
 
-  good-whole : (s : State K) (p : ℕ) (e : Event) (s' : State K) → WholeTurn next s p e s' → Good s → Good s'
-  good-whole = settled-whole shape_of uses ready next obeys stays steady may_ask only
+  good-whole : (s : State K) (p : ℕ) (e : Event) (s' : State K) → WholeTurn rules s p e s' → Good s → Good s'
+  good-whole = settled-whole rules lawful may_ask only
 
   -- turns of two processes, in either order
-  diamond : (s : State K) (p : ℕ) (e : Event) (a : State K) (q : ℕ) (f : Event) (b : State K) → Good s → p ≢ q → WholeTurn next s p e a → WholeTurn next s q f b
-      → (d : State K) × WholeTurn next a q f d × WholeTurn next b p e d
+  diamond : (s : State K) (p : ℕ) (e : Event) (a : State K) (q : ℕ) (f : Event) (b : State K) → Good s → p ≢ q → WholeTurn rules s p e a → WholeTurn rules s q f b
+      → (d : State K) × WholeTurn rules a q f d × WholeTurn rules b p e d
   diamond s p e a q f b good apart first second =
-      let m = whole-move next s p e a first in
-      let k = whole-move next s q f b second in
+      let m = whole-move rules s p e a first in
+      let k = whole-move rules s q f b second in
       let senders = good.fit.valid.senders in
       let receivers = good.fit.valid.one_receiver in
       let watchers = good.fit.valid.signals_apart in
       let back : q ≢ p = λ h. apart (sym h) in
-      let quiet_e = no-level shape_of uses ready next obeys stays steady may_ask only s p m.before m.level e good m.there m.happens in
-      let quiet_f = no-level shape_of uses ready next obeys stays steady may_ask only s q k.before k.level f good k.there k.happens in
+      let quiet_e = no-level rules lawful may_ask only s p m.before m.level e good m.there m.happens in
+      let quiet_f = no-level rules lawful may_ask only s q k.before k.level f good k.there k.happens in
       let commute = commute-at s.kept p m.before m.level e m.there m.happens q k.before k.level f k.there k.happens apart senders receivers watchers good.writers in
       let send_apart = send-apart s.kept p m.before m.level e m.there m.happens q k.before k.level f k.there k.happens apart senders receivers watchers good.writers in
       let one_way = moved s p m.before e m.after m.dropped in
       let other_way = moved s q k.before f k.after k.dropped in
       let d : State K = moved one_way q k.before f k.after k.dropped in
-      let then_q : Move next one_way q f d = record {
+      let then_q : Move rules one_way q f d = record {
         before = k.before;
         level = k.level;
         there = slice_get-set_other s.kept.processes p q m.after back ∙ k.there;
@@ -172,7 +158,7 @@ module _ {K : Type 0} (shape_of : K → Shape) (uses : K → ℕ → Bool) (read
         comes = k.comes;
         is = refl;
       } in
-      let then_p : Move next other_way p e d = record {
+      let then_p : Move rules other_way p e d = record {
         before = m.before;
         level = m.level;
         there = slice_get-set_other s.kept.processes q p k.after apart ∙ m.there;
@@ -182,24 +168,24 @@ module _ {K : Type 0} (shape_of : K → Shape) (uses : K → ℕ → Bool) (read
         comes = m.comes;
         is = moved-commute s p m.before e m.after m.dropped q k.before f k.after k.dropped apart commute send_apart;
       } in
-      (d, move-whole next a q f d (subst (λ (t : State K). Move next t q f d) (sym m.is) then_q), move-whole next b p e d (subst (λ (t : State K). Move next t p e d) (sym k.is) then_p))
+      (d, move-whole rules a q f d (subst (λ (t : State K). Move rules t q f d) (sym m.is) then_q), move-whole rules b p e d (subst (λ (t : State K). Move rules t p e d) (sym k.is) then_p))
 
   -- two turns of one process are one
-  same-whole : (s : State K) (p : ℕ) (e f : Event) (a b : State K) → Good s → WholeTurn next s p e a → WholeTurn next s p f b → a ≡ b
-  same-whole s p e f a b good first second = (same-exact next one s p e f a b (exact e a first) (exact f b second)).1
+  same-whole : (s : State K) (p : ℕ) (e f : Event) (a b : State K) → Good s → WholeTurn rules s p e a → WholeTurn rules s p f b → a ≡ b
+  same-whole s p e f a b good first second = (same-exact rules one s p e f a b (exact e a first) (exact f b second)).1
     where
-      exact : (g : Event) (t : State K) → WholeTurn next s p g t → ExactTurn next s p g t
+      exact : (g : Event) (t : State K) → WholeTurn rules s p g t → ExactTurn rules s p g t
       exact g t whole =
           let turn = whole.1 in
           record {
             mid = whole.0;
             turn = turn;
-            exact = is-exact s.kept turn.kept.before g (no-level shape_of uses ready next obeys stays steady may_ask only s p turn.kept.before turn.kept.level g good turn.kept.there turn.kept.happens);
+            exact = is-exact s.kept turn.kept.before g (no-level rules lawful may_ask only s p turn.kept.before turn.kept.level g good turn.kept.there turn.kept.happens);
             settles = whole.2;
           }
 
   -- a quiet state has no turn
-  no-turn : (s : State K) (p : ℕ) (e : Event) (a : State K) → IsStill s → WholeTurn next s p e a → ⊥
+  no-turn : (s : State K) (p : ℕ) (e : Event) (a : State K) → IsStill s → WholeTurn rules s p e a → ⊥
   no-turn s p e a quiet whole =
       let turn = whole.1.kept in
       (let h : Some e ≡ None = sym turn.happens ∙ quiet p turn.before turn.level turn.there in cc)
@@ -208,19 +194,19 @@ module _ {K : Type 0} (shape_of : K → Shape) (uses : K → ℕ → Bool) (read
   record GoesOn (p : ℕ) (a : State K) (turns : List ℕ) (t : State K) : Type 0 where
     turns_left : List ℕ
     seen_left : List ℕ
-    leads : LeadsBy next a turns_left seen_left t
+    leads : LeadsBy rules a turns_left seen_left t
     counts : (r : ℕ) → times r turns ≡ times r (p ∷ []) + times r turns_left
 
   -- whatever turn comes first, a quiet schedule comes to its end after it
-  goes-on : (turns seen : List ℕ) (s : State K) (p : ℕ) (e : Event) (a t : State K) → Good s → WholeTurn next s p e a → LeadsBy next s turns seen t → IsStill t → GoesOn p a turns t
+  goes-on : (turns seen : List ℕ) (s : State K) (p : ℕ) (e : Event) (a t : State K) → Good s → WholeTurn rules s p e a → LeadsBy rules s turns seen t → IsStill t → GoesOn p a turns t
   goes-on [] seen s p e a t good first leads quiet = absurd (no-turn s p e a (subst IsStill leads.1 quiet) first)
   goes-on (q ∷ turns) seen s p e a t good first leads quiet = elim (same_or_not p q) as (λ _. GoesOn p a (q ∷ turns) t) [
-    | inl same ↦ (let here : WholeTurn next s p leads.0 leads.1 = subst (λ (k : ℕ). WholeTurn next s k leads.0 leads.1) (sym same) leads.3 in
+    | inl same ↦ (let here : WholeTurn rules s p leads.0 leads.1 = subst (λ (k : ℕ). WholeTurn rules s k leads.0 leads.1) (sym same) leads.3 in
         let state : leads.1 ≡ a = same-whole s p leads.0 e leads.1 a good here first in
         record {
           turns_left = turns;
           seen_left = leads.2;
-          leads = subst (λ (m : State K). LeadsBy next m turns leads.2 t) state leads.5;
+          leads = subst (λ (m : State K). LeadsBy rules m turns leads.2 t) state leads.5;
           counts = λ r. (let h : times r (q ∷ turns) ≡ times r (p ∷ turns) = ap (λ (k : ℕ). times r (k ∷ turns)) (sym same) in omega (arith, h));
         })
     | inr other ↦ (let d = diamond s p e a q leads.0 leads.1 good other first leads.3 in
@@ -234,7 +220,7 @@ module _ {K : Type 0} (shape_of : K → Shape) (uses : K → ℕ → Bool) (read
   ]
 
   -- two quiet schedules from one state end in one state, with as many turns of each process
-  same-end : (turns seen turns' seen' : List ℕ) (s a b : State K) → Good s → LeadsBy next s turns seen a → IsStill a → LeadsBy next s turns' seen' b → IsStill b → ((r : ℕ) → times r turns ≡ times r turns') × (a ≡ b)
+  same-end : (turns seen turns' seen' : List ℕ) (s a b : State K) → Good s → LeadsBy rules s turns seen a → IsStill a → LeadsBy rules s turns' seen' b → IsStill b → ((r : ℕ) → times r turns ≡ times r turns') × (a ≡ b)
   same-end [] seen [] seen' s a b good first still second still' = ((λ r. refl), first.1 ∙ sym second.1)
   same-end [] seen (q ∷ turns') seen' s a b good first still second still' = absurd (no-turn s q second.0 second.1 (subst IsStill first.1 still) second.3)
   same-end (p ∷ turns) seen turns' seen' s a b good first still second still' =
@@ -243,9 +229,9 @@ module _ {K : Type 0} (shape_of : K → Shape) (uses : K → ℕ → Bool) (read
       ((λ r. (let h = more.counts r in let k = rest.0 r in omega (arith, h, k))), rest.1)
 
   -- all quiet schedules from a start of a plan without merges end in one state
-  pub one-end : (plan : Plan) (components : List K) → StartsWell shape_of uses ready plan components → EachHasOneSender plan → NoneMayAsk may_ask components
-      → (journal other : Journal) (s t : State K) → Leads next (start_of plan components) journal s → IsStill s → Leads next (start_of plan components) other t → IsStill t → SameEnd journal s other t
+  pub one-end : (plan : Plan) (components : List K) → StartsWell rules plan components → EachHasOneSender plan → NoneMayAsk may_ask components
+      → (journal other : Journal) (s t : State K) → Leads rules (start_of plan components) journal s → IsStill s → Leads rules (start_of plan components) other t → IsStill t → SameEnd journal s other t
   one-end plan components well unmerged none journal other s t leads quiet leads' quiet' =
-      let good = settled-start shape_of uses ready next obeys stays steady may_ask only plan components well unmerged none in
+      let good = settled-start rules lawful may_ask only plan components well unmerged none in
       let same = same-end journal.turns journal.seen other.turns other.seen (start_of plan components) s t good leads quiet leads' quiet' in
       record { turns = same.0; state = same.1 }

@@ -1,14 +1,14 @@
 -- A whole turn as one move of its process: what it leaves of the process, of the connections and of the past.
 use Rattle.std.proofs.Common.{◌≡◌, ℕ, Bool, true, false, List, [], ◌∷◌, ◌++◌, append-nil, Some, refl, sym, ap, ◌∙◌, subst, cond, ◌==◌, nat_eq, ◌⊎◌, inl, inr, slice_get, slice_set, zero, suc, if◌then◌else◌}
-use Rattle.flow_packet.specs.Held.{Held}
 use Rattle.flow_component.specs.declared.Answer.{Answer}
-use Rattle.flow_component.specs.Laws.{Outcome, held_after}
+use Rattle.flow_component.specs.Laws.{Rules, Outcome, held_after}
 use Rattle.flow_model.specs.declared.Stage.TheVariants as stages
 use Rattle.flow_model.specs.States.{Process, State}
 use Rattle.flow_model.specs.Events.{Event, event_of}
 use Rattle.flow_model.specs.Turns.{process_after, channels_after, heard, signals_after, put_after, drops_after, past_after, Turn}
 use Rattle.flow_model.specs.Works.{worked, dropped_by, past_worked}
-use Rattle.flow_model.specs.Schedules.{IsThoughtStage, Settles, WholeTurn}
+use Rattle.flow_model.specs.Stages.{IsThoughtStage}
+use Rattle.flow_model.specs.Schedules.{Settles, WholeTurn}
 use Rattle.flow_model.proofs.Lists.{slice_get-set_same}
 
 -- What is set twice is what was set last.
@@ -38,20 +38,20 @@ moved s p x e after dropped = record {
 }
 
 -- What a process comes to that a turn left so: it stays where no answer is pending, and else does its work, which drops these ids.
-abbrev pub ComesTo : {K : Type 0} → (K → Held → Answer → Outcome K → Type 0) → Process K → Process K → List ℕ → Type 0
-ComesTo {K} next z after dropped =
+abbrev pub ComesTo : {K : Type 0} → Rules K → Process K → Process K → List ℕ → Type 0
+ComesTo {K} rules z after dropped =
     (IsThoughtStage z.stage × (after ≡ z) × (dropped ≡ []))
-    ⊎ ((answer : Answer) × (outcome : Outcome K) × (z.stage ≡ stages.Told answer) × next z.component z.held answer outcome × (after ≡ worked z outcome) × (dropped ≡ dropped_by z.held (held_after outcome)))
+    ⊎ ((answer : Answer) × (outcome : Outcome K) × (z.stage ≡ stages.Told answer) × rules.next z.component z.held answer outcome × (after ≡ worked z outcome) × (dropped ≡ dropped_by z.held (held_after outcome)))
 
 -- A whole turn of process p, as a move.
-pub record Move {K : Type 0} (next : K → Held → Answer → Outcome K → Type 0) (s : State K) (p : ℕ) (event : Event) (s' : State K) : Type 0 where
+pub record Move {K : Type 0} (rules : Rules K) (s : State K) (p : ℕ) (event : Event) (s' : State K) : Type 0 where
   pub before : Process K
   pub level : ℕ
   pub there : slice_get s.kept.processes p ≡ Some before
   pub happens : event_of s.kept.channels before level ≡ Some event
   pub after : Process K
   pub dropped : List ℕ
-  pub comes : ComesTo next (process_after before event) after dropped
+  pub comes : ComesTo rules (process_after before event) after dropped
   pub is : s' ≡ moved s p before event after dropped
 
 same-state : {K : Type 0} (a b : State K) → a.kept.processes ≡ b.kept.processes → a.kept.channels ≡ b.kept.channels → a.past ≡ b.past → a ≡ b
@@ -61,12 +61,12 @@ drops-none : (b : Bool) (ids : List ℕ) → ids ≡ cond b (ids ++ []) ids
 drops-none true ids = sym (append-nil ids)
 drops-none false ids = refl
 
-module _ {K : Type 0} (next : K → Held → Answer → Outcome K → Type 0) (s : State K) (p : ℕ) (e : Event) (s' : State K) where
+module _ {K : Type 0} (rules : Rules K) (s : State K) (p : ℕ) (e : Event) (s' : State K) where
   -- a whole turn is a move
-  pub whole-move : WholeTurn next s p e s' → Move next s p e s'
+  pub whole-move : WholeTurn rules s p e s' → Move rules s p e s'
   whole-move whole = settle whole.0 whole.1 whole.2
     where
-      settle : (mid : State K) → Turn s p e mid → Settles next mid p s' → Move next s p e s'
+      settle : (mid : State K) → Turn s p e mid → Settles rules mid p s' → Move rules s p e s'
       settle mid turn (inl none) =
           let x = turn.kept.before in
           let z = process_after x e in
@@ -106,7 +106,7 @@ module _ {K : Type 0} (next : K → Held → Answer → Outcome K → Type 0) (s
               work.kept.answer,
               outcome,
               subst (λ (y : Process K). y.stage ≡ stages.Told work.kept.answer) same work.kept.told,
-              subst (λ (y : Process K). next y.component y.held work.kept.answer outcome) same work.kept.comes,
+              subst (λ (y : Process K). rules.next y.component y.held work.kept.answer outcome) same work.kept.comes,
               refl,
               refl,
             );
@@ -114,7 +114,7 @@ module _ {K : Type 0} (next : K → Held → Answer → Outcome K → Type 0) (s
           }
 
   -- a move is a whole turn
-  pub move-whole : Move next s p e s' → WholeTurn next s p e s'
+  pub move-whole : Move rules s p e s' → WholeTurn rules s p e s'
   move-whole move = (mid, record { kept = record { before = x; level = move.level; there = move.there; happens = move.happens; processes = refl; channels = refl }; past = refl }, settles move.comes)
     where
       x : Process K
@@ -129,7 +129,7 @@ module _ {K : Type 0} (next : K → Held → Answer → Outcome K → Type 0) (s
       there : slice_get mid.kept.processes p ≡ Some z
       there = slice_get-set_same s.kept.processes p x z move.there
 
-      settles : ComesTo next z move.after move.dropped → Settles next mid p s'
+      settles : ComesTo rules z move.after move.dropped → Settles rules mid p s'
       settles (inl none) =
           inl (
             λ y at. subst (λ (w : Process K). IsThoughtStage w.stage) (one-of z y (sym there ∙ at)) none.0,

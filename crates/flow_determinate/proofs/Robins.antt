@@ -1,9 +1,7 @@
 -- After a round robin no process has a turn.
 use Rattle.std.proofs.Common.{◌≡◌, ℕ, ◌<◌, List, [], ◌∷◌, ◌++◌, length, refl, sym, ap, ◌∙◌, subst, arith, inl, inr, zero, suc}
 use Rattle.std.proofs.lemmas.Option.{slice_get_within}
-use Rattle.flow_packet.specs.Held.{Held}
-use Rattle.flow_component.specs.declared.Answer.{Answer}
-use Rattle.flow_component.specs.Laws.{Outcome}
+use Rattle.flow_component.specs.Laws.{Rules}
 use Rattle.flow_model.specs.States.{State}
 use Rattle.flow_model.specs.Schedules.{Journal, no_turns}
 use Rattle.flow_model.specs.Verdicts.{HasNoTurn}
@@ -18,15 +16,15 @@ front-empty (x ∷ xs) ys is = absurd (cc)
 same-journal : (j k : Journal) → j.turns ≡ k.turns → j.seen ≡ k.seen → j ≡ k
 same-journal j k turns seen = λ i. record { turns = turns i; seen = seen i }
 
-module _ {K : Type 0} (next : K → Held → Answer → Outcome K → Type 0) where
+module _ {K : Type 0} (rules : Rules K) where
   -- a burst without a turn
-  burst-still : (p : ℕ) (s : State K) (j : Journal) (s' : State K) → j ≡ no_turns → Burst next p s j s' → (s' ≡ s) × HasNoTurn s'.kept p
+  burst-still : (p : ℕ) (s : State K) (j : Journal) (s' : State K) → j ≡ no_turns → Burst rules p s j s' → (s' ≡ s) × HasNoTurn s'.kept p
   burst-still p s j s' none burst =
-      let turns : TurnsOf next p s [] [] s' = subst (λ (k : Journal). TurnsOf next p s k.turns k.seen s') none burst.0 in
+      let turns : TurnsOf rules p s [] [] s' = subst (λ (k : Journal). TurnsOf rules p s k.turns k.seen s') none burst.0 in
       (turns.1, burst.1)
 
   -- a pass without a turn leaves all as it is, and those below have none
-  pass-still : (n : ℕ) (s : State K) (j : Journal) (s' : State K) → j ≡ no_turns → PassBelow next n s j s' → (s' ≡ s) × ((p : ℕ) → p < n → HasNoTurn s.kept p)
+  pass-still : (n : ℕ) (s : State K) (j : Journal) (s' : State K) → j ≡ no_turns → PassBelow rules n s j s' → (s' ≡ s) × ((p : ℕ) → p < n → HasNoTurn s.kept p)
   pass-still zero s j s' none pass = (pass.1, λ p below. absurd (omega (arith, below)))
   pass-still (suc n) s j s' none pass =
       let whole = sym pass.3 ∙ none in
@@ -46,5 +44,5 @@ module _ {K : Type 0} (next : K → Held → Answer → Outcome K → Type 0) wh
       below-other p n below other = grind (arith)
 
   -- after a round robin no process has a turn
-  pub robin-still : (s : State K) (journal : Journal) (s' : State K) → RoundRobin next s journal s' → IsStill s'
+  pub robin-still : (s : State K) (journal : Journal) (s' : State K) → RoundRobin rules s journal s' → IsStill s'
   robin-still s journal s' robin p x n there = (pass-still (length s'.kept.processes) s' no_turns s' refl robin.last).1 p (slice_get_within s'.kept.processes p x there) x n there

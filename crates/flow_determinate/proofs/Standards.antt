@@ -13,7 +13,7 @@ use Rattle.flow_catalogue.specs.declared.table.StdKind.TheVariants as kinds
 use Rattle.flow_catalogue.specs.Kinds.{name_of}
 use Rattle.flow_catalogue.specs.Components.{read_lines_kind, write_lines_kind, words_kind, fill_kind, brackets_kind, passthru_kind, copy_kind, concat_kind, collate_kind, discard_kind, bundle_kind, unbundle_kind, hoard_kind, count_kind, select_kind, update_kind}
 use Rattle.flow_catalogue.specs.Processes.{Given, given, first_component}
-use Rattle.flow_catalogue.specs.Std.{std_shape, std_uses, std_next, StdReady, StdNext}
+use Rattle.flow_catalogue.specs.Std.{std_next, StdReady, std_rules}
 use Rattle.flow_model.specs.States.{State}
 use Rattle.flow_model.specs.Robin.{RoundRobin}
 use Rattle.flow_model.specs.Laws.{HasRoundRobin, RoundRobinLeads}
@@ -65,7 +65,7 @@ next-stays (components.Count state) held answer is = kind-stays components.Count
 next-stays (components.Select state) held answer is = kind-stays components.Select (λ k. refl) (select_kind.next state held answer)
 next-stays (components.Update state) held answer is = kind-stays components.Update (λ k. refl) (update_kind.next state held answer)
 
-only-balances : OnlyTheseAsk StdReady StdNext is_balance
+only-balances : OnlyTheseAsk std_rules is_balance
 only-balances = record {
   told_none = told-none;
   stays = λ component held answer outcome is comes. ap (λ (o : Outcome Std). is_balance (component_after o)) comes ∙ next-stays component held answer is;
@@ -82,13 +82,13 @@ none-balances plan ks determinate are p component at =
     subst (λ (k : Std). is_balance k ≡ false) (sym made.is) (first-none made.kind (given plan p is.process) is.file (λ same. determinate.no_balance p is.process is.there (made.named ∙ same)))
 
 -- with the laws of standard components, a determinate plan has one outcome
-pub standard-outcome : AtMostOneOutcome StdNext → HasOneOutcome std_shape std_uses StdReady StdNext → DeterminatePlansHaveOneOutcome
+pub standard-outcome : AtMostOneOutcome std_rules → HasOneOutcome std_rules → DeterminatePlansHaveOneOutcome
 standard-outcome one law plan ks determinate well are journal other s t leads quiet leads' quiet' =
     law one is_balance only-balances plan ks well determinate.one_sender (none-balances plan ks determinate are) journal other s t leads quiet leads' quiet'
 
 -- and it ends as it does on one thread
-pub standard-alone : DeterminatePlansHaveOneOutcome → HasRoundRobin std_shape std_uses StdReady StdNext → RoundRobinLeads StdNext → DeterminatePlansEndAsAlone
+pub standard-alone : DeterminatePlansHaveOneOutcome → HasRoundRobin std_rules → RoundRobinLeads std_rules → DeterminatePlansEndAsAlone
 standard-alone one some leads_so plan ks determinate well are journal s leads still =
     let robin = some plan ks well in
-    let same = one plan ks determinate well are robin.0 journal robin.1 s (leads_so (start_of plan ks) robin.0 robin.1 robin.2) (robin-still StdNext (start_of plan ks) robin.0 robin.1 robin.2) leads still in
-    (robin.0, subst (λ (t : State Std). RoundRobin StdNext (start_of plan ks) robin.0 t) same.state robin.2)
+    let same = one plan ks determinate well are robin.0 journal robin.1 s (leads_so (start_of plan ks) robin.0 robin.1 robin.2) (robin-still std_rules (start_of plan ks) robin.0 robin.1 robin.2) leads still in
+    (robin.0, subst (λ (t : State Std). RoundRobin std_rules (start_of plan ks) robin.0 t) same.state robin.2)

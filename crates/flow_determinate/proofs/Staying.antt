@@ -13,13 +13,13 @@ use Rattle.flow_model.specs.declared.Stage.TheVariants as stages
 use Rattle.flow_model.specs.States.{Input, From, Text, Process, Channel, Kept, Outlet, output_at}
 use Rattle.flow_model.specs.Events.{Event, Starts, Finishes, Gets, Takes_text, Hears_end, Sends, Learns, Sleeps, Closes, Signals, look, looks, passes, holds_packet, is_empty, is_over, is_connected, has_packet, has_ended, is_woken, signal_over, is_released, can_start, can_finish, takes_signal, signalled_from, signalled_by, signal_event, rest_event, received, received_from, receive_event, is_fresh, sent, stage_event, event_of}
 use Rattle.flow_plan.specs.declared.plan.Sender.{Sender}
-use Rattle.flow_model.specs.Turns.{channel_after, channels_after}
+use Rattle.flow_model.specs.Turns.{channel_after, channels_after, Taken, Added, Closed}
 use Rattle.flow_model.specs.Valid.{OneReceiver, SignalsApart, SendersOpen}
 use Rattle.flow_model.specs.Order.{connection_of, input_of, signal_of, output_of}
 use Rattle.flow_model.proofs.Inverse.{SignalsAt, explains}
 use Rattle.flow_model.proofs.Exhausting.{IsDry, HoldsSome, Exhausted, dry, taken, TakesFrom, first-input, starts-can, starts-is_woken, finishes-all, finishes-signal, finishes-cannot, all-dry, signal-dry, hears-exhausted, dry-after, some-after}
 use Rattle.flow_determinate.proofs.Moves.{one-of}
-use Rattle.flow_determinate.proofs.Commuting.{Touching, gets, sends, closes, signals, touching, after-turn}
+use Rattle.flow_determinate.proofs.Commuting.{Touching, gets, sends, closes, signals, touching, after-turn, channel_by}
 
 -- What a process sees of a connection that is there.
 look-at : (channels : List Channel) (c : ℕ) (channel : Channel) → slice_get channels c ≡ Some channel → slice_get (looks channels) c ≡ Some (look channel)
@@ -197,13 +197,13 @@ module _ {K : Type 0} (kept : Kept K) (p : ℕ) (x : Process K) (n : ℕ) (e : E
     | inr change ↦ by (touching e c change.0) change.1
   ]
     where
-      by : Touching e c → slice_get new c ≡ Some (channel_after p channel e) → (now : Channel) × (left : List Tree) × (slice_get new c ≡ Some now) × (now.packets ≡ packet ∷ left)
+      by : Touching e c → slice_get new c ≡ Some (channel_by p channel e) → (now : Channel) × (left : List Tree) × (slice_get new c ≡ Some now) × (now.packets ≡ packet ∷ left)
       by (gets port other is) now = absurd (no_get port other is)
       by (signals other is) now = absurd (no_signal other is)
       by (sends port other is) now =
-          (channel_after p channel (Sends port c other), rest ++ other ∷ [], now ∙ ap (λ (f : Event). Some (channel_after p channel f)) is, ap (λ (ps : List Tree). ps ++ other ∷ []) has)
+          (channel_after p (Added other) channel, rest ++ other ∷ [], now ∙ ap (λ (f : Event). Some (channel_by p channel f)) is, ap (λ (ps : List Tree). ps ++ other ∷ []) has)
       by (closes output is) now =
-          (channel_after p channel (Closes output c), rest, now ∙ ap (λ (f : Event). Some (channel_after p channel f)) is, has)
+          (channel_after p (Closed output) channel, rest, now ∙ ap (λ (f : Event). Some (channel_by p channel f)) is, has)
 
   -- a connection at an output of q has no less room
   room-after : (o c : ℕ) (channel : Channel) → output_at y o ≡ Some c → slice_get kept.channels c ≡ Some channel → length channel.packets < channel.capacity
@@ -213,14 +213,14 @@ module _ {K : Type 0} (kept : Kept K) (p : ℕ) (x : Process K) (n : ℕ) (e : E
     | inr change ↦ by (touching e c change.0) change.1
   ]
     where
-      by : Touching e c → slice_get new c ≡ Some (channel_after p channel e) → (now : Channel) × (slice_get new c ≡ Some now) × (length now.packets < now.capacity)
+      by : Touching e c → slice_get new c ≡ Some (channel_by p channel e) → (now : Channel) × (slice_get new c ≡ Some now) × (length now.packets < now.capacity)
       by (gets port packet is) now =
-          (channel_after p channel (Gets port c packet), now ∙ ap (λ (f : Event). Some (channel_after p channel f)) is, omega (arith, length-drop 1 channel.packets, room))
+          (channel_after p Taken channel, now ∙ ap (λ (f : Event). Some (channel_by p channel f)) is, omega (arith, length-drop 1 channel.packets, room))
       by (signals packet is) now =
-          (channel_after p channel (Signals c packet), now ∙ ap (λ (f : Event). Some (channel_after p channel f)) is, omega (arith, length-drop 1 channel.packets, room))
+          (channel_after p Taken channel, now ∙ ap (λ (f : Event). Some (channel_by p channel f)) is, omega (arith, length-drop 1 channel.packets, room))
       by (sends port packet is) now = absurd (no-send o c port packet at is)
       by (closes output is) now =
-          (channel_after p channel (Closes output c), now ∙ ap (λ (f : Event). Some (channel_after p channel f)) is, room)
+          (channel_after p (Closed output) channel, now ∙ ap (λ (f : Event). Some (channel_by p channel f)) is, room)
 
   -- what is dry stays so
   still-dry : (c : ℕ) → IsDry kept.channels c → IsDry new c
@@ -246,14 +246,7 @@ module _ {K : Type 0} (kept : Kept K) (p : ℕ) (x : Process K) (n : ℕ) (e : E
   takes-how : (f : Event) (c : ℕ) → e ≡ f → ((port : ℕ) (packet : Tree) → e ≡ Gets port c packet → ⊥) → ((packet : Tree) → e ≡ Signals c packet → ⊥) → TakesFrom f c → ⊥
   takes-how (Gets port d packet) c is no_get no_signal same = no_get port packet (is ∙ ap (λ k. Gets port k packet) (sym same))
   takes-how (Signals d packet) c is no_get no_signal same = no_signal packet (is ∙ ap (λ k. Signals k packet) (sym same))
-  takes-how Starts c is no_get no_signal takes = takes
-  takes-how Finishes c is no_get no_signal takes = takes
-  takes-how (Takes_text port text) c is no_get no_signal takes = takes
-  takes-how (Hears_end port) c is no_get no_signal takes = takes
-  takes-how (Sends port d packet) c is no_get no_signal takes = takes
-  takes-how (Learns port level) c is no_get no_signal takes = takes
-  takes-how Sleeps c is no_get no_signal takes = takes
-  takes-how (Closes output d) c is no_get no_signal takes = takes
+  takes-how f c is no_get no_signal takes = takes
 
   starts-on : event_of kept.channels y m ≡ Some Starts → event_of new y m ≡ Some Starts
   starts-on is =

@@ -4,9 +4,8 @@ use Rattle.std.specs.Prelude.{◌≡◌, ℕ, ◌≤◌, Bool, false, List, leng
 use Rattle.flow_packet.specs.Held.{Held}
 use Rattle.flow_packet.specs.Ids.{times}
 use Rattle.flow_component.specs.declared.Answer.{Answer}
-use Rattle.flow_component.specs.declared.Shape.{Shape}
 use Rattle.flow_component.specs.declared.Answer.TheVariants as answers
-use Rattle.flow_component.specs.Laws.{Outcome, component_after, AtMostOneOutcome}
+use Rattle.flow_component.specs.Laws.{Rules, Outcome, component_after, AtMostOneOutcome}
 use Rattle.flow_plan.specs.Network.{Network as Plan}
 use Rattle.flow_plan.specs.declared.plan.Connection.{Connection as PlanConnection}
 use Rattle.flow_model.specs.States.{State}
@@ -20,9 +19,9 @@ EachHasOneSender plan = (c : ℕ) (connection : PlanConnection) → slice_get pl
 
 -- Only those components are ever ready to be told a level that the test names, so only those ever ask for one; and no other becomes one
 -- of them.
-pub record OnlyTheseAsk {K : Type 0} (ready : K → Held → Answer → Type 0) (next : K → Held → Answer → Outcome K → Type 0) (may_ask : K → Bool) : Type 0 where
-  pub told_none : (component : K) (held : Held) (level : ℕ) → may_ask component ≡ false → ready component held (answers.Level level) → ⊥
-  pub stays : (component : K) (held : Held) (answer : Answer) (outcome : Outcome K) → may_ask component ≡ false → next component held answer outcome → may_ask (component_after outcome) ≡ false
+pub record OnlyTheseAsk {K : Type 0} (rules : Rules K) (may_ask : K → Bool) : Type 0 where
+  pub told_none : (component : K) (held : Held) (level : ℕ) → may_ask component ≡ false → rules.ready component held (answers.Level level) → ⊥
+  pub stays : (component : K) (held : Held) (answer : Answer) (outcome : Outcome K) → may_ask component ≡ false → rules.next component held answer outcome → may_ask (component_after outcome) ≡ false
 
 -- None of the components may ask for a level.
 abbrev pub NoneMayAsk : {K : Type 0} → (K → Bool) → List K → Type 0
@@ -40,8 +39,8 @@ pub record SameEnd {K : Type 0} (journal : Journal) (s : State K) (other : Journ
 -- Where components come to one outcome, no connection has two senders and no component asks for a level, all schedules from one start
 -- after which no process has a turn end in the same state. (A level that is told may be any number from the packets there to the capacity; two senders of a
 -- connection put in the order of their turns. Nothing else of a turn depends on when it comes.)
-abbrev pub HasOneOutcome : {K : Type 0} → (K → Shape) → (K → ℕ → Bool) → (K → Held → Answer → Type 0) → (K → Held → Answer → Outcome K → Type 0) → Type 0
-HasOneOutcome {K} shape_of uses ready next =
-    AtMostOneOutcome next → (may_ask : K → Bool) → OnlyTheseAsk ready next may_ask
-    → (plan : Plan) (components : List K) → StartsWell shape_of uses ready plan components → EachHasOneSender plan → NoneMayAsk may_ask components
-    → (journal other : Journal) (s t : State K) → Leads next (start_of plan components) journal s → IsStill s → Leads next (start_of plan components) other t → IsStill t → SameEnd journal s other t
+abbrev pub HasOneOutcome : {K : Type 0} → Rules K → Type 0
+HasOneOutcome {K} rules =
+    AtMostOneOutcome rules → (may_ask : K → Bool) → OnlyTheseAsk rules may_ask
+    → (plan : Plan) (components : List K) → StartsWell rules plan components → EachHasOneSender plan → NoneMayAsk may_ask components
+    → (journal other : Journal) (s t : State K) → Leads rules (start_of plan components) journal s → IsStill s → Leads rules (start_of plan components) other t → IsStill t → SameEnd journal s other t

@@ -11,7 +11,7 @@ use Rattle.flow_catalogue.specs.declared.standard.Std.TheVariants as components
 use Rattle.flow_catalogue.specs.declared.table.StdKind.TheVariants as kinds
 use Rattle.flow_catalogue.specs.Kinds.{name_of}
 use Rattle.flow_catalogue.specs.Processes.{IsMade}
-use Rattle.flow_catalogue.specs.Std.{std_shape, std_uses, StdReady, StdNext}
+use Rattle.flow_catalogue.specs.Std.{std_rules}
 use Rattle.flow_determinate.specs.Determinate.{EachHasOneSender, IsStill, SameEnd}
 
 -- A determinate plan: no connection has two senders, and no process is a LoadBalance.
@@ -53,11 +53,11 @@ AreFirstOf plan ks = (p : ℕ) (component : Std) → slice_get ks p ≡ Some com
 -- All quiet schedules of a determinate plan, from its start on the same files, end in the same state.
 abbrev pub DeterminatePlansHaveOneOutcome : Type 0
 DeterminatePlansHaveOneOutcome =
-    (plan : Plan) (ks : List Std) → IsDeterminate plan → StartsWell std_shape std_uses StdReady plan ks → AreFirstOf plan ks
-    → (journal other : Journal) (s t : State Std) → Leads StdNext (start_of plan ks) journal s → IsStill s → Leads StdNext (start_of plan ks) other t → IsStill t → SameEnd journal s other t
+    (plan : Plan) (ks : List Std) → IsDeterminate plan → StartsWell std_rules plan ks → AreFirstOf plan ks
+    → (journal other : Journal) (s t : State Std) → Leads std_rules (start_of plan ks) journal s → IsStill s → Leads std_rules (start_of plan ks) other t → IsStill t → SameEnd journal s other t
 
 -- Whatever the schedule, a determinate plan on the same files ends in the state in which the round robin of one thread does.
 abbrev pub DeterminatePlansEndAsAlone : Type 0
 DeterminatePlansEndAsAlone =
-    (plan : Plan) (ks : List Std) → IsDeterminate plan → StartsWell std_shape std_uses StdReady plan ks → AreFirstOf plan ks
-    → (journal : Journal) (s : State Std) → Leads StdNext (start_of plan ks) journal s → IsStill s → (robin : Journal) × RoundRobin StdNext (start_of plan ks) robin s
+    (plan : Plan) (ks : List Std) → IsDeterminate plan → StartsWell std_rules plan ks → AreFirstOf plan ks
+    → (journal : Journal) (s : State Std) → Leads std_rules (start_of plan ks) journal s → IsStill s → (robin : Journal) × RoundRobin std_rules (start_of plan ks) robin s

@@ -10,12 +10,12 @@ ghost use Rattle.flow_determinate.specs.Standard.{IsDeterminate, DeterminatePlan
 use flow_catalogue::{Std, standard_components_come_to_one_outcome};
 use flow_component::Component;
 use flow_model::{every_start_has_a_round_robin, round_robins_are_schedules};
-use flow_net::{Connection, Plan, Process};
+use flow_plan::{Connection, Plan, Process};
 
 /// Where components come to one outcome, no connection has two senders and no component asks for a level, all schedules from one start
 /// after which no process has a turn end in the same state, whatever they end in, and have as many turns of each process.
 pub fn quiet_schedules_end_in_one_state<K: Component>()
-    ensures { HasOneOutcome K.shape_of K.uses K.ready K.next }
+    ensures { HasOneOutcome K.rules }
 {}
 
 /// All schedules of a determinate plan of standard components, from its start on the same files, after which no process has a turn

@@ -1,5 +1,5 @@
 -- What is looked at of a process that a text stands for, by the numbers of those before it.
-use Rattle.flow_limits.specs.declared.TheConstants.{PROCESS_LIMIT, SUBNET_PROCESS_LIMIT}
+use Rattle.flow_limits.specs.declared.TheConstants.{PROCESS_LIMIT, SUBNET_DEPTH, SUBNET_PROCESS_LIMIT}
 use Rattle.std.specs.Prelude.{◌≡◌, ℕ, ◌+◌, nat_le, ◌∷◌, ◌++◌, length, if◌then◌else◌, Bool, true, false, List, [], Option, Some, None, Ok, Err}
 use Rattle.std.specs.declared.result.Result.{Result}
 use Rattle.std.specs.List.{list_any}
@@ -73,7 +73,7 @@ PutsIf false name result P = P
 
 -- The next process of a subnet is written out: itself, or where it is a subnet, what it stands for.
 abbrev pub PutsNext : NetText → List KindSpec → Frame → List ℕ × List ℕ → Counts → Counts → List (List ℕ × List ℕ) → List (List ℕ × List ℕ) → List Frame → List Frame → Result (Unit {0}) ExpandStop → Type 0
-PutsNext text kinds f x old new list list2 way way2 result = PutsIf (nat_le 9 (length way)) (f.prefix ++ x.0) result (PutsAt text kinds f x old new list list2 way way2 result (subnet_place text x.1))
+PutsNext text kinds f x old new list list2 way way2 result = PutsIf (nat_le (SUBNET_DEPTH + 1) (length way)) (f.prefix ++ x.0) result (PutsAt text kinds f x old new list list2 way way2 result (subnet_place text x.1))
 
 -- A process with its flat name and its kind alone.
 abbrev pub outline : Instance → List ℕ × List ℕ

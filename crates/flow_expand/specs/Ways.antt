@@ -1,5 +1,6 @@
 -- A way into the parts of a text: main, and one subnet inside the other.
-use Rattle.std.specs.Prelude.{ℕ, ◌-◌, List, [], ◌∷◌, ◌++◌, length, drop, Option, Some, None, slice_get}
+use Rattle.flow_limits.specs.declared.TheConstants.{SUBNET_DEPTH}
+use Rattle.std.specs.Prelude.{ℕ, ◌+◌, ◌-◌, List, [], ◌∷◌, ◌++◌, length, drop, Option, Some, None, slice_get}
 use Rattle.std.specs.List.{flat_map}
 use Rattle.std.specs.Option.{option_map_or}
 use Rattle.flow_parse.specs.declared.value.NetPart.{NetPart}
@@ -27,7 +28,7 @@ inside_of text (f ∷ g ∷ fs) = name_at text f.subnet ∷ inside_of text (g �
 abbrev pub entry : NetText → ℕ → List ℕ → List (List ℕ) → List ℕ × List ℕ → List Instance
 entry text n prefix inside x = record { name = prefix ++ x.0; kind = x.1; inside = inside } ∷ option_map_or (instances text n (within prefix x.0) (x.1 ∷ inside)) (subnet_called text x.1) []
 
--- What is still to come of the parts of a way, the innermost first: main is written out to depth 9.
+-- What is still to come of the parts of a way, the innermost first.
 abbrev pub rest : NetText → List Frame → List Instance
 rest text [] = []
-rest text (f ∷ fs) = flat_map (entry text (9 - length fs) f.prefix (inside_of text (f ∷ fs))) (drop f.next (part_at text f.subnet).processes) ++ rest text fs
+rest text (f ∷ fs) = flat_map (entry text (SUBNET_DEPTH + 1 - length fs) f.prefix (inside_of text (f ∷ fs))) (drop f.next (part_at text f.subnet).processes) ++ rest text fs

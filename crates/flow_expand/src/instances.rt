@@ -16,9 +16,10 @@ use crate::stop::ExpandStop;
 use crate::way::{Frame, part_of};
 use flow_flat::ExpandFault;
 use flow_items::Text;
-use flow_limits::{PROCESS_LIMIT, SUBNET_PROCESS_LIMIT};
-use flow_net::{KindSpec, Many, PlanFault, PortRef};
+use flow_limits::{PROCESS_LIMIT, SUBNET_DEPTH, SUBNET_PROCESS_LIMIT};
+use flow_net::{Many, PlanFault};
 use flow_parse::NetPart;
+use flow_plan::{KindSpec, PortRef};
 use std::alloc::{AllocError, Global};
 
 // A process that is a subnet: there are fewer than SUBNET_PROCESS_LIMIT before it, and its subnet gives no outer name
@@ -132,7 +133,7 @@ fn put_process(
     ensures { PutsNext text.now kinds.now frame process.now counts.old counts.new list.old.items list.new.items way.old.items way.new.items result }
 {
     let name = flat_name(alloc, &frame, &process.0)?;
-    let too_deep = way.len() >= 9;
+    let too_deep = way.len() > SUBNET_DEPTH;
     if too_deep {
         return Err(ExpandStop::Fault(ExpandFault::Depth(name)));
     }

@@ -9,8 +9,8 @@ use crate::named::{port_inside, process_named, subnet_called};
 use crate::stop::ExpandStop;
 use flow_flat::ExpandFault;
 use flow_items::Text;
-use flow_net::PortRef;
 use flow_parse::NetPart;
+use flow_plan::PortRef;
 use std::alloc::{AllocError, Global};
 
 /// A name behind what the names inside a subnet process begin with.
@@ -50,11 +50,7 @@ fn no_port(
     ensures { IfOk result (λ fault. fault ≡ ExpandFault.OuterPort (prefix.now ++ name.now) port.now) }
 {
     let process = Text::of(joined(alloc, prefix, name)?);
-    let port = PortRef {
-        name: port.name.copy(alloc)?,
-        element: port.element,
-    };
-    Ok(ExpandFault::OuterPort(process, port))
+    Ok(ExpandFault::OuterPort(process, port.copy(alloc)?))
 }
 
 /// The process, by its flat name, and the port of it that a reference in a part means: of a subnet

@@ -8,8 +8,8 @@ ghost use Rattle.flow_expand.specs.Places.{subnet_place, process_place};
 
 use crate::indexed::Indexed;
 use flow_items::Text;
-use flow_net::{KindSpec, PortRef};
 use flow_parse::{NetPart, Statement};
+use flow_plan::{KindSpec, PortRef};
 
 /// The place of the subnet of a name among the subnets of a text.
 pub fn subnet_named(text: &Indexed<'_>, name: &[u8]) -> Option<usize>

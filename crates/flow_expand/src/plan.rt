@@ -20,8 +20,9 @@ use crate::statements::put_statements;
 use crate::stop::ExpandStop;
 use flow_flat::ExpandFault;
 use flow_items::Text;
-use flow_net::{KindSpec, Plan, PlanBuilder};
+use flow_net::PlanBuilder;
 use flow_parse::NetText;
+use flow_plan::{KindSpec, Plan};
 use std::alloc::Global;
 
 // Tells a builder the statements of main.

@@ -6,8 +6,9 @@ ghost use Rattle.flow_expand.specs.Refusals.{port_text, many_text, plan_fault_te
 
 use flow_flat::ExpandFault;
 use flow_items::Text;
-use flow_net::{Many, PlanFault, PortRef};
+use flow_net::{Many, PlanFault};
 use flow_parse::{NetFault, Reason};
+use flow_plan::PortRef;
 use flow_text::put_decimal;
 use std::alloc::AllocError;
 

@@ -11,9 +11,14 @@ use crate::meaning::meant;
 use crate::named::subnet_called;
 use crate::stop::ExpandStop;
 use flow_items::Text;
-use flow_net::{PlanBuilder, PortRef};
+use flow_limits::SUBNET_DEPTH;
+use flow_net::PlanBuilder;
 use flow_parse::{NetPart, Statement};
+use flow_plan::PortRef;
 use std::alloc::Global;
+
+// How many levels of a text are looked at: main, its subnets, and one level more, whose processes are refused.
+const LEVELS: u32 = SUBNET_DEPTH as u32 + 2;
 
 fn put_connect<'a>(
     alloc: Global,
@@ -29,8 +34,8 @@ fn put_connect<'a>(
 ) -> Result<(), ExpandStop>
     ensures { Leaves result builder.new (λ outcome. AfterMeant builder.old (cons_option (statement_meant text.now prefix.now part.now (Statement.Connect from.now out.now capacity to.now into.now)) []) outcome) }
 {
-    let (sender, output) = meant(alloc, text, 10, prefix, part, false, from, out)?;
-    let (receiver, input) = meant(alloc, text, 10, prefix, part, true, to, into)?;
+    let (sender, output) = meant(alloc, text, LEVELS, prefix, part, false, from, out)?;
+    let (receiver, input) = meant(alloc, text, LEVELS, prefix, part, true, to, into)?;
     builder.connect(
         sender.as_slice(),
         output,
@@ -54,7 +59,7 @@ fn put_initial<'a>(
     requires { IsShort (Statement.Initial bytes.now to.now into.now) }
     ensures { Leaves result builder.new (λ outcome. AfterMeant builder.old (cons_option (statement_meant text.now prefix.now part.now (Statement.Initial bytes.now to.now into.now)) []) outcome) }
 {
-    let (receiver, input) = meant(alloc, text, 10, prefix, part, true, to, into)?;
+    let (receiver, input) = meant(alloc, text, LEVELS, prefix, part, true, to, into)?;
     builder.initial(bytes.as_slice(), receiver.as_slice(), input)?;
     Ok(())
 }

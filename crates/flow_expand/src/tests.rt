@@ -2,8 +2,9 @@
 use super::*;
 use flow_flat::ExpandFault;
 use flow_items::Text;
-use flow_net::{Many, PlanFault, PortRef};
+use flow_net::{Many, PlanFault};
 use flow_parse::{NetFault, Reason, parse};
+use flow_plan::PortRef;
 use std::alloc::Global;
 use std::process::Abort;
 use std::test::Fail;

@@ -1,4 +1,5 @@
 -- The plan of a flat text.
+use Rattle.flow_limits.specs.declared.TheConstants.{DEFAULT_CAPACITY}
 use Rattle.std.specs.Prelude.{ℕ, ◌+◌, ◌-◌, ◌==◌, ◌&&◌, max, not, if◌then◌else◌, Bool, true, false, List, [], ◌∷◌, ◌++◌, map, take, Option, Some, None, slice_get, unwrap_or}
 use Rattle.std.specs.List.{filter, filter_map, sum_by}
 use Rattle.std.specs.Option.{option_map_or}
@@ -84,12 +85,12 @@ number_of ports end = sum_by (numbers (process_at ports end) (is_input ports end
 abbrev pub sender_of : List Sized → Join → Sender
 sender_of ports j = record { process = process_at ports j.out; output = number_of ports j.out }
 
--- The connection into an input: its senders are those of its connect statements, in order; its capacity is the given one, or 10.
+-- The connection into an input: its senders are those of its connect statements, in order; its capacity is the given one, or DEFAULT_CAPACITY.
 abbrev pub connection_of : List Sized → List Join → End → Connection
 connection_of ports joins into = record {
   receiver = process_at ports into;
   input = number_of ports into;
-  capacity = unwrap_or (capacity_given (joins_into joins into)) 10;
+  capacity = unwrap_or (capacity_given (joins_into joins into)) DEFAULT_CAPACITY;
   senders = map (sender_of ports) (joins_into joins into);
 }
 

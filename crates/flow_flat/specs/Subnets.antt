@@ -1,5 +1,6 @@
 -- The flat text of a value: the processes and statements that it stands for when its subnets are written out.
-use Rattle.std.specs.Prelude.{ℕ, zero, suc, if◌then◌else◌, Bool, true, false, List, [], ◌∷◌, ◌++◌, Option, Some, None, Ok, Err, is_some, slice_get, codes}
+use Rattle.flow_limits.specs.declared.TheConstants.{SUBNET_DEPTH}
+use Rattle.std.specs.Prelude.{◌+◌, ℕ, zero, suc, if◌then◌else◌, Bool, true, false, List, [], ◌∷◌, ◌++◌, Option, Some, None, Ok, Err, is_some, slice_get, codes}
 use Rattle.std.specs.declared.result.Result.{Result}
 use Rattle.std.specs.List.{filter_map, find, flat_map}
 use Rattle.std.specs.Option.{option_and_then, option_map, option_map_or}
@@ -25,6 +26,10 @@ pub record Instance : Type 0 where
   pub name : List ℕ
   pub kind : List ℕ
   pub inside : List (List ℕ)
+
+-- How many levels of a text are looked at: main, the subnets that may stand one inside the other, and one level more, whose processes are refused.
+abbrev pub levels : ℕ
+levels = SUBNET_DEPTH + 2
 
 -- What the names inside a process begin with.
 abbrev pub within : List ℕ → List ℕ → List ℕ
@@ -70,8 +75,8 @@ initial_meant text (Err fault) = Err fault
 
 -- What a statement of a part means. A line of an outer port is no statement.
 abbrev pub statement_meant : NetText → List ℕ → NetPart → Statement → Option (Result Statement ExpandFault)
-statement_meant text prefix part (Connect from out capacity to into) = Some (connect_meant capacity (meant text 10 prefix part false from out) (meant text 10 prefix part true to into))
-statement_meant text prefix part (Initial bytes to into) = Some (initial_meant bytes (meant text 10 prefix part true to into))
+statement_meant text prefix part (Connect from out capacity to into) = Some (connect_meant capacity (meant text levels prefix part false from out) (meant text levels prefix part true to into))
+statement_meant text prefix part (Initial bytes to into) = Some (initial_meant bytes (meant text levels prefix part true to into))
 statement_meant text prefix part (InPort outer to into) = None
 statement_meant text prefix part (OutPort from out outer) = None
 

@@ -1,5 +1,5 @@
 -- The plan of a text with subnets, and what it is refused for.
-use Rattle.flow_limits.specs.declared.TheConstants.{PROCESS_LIMIT, SUBNET_PROCESS_LIMIT}
+use Rattle.flow_limits.specs.declared.TheConstants.{PROCESS_LIMIT, SUBNET_DEPTH, SUBNET_PROCESS_LIMIT}
 use Rattle.std.specs.Prelude.{◌≡◌, ℕ, ◌+◌, nat_le, not, if◌then◌else◌, Bool, false, List, [], ◌∷◌, ◌++◌, length, Option, Some, None, Ok, Err, is_some, count_by}
 use Rattle.std.specs.declared.result.Result.{Result}
 use Rattle.std.specs.List.{filter_map, list_any}
@@ -20,7 +20,7 @@ use Rattle.flow_flat.specs.Firsts.{AllPass, FirstFails}
 use Rattle.flow_flat.specs.Faults.{StatementPasses, PortPasses, sum_test}
 use Rattle.flow_flat.specs.Names.{text_ports}
 use Rattle.flow_flat.specs.Plans.{plan_of}
-use Rattle.flow_flat.specs.Subnets.{Instance, subnet_called, instances, statements_in}
+use Rattle.flow_flat.specs.Subnets.{Instance, subnet_called, instances, levels, statements_in}
 
 -- Fault where the test holds.
 abbrev pub fails_if : {F : Type 0} → Bool → F → Result (Unit {0}) F
@@ -34,9 +34,9 @@ RecursionPasses before x outcome = fails_if (list_any (bytes_eq x.kind) x.inside
 abbrev pub deep_instances : NetText → List Instance
 deep_instances text = instances text (length text.subnets + 1) [] [] text.main
 
--- The processes to depth 9.
+-- The processes, to the depth at which they are refused.
 abbrev pub all_instances : NetText → List Instance
-all_instances text = instances text 10 [] [] text.main
+all_instances text = instances text levels [] [] text.main
 
 -- Its kind is a subnet of the text.
 abbrev pub is_subnet : NetText → Instance → Bool
@@ -77,7 +77,7 @@ plain_test text kinds before x =
 
 -- What comes of a process, behind those before it.
 abbrev pub instance_test : NetText → List KindSpec → List Instance → Instance → Result (Unit {0}) ExpandFault
-instance_test text kinds before x = if nat_le 9 (length x.inside) then Err (faults.Depth x.name)
+instance_test text kinds before x = if nat_le (SUBNET_DEPTH + 1) (length x.inside) then Err (faults.Depth x.name)
     else elim (subnet_called text x.kind) [ None ↦ plain_test text kinds before x | Some part ↦ subnet_test text before x part ]
 
 -- The same as a relation.
@@ -95,7 +95,7 @@ said (Err fault) = None
 
 -- The statements of the flat text, or why one of them has no meaning, in order.
 abbrev pub all_statements : NetText → List (Result Statement ExpandFault)
-all_statements text = statements_in text 11 [] text.main
+all_statements text = statements_in text (levels + 1) [] text.main
 
 -- The flat text of a value.
 abbrev pub flat_of : NetText → NetPart

@@ -1,6 +1,7 @@
 //! What can be wrong with the text of a network.
 use flow_items::Text;
-use flow_net::{PlanFault, PortRef};
+use flow_net::PlanFault;
+use flow_plan::PortRef;
 
 /// Why the text of a network gives no plan. A process is named by its flat name.
 #[derive(Debug, Drop, PartialEq, Eq)]

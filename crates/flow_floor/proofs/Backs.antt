@@ -1,12 +1,12 @@
 -- A net is put together again from the slots in which its pieces lie.
-use Rattle.std.proofs.Common.{◌≡◌, ℕ, zero, suc, ◌+◌, ◌<◌, Bool, List, [], ◌∷◌, ◌++◌, length, length-append, map, drop, get_or, refl, sym, ap, ◌∙◌, arith, slice_get}
+use Rattle.std.proofs.Common.{◌≡◌, ℕ, zero, suc, ◌+◌, List, [], ◌∷◌, ◌++◌, length, length-append, map, drop, refl, sym, ap, ◌∙◌, arith, slice_get, ◌≤◌, Option, Some, None, true, false}
+use Rattle.std.specs.Prelude.{IsSome}
+use Rattle.flow_limits.specs.declared.TheConstants.{CONNECTION_LIMIT}
 use Rattle.std.proofs.lemmas.List.{length-map}
 use Rattle.std.proofs.lemmas.List.Sums.{count_by-le-length}
 use mathlib.Core.Option.{some}
 use lib.ListN.{get_elem?}
-use Rattle.flow_packet.specs.Held.{Held}
-use Rattle.flow_component.specs.declared.Answer.{Answer}
-use Rattle.flow_component.specs.declared.Shape.{Shape}
+use Rattle.flow_component.specs.Laws.{Rules}
 use Rattle.flow_plan.specs.declared.plan.Connection.{Connection}
 use Rattle.flow_plan.specs.declared.plan.Sender.{Sender}
 use Rattle.flow_model.specs.Stands.{ChannelShown}
@@ -23,38 +23,46 @@ use Rattle.flow_floor.proofs.Openings.{at-front, at-own}
 use Rattle.flow_floor.proofs.Slots.{body-is, channel-is}
 
 -- A net's words hold its levels and its senders, as its plan's limits are far below what a word holds.
-pub few-of : {K : Type 0} (shape_of : K → Shape) (uses : K → ℕ → Bool) (ready : K → Held → Answer → Type 0) (net : NetValue K) → FitNet shape_of uses ready net → Joins shape_of uses ready net → (length net.channels < 65536) × FewSenders net.channels
-few-of {K} shape_of uses ready net fit joins =
+pub few-of : {K : Type 0} (rules : Rules K) (net : NetValue K) → FitNet rules net → Joins rules net → (length net.channels ≤ CONNECTION_LIMIT) × FewSenders net.channels
+few-of {K} rules net fit joins =
     let long : length net.channels ≡ length net.connections = sym (length-map net.channels (λ (k : ChannelShown). k.capacity)) ∙ ap (λ (xs : List ℕ). length xs) joins.planned.channels ∙ length-map net.connections (λ (x : Connection). x.capacity) in (
       omega (arith, long, joins.planned.few_connections),
       λ c k there. (let x = get-exists net.connections c (omega (arith, get-within net.channels c k there, long)) in
           let of = joins.channels c x.0 k x.1 there in
           let most = count_by-le-length (λ (s : Sender). is_so_at leaves_open s.output (slice_get (processes_of net.bodies) s.process)) x.0.senders in
           let few = joins.planned.few_senders c x.0 x.1 in
-          let level = level-fits shape_of uses ready net c k fit there in (omega (arith, of.most_open, most, few), omega (arith, level.0, level.1))),
+          let level = level-fits rules net c k fit there in (omega (arith, of.most_open, most, few), omega (arith, level.0, level.1))),
     )
 
 -- Connections, bodies and channels of a net are the net.
 pub whole-net : {K : Type 0} (net : NetValue K) (cs : List Connection) (bs : List (BodyValue K)) (ks : List ChannelShown) → cs ≡ net.connections → bs ≡ net.bodies → ks ≡ net.channels → net_with cs bs ks ≡ net
 whole-net net cs bs ks c b k = λ i. net_with (c i) (b i) (k i)
 
--- What stands first in a list stands behind what was taken from it.
-pub first-of : {A B : Type 0} (f : A → B) (xs : List A) (ys : List B) (y : B) (i : ℕ) → i ≡ length xs → 0 < length ys → y ≡ get_or ys 0 y → get_elem? (map f xs ++ ys) i ≡ some y
-first-of f [] [] y i is filled at = absurd (omega (arith, filled))
-first-of f [] (z ∷ ys) y zero is filled at = ap (λ b. some b) (sym at)
-first-of f [] (z ∷ ys) y (suc i) is filled at = absurd (omega (arith, is))
-first-of f (x ∷ xs) ys y zero is filled at = absurd (omega (arith, is))
-first-of f (x ∷ xs) ys y (suc i) is filled at = first-of f xs ys y i (omega (arith, is)) filled at
-
 drop-none : {A : Type 0} (xs : List A) → drop 0 xs ≡ xs
 drop-none [] = refl
 drop-none (x ∷ xs) = refl
 
+-- One more that goes from the front of a list to the end of another.
+pub one-more : {A : Type 0} (xs : List A) (x : A) (ys : List A) → (xs ++ x ∷ []) ++ ys ≡ xs ++ x ∷ ys
+one-more [] x ys = refl
+one-more (z ∷ xs) x ys = ap (λ zs. z ∷ zs) (one-more xs x ys)
+
+-- What stands first in a list stands behind what was taken from it.
+pub first-of : {A B : Type 0} (f : A → B) (xs : List A) (y : B) (ys : List B) (i : ℕ) → i ≡ length xs → get_elem? (map f xs ++ y ∷ ys) i ≡ some y
+first-of f [] y ys zero is = refl
+first-of f [] y ys (suc i) is = absurd (omega (arith, is))
+first-of f (x ∷ xs) y ys zero is = absurd (omega (arith, is))
+first-of f (x ∷ xs) y ys (suc i) is = first-of f xs y ys i (omega (arith, is))
+
 -- One more was taken from the front.
-pub back-more : {A B : Type 0} (f : A → B) (xs : List A) (x : A) (ys : List B) (y : B) → y ≡ f x → 0 < length ys → y ≡ get_or ys 0 y → map f (xs ++ x ∷ []) ++ drop 1 ys ≡ map f xs ++ ys
-back-more f [] x [] y is filled at = absurd (omega (arith, filled))
-back-more f [] x (z ∷ ys) y is filled at = λ i. (sym is ∙ at) i ∷ drop-none ys i
-back-more f (w ∷ xs) x ys y is filled at = ap (λ zs. f w ∷ zs) (back-more f xs x ys y is filled at)
+pub back-more : {A B : Type 0} (f : A → B) (xs : List A) (x : A) (y : B) (ys : List B) → y ≡ f x → map f (xs ++ x ∷ []) ++ ys ≡ map f xs ++ y ∷ ys
+back-more f [] x y ys is = ap (λ z. z ∷ ys) (sym is)
+back-more f (w ∷ xs) x y ys is = ap (λ zs. f w ∷ zs) (back-more f xs x y ys is)
+
+-- What is there is something.
+pub something : {A : Type 0} (found : Option A) → IsSome found → ((x : A) → found ≡ Some x → ⊥) → ⊥
+something (Some x) there none = none x refl
+something None there none = absurd (let e : false ≡ true = there in cc)
 
 -- Nothing behind a list leaves it.
 append-none : {A : Type 0} (xs : List A) → xs ++ [] ≡ xs

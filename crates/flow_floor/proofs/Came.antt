@@ -1,15 +1,12 @@
 -- What a turn leaves of a body's connections, the connection of a turn, and what a call for a turn tells.
-use Rattle.std.proofs.Common.{◌≡◌, ℕ, zero, suc, ◌+◌, ◌<◌, ◌≤◌, arith, refl, inl, inr, Bool, List, [], ◌∷◌, ◌++◌, Option, Some, None, slice_get, ap, sym, subst, ◌∙◌}
+use Rattle.std.proofs.Common.{◌≡◌, ℕ, zero, suc, ◌+◌, ◌<◌, ◌≤◌, arith, refl, inl, inr, List, [], ◌∷◌, ◌++◌, Option, Some, None, slice_get, ap, sym, subst, ◌∙◌}
 use Rattle.std.specs.Option.{option_map}
 use Rattle.std.specs.Prelude.{option_and_then, is_some}
 use Rattle.atomic_table.specs.Seated.{TableId}
 use Rattle.flow_packet.specs.Tree.{Tree}
-use Rattle.flow_packet.specs.Held.{Held as Hands}
-use Rattle.flow_component.specs.declared.Answer.{Answer}
 use Rattle.flow_component.specs.declared.Port.{Port}
-use Rattle.flow_component.specs.declared.Shape.{Shape}
 use Rattle.flow_component.specs.declared.Wish.TheVariants as wishes
-use Rattle.flow_component.specs.Laws.{Outcome}
+use Rattle.flow_component.specs.Laws.{Rules}
 use Rattle.flow_model.specs.declared.Block.{Block}
 use Rattle.flow_model.specs.declared.Block.TheVariants as blocks
 use Rattle.flow_model.specs.declared.Stage.TheVariants as stages
@@ -30,10 +27,11 @@ use Rattle.flow_floor.specs.declared.floor.Worker.{Worker}
 use Rattle.flow_floor.specs.declared.floor.Held.{Held}
 use Rattle.flow_floor.specs.declared.floor.Turned.{Turned}
 use Rattle.flow_floor.specs.declared.floor.Turned.TheVariants as turned
-use Rattle.flow_floor.specs.Law.{IsWiredIn}
+use Rattle.flow_floor.specs.Wired.{IsWiredIn}
 use Rattle.flow_floor.specs.declared.board.Look.{Look}
 use Rattle.flow_floor.specs.Looks.{InSeen, IsLook, MaySignal}
-use Rattle.flow_floor.specs.Plays.{Below, look_at, seeing, stamping, releasing, turn_of}
+use Rattle.flow_floor.specs.Made.{Below}
+use Rattle.flow_floor.specs.Views.{look_at, seeing, stamping, releasing, turn_of}
 use Rattle.flow_floor.specs.Turning.{MachineTurn, MachineTurnOf, signalled_event}
 use Rattle.flow_floor.specs.Turns.{Turns, IsMade, IsBusy, ToldLevel, connection_of_case}
 use Rattle.flow_floor.specs.Workers.{view, HasGrabbed, IsGrabbing, IsHeldBy, LooksOn}
@@ -60,23 +58,23 @@ pub told-signalled : {K : Type 0} (n : ℕ) (b : BodyValue K) (v w : View K) (c 
 told-signalled n b v w c [] = tt
 told-signalled n b v w c (packet ∷ packets) = tt
 
-module _ {K : Type 0} (shape_of : K → Shape) (uses : K → ℕ → Bool) (ready : K → Hands → Answer → Type 0) (next : K → Hands → Answer → Outcome K → Type 0) (n : ℕ) (start : NetValue K) where
+module _ {K : Type 0} (rules : Rules K) (n : ℕ) (start : NetValue K) where
   -- A held body that comes out of a turn has only connections of the net.
-  pub wired-came : (m : ℕ) (h h' : Held K) (w w' : Worker K) (r : Turned) → Turns shape_of uses ready next n start h w h' w' r → IsWiredIn m h.body → IsWiredIn m h'.body
+  pub wired-came : (m : ℕ) (h h' : Held K) (w w' : Worker K) (r : Turned) → Turns rules n start h w h' w' r → IsWiredIn m h.body → IsWiredIn m h'.body
   wired-came m h h' w w' (turned.Made s) is wired = wired-turn m h.body h'.body is.event s is.turn wired
   wired-came m h h' w w' (turned.Busy c word) is wired = subst (λ (x : Held K). IsWiredIn m x.body) (sym is.0.0) wired
   wired-came m h h' w w' (turned.Blocked block word) is wired = subst (λ (x : Held K). IsWiredIn m x.body) (sym is.0.0) wired
   wired-came m h h' w w' (turned.Over over) is wired = subst (λ (x : Held K). IsWiredIn m x.body) (sym is.0.0) wired
 
   -- The turn of a stamp that a seat made is that of the body that its process has become.
-  pub machine-of : (o : NetValue K) (f : BodyValue K → BodyValue K) (e : Event) (r p : ℕ) (b d : BodyValue K) (held : Option (ℕ × BodyValue K)) → o ≡ start → held ≡ Some (p, b) → f b ≡ d → MachineTurnOf shape_of uses ready next o r f e held → MachineTurn shape_of uses ready next start r p d e
+  pub machine-of : (o : NetValue K) (f : BodyValue K → BodyValue K) (e : Event) (r p : ℕ) (b d : BodyValue K) (held : Option (ℕ × BodyValue K)) → o ≡ start → held ≡ Some (p, b) → f b ≡ d → MachineTurnOf rules o r f e held → MachineTurn rules start r p d e
   machine-of o f e r p b d held opened is after turn =
-      subst (λ (z : NetValue K). MachineTurn shape_of uses ready next z r p d e) opened (subst (λ (x : BodyValue K). MachineTurn shape_of uses ready next o r p x e) after (subst (MachineTurnOf shape_of uses ready next o r f e) is turn))
+      subst (λ (z : NetValue K). MachineTurn rules z r p d e) opened (subst (λ (x : BodyValue K). MachineTurn rules o r p x e) after (subst (MachineTurnOf rules o r f e) is turn))
 
   -- A turn at a connection that was grabbed and given back.
-  pub made-at : (z : TableId) (h h' : Held K) (w grabbed stamped given w' : Worker K) (c m most word r : ℕ) (k : ChannelShown) (notes : List ℕ) (e : Event) (f : BodyValue K → BodyValue K) → HasGrabbed shape_of uses ready w grabbed m c most word k → IsGrabbing next z n grabbed h c k
-      → view stamped ≡ stamping (view grabbed) r e f → view given ≡ releasing (view stamped) notes → (view w').made ≡ (view given).made → h'.process ≡ h.process → BodyTurn h.body e r h'.body → MachineTurn shape_of uses ready next start r h.process h.body e
-      → Below r (view grabbed).made → ToldLevel n h.body (view w) (view w') e → IsMade shape_of uses ready next n start h w h' w' r
+  pub made-at : (z : TableId) (h h' : Held K) (w grabbed stamped given w' : Worker K) (c m most word r : ℕ) (k : ChannelShown) (notes : List ℕ) (e : Event) (f : BodyValue K → BodyValue K) → HasGrabbed rules w grabbed m c most word k → IsGrabbing rules z n grabbed h c k
+      → view stamped ≡ stamping (view grabbed) r e f → view given ≡ releasing (view stamped) notes → (view w').made ≡ (view given).made → h'.process ≡ h.process → BodyTurn h.body e r h'.body → MachineTurn rules start r h.process h.body e
+      → Below r (view grabbed).made → ToldLevel n h.body (view w) (view w') e → IsMade rules n start h w h' w' r
   made-at z h h' w grabbed stamped given w' c m most word r k notes e f has q stamp give same process turn machine above told =
       let before : (view grabbed).made ≡ (view w).made = ap (λ (v : View K). v.made) has.view in
       record {
@@ -90,9 +88,9 @@ module _ {K : Type 0} (shape_of : K → Shape) (uses : K → ℕ → Bool) (read
       }
 
   -- A turn that took a packet from the automatic input, after looks.
-  pub made-signalled : (z : TableId) (h h' : Held K) (u w grabbed stamped given w' : Worker K) (c m most word r : ℕ) (k : ChannelShown) (notes : List ℕ) (f : BodyValue K → BodyValue K) → (view w).made ≡ (view u).made → HasGrabbed shape_of uses ready w grabbed m c most word k → IsGrabbing next z n grabbed h c k
+  pub made-signalled : (z : TableId) (h h' : Held K) (u w grabbed stamped given w' : Worker K) (c m most word r : ℕ) (k : ChannelShown) (notes : List ℕ) (f : BodyValue K → BodyValue K) → (view w).made ≡ (view u).made → HasGrabbed rules w grabbed m c most word k → IsGrabbing rules z n grabbed h c k
       → view stamped ≡ stamping (view grabbed) r (signalled_event c k.packets) f → view given ≡ releasing (view stamped) notes → (view w').made ≡ (view given).made → h'.process ≡ h.process → BodyTurn h.body (signalled_event c k.packets) r h'.body
-      → MachineTurn shape_of uses ready next start r h.process h.body (signalled_event c k.packets) → Below r (view grabbed).made → IsMade shape_of uses ready next n start h u h' w' r
+      → MachineTurn rules start r h.process h.body (signalled_event c k.packets) → Below r (view grabbed).made → IsMade rules n start h u h' w' r
   made-signalled z h h' u w grabbed stamped given w' c m most word r k notes f looked has q stamp give same process turn machine above =
       let before : (view grabbed).made ≡ (view u).made = ap (λ (v : View K). v.made) has.view ∙ looked in
       record {
@@ -106,8 +104,8 @@ module _ {K : Type 0} (shape_of : K → Shape) (uses : K → ℕ → Bool) (read
       }
 
   -- A turn at no connection.
-  pub made-alone : (z : TableId) (h h' : Held K) (w looked w' : Worker K) (r : ℕ) (e : Event) (f : BodyValue K → BodyValue K) → IsHeldBy next z n looked h → (view looked).made ≡ (view w).made → view w' ≡ stamping (view looked) r e f → h'.process ≡ h.process
-      → BodyTurn h.body e r h'.body → MachineTurn shape_of uses ready next start r h.process h.body e → Below r (view looked).made → ToldLevel n h.body (view w) (view w') e → IsMade shape_of uses ready next n start h w h' w' r
+  pub made-alone : (z : TableId) (h h' : Held K) (w looked w' : Worker K) (r : ℕ) (e : Event) (f : BodyValue K → BodyValue K) → IsHeldBy rules z n looked h → (view looked).made ≡ (view w).made → view w' ≡ stamping (view looked) r e f → h'.process ≡ h.process
+      → BodyTurn h.body e r h'.body → MachineTurn rules start r h.process h.body e → Below r (view looked).made → ToldLevel n h.body (view w) (view w') e → IsMade rules n start h w h' w' r
   made-alone z h h' w looked w' r e f q before stamp process turn machine above told = record {
     process = process;
     event = e;

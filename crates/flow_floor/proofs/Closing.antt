@@ -1,20 +1,18 @@
 -- What a floor leaves when it is closed.
 use Rattle.std.proofs.lemmas.List.{length-map}
 use Rattle.std.specs.Prelude.{not, ◌||◌}
+use Rattle.flow_limits.specs.declared.TheConstants.{WORKER_LIMIT}
 use Rattle.std.proofs.lemmas.Bool.Decides.{nat_tests}
-use Rattle.std.proofs.Common.{◌≡◌, ℕ, ◌+◌, nat_eq, cond, Bool, true, false, List, [], length, arith, map, get_or, refl, ap, sym, subst, ◌∙◌, Some, None, slice_get, ◌⊎◌, inl, inr}
+use Rattle.std.proofs.Common.{◌≡◌, ℕ, ◌+◌, nat_eq, cond, Bool, true, false, List, [], length, arith, map, get_or, refl, ap, sym, subst, ◌∙◌, Some, None, slice_get, ◌⊎◌, inl, inr, Contains}
 use lib.ListN.{get_elem?}
 use mathlib.Core.Option.{some}
 use Rattle.atomic_table.specs.Table.{Final, Seen}
-use Rattle.flow_packet.specs.Held.{Held}
-use Rattle.flow_component.specs.declared.Answer.{Answer}
-use Rattle.flow_component.specs.declared.Shape.{Shape}
-use Rattle.flow_component.specs.Laws.{Outcome}
+use Rattle.flow_component.specs.Laws.{Rules}
 use Rattle.flow_model.specs.declared.Stage.{Stage}
 use Rattle.flow_model.specs.declared.Stage.TheVariants as stages
 use Rattle.flow_model.specs.States.{State}
 use Rattle.flow_model.specs.Events.{event_from, stage_event}
-use Rattle.flow_model.specs.Schedules.{IsThoughtStage}
+use Rattle.flow_model.specs.Stages.{IsThoughtStage, is_over_stage, IsOverStage}
 use Rattle.flow_model.specs.Stands.{ChannelShown, StandsForOpen}
 use Rattle.flow_model.specs.Verdicts.{Quiet}
 use Rattle.flow_plan.specs.declared.plan.Connection.{Connection}
@@ -34,10 +32,11 @@ use Rattle.flow_floor.specs.declared.board.Slot.{Slot}
 use Rattle.flow_floor.specs.declared.board.Slot.TheVariants as slot
 use Rattle.flow_floor.specs.declared.board.View.{View}
 use Rattle.flow_floor.specs.Rule.{Law}
-use Rattle.flow_floor.specs.Law.{numbered}
-use Rattle.flow_floor.specs.Waking.{IsWiredAs, IsOverStage, IsDoneWord, IsRetired, AllRetired, InList}
+use Rattle.flow_floor.specs.Made.{numbered}
+use Rattle.flow_floor.specs.Waking.{IsWiredAs, IsDoneWord, IsRetired, AllRetired}
 use Rattle.flow_machine.specs.Quiet.{AllUnset, IsQuietNet}
-use Rattle.flow_floor.specs.Shut.{IsShut, ListsStarved, is_over_stage, starves, HasBodies, HasChannels, BodiesIn, ChannelsIn}
+use Rattle.flow_floor.specs.Shut.{IsShut, ListsStarved, starves, HasBodies, HasChannels, BodiesIn, ChannelsIn}
+use Rattle.flow_floor.proofs.Numbers.{contains-none}
 use Rattle.flow_floor.proofs.Shutting.{same-lists}
 use Rattle.flow_floor.proofs.Seats.{St, get-exists, get-within}
 use Rattle.flow_floor.proofs.Ends.{closes}
@@ -55,18 +54,12 @@ over-still channels b (stages.Closing i) at over = absurd over
 pub over-is : (stage : Stage) → is_over_stage stage ≡ true → IsOverStage stage
 over-is stages.Ended is = tt
 over-is (stages.Failed cause) is = tt
-over-is stages.Idle is = absurd (cc)
-over-is (stages.Told answer) is = absurd (cc)
-over-is (stages.Wishing wish) is = absurd (cc)
-over-is (stages.Closing i) is = absurd (cc)
+over-is stage is = absurd (cc)
 
 not-over : (stage : Stage) → is_over_stage stage ≡ false → IsOverStage stage → ⊥
 not-over stages.Ended is over = let e : true ≡ false = is in absurd (cc)
 not-over (stages.Failed cause) is over = let e : true ≡ false = is in absurd (cc)
-not-over stages.Idle is over = over
-not-over (stages.Told answer) is over = over
-not-over (stages.Wishing wish) is over = over
-not-over (stages.Closing i) is over = over
+not-over stage is over = over
 
 -- Who is done and not over, and who isn't.
 starves-true : (w : ℕ) (stage : Stage) → starves w stage ≡ true → IsDoneWord w × (is_over_stage stage ≡ false)
@@ -93,9 +86,9 @@ starves-false w stage is done = by (nat_eq w 4) refl (nat_eq w 6) refl (is_over_
         neither (inl e) = (let t : nat_eq w 4 ≡ true = grind (arith, nat_tests) in let u : false ≡ true = sym z ∙ t in cc)
         neither (inr e) = (let t : nat_eq w 6 ≡ true = grind (arith, nat_tests) in let u : false ≡ true = sym y ∙ t in cc)
 
-module _ {K : Type 0} (shape_of : K → Shape) (uses : K → ℕ → Bool) (ready : K → Held → Answer → Type 0) (next : K → Held → Answer → Outcome K → Type 0) (start : NetValue K) where
+module _ {K : Type 0} (rules : Rules K) (start : NetValue K) where
   abbrev Rule : St K → Type 0
-  Rule = Law shape_of uses ready next start
+  Rule = Law rules start
 
   -- its connections are still the plan's
   planned-now : (now : NetValue K) → IsWiredAs start now → (length now.bodies ≡ length start.bodies) × (length now.channels ≡ length start.channels) → now.connections ≡ start.connections → IsPlanned start → IsPlanned now
@@ -118,8 +111,8 @@ module _ {K : Type 0} (shape_of : K → Shape) (uses : K → ℕ → Bool) (read
   pub record Closes (v : View K) (ws : List ℕ) (xs : List (Slot K)) : Type 0 where
     pub now : NetValue K
     pub log : List Logged
-    pub fit : FitNet shape_of uses ready now
-    pub goes : GoesBy shape_of uses ready (reached next) start (turns_made start) log now
+    pub fit : FitNet rules now
+    pub goes : GoesBy rules (reached rules) start (turns_made start) log now
     pub turns : v.made ≡ numbered (turns_made start) log
     pub total : turns_made now ≡ turns_made start + length log
     pub sizes : (length now.bodies ≡ length start.bodies) × (length now.channels ≡ length start.channels)
@@ -132,10 +125,10 @@ module _ {K : Type 0} (shape_of : K → Shape) (uses : K → ℕ → Bool) (read
     pub thought : v.read_zero ≡ true → (p : ℕ) (b : BodyValue K) → slice_get now.bodies p ≡ Some b → get_or ws p 0 ≡ 0 → IsThoughtStage b.process.stage
     pub quiet : v.read_zero ≡ true → ((p : ℕ) (b : BodyValue K) → slice_get now.bodies p ≡ Some b → (get_or ws p 0 ≡ 0) ⊎ IsOverStage b.process.stage) → (t : State K) → StandsForOpen (shown_net now) t → Quiet t
 
-  pub closing : (id : ℕ) (v : View K) (ws : List ℕ) (xs : List (Slot K)) → v.shares ≡ 32 → v.held ≡ None → Final (Seen Rule id v) ws xs → Closes v ws xs
+  pub closing : (id : ℕ) (v : View K) (ws : List ℕ) (xs : List (Slot K)) → v.shares ≡ WORKER_LIMIT → v.held ≡ None → Final (Seen Rule id v) ws xs → Closes v ws xs
   closing id v ws xs all idle (s, seen, words, deep, homes) =
       let r = seen.0 in
-      let ended = closes shape_of uses ready next start id v ws xs all idle (s, seen, words, deep, homes) in
+      let ended = closes rules start id v ws xs all idle (s, seen, words, deep, homes) in
       record {
         now = r.beside.now;
         log = r.beside.log;
@@ -149,9 +142,9 @@ module _ {K : Type 0} (shape_of : K → Shape) (uses : K → ℕ → Bool) (read
         slots = sym deep ∙ r.flow.deep;
         planned = planned-now r.beside.now r.wakes.wired r.flow.same r.flow.goes.connections r.planned;
         done = subst (λ (l : List ℕ). AllRetired l r.beside.now.bodies) words r.done;
-        words = λ zero_read p b there. subst (λ (l : List ℕ). (get_or l p 0 ≡ 0) ⊎ IsDoneWord (get_or l p 0)) words (free-at-zero shape_of uses ready next start s r ((r.wakes.each id v seen.1).zero zero_read) p b there);
-        thought = λ zero_read p b there parked. (parked-at-zero shape_of uses ready next start s r ((r.wakes.each id v seen.1).zero zero_read) p b there (ap (λ (l : List ℕ). get_or l p 0) words ∙ parked)).0;
-        quiet = λ zero_read over t stands. quiet-at-zero shape_of uses ready next start s r ((r.wakes.each id v seen.1).zero zero_read)
+        words = λ zero_read p b there. subst (λ (l : List ℕ). (get_or l p 0 ≡ 0) ⊎ IsDoneWord (get_or l p 0)) words (free-at-zero rules start s r ((r.wakes.each id v seen.1).zero zero_read) p b there);
+        thought = λ zero_read p b there parked. (parked-at-zero rules start s r ((r.wakes.each id v seen.1).zero zero_read) p b there (ap (λ (l : List ℕ). get_or l p 0) words ∙ parked)).0;
+        quiet = λ zero_read over t stands. quiet-at-zero rules start s r ((r.wakes.each id v seen.1).zero zero_read)
             (λ p b there. elim (over p b there) [
               | inl parked ↦ inl (ap (λ (l : List ℕ). get_or l p 0) words ∙ parked)
               | inr done ↦ inr (over-still r.beside.now.channels b b.process.stage refl done)
@@ -172,11 +165,11 @@ module _ {K : Type 0} (shape_of : K → Shape) (uses : K → ℕ → Bool) (read
       λ i. net_with ((c.goes.connections ∙ sym wired) i) (sym bodies i) (sym channels i)
 
   -- the pieces may be joined
-  pub join-pieces : (v : View K) (ws : List ℕ) (xs : List (Slot K)) (net : NetValue K) (c : Closes v ws xs) → c.now ≡ net → Joins shape_of uses ready net
-  join-pieces v ws xs net c is = subst (Joins shape_of uses ready) is (joins-pieces shape_of uses ready c.now c.fit c.planned)
+  pub join-pieces : (v : View K) (ws : List ℕ) (xs : List (Slot K)) (net : NetValue K) (c : Closes v ws xs) → c.now ≡ net → Joins rules net
+  join-pieces v ws xs net c is = subst (Joins rules) is (joins-pieces rules c.now c.fit c.planned)
 
-  pub is-shut : (v : View K) (ws : List ℕ) (xs : List (Slot K)) (net : NetValue K) (c : Closes v ws xs) → c.now ≡ net → IsShut shape_of uses ready next start v.made net
-  is-shut v ws xs net c is = subst (IsShut shape_of uses ready next start v.made) is (record { log = c.log; goes = c.goes; len = c.sizes.0; total = c.total; turns = c.turns })
+  pub is-shut : (v : View K) (ws : List ℕ) (xs : List (Slot K)) (net : NetValue K) (c : Closes v ws xs) → c.now ≡ net → IsShut rules start v.made net
+  is-shut v ws xs net c is = subst (IsShut rules start v.made) is (record { log = c.log; goes = c.goes; len = c.sizes.0; total = c.total; turns = c.turns })
 
   -- the processes that are listed aren't set
   pub starved-unset : (v : View K) (ws : List ℕ) (xs : List (Slot K)) (net : NetValue K) (m : ℕ) (starved : List ℕ) (c : Closes v ws xs) → c.now ≡ net → ListsStarved ws net.bodies m starved → AllUnset net starved
@@ -198,7 +191,7 @@ module _ {K : Type 0} (shape_of : K → Shape) (uses : K → ℕ → Bool) (read
       }) lists
     where
       over : ListsStarved ws c.now.bodies (length c.now.bodies) starved → (p : ℕ) (b : BodyValue K) → slice_get c.now.bodies p ≡ Some b → (is : Bool) → starves (get_or ws p 0) b.process.stage ≡ is → IsDoneWord (get_or ws p 0) → IsOverStage b.process.stage
-      over l p b there true is done = absurd (subst (InList p) none (l.all p b (get-within c.now.bodies p b there) there is))
+      over l p b there true is done = absurd (contains-none p (subst (λ (xs : List ℕ). Contains xs p) none (l.all p b (get-within c.now.bodies p b there) there is)))
       over l p b there false is done = starves-false (get_or ws p 0) b.process.stage is done
 
       rests : ListsStarved ws c.now.bodies (length c.now.bodies) starved → (p : ℕ) (b : BodyValue K) → slice_get c.now.bodies p ≡ Some b → (get_or ws p 0 ≡ 0) ⊎ IsDoneWord (get_or ws p 0) → (get_or ws p 0 ≡ 0) ⊎ IsOverStage b.process.stage

@@ -9,7 +9,8 @@ use Rattle.flow_floor.specs.declared.floor.Worker.{Worker}
 use Rattle.flow_floor.specs.Workers.{view, IsIdle}
 use Rattle.flow_limits.specs.declared.TheConstants.{WORKER_LIMIT}
 use Rattle.flow_floor.specs.Floors.{IsNewWorker}
-use Rattle.flow_floor.specs.Plays.{cut, merge}
+use Rattle.flow_floor.specs.Views.{cut}
+use Rattle.flow_floor.specs.Made.{merge}
 use Rattle.flow_floor.specs.Seats.{newcomer}
 use Rattle.flow_floor.specs.Crew.{IsCrew, made_by}
 use Rattle.flow_floor.proofs.Shutting.{All-one, All-front, All-last}

@@ -1,5 +1,7 @@
 -- How a floor begins and ends, and how seats are cut and joined.
-use Rattle.std.proofs.Common.{◌≡◌, ◌≢◌, ℕ, zero, suc, ◌+◌, ◌<◌, ◌≤◌, Bool, true, false, cond, List, [], ◌∷◌, ◌++◌, length, map, get_or, set, eq-eqb, sym, refl, ap, ◌∙◌, subst, arith, Option, Some, None, slice_get, length-set, length-append, ◌⊎◌, inl, inr}
+use Rattle.std.proofs.Common.{◌≡◌, ◌≢◌, ℕ, zero, suc, ◌+◌, ◌<◌, ◌≤◌, Bool, true, false, cond, List, [], ◌∷◌, ◌++◌, length, map, get_or, set, eq-eqb, sym, refl, ap, ◌∙◌, subst, arith, Option, Some, None, slice_get, length-set, length-append, ◌⊎◌, inl, inr, Contains, All}
+use Rattle.flow_ring.specs.declared.TheConstants.{FIELD}
+use Rattle.flow_limits.specs.declared.TheConstants.{WORKER_LIMIT}
 use Rattle.std.specs.Prelude.{sum_by, ◌||◌}
 use Rattle.std.proofs.lemmas.List.{length-map}
 use Rattle.std.proofs.lemmas.List.Sums.{sum_by-append}
@@ -9,10 +11,7 @@ use native.Mathlib.Decide.{ℕ_discrete}
 use lib.ListN.{get_elem?}
 use Rattle.atomic_table.specs.Table.{opening, Final, Seen}
 use Rattle.atomic_table.proofs.Lists.{set_here, set_else, at_longer, at_map}
-use Rattle.flow_packet.specs.Held.{Held}
-use Rattle.flow_component.specs.declared.Answer.{Answer}
-use Rattle.flow_component.specs.declared.Shape.{Shape}
-use Rattle.flow_component.specs.Laws.{Outcome}
+use Rattle.flow_component.specs.Laws.{Rules}
 use Rattle.flow_model.specs.Stands.{ChannelShown}
 use Rattle.flow_machine.specs.Values.{BodyValue, NetValue}
 use Rattle.flow_machine.specs.Logs.{turns_made}
@@ -23,19 +22,22 @@ use Rattle.flow_model.specs.Wires.{wires}
 use Rattle.flow_machine.specs.Joins.{IsPlanned, input_in}
 use Rattle.flow_machine.proofs.Standings.{get-map}
 use Rattle.flow_machine.proofs.SoloLemmas.{remember-none}
-use Rattle.flow_ring.specs.Words.{free_word, held_bit, level_in, senders_in}
+use Rattle.flow_ring.specs.Words.{free_word, held_bit, level_in, senders_in, free_limit}
 use Rattle.flow_floor.specs.declared.board.Slot.{Slot}
 use Rattle.flow_floor.specs.declared.board.Slot.TheVariants as slot
 use Rattle.flow_floor.specs.declared.board.View.{View}
 use Rattle.flow_floor.specs.Seats.{newcomer}
-use Rattle.flow_floor.specs.Law.{IsOver, Receives, Stands, Lies, Knows, Beside, AllBelow, numbered}
-use Rattle.flow_floor.specs.Waking.{counts, live_in, InList, IsNoted, AllBlock, Keeps}
+use Rattle.flow_floor.specs.Law.{IsOver, Stands, Lies, Knows, Beside}
+use Rattle.flow_floor.specs.Wired.{Receives}
+use Rattle.flow_floor.specs.Made.{numbered, merge, renamed}
+use Rattle.flow_floor.specs.Waking.{counts, live_in, IsNoted, AllBlock, Keeps}
 use Rattle.flow_floor.specs.Rule.{Law}
-use Rattle.flow_floor.specs.Plays.{cut, merged, merge, renamed}
+use Rattle.flow_floor.specs.Views.{cut, merged}
+use Rattle.std.proofs.lemmas.List.Elements.{All-nil, All-weaker}
 use Rattle.flow_floor.proofs.Seats.{some_Some, get-exists, get-within, at_inside, St, state}
 use Rattle.flow_floor.proofs.Wakes.{total_set, total_one}
 use Rattle.flow_floor.proofs.Retires.{low-undone}
-use Rattle.flow_floor.proofs.Merges.{below-more, turns_by-none, turns_by-all, merge-turns, turns_by-renamed_else, turns_by-renamed_gone, length-renamed, below-renamed}
+use Rattle.flow_floor.proofs.Merges.{turns_by-none, turns_by-all, merge-turns, turns_by-renamed_else, turns_by-renamed_gone, length-renamed, below-renamed}
 
 -- The connection at an automatic input of a planned net is there.
 signal-planned : {K : Type 0} (net : NetValue K) → IsPlanned net → (p c : ℕ) (b : BodyValue K) → slice_get net.bodies p ≡ Some b → b.process.signal ≡ Some c → c < length net.channels
@@ -61,9 +63,9 @@ live-all zero ws le ready = refl
 live-all (suc n) [] le ready = absurd (omega (arith, le))
 live-all (suc n) (w ∷ ws) le ready = let first : counts w ≡ 1 = ap counts (ready 0 (omega arith)) in let r = live-all n ws (omega (arith, le)) (λ p lt. ready (suc p) (omega (arith, lt))) in omega (arith, first, r)
 
-module _ {K : Type 0} (shape_of : K → Shape) (uses : K → ℕ → Bool) (ready : K → Held → Answer → Type 0) (next : K → Held → Answer → Outcome K → Type 0) (start : NetValue K) where
+module _ {K : Type 0} (rules : Rules K) (start : NetValue K) where
   abbrev Rule : St K → Type 0
-  Rule = Law shape_of uses ready next start
+  Rule = Law rules start
 
   abbrev P : ℕ
   P = length start.bodies
@@ -79,11 +81,11 @@ module _ {K : Type 0} (shape_of : K → Shape) (uses : K → ℕ → Bool) (read
     pub wide : length ws ≡ P + C + 2
     pub deep : length xs ≡ P + C
     pub bodies : (p : ℕ) (b : BodyValue K) → slice_get start.bodies p ≡ Some b → (get_or ws p 0 ≡ 2) × (get_elem? xs p ≡ some (slot.Body b))
-    pub channels : (c : ℕ) (k : ChannelShown) → slice_get start.channels c ≡ Some k → (get_or ws (P + c) 0 ≡ free_word (length k.packets) k.open_senders) × (get_elem? xs (P + c) ≡ some (slot.Channel k)) × (k.open_senders < 65536)
+    pub channels : (c : ℕ) (k : ChannelShown) → slice_get start.channels c ≡ Some k → (get_or ws (P + c) 0 ≡ free_word (length k.packets) k.open_senders) × (get_elem? xs (P + c) ≡ some (slot.Channel k)) × (k.open_senders < FIELD)
     pub clock : get_or ws (P + C) 0 ≡ turns_made start
     pub live : get_or ws L 0 ≡ P
 
-  pub opens : (ws : List ℕ) (xs : List (Slot K)) → FitNet shape_of uses ready start → IsPlanned start → Begins ws xs → Rule (opening ws xs (newcomer 32))
+  pub opens : (ws : List ℕ) (xs : List (Slot K)) → FitNet rules start → IsPlanned start → Begins ws xs → Rule (opening ws xs (newcomer WORKER_LIMIT))
   opens ws xs fit planned b = record {
     planned = planned;
     beside = record { now = start; log = []; by = []; holder = λ _. None; grabber = λ _. None };
@@ -93,7 +95,7 @@ module _ {K : Type 0} (shape_of : K → Shape) (uses : K → ℕ → Bool) (read
       clock = b.clock;
       total = omega arith;
       seats = refl;
-      inside = tt;
+      inside = All-nil (λ (j : ℕ). j < 1);
       same = (refl, refl);
       wide = b.wide;
       deep = length-map xs some ∙ b.deep;
@@ -113,8 +115,8 @@ module _ {K : Type 0} (shape_of : K → Shape) (uses : K → ℕ → Bool) (read
     done = λ q x there is. absurd (low-undone (get_or ws q 0) (omega (arith, (b.bodies q x there).0)) is);
   }
     where
-      one : (j : ℕ) (v : View K) → get_elem? (newcomer 32 ∷ []) j ≡ some v → newcomer 32 ≡ v
-      one zero v e = some-injective (newcomer 32) v e
+      one : (j : ℕ) (v : View K) → get_elem? (newcomer WORKER_LIMIT ∷ []) j ≡ some v → newcomer WORKER_LIMIT ≡ v
+      one zero v e = some-injective (newcomer WORKER_LIMIT) v e
       one (suc j) v e = absurd (some-ne-none v (sym e))
 
       same : {A : Type 0} (xs : List A) (i : ℕ) (x y : A) → slice_get xs i ≡ Some x → slice_get xs i ≡ Some y → x ≡ y
@@ -135,7 +137,7 @@ module _ {K : Type 0} (shape_of : K → Shape) (uses : K → ℕ → Bool) (read
   view_at (x ∷ xs) (suc j) l = view_at xs j (omega (arith, l))
 
   -- Where one seat has all shares and holds nothing, no other seat holds anything, and all turns are its own.
-  pub none-else : (s : St K) (r : Rule s) (id : ℕ) (v : View K) → get_elem? s.views id ≡ some v → v.shares ≡ 32 → v.held ≡ None → (j : ℕ) (u : View K) → get_elem? s.views j ≡ some u → u.held ≡ None
+  pub none-else : (s : St K) (r : Rule s) (id : ℕ) (v : View K) → get_elem? s.views id ≡ some v → v.shares ≡ WORKER_LIMIT → v.held ≡ None → (j : ℕ) (u : View K) → get_elem? s.views j ≡ some u → u.held ≡ None
   none-else s r id v at all idle j u u_at = dite (ℕ_discrete j id)
       (λ e. (let same : v ≡ u = some-injective v u (sym at ∙ ap (get_elem? s.views) (sym e) ∙ u_at) in ap (λ (x : View K). x.held) (sym same) ∙ idle))
       (λ other. ((r.wakes.each j u u_at).bare (alone s.views id v at (r.wakes.shares ∙ sym all) j u other u_at)).0)
@@ -143,12 +145,12 @@ module _ {K : Type 0} (shape_of : K → Shape) (uses : K → ℕ → Bool) (read
   -- What stands at the end: each body and each channel is in its slot, as the machine has it; and the seat's turns are all turns since the floor was
   -- opened, in the order of their stamps.
   pub record Ended (g : Beside K) (v : View K) (xs : List (Slot K)) : Type 0 where
-    pub flow_fit : FitNet shape_of uses ready g.now
+    pub flow_fit : FitNet rules g.now
     pub bodies : (p : ℕ) (b : BodyValue K) → slice_get g.now.bodies p ≡ Some b → get_elem? xs p ≡ some (slot.Body b)
     pub channels : (c : ℕ) (k : ChannelShown) → slice_get g.now.channels c ≡ Some k → get_elem? xs (P + c) ≡ some (slot.Channel k)
     pub turns : v.made ≡ numbered (turns_made start) g.log
 
-  pub closes : (id : ℕ) (v : View K) (ws : List ℕ) (xs : List (Slot K)) → v.shares ≡ 32 → v.held ≡ None → (f : Final (Seen Rule id v) ws xs) → Ended f.1.0.beside v xs
+  pub closes : (id : ℕ) (v : View K) (ws : List ℕ) (xs : List (Slot K)) → v.shares ≡ WORKER_LIMIT → v.held ≡ None → (f : Final (Seen Rule id v) ws xs) → Ended f.1.0.beside v xs
   closes id v ws xs all idle (s, seen, words, deep, homes) =
       let r = seen.0 in
       let at = seen.1 in
@@ -176,9 +178,9 @@ module _ {K : Type 0} (shape_of : K → Shape) (uses : K → ℕ → Bool) (read
   abbrev Remap : St K → List (View K) → Type 0
   Remap s vs = (j : ℕ) (u : View K) → get_elem? s.views j ≡ some u → (x : View K) × (get_elem? vs j ≡ some x) × (x.held ≡ u.held) × (x.grab ≡ u.grab) × ((y : ℕ × ChannelShown) → u.grab ≡ Some y → x.word ≡ u.word) × (x.noted ≡ u.noted)
 
-  law-views : (s : St K) (r : Rule s) (vs : List (View K)) (by : List ℕ) → Remap s vs → length by ≡ length r.beside.log → AllBelow (length vs) by
+  law-views : (s : St K) (r : Rule s) (vs : List (View K)) (by : List ℕ) → Remap s vs → length by ≡ length r.beside.log → All (λ (j : ℕ). j < length vs) by
       → ((j : ℕ) (u : View K) → get_elem? vs j ≡ some u → Knows r.beside.holder r.beside.grabber r.beside.now P (turns_made start) by r.beside.log j u)
-      → sum_by (λ (v : View K). v.spare) vs ≡ sum_by (λ (v : View K). v.spare) s.views → sum_by (λ (v : View K). v.shares) vs ≡ 32 → ((j : ℕ) (u : View K) → get_elem? vs j ≡ some u → Keeps (get_or s.words L 0) u)
+      → sum_by (λ (v : View K). v.spare) vs ≡ sum_by (λ (v : View K). v.spare) s.views → sum_by (λ (v : View K). v.shares) vs ≡ WORKER_LIMIT → ((j : ℕ) (u : View K) → get_elem? vs j ≡ some u → Keeps (get_or s.words L 0) u)
       → ((j q : ℕ) (u : View K) (b : BodyValue K) → get_elem? vs j ≡ some u → u.held ≡ Some (q, b) → (v : View K) × (get_elem? s.views j ≡ some v) × (v.held ≡ Some (q, b)) × (v.seen ≡ u.seen)) → Rule (state s.words s.homes vs)
   law-views s r vs by remap len below knows spare shares each held = record {
     beside = record r.beside { by = by };
@@ -219,7 +221,7 @@ module _ {K : Type 0} (shape_of : K → Shape) (uses : K → ℕ → Bool) (read
   }
     where
       noted : (q : ℕ) → IsNoted s.views q → IsNoted vs q
-      noted q (j, u, u_at, there) = let x = remap j u u_at in (j, x.0, x.1, subst (InList q) (sym x.5) there)
+      noted q (j, u, u_at, there) = let x = remap j u u_at in (j, x.0, x.1, subst (λ (xs : List ℕ). Contains xs q) (sym x.5) there)
 
       stands : (p : ℕ) (b : BodyValue K) (h : Option ℕ) → Stands s p b h → Stands (state s.words s.homes vs) p b h
       stands p b None k = k
@@ -234,7 +236,7 @@ module _ {K : Type 0} (shape_of : K → Shape) (uses : K → ℕ → Bool) (read
             x.1,
             x.3 ∙ grab,
             is ∙ ap (λ m. m + held_bit) (sym word),
-            subst (λ m. m < 4294967296) (sym word) small,
+            subst (λ m. m < free_limit) (sym word) small,
             elim differs [
               | inl le ↦ inl (subst (λ m. level_in m ≤ length k.packets) (sym word) le)
               | inr own ↦ inr (subst (λ (h : Option (ℕ × BodyValue K)). Receives h c) (sym x.2) own)
@@ -257,7 +259,7 @@ module _ {K : Type 0} (shape_of : K → Shape) (uses : K → ℕ → Bool) (read
       (λ e. (let same : v ≡ u = some-injective v u (sym at ∙ ap (get_elem? s.views) (sym e) ∙ u_at) in
       (cut v, at_longer vs1 (newcomer 1 ∷ []) j (cut v) (ap (get_elem? vs1) e ∙ set_here s.views id (cut v) inside_id), ap (λ (x : View K). x.held) same, ap (λ (x : View K). x.grab) same, (λ y g. ap (λ (x : View K). x.word) same), ap (λ (x : View K). x.noted) same)))
       (λ other. (u, at_longer vs1 (newcomer 1 ∷ []) j u (set_else s.views id j (cut v) other ∙ u_at), refl, refl, (λ y g. refl), refl)))
-      r.flow.seats (below-more (length s.views) (length vs) r.beside.by (omega (arith, len1, len)) r.flow.inside)
+      r.flow.seats (All-weaker (λ (j : ℕ). j < length s.views) (λ (j : ℕ). j < length vs) (λ j low. omega (arith, low, len1, len)) r.beside.by r.flow.inside)
       (λ j u u_at. elim (at_end vs1 (newcomer 1) u j u_at) [
         | inl here ↦ dite (ℕ_discrete j id)
             (λ e. (let same : cut v ≡ u = some-injective (cut v) u (sym (set_here s.views id (cut v) inside_id) ∙ ap (get_elem? vs1) (sym e) ∙ here) in
@@ -320,7 +322,7 @@ module _ {K : Type 0} (shape_of : K → Shape) (uses : K → ℕ → Bool) (read
         sym (kws.noted w_idle) ∙ ap (λ (x : View K). x.noted) same,
       )))
       (λ not_other. (u, else_at j not_id not_other ∙ u_at, refl, refl, (λ y gr. refl), refl))))
-      (length-renamed other id g.by ∙ r.flow.seats) (below-renamed other id (length vs) g.by (omega (arith, inside_id, len)) (below-more (length s.views) (length vs) g.by (omega (arith, len)) r.flow.inside))
+      (length-renamed other id g.by ∙ r.flow.seats) (below-renamed other id (length vs) g.by (omega (arith, inside_id, len)) (All-weaker (λ (j : ℕ). j < length s.views) (λ (j : ℕ). j < length vs) (λ j low. omega (arith, low, len)) g.by r.flow.inside))
       (λ j u u_at. dite (ℕ_discrete j id)
       (λ e. (let same : both ≡ u = some-injective both u (sym here ∙ ap (get_elem? vs) (sym e) ∙ u_at) in
       subst (λ (y : ℕ × View K). F y.0 y.1) (λ i. (sym e i, same i))

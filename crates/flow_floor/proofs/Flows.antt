@@ -1,12 +1,10 @@
 -- Each kind of step keeps the first half of the rule.
-use Rattle.std.proofs.Common.{◌≡◌, ◌≢◌, ℕ, ◌+◌, ◌<◌, ◌≤◌, Bool, List, [], ◌∷◌, ◌++◌, length, get_or, set, sym, refl, ap, ◌∙◌, subst, arith, Option, Some, None, slice_get, slice_set, length-set, length-append, get_or-set_other, get_or-set_same, ◌⊎◌, inl, inr}
+use Rattle.std.proofs.Common.{◌≡◌, ◌≢◌, ℕ, ◌+◌, ◌<◌, ◌≤◌, List, [], ◌∷◌, ◌++◌, length, get_or, set, sym, refl, ap, ◌∙◌, subst, arith, Option, Some, None, slice_get, slice_set, length-set, length-append, get_or-set_other, get_or-set_same, ◌⊎◌, inl, inr, All}
+use Rattle.flow_ring.specs.declared.TheConstants.{FIELD}
 use mathlib.Core.Option.{none, some, some-injective}
 use lib.ListN.{get_elem?}
 use Rattle.atomic_table.proofs.Lists.{set_here, set_else}
-use Rattle.flow_packet.specs.Held.{Held}
-use Rattle.flow_component.specs.declared.Answer.{Answer}
-use Rattle.flow_component.specs.declared.Shape.{Shape}
-use Rattle.flow_component.specs.Laws.{Outcome, Obeys, StaysReady, IsSteady}
+use Rattle.flow_component.specs.Laws.{Rules, Lawful}
 use Rattle.flow_model.specs.Events.{Event, event_from}
 use Rattle.flow_model.specs.Stands.{ChannelShown, shown_after, all_shown_after}
 use Rattle.flow_model.proofs.Lists.{slice_get-set_same, slice_get-set_other, same_or_not}
@@ -17,42 +15,27 @@ use Rattle.flow_machine.specs.Logs.{turns_made}
 use Rattle.flow_machine.proofs.NetTurns.{IsOn, all-on}
 use Rattle.flow_machine.proofs.FitLemmas.{fit-turn, same-turns, channels-len}
 use Rattle.flow_machine.proofs.SoloLemmas.{turn-count}
-use Rattle.flow_ring.specs.Words.{free_word, held_bit, level_in, senders_in}
+use Rattle.flow_ring.specs.Words.{free_word, held_bit, level_in, senders_in, free_limit}
 use Rattle.flow_floor.specs.declared.board.Slot.TheVariants as slot
 use Rattle.flow_floor.specs.declared.board.View.{View}
 use Rattle.flow_floor.specs.declared.board.Look.{Look}
-use Rattle.flow_floor.specs.Law.{IsTaken, IsFree, turns_by, AllBelow, IsOver, Rests, Receives, Stands, Lies, SeenTrue, AllSeen, Holds, Grabs, Knows, Beside, Flow}
+use Rattle.flow_floor.specs.Law.{IsTaken, IsFree, IsOver, Rests, Stands, Lies, SeenTrue, AllSeen, Holds, Grabs, Knows, Beside, Flow}
+use Rattle.flow_floor.specs.Made.{turns_by}
+use Rattle.flow_floor.specs.Wired.{Receives}
 use Rattle.flow_floor.specs.Turning.{turned_body, with_body, turned_net, logged, grab_after, At}
-use Rattle.flow_floor.proofs.Seats.{put, put_here, put_else, at_inside, some_Some, get-exists, get-within, turns_by-mine, turns_by-else, below-push, St, state, seats_stay, stands_keep, lies_keep, seen_keep, knows_keep}
+use Rattle.std.proofs.lemmas.List.Elements.{All-push}
+use Rattle.flow_ring.proofs.Words.{level-of, senders-of}
+use Rattle.flow_floor.proofs.Seats.{put, put_here, put_else, at_inside, some_Some, get-exists, get-within, turns_by-mine, turns_by-else, St, state, seats_stay, stands_keep, lies_keep, seen_keep, knows_keep}
 use Rattle.flow_floor.proofs.Channels.{SameInputs, input-same, channel-moves, one-receiver}
 use Rattle.flow_floor.proofs.Going.{turned, rest-fit, rest-count, rest-goes, turn-goes}
 
 receives-same : {K : Type 0} (h h' : Option (ℕ × BodyValue K)) (p c : ℕ) (b d : BodyValue K) → h ≡ Some (p, b) → h' ≡ Some (p, d) → SameInputs b d → Receives h c → Receives h' c
 receives-same {K} h h' p c b d is is' same r = subst (λ (x : Option (ℕ × BodyValue K)). Receives x c) (sym is') (input-same c d b (sym same.0, sym same.1) (subst (λ (x : Option (ℕ × BodyValue K)). Receives x c) is r))
 
--- what a word says
-pub level-of : (level senders : ℕ) → level < 65536 → senders < 65536 → level_in (free_word level senders) ≡ level
-level-of level senders low few = omega (arith, low, few)
-
--- A word that was made of a level and a number of senders gives that number back.
-pub senders-of : (level senders : ℕ) → level < 65536 → senders < 65536 → senders_in (free_word level senders) ≡ senders
-senders-of level senders low few = omega (arith, low, few)
-
--- The held bit doesn't change the level of a word.
-pub level-held : (word : ℕ) → level_in (word + held_bit) ≡ level_in word
-level-held word = omega arith
-
--- The held bit doesn't change the senders of a word.
-pub senders-held : (word : ℕ) → senders_in (word + held_bit) ≡ senders_in word
-senders-held word = omega arith
-
-module _ {K : Type 0} (shape_of : K → Shape) (uses : K → ℕ → Bool) (ready : K → Held → Answer → Type 0) (next : K → Held → Answer → Outcome K → Type 0)
-    (obeys : (component : K) (held : Held) (answer : Answer) (outcome : Outcome K) → ready component held answer → next component held answer outcome → Obeys (shape_of component) (uses component) held outcome)
-    (stays : (component : K) (held : Held) (answer : Answer) (outcome : Outcome K) → ready component held answer → next component held answer outcome → StaysReady ready outcome)
-    (steady : (component : K) (held : Held) (answer : Answer) (outcome : Outcome K) → next component held answer outcome → IsSteady shape_of uses component outcome)
+module _ {K : Type 0} (rules : Rules K) (lawful : Lawful rules)
     (start : NetValue K) where
   abbrev F : St K → Beside K → Type 0
-  F s g = Flow shape_of uses ready next start s g
+  F s g = Flow rules start s g
 
   abbrev P : ℕ
   P = length start.bodies
@@ -89,24 +72,24 @@ module _ {K : Type 0} (shape_of : K → Shape) (uses : K → ℕ → Bool) (read
   same-pair {A} h x y a b = ap (λ (z : ℕ × A). z.0) (some_Some x y (sym a ∙ b))
 
   -- the work that was to come is in the list
-  pub flow-commit : (s : St K) (g : Beside K) (id p : ℕ) (v w : View K) (b d : BodyValue K) → F s g → get_elem? s.views id ≡ some v → v.held ≡ Some (p, b) → Rests next b d
+  pub flow-commit : (s : St K) (g : Beside K) (id p : ℕ) (v w : View K) (b d : BodyValue K) → F s g → get_elem? s.views id ≡ some v → v.held ≡ Some (p, b) → Rests rules b d
       → w.held ≡ Some (p, d) → w.grab ≡ v.grab → w.word ≡ v.word → w.made ≡ v.made → w.seen ≡ v.seen → F (state s.words s.homes (set s.views id w)) (record g { now = with_body g.now p d })
   flow-commit s g id p v w b d f at holds r held grab word_is made seen =
       let k = f.each_seat id v at in
       let mine = mine-holds s g id p v b f at holds in
       let now' = with_body g.now p d in
       let vs' = set s.views id w in
-      let count = rest-count shape_of uses ready next obeys stays steady g.now p b d mine.1 r in
-      let same_ports = same-turns shape_of uses ready next obeys stays steady b d r.0 in
+      let count = rest-count rules lawful g.now p b d mine.1 r in
+      let same_ports = same-turns rules lawful b d r.0 in
       let inputs : SameInputs b d = (same_ports.1, same_ports.3) in
       let inside_id = at_inside s.views id v at in
       record {
-        fit = rest-fit shape_of uses ready next obeys stays steady g.now p b d mine.1 r f.fit;
-        goes = rest-goes shape_of uses ready next obeys stays steady start g.now g.log p b d mine.1 r f.total f.goes;
+        fit = rest-fit rules lawful g.now p b d mine.1 r f.fit;
+        goes = rest-goes rules lawful start g.now g.log p b d mine.1 r f.total f.goes;
         clock = f.clock ∙ sym count;
         total = count ∙ f.total;
         seats = f.seats;
-        inside = subst (λ (m : ℕ). AllBelow m g.by) (sym (length-set s.views id w)) f.inside;
+        inside = subst (λ (m : ℕ). All (λ (j : ℕ). j < m) g.by) (sym (length-set s.views id w)) f.inside;
         same = (length-set g.now.bodies p d ∙ f.same.0, f.same.1);
         wide = f.wide;
         deep = f.deep;
@@ -144,7 +127,7 @@ module _ {K : Type 0} (shape_of : K → Shape) (uses : K → ℕ → Bool) (read
         clock = others (P + C) (omega arith) (omega arith) ∙ f.clock;
         total = f.total;
         seats = f.seats;
-        inside = subst (λ (m : ℕ). AllBelow m g.by) (sym (length-set s.views id w)) f.inside;
+        inside = subst (λ (m : ℕ). All (λ (j : ℕ). j < m) g.by) (sym (length-set s.views id w)) f.inside;
         same = f.same;
         wide = len ∙ f.wide;
         deep = f.deep;
@@ -181,7 +164,7 @@ module _ {K : Type 0} (shape_of : K → Shape) (uses : K → ℕ → Bool) (read
         clock = get_or-set_other s.words p (P + C) y 0 (λ e. omega arith) ∙ f.clock;
         total = f.total;
         seats = f.seats;
-        inside = subst (λ (m : ℕ). AllBelow m g.by) (sym (length-set s.views id w)) f.inside;
+        inside = subst (λ (m : ℕ). All (λ (j : ℕ). j < m) g.by) (sym (length-set s.views id w)) f.inside;
         same = f.same;
         wide = length-set s.words p y ∙ f.wide;
         deep = length-set s.homes p none ∙ f.deep;
@@ -228,7 +211,7 @@ module _ {K : Type 0} (shape_of : K → Shape) (uses : K → ℕ → Bool) (read
         clock = get_or-set_other s.words p (P + C) y 0 (λ e. omega arith) ∙ f.clock;
         total = f.total;
         seats = f.seats;
-        inside = subst (λ (m : ℕ). AllBelow m g.by) (sym (length-set s.views id w)) f.inside;
+        inside = subst (λ (m : ℕ). All (λ (j : ℕ). j < m) g.by) (sym (length-set s.views id w)) f.inside;
         same = f.same;
         wide = length-set s.words p y ∙ f.wide;
         deep = length-set s.homes p home ∙ f.deep;
@@ -256,7 +239,7 @@ module _ {K : Type 0} (shape_of : K → Shape) (uses : K → ℕ → Bool) (read
 
   -- a connection that no seat holds is taken
   pub flow-grab : (s : St K) (g : Beside K) (id p c y : ℕ) (v w : View K) (b : BodyValue K) (k : ChannelShown) → F s g → get_elem? s.views id ≡ some v → v.held ≡ Some (p, b) → v.grab ≡ None → slice_get g.now.channels c ≡ Some k → g.grabber c ≡ None
-      → length k.packets < 65536 → y ≡ w.word + held_bit → w.word ≡ free_word (length k.packets) k.open_senders → w.held ≡ v.held → w.grab ≡ Some (c, k) → w.made ≡ v.made → AllSeen P g.now w.held w.seen
+      → length k.packets < FIELD → y ≡ w.word + held_bit → w.word ≡ free_word (length k.packets) k.open_senders → w.held ≡ v.held → w.grab ≡ Some (c, k) → w.made ≡ v.made → AllSeen P g.now w.held w.seen
       → F (state (set s.words (P + c) y) (set s.homes (P + c) none) (set s.views id w)) (record g { grabber = put g.grabber c (Some id) })
   flow-grab s g id p c y v w b k f at holds no_grab there free low word word_is held grab made seen =
       let ks = f.each_seat id v at in
@@ -274,7 +257,7 @@ module _ {K : Type 0} (shape_of : K → Shape) (uses : K → ℕ → Bool) (read
         clock = get_or-set_other s.words i (P + C) y 0 (λ e. omega arith) ∙ f.clock;
         total = f.total;
         seats = f.seats;
-        inside = subst (λ (m : ℕ). AllBelow m g.by) (sym (length-set s.views id w)) f.inside;
+        inside = subst (λ (m : ℕ). All (λ (j : ℕ). j < m) g.by) (sym (length-set s.views id w)) f.inside;
         same = f.same;
         wide = length-set s.words i y ∙ f.wide;
         deep = length-set s.homes i none ∙ f.deep;
@@ -330,7 +313,7 @@ module _ {K : Type 0} (shape_of : K → Shape) (uses : K → ℕ → Bool) (read
         clock = get_or-set_other s.words i (P + C) y 0 (λ e. omega arith) ∙ f.clock;
         total = f.total;
         seats = f.seats;
-        inside = subst (λ (m : ℕ). AllBelow m g.by) (sym (length-set s.views id w)) f.inside;
+        inside = subst (λ (m : ℕ). All (λ (j : ℕ). j < m) g.by) (sym (length-set s.views id w)) f.inside;
         same = f.same;
         wide = length-set s.words i y ∙ f.wide;
         deep = length-set s.homes i home ∙ f.deep;
@@ -381,11 +364,11 @@ module _ {K : Type 0} (shape_of : K → Shape) (uses : K → ℕ → Bool) (read
   seen-turn s g p q n b x e look f there happens q_there other now' channels seen c k' word at' input =
       let now_at = ap (λ (cs : List ChannelShown). slice_get cs c) (sym channels) ∙ at' in
       let k = old-channel e g.now.channels c k' now_at in
-      let m = channel-moves shape_of uses ready g.now p n b e c k.0 k' f.fit there happens k.1 now_at in
+      let m = channel-moves rules g.now p n b e c k.0 k' f.fit there happens k.1 now_at in
       let was = seen c k.0 word k.1 input in (
         λ some_level. elim m.level [
           | inl le ↦ (let a = was.0 some_level in let h : 0 < length k'.packets = omega (arith, le, a) in h)
-          | inr own ↦ absurd (other (one-receiver shape_of uses ready g.now q p c x b f.fit q_there there input own))
+          | inr own ↦ absurd (other (one-receiver rules g.now q p c x b f.fit q_there there input own))
         ],
         λ no_level no_senders. m.over (was.1 no_level no_senders),
       )
@@ -415,16 +398,16 @@ module _ {K : Type 0} (shape_of : K → Shape) (uses : K → ℕ → Bool) (read
       let grabbed : (grab : ℕ × ChannelShown) → v.grab ≡ Some grab → (g.grabber grab.0 ≡ Some id) × (slice_get g.now.channels grab.0 ≡ Some grab.1) = λ x is. subst (Grabs g.grabber g.now id) is ks.grabs in
       let grabbed_at : (grab : ℕ × ChannelShown) → v.grab ≡ Some grab → slice_get g.now.channels grab.0 ≡ Some grab.1 = λ x is. (grabbed x is).1 in
       record {
-        fit = fit-turn shape_of uses ready g.now p n e m now' turn stamp f.fit;
-        goes = turn-goes shape_of uses ready next obeys stays steady start g.now g.log p n b e m there happens stamp f.total f.goes;
+        fit = fit-turn rules g.now p n e m now' turn stamp f.fit;
+        goes = turn-goes rules lawful start g.now g.log p n b e m there happens stamp f.total f.goes;
         clock = get_or-set_same s.words i y 0 (omega arith) ∙ omega (arith, y_is, stamp, count);
         total = omega (arith, count, f.total, length-append g.log (logged p e ∷ []));
         seats = omega (arith, f.seats, length-append g.log (logged p e ∷ []), length-append g.by (id ∷ []));
-        inside = below-push (length vs') id g.by (omega (arith, inside_id, length-set s.views id w)) (subst (λ (l : ℕ). AllBelow l g.by) (sym (length-set s.views id w)) f.inside);
+        inside = All-push (λ (j : ℕ). j < length vs') g.by id (subst (λ (l : ℕ). All (λ (j : ℕ). j < l) g.by) (sym (length-set s.views id w)) f.inside) (omega (arith, inside_id, length-set s.views id w));
         same = (length-set g.now.bodies p b' ∙ f.same.0, channels-len e g.now.channels ∙ f.same.1);
         wide = length-set s.words i y ∙ f.wide;
         deep = f.deep;
-        senders = λ c k' is. let k = old-channel e g.now.channels c k' is in let mv = channel-moves shape_of uses ready g.now p n b e c k.0 k' f.fit there happens k.1 is in omega (arith, mv.senders, f.senders c k.0 k.1);
+        senders = λ c k' is. let k = old-channel e g.now.channels c k' is in let mv = channel-moves rules g.now p n b e c k.0 k' f.fit there happens k.1 is in omega (arith, mv.senders, f.senders c k.0 k.1);
         each_process = λ q x is. elim (same_or_not q p) [
           | inl same ↦ (let h : Some b' ≡ Some x = sym (slice_get-set_same g.now.bodies p b b' there) ∙ ap (slice_get (slice_set g.now.bodies p b')) (sym same) ∙ is in
               let below = process-below s g p b f there in
@@ -471,7 +454,7 @@ module _ {K : Type 0} (shape_of : K → Shape) (uses : K → ℕ → Bool) (read
 
           moved : (gr : ℕ × ChannelShown) → v.grab ≡ Some gr → d ≡ gr.0 → Lies s P d k (Some id) → Lies (state ws' s.homes (set s.views id w)) P d x (Some id)
           moved gr is same (u, u_at, u_grab, w_is, small, differs, over) =
-              let mv = channel-moves shape_of uses ready g.now p n b e d k x f.fit there happens at_d at_d' in
+              let mv = channel-moves rules g.now p n b e d k x f.fit there happens at_d at_d' in
               let u_is : u ≡ v = some-injective u v (sym u_at ∙ at) in
               let u_word : u.word ≡ w.word = ap (λ (z : View K). z.word) u_is ∙ sym word_is in
               let on' : IsOn gr.0 e = subst (At e) is on in
@@ -488,7 +471,7 @@ module _ {K : Type 0} (shape_of : K → Shape) (uses : K → ℕ → Bool) (read
                 set_here s.views id w (at_inside s.views id v at),
                 grab',
                 word ∙ w_is ∙ ap (λ (m : ℕ). m + held_bit) u_word,
-                subst (λ (m : ℕ). m < 4294967296) u_word small,
+                subst (λ (m : ℕ). m < free_limit) u_word small,
                 subst (λ (m : ℕ). (level_in m ≤ length x.packets) ⊎ Receives w.held d) u_word differs',
                 subst (λ (m : ℕ). level_in m ≡ 0 → senders_in m ≡ 0 → IsOver x) u_word (λ no_level no_senders. mv.over (over no_level no_senders)),
               )

@@ -10,14 +10,15 @@ use Rattle.flow_model.specs.declared.Stage.TheVariants as stages
 use Rattle.flow_model.specs.States.{Input, From, Text, Process, output_at}
 use Rattle.flow_model.specs.Events.{Event, Starts, Finishes, Signals, stage_event, event_from, idle_event, rest_event, signal_event, signalled_from, signalled_by, takes_signal, signal_over, is_released, is_woken, can_start, can_finish, has_packet, has_ended, is_connected, passes, holds_packet, is_over, is_empty}
 use Rattle.flow_model.specs.Events.{Look as Seen}
-use Rattle.flow_model.specs.Schedules.{IsThoughtStage}
+use Rattle.flow_model.specs.Stages.{IsThoughtStage}
 use Rattle.flow_model.specs.Stands.{ChannelShown}
 use Rattle.flow_machine.specs.Inlets.{signal_input}
 use Rattle.flow_machine.specs.Values.{BodyValue, NetValue}
 use Rattle.flow_machine.specs.Nets.{looks_of, SendsAt}
 use Rattle.flow_floor.specs.declared.board.Look.{Look}
 use Rattle.flow_floor.specs.declared.floor.Idling.TheVariants as idling
-use Rattle.flow_floor.specs.Law.{IsOver, IsInput, IsWiredIn, SeenTrue, AllSeen}
+use Rattle.flow_floor.specs.Law.{IsOver, SeenTrue, AllSeen}
+use Rattle.flow_floor.specs.Wired.{IsInput, IsWiredIn}
 use Rattle.flow_floor.specs.Turning.{Happens, GrabIn, signalled_event}
 use Rattle.flow_floor.specs.Waking.{StillBlocks, AllBlock, WordsBlock, BlockSignal, BlockStreams, IsEmptyAt, IsOpenAt, HasWorked, capacity_at}
 use Rattle.std.specs.Option.{option_map}

@@ -6,6 +6,8 @@ pub mod Wakes
 pub mod Retires
 pub mod Wakings
 pub mod Keeps
+pub mod Leaves
+pub mod Lives
 pub mod Spacing
 pub mod Slots
 pub mod Turnings
@@ -20,7 +22,8 @@ pub mod Thinking
 pub mod Shutting
 pub mod Texts
 pub mod Came
-pub mod Rows
+pub mod Numbers
+pub mod Planned
 pub mod Crews
 pub mod Openings
 pub mod Backs

@@ -11,7 +11,7 @@ use Rattle.flow_floor.specs.declared.board.View.{View}
 use Rattle.flow_floor.specs.declared.floor.Saw.{Saw}
 use Rattle.flow_floor.specs.declared.floor.Saw.TheVariants as saw
 use Rattle.flow_floor.specs.Looks.{InSeen, IsLook, SawPacket, SawNone, SawOver, SawEnd, SawReleased, WaitsAlone, MaySignal, AllSaw, Saws, FoundOpen, Looked, first_open}
-use Rattle.flow_floor.specs.Plays.{look_at, seeing}
+use Rattle.flow_floor.specs.Views.{look_at, seeing}
 use Rattle.flow_floor.specs.Workers.{LooksOn}
 use Rattle.flow_floor.proofs.Seats.{some_Some}
 

@@ -1,11 +1,11 @@
 -- When one seat takes in the turns of another.
-use Rattle.std.proofs.Common.{◌≡◌, ◌≢◌, ℕ, suc, ◌+◌, ◌<◌, ◌≤◌, Bool, true, false, List, [], ◌∷◌, length, sym, refl, ap, ◌∙◌, subst, arith, eq-eqb, ne_eqb, if◌then◌else◌, ◌==◌}
+use Rattle.std.proofs.Common.{◌≡◌, ◌≢◌, ℕ, suc, ◌+◌, ◌<◌, ◌≤◌, Bool, true, false, List, [], ◌∷◌, length, sym, refl, ap, ◌∙◌, subst, arith, eq-eqb, ne_eqb, if◌then◌else◌, ◌==◌, All}
 use mathlib.Core.Logic.{dite}
 use native.Mathlib.Decide.{ℕ_discrete}
 use Rattle.std.proofs.lemmas.Bool.{lt-ltb, le-ltb}
+use Rattle.std.proofs.lemmas.List.Elements.{All-cons, All-head, All-nil, All-tail}
 use Rattle.flow_machine.specs.Logs.{Logged}
-use Rattle.flow_floor.specs.Law.{turns_by, AllBelow, numbered}
-use Rattle.flow_floor.specs.Plays.{insert, merge, renamed}
+use Rattle.flow_floor.specs.Made.{turns_by, numbered, insert, merge, renamed}
 
 abbrev Above : ℕ → List (ℕ × ℕ) → Type 0
 Above n [] = Unit {0}
@@ -78,26 +78,23 @@ length-renamed o i [] = refl
 length-renamed o i (s ∷ by) = ap suc (length-renamed o i by)
 
 -- Numbers stay below a bound when one of them is renamed to one below it.
-pub below-renamed : (o i m : ℕ) (by : List ℕ) → i < m → AllBelow m by → AllBelow m (renamed o i by)
-below-renamed o i m [] l h = tt
-below-renamed o i m (s ∷ by) l h = (dite (ℕ_discrete s o) (λ is. subst (λ k. k < m) (sym (name_here o i s is)) l) (λ not_o. subst (λ k. k < m) (sym (name_else o i s not_o)) h.0), below-renamed o i m by l h.1)
-
--- Numbers below a bound are below every greater one.
-pub below-more : (m n : ℕ) (by : List ℕ) → m ≤ n → AllBelow m by → AllBelow n by
-below-more m n [] le all = tt
-below-more m n (s ∷ by) le all = (omega (arith, all.0, le), below-more m n by le all.1)
+pub below-renamed : (o i m : ℕ) (by : List ℕ) → i < m → All (λ (j : ℕ). j < m) by → All (λ (j : ℕ). j < m) (renamed o i by)
+below-renamed o i m [] l h = All-nil (λ (j : ℕ). j < m)
+below-renamed o i m (s ∷ by) l h =
+    let below : ℕ → Type 0 = λ j. j < m in
+    All-cons below (if s == o then i else s) (renamed o i by) (dite (ℕ_discrete s o) (λ is. subst below (sym (name_here o i s is)) l) (λ not_o. subst below (sym (name_else o i s not_o)) (All-head below s by h))) (below-renamed o i m by l (All-tail below s by h))
 
 -- a seat that isn't there made no turn
-pub turns_by-none : (j m n : ℕ) (by : List ℕ) (log : List Logged) → AllBelow m by → m ≤ j → turns_by j n by log ≡ []
+pub turns_by-none : (j m n : ℕ) (by : List ℕ) (log : List Logged) → All (λ (s : ℕ). s < m) by → m ≤ j → turns_by j n by log ≡ []
 turns_by-none j m n [] log all le = refl
 turns_by-none j m n (s ∷ by) [] all le = refl
-turns_by-none j m n (s ∷ by) (t ∷ log) all le = turns_by-skip j n s by t log (λ e. omega (arith, e, all.0, le)) ∙ turns_by-none j m (n + 1) by log all.1 le
+turns_by-none j m n (s ∷ by) (t ∷ log) all le = turns_by-skip j n s by t log (λ e. omega (arith, e, All-head (λ (i : ℕ). i < m) s by all, le)) ∙ turns_by-none j m (n + 1) by log (All-tail (λ (i : ℕ). i < m) s by all) le
 
 -- where one seat made all turns, its list is the log
-pub turns_by-all : (i m n : ℕ) (by : List ℕ) (log : List Logged) → length by ≡ length log → AllBelow m by → ((j : ℕ) → j < m → j ≢ i → turns_by j n by log ≡ []) → turns_by i n by log ≡ numbered n log
+pub turns_by-all : (i m n : ℕ) (by : List ℕ) (log : List Logged) → length by ≡ length log → All (λ (j : ℕ). j < m) by → ((j : ℕ) → j < m → j ≢ i → turns_by j n by log ≡ []) → turns_by i n by log ≡ numbered n log
 turns_by-all i m n [] [] len h none = refl
 turns_by-all i m n [] (t ∷ log) len h none = absurd (omega (arith, len))
 turns_by-all i m n (s ∷ by) [] len h none = absurd (omega (arith, len))
 turns_by-all i m n (s ∷ by) (t ∷ log) len h none = dite (ℕ_discrete s i)
-    (λ is. turns_by-head i n s by t log (sym is) ∙ ap (λ l. (n, t.process) ∷ l) (turns_by-all i m (n + 1) by log (omega (arith, len)) h.1 (λ j l other. sym (turns_by-skip j n s by t log (λ z. other (z ∙ is))) ∙ none j l other)))
-    (λ other. absurd (let z : (n, t.process) ∷ turns_by s (n + 1) by log ≡ [] = sym (turns_by-head s n s by t log refl) ∙ none s h.0 other in cc))
+    (λ is. turns_by-head i n s by t log (sym is) ∙ ap (λ l. (n, t.process) ∷ l) (turns_by-all i m (n + 1) by log (omega (arith, len)) (All-tail (λ (j : ℕ). j < m) s by h) (λ j l other. sym (turns_by-skip j n s by t log (λ z. other (z ∙ is))) ∙ none j l other)))
+    (λ other. absurd (let z : (n, t.process) ∷ turns_by s (n + 1) by log ≡ [] = sym (turns_by-head s n s by t log refl) ∙ none s (All-head (λ (j : ℕ). j < m) s by h) other in cc))

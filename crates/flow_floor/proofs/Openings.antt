@@ -3,11 +3,7 @@ use Rattle.std.proofs.Common.{◌≡◌, ◌≢◌, ℕ, zero, suc, ◌+◌, ◌
 use Rattle.std.proofs.lemmas.List.{length-map}
 use mathlib.Core.Option.{some}
 use lib.ListN.{get_elem?}
-use Rattle.flow_packet.specs.Held.{Held}
-use Rattle.flow_component.specs.declared.Answer.{Answer}
-use Rattle.flow_component.specs.declared.Shape.{Shape}
-use Rattle.flow_component.specs.Laws.{Outcome}
-use Rattle.std.proofs.Common.{Bool}
+use Rattle.flow_component.specs.Laws.{Rules}
 use Rattle.flow_model.specs.Stands.{ChannelShown}
 use Rattle.flow_machine.specs.Values.{BodyValue, NetValue}
 use Rattle.flow_machine.specs.Logs.{turns_made}
@@ -89,9 +85,9 @@ at-back f (z ∷ zs) ys c zero is = absurd (omega (arith, is))
 at-back f (z ∷ zs) ys c (suc i) is = at-back f zs ys c i (omega (arith, is))
 
 -- A floor that begins with these words and slots obeys the rule.
-pub begins : {K : Type 0} (shape_of : K → Shape) (uses : K → ℕ → Bool) (ready : K → Held → Answer → Type 0) (next : K → Held → Answer → Outcome K → Type 0) (start : NetValue K) (ws : List ℕ) (xs : List (Slot K)) → FirstWords start ws → FewSenders start.channels
-    → xs ≡ map slot.Body start.bodies ++ map slot.Channel start.channels → Begins shape_of uses ready next start (ranked ws) xs
-begins {K} shape_of uses ready next start ws xs w few xs_is = record {
+pub begins : {K : Type 0} (rules : Rules K) (start : NetValue K) (ws : List ℕ) (xs : List (Slot K)) → FirstWords start ws → FewSenders start.channels
+    → xs ≡ map slot.Body start.bodies ++ map slot.Channel start.channels → Begins rules start (ranked ws) xs
+begins {K} rules start ws xs w few xs_is = record {
   wide = ranked-length ws (length start.bodies + length start.channels + 2) w.wide;
   deep = omega (arith, ap (λ (ys : List (Slot K)). length ys) xs_is, length-append (map (λ (b : BodyValue K). let s : Slot K = slot.Body b in s) start.bodies) (map slot.Channel start.channels), length-map start.bodies (λ (b : BodyValue K). let s : Slot K = slot.Body b in s), length-map start.channels (λ (k : ChannelShown). let s : Slot K = slot.Channel k in s));
   bodies = λ p b at. (ranked-at ws p ∙ w.bodies p (get-within start.bodies p b at), ap (λ (ys : List (Slot K)). get_elem? ys p) xs_is ∙ at-front slot.Body start.bodies (map slot.Channel start.channels) p b at);

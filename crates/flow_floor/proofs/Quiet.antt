@@ -1,5 +1,6 @@
 -- Where the live word is 0, no parked process has a turn.
-use Rattle.std.proofs.Common.{◌≡◌, ℕ, zero, suc, ◌+◌, ◌<◌, ◌≤◌, Bool, true, false, cond, List, [], ◌∷◌, length, get_or, sym, refl, ap, ◌∙◌, subst, arith, Option, Some, None, slice_get, nat_eq, nat_lt, ◌⊎◌, inl, inr}
+use Rattle.std.proofs.Common.{◌≡◌, ℕ, zero, suc, ◌+◌, ◌<◌, ◌≤◌, Bool, true, false, cond, List, [], ◌∷◌, length, get_or, sym, refl, ap, ◌∙◌, subst, arith, Option, Some, None, slice_get, nat_eq, nat_lt, ◌⊎◌, inl, inr, Contains}
+use Rattle.flow_ring.specs.declared.TheConstants.{FIELD}
 use Rattle.std.specs.Prelude.{◌&&◌, ◌||◌, not, option_and_then}
 use Rattle.std.specs.List.{list_any, list_all}
 use Rattle.std.proofs.lemmas.Bool.Decides.{nat_tests}
@@ -8,16 +9,13 @@ use mathlib.Core.Option.{some}
 use lib.ListN.{get_elem?}
 use Rattle.flow_packet.specs.Tree.{Tree}
 use Rattle.flow_packet.specs.Hands.{packet_at}
-use Rattle.flow_packet.specs.Held.{Held as Hands}
-use Rattle.flow_component.specs.declared.Answer.{Answer}
-use Rattle.flow_component.specs.declared.Shape.{Shape}
 use Rattle.flow_component.specs.declared.Wish.TheVariants as wishes
-use Rattle.flow_component.specs.Laws.{Outcome}
+use Rattle.flow_component.specs.Laws.{Rules}
 use Rattle.flow_model.specs.declared.Stage.{Stage}
 use Rattle.flow_model.specs.declared.Stage.TheVariants as stages
 use Rattle.flow_model.specs.States.{Input, From, Text, State, Process, output_at}
 use Rattle.flow_model.specs.Events.{Event, Look, event_from, stage_event, receive_event, received_from, received, sent, idle_event, signal_event, signalled_from, signalled_by, takes_signal, signal_over, is_released, is_woken, can_start, can_finish, has_packet, has_ended, is_connected, passes, holds_packet, is_over, is_empty, Sends, Hears_end, Starts, Finishes}
-use Rattle.flow_model.specs.Schedules.{IsThoughtStage}
+use Rattle.flow_model.specs.Stages.{IsThoughtStage}
 use Rattle.flow_model.specs.Stands.{ChannelShown, NetShown, look_shown, bodies_from, StandsForOpen}
 use Rattle.flow_model.specs.Verdicts.{Quiet}
 use Rattle.flow_machine.specs.Values.{BodyValue, NetValue, shown_body, shown_net}
@@ -27,10 +25,11 @@ use Rattle.flow_machine.proofs.FitLemmas.{level-fits}
 use Rattle.flow_ring.specs.Words.{level_in, senders_in}
 use Rattle.flow_floor.specs.declared.board.View.{View}
 use Rattle.flow_floor.specs.Law.{IsTaken, IsFree, Stands, Lies, Holds}
-use Rattle.flow_floor.specs.Waking.{counts, InList, IsDoneWord, IsNoted, IsEmptyAt, IsOpenAt, AreStreamsEmpty, BlockSignal, BlockStreams, HasWorked, WordsBlock}
+use Rattle.flow_floor.specs.Waking.{counts, IsDoneWord, IsNoted, IsEmptyAt, IsOpenAt, AreStreamsEmpty, BlockSignal, BlockStreams, HasWorked, WordsBlock}
 use Rattle.flow_floor.specs.Rule.{Law}
+use Rattle.flow_floor.proofs.Numbers.{contains-none}
 use Rattle.flow_floor.proofs.Seats.{some_Some, get-exists, get-within, St}
-use Rattle.flow_floor.proofs.Flows.{level-of, senders-of}
+use Rattle.flow_ring.proofs.Words.{level-of, senders-of}
 use Rattle.flow_floor.proofs.Wakes.{live-one}
 
 bodies-length : {K : Type 0} (dropped : ℕ → List ℕ) (p : ℕ) (xs : List (Process K)) → length (bodies_from dropped p xs) ≡ length xs
@@ -172,9 +171,9 @@ module _ {K : Type 0} (n : ℕ) (channels start : List ChannelShown) (ws : List 
   block-none b stages.Ended m at ins outs signals never = absurd never
   block-none b (stages.Failed cause) m at ins outs signals never = absurd never
 
-module _ {K : Type 0} (shape_of : K → Shape) (uses : K → ℕ → Bool) (ready : K → Hands → Answer → Type 0) (next : K → Hands → Answer → Outcome K → Type 0) (start : NetValue K) where
+module _ {K : Type 0} (rules : Rules K) (start : NetValue K) where
   abbrev Rule : St K → Type 0
-  Rule = Law shape_of uses ready next start
+  Rule = Law rules start
 
   abbrev P : ℕ
   P = length start.bodies
@@ -210,16 +209,16 @@ module _ {K : Type 0} (shape_of : K → Shape) (uses : K → ℕ → Bool) (read
     where
       by : (h : Option ℕ) → Lies s P c k h → (level_in (get_or s.words (P + c) 0) ≡ length k.packets) × (senders_in (get_or s.words (P + c) 0) ≡ k.open_senders)
       by None l =
-          let low = level-fits shape_of uses ready r.beside.now c k r.flow.fit there in
+          let low = level-fits rules r.beside.now c k r.flow.fit there in
           let few = r.flow.senders c k there in
-          let small : length k.packets < 65536 = omega (arith, low.0, low.1) in
+          let small : length k.packets < FIELD = omega (arith, low.0, low.1) in
           (ap level_in l.0 ∙ level-of (length k.packets) k.open_senders small few, ap senders_in l.0 ∙ senders-of (length k.packets) k.open_senders small few)
       by (Some j) (u, u_at, u_grab, is, small, differs, over) =
           let none = (r.flow.each_seat j u u_at).idle (none-held-at-zero s r z j u u_at) in
           absurd (let e : None ≡ Some (c, k) = sym none ∙ u_grab in cc)
 
   none-noted : (s : St K) (r : Rule s) → get_or s.words L 0 ≡ 0 → (q : ℕ) → IsNoted s.views q → ⊥
-  none-noted s r z q (j, u, u_at, there) = subst (InList q) ((r.wakes.each j u u_at).noted (none-held-at-zero s r z j u u_at)) there
+  none-noted s r z q (j, u, u_at, there) = contains-none q (subst (λ (xs : List ℕ). Contains xs q) ((r.wakes.each j u u_at).noted (none-held-at-zero s r z j u u_at)) there)
 
   -- Where the live word is 0, each process is parked or done.
   pub free-at-zero : (s : St K) (r : Rule s) → get_or s.words L 0 ≡ 0 → (q : ℕ) (b : BodyValue K) → slice_get r.beside.now.bodies q ≡ Some b → (get_or s.words q 0 ≡ 0) ⊎ IsDoneWord (get_or s.words q 0)

@@ -7,7 +7,8 @@ use Rattle.flow_machine.specs.Values.{BodyValue}
 use Rattle.flow_floor.specs.Law.{IsTaken}
 use Rattle.flow_machine.specs.declared.answers.Over.{Over}
 use Rattle.flow_machine.specs.declared.answers.Over.TheVariants as overs
-use Rattle.flow_floor.specs.Waking.{IsDoneWord, IsOverStage, IsRetired, AllRetired}
+use Rattle.flow_model.specs.Stages.{IsOverStage}
+use Rattle.flow_floor.specs.Waking.{IsDoneWord, IsRetired, AllRetired}
 use Rattle.flow_floor.specs.Workers.{RetiresAs}
 use Rattle.flow_floor.proofs.Seats.{get-within}
 

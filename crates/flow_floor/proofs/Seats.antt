@@ -10,11 +10,13 @@ use Rattle.atomic_table.proofs.Lists.{at_set, set_here, set_else}
 use Rattle.flow_model.specs.Stands.{ChannelShown}
 use Rattle.flow_machine.specs.Values.{BodyValue, NetValue}
 use Rattle.flow_machine.specs.Logs.{Logged}
-use Rattle.flow_ring.specs.Words.{held_bit, level_in, senders_in}
+use Rattle.flow_ring.specs.Words.{held_bit, level_in, senders_in, free_limit}
 use Rattle.flow_floor.specs.declared.board.Slot.{Slot}
 use Rattle.flow_floor.specs.declared.board.View.{View}
 use Rattle.flow_floor.specs.declared.board.Look.{Look}
-use Rattle.flow_floor.specs.Law.{IsTaken, IsFree, turns_by, AllBelow, IsOver, Receives, Stands, Lies, SeenTrue, AllSeen, Holds, Grabs, Knows}
+use Rattle.flow_floor.specs.Law.{IsTaken, IsFree, IsOver, Stands, Lies, SeenTrue, AllSeen, Holds, Grabs, Knows}
+use Rattle.flow_floor.specs.Made.{turns_by}
+use Rattle.flow_floor.specs.Wired.{Receives}
 
 abbrev pick : {P A : Type 0} → Dec P → A → A → A
 pick (yes _) a b = a
@@ -84,11 +86,6 @@ turns_by-mine j n by log t len = turns_by-push j n j by log t len ∙ ap (λ b. 
 pub turns_by-else : (j n i : ℕ) (by : List ℕ) (log : List Logged) (t : Logged) → length by ≡ length log → j ≢ i → turns_by j n (by ++ i ∷ []) (log ++ t ∷ []) ≡ turns_by j n by log
 turns_by-else j n i by log t len other = turns_by-push j n i by log t len ∙ (ap (λ b. turns_by j n by log ++ (if b then (n + length log, t.process) ∷ [] else [])) (ne_eqb j i other) ∙ append-nil (turns_by j n by log))
 
--- Numbers stay below a bound when one below it is added.
-pub below-push : (m j : ℕ) (by : List ℕ) → j < m → AllBelow m by → AllBelow m (by ++ j ∷ [])
-below-push m j [] lt all = (lt, tt)
-below-push m j (i ∷ by) lt all = (all.0, below-push m j by lt all.1)
-
 -- The state of the table.
 abbrev pub St : Type 0 → Type 0
 St K = State (Slot K) (View K)
@@ -129,7 +126,7 @@ module _ {K : Type 0} where
         ap (get_elem? (set s.views id w)) e ∙ set_here s.views id w (at_inside s.views id v at),
         (keep grab').0,
         word ∙ is ∙ ap (λ (m : ℕ). m + held_bit) (sym word_is),
-        subst (λ (m : ℕ). m < 4294967296) (sym word_is) small,
+        subst (λ (m : ℕ). m < free_limit) (sym word_is) small,
         differs',
         subst (λ (m : ℕ). level_in m ≡ 0 → senders_in m ≡ 0 → IsOver k) (sym word_is) over,
       ))

@@ -1,5 +1,5 @@
 -- One body, one channel more was taken.
-use Rattle.std.proofs.Common.{◌≡◌, ℕ, zero, suc, ◌+◌, ◌<◌, ◌≤◌, Bool, true, false, All, List, [], ◌∷◌, ◌++◌, length, length-append, get_or, refl, ap, sym, subst, ◌∙◌, arith, Option, Some, slice_get, inl, inr}
+use Rattle.std.proofs.Common.{◌≡◌, ℕ, zero, suc, ◌+◌, ◌<◌, ◌≤◌, Bool, true, false, All, List, [], ◌∷◌, ◌++◌, length, length-append, get_or, refl, ap, sym, subst, ◌∙◌, arith, Option, Some, slice_get, inl, inr, Contains}
 use mathlib.Core.Option.{some, some-injective}
 use lib.ListN.{get_elem?}
 use Rattle.flow_model.specs.Stands.{ChannelShown}
@@ -8,7 +8,7 @@ use Rattle.flow_machine.specs.Values.{BodyValue}
 use Rattle.flow_floor.specs.declared.board.Slot.{Slot}
 use Rattle.flow_floor.specs.declared.board.Slot.TheVariants as slot
 use Rattle.std.proofs.lemmas.List.Elements.{All-append}
-use Rattle.flow_floor.specs.Waking.{InList}
+use Rattle.std.proofs.lemmas.List.Elements.{Contains-append_left, Contains-push}
 use Rattle.flow_floor.specs.Shut.{BodiesIn, ChannelsIn, ListsStarved, starves, listed}
 use Rattle.flow_floor.proofs.Slots.{body-is, channel-is}
 use Rattle.flow_floor.proofs.Seats.{some_Some}
@@ -81,21 +81,12 @@ lists-more {K} ws bodies p b starved there l = by (starves (get_or ws p 0) b.pro
     same : (d : BodyValue K) → slice_get bodies p ≡ Some d → b ≡ d
     same d at = some_Some b d (sym there ∙ at)
 
-    behind : (q : ℕ) (xs : List ℕ) → InList q (xs ++ q ∷ [])
-    behind q [] = inl refl
-    behind q (x ∷ xs) = inr (behind q xs)
-
-    before : (q r : ℕ) (xs : List ℕ) → InList q xs → InList q (xs ++ r ∷ [])
-    before q r [] at = absurd at
-    before q r (x ∷ xs) (inl at) = inl at
-    before q r (x ∷ xs) (inr at) = inr (before q r xs at)
-
     by : (is : Bool) → starves (get_or ws p 0) b.process.stage ≡ is → ListsStarved ws bodies (p + 1) (listed starved p is)
     by true is = record {
       each = All-append (λ q. (d : BodyValue K) × (slice_get bodies q ≡ Some d) × (starves (get_or ws q 0) d.process.stage ≡ true)) starved (p ∷ []) l.each (All-one (λ q. (d : BodyValue K) × (slice_get bodies q ≡ Some d) × (starves (get_or ws q 0) d.process.stage ≡ true)) p (b, there, is));
       all = λ q d below at yes. elim (same_or_not q p) [
-        | inl e ↦ subst (λ n. InList n (starved ++ p ∷ [])) (sym e) (behind p starved)
-        | inr other ↦ before q p starved (l.all q d (omega (arith, below, other)) at yes)
+        | inl e ↦ subst (λ n. Contains (starved ++ p ∷ []) n) (sym e) (Contains-push starved p)
+        | inr other ↦ Contains-append_left starved (p ∷ []) q (l.all q d (omega (arith, below, other)) at yes)
       ];
     }
     by false is = record {

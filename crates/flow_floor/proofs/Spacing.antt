@@ -1,10 +1,7 @@
 -- The table's words lie apart: what a step there owes comes of what it owes of the words in their order.
-use Rattle.std.proofs.Common.{◌≡◌, ℕ, ◌*◌, ◌/◌, Bool, List, ◌∷◌, get_or, set, sym, ap, ◌∙◌, subst, arith}
+use Rattle.std.proofs.Common.{◌≡◌, ℕ, ◌*◌, ◌/◌, List, ◌∷◌, get_or, set, sym, ap, ◌∙◌, subst, arith}
 use Rattle.atomic_table.specs.Table.{State, Me, Allows, Final, Seen, homes_after, carried_after, rest}
-use Rattle.flow_packet.specs.Held.{Held}
-use Rattle.flow_component.specs.declared.Answer.{Answer}
-use Rattle.flow_component.specs.declared.Shape.{Shape}
-use Rattle.flow_component.specs.Laws.{Outcome}
+use Rattle.flow_component.specs.Laws.{Rules}
 use Rattle.flow_machine.specs.Values.{NetValue}
 use Rattle.flow_ring.specs.declared.layout.TheConstants.{SPACING}
 use Rattle.flow_ring.specs.Spaced.{ranked}
@@ -31,13 +28,13 @@ module _ {S V : Type 0} (holds : State S V → Type 0) where
         subst (λ (z : ℕ × ℕ). then z.0 z.1 (t.0, carried_after me.1 t.1)) (λ j. (order j, read j)) t.4,
       )
 
-module _ {K : Type 0} (shape_of : K → Shape) (uses : K → ℕ → Bool) (ready : K → Held → Answer → Type 0) (next : K → Held → Answer → Outcome K → Type 0) (start : NetValue K) where
+module _ {K : Type 0} (rules : Rules K) (start : NetValue K) where
   -- The same of the floor's rule.
-  pub apart : (slots id : ℕ) (me : Sat K) (i place : ℕ) (f : ℕ → ℕ) (then : ℕ → ℕ → Sat K → Type 0) → place ≡ i * SPACING → Allows (Law shape_of uses ready next start) slots id me i f (then i) → Allows (TableLaw shape_of uses ready next start) slots id me place f (then (place / SPACING))
-  apart = spaced (Law shape_of uses ready next start)
+  pub apart : (slots id : ℕ) (me : Sat K) (i place : ℕ) (f : ℕ → ℕ) (then : ℕ → ℕ → Sat K → Type 0) → place ≡ i * SPACING → Allows (Law rules start) slots id me i f (then i) → Allows (TableLaw rules start) slots id me place f (then (place / SPACING))
+  apart = spaced (Law rules start)
 
   -- So is the table's end.
-  pub final-ranked : (id : ℕ) (v : View K) (ws : List ℕ) (xs : List (Slot K)) → Final (Seen (TableLaw shape_of uses ready next start) id v) ws xs → Final (Seen (Law shape_of uses ready next start) id v) (ranked ws) xs
+  pub final-ranked : (id : ℕ) (v : View K) (ws : List ℕ) (xs : List (Slot K)) → Final (Seen (TableLaw rules start) id v) ws xs → Final (Seen (Law rules start) id v) (ranked ws) xs
   final-ranked id v ws xs (s, seen, words, deep, homes) = (in_order s, seen, ap ranked words, deep, homes)
 
 -- A seat that took i, which is slot, last has slot.

@@ -1,5 +1,5 @@
 -- A noted process is struck off without a token: a glance at its word, and a nudge.
-use Rattle.std.proofs.Common.{◌≡◌, ◌≢◌, ℕ, ◌<◌, Bool, List, ◌∷◌, length, get_or, set, sym, refl, ap, ◌∙◌, subst, arith, Some, length-set, get_or-set_other, get_or-set_same, inl, inr, ◌==◌}
+use Rattle.std.proofs.Common.{◌≡◌, ◌≢◌, ℕ, ◌<◌, List, ◌∷◌, length, get_or, set, sym, refl, ap, ◌∙◌, subst, arith, Some, length-set, get_or-set_other, get_or-set_same, inl, inr, ◌==◌, drop}
 use mathlib.Core.Logic.{dite}
 use mathlib.Core.Option.{none, some}
 use native.Mathlib.Decide.{ℕ_discrete, dec_lt}
@@ -7,16 +7,14 @@ use lib.ListN.{get_elem?}
 use lib.Seq.{set-get_or}
 use prog.Atomic.{either}
 use Rattle.atomic_table.specs.Table.{step, keeps, Allows}
-use Rattle.flow_packet.specs.Held.{Held}
-use Rattle.flow_component.specs.declared.Answer.{Answer}
-use Rattle.flow_component.specs.declared.Shape.{Shape}
-use Rattle.flow_component.specs.Laws.{Outcome, Obeys, StaysReady, IsSteady}
+use Rattle.flow_component.specs.Laws.{Rules, Lawful}
 use Rattle.flow_machine.specs.Values.{BodyValue, NetValue}
 use Rattle.flow_floor.specs.declared.board.View.{View}
 use Rattle.flow_floor.specs.Law.{IsTaken, IsFree}
 use Rattle.flow_floor.specs.Waking.{counts, IsDoneWord}
 use Rattle.flow_floor.specs.Rule.{Law}
-use Rattle.flow_floor.specs.Plays.{Sat, tail, counting, striking, glanced, nudged}
+use Rattle.flow_floor.specs.Plays.{Sat, glanced, nudged}
+use Rattle.flow_floor.specs.Views.{counting, striking}
 use Rattle.flow_floor.proofs.Seats.{St, state}
 use Rattle.flow_floor.proofs.Flows.{flow-view}
 use Rattle.flow_floor.proofs.Retires.{low-undone, done-set}
@@ -43,13 +41,10 @@ poked-held x one = record { high = omega arith; free = λ t. absurd (no-free x t
     no-free w (inr (inr (inl a))) b = omega (arith, a, b)
     no-free w (inr (inr (inr a))) b = omega (arith, a, b)
 
-module _ {K : Type 0} (shape_of : K → Shape) (uses : K → ℕ → Bool) (ready : K → Held → Answer → Type 0) (next : K → Held → Answer → Outcome K → Type 0)
-    (obeys : (component : K) (held : Held) (answer : Answer) (outcome : Outcome K) → ready component held answer → next component held answer outcome → Obeys (shape_of component) (uses component) held outcome)
-    (stays : (component : K) (held : Held) (answer : Answer) (outcome : Outcome K) → ready component held answer → next component held answer outcome → StaysReady ready outcome)
-    (steady : (component : K) (held : Held) (answer : Answer) (outcome : Outcome K) → next component held answer outcome → IsSteady shape_of uses component outcome)
+module _ {K : Type 0} (rules : Rules K) (lawful : Lawful rules)
     (start : NetValue K) where
   abbrev Rule : St K → Type 0
-  Rule = Law shape_of uses ready next start
+  Rule = Law rules start
 
   abbrev P : ℕ
   P = length start.bodies
@@ -65,7 +60,7 @@ module _ {K : Type 0} (shape_of : K → Shape) (uses : K → ℕ → Bool) (read
       let here = get_or-set_same s.words q y 0 (omega arith) in
       record {
         beside = g;
-        flow = flow-view shape_of uses ready next obeys stays steady start s g id v w ws' f at (length-set s.words q y)
+        flow = flow-view rules lawful start s g id v w ws' f at (length-set s.words q y)
             (λ x x_below. dite (ℕ_discrete x q)
             (λ e. (
               λ t. subst IsFree (sym (ap (λ n. get_or ws' n 0) e ∙ here)) (k.free (subst (λ n. IsFree (get_or s.words n 0)) e t)),
@@ -74,13 +69,13 @@ module _ {K : Type 0} (shape_of : K → Shape) (uses : K → ℕ → Bool) (read
             (λ other. (let e = get_or-set_other s.words q x y 0 other in (subst IsFree (sym e), subst IsTaken (sym e)))))
             (λ x a b. get_or-set_other s.words q x y 0 (λ e. omega (arith, e, below, a))) refl refl refl refl (f.each_seat id v at).seen;
         planned = r.planned;
-        wakes = wakes-poke shape_of uses ready next obeys stays steady start s g g id p q y s.homes v w b f r.wakes at holds refl below k.high (notes ∙ ap (λ (l : List ℕ). q ∷ l) (sym (ap tail notes))) (omega (arith, k.counted)) (r.wakes.each id v at).spare refl refl refl refl;
+        wakes = wakes-poke rules lawful start s g g id p q y s.homes v w b f r.wakes at holds refl below k.high (notes ∙ ap (λ (l : List ℕ). q ∷ l) (sym (ap (drop 1) notes))) (omega (arith, k.counted)) (r.wakes.each id v at).spare refl refl refl refl;
         done = done-set s.words q y g.now.bodies (omega (arith, below, wide)) (λ z at_q is. r.done q z at_q (k.done is)) r.done;
       }
 
   -- a step that only counts
   law-counting : (s : St K) (id : ℕ) (v : View K) → Rule s → get_elem? s.views id ≡ some v → Rule (state s.words s.homes (set s.views id (counting v)))
-  law-counting s id v r at = law-look shape_of uses ready next obeys stays steady start s id v (counting v) r at refl refl refl refl refl refl refl refl (r.flow.each_seat id v at).seen (λ q b h all. all)
+  law-counting s id v r at = law-look rules lawful start s id v (counting v) r at refl refl refl refl refl refl refl refl (r.flow.each_seat id v at).seen (λ q b h all. all)
 
   -- The word of the first noted process is read.
   pub glances : (slots i id p : ℕ) (me : Sat K) (b : BodyValue K) (more : List ℕ) → i < P → me.0.held ≡ Some (p, b) → me.0.noted ≡ i ∷ more → Allows Rule slots id me i (λ n. n) (glanced (step slots i 0 0 none) me)

@@ -1,21 +1,12 @@
 -- A held body that thinks still agrees with what the machine has.
-use Rattle.flow_limits.specs.declared.TheConstants.{HANDS_LIMIT}
-use Rattle.std.proofs.Common.{◌≡◌, ℕ, ◌<◌, Bool, true, false, cond, List, [], ◌∷◌, length, Option, Some, None, nat_lt, slice_get, ap, sym, subst, ◌∙◌, ◌⊎◌, inl, inr}
-use Rattle.std.specs.Prelude.{slice_index, option_and_then}
+use Rattle.std.proofs.Common.{◌≡◌, ℕ, ◌<◌, List, [], ◌∷◌, Option, Some, slice_get, ap, sym, subst, ◌∙◌, ◌⊎◌, inl, inr}
+use Rattle.std.specs.Prelude.{option_and_then}
 use Rattle.atomic_table.specs.Seated.{TableId}
-use Rattle.flow_packet.specs.Tree.{Tree, kind_of}
-use Rattle.flow_packet.specs.Hands.{packet_at}
-use Rattle.flow_packet.specs.Held.{Held as Hands}
-use Rattle.flow_component.specs.declared.Answer.{Answer}
-use Rattle.flow_component.specs.declared.Wish.{Wish}
-use Rattle.flow_component.specs.declared.Wish.TheVariants as wishes
-use Rattle.flow_component.specs.declared.Fail.TheVariants as fails
-use Rattle.flow_component.specs.Laws.{Outcome, Wishes, Fails, held_after}
+use Rattle.flow_component.specs.Laws.{Rules, held_after}
 use Rattle.flow_component.specs.Resumes.{drops_between, dropped_count}
-use Rattle.flow_model.specs.declared.Stage.TheVariants as stages
 use Rattle.flow_model.specs.States.{Input, Process}
-use Rattle.flow_model.specs.Works.{worked, judged, sending, nests}
-use Rattle.flow_model.specs.Schedules.{IsThoughtStage}
+use Rattle.flow_model.specs.Works.{worked}
+use Rattle.flow_model.specs.Stages.{IsThoughtStage}
 use Rattle.flow_machine.specs.Values.{BodyValue}
 use Rattle.flow_machine.specs.declared.answers.Thought.{Thought}
 use Rattle.flow_machine.specs.Thoughts.{Thinks, SameBody, WorkedBody, KeepsTurns}
@@ -27,51 +18,30 @@ use Rattle.flow_machine.proofs.Thinking.{keeps-then}
 use Rattle.flow_floor.specs.declared.board.Slot.TheVariants as slot
 use Rattle.flow_floor.specs.declared.floor.Worker.{Worker}
 use Rattle.flow_floor.specs.declared.floor.Held.{Held}
-use Rattle.flow_floor.specs.Law.{IsWiredIn, Rests}
+use Rattle.flow_floor.specs.Law.{Rests}
+use Rattle.flow_floor.specs.Wired.{IsWiredIn}
 use Rattle.flow_floor.specs.Workers.{IsHeldBy}
+use Rattle.flow_model.proofs.Stages.{thought-worked}
 
-thought-judged : (depths : List ℕ) (held : Hands) (wish : Wish) → IsThoughtStage (judged depths held wish)
-thought-judged depths held (wishes.Receive port) = by (nat_lt (length held.packets) HANDS_LIMIT)
-  where
-    by : (b : Bool) → IsThoughtStage (cond b (stages.Wishing (wishes.Receive port)) (stages.Failed fails.HandsLimit))
-    by true = tt
-    by false = tt
-thought-judged depths held (wishes.Send port id) = by (packet_at held.packets id)
-  where
-    by-nests : (b : Bool) → IsThoughtStage (cond b (stages.Wishing (wishes.Send port id)) (stages.Failed (fails.Unnested port)))
-    by-nests true = tt
-    by-nests false = tt
-
-    by : (found : Option Tree) → IsThoughtStage (sending depths port id found)
-    by None = tt
-    by (Some packet) = by-nests (nests (kind_of packet) (slice_index depths port.0))
-thought-judged depths held (wishes.Level port) = tt
-thought-judged depths held wishes.Deactivate = tt
-
--- after a work no work is to come
-thought-worked : {K : Type 0} (x : Process K) (outcome : Outcome K) → IsThoughtStage (worked x outcome).stage
-thought-worked x (Wishes component held wish) = thought-judged x.depths held wish
-thought-worked x (Fails component held cause) = tt
-
-module _ {K : Type 0} (next : K → Hands → Answer → Outcome K → Type 0) where
-  same-worked : (a b c : BodyValue K) → SameBody a b → WorkedBody next b c → WorkedBody next a c
+module _ {K : Type 0} (rules : Rules K) where
+  same-worked : (a b c : BodyValue K) → SameBody a b → WorkedBody rules b c → WorkedBody rules a c
   same-worked a b c same work = record {
     answer = work.answer;
     outcome = work.outcome;
     told = sym (ap (λ (x : Process K). x.stage) same.process) ∙ work.told;
-    comes = subst (λ (x : Process K). next x.component x.held work.answer work.outcome) same.process work.comes;
+    comes = subst (λ (x : Process K). rules.next x.component x.held work.answer work.outcome) same.process work.comes;
     process = work.process ∙ ap (λ (x : Process K). worked x work.outcome) same.process;
     dropped = work.dropped ∙ (λ i. dropped_count (same.dropped i) (drops_between (same.process i).held (held_after work.outcome)));
   }
 
-  worked-same : (a b c : BodyValue K) → WorkedBody next a b → SameBody b c → WorkedBody next a c
+  worked-same : (a b c : BodyValue K) → WorkedBody rules a b → SameBody b c → WorkedBody rules a c
   worked-same a b c work same = record { answer = work.answer; outcome = work.outcome; told = work.told; comes = work.comes; process = same.process ∙ work.process; dropped = same.dropped ∙ work.dropped }
 
   -- a thought of a body that rests
-  pub rests-think : (b h h' : BodyValue K) (t : Thought) → Rests next b h → Thinks next h t h' → KeepsTurns h h' → Rests next b h'
-  rests-think b h h' t rests thinks keeps = (by rests.0 (thinks-step next h t h' thinks), keeps-then b h h' rests.1 keeps)
+  pub rests-think : (b h h' : BodyValue K) (t : Thought) → Rests rules b h → Thinks rules h t h' → KeepsTurns h h' → Rests rules b h'
+  rests-think b h h' t rests thinks keeps = (by rests.0 (thinks-step rules h t h' thinks), keeps-then b h h' rests.1 keeps)
     where
-      by : SameBody b h ⊎ WorkedBody next b h → SameBody h h' ⊎ WorkedBody next h h' → SameBody b h' ⊎ WorkedBody next b h'
+      by : SameBody b h ⊎ WorkedBody rules b h → SameBody h h' ⊎ WorkedBody rules h h' → SameBody b h' ⊎ WorkedBody rules b h'
       by (inl same) (inl same') = inl (record { process = same'.process ∙ same.process; dropped = same'.dropped ∙ same.dropped })
       by (inl same) (inr work) = inr (same-worked b h h' same work)
       by (inr work) (inl same) = inr (worked-same b h h' work same)
@@ -79,7 +49,7 @@ module _ {K : Type 0} (next : K → Hands → Answer → Outcome K → Type 0) w
           let thought : IsThoughtStage h.process.stage = subst IsThoughtStage (sym (ap (λ (x : Process K). x.stage) work.process)) (thought-worked b.process work.outcome) in
           absurd (subst IsThoughtStage again.told thought)
 
-  pub held-think : (z : TableId) (n : ℕ) (w : Worker K) (h h' : Held K) (t : Thought) → IsHeldBy next z n w h → Thinks next h.body t h'.body → KeepsTurns h.body h'.body → h'.process ≡ h.process → IsHeldBy next z n w h'
+  pub held-think : (z : TableId) (n : ℕ) (w : Worker K) (h h' : Held K) (t : Thought) → IsHeldBy rules z n w h → Thinks rules h.body t h'.body → KeepsTurns h.body h'.body → h'.process ≡ h.process → IsHeldBy rules z n w h'
   held-think z n w h h' t q thinks keeps process = record {
     calm = q.calm;
     below = subst (λ m. m < n) (sym process) q.below;
@@ -101,10 +71,10 @@ wired-as m h h' inputs outputs signal wired = record {
 }
 
 -- a held body's connections stay where it thinks, and where it has a turn
-pub wired-think : {K : Type 0} (next : K → Hands → Answer → Outcome K → Type 0) (m : ℕ) (h h' : BodyValue K) (t : Thought) → Thinks next h t h' → IsWiredIn m h → IsWiredIn m h'
-wired-think {K} next m h h' t thinks wired = by (thinks-step next h t h' thinks)
+pub wired-think : {K : Type 0} (rules : Rules K) (m : ℕ) (h h' : BodyValue K) (t : Thought) → Thinks rules h t h' → IsWiredIn m h → IsWiredIn m h'
+wired-think {K} rules m h h' t thinks wired = by (thinks-step rules h t h' thinks)
   where
-    by : SameBody h h' ⊎ WorkedBody next h h' → IsWiredIn m h'
+    by : SameBody h h' ⊎ WorkedBody rules h h' → IsWiredIn m h'
     by (inl same) = wired-as m h h' (ap (λ (x : Process K). x.inputs) same.process) (ap (λ (x : Process K). x.outputs) same.process) (ap (λ (x : Process K). x.signal) same.process) wired
     by (inr work) = wired-as m h h' (ap (λ (x : Process K). x.inputs) work.process ∙ inputs-worked h.process work.outcome) (ap (λ (x : Process K). x.outputs) work.process ∙ outputs-worked h.process work.outcome)
         (ap (λ (x : Process K). x.signal) work.process ∙ signal-worked h.process work.outcome) wired

@@ -1,19 +1,20 @@
 -- A turn of a held body at the connection that its worker holds.
-use Rattle.std.proofs.Common.{◌≡◌, ℕ, ◌+◌, ◌-◌, ◌<◌, ◌≤◌, true, false, cond, nat_eq, List, [], ◌∷◌, ◌++◌, append-nil, length-append, nat_lt, length, drop, Option, Some, None, refl, ap, sym, subst, ◌∙◌, arith, slice_get, ◌⊎◌, inl, inr}
+use Rattle.std.proofs.Common.{◌≡◌, ℕ, ◌+◌, ◌-◌, ◌<◌, ◌≤◌, true, false, cond, nat_eq, List, [], ◌∷◌, ◌++◌, append-nil, length-append, nat_lt, length, drop, Option, Some, None, refl, ap, sym, subst, ◌∙◌, arith, slice_get, ◌⊎◌, inl, inr, Contains}
 use Rattle.std.proofs.lemmas.Bool.Decides.{nat_tests}
 use Rattle.std.specs.Prelude.{IsSome, IfSome, option_and_then}
 use Rattle.std.specs.Option.{option_map}
 use Rattle.flow_packet.specs.Hands.{packet_at}
 use Rattle.flow_machine.specs.Effects.{id_sent}
 use Rattle.flow_model.specs.declared.Block.TheVariants.{Dormant}
+use Rattle.std.proofs.lemmas.List.Elements.{Contains-append_left}
+use Rattle.flow_plan.specs.declared.plan.Connection.{Connection}
+use Rattle.flow_machine.specs.Joins.{IsPlanned}
 use Rattle.flow_floor.proofs.Seats.{some_Some}
 use Rattle.atomic_table.specs.Seated.{TableId}
 use Rattle.flow_packet.specs.Tree.{Tree}
-use Rattle.flow_packet.specs.Held.{Held as Hands}
-use Rattle.flow_component.specs.declared.Answer.{Answer}
 use Rattle.flow_component.specs.declared.Port.{Port}
 use Rattle.flow_component.specs.declared.Wish.TheVariants as wishes
-use Rattle.flow_component.specs.Laws.{Outcome}
+use Rattle.flow_component.specs.Laws.{Rules}
 use Rattle.flow_model.specs.declared.Stage.TheVariants as stages
 use Rattle.flow_model.specs.States.{From, Outlet, outlets, output_at}
 use Rattle.flow_model.specs.Events.{Event, Hears_end, Gets, Sleeps, Sends, Learns, Closes, Signals, stage_event, received, sent}
@@ -31,18 +32,22 @@ use Rattle.flow_floor.specs.declared.floor.Worker.{Worker}
 use Rattle.flow_floor.specs.declared.floor.Held.{Held}
 use Rattle.flow_floor.specs.Law.{Rests}
 use Rattle.flow_floor.specs.Turning.{turned_body, grab_after, GrabIn, Happens, At, received_event, signalled_event, sent_event, closed_event}
-use Rattle.flow_floor.specs.Waking.{InList, IsOutput, Notes}
-use Rattle.flow_floor.specs.Law.{IsInput}
+use Rattle.flow_floor.specs.Sending.{receiver_at, senders_at}
+use Rattle.flow_floor.specs.Waking.{Notes}
+use Rattle.flow_ring.proofs.Words.{level-of, senders-of}
+use Rattle.flow_floor.proofs.Numbers.{contains-here}
+use Rattle.flow_floor.proofs.Planned.{receiver-is, receiver_at-is, senders_at-is, sends-there}
+use Rattle.flow_ring.specs.declared.TheConstants.{FIELD}
 use Rattle.flow_ring.specs.Words.{level_in, senders_in, free_word}
-use Rattle.flow_floor.specs.Plays.{tail, counting, striking, stamping, releasing, poking, held_after}
+use Rattle.flow_floor.specs.Views.{counting, striking, stamping, releasing, poking, held_after}
 use Rattle.flow_floor.specs.Workers.{Agrees, IsHeldBy, IsGrabbing, IsWaking}
 
-module _ {K : Type 0} (next : K → Hands → Answer → Outcome K → Type 0) where
+module _ {K : Type 0} (rules : Rules K) where
   -- a body after its turn agrees with what the machine has of it
-  pub rests-turned : (b d : BodyValue K) (e : Event) (r : ℕ) → BodyTurn b e r d → Rests next (turned_body e r b) d
+  pub rests-turned : (b d : BodyValue K) (e : Event) (r : ℕ) → BodyTurn b e r d → Rests rules (turned_body e r b) d
   rests-turned b d e r turn = (inl (record { process = turn.process; dropped = turn.dropped }), record { stamps = turn.stamps; levels = turn.levels; leaving = turn.leaving })
 
-  pub agrees-turned : (w w' : Worker K) (h h' : Held K) (r : ℕ) (e : Event) (f : BodyValue K → BodyValue K) → Agrees next w h → w'.seat.me.0 ≡ stamping w.seat.me.0 r e f → ((b : BodyValue K) → f b ≡ h.body) → BodyTurn h.body e r h'.body → h'.process ≡ h.process → Agrees next w' h'
+  pub agrees-turned : (w w' : Worker K) (h h' : Held K) (r : ℕ) (e : Event) (f : BodyValue K → BodyValue K) → Agrees rules w h → w'.seat.me.0 ≡ stamping w.seat.me.0 r e f → ((b : BodyValue K) → f b ≡ h.body) → BodyTurn h.body e r h'.body → h'.process ≡ h.process → Agrees rules w' h'
   agrees-turned w w' h h' r e f a view after turn process = record {
     base = turned_body e r h.body;
     held = ap (λ (v : View K). v.held) view ∙ ap (held_after e f r) a.held ∙ (λ j. let t : Option (ℕ × BodyValue K) = Some (sym process j, turned_body e r (after a.base j)) in t);
@@ -50,8 +55,8 @@ module _ {K : Type 0} (next : K → Hands → Answer → Outcome K → Type 0) w
     whole = turn.leaving;
   }
 
-  pub grabbing-turned : (z : TableId) (n : ℕ) (w w' : Worker K) (h h' : Held K) (c : ℕ) (k k' : ChannelShown) (r : ℕ) (e : Event) (f : BodyValue K → BodyValue K) → IsGrabbing next z n w h c k → w'.seat.table_id ≡ w.seat.table_id
-      → w'.seat.me.0 ≡ stamping w.seat.me.0 r e f → w'.seat.me.1 ≡ w.seat.me.1 → ((b : BodyValue K) → f b ≡ h.body) → BodyTurn h.body e r h'.body → h'.process ≡ h.process → k' ≡ shown_after e k → length k'.packets < 65536 → k'.open_senders < 65536 → IsGrabbing next z n w' h' c k'
+  pub grabbing-turned : (z : TableId) (n : ℕ) (w w' : Worker K) (h h' : Held K) (c : ℕ) (k k' : ChannelShown) (r : ℕ) (e : Event) (f : BodyValue K → BodyValue K) → IsGrabbing rules z n w h c k → w'.seat.table_id ≡ w.seat.table_id
+      → w'.seat.me.0 ≡ stamping w.seat.me.0 r e f → w'.seat.me.1 ≡ w.seat.me.1 → ((b : BodyValue K) → f b ≡ h.body) → BodyTurn h.body e r h'.body → h'.process ≡ h.process → k' ≡ shown_after e k → length k'.packets < FIELD → k'.open_senders < FIELD → IsGrabbing rules z n w' h' c k'
   grabbing-turned z n w w' h h' c k k' r e f g table view slots after turn process channel level senders = record {
     table = table ∙ g.table;
     share = subst (λ m. 0 < m) (sym (ap (λ (v : View K). v.shares) view)) g.share;
@@ -127,9 +132,9 @@ signalled-deed {K} b d c r k k' packet e e_is first rest takes =
     (body-turn b d (effects.Signal packet) r (Signals c packet) takes refl refl refl, rest, omega (arith, ap (λ (xs : List Tree). length xs) first), ap (λ (x : ChannelShown). x.open_senders) rest)
 
 -- a connection was given back, and these processes are noted
-pub waking-after : {K : Type 0} (next : K → Hands → Answer → Outcome K → Type 0) (z : TableId) (n : ℕ) (w w' : Worker K) (h : Held K) (c : ℕ) (k : ChannelShown) (notes more : List ℕ) → IsGrabbing next z n w h c k → w'.seat.table_id ≡ w.seat.table_id → w'.seat.me.0 ≡ releasing w.seat.me.0 notes
-    → w'.seat.me.1 ≡ (h.process, slot.Vacant) ∷ [] → notes ≡ more → IsWaking next z n w' h more
-waking-after {K} next z n w w' h c k notes more g table view slots told = record {
+pub waking-after : {K : Type 0} (rules : Rules K) (z : TableId) (n : ℕ) (w w' : Worker K) (h : Held K) (c : ℕ) (k : ChannelShown) (notes more : List ℕ) → IsGrabbing rules z n w h c k → w'.seat.table_id ≡ w.seat.table_id → w'.seat.me.0 ≡ releasing w.seat.me.0 notes
+    → w'.seat.me.1 ≡ (h.process, slot.Vacant) ∷ [] → notes ≡ more → IsWaking rules z n w' h more
+waking-after {K} rules z n w w' h c k notes more g table view slots told = record {
   table = table ∙ g.table;
   share = subst (λ m. 0 < m) (sym (ap (λ (v : View K). v.shares) view)) g.share;
   grab = ap (λ (v : View K). v.grab) view;
@@ -149,9 +154,9 @@ pub poked-spent : {K : Type 0} (v w : View K) (r : ℕ) → w ≡ poking v r →
 poked-spent {K} v w r is none_there = ap (λ (x : View K). x.spare) is ∙ (let z : nat_eq r 0 ≡ true = grind (arith, nat_tests) in ap (λ b. cond b (v.spare - 1) v.spare) z)
 
 -- one noted process was woken
-pub woken : {K : Type 0} (next : K → Hands → Answer → Outcome K → Type 0) (z : TableId) (n : ℕ) (w w' : Worker K) (h : Held K) (notes more : List ℕ) → IsWaking next z n w h notes → w'.seat.table_id ≡ w.seat.table_id → w'.seat.me.1 ≡ w.seat.me.1
-    → w'.seat.me.0.shares ≡ w.seat.me.0.shares → w'.seat.me.0.grab ≡ w.seat.me.0.grab → w'.seat.me.0.held ≡ w.seat.me.0.held → w'.seat.me.0.noted ≡ more → w'.seat.me.0.spare ≡ 0 → IsWaking next z n w' h more
-woken next z n w w' h notes more q table slots shares grab held noted spare = record {
+pub woken : {K : Type 0} (rules : Rules K) (z : TableId) (n : ℕ) (w w' : Worker K) (h : Held K) (notes more : List ℕ) → IsWaking rules z n w h notes → w'.seat.table_id ≡ w.seat.table_id → w'.seat.me.1 ≡ w.seat.me.1
+    → w'.seat.me.0.shares ≡ w.seat.me.0.shares → w'.seat.me.0.grab ≡ w.seat.me.0.grab → w'.seat.me.0.held ≡ w.seat.me.0.held → w'.seat.me.0.noted ≡ more → w'.seat.me.0.spare ≡ 0 → IsWaking rules z n w' h more
+woken rules z n w w' h notes more q table slots shares grab held noted spare = record {
   table = table ∙ q.table;
   share = subst (λ m. 0 < m) (sym shares) q.share;
   grab = grab ∙ q.grab;
@@ -163,19 +168,19 @@ woken next z n w w' h notes more q table slots shares grab held noted spare = re
 }
 
 -- the first noted process was struck off
-pub struck : {K : Type 0} (next : K → Hands → Answer → Outcome K → Type 0) (z : TableId) (n : ℕ) (w w' : Worker K) (h : Held K) (notes more : List ℕ) → IsWaking next z n w h notes → w'.seat.table_id ≡ w.seat.table_id → w'.seat.me ≡ (striking w.seat.me.0, w.seat.me.1) → tail notes ≡ more → IsWaking next z n w' h more
-struck next z n w w' h notes more q table view rest =
-    woken next z n w w' h notes more q table (ap (λ m. m.1) view) (ap (λ m. m.0.shares) view) (ap (λ m. m.0.grab) view) (ap (λ m. m.0.held) view) (ap (λ m. m.0.noted) view ∙ ap tail q.noted ∙ rest) (ap (λ m. m.0.spare) view ∙ q.spare)
+pub struck : {K : Type 0} (rules : Rules K) (z : TableId) (n : ℕ) (w w' : Worker K) (h : Held K) (notes more : List ℕ) → IsWaking rules z n w h notes → w'.seat.table_id ≡ w.seat.table_id → w'.seat.me ≡ (striking w.seat.me.0, w.seat.me.1) → drop 1 notes ≡ more → IsWaking rules z n w' h more
+struck rules z n w w' h notes more q table view rest =
+    woken rules z n w w' h notes more q table (ap (λ m. m.1) view) (ap (λ m. m.0.shares) view) (ap (λ m. m.0.grab) view) (ap (λ m. m.0.held) view) (ap (λ m. m.0.noted) view ∙ ap (drop 1) q.noted ∙ rest) (ap (λ m. m.0.spare) view ∙ q.spare)
 
 -- a step was only counted
-pub unstruck : {K : Type 0} (next : K → Hands → Answer → Outcome K → Type 0) (z : TableId) (n : ℕ) (w w' : Worker K) (h : Held K) (notes : List ℕ) → IsWaking next z n w h notes → w'.seat.table_id ≡ w.seat.table_id → w'.seat.me ≡ (counting w.seat.me.0, w.seat.me.1) → IsWaking next z n w' h notes
-unstruck next z n w w' h notes q table view =
-    woken next z n w w' h notes notes q table (ap (λ m. m.1) view) (ap (λ m. m.0.shares) view) (ap (λ m. m.0.grab) view) (ap (λ m. m.0.held) view) (ap (λ m. m.0.noted) view ∙ q.noted) (ap (λ m. m.0.spare) view ∙ q.spare)
+pub unstruck : {K : Type 0} (rules : Rules K) (z : TableId) (n : ℕ) (w w' : Worker K) (h : Held K) (notes : List ℕ) → IsWaking rules z n w h notes → w'.seat.table_id ≡ w.seat.table_id → w'.seat.me ≡ (counting w.seat.me.0, w.seat.me.1) → IsWaking rules z n w' h notes
+unstruck rules z n w w' h notes q table view =
+    woken rules z n w w' h notes notes q table (ap (λ m. m.1) view) (ap (λ m. m.0.shares) view) (ap (λ m. m.0.grab) view) (ap (λ m. m.0.held) view) (ap (λ m. m.0.noted) view ∙ q.noted) (ap (λ m. m.0.spare) view ∙ q.spare)
 
 -- a body took a turn at no connection
-pub held-turned : {K : Type 0} (next : K → Hands → Answer → Outcome K → Type 0) (z : TableId) (n : ℕ) (w w' : Worker K) (h h' : Held K) (r : ℕ) (e : Event) (f : BodyValue K → BodyValue K) → IsHeldBy next z n w h → w'.seat.table_id ≡ w.seat.table_id → w'.seat.me.0 ≡ stamping w.seat.me.0 r e f
-    → w'.seat.me.1 ≡ w.seat.me.1 → ((b : BodyValue K) → f b ≡ h.body) → BodyTurn h.body e r h'.body → h'.process ≡ h.process → IsHeldBy next z n w' h'
-held-turned next z n w w' h h' r e f q table view slots after turn process = record {
+pub held-turned : {K : Type 0} (rules : Rules K) (z : TableId) (n : ℕ) (w w' : Worker K) (h h' : Held K) (r : ℕ) (e : Event) (f : BodyValue K → BodyValue K) → IsHeldBy rules z n w h → w'.seat.table_id ≡ w.seat.table_id → w'.seat.me.0 ≡ stamping w.seat.me.0 r e f
+    → w'.seat.me.1 ≡ w.seat.me.1 → ((b : BodyValue K) → f b ≡ h.body) → BodyTurn h.body e r h'.body → h'.process ≡ h.process → IsHeldBy rules z n w' h'
+held-turned rules z n w w' h h' r e f q table view slots after turn process = record {
   calm = record {
     table = table ∙ q.calm.table;
     share = subst (λ m. 0 < m) (sym (ap (λ (v : View _). v.shares) view)) q.calm.share;
@@ -184,7 +189,7 @@ held-turned next z n w w' h h' r e f q table view slots after turn process = rec
     spare = ap (λ (v : View _). v.spare) view ∙ q.calm.spare;
   };
   below = subst (λ m. m < n) (sym process) q.below;
-  agrees = agrees-turned next w w' h h' r e f q.agrees view after turn process;
+  agrees = agrees-turned rules w w' h h' r e f q.agrees view after turn process;
   slots = slots ∙ q.slots ∙ ap (λ m. (m, slot.Vacant) ∷ []) (sym process);
 }
 
@@ -276,36 +281,40 @@ learn-deed {K} b d port l m r k e e_is same takes =
     subst (λ (x : Event). BodyTurn b x r d × (k ≡ shown_after x k)) (sym e_is) (subst (λ n. BodyTurn b (Learns port n) r d) same (body-turn b d (effects.Level l) r (Learns port l) takes refl refl refl), refl)
 
 -- where nobody is noted any more the worker owes nothing
-pub waking-none : {K : Type 0} (next : K → Hands → Answer → Outcome K → Type 0) (z : TableId) (n : ℕ) (w : Worker K) (h : Held K) → IsWaking next z n w h [] → IsHeldBy next z n w h
-waking-none next z n w h q = record { calm = record { table = q.table; share = q.share; grab = q.grab; noted = q.noted; spare = q.spare }; below = q.below; agrees = q.agrees; slots = q.slots }
+pub waking-none : {K : Type 0} (rules : Rules K) (z : TableId) (n : ℕ) (w : Worker K) (h : Held K) → IsWaking rules z n w h [] → IsHeldBy rules z n w h
+waking-none rules z n w h q = record { calm = record { table = q.table; share = q.share; grab = q.grab; noted = q.noted; spare = q.spare }; below = q.below; agrees = q.agrees; slots = q.slots }
 
-in-front : (q : ℕ) (xs ys : List ℕ) → InList q xs → InList q (xs ++ ys)
-in-front q [] ys there = absurd there
-in-front q (x ∷ xs) ys (inl here) = inl here
-in-front q (x ∷ xs) ys (inr there) = inr (in-front q xs ys there)
-
--- whom a send has to note
-pub send-notes : {K : Type 0} (start : NetValue K) (c word port : ℕ) (found : Option Tree) (k k' : ChannelShown) (receivers noted : List ℕ) → k' ≡ shown_after (sent_event port c found) k → level_in word ≡ length k.packets → length k'.packets < 65536 → k'.open_senders < 65536
-    → ((q : ℕ) (b : BodyValue K) → slice_get start.bodies q ≡ Some b → IsInput b c → InList q receivers) → Notes start c word (free_word (length k'.packets) k'.open_senders) (receivers ++ noted)
-send-notes {K} start c word port found k k' receivers noted after level small few all = record {
-  receiver = inr (λ q b there input. in-front q receivers noted (all q b there input));
-  senders = inl (let l : level_in (free_word (length k'.packets) k'.open_senders) ≡ length k'.packets = omega (arith, small, few) in omega (arith, l, level, longer found after));
+-- Where the word of a connection stays as it was nobody has to be noted.
+pub nobody-notes : {K : Type 0} (start : NetValue K) (c word : ℕ) (k : ChannelShown) (noted : List ℕ) → length k.packets < FIELD → k.open_senders < FIELD → level_in word ≡ length k.packets → senders_in word ≤ k.open_senders → Notes start c word (free_word (length k.packets) k.open_senders) noted
+nobody-notes start c word k noted small few level opens = let says = level-of (length k.packets) k.open_senders small few in let open_says = senders-of (length k.packets) k.open_senders small few in record {
+  receiver = inl (omega (arith, says, level), omega (arith, open_says, opens));
+  senders = inl (omega (arith, says, level));
 }
-  where
-    longer : (found : Option Tree) → k' ≡ shown_after (sent_event port c found) k → length k.packets ≤ length k'.packets
-    longer (Some packet) is = omega (arith, ap (λ (x : ChannelShown). length x.packets) is, length-append k.packets (packet ∷ []))
-    longer None is = omega (arith, ap (λ (x : ChannelShown). length x.packets) is)
 
--- whom a turn has to note that takes a packet from the automatic input
-pub signalled-notes : {K : Type 0} (start : NetValue K) (c word : ℕ) (k k' : ChannelShown) (senders noted : List ℕ) → k' ≡ shown_after (signalled_event c k.packets) k → level_in word ≡ length k.packets → senders_in word ≡ k.open_senders → length k'.packets < 65536 → k'.open_senders < 65536
-    → ((q : ℕ) (b : BodyValue K) → slice_get start.bodies q ≡ Some b → IsOutput b c → InList q senders) → Notes start c word (free_word (length k'.packets) k'.open_senders) (senders ++ noted)
-signalled-notes {K} start c word k k' senders noted after level opens small few all = record {
-  receiver = inl (
-    (let l : level_in (free_word (length k'.packets) k'.open_senders) ≡ length k'.packets = omega (arith, small, few) in let s = (left k.packets refl).0 in omega (arith, l, level, s)),
-    (let l : senders_in (free_word (length k'.packets) k'.open_senders) ≡ k'.open_senders = omega (arith, small, few) in let s = (left k.packets refl).1 in omega (arith, l, opens, s)),
-  );
-  senders = inr (λ q b there output. in-front q senders noted (all q b there output));
+-- Where its level doesn't fall the process that receives there has to be.
+pub receiver-notes : {K : Type 0} (start : NetValue K) (wired : ∥ IsPlanned start ∥₁) (connections : List Connection) → connections ≡ start.connections → (c word : ℕ) (x : Connection) (k : ChannelShown) (noted : List ℕ) → slice_get connections c ≡ Some x → length k.packets < FIELD → k.open_senders < FIELD → level_in word ≤ length k.packets
+    → Notes start c word (free_word (length k.packets) k.open_senders) (receiver_at connections c ++ noted)
+receiver-notes start wired connections same c word x k noted at small few level = let there_at = ap (λ (xs : List Connection). slice_get xs c) (sym same) ∙ at in let says = level-of (length k.packets) k.open_senders small few in let open_says = senders-of (length k.packets) k.open_senders small few in record {
+  receiver = inr (λ q b there input. subst (λ (ps : List ℕ). Contains (ps ++ noted) q) (sym (receiver_at-is connections c x at ∙ ap (λ (p : ℕ). p ∷ []) (receiver-is start wired q c b x there_at there input))) (contains-here q noted));
+  senders = inl (omega (arith, says, level));
 }
+
+-- Where it doesn't rise, and no sender closes, those that send there have to be.
+pub senders-notes : {K : Type 0} (start : NetValue K) (wired : ∥ IsPlanned start ∥₁) (connections : List Connection) → connections ≡ start.connections → (c word : ℕ) (x : Connection) (k : ChannelShown) (noted : List ℕ) → slice_get connections c ≡ Some x → length k.packets < FIELD → k.open_senders < FIELD → length k.packets ≤ level_in word → senders_in word ≤ k.open_senders
+    → Notes start c word (free_word (length k.packets) k.open_senders) (senders_at connections c ++ noted)
+senders-notes start wired connections same c word x k noted at small few level opens = let there_at = ap (λ (xs : List Connection). slice_get xs c) (sym same) ∙ at in let says = level-of (length k.packets) k.open_senders small few in let open_says = senders-of (length k.packets) k.open_senders small few in record {
+  receiver = inl (omega (arith, says, level), omega (arith, open_says, opens));
+  senders = inr (λ q b there output. Contains-append_left (senders_at connections c) noted q (subst (λ (ps : List ℕ). Contains ps q) (sym (senders_at-is connections c x at)) (sends-there start wired q c b x there_at there output)));
+}
+
+-- A send doesn't lower the level.
+pub sent-longer : (port c : ℕ) (found : Option Tree) (k k' : ChannelShown) → k' ≡ shown_after (sent_event port c found) k → length k.packets ≤ length k'.packets
+sent-longer port c (Some packet) k k' is = omega (arith, ap (λ (x : ChannelShown). length x.packets) is, length-append k.packets (packet ∷ []))
+sent-longer port c None k k' is = omega (arith, ap (λ (x : ChannelShown). length x.packets) is)
+
+-- A packet that is taken from the automatic input doesn't raise it, and no sender closes.
+pub signalled-left : (c : ℕ) (k k' : ChannelShown) → k' ≡ shown_after (signalled_event c k.packets) k → (length k'.packets ≤ length k.packets) × (k'.open_senders ≡ k.open_senders)
+signalled-left c k k' after = left k.packets refl
   where
     left : (ps : List Tree) → k.packets ≡ ps → (length k'.packets ≤ length k.packets) × (k'.open_senders ≡ k.open_senders)
     left [] is =
@@ -316,14 +325,18 @@ signalled-notes {K} start c word k k' senders noted after level opens small few 
         let shorter : length k'.packets ≡ length rest = ap (λ (x : ChannelShown). length x.packets) same ∙ ap (λ (xs : List Tree). length (drop 1 xs)) is in
         (omega (arith, shorter, ap (λ (xs : List Tree). length xs) is), ap (λ (x : ChannelShown). x.open_senders) same)
 
--- whom a close has to note
-pub close-notes : {K : Type 0} (start : NetValue K) (c word : ℕ) (found : Option Outlet) (k k' : ChannelShown) (receivers noted : List ℕ) → k' ≡ shown_after (closed_event found) k → level_in word ≡ length k.packets → length k'.packets < 65536 → k'.open_senders < 65536
-    → ((q : ℕ) (b : BodyValue K) → slice_get start.bodies q ≡ Some b → IsInput b c → InList q receivers) → Notes start c word (free_word (length k'.packets) k'.open_senders) (receivers ++ noted)
-close-notes {K} start c word found k k' receivers noted after level small few all = record {
-  receiver = inr (λ q b there input. in-front q receivers noted (all q b there input));
-  senders = inl (let l : level_in (free_word (length k'.packets) k'.open_senders) ≡ length k'.packets = omega (arith, small, few) in let s = kept found after in omega (arith, l, level, s));
-}
-  where
-    kept : (found : Option Outlet) → k' ≡ shown_after (closed_event found) k → length k'.packets ≡ length k.packets
-    kept (Some outlet) is = ap (λ (x : ChannelShown). length x.packets) is
-    kept None is = ap (λ (x : ChannelShown). length x.packets) is
+-- A close leaves the packets.
+pub closed-kept : (found : Option Outlet) (k k' : ChannelShown) → k' ≡ shown_after (closed_event found) k → length k'.packets ≡ length k.packets
+closed-kept (Some outlet) k k' is = ap (λ (x : ChannelShown). length x.packets) is
+closed-kept None k k' is = ap (λ (x : ChannelShown). length x.packets) is
+
+-- Of those that a worker has noted it wakes the first, and then the others.
+pub first-noted : {K : Type 0} (rules : Rules K) (z : TableId) (n : ℕ) (w : Worker K) (h : Held K) (q : ℕ) (notes more : List ℕ) → notes ≡ q ∷ more → IsWaking rules z n w h notes → IsWaking rules z n w h (q ∷ drop 1 w.seat.me.0.noted)
+first-noted rules z n w h q notes more is waking = subst (IsWaking rules z n w h) (is ∙ ap (λ (xs : List ℕ). q ∷ drop 1 xs) (sym (waking.noted ∙ is))) waking
+
+pub rest-noted : {K : Type 0} (rules : Rules K) (z : TableId) (n : ℕ) (w w' : Worker K) (h : Held K) (q : ℕ) (notes more : List ℕ) → notes ≡ q ∷ more → IsWaking rules z n w h notes → IsWaking rules z n w' h (drop 1 w.seat.me.0.noted) → IsWaking rules z n w' h more
+rest-noted rules z n w w' h q notes more is waking = subst (IsWaking rules z n w' h) (ap (drop 1) (waking.noted ∙ is))
+
+-- The same of a worker that is this one.
+pub waking-as : {K : Type 0} (rules : Rules K) (z : TableId) (n : ℕ) (w u : Worker K) (h : Held K) (notes : List ℕ) → w ≡ u → IsWaking rules z n u h notes → IsWaking rules z n w h notes
+waking-as rules z n w u h notes is = subst (λ (x : Worker _). IsWaking rules z n x h notes) (sym is)

@@ -1,5 +1,5 @@
 -- What stays of the second half of the rule where one seat steps.
-use Rattle.std.proofs.Common.{◌≡◌, ◌≢◌, ℕ, zero, suc, ◌+◌, ◌<◌, ◌≤◌, Bool, true, false, cond, List, [], ◌∷◌, length, get_or, set, sym, refl, ap, ◌∙◌, subst, arith, Some, slice_get, ◌⊎◌, inl, inr, nat_eq}
+use Rattle.std.proofs.Common.{◌≡◌, ◌≢◌, ℕ, zero, suc, ◌+◌, ◌<◌, ◌≤◌, Bool, true, false, cond, List, [], ◌∷◌, length, get_or, set, sym, refl, ap, ◌∙◌, subst, arith, Some, slice_get, ◌⊎◌, inl, inr, nat_eq, Contains}
 use Rattle.std.specs.Prelude.{sum_by, ◌||◌}
 use Rattle.std.proofs.lemmas.List.Sums.{sum_by-cons}
 use mathlib.Core.Logic.{dite}
@@ -10,14 +10,15 @@ use Rattle.atomic_table.proofs.Lists.{set_here, set_else}
 use Rattle.flow_component.specs.declared.Wish.TheVariants as wishes
 use Rattle.flow_model.specs.declared.Stage.{Stage}
 use Rattle.flow_model.specs.declared.Stage.TheVariants as stages
-use Rattle.flow_model.specs.Schedules.{IsThoughtStage}
+use Rattle.flow_model.specs.Stages.{IsThoughtStage}
 use Rattle.flow_model.specs.Stands.{ChannelShown}
 use Rattle.flow_machine.specs.Values.{BodyValue, NetValue}
 use Rattle.flow_ring.specs.Words.{level_in, senders_in}
 use Rattle.flow_floor.specs.declared.board.View.{View}
 use Rattle.flow_floor.specs.declared.board.Look.{Look}
-use Rattle.flow_floor.specs.Law.{Beside, IsInput}
-use Rattle.flow_floor.specs.Waking.{counts, live_in, InList, IsEmptyAt, IsOpenAt, IsOutput, IsNoted, WordsBlock, AllBlock, IsWiredAs, Keeps, Wakes}
+use Rattle.flow_floor.specs.Law.{Beside}
+use Rattle.flow_floor.specs.Wired.{IsInput, IsOutput}
+use Rattle.flow_floor.specs.Waking.{counts, live_in, IsEmptyAt, IsOpenAt, IsNoted, WordsBlock, AllBlock, IsWiredAs, Keeps, Wakes}
 use Rattle.flow_floor.proofs.Seats.{at_inside, St, Homes, state, seats_stay}
 
 -- one process word of the first n changes
@@ -129,10 +130,10 @@ module _ {K : Type 0} where
   calm-same n b ws ws' same c = (λ input. (omega (arith, (same c).0), omega (arith, (same c).1)), λ output. omega (arith, (same c).0))
 
   -- where a note that a seat had is still there, or its process was poked
-  noted-keep : (s : St K) (ws' : List ℕ) (id q : ℕ) (v w : View K) → get_elem? s.views id ≡ some v → (InList q v.noted → InList q w.noted ⊎ (1 < get_or ws' q 0)) → IsNoted s.views q → IsNoted (set s.views id w) q ⊎ (1 < get_or ws' q 0)
+  noted-keep : (s : St K) (ws' : List ℕ) (id q : ℕ) (v w : View K) → get_elem? s.views id ≡ some v → (Contains v.noted q → Contains w.noted q ⊎ (1 < get_or ws' q 0)) → IsNoted s.views q → IsNoted (set s.views id w) q ⊎ (1 < get_or ws' q 0)
   noted-keep s ws' id q v w at keep (j, u, u_at, there) = dite (ℕ_discrete j id)
       (λ e. let was : u ≡ v = some-injective u v (sym u_at ∙ (ap (get_elem? s.views) e ∙ at)) in
-      elim (keep (subst (λ (x : View K). InList q x.noted) was there)) [
+      elim (keep (subst (λ (x : View K). Contains x.noted q) was there)) [
         | inl kept ↦ inl (id, w, set_here s.views id w (at_inside s.views id v at), kept)
         | inr poked ↦ inr poked
       ])
@@ -151,7 +152,7 @@ module _ {K : Type 0} where
     -- One seat steps. Each process that was blocked stays blocked, is noted, or was poked; and what the seat itself parks, holds or counts is told.
     pub wakes-keep : (s : St K) (g g' : Beside K) (ws' : List ℕ) (hs' : Homes K) (id : ℕ) (v w : View K) → Wakes start s g → get_elem? s.views id ≡ some v → IsWiredAs start g'.now
         → get_or ws' L 0 ≡ live_in P ws' + sum_by (λ (x : View K). x.spare) (set s.views id w) → w.shares ≡ v.shares → (get_or s.words L 0 ≡ 0 → get_or ws' L 0 ≡ 0) → Keeps (get_or ws' L 0) w
-        → ((q : ℕ) → InList q v.noted → InList q w.noted ⊎ (1 < get_or ws' q 0))
+        → ((q : ℕ) → Contains v.noted q → Contains w.noted q ⊎ (1 < get_or ws' q 0))
         → ((q : ℕ) (b : BodyValue K) → slice_get g.now.bodies q ≡ Some b → Calm P b s.words ws' ⊎ IsNoted (set s.views id w) q)
         → ((q : ℕ) (b : BodyValue K) → slice_get g'.now.bodies q ≡ Some b → get_or ws' q 0 ≡ 0 → ((get_or s.words q 0 ≡ 0) × (slice_get g.now.bodies q ≡ Some b)) ⊎ (IsThoughtStage b.process.stage × (WordsBlock P start.channels ws' b b.process.stage ⊎ IsNoted (set s.views id w) q)))
         → ((q : ℕ) (b : BodyValue K) → w.held ≡ Some (q, b) → get_or ws' q 0 ≡ 1 → AllBlock P start.channels ws' b w.seen ⊎ IsNoted (set s.views id w) q)

@@ -1,17 +1,14 @@
 -- Each kind of step keeps the second half of the rule.
-use Rattle.std.proofs.Common.{◌≡◌, ◌≢◌, ℕ, zero, suc, ◌+◌, ◌<◌, ◌≤◌, Bool, true, List, [], ◌∷◌, length, get_or, set, sym, refl, ap, ◌∙◌, subst, arith, Option, Some, None, slice_get, slice_set, length-set, get_or-set_other, get_or-set_same, ◌⊎◌, inl, inr}
+use Rattle.std.proofs.Common.{◌≡◌, ◌≢◌, ℕ, zero, suc, ◌+◌, ◌<◌, ◌≤◌, true, List, [], ◌∷◌, length, get_or, set, sym, refl, ap, ◌∙◌, subst, arith, Option, Some, None, slice_get, slice_set, length-set, get_or-set_other, get_or-set_same, ◌⊎◌, inl, inr, Contains}
 use Rattle.std.specs.Prelude.{option_and_then}
 use mathlib.Core.Option.{some, some-injective}
 use lib.ListN.{get_elem?}
 use Rattle.atomic_table.proofs.Lists.{set_here, set_else}
-use Rattle.flow_packet.specs.Held.{Held}
-use Rattle.flow_component.specs.declared.Answer.{Answer}
-use Rattle.flow_component.specs.declared.Shape.{Shape}
-use Rattle.flow_component.specs.Laws.{Outcome, Obeys, StaysReady, IsSteady}
+use Rattle.flow_component.specs.Laws.{Rules, Lawful}
 use Rattle.flow_model.specs.States.{Input, From, Text, output_at}
-use Rattle.flow_model.specs.Events.{Event, Starts, Finishes, Gets, Takes_text, Hears_end, Sends, Learns, Sleeps, Closes, Signals}
-use Rattle.flow_model.specs.Schedules.{IsThoughtStage}
-use Rattle.flow_model.specs.Stands.{ChannelShown, shown_after, all_shown_after}
+use Rattle.flow_model.specs.Events.{Event}
+use Rattle.flow_model.specs.Stages.{IsThoughtStage}
+use Rattle.flow_model.specs.Stands.{ChannelShown, all_shown_after, shown_changed}
 use Rattle.flow_model.proofs.Lists.{slice_get-set_same, slice_get-set_other, same_or_not}
 use Rattle.flow_model.proofs.Order.{inputs-after, outputs-after, signal-after}
 use Rattle.flow_machine.specs.Values.{BodyValue, NetValue}
@@ -20,12 +17,18 @@ use Rattle.flow_machine.proofs.FitLemmas.{same-turns, channels-len}
 use Rattle.flow_ring.specs.Words.{level_in, senders_in}
 use Rattle.flow_floor.specs.declared.board.View.{View}
 use Rattle.flow_floor.specs.declared.board.Look.{Look}
-use Rattle.flow_floor.specs.Law.{IsTaken, IsFree, IsInput, Rests, Stands, Holds, Beside, Flow}
+use Rattle.flow_floor.specs.Law.{IsTaken, IsFree, Rests, Stands, Holds, Beside, Flow}
+use Rattle.flow_floor.specs.Wired.{IsInput, IsOutput}
 use Rattle.flow_floor.specs.Turning.{turned_body, with_body, turned_net}
-use Rattle.flow_floor.specs.Waking.{counts, live_in, InList, IsOutput, IsNoted, WordsBlock, StillBlocks, AllBlock, IsWiredAs, Keeps, Notes, Wakes}
+use Rattle.flow_floor.specs.Waking.{counts, live_in, IsNoted, WordsBlock, StillBlocks, AllBlock, IsWiredAs, Keeps, Notes, Wakes}
+use Rattle.flow_floor.proofs.Numbers.{contains-none, contains-cases}
 use Rattle.flow_floor.proofs.Seats.{at_inside, some_Some, get-exists, get-within, St, Homes, state}
-use Rattle.flow_floor.proofs.Channels.{SameInputs, input-same, changed-get}
+use Rattle.flow_floor.proofs.Channels.{SameInputs, input-same}
 use Rattle.flow_floor.proofs.Wakes.{live-set, live-other, total_set, Calm, block-calm, still-calm, calm-same, wakes-keep}
+use Rattle.flow_model.specs.Turns.{change_of}
+use Rattle.flow_model.proofs.Changes.{get-one}
+use Rattle.flow_model.proofs.Moves.{capacity-shown}
+use Rattle.flow_model.proofs.Stages.{same-found}
 
 taken-counts : (w : ℕ) → IsTaken w → counts w ≡ 1
 taken-counts w (inl e) = ap counts e
@@ -42,34 +45,18 @@ free-other w (inr (inr (inl e))) z = omega (arith, e, z)
 free-other w (inr (inr (inr e))) z = omega (arith, e, z)
 
 capacity-after : (e : Event) (cs : List ChannelShown) (c : ℕ) (k k' : ChannelShown) → slice_get cs c ≡ Some k → slice_get (all_shown_after e cs) c ≡ Some k' → k'.capacity ≡ k.capacity
-capacity-after e cs c k k' at at' = by e at'
-  where
-    same : slice_get cs c ≡ Some k' → k'.capacity ≡ k.capacity
-    same at' = ap (λ (x : ChannelShown). x.capacity) (some_Some k' k (sym at' ∙ at))
+capacity-after e cs c k k' at at' =
+    let was = get-one shown_changed cs (change_of e) c k' at' in
+    let same : was.0.capacity ≡ k.capacity = ap (λ (x : ChannelShown). x.capacity) (same-found (sym was.1 ∙ at)) in
+    elim was.2 [
+      | inl still ↦ ap (λ (x : ChannelShown). x.capacity) still ∙ same
+      | inr change ↦ ap (λ (x : ChannelShown). x.capacity) change.3 ∙ capacity-shown change.0.change was.0 ∙ same
+    ]
 
-    changed : (d : ℕ) (f : ChannelShown → ChannelShown) → ((x : ChannelShown) → (f x).capacity ≡ x.capacity) → ((d ≡ c) × (k' ≡ f k)) ⊎ (k' ≡ k) → k'.capacity ≡ k.capacity
-    changed d f keeps (inl here) = ap (λ (x : ChannelShown). x.capacity) here.1 ∙ keeps k
-    changed d f keeps (inr same) = ap (λ (x : ChannelShown). x.capacity) same
-
-    by : (e : Event) → slice_get (all_shown_after e cs) c ≡ Some k' → k'.capacity ≡ k.capacity
-    by (Gets port d packet) is = changed d (shown_after (Gets port d packet)) (λ x. refl) (changed-get cs d c (shown_after (Gets port d packet)) k k' at is)
-    by (Sends port d packet) is = changed d (shown_after (Sends port d packet)) (λ x. refl) (changed-get cs d c (shown_after (Sends port d packet)) k k' at is)
-    by (Closes output d) is = changed d (shown_after (Closes output d)) (λ x. refl) (changed-get cs d c (shown_after (Closes output d)) k k' at is)
-    by (Signals d packet) is = changed d (shown_after (Signals d packet)) (λ x. refl) (changed-get cs d c (shown_after (Signals d packet)) k k' at is)
-    by Starts is = same is
-    by Finishes is = same is
-    by (Takes_text port text) is = same is
-    by (Hears_end port) is = same is
-    by (Learns port level) is = same is
-    by Sleeps is = same is
-
-module _ {K : Type 0} (shape_of : K → Shape) (uses : K → ℕ → Bool) (ready : K → Held → Answer → Type 0) (next : K → Held → Answer → Outcome K → Type 0)
-    (obeys : (component : K) (held : Held) (answer : Answer) (outcome : Outcome K) → ready component held answer → next component held answer outcome → Obeys (shape_of component) (uses component) held outcome)
-    (stays : (component : K) (held : Held) (answer : Answer) (outcome : Outcome K) → ready component held answer → next component held answer outcome → StaysReady ready outcome)
-    (steady : (component : K) (held : Held) (answer : Answer) (outcome : Outcome K) → next component held answer outcome → IsSteady shape_of uses component outcome)
+module _ {K : Type 0} (rules : Rules K) (lawful : Lawful rules)
     (start : NetValue K) where
   abbrev F : St K → Beside K → Type 0
-  F s g = Flow shape_of uses ready next start s g
+  F s g = Flow rules start s g
 
   abbrev W : St K → Beside K → Type 0
   W s g = Wakes start s g
@@ -143,17 +130,17 @@ module _ {K : Type 0} (shape_of : K → Shape) (uses : K → ℕ → Bool) (read
       here q x same is = some_Some d x (sym (slice_get-set_same now.bodies p b d there) ∙ ap (slice_get (slice_set now.bodies p d)) (sym same) ∙ is)
 
   -- the work that was to come is in the list
-  pub wakes-commit : (s : St K) (g : Beside K) (id p : ℕ) (v w : View K) (b d : BodyValue K) → F s g → W s g → get_elem? s.views id ≡ some v → v.held ≡ Some (p, b) → Rests next b d
+  pub wakes-commit : (s : St K) (g : Beside K) (id p : ℕ) (v w : View K) (b d : BodyValue K) → F s g → W s g → get_elem? s.views id ≡ some v → v.held ≡ Some (p, b) → Rests rules b d
       → w.held ≡ Some (p, d) → w.shares ≡ v.shares → w.spare ≡ v.spare → w.noted ≡ v.noted → w.read_zero ≡ v.read_zero → w.seen ≡ v.seen → W (state s.words s.homes (set s.views id w)) (record g { now = with_body g.now p d })
   wakes-commit s g id p v w b d f k at holds r held shares spare noted zeros seen =
       let mine = holds-of s g id p v b f at holds in
-      let same = same-turns shape_of uses ready next obeys stays steady b d r.0 in
+      let same = same-turns rules lawful b d r.0 in
       let taken = word-taken s g id p v b f at holds in
       let ks = k.each id v at in
       wakes-keep start s g (record g { now = with_body g.now p d }) s.words s.homes id v w k at (wired-body g.now p b d mine.1 same.1 same.2 same.3 k.wired g.now.channels k.wired.capacities)
       (omega (arith, k.live, total_set (λ (x : View K). x.spare) s.views id v w at, spare)) shares (λ z. z)
       (keeps-held (get_or s.words L 0) p d w held (omega (arith, ks.spare, spare, shares)) (λ z. ks.zero (sym zeros ∙ z)) (has-share (get_or s.words L 0) p b v w ks holds shares))
-      (λ q there. inl (subst (InList q) (sym noted) there)) (λ q x there. inl (calm-all s.words s.words (λ c. refl) x))
+      (λ q there. inl (subst (λ (xs : List ℕ). Contains xs q) (sym noted) there)) (λ q x there. inl (calm-all s.words s.words (λ c. refl) x))
       (λ q x is empty. inl (empty, sym (slice_get-set_other g.now.bodies p q d (λ e. taken-some (get_or s.words p 0) taken (ap (λ n. get_or s.words n 0) (sym e) ∙ empty))) ∙ is))
       (λ q x is one.
       (let e : Some (p, d) ≡ Some (q, x) = sym held ∙ is in
@@ -169,7 +156,7 @@ module _ {K : Type 0} (shape_of : K → Shape) (uses : K → ℕ → Bool) (read
       noted-same : (s : St K) (id q : ℕ) (v w : View K) → get_elem? s.views id ≡ some v → w.noted ≡ v.noted → IsNoted s.views q → IsNoted (set s.views id w) q
       noted-same s id q v w at noted (j, u, u_at, there) = elim (same_or_not j id) [
         | inl e ↦ (let was : u ≡ v = some-injective u v (sym u_at ∙ (ap (get_elem? s.views) e ∙ at)) in
-            (id, w, set_here s.views id w (at_inside s.views id v at), subst (InList q) (sym noted) (subst (λ (x : View K). InList q x.noted) was there)))
+            (id, w, set_here s.views id w (at_inside s.views id v at), subst (λ (xs : List ℕ). Contains xs q) (sym noted) (subst (λ (x : View K). Contains x.noted q) was there)))
         | inr other ↦ (j, u, set_else s.views id j w other ∙ u_at, there)
       ]
 
@@ -189,7 +176,7 @@ module _ {K : Type 0} (shape_of : K → Shape) (uses : K → ℕ → Bool) (read
       wakes-keep start s g (record g { holder = h' }) ws' hs' id v w k at k.wired
       (omega (arith, same_live, k.live, live, old, now1, total_set (λ (x : View K). x.spare) s.views id v w at, spare)) shares (λ z. same_live ∙ z)
       (keeps-held (get_or ws' L 0) p b w held (omega (arith, ks.spare, spare, shares)) (λ z. same_live ∙ ks.zero (sym zeros ∙ z)) (λ e. omega (arith, e, shares, share)))
-      (λ q in_it. inl (subst (InList q) (sym noted) in_it)) (λ q x is. inl (calm-all s.words ws' (λ c. get_or-set_other s.words p (P + c) 1 0 (λ e. omega arith)) x))
+      (λ q in_it. inl (subst (λ (xs : List ℕ). Contains xs q) (sym noted) in_it)) (λ q x is. inl (calm-all s.words ws' (λ c. get_or-set_other s.words p (P + c) 1 0 (λ e. omega arith)) x))
       (λ q x is empty. inl (sym (get_or-set_other s.words p q 1 0 (λ e. absurd (let a : 1 ≡ 0 = sym here ∙ ap (λ n. get_or ws' n 0) (sym e) ∙ empty in omega (arith, a)))) ∙ empty, is))
       (λ q x is one. inl (subst (AllBlock P start.channels ws' x) (sym seen) tt))
       (λ j q u x other u_at u_holds one.
@@ -213,7 +200,7 @@ module _ {K : Type 0} (shape_of : K → Shape) (uses : K → ℕ → Bool) (read
       wakes-keep start s g (record g { holder = h' }) ws' hs' id v w k at k.wired
       (omega (arith, same_live, k.live, live, old, total_set (λ (x : View K). x.spare) s.views id v w at, spare)) shares (λ z. same_live ∙ z)
       (record { spare = few; noted = λ e. noted; zero = λ z. same_live ∙ ks.zero (sym zeros ∙ z); bare = λ e. absurd (has-share (get_or s.words L 0) p b v w ks holds shares e) })
-      (λ q in_it. absurd (subst (InList q) empties in_it)) (λ q x is. inl (calm x))
+      (λ q in_it. absurd (contains-none q (subst (λ (xs : List ℕ). Contains xs q) empties in_it))) (λ q x is. inl (calm x))
       (λ q x is empty. elim (same_or_not q p) [
         | inl same ↦ (let xb : b ≡ x = some_Some b x (sym mine.1 ∙ ap (slice_get g.now.bodies) (sym same) ∙ is) in
             let no_y : y ≡ 0 = sym here ∙ ap (λ n. get_or ws' n 0) (sym same) ∙ empty in
@@ -232,7 +219,7 @@ module _ {K : Type 0} (shape_of : K → Shape) (uses : K → ℕ → Bool) (read
     where
       others-note : (s : St K) (id q : ℕ) (v w : View K) → get_elem? s.views id ≡ some v → v.noted ≡ [] → IsNoted s.views q → IsNoted (set s.views id w) q
       others-note s id q v w at empties (j, u, u_at, there) = elim (same_or_not j id) [
-        | inl e ↦ (let was : u ≡ v = some-injective u v (sym u_at ∙ (ap (get_elem? s.views) e ∙ at)) in absurd (subst (InList q) empties (subst (λ (x : View K). InList q x.noted) was there)))
+        | inl e ↦ (let was : u ≡ v = some-injective u v (sym u_at ∙ (ap (get_elem? s.views) e ∙ at)) in absurd (contains-none q (subst (λ (xs : List ℕ). Contains xs q) empties (subst (λ (x : View K). Contains x.noted q) was there))))
         | inr other ↦ (j, u, set_else s.views id j w other ∙ u_at, there)
       ]
 
@@ -248,9 +235,9 @@ module _ {K : Type 0} (shape_of : K → Shape) (uses : K → ℕ → Bool) (read
       input-below g q c x f wires there (inr z) = wires.signals q c x there z
 
   -- notes that a seat keeps
-  pub notes-kept : (s : St K) (id q : ℕ) (v w : View K) → get_elem? s.views id ≡ some v → (InList q v.noted → InList q w.noted) → IsNoted s.views q → IsNoted (set s.views id w) q
+  pub notes-kept : (s : St K) (id q : ℕ) (v w : View K) → get_elem? s.views id ≡ some v → (Contains v.noted q → Contains w.noted q) → IsNoted s.views q → IsNoted (set s.views id w) q
   notes-kept s id q v w at keep (j, u, u_at, there) = elim (same_or_not j id) [
-    | inl e ↦ (let was : u ≡ v = some-injective u v (sym u_at ∙ (ap (get_elem? s.views) e ∙ at)) in (id, w, set_here s.views id w (at_inside s.views id v at), keep (subst (λ (x : View K). InList q x.noted) was there)))
+    | inl e ↦ (let was : u ≡ v = some-injective u v (sym u_at ∙ (ap (get_elem? s.views) e ∙ at)) in (id, w, set_here s.views id w (at_inside s.views id v at), keep (subst (λ (x : View K). Contains x.noted q) was there)))
     | inr other ↦ (j, u, set_else s.views id j w other ∙ u_at, there)
   ]
 
@@ -265,7 +252,7 @@ module _ {K : Type 0} (shape_of : K → Shape) (uses : K → ℕ → Bool) (read
   -- only what the seat knows changes, and words that keep the levels and the process words
   pub wakes-view : (s : St K) (g g' : Beside K) (ws' : List ℕ) (hs' : Homes K) (id : ℕ) (v w : View K) → F s g → W s g → get_elem? s.views id ≡ some v → g'.now ≡ g.now
       → ((q : ℕ) → q < P → get_or ws' q 0 ≡ get_or s.words q 0) → live_in P ws' ≡ live_in P s.words → ((c : ℕ) → c < C → (level_in (get_or ws' (P + c) 0) ≡ level_in (get_or s.words (P + c) 0)) × (senders_in (get_or ws' (P + c) 0) ≡ senders_in (get_or s.words (P + c) 0)))
-      → get_or ws' L 0 + v.spare ≡ get_or s.words L 0 + w.spare → (get_or s.words L 0 ≡ 0 → get_or ws' L 0 ≡ 0) → w.held ≡ v.held → w.shares ≡ v.shares → Keeps (get_or ws' L 0) w → ((q : ℕ) → InList q v.noted → InList q w.noted)
+      → get_or ws' L 0 + v.spare ≡ get_or s.words L 0 + w.spare → (get_or s.words L 0 ≡ 0 → get_or ws' L 0 ≡ 0) → w.held ≡ v.held → w.shares ≡ v.shares → Keeps (get_or ws' L 0) w → ((q : ℕ) → Contains v.noted q → Contains w.noted q)
       → ((q : ℕ) (b : BodyValue K) → v.held ≡ Some (q, b) → AllBlock P start.channels ws' b v.seen → AllBlock P start.channels ws' b w.seen) → W (state ws' hs' (set s.views id w)) g'
   wakes-view s g g' ws' hs' id v w f k at now same counted levels live zeros held shares mine notes seen =
       wakes-keep start s g g' ws' hs' id v w k at (subst (IsWiredAs start) (sym now) k.wired) (omega (arith, live, counted, k.live, total_set (λ (x : View K). x.spare) s.views id v w at)) shares zeros mine
@@ -296,7 +283,7 @@ module _ {K : Type 0} (shape_of : K → Shape) (uses : K → ℕ → Bool) (read
       (λ c x x0 is is0. (let old = get-exists g.now.channels c (omega (arith, get-within (all_shown_after e g.now.channels) c x is, channels-len e g.now.channels)) in capacity-after e g.now.channels c old.0 x old.1 is ∙ k.wired.capacities c old.0 x0 old.1 is0))))
       (omega (arith, same_live, k.live, live-other P i y s.words (omega arith), total_set (λ (x : View K). x.spare) s.views id v w at, spare)) shares (λ z. same_live ∙ z)
       (keeps-held (get_or ws' L 0) p d w held (omega (arith, ks.spare, spare, shares)) (λ z. same_live ∙ ks.zero (sym zeros ∙ z)) (has-share (get_or s.words L 0) p b v w ks holds shares))
-      (λ q there. inl (subst (InList q) (sym noted) there)) (λ q x is. inl (calm-in s g q x ws' f k.wired is (λ c below. (let same = get_or-set_other s.words i (P + c) y 0 (λ e. omega arith) in (ap level_in same, ap senders_in same)))))
+      (λ q there. inl (subst (λ (xs : List ℕ). Contains xs q) (sym noted) there)) (λ q x is. inl (calm-in s g q x ws' f k.wired is (λ c below. (let same = get_or-set_other s.words i (P + c) y 0 (λ e. omega arith) in (ap level_in same, ap senders_in same)))))
       (λ q x is empty.
       (let is' : slice_get (slice_set g.now.bodies p d) q ≡ Some x = ap (λ (n : NetValue K). slice_get n.bodies q) (sym now) ∙ is in
       let below : q < P = omega (arith, get-within (slice_set g.now.bodies p d) q x is', length-set g.now.bodies p d, f.same.0) in
@@ -372,7 +359,7 @@ module _ {K : Type 0} (shape_of : K → Shape) (uses : K → ℕ → Bool) (read
 
   -- a connection is released, and those whom that may unblock are noted
   pub wakes-release : (s : St K) (g g' : Beside K) (id p c y : ℕ) (hs' : Homes K) (v w : View K) (b : BodyValue K) → F s g → W s g → get_elem? s.views id ≡ some v → v.held ≡ Some (p, b) → c < C → g'.now ≡ g.now
-      → w.held ≡ v.held → w.shares ≡ v.shares → w.spare ≡ v.spare → w.read_zero ≡ v.read_zero → w.seen ≡ v.seen → ((q : ℕ) → InList q v.noted → InList q w.noted) → Notes start c (get_or s.words (P + c) 0) y w.noted
+      → w.held ≡ v.held → w.shares ≡ v.shares → w.spare ≡ v.spare → w.read_zero ≡ v.read_zero → w.seen ≡ v.seen → ((q : ℕ) → Contains v.noted q → Contains w.noted q) → Notes start c (get_or s.words (P + c) 0) y w.noted
       → W (state (set s.words (P + c) y) hs' (set s.views id w)) g'
   wakes-release s g g' id p c y hs' v w b f k at holds below now held shares spare zeros seen keep notes =
       let i : ℕ = P + c in
@@ -400,7 +387,7 @@ module _ {K : Type 0} (shape_of : K → Shape) (uses : K → ℕ → Bool) (read
       ]))
       (λ j q u x other u_at u_holds one. (let h = holds-of s g j q u x f u_at u_holds in (sym (word q (body-below s g q x f h.1)) ∙ one, h.1)))
     where
-      note-by : (q : ℕ) → InList q w.noted → IsNoted (set s.views id w) q
+      note-by : (q : ℕ) → Contains w.noted q → IsNoted (set s.views id w) q
       note-by q there = (id, w, set_here s.views id w (at_inside s.views id v at), there)
 
       -- where the connection is no input and no output, or its word blocks as before
@@ -456,7 +443,7 @@ module _ {K : Type 0} (shape_of : K → Shape) (uses : K → ℕ → Bool) (read
       wakes-keep start s g g' ws' hs' id v w k at (subst (IsWiredAs start) (sym now) k.wired)
       (omega (arith, same_live, k.live, live, total_set (λ (x : View K). x.spare) s.views id v w at, spare)) shares (λ z. same_live ∙ z)
       (keeps-held (get_or ws' L 0) p b w held' few (λ z. same_live ∙ ks.zero (sym zeros ∙ z)) (has-share (get_or s.words L 0) p b v w ks holds shares))
-      (λ x there. elim (subst (InList x) noted there) [
+      (λ x there. elim (contains-cases x q w.noted (subst (λ (xs : List ℕ). Contains xs x) noted there)) [
         | inl e ↦ inr (subst (λ m. 1 < get_or ws' m 0) (sym e) (subst (λ m. 1 < m) (sym here) high))
         | inr rest ↦ inl rest
       ])
@@ -466,7 +453,7 @@ module _ {K : Type 0} (shape_of : K → Shape) (uses : K → ℕ → Bool) (read
       (let other = not_q x 1 (omega arith) one in
       elim (k.held id x v z at (sym held ∙ is) (sym (get_or-set_other s.words q x y 0 other) ∙ one)) [
         | inl all ↦ inl (subst (AllBlock P start.channels ws' z) (sym seen) (still-calm P start.channels s.words ws' z v.seen (calm z) all))
-        | inr note ↦ inr (notes-kept s id x v w at (λ there. elim (subst (InList x) noted there) [
+        | inr note ↦ inr (notes-kept s id x v w at (λ there. elim (contains-cases x q w.noted (subst (λ (xs : List ℕ). Contains xs x) noted there)) [
           | inl e ↦ absurd (other e)
           | inr rest ↦ rest
         ]) note)

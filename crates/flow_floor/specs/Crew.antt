@@ -3,7 +3,7 @@ use Rattle.flow_limits.specs.declared.TheConstants.{WORKER_LIMIT}
 use Rattle.std.specs.Prelude.{◌≡◌, ℕ, List, [], ◌∷◌, All, sum_by}
 use Rattle.atomic_table.specs.Seated.{TableId}
 use Rattle.flow_floor.specs.declared.floor.Worker.{Worker}
-use Rattle.flow_floor.specs.Plays.{merge}
+use Rattle.flow_floor.specs.Made.{merge}
 use Rattle.flow_floor.specs.Workers.{IsIdle}
 
 -- Idle workers of this floor, which have all its shares.

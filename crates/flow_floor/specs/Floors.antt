@@ -1,11 +1,11 @@
 -- What callers of other crates say of a floor, its workers and what they hold.
-use Rattle.std.specs.Prelude.{◌≡◌, ℕ, Bool, true, false, List, []}
+use Rattle.std.specs.Prelude.{◌≡◌, ℕ, true, false, List, []}
 use Rattle.std.specs.List.{list_any}
-use Rattle.flow_packet.specs.Held.{Held as Hands}
-use Rattle.flow_component.specs.declared.Answer.{Answer}
-use Rattle.flow_component.specs.declared.Shape.{Shape}
-use Rattle.flow_component.specs.Laws.{Outcome}
-use Rattle.flow_machine.specs.Values.{NetValue}
+use Rattle.flow_component.specs.Laws.{Rules}
+use Rattle.flow_model.specs.Events.{Event}
+use Rattle.flow_model.specs.Stands.{ChannelShown}
+use Rattle.flow_machine.specs.Nets.{BodyTurn}
+use Rattle.flow_machine.specs.Values.{BodyValue, NetValue}
 use Rattle.flow_machine.specs.declared.answers.Over.{Over}
 use Rattle.flow_floor.specs.declared.floor.Floor.{Floor}
 use Rattle.flow_floor.specs.declared.floor.Held.{Held}
@@ -13,10 +13,14 @@ use Rattle.flow_floor.specs.declared.floor.Turned.{Turned}
 use Rattle.flow_floor.specs.declared.floor.Worker.{Worker}
 use Rattle.flow_floor.specs.declared.rooms.Rooms.{Rooms}
 use Rattle.flow_floor.specs.Crew.{IsCrew}
-use Rattle.flow_floor.specs.Law.{IsWiredIn}
+use Rattle.flow_floor.specs.Wired.{IsWiredIn}
 use Rattle.flow_floor.specs.Rooms.{HasRooms}
+use Rattle.flow_floor.specs.Made.{Below}
+use Rattle.flow_floor.specs.Views.{stamping}
+use Rattle.flow_floor.specs.Turning.{MachineTurn}
 use Rattle.flow_floor.specs.Turns.{Turns}
-use Rattle.flow_floor.specs.Workers.{view, IsIdle, IsHeldBy, IsSameSeat, RetiresAs, SeenBlocks}
+use Rattle.flow_floor.specs.Waking.{capacity_at}
+use Rattle.flow_floor.specs.Workers.{view, IsDone, IsGrabbing, IsHeldBy, IsIdle, IsSameSeat, IsWaking, RetiresAs, SeenBlocks}
 
 module _ {K : Type 0} where
   -- The net with which the floor was opened.
@@ -60,8 +64,24 @@ module _ {K : Type 0} where
   IsCrewOf f ws = IsCrew f.table.shared.table_id ws
 
   -- The worker is one of this floor's, and holds this body and nothing else.
-  abbrev pub IsHeldAt : (K → Hands → Answer → Outcome K → Type 0) → Floor K → Worker K → Held K → Type 0
-  IsHeldAt next f w h = IsHeldBy next f.table.shared.table_id (process_count f) w h
+  abbrev pub IsHeldAt : Rules K → Floor K → Worker K → Held K → Type 0
+  IsHeldAt rules f w h = IsHeldBy rules f.table.shared.table_id (process_count f) w h
+
+  -- It holds connection `c` too, whose channel is `k`.
+  abbrev pub IsGrabbingAt : Rules K → Floor K → Worker K → Held K → ℕ → ChannelShown → Type 0
+  IsGrabbingAt rules f w h c k = IsGrabbing rules f.table.shared.table_id (process_count f) w h c k
+
+  -- It holds this body, and has still to wake these processes.
+  abbrev pub IsWakingAt : Rules K → Floor K → Worker K → Held K → List ℕ → Type 0
+  IsWakingAt rules f w h notes = IsWaking rules f.table.shared.table_id (process_count f) w h notes
+
+  -- The worker is one of this floor's, and holds nothing but so many tokens.
+  abbrev pub IsDoneAt : Floor K → Worker K → ℕ → Type 0
+  IsDoneAt f w tokens = IsDone f.table.shared.table_id w tokens
+
+  -- The capacity of this connection.
+  abbrev pub capacity_of : Floor K → ℕ → ℕ
+  capacity_of f c = capacity_at (opened_net f).channels c
 
   -- Each connection at a port of the held body, the automatic ports too, is one of this floor's.
   abbrev pub IsWiredAt : Floor K → Held K → Type 0
@@ -73,8 +93,8 @@ module _ {K : Type 0} where
   IsStuckAt f w h = SeenBlocks (opened_net f) h.body (view w).seen
 
   -- What a call for a turn tells, where the worker and the body that it holds were `w` and `h`, and now are `w'` and `h'`.
-  abbrev pub TurnsAt : (K → Shape) → (K → ℕ → Bool) → (K → Hands → Answer → Type 0) → (K → Hands → Answer → Outcome K → Type 0) → Floor K → Held K → Worker K → Held K → Worker K → Turned → Type 0
-  TurnsAt shape_of uses ready next f h w h' w' turned = Turns shape_of uses ready next (process_count f) (opened_net f) h w h' w' turned
+  abbrev pub TurnsAt : Rules K → Floor K → Held K → Worker K → Held K → Worker K → Turned → Type 0
+  TurnsAt rules f h w h' w' turned = Turns rules (process_count f) (opened_net f) h w h' w' turned
 
   -- The held body may be retired so: its process has ended, or has failed, or its last thought found no memory.
   abbrev pub IsOverAs : Over → Held K → Type 0
@@ -87,3 +107,16 @@ module _ {K : Type 0} where
   -- It has the same share, and has read 0 just where it had before.
   abbrev pub IsSameWorker : Worker K → Worker K → Type 0
   IsSameWorker old new = IsSameSeat (view old) (view new)
+
+  -- What a stamp is told of its turn: what the held body is, and the net that was opened.
+  abbrev pub IsDeedOf : Floor K → Held K → (BodyValue K → BodyValue K) → NetValue K → Type 0
+  IsDeedOf f h after start = ((b : BodyValue K) → after b ≡ h.body) × (start ≡ opened_net f)
+
+  -- A turn was stamped: the held body made it, and it is the machine's turn of this stamp, which is above all stamps of its worker; and the worker knows
+  -- of it, and of nothing else that is new.
+  pub record StampsTurn (rules : Rules K) (f : Floor K) (h : Held K) (w : Worker K) (h' : Held K) (w' : Worker K) (event : Event) (after : BodyValue K → BodyValue K) (stamp : ℕ) : Type 0 where
+    pub process : h'.process ≡ h.process
+    pub body : BodyTurn h.body event stamp h'.body
+    pub machine : MachineTurn rules (opened_net f) stamp h.process h.body event
+    pub above : Below stamp (turns_of w)
+    pub view : view w' ≡ stamping (view w) stamp event after

@@ -1,24 +1,23 @@
 -- The rule of the table.
-use Rattle.std.specs.Prelude.{◌≡◌, ℕ, ◌+◌, ◌<◌, ◌≤◌, ◌⊎◌, ◌==◌, List, [], ◌∷◌, length, slice_index, slice_get, Option, Some, None, Bool, if◌then◌else◌}
+use Rattle.std.specs.Prelude.{◌≡◌, ℕ, ◌+◌, ◌<◌, ◌≤◌, ◌⊎◌, List, [], ◌∷◌, length, slice_index, slice_get, Option, Some, None, All}
+use Rattle.flow_ring.specs.declared.TheConstants.{FIELD}
 use mathlib.Core.Option.{some}
 use lib.ListN.{get_elem?}
 use Rattle.atomic_table.specs.Table.{State}
-use Rattle.flow_packet.specs.Held.{Held}
-use Rattle.flow_component.specs.declared.Answer.{Answer}
-use Rattle.flow_component.specs.declared.Shape.{Shape}
-use Rattle.flow_component.specs.Laws.{Outcome}
-use Rattle.flow_model.specs.States.{From, output_at}
+use Rattle.flow_component.specs.Laws.{Rules}
 use Rattle.flow_model.specs.Stands.{ChannelShown}
 use Rattle.flow_machine.specs.Values.{BodyValue, NetValue}
 use Rattle.flow_machine.specs.Logs.{Logged, turns_made}
 use Rattle.flow_machine.specs.FitNets.{FitNet}
 use Rattle.flow_machine.specs.Solo.{GoesBy, reached}
 use Rattle.flow_machine.specs.Thoughts.{SameBody, WorkedBody, KeepsTurns}
-use Rattle.flow_ring.specs.Words.{free_word, held_bit, level_in, senders_in}
+use Rattle.flow_ring.specs.Words.{free_word, held_bit, level_in, senders_in, free_limit}
 use Rattle.flow_floor.specs.declared.board.Slot.{Slot}
 use Rattle.flow_floor.specs.declared.board.Slot.TheVariants as slot
 use Rattle.flow_floor.specs.declared.board.View.{View}
 use Rattle.flow_floor.specs.declared.board.Look.{Look}
+use Rattle.flow_floor.specs.Made.{turns_by}
+use Rattle.flow_floor.specs.Wired.{IsInput, Receives}
 
 -- A process word that says that some seat holds the process, and one that says that none does.
 abbrev pub IsTaken : ℕ → Type 0
@@ -28,46 +27,15 @@ IsTaken w = (w ≡ 1) ⊎ (w ≡ 3)
 abbrev pub IsFree : ℕ → Type 0
 IsFree w = (w ≡ 0) ⊎ ((w ≡ 2) ⊎ ((w ≡ 4) ⊎ (w ≡ 6)))
 
--- The turns of seat j, each with its stamp and its process, where these are the seats of the turns and the first stamp is n.
-abbrev pub turns_by : ℕ → ℕ → List ℕ → List Logged → List (ℕ × ℕ)
-turns_by j n [] log = []
-turns_by j n (i ∷ seats) [] = []
-turns_by j n (i ∷ seats) (turn ∷ log) = if j == i then (n, turn.process) ∷ turns_by j (n + 1) seats log else turns_by j (n + 1) seats log
-
--- All of these turns, the first of which has stamp n, each with its stamp and its process.
-abbrev pub numbered : ℕ → List Logged → List (ℕ × ℕ)
-numbered n [] = []
-numbered n (turn ∷ log) = (n, turn.process) ∷ numbered (n + 1) log
-
--- Each of these numbers is below m.
-abbrev pub AllBelow : ℕ → List ℕ → Type 0
-AllBelow m [] = Unit {0}
-AllBelow m (j ∷ js) = (j < m) × AllBelow m js
-
 -- Nothing is in the connection, and no sender is open.
 abbrev pub IsOver : ChannelShown → Type 0
 IsOver k = (length k.packets ≡ 0) × (k.open_senders ≡ 0)
 
 -- The body is this one, or comes of it by the work that was still to come. Its turns stay.
-abbrev pub Rests : {K : Type 0} → (K → Held → Answer → Outcome K → Type 0) → BodyValue K → BodyValue K → Type 0
-Rests next old new = (SameBody old new ⊎ WorkedBody next old new) × KeepsTurns old new
+abbrev pub Rests : {K : Type 0} → Rules K → BodyValue K → BodyValue K → Type 0
+Rests rules old new = (SameBody old new ⊎ WorkedBody rules old new) × KeepsTurns old new
 
 module _ {K : Type 0} where
-  -- The connection is an input of the process: one of its stream inputs, or its automatic input.
-  abbrev pub IsInput : BodyValue K → ℕ → Type 0
-  IsInput b c = ((i : ℕ) × (slice_get b.process.inputs i ≡ Some (From c))) ⊎ (b.process.signal ≡ Some c)
-
-  -- Each connection that a body has at a port is there, the one at its automatic input too.
-  pub record IsWiredIn (channels : ℕ) (b : BodyValue K) : Type 0 where
-    pub inputs : (i c : ℕ) → slice_get b.process.inputs i ≡ Some (From c) → c < channels
-    pub outputs : (o c : ℕ) → output_at b.process o ≡ Some c → c < channels
-    pub signal : (c : ℕ) → b.process.signal ≡ Some c → c < channels
-
-  -- The process that is held receives from the connection.
-  abbrev pub Receives : Option (ℕ × BodyValue K) → ℕ → Type 0
-  Receives None c = ⊥
-  Receives (Some held) c = IsInput held.1 c
-
   -- Bodies. A process that no seat holds has its body at home. That of a held one is with the seat, which knows what the machine has of it.
   abbrev pub Stands : State (Slot K) (View K) → ℕ → BodyValue K → Option ℕ → Type 0
   Stands s p b None = IsFree (slice_index s.words p) × (get_elem? s.homes p ≡ some (some (slot.Body b)))
@@ -79,7 +47,7 @@ module _ {K : Type 0} where
   abbrev pub Lies : State (Slot K) (View K) → ℕ → ℕ → ChannelShown → Option ℕ → Type 0
   Lies s n c k None = (slice_index s.words (n + c) ≡ free_word (length k.packets) k.open_senders) × (get_elem? s.homes (n + c) ≡ some (some (slot.Channel k)))
   Lies s n c k (Some j) =
-      (v : View K) × (get_elem? s.views j ≡ some v) × (v.grab ≡ Some (c, k)) × (slice_index s.words (n + c) ≡ v.word + held_bit) × (v.word < 4294967296)
+      (v : View K) × (get_elem? s.views j ≡ some v) × (v.grab ≡ Some (c, k)) × (slice_index s.words (n + c) ≡ v.word + held_bit) × (v.word < free_limit)
       × ((level_in v.word ≤ length k.packets) ⊎ Receives v.held c) × (level_in v.word ≡ 0 → senders_in v.word ≡ 0 → IsOver k)
 
   -- Looks. What was looked at for the present wish of a held process is still so: an input that was seen non-empty isn't empty, and one that was seen
@@ -119,19 +87,19 @@ pub record Beside (K : Type 0) : Type 0 where
   pub grabber : ℕ → Option ℕ
 
 -- The first half of the rule: what runs on the floor is a schedule.
-pub record Flow {K : Type 0} (shape_of : K → Shape) (uses : K → ℕ → Bool) (ready : K → Held → Answer → Type 0) (next : K → Held → Answer → Outcome K → Type 0) (start : NetValue K) (s : State (Slot K) (View K)) (g : Beside K) : Type 0 where
+pub record Flow {K : Type 0} (rules : Rules K) (start : NetValue K) (s : State (Slot K) (View K)) (g : Beside K) : Type 0 where
   -- stamps
-  pub fit : FitNet shape_of uses ready g.now
-  pub goes : GoesBy shape_of uses ready (reached next) start (turns_made start) g.log g.now
+  pub fit : FitNet rules g.now
+  pub goes : GoesBy rules (reached rules) start (turns_made start) g.log g.now
   pub clock : slice_index s.words (length start.bodies + length start.channels) ≡ turns_made g.now
   pub total : turns_made g.now ≡ turns_made start + length g.log
   pub seats : length g.by ≡ length g.log
-  pub inside : AllBelow (length s.views) g.by
+  pub inside : All (λ (j : ℕ). j < length s.views) g.by
   -- the table's size
   pub same : (length g.now.bodies ≡ length start.bodies) × (length g.now.channels ≡ length start.channels)
   pub wide : length s.words ≡ length start.bodies + length start.channels + 2
   pub deep : length s.homes ≡ length start.bodies + length start.channels
-  pub senders : (c : ℕ) (k : ChannelShown) → slice_get g.now.channels c ≡ Some k → k.open_senders < 65536
+  pub senders : (c : ℕ) (k : ChannelShown) → slice_get g.now.channels c ≡ Some k → k.open_senders < FIELD
   -- bodies, channels, and what seats know
   pub each_process : (p : ℕ) (b : BodyValue K) → slice_get g.now.bodies p ≡ Some b → Stands s p b (g.holder p)
   pub each_channel : (c : ℕ) (k : ChannelShown) → slice_get g.now.channels c ≡ Some k → Lies s (length start.bodies) c k (g.grabber c)

@@ -1,5 +1,6 @@
 -- What a floor is opened with.
 use Rattle.std.specs.Prelude.{◌≡◌, ℕ, ◌<◌, List, length, Some, slice_get, slice_index}
+use Rattle.flow_ring.specs.declared.TheConstants.{FIELD}
 use Rattle.flow_model.specs.Stands.{ChannelShown}
 use Rattle.flow_machine.specs.Values.{NetValue}
 use Rattle.flow_machine.specs.Logs.{turns_made}
@@ -16,4 +17,4 @@ pub record FirstWords {K : Type 0} (start : NetValue K) (ws : List ℕ) : Type 0
 
 -- Few enough senders and packets for a word.
 abbrev pub FewSenders : List ChannelShown → Type 0
-FewSenders channels = (c : ℕ) (k : ChannelShown) → slice_get channels c ≡ Some k → (k.open_senders < 65536) × (length k.packets < 65536)
+FewSenders channels = (c : ℕ) (k : ChannelShown) → slice_get channels c ≡ Some k → (k.open_senders < FIELD) × (length k.packets < FIELD)

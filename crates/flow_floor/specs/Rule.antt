@@ -1,10 +1,6 @@
 -- The rule of the table.
-use Rattle.std.specs.Prelude.{ℕ, Bool}
 use Rattle.atomic_table.specs.Table.{State}
-use Rattle.flow_packet.specs.Held.{Held}
-use Rattle.flow_component.specs.declared.Answer.{Answer}
-use Rattle.flow_component.specs.declared.Shape.{Shape}
-use Rattle.flow_component.specs.Laws.{Outcome}
+use Rattle.flow_component.specs.Laws.{Rules}
 use Rattle.flow_machine.specs.Values.{NetValue}
 use Rattle.flow_machine.specs.Joins.{IsPlanned}
 use Rattle.flow_floor.specs.declared.board.Slot.{Slot}
@@ -14,10 +10,10 @@ use Rattle.flow_ring.specs.Spaced.{ranked}
 use Rattle.flow_floor.specs.Waking.{Wakes, AllRetired}
 
 -- The rule of words that lie side by side, of a floor on which a net was opened, whose connections are a valid plan's.
-pub record Law {K : Type 0} (shape_of : K → Shape) (uses : K → ℕ → Bool) (ready : K → Held → Answer → Type 0) (next : K → Held → Answer → Outcome K → Type 0) (start : NetValue K) (s : State (Slot K) (View K)) : Type 0 where
+pub record Law {K : Type 0} (rules : Rules K) (start : NetValue K) (s : State (Slot K) (View K)) : Type 0 where
   pub beside : Beside K
   pub planned : IsPlanned start
-  pub flow : Flow shape_of uses ready next start s beside
+  pub flow : Flow rules start s beside
   pub wakes : Wakes start s beside
   pub done : AllRetired s.words beside.now.bodies
 
@@ -26,5 +22,5 @@ abbrev pub in_order : {S V : Type 0} → State S V → State S V
 in_order s = record { words = ranked s.words; homes = s.homes; views = s.views }
 
 -- The rule of the table, whose words lie apart: that of its words in their order.
-abbrev pub TableLaw : {K : Type 0} → (K → Shape) → (K → ℕ → Bool) → (K → Held → Answer → Type 0) → (K → Held → Answer → Outcome K → Type 0) → NetValue K → State (Slot K) (View K) → Type 0
-TableLaw shape_of uses ready next start s = Law shape_of uses ready next start (in_order s)
+abbrev pub TableLaw : {K : Type 0} → Rules K → NetValue K → State (Slot K) (View K) → Type 0
+TableLaw rules start s = Law rules start (in_order s)

@@ -1,10 +1,7 @@
 -- What a step does to the net of the rule.
-use Rattle.std.specs.Prelude.{◌≡◌, length, slice_get, ℕ, ◌+◌, Bool, List, [], ◌∷◌, ◌++◌, Option, Some, None, slice_set}
+use Rattle.std.specs.Prelude.{◌≡◌, length, slice_get, ℕ, ◌+◌, List, [], ◌∷◌, ◌++◌, Option, Some, None, slice_set}
 use Rattle.flow_packet.specs.Tree.{Tree}
-use Rattle.flow_packet.specs.Held.{Held}
-use Rattle.flow_component.specs.declared.Answer.{Answer}
-use Rattle.flow_component.specs.declared.Shape.{Shape}
-use Rattle.flow_component.specs.Laws.{Outcome}
+use Rattle.flow_component.specs.Laws.{Rules}
 use Rattle.flow_model.specs.Events.{Event, Gets, Hears_end, Sends, Sleeps, Closes, Signals, seen_by, event_from}
 use Rattle.flow_model.specs.States.{Outlet}
 use Rattle.flow_model.specs.Turns.{process_after}
@@ -49,10 +46,10 @@ Happens {K} fits n m p d grab seen e = (now : NetValue K) → fits now → slice
 
 -- The machine's turn of this stamp: when so many turns had been made, the net to which the opened one, `start`, had gone on had this body for
 -- process p, whose turn was this event.
-pub record MachineTurn {K : Type 0} (shape_of : K → Shape) (uses : K → ℕ → Bool) (ready : K → Held → Answer → Type 0) (next : K → Held → Answer → Outcome K → Type 0) (start : NetValue K) (stamp p : ℕ) (b : BodyValue K) (e : Event) : Type 0 where
+pub record MachineTurn {K : Type 0} (rules : Rules K) (start : NetValue K) (stamp p : ℕ) (b : BodyValue K) (e : Event) : Type 0 where
   pub now : NetValue K
   pub log : List Logged
-  pub goes : GoesBy shape_of uses ready (reached next) start (turns_made start) log now
+  pub goes : GoesBy rules (reached rules) start (turns_made start) log now
   pub total : turns_made now ≡ turns_made start + length log
   pub clock : turns_made now ≡ stamp
   pub there : slice_get now.bodies p ≡ Some b
@@ -60,9 +57,9 @@ pub record MachineTurn {K : Type 0} (shape_of : K → Shape) (uses : K → ℕ �
   pub happens : event_from (looks_of now.channels) b.process level ≡ Some e
 
 -- The same of the process that a seat holds, whose body has become f of what the machine has.
-abbrev pub MachineTurnOf : {K : Type 0} → (K → Shape) → (K → ℕ → Bool) → (K → Held → Answer → Type 0) → (K → Held → Answer → Outcome K → Type 0) → NetValue K → ℕ → (BodyValue K → BodyValue K) → Event → Option (ℕ × BodyValue K) → Type 0
-MachineTurnOf shape_of uses ready next start stamp f e (Some held) = MachineTurn shape_of uses ready next start stamp held.0 (f held.1) e
-MachineTurnOf shape_of uses ready next start stamp f e None = Unit {0}
+abbrev pub MachineTurnOf : {K : Type 0} → Rules K → NetValue K → ℕ → (BodyValue K → BodyValue K) → Event → Option (ℕ × BodyValue K) → Type 0
+MachineTurnOf rules start stamp f e (Some held) = MachineTurn rules start stamp held.0 (f held.1) e
+MachineTurnOf rules start stamp f e None = Unit {0}
 
 -- The turn fits what the seat holds: it is at the connection that the seat holds, or at none where it holds none.
 abbrev pub At : Event → Option (ℕ × ChannelShown) → Type 0

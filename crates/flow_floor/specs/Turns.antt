@@ -1,15 +1,12 @@
 -- What a call for a turn tells. Here n is the number of processes, `start` the net that was opened, and `old` and `new` are the worker's view before
 -- and after the call.
-use Rattle.std.specs.Prelude.{◌≡◌, ℕ, ◌<◌, ◌≤◌, ◌⊎◌, Bool, false, List, [], ◌∷◌, ◌++◌, Option, Some, None}
-use Rattle.flow_packet.specs.Held.{Held as Hands}
-use Rattle.flow_component.specs.declared.Answer.{Answer}
-use Rattle.flow_component.specs.declared.Shape.{Shape}
-use Rattle.flow_component.specs.Laws.{Outcome}
+use Rattle.std.specs.Prelude.{◌≡◌, ℕ, ◌<◌, ◌≤◌, ◌⊎◌, false, List, [], ◌∷◌, ◌++◌, Option, Some, None}
+use Rattle.flow_component.specs.Laws.{Rules}
 use Rattle.flow_model.specs.declared.Stage.TheVariants as stages
 use Rattle.flow_model.specs.declared.Block.{Block}
 use Rattle.flow_model.specs.declared.Block.TheVariants as blocks
 use Rattle.flow_model.specs.States.{Process, output_at}
-use Rattle.flow_model.specs.Events.{Event, Starts, Finishes, Gets, Takes_text, Hears_end, Sends, Learns, Sleeps, Closes, Signals}
+use Rattle.flow_model.specs.Events.{Event, Learns}
 use Rattle.flow_model.specs.Verdicts.{waits_for}
 use Rattle.flow_model.specs.Stands.{ChannelShown}
 use Rattle.flow_machine.specs.declared.answers.Case.{Case}
@@ -25,7 +22,7 @@ use Rattle.flow_floor.specs.declared.floor.Worker.{Worker}
 use Rattle.flow_floor.specs.declared.floor.Turned.{Turned}
 use Rattle.flow_floor.specs.declared.floor.Turned.TheVariants as turned
 use Rattle.flow_floor.specs.Looks.{InSeen, IsLook, IsDormant, MaySignal}
-use Rattle.flow_floor.specs.Plays.{Below}
+use Rattle.flow_floor.specs.Made.{Below}
 use Rattle.flow_floor.specs.Turning.{MachineTurn}
 use Rattle.flow_floor.specs.Waking.{capacity_at}
 use Rattle.flow_floor.specs.Workers.{view, SeenBlocks}
@@ -70,22 +67,14 @@ module _ {K : Type 0} where
   -- A turn that asks for a level is told the one in the word that the call read, as its last look shows.
   abbrev pub ToldLevel : ℕ → BodyValue K → View K → View K → Event → Type 0
   ToldLevel n b old new (Learns port level) = (c : ℕ) × (w : ℕ) × (output_at b.process port ≡ Some c) × IsLook n old.steps c w new.look × (level ≡ level_in w)
-  ToldLevel n b old new Starts = Unit {0}
-  ToldLevel n b old new Finishes = Unit {0}
-  ToldLevel n b old new (Gets port c packet) = Unit {0}
-  ToldLevel n b old new (Takes_text port text) = Unit {0}
-  ToldLevel n b old new (Hears_end port) = Unit {0}
-  ToldLevel n b old new (Sends port c packet) = Unit {0}
-  ToldLevel n b old new Sleeps = Unit {0}
-  ToldLevel n b old new (Signals c packet) = Unit {0}
-  ToldLevel n b old new (Closes output c) = Unit {0}
+  ToldLevel n b old new event = Unit {0}
 
   -- The held body made the machine's turn of this stamp, which is above all stamps of its worker.
-  pub record IsMade (shape_of : K → Shape) (uses : K → ℕ → Bool) (ready : K → Hands → Answer → Type 0) (next : K → Hands → Answer → Outcome K → Type 0) (n : ℕ) (start : NetValue K) (h : Held K) (w : Worker K) (h' : Held K) (w' : Worker K) (stamp : ℕ) : Type 0 where
+  pub record IsMade (rules : Rules K) (n : ℕ) (start : NetValue K) (h : Held K) (w : Worker K) (h' : Held K) (w' : Worker K) (stamp : ℕ) : Type 0 where
     pub process : h'.process ≡ h.process
     pub event : Event
     pub turn : BodyTurn h.body event stamp h'.body
-    pub machine : MachineTurn shape_of uses ready next start stamp h.process h.body event
+    pub machine : MachineTurn rules start stamp h.process h.body event
     pub made : (view w').made ≡ (view w).made ++ (stamp, h.process) ∷ []
     pub above : Below stamp (view w).made
     pub level : ToldLevel n h.body (view w) (view w') event
@@ -95,8 +84,8 @@ module _ {K : Type 0} where
   IsUnmade h w h' w' = (h' ≡ h) × ((view w').made ≡ (view w).made)
 
   -- What holds of an answer: the turn was made; or none was, since its connection was held, the process is blocked, or it is over.
-  abbrev pub Turns : (K → Shape) → (K → ℕ → Bool) → (K → Hands → Answer → Type 0) → (K → Hands → Answer → Outcome K → Type 0) → ℕ → NetValue K → Held K → Worker K → Held K → Worker K → Turned → Type 0
-  Turns shape_of uses ready next n start h w h' w' (turned.Made stamp) = IsMade shape_of uses ready next n start h w h' w' stamp
-  Turns shape_of uses ready next n start h w h' w' (turned.Busy c word) = IsUnmade h w h' w' × IsBusy n h.body (view w) (view w') c word
-  Turns shape_of uses ready next n start h w h' w' (turned.Blocked block word) = IsUnmade h w h' w' × IsBlocked n start h.body (view w) (view w') block word
-  Turns shape_of uses ready next n start h w h' w' (turned.Over over) = IsUnmade h w h' w' × (case_of h.body.process ≡ Some (cases.Over over))
+  abbrev pub Turns : Rules K → ℕ → NetValue K → Held K → Worker K → Held K → Worker K → Turned → Type 0
+  Turns rules n start h w h' w' (turned.Made stamp) = IsMade rules n start h w h' w' stamp
+  Turns rules n start h w h' w' (turned.Busy c word) = IsUnmade h w h' w' × IsBusy n h.body (view w) (view w') c word
+  Turns rules n start h w h' w' (turned.Blocked block word) = IsUnmade h w h' w' × IsBlocked n start h.body (view w) (view w') block word
+  Turns rules n start h w h' w' (turned.Over over) = IsUnmade h w h' w' × (case_of h.body.process ≡ Some (cases.Over over))

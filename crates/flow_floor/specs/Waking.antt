@@ -1,5 +1,6 @@
 -- The second half of the rule: who is woken, and when nothing is left to do.
-use Rattle.std.specs.Prelude.{◌≡◌, ℕ, zero, suc, ◌+◌, ◌<◌, ◌≤◌, ◌⊎◌, ◌==◌, ◌||◌, if◌then◌else◌, true, false, List, [], ◌∷◌, length, slice_index, slice_get, sum_by, Some, None, unwrap_or}
+use Rattle.std.specs.Prelude.{◌≡◌, ℕ, zero, suc, ◌+◌, ◌<◌, ◌≤◌, ◌⊎◌, ◌==◌, ◌||◌, if◌then◌else◌, true, false, List, [], ◌∷◌, length, slice_index, slice_get, sum_by, Some, None, unwrap_or, Contains}
+use Rattle.flow_limits.specs.declared.TheConstants.{WORKER_LIMIT}
 use Rattle.std.specs.Option.{option_map}
 use Rattle.std.specs.List.{list_any}
 use mathlib.Core.Option.{some}
@@ -9,8 +10,8 @@ use Rattle.flow_component.specs.declared.Wish.TheVariants as wishes
 use Rattle.flow_model.specs.declared.Stage.{Stage}
 use Rattle.flow_model.specs.declared.Stage.TheVariants as stages
 use Rattle.flow_model.specs.States.{From, Process, output_at}
+use Rattle.flow_model.specs.Stages.{IsOverStage, IsThoughtStage}
 use Rattle.flow_model.specs.Events.{is_connected}
-use Rattle.flow_model.specs.Schedules.{IsThoughtStage}
 use Rattle.flow_model.specs.Stands.{ChannelShown}
 use Rattle.flow_machine.specs.Values.{BodyValue, NetValue}
 use Rattle.flow_machine.specs.Thoughts.{IsUnset}
@@ -18,7 +19,8 @@ use Rattle.flow_ring.specs.Words.{level_in, senders_in}
 use Rattle.flow_floor.specs.declared.board.Slot.{Slot}
 use Rattle.flow_floor.specs.declared.board.View.{View}
 use Rattle.flow_floor.specs.declared.board.Look.{Look}
-use Rattle.flow_floor.specs.Law.{Beside, IsInput}
+use Rattle.flow_floor.specs.Law.{Beside}
+use Rattle.flow_floor.specs.Wired.{IsInput, IsOutput}
 
 -- A process word counts where the process is ready or held, poked or not.
 abbrev pub counts : ℕ → ℕ
@@ -30,23 +32,9 @@ live_in zero words = 0
 live_in (suc n) [] = 0
 live_in (suc n) (w ∷ words) = counts w + live_in n words
 
--- The process at this stage is over.
-abbrev pub IsOverStage : Stage → Type 0
-IsOverStage stages.Ended = Unit {0}
-IsOverStage (stages.Failed cause) = Unit {0}
-IsOverStage stages.Idle = ⊥
-IsOverStage (stages.Told answer) = ⊥
-IsOverStage (stages.Wishing wish) = ⊥
-IsOverStage (stages.Closing i) = ⊥
-
 -- A process word that says that the process is done; it may have been poked since.
 abbrev pub IsDoneWord : ℕ → Type 0
 IsDoneWord w = (w ≡ 4) ⊎ (w ≡ 6)
-
--- A number stands in a list.
-abbrev pub InList : ℕ → List ℕ → Type 0
-InList q [] = ⊥
-InList q (x ∷ xs) = (q ≡ x) ⊎ InList q xs
 
 -- The capacity of this connection.
 abbrev pub capacity_at : List ChannelShown → ℕ → ℕ
@@ -65,13 +53,9 @@ abbrev pub HasWorked : {K : Type 0} → Process K → Type 0
 HasWorked x = (list_any is_connected x.inputs ≡ true) ⊎ (x.has_run ≡ true)
 
 module _ {K : Type 0} where
-  -- The connection is an output of the process.
-  abbrev pub IsOutput : BodyValue K → ℕ → Type 0
-  IsOutput b c = (o : ℕ) × (output_at b.process o ≡ Some c)
-
   -- Some seat noted the process.
   abbrev pub IsNoted : List (View K) → ℕ → Type 0
-  IsNoted views q = (j : ℕ) × (v : View K) × (get_elem? views j ≡ some v) × InList q v.noted
+  IsNoted views q = (j : ℕ) × (v : View K) × (get_elem? views j ≡ some v) × Contains v.noted q
 
   -- By the words each stream input is empty.
   abbrev pub AreStreamsEmpty : ℕ → List ℕ → BodyValue K → Type 0
@@ -139,7 +123,7 @@ module _ {K : Type 0} where
     pub wired : IsWiredAs start g.now
     -- live
     pub live : slice_index s.words (length start.bodies + length start.channels + 1) ≡ live_in (length start.bodies) s.words + sum_by (λ (v : View K). v.spare) s.views
-    pub shares : sum_by (λ (v : View K). v.shares) s.views ≡ 32
+    pub shares : sum_by (λ (v : View K). v.shares) s.views ≡ WORKER_LIMIT
     -- notes and zero
     pub each : (j : ℕ) (v : View K) → get_elem? s.views j ≡ some v → Keeps (slice_index s.words (length start.bodies + length start.channels + 1)) v
     -- parked and held
@@ -151,5 +135,5 @@ module _ {K : Type 0} where
   -- The word of a connection changes from old to new, and those whom that may unblock are among the noted: where the level rises or a sender closes,
   -- the receiver; where the level falls, the senders.
   pub record Notes (start : NetValue K) (c old new : ℕ) (noted : List ℕ) : Type 0 where
-    pub receiver : ((level_in new ≤ level_in old) × (senders_in old ≤ senders_in new)) ⊎ ((q : ℕ) (b : BodyValue K) → slice_get start.bodies q ≡ Some b → IsInput b c → InList q noted)
-    pub senders : (level_in old ≤ level_in new) ⊎ ((q : ℕ) (b : BodyValue K) → slice_get start.bodies q ≡ Some b → IsOutput b c → InList q noted)
+    pub receiver : ((level_in new ≤ level_in old) × (senders_in old ≤ senders_in new)) ⊎ ((q : ℕ) (b : BodyValue K) → slice_get start.bodies q ≡ Some b → IsInput b c → Contains noted q)
+    pub senders : (level_in old ≤ level_in new) ⊎ ((q : ℕ) (b : BodyValue K) → slice_get start.bodies q ≡ Some b → IsOutput b c → Contains noted q)

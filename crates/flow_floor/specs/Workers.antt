@@ -1,9 +1,8 @@
 -- What clauses say of a worker and of what it holds.
-use Rattle.std.specs.Prelude.{◌≡◌, ℕ, ◌+◌, ◌<◌, ◌≤◌, Bool, List, [], ◌∷◌, ◌++◌, length, None, Some}
+use Rattle.std.specs.Prelude.{◌≡◌, ℕ, ◌+◌, ◌<◌, ◌≤◌, List, [], ◌∷◌, ◌++◌, length, None, Some}
+use Rattle.flow_ring.specs.declared.TheConstants.{FIELD}
 use Rattle.atomic_table.specs.Seated.{TableId}
-use Rattle.flow_packet.specs.Held.{Held as Hands}
-use Rattle.flow_component.specs.declared.Answer.{Answer}
-use Rattle.flow_component.specs.Laws.{Outcome}
+use Rattle.flow_component.specs.Laws.{Rules}
 use Rattle.flow_model.specs.Stands.{ChannelShown}
 use Rattle.flow_machine.specs.Values.{BodyValue, NetValue}
 use Rattle.flow_machine.specs.Thoughts.{IsUnset}
@@ -19,13 +18,13 @@ use Rattle.flow_floor.specs.declared.floor.Claim.{Claim}
 use Rattle.flow_floor.specs.declared.floor.Claim.TheVariants as claim
 use Rattle.flow_floor.specs.declared.floor.Grabbed.{Grabbed}
 use Rattle.flow_floor.specs.declared.floor.Grabbed.TheVariants as grabbed
-use Rattle.flow_component.specs.declared.Shape.{Shape}
 use Rattle.flow_ring.specs.Words.{level_in, senders_in}
-use Rattle.flow_model.specs.Schedules.{IsThoughtStage}
+use Rattle.flow_model.specs.Stages.{IsThoughtStage}
 use Rattle.flow_floor.specs.declared.board.Look.{Look}
 use Rattle.flow_floor.specs.Waking.{AllBlock, WordsBlock}
 use Rattle.flow_floor.specs.Law.{Rests}
-use Rattle.flow_floor.specs.Plays.{WasSo, grabbing}
+use Rattle.flow_floor.specs.Plays.{WasSo}
+use Rattle.flow_floor.specs.Views.{grabbing}
 
 module _ {K : Type 0} where
   abbrev pub view : Worker K → View K
@@ -46,50 +45,50 @@ module _ {K : Type 0} where
     pub slots : w.seat.me.1 ≡ []
 
   -- The body agrees with what the machine has, or is what its thought made of that by a work that isn't in the list yet.
-  pub record Agrees (next : K → Hands → Answer → Outcome K → Type 0) (w : Worker K) (h : Held K) : Type 0 where
+  pub record Agrees (rules : Rules K) (w : Worker K) (h : Held K) : Type 0 where
     pub base : BodyValue K
     pub held : w.seat.me.0.held ≡ Some (h.process, base)
-    pub rests : Rests next base h.body
+    pub rests : Rests rules base h.body
     pub whole : h.body.leaving ≡ None
 
   -- The body is this worker's.
-  pub record IsHeldBy (next : K → Hands → Answer → Outcome K → Type 0) (z : TableId) (n : ℕ) (w : Worker K) (h : Held K) : Type 0 where
+  pub record IsHeldBy (rules : Rules K) (z : TableId) (n : ℕ) (w : Worker K) (h : Held K) : Type 0 where
     pub calm : IsCalm z w
     pub below : h.process < n
-    pub agrees : Agrees next w h
+    pub agrees : Agrees rules w h
     pub slots : w.seat.me.1 ≡ (h.process, slot.Vacant) ∷ []
 
   -- The body is this worker's, which has noted these processes, and holds no connection.
-  pub record IsWaking (next : K → Hands → Answer → Outcome K → Type 0) (z : TableId) (n : ℕ) (w : Worker K) (h : Held K) (notes : List ℕ) : Type 0 where
+  pub record IsWaking (rules : Rules K) (z : TableId) (n : ℕ) (w : Worker K) (h : Held K) (notes : List ℕ) : Type 0 where
     pub table : w.seat.table_id ≡ z
     pub share : 0 < w.seat.me.0.shares
     pub grab : w.seat.me.0.grab ≡ None
     pub noted : w.seat.me.0.noted ≡ notes
     pub spare : w.seat.me.0.spare ≡ 0
     pub below : h.process < n
-    pub agrees : Agrees next w h
+    pub agrees : Agrees rules w h
     pub slots : w.seat.me.1 ≡ (h.process, slot.Vacant) ∷ []
 
   -- The worker holds connection c too, whose channel is this.
-  pub record IsGrabbing (next : K → Hands → Answer → Outcome K → Type 0) (z : TableId) (n : ℕ) (w : Worker K) (h : Held K) (c : ℕ) (k : ChannelShown) : Type 0 where
+  pub record IsGrabbing (rules : Rules K) (z : TableId) (n : ℕ) (w : Worker K) (h : Held K) (c : ℕ) (k : ChannelShown) : Type 0 where
     pub table : w.seat.table_id ≡ z
     pub share : 0 < w.seat.me.0.shares
     pub noted : w.seat.me.0.noted ≡ []
     pub spare : w.seat.me.0.spare ≡ 0
     pub below : h.process < n
-    pub agrees : Agrees next w h
+    pub agrees : Agrees rules w h
     pub grab : w.seat.me.0.grab ≡ Some (c, k)
     pub slots : w.seat.me.1 ≡ (n + c, slot.Vacant) ∷ (h.process, slot.Vacant) ∷ []
-    pub level : length k.packets < 65536
-    pub senders : k.open_senders < 65536
+    pub level : length k.packets < FIELD
+    pub senders : k.open_senders < FIELD
 
   -- The connection was just taken: the word that was found has the channel's level and open senders, and at that moment the machine had both this
   -- channel and the body that is held, and what was seen for that was so.
-  pub record HasGrabbed (shape_of : K → Shape) (uses : K → ℕ → Bool) (ready : K → Hands → Answer → Type 0) (old new : Worker K) (n c most word : ℕ) (k : ChannelShown) : Type 0 where
+  pub record HasGrabbed (rules : Rules K) (old new : Worker K) (n c most word : ℕ) (k : ChannelShown) : Type 0 where
     pub level : level_in word ≡ length k.packets
     pub senders : senders_in word ≡ k.open_senders
     pub capacity : k.capacity ≡ most
-    pub so : WasSo shape_of uses ready n old.seat.me.0.held old.seat.me.0.seen c k
+    pub so : WasSo rules n old.seat.me.0.held old.seat.me.0.seen c k
     pub view : new.seat.me.0 ≡ grabbing old.seat.me.0 (n + c) word c k
 
   -- Beside the process at hand all stays: the worker's shares, and whether it has read 0.

@@ -1,19 +1,18 @@
 //! Looks, and turns of a held body at no connection.
-ghost use Rattle.std.specs.Prelude.{List, ◌≡◌, ℕ, ◌+◌, ◌<◌, length, Some, None, slice_get};
+ghost use Rattle.std.specs.Prelude.{List, ◌≡◌, ℕ, ◌+◌, ◌<◌, Some, None, slice_get};
 ghost use Rattle.flow_model.specs.Events.{Starts, Finishes, Sleeps, is_fresh};
 ghost use Rattle.flow_model.specs.declared.Stage.TheVariants.{Idle, Wishing};
 ghost use Rattle.flow_component.specs.declared.Wish.TheVariants.{Deactivate, Receive};
-ghost use Rattle.flow_machine.specs.Values.{BodyValue};
 ghost use Rattle.flow_machine.specs.Thoughts.{HasRoom};
-ghost use Rattle.flow_machine.specs.Nets.{BodyTurn};
 ghost use Rattle.flow_machine.specs.FitNets.{FitNet};
 ghost use Rattle.flow_model.specs.States.{From, Text};
 ghost use Rattle.flow_machine.specs.Effects.{text_event};
 ghost use Rattle.flow_machine.specs.Inlets.{signal_input};
-ghost use Rattle.flow_floor.specs.Workers.{view, IsHeldBy, IsSameSeat, LooksOn};
+ghost use Rattle.flow_floor.specs.Floors.{connection_count, IsDeedOf, IsHeldAt, IsSameWorker, StampsTurn};
+ghost use Rattle.flow_floor.specs.Workers.{view, LooksOn};
 ghost use Rattle.flow_floor.specs.Looks.{Saws, first_open};
-ghost use Rattle.flow_floor.specs.Plays.{seeing, stamping, Below};
-ghost use Rattle.flow_floor.specs.Turning.{Happens, MachineTurn};
+ghost use Rattle.flow_floor.specs.Views.{seeing};
+ghost use Rattle.flow_floor.specs.Turning.{Happens};
 
 use crate::floor::{Floor, Held, Saw, Worker};
 use crate::plays::{Deed, Look};
@@ -34,9 +33,9 @@ fn first_open(found: Option<u64>, word: u64) -> Option<u64>
 impl<K: Component> Floor<K> {
     /// Reads the word of a connection, and keeps what it read.
     pub(crate) fn look(&self, worker: &mut Worker<K>, held: &Held<K>, connection: usize) -> u64
-        requires held { IsHeldBy K.next self.now.table.shared.table_id self.now.processes worker.old held.now }
-        requires range { connection < self.now.connections }
-        ensures held { IsHeldBy K.next self.now.table.shared.table_id self.now.processes worker.new held.now }
+        requires held { IsHeldAt K.rules self.now worker.old held.now }
+        requires range { connection < connection_count self.now }
+        ensures held { IsHeldAt K.rules self.now worker.new held.now }
         ensures view { view worker.new ≡ seeing (view worker.old) (self.now.processes + connection) result }
     {
         let _ = held;
@@ -46,11 +45,11 @@ impl<K: Component> Floor<K> {
 
     /// Looks at the connected inputs one by one, up to one that holds a packet.
     pub(crate) fn look_over(&self, worker: &mut Worker<K>, held: &Held<K>) -> Saw
-        requires held { IsHeldBy K.next self.now.table.shared.table_id self.now.processes worker.old held.now }
+        requires held { IsHeldAt K.rules self.now worker.old held.now }
         requires wired { (i c : ℕ) → slice_get held.now.body.process.inputs i ≡ Some (From c) → c < self.now.connections }
-        ensures held { IsHeldBy K.next self.now.table.shared.table_id self.now.processes worker.new held.now }
+        ensures held { IsHeldAt K.rules self.now worker.new held.now }
         ensures looks { LooksOn (view worker.old) (view worker.new) }
-        ensures seat { IsSameSeat (view worker.old) (view worker.new) }
+        ensures seat { IsSameWorker worker.old worker.new }
         ensures saw { Saws self.now.processes (view worker.old).steps held.now.body.process.inputs (view worker.new).seen result }
     {
         let mut open = None;
@@ -71,11 +70,11 @@ impl<K: Component> Floor<K> {
 
     /// Looks at the automatic input, if it has a connection.
     pub(crate) fn look_signal(&self, worker: &mut Worker<K>, held: &Held<K>) -> Saw
-        requires held { IsHeldBy K.next self.now.table.shared.table_id self.now.processes worker.old held.now }
+        requires held { IsHeldAt K.rules self.now worker.old held.now }
         requires wired { (c : ℕ) → held.now.body.process.signal ≡ Some c → c < self.now.connections }
-        ensures held { IsHeldBy K.next self.now.table.shared.table_id self.now.processes worker.new held.now }
+        ensures held { IsHeldAt K.rules self.now worker.new held.now }
         ensures looks { LooksOn (view worker.old) (view worker.new) }
-        ensures seat { IsSameSeat (view worker.old) (view worker.new) }
+        ensures seat { IsSameWorker worker.old worker.new }
         ensures saw { Saws self.now.processes (view worker.old).steps (signal_input held.now.body.process.signal) (view worker.new).seen result }
     {
         let Some(connection) = held.body.signal() else {
@@ -94,18 +93,13 @@ impl<K: Component> Floor<K> {
     /// Starts.
     pub(crate) fn start_as<D: Deed<K>>(&self, worker: &mut Worker<K>, held: &mut Held<K>) -> u32
         requires event { D.event ≡ Starts }
-        requires after { (b : BodyValue _) → D.after b ≡ held.old.body }
-        requires start { D.start ≡ self.now.table.shared.key.value }
-        requires held { IsHeldBy K.next self.now.table.shared.table_id self.now.processes worker.old held.old }
+        requires deed { IsDeedOf self.now held.old D.after D.start }
+        requires held { IsHeldAt K.rules self.now worker.old held.old }
         requires stage { held.old.body.process.stage ≡ Idle }
         requires room { HasRoom held.old.body }
-        requires happens { Happens (FitNet K.shape_of K.uses K.ready) self.now.processes self.now.connections held.old.process held.old.body None (view worker.old).seen Starts }
-        ensures held { IsHeldBy K.next self.now.table.shared.table_id self.now.processes worker.new held.new }
-        ensures process { held.new.process ≡ held.old.process }
-        ensures body { BodyTurn held.old.body Starts result held.new.body }
-        ensures view { view worker.new ≡ stamping (view worker.old) result D.event D.after }
-        ensures above { Below result (view worker.old).made }
-        ensures machine { MachineTurn K.shape_of K.uses K.ready K.next self.now.table.shared.key.value result held.old.process held.old.body D.event }
+        requires happens { Happens (FitNet K.rules) self.now.processes self.now.connections held.old.process held.old.body None (view worker.old).seen Starts }
+        ensures held { IsHeldAt K.rules self.now worker.new held.new }
+        ensures turn { StampsTurn K.rules self.now held.old worker.old held.new worker.new D.event D.after result }
     {
         let stamp = self.stamp::<D>(worker, held);
         held.body.effect(Effect::Start, stamp);
@@ -115,18 +109,13 @@ impl<K: Component> Floor<K> {
     /// Goes to its end.
     pub(crate) fn finish_as<D: Deed<K>>(&self, worker: &mut Worker<K>, held: &mut Held<K>) -> u32
         requires event { D.event ≡ Finishes }
-        requires after { (b : BodyValue _) → D.after b ≡ held.old.body }
-        requires start { D.start ≡ self.now.table.shared.key.value }
-        requires held { IsHeldBy K.next self.now.table.shared.table_id self.now.processes worker.old held.old }
+        requires deed { IsDeedOf self.now held.old D.after D.start }
+        requires held { IsHeldAt K.rules self.now worker.old held.old }
         requires stage { held.old.body.process.stage ≡ Idle }
         requires room { HasRoom held.old.body }
-        requires happens { Happens (FitNet K.shape_of K.uses K.ready) self.now.processes self.now.connections held.old.process held.old.body None (view worker.old).seen Finishes }
-        ensures held { IsHeldBy K.next self.now.table.shared.table_id self.now.processes worker.new held.new }
-        ensures process { held.new.process ≡ held.old.process }
-        ensures body { BodyTurn held.old.body Finishes result held.new.body }
-        ensures view { view worker.new ≡ stamping (view worker.old) result D.event D.after }
-        ensures above { Below result (view worker.old).made }
-        ensures machine { MachineTurn K.shape_of K.uses K.ready K.next self.now.table.shared.key.value result held.old.process held.old.body D.event }
+        requires happens { Happens (FitNet K.rules) self.now.processes self.now.connections held.old.process held.old.body None (view worker.old).seen Finishes }
+        ensures held { IsHeldAt K.rules self.now worker.new held.new }
+        ensures turn { StampsTurn K.rules self.now held.old worker.old held.new worker.new D.event D.after result }
     {
         let stamp = self.stamp::<D>(worker, held);
         held.body.effect(Effect::ToClosing, stamp);
@@ -140,17 +129,12 @@ impl<K: Component> Floor<K> {
         held: &mut Held<K>,
     ) -> u32
         requires event { D.event ≡ Sleeps }
-        requires after { (b : BodyValue _) → D.after b ≡ held.old.body }
-        requires start { D.start ≡ self.now.table.shared.key.value }
-        requires held { IsHeldBy K.next self.now.table.shared.table_id self.now.processes worker.old held.old }
+        requires deed { IsDeedOf self.now held.old D.after D.start }
+        requires held { IsHeldAt K.rules self.now worker.old held.old }
         requires stage { held.old.body.process.stage ≡ Wishing Deactivate }
         requires room { HasRoom held.old.body }
-        ensures held { IsHeldBy K.next self.now.table.shared.table_id self.now.processes worker.new held.new }
-        ensures process { held.new.process ≡ held.old.process }
-        ensures body { BodyTurn held.old.body Sleeps result held.new.body }
-        ensures view { view worker.new ≡ stamping (view worker.old) result D.event D.after }
-        ensures above { Below result (view worker.old).made }
-        ensures machine { MachineTurn K.shape_of K.uses K.ready K.next self.now.table.shared.key.value result held.old.process held.old.body D.event }
+        ensures held { IsHeldAt K.rules self.now worker.new held.new }
+        ensures turn { StampsTurn K.rules self.now held.old worker.old held.new worker.new D.event D.after result }
     {
         let stamp = self.stamp::<D>(worker, held);
         held.body.effect(Effect::Deactivate, stamp);
@@ -165,18 +149,13 @@ impl<K: Component> Floor<K> {
         port: Port,
     ) -> u32
         requires event { D.event ≡ text_event port.0 (is_fresh held.old.body.process port.0) (slice_get held.old.body.process.inputs port.0) }
-        requires after { (b : BodyValue _) → D.after b ≡ held.old.body }
-        requires start { D.start ≡ self.now.table.shared.key.value }
-        requires held { IsHeldBy K.next self.now.table.shared.table_id self.now.processes worker.old held.old }
+        requires deed { IsDeedOf self.now held.old D.after D.start }
+        requires held { IsHeldAt K.rules self.now worker.old held.old }
         requires stage { held.old.body.process.stage ≡ Wishing (Receive port) }
         requires input { (text : List ℕ) × (slice_get held.old.body.process.inputs port.0 ≡ Some (Text text)) }
         requires room { HasRoom held.old.body }
-        ensures held { IsHeldBy K.next self.now.table.shared.table_id self.now.processes worker.new held.new }
-        ensures process { held.new.process ≡ held.old.process }
-        ensures body { BodyTurn held.old.body D.event result held.new.body }
-        ensures view { view worker.new ≡ stamping (view worker.old) result D.event D.after }
-        ensures above { Below result (view worker.old).made }
-        ensures machine { MachineTurn K.shape_of K.uses K.ready K.next self.now.table.shared.key.value result held.old.process held.old.body D.event }
+        ensures held { IsHeldAt K.rules self.now worker.new held.new }
+        ensures turn { StampsTurn K.rules self.now held.old worker.old held.new worker.new D.event D.after result }
     {
         let _ = port;
         let stamp = self.stamp::<D>(worker, held);

@@ -24,7 +24,7 @@ pub struct Look {
 
 /// What a seat knows. No value of it is made.
 pub struct View<K: Component> {
-    /// Its shares of the right to be a seat: all seats have 32.
+    /// Its shares of the right to be a seat: all seats together have `WORKER_LIMIT`.
     pub shares: u64,
     /// The process that it holds, with its body as the machine has it.
     pub held: Option<(u64, Body<K>)>,
@@ -51,10 +51,11 @@ pub struct View<K: Component> {
 pub struct Lawful;
 
 impl<K: Component> TableRule<Slot<K>, View<K>, Snapshot<Net<K>>> for Lawful {
+    ghost use Rattle.flow_limits.specs.declared.TheConstants.{WORKER_LIMIT};
     ghost use Rattle.flow_floor.specs.Rule.{TableLaw};
     ghost use Rattle.flow_floor.specs.Seats.{newcomer};
 
-    ghost holds = { λ key. TableLaw K.shape_of K.uses K.ready K.next key.value };
+    ghost holds = { λ key. TableLaw K.rules key.value };
 
-    ghost first = { λ _. newcomer 32 };
+    ghost first = { λ _. newcomer WORKER_LIMIT };
 }

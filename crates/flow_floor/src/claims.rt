@@ -1,13 +1,12 @@
 //! How a worker takes a process, and gives it back.
-ghost use Rattle.std.specs.Prelude.{◌≡◌, ◌≢◌, ℕ, ◌+◌, ◌<◌, ◌⊎◌, None, Some, true};
+ghost use Rattle.std.specs.Prelude.{◌≡◌, ◌≢◌, ◌+◌, ◌<◌, ◌⊎◌, None};
 ghost use Rattle.flow_floor.specs.Looks.{IsLook};
-ghost use Rattle.atomic_table.specs.Seated.{TableId};
+ghost use Rattle.flow_floor.specs.declared.floor.Floor.{Floor};
 ghost use Rattle.flow_floor.specs.declared.floor.Worker.{Worker};
-ghost use Rattle.flow_machine.specs.Thoughts.{Thinks, KeepsTurns};
-ghost use Rattle.flow_floor.specs.Law.{IsWiredIn};
-ghost use Rattle.flow_floor.specs.Floors.{process_count, connection_count, turns_of, HasReadZero, IsHeldAt, IsIdleAt, IsOverAs, IsSameWorker, IsStuckAt, IsWiredAt};
-ghost use Rattle.flow_floor.specs.Workers.{view, IsIdle, IsHeldBy, IsDone, MatchClaim};
-ghost use Rattle.flow_floor.specs.Plays.{looked, refusing, claiming, leaving, lowering, parking, reading};
+ghost use Rattle.flow_machine.specs.Thoughts.{Thinks, KeepsTurns, PassesFirst};
+ghost use Rattle.flow_floor.specs.Floors.{process_count, connection_count, turns_of, HasReadZero, IsDoneAt, IsHeldAt, IsIdleAt, IsOverAs, IsSameWorker, IsStuckAt, IsWiredAt};
+ghost use Rattle.flow_floor.specs.Workers.{view, MatchClaim};
+ghost use Rattle.flow_floor.specs.Views.{looked, refusing, claiming, leaving, lowering, parking, reading};
 
 use crate::board::Slot;
 use crate::floor::{Claim, Floor, Held, Worker};
@@ -26,10 +25,10 @@ const DONE: u64 = 4;
 
 impl<K: Component> Floor<K> {
     fn claim_at<S: Spot>(&self, worker: &mut Worker<K>, process: usize) -> Claim<K>
-        requires spot { S.connection ≡ self.now.connections }
-        requires worker { IsIdle self.now.table.shared.table_id worker.old }
-        requires range { process < self.now.processes }
-        ensures { MatchClaim result (λ h. (h.process ≡ process) × IsHeldBy K.next self.now.table.shared.table_id self.now.processes worker.new h × IsWiredIn self.now.connections h.body × (view worker.new ≡ claiming (view worker.old) process h.body)) (λ n. (n ≢ 2) × IsIdle self.now.table.shared.table_id worker.new × (view worker.new ≡ refusing (view worker.old) process n)) }
+        requires spot { S.connection ≡ connection_count self.now }
+        requires worker { IsIdleAt self.now worker.old }
+        requires range { process < process_count self.now }
+        ensures { MatchClaim result (λ h. (h.process ≡ process) × IsHeldAt K.rules self.now worker.new h × IsWiredAt self.now h × (view worker.new ≡ claiming (view worker.old) process h.body)) (λ n. (n ≢ 2) × IsIdleAt self.now worker.new × (view worker.new ≡ refusing (view worker.old) process n)) }
     {
         let shared = &self.table.shared;
         let place = self.layout().process_word(process);
@@ -49,14 +48,14 @@ impl<K: Component> Floor<K> {
     pub fn claim(&self, worker: &mut Worker<K>, process: usize) -> Claim<K>
         requires worker { IsIdleAt self.now worker.old }
         requires range { process < process_count self.now }
-        ensures { MatchClaim result (λ h. (h.process ≡ process) × IsHeldAt K.next self.now worker.new h × IsWiredAt self.now h × (view worker.new ≡ claiming (view worker.old) process h.body)) (λ n. (n ≢ 2) × IsIdleAt self.now worker.new × (view worker.new ≡ refusing (view worker.old) process n)) }
+        ensures { MatchClaim result (λ h. (h.process ≡ process) × IsHeldAt K.rules self.now worker.new h × IsWiredAt self.now h × (view worker.new ≡ claiming (view worker.old) process h.body)) (λ n. (n ≢ 2) × IsIdleAt self.now worker.new × (view worker.new ≡ refusing (view worker.old) process n)) }
     {
         self.claim_at::<Brand>(worker, process)
     }
 
     /// The process is ready again.
     pub fn hand_back(&self, worker: &mut Worker<K>, held: Held<K>)
-        requires { IsHeldAt K.next self.now worker.old held }
+        requires { IsHeldAt K.rules self.now worker.old held }
         ensures idle { IsIdleAt self.now worker.new }
         ensures view { view worker.new ≡ leaving (view worker.old) }
     {
@@ -71,7 +70,7 @@ impl<K: Component> Floor<K> {
 
     /// The process is done: it is over, or its last thought found no memory.
     pub fn retire(&self, worker: &mut Worker<K>, held: Held<K>, over: Over)
-        requires held { IsHeldAt K.next self.now worker.old held }
+        requires held { IsHeldAt K.rules self.now worker.old held }
         requires over { IsOverAs over held }
         ensures idle { IsIdleAt self.now worker.new }
         ensures view { view worker.new ≡ lowering (parking (view worker.old)) }
@@ -91,7 +90,7 @@ impl<K: Component> Floor<K> {
 
     /// The process is parked, unless it was poked since it was claimed. Then it is ready again.
     pub fn park(&self, worker: &mut Worker<K>, held: Held<K>)
-        requires held { IsHeldAt K.next self.now worker.old held }
+        requires held { IsHeldAt K.rules self.now worker.old held }
         requires blocked { IsStuckAt self.now worker.old held }
         ensures idle { IsIdleAt self.now worker.new }
         ensures view { (view worker.new ≡ lowering (parking (view worker.old))) ⊎ (view worker.new ≡ leaving (looked (view worker.old) held.process 3)) }
@@ -115,8 +114,8 @@ impl<K: Component> Floor<K> {
 
     /// Takes the spare token from the live word.
     fn lower(&self, worker: &mut Worker<K>)
-        requires { IsDone self.now.table.shared.table_id worker.old 1 }
-        ensures idle { IsIdle self.now.table.shared.table_id worker.new }
+        requires { IsDoneAt self.now worker.old 1 }
+        ensures idle { IsIdleAt self.now worker.new }
         ensures view { view worker.new ≡ lowering (view worker.old) }
     {
         let live = self.layout().live();
@@ -147,11 +146,12 @@ impl<K: Component> Held<K> {
     /// The body's think: does the pending work, if any, and takes the room of the next turn. It stays its worker's.
     pub fn think<G: Gate>(&mut self, gate: &G) -> Thought
         requires { self.old.body.leaving ≡ None }
-        ensures thinks { Thinks K.next self.old.body result self.new.body }
+        ensures thinks { Thinks K.rules self.old.body result self.new.body }
         ensures keeps { KeepsTurns self.old.body self.new.body }
         ensures process { self.new.process ≡ self.old.process }
-        ensures wired { (m : ℕ) → IsWiredIn m self.old.body → IsWiredIn m self.new.body }
-        ensures held { (z : TableId) (n : ℕ) (w : Worker _) → IsHeldBy K.next z n w self.old → IsHeldBy K.next z n w self.new }
+        ensures wired { (f : Floor _) → IsWiredAt f self.old → IsWiredAt f self.new }
+        ensures held { (f : Floor _) (w : Worker _) → IsHeldAt K.rules f w self.old → IsHeldAt K.rules f w self.new }
+        ensures passed { PassesFirst (G.has_passed gate.now) self.old.body }
     {
         self.body.think(gate)
     }

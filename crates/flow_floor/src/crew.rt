@@ -3,8 +3,8 @@ ghost use Rattle.std.specs.Prelude.{◌≡◌, ◌≢◌, ◌+◌, ◌++◌, ◌
 ghost use Rattle.flow_limits.specs.declared.TheConstants.{WORKER_LIMIT};
 ghost use Rattle.flow_floor.specs.Crew.{made_by};
 ghost use Rattle.flow_floor.specs.Floors.{IsCrewOf, IsIdleAt, IsNewWorker, HasReadZero, SomeReadZero};
-ghost use Rattle.flow_floor.specs.Workers.{view, IsIdle};
-ghost use Rattle.flow_floor.specs.Plays.{cut, merged};
+ghost use Rattle.flow_floor.specs.Workers.{view};
+ghost use Rattle.flow_floor.specs.Views.{cut, merged};
 ghost use Rattle.flow_floor.specs.Seats.{newcomer};
 
 use crate::floor::{Floor, Worker};
@@ -14,10 +14,10 @@ use flow_component::Component;
 impl<K: Component> Floor<K> {
     /// One worker more.
     fn split(&self, worker: &mut Worker<K>) -> Worker<K>
-        requires idle { IsIdle self.now.table.shared.table_id worker.old }
+        requires idle { IsIdleAt self.now worker.old }
         requires shares { 1 < (view worker.old).shares }
-        ensures old { IsIdle self.now.table.shared.table_id worker.new × (view worker.new ≡ cut (view worker.old)) }
-        ensures new { IsIdle self.now.table.shared.table_id result × (view result ≡ newcomer 1) }
+        ensures old { IsIdleAt self.now worker.new × (view worker.new ≡ cut (view worker.old)) }
+        ensures new { IsIdleAt self.now result × (view result ≡ newcomer 1) }
     {
         let seat = self.table.shared.split_seat::<Cut>(&mut worker.seat);
         Worker { seat }
@@ -49,9 +49,9 @@ impl<K: Component> Floor<K> {
 
     /// One worker takes in the turns of another.
     fn join(&self, worker: &mut Worker<K>, other: Worker<K>)
-        requires idle { IsIdle self.now.table.shared.table_id worker.old }
-        requires other { IsIdle self.now.table.shared.table_id other }
-        ensures idle { IsIdle self.now.table.shared.table_id worker.new }
+        requires idle { IsIdleAt self.now worker.old }
+        requires other { IsIdleAt self.now other }
+        ensures idle { IsIdleAt self.now worker.new }
         ensures both { view worker.new ≡ merged (view worker.old) (view other) }
     {
         let Worker { seat } = other;

@@ -1,18 +1,14 @@
 //! The floor, its workers, and what they hold.
-ghost use Rattle.std.specs.Prelude.{◌≡◌, ℕ, ◌+◌, ◌<◌, length, Some, slice_get};
-ghost use Rattle.flow_machine.specs.Values.{BodyValue};
-ghost use Rattle.flow_model.specs.States.{output_at};
-ghost use Rattle.flow_floor.specs.Law.{IsInput};
+ghost use Rattle.std.specs.Prelude.{◌≡◌, ◌≤◌, length};
+ghost use Rattle.flow_limits.specs.declared.TheConstants.{CONNECTION_LIMIT, PROCESS_LIMIT};
+ghost use Rattle.flow_machine.specs.Joins.{IsPlanned};
 ghost use Rattle.flow_ring.specs.Places.{slot_count, word_count};
-ghost use Rattle.std.specs.List.{list_any};
-ghost use Rattle.std.specs.Option.{option_map};
-ghost use Rattle.std.specs.Prelude.{◌==◌, unwrap_or, [], true, All};
 
 use crate::board::{Lawful, Slot, View};
 use atomic_table::{Seat, Table};
 use flow_component::Component;
 use flow_machine::{Block, Body, Channel, Net, Over};
-use flow_net::Connection;
+use flow_plan::Connection;
 use std::alloc::Global;
 use std::snapshot::Snapshot;
 
@@ -25,17 +21,11 @@ pub struct Floor<K: Component> {
     pub ghost words: { table.shared.table_id.words ≡ word_count processes connections },
     pub ghost bodies: { length table.shared.key.value.bodies ≡ processes },
     pub ghost channels: { length table.shared.key.value.channels ≡ connections },
-    pub ghost small: { processes + connections < 4294967296 },
-    /// The connections of the net's plan.
+    pub ghost small: { (processes ≤ PROCESS_LIMIT) × (connections ≤ CONNECTION_LIMIT) },
+    /// The connections of the net's plan. They say who receives from each, and who sends into it.
     pub(crate) plan: Vec<Connection>,
     pub ghost planned: { plan.items ≡ table.shared.key.value.connections },
-    /// By connection, the processes that receive there, and those that send there.
-    pub(crate) receivers: Vec<Vec<u32>>,
-    pub(crate) senders: Vec<Vec<u32>>,
-    pub ghost rows: { (length receivers.items ≡ connections) × (length senders.items ≡ connections) },
-    pub ghost receives: { (p : ℕ) (b : BodyValue _) (c : ℕ) → slice_get table.shared.key.value.bodies p ≡ Some b → IsInput b c → c < connections → list_any (λ q. q == p) (unwrap_or (option_map (λ w. w.items) (slice_get receivers.items c)) []) ≡ true },
-    pub ghost sends: { (p : ℕ) (b : BodyValue _) (o c : ℕ) → slice_get table.shared.key.value.bodies p ≡ Some b → output_at b.process o ≡ Some c → c < connections → list_any (λ q. q == p) (unwrap_or (option_map (λ w. w.items) (slice_get senders.items c)) []) ≡ true },
-    pub ghost named: { (c : ℕ) → All (λ q. q < processes) (unwrap_or (option_map (λ w. w.items) (slice_get receivers.items c)) []) × All (λ q. q < processes) (unwrap_or (option_map (λ w. w.items) (slice_get senders.items c)) []) },
+    pub ghost wired: { ∥ IsPlanned table.shared.key.value ∥₁ },
 }
 
 /// A worker of a floor.

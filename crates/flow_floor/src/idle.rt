@@ -1,16 +1,10 @@
 //! A whole turn of an idle process.
-ghost use Rattle.std.specs.Prelude.{◌≡◌, ℕ, ◌+◌, ◌<◌, ◌++◌, ◌∷◌, [], All, length, Some, None, slice_get};
-ghost use Rattle.flow_model.specs.States.{From};
-ghost use Rattle.flow_model.specs.Events.{Event};
+ghost use Rattle.std.specs.Prelude.{◌≡◌};
 ghost use Rattle.flow_model.specs.declared.Stage.TheVariants.{Idle};
-ghost use Rattle.flow_machine.specs.Values.{BodyValue};
 ghost use Rattle.flow_machine.specs.Thoughts.{HasRoom};
-ghost use Rattle.flow_machine.specs.Nets.{BodyTurn};
-ghost use Rattle.flow_floor.specs.Law.{IsWiredIn};
 ghost use Rattle.flow_floor.specs.Looks.{SawHeld, Idles};
-ghost use Rattle.flow_floor.specs.Turns.{Turns};
-ghost use Rattle.flow_floor.specs.Waking.{InList, IsOutput};
-ghost use Rattle.flow_floor.specs.Workers.{view, IsHeldBy, IsSameSeat, LooksOn};
+ghost use Rattle.flow_floor.specs.Floors.{IsHeldAt, IsSameWorker, IsWiredAt, TurnsAt};
+ghost use Rattle.flow_floor.specs.Workers.{view, LooksOn};
 
 use crate::floor::{Floor, Grabbed, Held, Idling, Saw, Turned, Worker};
 use flow_component::Component;
@@ -20,11 +14,11 @@ use std::marker::Brand;
 impl<K: Component> Floor<K> {
     /// Looks whether the process is released, which it is where a packet came at its automatic input before.
     fn look_released(&self, worker: &mut Worker<K>, held: &Held<K>) -> Saw
-        requires held { IsHeldBy K.next self.now.table.shared.table_id self.now.processes worker.old held.now }
-        requires wired { IsWiredIn self.now.connections held.now.body }
-        ensures held { IsHeldBy K.next self.now.table.shared.table_id self.now.processes worker.new held.now }
+        requires held { IsHeldAt K.rules self.now worker.old held.now }
+        requires wired { IsWiredAt self.now held.now }
+        ensures held { IsHeldAt K.rules self.now worker.new held.now }
         ensures looks { LooksOn (view worker.old) (view worker.new) }
-        ensures seat { IsSameSeat (view worker.old) (view worker.new) }
+        ensures seat { IsSameWorker worker.old worker.new }
         ensures saw { SawHeld self.now.processes (view worker.old).steps held.now.body.process (view worker.new).seen result }
     {
         if held.body.signalled() {
@@ -35,11 +29,11 @@ impl<K: Component> Floor<K> {
 
     /// Looks at the automatic input, at the stream inputs, and at the automatic input again, as far as it is needed to tell what the process does.
     fn look_idle(&self, worker: &mut Worker<K>, held: &Held<K>) -> Idling
-        requires held { IsHeldBy K.next self.now.table.shared.table_id self.now.processes worker.old held.now }
-        requires wired { IsWiredIn self.now.connections held.now.body }
-        ensures held { IsHeldBy K.next self.now.table.shared.table_id self.now.processes worker.new held.now }
+        requires held { IsHeldAt K.rules self.now worker.old held.now }
+        requires wired { IsWiredAt self.now held.now }
+        ensures held { IsHeldAt K.rules self.now worker.new held.now }
         ensures looks { LooksOn (view worker.old) (view worker.new) }
-        ensures seat { IsSameSeat (view worker.old) (view worker.new) }
+        ensures seat { IsSameWorker worker.old worker.new }
         ensures idles { Idles self.now.processes (view worker.old).steps held.now.body.process (view worker.new).seen result }
     {
         match self.look_released(worker, held) {
@@ -65,13 +59,13 @@ impl<K: Component> Floor<K> {
     /// Starts, goes to its end, takes the packet at its automatic input, or is dormant, by what it sees at its inputs. The processes that send to the
     /// automatic input are woken.
     pub(crate) fn idle_turn(&self, worker: &mut Worker<K>, held: &mut Held<K>) -> Turned
-        requires held { IsHeldBy K.next self.now.table.shared.table_id self.now.processes worker.old held.old }
-        requires wired { IsWiredIn self.now.connections held.old.body }
+        requires held { IsHeldAt K.rules self.now worker.old held.old }
+        requires wired { IsWiredAt self.now held.old }
         requires stage { held.old.body.process.stage ≡ Idle }
         requires room { HasRoom held.old.body }
-        ensures held { IsHeldBy K.next self.now.table.shared.table_id self.now.processes worker.new held.new }
-        ensures turned { Turns K.shape_of K.uses K.ready K.next self.now.processes self.now.table.shared.key.value held.old worker.old held.new worker.new result }
-        ensures seat { IsSameSeat (view worker.old) (view worker.new) }
+        ensures held { IsHeldAt K.rules self.now worker.new held.new }
+        ensures turned { TurnsAt K.rules self.now held.old worker.old held.new worker.new result }
+        ensures seat { IsSameWorker worker.old worker.new }
     {
         match self.look_idle(worker, held) {
             Idling::Start => Turned::Made(self.start_as::<Brand>(worker, held)),
@@ -86,9 +80,7 @@ impl<K: Component> Floor<K> {
                     Grabbed::Busy(word) => Turned::Busy(connection, word),
                     Grabbed::Got(_, mut channel) => {
                         let stamp = self.signal_as::<Brand>(worker, held, &mut channel, c);
-                        let senders = self.senders_of(c);
-                        self.give_back(worker, held, channel, c, senders);
-                        self.wake_all(worker, held, senders);
+                        self.give_back_waking_senders(worker, held, channel, c);
                         Turned::Made(stamp)
                     }
                 }

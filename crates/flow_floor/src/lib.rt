@@ -18,7 +18,6 @@ mod steps;
 mod turn;
 mod turns;
 mod wake;
-mod wiring;
 
 pub use board::{Lawful, Slot, View};
 pub use floor::{Claim, Floor, Held, Turned, Worker};

@@ -1,22 +1,19 @@
 //! How a floor is opened.
-ghost use Rattle.std.specs.Prelude.{◌≡◌, ℕ, ◌+◌, ◌++◌, ◌<◌, ◌≤◌, [], length, map, All, IfOk, IfErr, true, false, vec_capacity};
-ghost use Rattle.flow_limits.specs.declared.TheConstants.{WORKER_LIMIT};
-ghost use Rattle.flow_machine.specs.Joins.{Joins};
+ghost use Rattle.std.specs.Prelude.{◌≡◌, ◌+◌, ◌++◌, ◌≤◌, [], length, map, All, IfOk, IfErr, vec_capacity};
+ghost use Rattle.flow_limits.specs.declared.TheConstants.{CONNECTION_LIMIT, WORKER_LIMIT};
 ghost use Rattle.flow_floor.specs.declared.board.Slot.TheVariants as Slot;
 ghost use Rattle.flow_floor.specs.Opening.{FirstWords, FewSenders};
 ghost use Rattle.flow_floor.specs.Rooms.{HasRooms};
 ghost use Rattle.flow_floor.specs.Floors.{opened_net, process_count, HasRoomsFor, IsCrewOf, IsNewWorker};
-ghost use Rattle.flow_floor.specs.Wiring.{HasRows};
 
 use crate::back::join_again;
 use crate::board::Slot;
 use crate::floor::{Floor, Worker};
 use crate::rooms::Rooms;
-use crate::wiring::rows_of;
 use atomic_table::Table;
 use flow_component::Component;
 use flow_machine::{Body, Channel, Net, Parts};
-use flow_ring::Layout;
+use flow_ring::{Layout, pack};
 use std::alloc::{AllocError, Global};
 use std::snapshot::Snapshot;
 
@@ -36,7 +33,7 @@ pub struct Opened<K: Component> {
 /// The same net. A net's invariant, that its connections and their senders are few, is told by its pieces alone.
 fn measured<K: Component>(net: Net<K>) -> Net<K>
     ensures same { result ≡ net }
-    ensures few { length result.channels < 65536 }
+    ensures few { length result.channels ≤ CONNECTION_LIMIT }
     ensures senders { FewSenders result.channels }
 {
     net.split().join()
@@ -44,7 +41,7 @@ fn measured<K: Component>(net: Net<K>) -> Net<K>
 
 /// The words at the start.
 fn first_words<K: Component>(alloc: Global, net: &Net<K>) -> Result<Vec<u64>, AllocError>
-    requires few { length net.now.channels < 65536 }
+    requires few { length net.now.channels ≤ CONNECTION_LIMIT }
     requires senders { FewSenders net.now.channels }
     ensures { IfOk result (λ words. FirstWords net.now words.items) }
 {
@@ -55,7 +52,7 @@ fn first_words<K: Component>(alloc: Global, net: &Net<K>) -> Result<Vec<u64>, Al
     }
     for connection in 0..net.connections() {
         let channel = net.channel(connection as u32);
-        let word = channel.level() as u64 + channel.open_senders() as u64 * 65536;
+        let word = pack(channel.level() as u32, channel.open_senders(), false);
         words[layout.connection_word(connection)] = word;
     }
     words[layout.clock()] = net.turns_made() as u64;
@@ -69,12 +66,11 @@ fn put_bodies<K: Component>(bodies: Vec<Body<K>>, mut slots: Vec<Slot<K>>) -> Ve
     ensures items { result.items ≡ slots.items ++ map Slot.Body bodies.items }
     ensures room { vec_capacity result ≡ vec_capacity slots }
 {
-    let mut bodies = bodies;
-    for _p in 0..bodies.len() {
-        let body = bodies.remove(0);
+    let mut left = bodies.into_iter();
+    while let Some(body) = left.next() {
         slots.push_reserved(Slot::Body(body));
     }
-    bodies.destroy_empty();
+    left.destroy_empty();
     slots
 }
 
@@ -83,20 +79,17 @@ fn put_channels<K: Component>(channels: Vec<Channel>, mut slots: Vec<Slot<K>>) -
     requires room { length slots.items + length channels.items ≤ vec_capacity slots }
     ensures items { result.items ≡ slots.items ++ map Slot.Channel channels.items }
 {
-    let mut channels = channels;
-    for _c in 0..channels.len() {
-        let channel = channels.remove(0);
+    let mut left = channels.into_iter();
+    while let Some(channel) = left.next() {
         slots.push_reserved(Slot::Channel(channel));
     }
-    channels.destroy_empty();
+    left.destroy_empty();
     slots
 }
 
 /// What is taken before a net is taken apart.
 struct Laid<K: Component> {
     words: Vec<u64>,
-    receivers: Vec<Vec<u32>>,
-    senders: Vec<Vec<u32>>,
     crew: Vec<Worker<K>>,
     slots: Vec<Slot<K>>,
     rooms: Rooms<K>,
@@ -104,29 +97,23 @@ struct Laid<K: Component> {
 
 /// Takes all that a floor needs.
 fn lay<K: Component>(alloc: Global, net: &Net<K>, workers: u32) -> Result<Laid<K>, AllocError>
-    requires few { length net.now.channels < 65536 }
+    requires few { length net.now.channels ≤ CONNECTION_LIMIT }
     requires few_senders { FewSenders net.now.channels }
     ensures words { IfOk result (λ l. FirstWords net.now l.words.items) }
-    ensures receivers { IfOk result (λ l. HasRows false net.now (map (λ w. w.items) l.receivers.items)) }
-    ensures senders { IfOk result (λ l. HasRows true net.now (map (λ w. w.items) l.senders.items)) }
     ensures crew { IfOk result (λ l. (l.crew.items ≡ []) × (workers ≤ vec_capacity l.crew)) }
     ensures slots { IfOk result (λ l. (l.slots.items ≡ []) × (length net.now.bodies + length net.now.channels ≤ vec_capacity l.slots)) }
     ensures rooms { IfOk result (λ l. HasRooms (length net.now.bodies) (length net.now.channels) l.rooms) }
 {
     let words = first_words(alloc, net)?;
-    let receivers = rows_of(alloc, net, false)?;
-    let senders = rows_of(alloc, net, true)?;
     let crew = Vec::with_capacity(alloc, workers as usize)?;
     let rooms = Rooms::new(alloc, net.processes() as usize, net.connections())?;
-    let count = net.processes() as usize + net.connections();
-    let Ok(slots) = Vec::with_capacity(alloc, count) else {
+    let layout = Layout::of(net.processes() as usize, net.connections());
+    let Ok(slots) = Vec::with_capacity(alloc, layout.slots()) else {
         rooms.discard();
         return Err(AllocError);
     };
     Ok(Laid {
         words,
-        receivers,
-        senders,
         crew,
         slots,
         rooms,
@@ -142,10 +129,8 @@ fn begin<K: Component>(
 ) -> Result<Opened<K>, OpenStop<K>>
     requires least { 1 ≤ workers }
     requires most { workers ≤ WORKER_LIMIT }
-    requires few { (length net.channels < 65536) × FewSenders net.channels }
+    requires few { (length net.channels ≤ CONNECTION_LIMIT) × FewSenders net.channels }
     requires words { FirstWords net laid.words.items }
-    requires receivers { HasRows false net (map (λ w. w.items) laid.receivers.items) }
-    requires senders { HasRows true net (map (λ w. w.items) laid.senders.items) }
     requires crew { (laid.crew.items ≡ []) × (workers ≤ vec_capacity laid.crew) }
     requires slots { (laid.slots.items ≡ []) × (length net.bodies + length net.channels ≤ vec_capacity laid.slots) }
     requires rooms { HasRooms (length net.bodies) (length net.channels) laid.rooms }
@@ -157,8 +142,6 @@ fn begin<K: Component>(
 {
     let Laid {
         words,
-        receivers,
-        senders,
         crew,
         slots,
         rooms,
@@ -180,8 +163,6 @@ fn begin<K: Component>(
                 processes,
                 connections,
                 plan,
-                receivers,
-                senders,
             };
             let workers = floor.hire(crew, Worker { seat }, workers);
             Ok(Opened {

@@ -76,7 +76,7 @@ pub struct Grab<S: Spot> {
 }
 
 impl<K: Component, S: Spot> Play<Slot<K>, View<K>> for Grab<S> {
-    ghost then = { λ st. grabbed K.shape_of K.uses K.ready S.processes S.connection S.most (ordered st) };
+    ghost then = { λ st. grabbed K.rules S.processes S.connection S.most (ordered st) };
 }
 
 pub struct Look;
@@ -90,7 +90,7 @@ pub struct Stamp<D> {
 }
 
 impl<K: Component, D: Deed<K>> Play<Slot<K>, View<K>> for Stamp<D> {
-    ghost then = { stamped K.shape_of K.uses K.ready K.next D.start D.event D.after };
+    ghost then = { stamped K.rules D.start D.event D.after };
 }
 
 pub struct Release<N: Noting> {
@@ -159,7 +159,7 @@ impl<K: Component> Play<Slot<K>, View<K>> for Live {
 pub struct Cut;
 
 impl<K: Component> Split<View<K>> for Cut {
-    ghost use Rattle.flow_floor.specs.Plays.{cut};
+    ghost use Rattle.flow_floor.specs.Views.{cut};
     ghost use Rattle.flow_floor.specs.Seats.{newcomer};
 
     ghost left = { cut };
@@ -171,7 +171,7 @@ impl<K: Component> Split<View<K>> for Cut {
 pub struct Glue;
 
 impl<K: Component> Join<View<K>> for Glue {
-    ghost use Rattle.flow_floor.specs.Plays.{merged};
+    ghost use Rattle.flow_floor.specs.Views.{merged};
     ghost use Rattle.flow_floor.specs.Seats.{newcomer};
 
     ghost both = { merged };

@@ -1,16 +1,12 @@
 //! Whole turns at an output.
-ghost use Rattle.std.specs.Prelude.{◌≡◌, ℕ, ◌+◌, ◌<◌, ◌≤◌, All, length, Some, slice_get};
+ghost use Rattle.std.specs.Prelude.{◌≡◌, ◌<◌, Some};
 ghost use Rattle.flow_component.specs.declared.Wish.TheVariants.{Level};
 ghost use Rattle.flow_model.specs.declared.Stage.TheVariants.{Wishing, Closing};
 ghost use Rattle.flow_model.specs.States.{outlets, output_at};
-ghost use Rattle.flow_machine.specs.Values.{BodyValue};
 ghost use Rattle.flow_machine.specs.Thoughts.{HasRoom};
 ghost use Rattle.flow_machine.specs.Nets.{SendsAt};
 ghost use Rattle.flow_machine.specs.Outlets.{connection_at};
-ghost use Rattle.flow_floor.specs.Turns.{Turns};
-ghost use Rattle.flow_floor.specs.Workers.{view, IsHeldBy, IsSameSeat};
-ghost use Rattle.flow_floor.specs.Waking.{InList};
-ghost use Rattle.flow_floor.specs.Law.{IsInput};
+ghost use Rattle.flow_floor.specs.Floors.{connection_count, IsHeldAt, IsSameWorker, TurnsAt};
 
 use crate::floor::{Floor, Grabbed, Held, Turned, Worker};
 use flow_component::{Component, Port};
@@ -18,37 +14,33 @@ use flow_machine::Block;
 use std::marker::Brand;
 
 impl<K: Component> Floor<K> {
-    /// Sends the packet of the wish, where there is room. The processes that receive there are woken.
+    /// Sends the packet of the wish, where there is room. The process that receives there is woken.
     pub(crate) fn send_turn(
         &self,
         worker: &mut Worker<K>,
         held: &mut Held<K>,
         connection: u32,
         port: Port,
-        receivers: &[u32],
     ) -> Turned
-        requires held { IsHeldBy K.next self.now.table.shared.table_id self.now.processes worker.old held.old }
-        requires range { connection < self.now.connections }
+        requires held { IsHeldAt K.rules self.now worker.old held.old }
+        requires range { connection < connection_count self.now }
         requires stage { SendsAt held.old.body.process.stage port }
         requires output { output_at held.old.body.process port.0 ≡ Some connection }
         requires room { HasRoom held.old.body }
-        requires receivers { (q : ℕ) (b : BodyValue _) → slice_get self.now.table.shared.key.value.bodies q ≡ Some b → IsInput b connection → InList q receivers.now }
-        requires below { All (λ q. q < self.now.processes) receivers.now }
-        ensures held { IsHeldBy K.next self.now.table.shared.table_id self.now.processes worker.new held.new }
-        ensures turned { Turns K.shape_of K.uses K.ready K.next self.now.processes self.now.table.shared.key.value held.old worker.old held.new worker.new result }
-        ensures seat { IsSameSeat (view worker.old) (view worker.new) }
+        ensures held { IsHeldAt K.rules self.now worker.new held.new }
+        ensures turned { TurnsAt K.rules self.now held.old worker.old held.new worker.new result }
+        ensures seat { IsSameWorker worker.old worker.new }
     {
         let c = connection as usize;
         match self.grab::<Brand>(worker, held, c) {
             Grabbed::Busy(word) => Turned::Busy(connection, word),
             Grabbed::Got(word, mut channel) => {
                 if channel.level() >= channel.capacity() as usize {
-                    self.give_back(worker, held, channel, c, &[]);
+                    self.give_back(worker, held, channel, c);
                     return Turned::Blocked(Block::Full { connection, port }, word);
                 }
                 let stamp = self.send_as::<Brand>(worker, held, &mut channel, c, port);
-                self.give_back(worker, held, channel, c, receivers);
-                self.wake_all(worker, held, receivers);
+                self.give_back_waking_receiver(worker, held, channel, c);
                 Turned::Made(stamp)
             }
         }
@@ -62,53 +54,49 @@ impl<K: Component> Floor<K> {
         connection: u32,
         port: Port,
     ) -> Turned
-        requires held { IsHeldBy K.next self.now.table.shared.table_id self.now.processes worker.old held.old }
-        requires range { connection < self.now.connections }
+        requires held { IsHeldAt K.rules self.now worker.old held.old }
+        requires range { connection < connection_count self.now }
         requires stage { held.old.body.process.stage ≡ Wishing (Level port) }
         requires output { output_at held.old.body.process port.0 ≡ Some connection }
         requires room { HasRoom held.old.body }
-        ensures held { IsHeldBy K.next self.now.table.shared.table_id self.now.processes worker.new held.new }
-        ensures turned { Turns K.shape_of K.uses K.ready K.next self.now.processes self.now.table.shared.key.value held.old worker.old held.new worker.new result }
-        ensures seat { IsSameSeat (view worker.old) (view worker.new) }
+        ensures held { IsHeldAt K.rules self.now worker.new held.new }
+        ensures turned { TurnsAt K.rules self.now held.old worker.old held.new worker.new result }
+        ensures seat { IsSameWorker worker.old worker.new }
     {
         let c = connection as usize;
         match self.grab::<Brand>(worker, held, c) {
             Grabbed::Busy(word) => Turned::Busy(connection, word),
             Grabbed::Got(_, channel) => {
                 let stamp = self.learn_as::<Brand>(worker, held, &channel, c, port);
-                self.give_back(worker, held, channel, c, &[]);
+                self.give_back(worker, held, channel, c);
                 Turned::Made(stamp)
             }
         }
     }
 
-    /// Closes one more of its connected outputs. The processes that receive there are woken.
+    /// Closes one more of its connected outputs. The process that receives there is woken.
     pub(crate) fn close_turn(
         &self,
         worker: &mut Worker<K>,
         held: &mut Held<K>,
         connection: u32,
         place: u32,
-        receivers: &[u32],
     ) -> Turned
-        requires held { IsHeldBy K.next self.now.table.shared.table_id self.now.processes worker.old held.old }
-        requires range { connection < self.now.connections }
+        requires held { IsHeldAt K.rules self.now worker.old held.old }
+        requires range { connection < connection_count self.now }
         requires stage { held.old.body.process.stage ≡ Closing place }
         requires outlet { connection_at (outlets held.old.body.process) place ≡ Some connection }
         requires room { HasRoom held.old.body }
-        requires receivers { (q : ℕ) (b : BodyValue _) → slice_get self.now.table.shared.key.value.bodies q ≡ Some b → IsInput b connection → InList q receivers.now }
-        requires below { All (λ q. q < self.now.processes) receivers.now }
-        ensures held { IsHeldBy K.next self.now.table.shared.table_id self.now.processes worker.new held.new }
-        ensures turned { Turns K.shape_of K.uses K.ready K.next self.now.processes self.now.table.shared.key.value held.old worker.old held.new worker.new result }
-        ensures seat { IsSameSeat (view worker.old) (view worker.new) }
+        ensures held { IsHeldAt K.rules self.now worker.new held.new }
+        ensures turned { TurnsAt K.rules self.now held.old worker.old held.new worker.new result }
+        ensures seat { IsSameWorker worker.old worker.new }
     {
         let c = connection as usize;
         match self.grab::<Brand>(worker, held, c) {
             Grabbed::Busy(word) => Turned::Busy(connection, word),
             Grabbed::Got(_, mut channel) => {
                 let stamp = self.close_as::<Brand>(worker, held, &mut channel, c, place);
-                self.give_back(worker, held, channel, c, receivers);
-                self.wake_all(worker, held, receivers);
+                self.give_back_waking_receiver(worker, held, channel, c);
                 Turned::Made(stamp)
             }
         }

@@ -3,11 +3,12 @@ ghost use Rattle.std.specs.Prelude.{◌≡◌, ℕ, ◌+◌, ◌<◌, ◌≤◌,
 ghost use Rattle.std.specs.Mem.Slots.{slots_items, slots_filled, slots_len, IsFull};
 ghost use Rattle.flow_ring.specs.Places.{word_count};
 ghost use Rattle.flow_ring.specs.Spaced.{ranked};
-ghost use Rattle.flow_limits.specs.declared.TheConstants.{WORKER_LIMIT};
+ghost use Rattle.flow_limits.specs.declared.TheConstants.{PROCESS_LIMIT, WORKER_LIMIT};
 ghost use Rattle.flow_floor.specs.Crew.{made_by};
 ghost use Rattle.flow_floor.specs.Floors.{opened_net, HasReadZero, SomeReadZero, HasRoomsFor, IsCrewOf, IsIdleAt, turns_of};
 ghost use Rattle.flow_machine.specs.Quiet.{AllUnset, IsQuietNet};
-ghost use Rattle.flow_floor.specs.Shut.{HasBodies, HasChannels, BodiesIn, ChannelsIn, IsShut, ListsStarved, is_over_stage, starves, listed};
+ghost use Rattle.flow_model.specs.Stages.{is_over_stage};
+ghost use Rattle.flow_floor.specs.Shut.{HasBodies, HasChannels, BodiesIn, ChannelsIn, IsShut, ListsStarved, starves, listed};
 ghost use Rattle.flow_floor.specs.Workers.{view};
 
 use crate::board::Slot;
@@ -74,26 +75,12 @@ fn take_channels<K: Component>(
     channels
 }
 
-/// The process has ended or failed.
-fn is_over<K: Component>(body: &Body<K>) -> bool
-    ensures { result ≡ is_over_stage body.now.process.stage }
-{
-    match body.stage() {
-        Stage::Ended => true,
-        Stage::Failed(_) => true,
-        Stage::Idle => false,
-        Stage::Told(_) => false,
-        Stage::Wishing(_) => false,
-        Stage::Closing(_) => false,
-    }
-}
-
 /// A process with this word is done, and not over. One that is ready isn't starved: a floor may be paused.
 fn starves<K: Component>(word: u64, body: &Body<K>) -> bool
     ensures { result ≡ starves word body.now.process.stage }
 {
     if word == DONE || word == DONE_POKED {
-        !is_over(body)
+        !body.stage().is_over()
     } else {
         false
     }
@@ -121,7 +108,7 @@ fn list_starved<K: Component>(
     requires full { IsFull closed.now.words }
     requires bodies { length bodies.now ≡ layout.processes }
     requires range { slots_len closed.now.words ≡ word_count layout.processes layout.connections }
-    requires few { length bodies.now < 4294967296 }
+    requires few { length bodies.now ≤ PROCESS_LIMIT }
     requires room { (length starved.items ≡ 0) × (length bodies.now ≤ vec_capacity starved) }
     ensures { ListsStarved (ranked (slots_items closed.now.words)) bodies.now (length bodies.now) result.items }
 {
@@ -139,7 +126,7 @@ impl<K: Component> Floor<K> {
         requires worker { IsIdleAt self worker }
         requires all { (view worker).shares ≡ WORKER_LIMIT }
         requires rooms { HasRoomsFor self rooms }
-        ensures net { IsShut K.shape_of K.uses K.ready K.next (opened_net self) (turns_of worker) result.net }
+        ensures net { IsShut K.rules (opened_net self) (turns_of worker) result.net }
         ensures starved { AllUnset result.net result.starved.items }
         ensures quiet { HasReadZero worker → result.starved.items ≡ [] → IsQuietNet result.net }
     {
@@ -150,8 +137,6 @@ impl<K: Component> Floor<K> {
             processes,
             connections,
             plan,
-            receivers: _,
-            senders: _,
         } = self;
         let Rooms {
             bodies,
@@ -178,7 +163,7 @@ impl<K: Component> Floor<K> {
     fn rejoin(self, workers: Vec<Worker<K>>, rooms: Rooms<K>) -> Shut<K>
         requires crew { IsCrewOf self workers.items }
         requires rooms { HasRoomsFor self rooms }
-        ensures net { IsShut K.shape_of K.uses K.ready K.next (opened_net self) (made_by workers.items) result.net }
+        ensures net { IsShut K.rules (opened_net self) (made_by workers.items) result.net }
         ensures starved { AllUnset result.net result.starved.items }
         ensures quiet { SomeReadZero workers.items → result.starved.items ≡ [] → IsQuietNet result.net }
     {
@@ -196,7 +181,7 @@ impl<K: Component> Floor<K> {
         requires crew { IsCrewOf self workers.items }
         requires rooms { HasRoomsFor self rooms }
         requires zero { All HasReadZero workers.items }
-        ensures net { IsShut K.shape_of K.uses K.ready K.next (opened_net self) (made_by workers.items) result.net }
+        ensures net { IsShut K.rules (opened_net self) (made_by workers.items) result.net }
         ensures starved { AllUnset result.net result.starved.items }
         ensures quiet { result.starved.items ≡ [] → IsQuietNet result.net }
     {
@@ -208,7 +193,7 @@ impl<K: Component> Floor<K> {
     pub fn pause(self, workers: Vec<Worker<K>>, rooms: Rooms<K>) -> Shut<K>
         requires crew { IsCrewOf self workers.items }
         requires rooms { HasRoomsFor self rooms }
-        ensures net { IsShut K.shape_of K.uses K.ready K.next (opened_net self) (made_by workers.items) result.net }
+        ensures net { IsShut K.rules (opened_net self) (made_by workers.items) result.net }
         ensures starved { AllUnset result.net result.starved.items }
         ensures quiet { SomeReadZero workers.items → result.starved.items ≡ [] → IsQuietNet result.net }
     {

@@ -1,22 +1,21 @@
 //! The steps of a turn. Each keeps the rule of the table.
-ghost use Rattle.std.specs.Prelude.{◌≡◌, ℕ, ◌+◌, ◌<◌, ◌≤◌, ◌++◌, ◌∷◌, [], length, Some, None};
-ghost use Rattle.flow_floor.specs.declared.board.Slot.TheVariants as Slot;
-ghost use Rattle.flow_machine.specs.Values.{BodyValue};
+ghost use Rattle.std.specs.Prelude.{◌≡◌, ◌+◌, ◌<◌, ◌≤◌, ◌++◌, [], length};
 ghost use Rattle.flow_machine.specs.FitNets.{FitNet};
 ghost use Rattle.flow_ring.specs.Words.{held_bit, free_word, level_in, senders_in};
-ghost use Rattle.flow_floor.specs.Workers.{view, Agrees, IsHeldBy, IsGrabbing, IsWaking, HasGrabbed, MatchGrabbed};
-ghost use Rattle.flow_floor.specs.Plays.{seeing, stamping, releasing, Below};
+ghost use Rattle.flow_floor.specs.Floors.{capacity_of, connection_count, opened_net, IsDeedOf, IsGrabbingAt, IsHeldAt, IsSameWorker, IsWakingAt};
+ghost use Rattle.flow_floor.specs.Workers.{view, Agrees, HasGrabbed, MatchGrabbed};
+ghost use Rattle.flow_floor.specs.Views.{seeing, stamping, releasing};
+ghost use Rattle.flow_floor.specs.Made.{Below};
 ghost use Rattle.flow_floor.specs.Turning.{At, Happens, MachineTurn};
-ghost use Rattle.flow_floor.specs.Waking.{Notes, capacity_at};
+ghost use Rattle.flow_floor.specs.Waking.{Notes};
 
 use crate::board::Slot;
 use crate::floor::{Floor, Grabbed, Held, Worker};
 use crate::plays::{Deed, Grab, Noting, Release, Spot, Stamp};
 use flow_component::Component;
 use flow_machine::Channel;
+use flow_ring::{HELD_BIT, is_held, pack};
 use std::marker::Brand;
-
-const HELD: u64 = 1 << 63;
 
 impl<K: Component> Floor<K> {
     /// Takes the connection, unless another worker holds it.
@@ -28,15 +27,15 @@ impl<K: Component> Floor<K> {
     ) -> Grabbed
         requires processes { S.processes ≡ self.now.processes }
         requires spot { S.connection ≡ connection }
-        requires most { S.most ≡ capacity_at self.now.table.shared.key.value.channels connection }
-        requires held { IsHeldBy K.next self.now.table.shared.table_id self.now.processes worker.old held.now }
-        requires range { connection < self.now.connections }
-        ensures { MatchGrabbed result (λ w. (held_bit ≤ w) × IsHeldBy K.next self.now.table.shared.table_id self.now.processes worker.new held.now × (view worker.new ≡ seeing (view worker.old) (self.now.processes + connection) w)) (λ w k. IsGrabbing K.next self.now.table.shared.table_id self.now.processes worker.new held.now connection k × HasGrabbed K.shape_of K.uses K.ready worker.old worker.new self.now.processes connection (capacity_at self.now.table.shared.key.value.channels connection) w k) }
+        requires most { S.most ≡ capacity_of self.now connection }
+        requires held { IsHeldAt K.rules self.now worker.old held.now }
+        requires range { connection < connection_count self.now }
+        ensures { MatchGrabbed result (λ w. (held_bit ≤ w) × IsHeldAt K.rules self.now worker.new held.now × (view worker.new ≡ seeing (view worker.old) (self.now.processes + connection) w)) (λ w k. IsGrabbingAt K.rules self.now worker.new held.now connection k × HasGrabbed K.rules worker.old worker.new self.now.processes connection (capacity_of self.now connection) w k) }
     {
         let shared = &self.table.shared;
         let place = self.layout().connection_word(connection);
-        let word = shared.fetch_or::<Grab<S>>(&mut worker.seat, place, HELD);
-        if word >= HELD {
+        let word = shared.fetch_or::<Grab<S>>(&mut worker.seat, place, HELD_BIT);
+        if is_held(word) {
             return Grabbed::Busy(word);
         }
         let slot = self.layout().channel_slot(connection);
@@ -50,16 +49,15 @@ impl<K: Component> Floor<K> {
     /// Counts the clock. The turn takes effect at this step, and the pending work before it.
     pub(crate) fn stamp<D: Deed<K>>(&self, worker: &mut Worker<K>, held: &Held<K>) -> u32
         requires table { worker.old.seat.table_id ≡ self.now.table.shared.table_id }
-        requires body { Agrees K.next worker.old held.now }
-        requires after { (b : BodyValue _) → D.after b ≡ held.now.body }
-        requires start { D.start ≡ self.now.table.shared.key.value }
+        requires body { Agrees K.rules worker.old held.now }
+        requires deed { IsDeedOf self.now held.now D.after D.start }
         requires at { At D.event (view worker.old).grab }
-        requires happens { Happens (FitNet K.shape_of K.uses K.ready) self.now.processes self.now.connections held.now.process held.now.body (view worker.old).grab (view worker.old).seen D.event }
+        requires happens { Happens (FitNet K.rules) self.now.processes self.now.connections held.now.process held.now.body (view worker.old).grab (view worker.old).seen D.event }
         ensures table { worker.new.seat.table_id ≡ worker.old.seat.table_id }
         ensures view { view worker.new ≡ stamping (view worker.old) result D.event D.after }
         ensures slots { worker.new.seat.me.1 ≡ worker.old.seat.me.1 }
         ensures above { Below result (view worker.old).made }
-        ensures machine { MachineTurn K.shape_of K.uses K.ready K.next self.now.table.shared.key.value result held.now.process held.now.body D.event }
+        ensures machine { MachineTurn K.rules (opened_net self.now) result held.now.process held.now.body D.event }
     {
         let _ = held;
         let clock = self.layout().clock();
@@ -71,51 +69,85 @@ impl<K: Component> Floor<K> {
     }
 
     /// Gives the connection back, and notes the processes that may have a turn now.
-    pub(crate) fn release<N: Noting>(
+    fn release<N: Noting>(
         &self,
         worker: &mut Worker<K>,
         held: &Held<K>,
         channel: Channel,
         connection: usize,
-        notes: &[u32],
     )
-        requires told { N.notes ≡ notes.now }
-        requires held { IsGrabbing K.next self.now.table.shared.table_id self.now.processes worker.old held.now connection channel }
-        requires range { connection < self.now.connections }
-        requires notes { Notes self.now.table.shared.key.value connection (view worker.old).word (free_word (length channel.packets) channel.open_senders) (N.notes ++ (view worker.old).noted) }
-        ensures table { worker.new.seat.table_id ≡ worker.old.seat.table_id }
+        requires held { IsGrabbingAt K.rules self.now worker.old held.now connection channel }
+        requires range { connection < connection_count self.now }
+        requires notes { Notes (opened_net self.now) connection (view worker.old).word (free_word (length channel.packets) channel.open_senders) (N.notes ++ (view worker.old).noted) }
+        ensures waking { IsWakingAt K.rules self.now worker.new held.now N.notes }
         ensures view { view worker.new ≡ releasing (view worker.old) N.notes }
-        ensures slots { worker.new.seat.me.1 ≡ (held.now.process, Slot.Vacant) ∷ [] }
     {
         let _ = held;
-        let _ = notes;
         let shared = &self.table.shared;
-        let level = channel.level() as u64;
-        let word = level + channel.open_senders() as u64 * 65536;
+        let word = pack(channel.level() as u32, channel.open_senders(), false);
         let slot = self.layout().channel_slot(connection);
         let old = shared.exchange(&mut worker.seat, slot, Slot::Channel(channel));
         let Slot::Vacant = old else { unreachable!() };
         let place = self.layout().connection_word(connection);
         shared.swap::<Release<N>>(&mut worker.seat, place, word);
     }
-}
 
-impl<K: Component> Floor<K> {
-    /// Gives the connection back, and notes these processes.
+    /// Gives the connection back as it was found. Nobody is woken.
     pub(crate) fn give_back(
         &self,
         worker: &mut Worker<K>,
         held: &Held<K>,
         channel: Channel,
         connection: usize,
-        notes: &[u32],
     )
-        requires held { IsGrabbing K.next self.now.table.shared.table_id self.now.processes worker.old held.now connection channel }
-        requires range { connection < self.now.connections }
-        requires notes { Notes self.now.table.shared.key.value connection (view worker.old).word (free_word (length channel.packets) channel.open_senders) (notes.now ++ (view worker.old).noted) }
-        ensures held { IsWaking K.next self.now.table.shared.table_id self.now.processes worker.new held.now notes.now }
-        ensures view { view worker.new ≡ releasing (view worker.old) notes.now }
+        requires held { IsGrabbingAt K.rules self.now worker.old held.now connection channel }
+        requires range { connection < connection_count self.now }
+        requires level { level_in (view worker.old).word ≡ length channel.packets }
+        requires senders { senders_in (view worker.old).word ≤ channel.open_senders }
+        ensures held { IsHeldAt K.rules self.now worker.new held.now }
+        ensures view { view worker.new ≡ releasing (view worker.old) [] }
     {
-        self.release::<Brand>(worker, held, channel, connection, notes);
+        self.release::<Brand>(worker, held, channel, connection);
+    }
+
+    /// Gives the connection back, where its level may have risen or a sender may have closed, and wakes the process that receives there.
+    pub(crate) fn give_back_waking_receiver(
+        &self,
+        worker: &mut Worker<K>,
+        held: &Held<K>,
+        channel: Channel,
+        connection: usize,
+    )
+        requires held { IsGrabbingAt K.rules self.now worker.old held.now connection channel }
+        requires range { connection < connection_count self.now }
+        requires level { level_in (view worker.old).word ≤ length channel.packets }
+        ensures held { IsHeldAt K.rules self.now worker.new held.now }
+        ensures made { (view worker.new).made ≡ (view worker.old).made }
+        ensures seat { IsSameWorker worker.old worker.new }
+    {
+        let receiver = self.plan[connection].receiver;
+        self.release::<Brand>(worker, held, channel, connection);
+        self.wake(worker, held, receiver as usize);
+    }
+
+    /// Gives the connection back, where its level may have fallen, and wakes the processes that send there.
+    pub(crate) fn give_back_waking_senders(
+        &self,
+        worker: &mut Worker<K>,
+        held: &Held<K>,
+        channel: Channel,
+        connection: usize,
+    )
+        requires held { IsGrabbingAt K.rules self.now worker.old held.now connection channel }
+        requires range { connection < connection_count self.now }
+        requires level { length channel.packets ≤ level_in (view worker.old).word }
+        requires senders { senders_in (view worker.old).word ≤ channel.open_senders }
+        ensures held { IsHeldAt K.rules self.now worker.new held.now }
+        ensures made { (view worker.new).made ≡ (view worker.old).made }
+        ensures seat { IsSameWorker worker.old worker.new }
+    {
+        let senders = self.plan[connection].senders.as_slice();
+        self.release::<Brand>(worker, held, channel, connection);
+        self.wake_senders(worker, held, senders);
     }
 }

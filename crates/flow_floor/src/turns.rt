@@ -1,18 +1,18 @@
 //! Turns of a held body.
-ghost use Rattle.std.specs.Prelude.{◌≡◌, ℕ, ◌+◌, ◌-◌, ◌^◌, ◌<◌, ◌≤◌, ◌⊎◌, length, IsSome, Some, None, slice_get};
+ghost use Rattle.std.specs.Prelude.{◌≡◌, ◌-◌, ◌^◌, ◌<◌, ◌≤◌, ◌⊎◌, length, IsSome, Some, slice_get};
+ghost use Rattle.flow_ring.specs.declared.TheConstants.{FIELD};
 ghost use Rattle.flow_component.specs.declared.Wish.TheVariants.{Receive, Level};
 ghost use Rattle.flow_model.specs.declared.Stage.TheVariants.{Idle, Wishing, Closing};
 ghost use Rattle.flow_model.specs.States.{From, outlets, output_at};
 ghost use Rattle.flow_model.specs.Events.{Learns};
 ghost use Rattle.flow_model.specs.Stands.{shown_after};
-ghost use Rattle.flow_machine.specs.Values.{BodyValue};
 ghost use Rattle.flow_machine.specs.Thoughts.{HasRoom};
-ghost use Rattle.flow_machine.specs.Nets.{BodyTurn, GetsSound, SendsAt, packet_wished};
+ghost use Rattle.flow_machine.specs.Nets.{GetsSound, SendsAt, packet_wished};
 ghost use Rattle.flow_machine.specs.Outlets.{connection_at};
-ghost use Rattle.flow_floor.specs.Workers.{view, IsGrabbing};
-ghost use Rattle.flow_floor.specs.Plays.{stamping, Below};
 ghost use Rattle.flow_machine.specs.FitNets.{FitNet};
-ghost use Rattle.flow_floor.specs.Turning.{Happens, MachineTurn, received_event, signalled_event, sent_event, closed_event};
+ghost use Rattle.flow_floor.specs.Floors.{IsDeedOf, IsGrabbingAt, StampsTurn};
+ghost use Rattle.flow_floor.specs.Workers.{view};
+ghost use Rattle.flow_floor.specs.Turning.{Happens, received_event, signalled_event, sent_event, closed_event};
 
 use crate::floor::{Floor, Held, Worker};
 use crate::plays::Deed;
@@ -30,21 +30,16 @@ impl<K: Component> Floor<K> {
         port: Port,
     ) -> u32
         requires event { D.event ≡ received_event port.0 connection channel.old.packets }
-        requires after { (b : BodyValue _) → D.after b ≡ held.old.body }
-        requires start { D.start ≡ self.now.table.shared.key.value }
-        requires held { IsGrabbing K.next self.now.table.shared.table_id self.now.processes worker.old held.old connection channel.old }
+        requires deed { IsDeedOf self.now held.old D.after D.start }
+        requires held { IsGrabbingAt K.rules self.now worker.old held.old connection channel.old }
         requires stage { held.old.body.process.stage ≡ Wishing (Receive port) }
         requires input { slice_get held.old.body.process.inputs port.0 ≡ Some (From connection) }
         requires room { HasRoom held.old.body }
         requires may { (0 < length channel.old.packets) ⊎ (channel.old.open_senders ≡ 0) }
         requires sound { GetsSound held.old.body.process channel.old.packets }
-        ensures held { IsGrabbing K.next self.now.table.shared.table_id self.now.processes worker.new held.new connection channel.new }
-        ensures process { held.new.process ≡ held.old.process }
-        ensures body { BodyTurn held.old.body (received_event port.0 connection channel.old.packets) result held.new.body }
-        ensures channel { channel.new ≡ shown_after (received_event port.0 connection channel.old.packets) channel.old }
-        ensures view { view worker.new ≡ stamping (view worker.old) result D.event D.after }
-        ensures above { Below result (view worker.old).made }
-        ensures machine { MachineTurn K.shape_of K.uses K.ready K.next self.now.table.shared.key.value result held.old.process held.old.body D.event }
+        ensures held { IsGrabbingAt K.rules self.now worker.new held.new connection channel.new }
+        ensures turn { StampsTurn K.rules self.now held.old worker.old held.new worker.new D.event D.after result }
+        ensures channel { channel.new ≡ shown_after D.event channel.old }
     {
         let stamp = self.stamp::<D>(worker, held);
         if channel.level() == 0 {
@@ -65,20 +60,15 @@ impl<K: Component> Floor<K> {
         connection: usize,
     ) -> u32
         requires event { D.event ≡ signalled_event connection channel.old.packets }
-        requires after { (b : BodyValue _) → D.after b ≡ held.old.body }
-        requires start { D.start ≡ self.now.table.shared.key.value }
-        requires held { IsGrabbing K.next self.now.table.shared.table_id self.now.processes worker.old held.old connection channel.old }
+        requires deed { IsDeedOf self.now held.old D.after D.start }
+        requires held { IsGrabbingAt K.rules self.now worker.old held.old connection channel.old }
         requires stage { held.old.body.process.stage ≡ Idle }
         requires room { HasRoom held.old.body }
         requires there { 0 < length channel.old.packets }
-        requires happens { Happens (FitNet K.shape_of K.uses K.ready) self.now.processes self.now.connections held.old.process held.old.body (view worker.old).grab (view worker.old).seen D.event }
-        ensures held { IsGrabbing K.next self.now.table.shared.table_id self.now.processes worker.new held.new connection channel.new }
-        ensures process { held.new.process ≡ held.old.process }
-        ensures body { BodyTurn held.old.body (signalled_event connection channel.old.packets) result held.new.body }
-        ensures channel { channel.new ≡ shown_after (signalled_event connection channel.old.packets) channel.old }
-        ensures view { view worker.new ≡ stamping (view worker.old) result D.event D.after }
-        ensures above { Below result (view worker.old).made }
-        ensures machine { MachineTurn K.shape_of K.uses K.ready K.next self.now.table.shared.key.value result held.old.process held.old.body D.event }
+        requires happens { Happens (FitNet K.rules) self.now.processes self.now.connections held.old.process held.old.body (view worker.old).grab (view worker.old).seen D.event }
+        ensures held { IsGrabbingAt K.rules self.now worker.new held.new connection channel.new }
+        ensures turn { StampsTurn K.rules self.now held.old worker.old held.new worker.new D.event D.after result }
+        ensures channel { channel.new ≡ shown_after D.event channel.old }
     {
         let _ = connection;
         let stamp = self.stamp::<D>(worker, held);
@@ -97,23 +87,18 @@ impl<K: Component> Floor<K> {
         port: Port,
     ) -> u32
         requires event { D.event ≡ sent_event port.0 connection (packet_wished held.old.body.process) }
-        requires after { (b : BodyValue _) → D.after b ≡ held.old.body }
-        requires start { D.start ≡ self.now.table.shared.key.value }
-        requires held { IsGrabbing K.next self.now.table.shared.table_id self.now.processes worker.old held.old connection channel.old }
+        requires deed { IsDeedOf self.now held.old D.after D.start }
+        requires held { IsGrabbingAt K.rules self.now worker.old held.old connection channel.old }
         requires stage { SendsAt held.old.body.process.stage port }
         requires output { output_at held.old.body.process port.0 ≡ Some connection }
         requires room { HasRoom held.old.body }
         requires space { length channel.old.packets < channel.old.capacity }
-        requires most { channel.old.capacity < 65536 }
+        requires most { channel.old.capacity < FIELD }
         requires counted { channel.old.puts < 2 ^ 64 - 1 }
         requires wished { IsSome (packet_wished held.old.body.process) }
-        ensures held { IsGrabbing K.next self.now.table.shared.table_id self.now.processes worker.new held.new connection channel.new }
-        ensures process { held.new.process ≡ held.old.process }
-        ensures body { BodyTurn held.old.body (sent_event port.0 connection (packet_wished held.old.body.process)) result held.new.body }
-        ensures channel { channel.new ≡ shown_after (sent_event port.0 connection (packet_wished held.old.body.process)) channel.old }
-        ensures view { view worker.new ≡ stamping (view worker.old) result D.event D.after }
-        ensures above { Below result (view worker.old).made }
-        ensures machine { MachineTurn K.shape_of K.uses K.ready K.next self.now.table.shared.key.value result held.old.process held.old.body D.event }
+        ensures held { IsGrabbingAt K.rules self.now worker.new held.new connection channel.new }
+        ensures turn { StampsTurn K.rules self.now held.old worker.old held.new worker.new D.event D.after result }
+        ensures channel { channel.new ≡ shown_after D.event channel.old }
     {
         let stamp = self.stamp::<D>(worker, held);
         let packet = held.body.outgoing();
@@ -132,19 +117,14 @@ impl<K: Component> Floor<K> {
         port: Port,
     ) -> u32
         requires event { D.event ≡ Learns port.0 (length channel.now.packets) }
-        requires after { (b : BodyValue _) → D.after b ≡ held.old.body }
-        requires start { D.start ≡ self.now.table.shared.key.value }
-        requires held { IsGrabbing K.next self.now.table.shared.table_id self.now.processes worker.old held.old connection channel.now }
+        requires deed { IsDeedOf self.now held.old D.after D.start }
+        requires held { IsGrabbingAt K.rules self.now worker.old held.old connection channel.now }
         requires stage { held.old.body.process.stage ≡ Wishing (Level port) }
         requires output { output_at held.old.body.process port.0 ≡ Some connection }
         requires room { HasRoom held.old.body }
         requires within { length channel.now.packets ≤ channel.now.capacity }
-        ensures held { IsGrabbing K.next self.now.table.shared.table_id self.now.processes worker.new held.new connection channel.now }
-        ensures process { held.new.process ≡ held.old.process }
-        ensures body { BodyTurn held.old.body (Learns port.0 (length channel.now.packets)) result held.new.body }
-        ensures view { view worker.new ≡ stamping (view worker.old) result D.event D.after }
-        ensures above { Below result (view worker.old).made }
-        ensures machine { MachineTurn K.shape_of K.uses K.ready K.next self.now.table.shared.key.value result held.old.process held.old.body D.event }
+        ensures held { IsGrabbingAt K.rules self.now worker.new held.new connection channel.now }
+        ensures turn { StampsTurn K.rules self.now held.old worker.old held.new worker.new D.event D.after result }
     {
         let _ = connection;
         let _ = port;
@@ -164,20 +144,15 @@ impl<K: Component> Floor<K> {
         place: u32,
     ) -> u32
         requires event { D.event ≡ closed_event (slice_get (outlets held.old.body.process) place) }
-        requires after { (b : BodyValue _) → D.after b ≡ held.old.body }
-        requires start { D.start ≡ self.now.table.shared.key.value }
-        requires held { IsGrabbing K.next self.now.table.shared.table_id self.now.processes worker.old held.old connection channel.old }
+        requires deed { IsDeedOf self.now held.old D.after D.start }
+        requires held { IsGrabbingAt K.rules self.now worker.old held.old connection channel.old }
         requires stage { held.old.body.process.stage ≡ Closing place }
         requires outlet { connection_at (outlets held.old.body.process) place ≡ Some connection }
         requires room { HasRoom held.old.body }
         requires open { 0 < channel.old.open_senders }
-        ensures held { IsGrabbing K.next self.now.table.shared.table_id self.now.processes worker.new held.new connection channel.new }
-        ensures process { held.new.process ≡ held.old.process }
-        ensures body { BodyTurn held.old.body (closed_event (slice_get (outlets held.old.body.process) place)) result held.new.body }
-        ensures channel { channel.new ≡ shown_after (closed_event (slice_get (outlets held.old.body.process) place)) channel.old }
-        ensures view { view worker.new ≡ stamping (view worker.old) result D.event D.after }
-        ensures above { Below result (view worker.old).made }
-        ensures machine { MachineTurn K.shape_of K.uses K.ready K.next self.now.table.shared.key.value result held.old.process held.old.body D.event }
+        ensures held { IsGrabbingAt K.rules self.now worker.new held.new connection channel.new }
+        ensures turn { StampsTurn K.rules self.now held.old worker.old held.new worker.new D.event D.after result }
+        ensures channel { channel.new ≡ shown_after D.event channel.old }
     {
         let _ = connection;
         let _ = place;

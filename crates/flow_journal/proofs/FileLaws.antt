@@ -5,7 +5,7 @@ use Rattle.std.specs.Int.{w16, to_le_bytes, from_le_bytes}
 use Rattle.std.proofs.lemmas.Nat.{from_le_bytes-to_le_bytes_2}
 use Rattle.std.proofs.lemmas.List.Elements.{All-head, All-tail}
 use Rattle.std.proofs.lemmas.Bool.Decides.{nat_tests}
-use Rattle.flow_journal.specs.declared.file.TheConstants.{RUN_LIMIT}
+use Rattle.flow_limits.specs.declared.TheConstants.{RUN_LIMIT}
 use Rattle.flow_journal.specs.Files.{name, numbers_written, number_at, IsFault, strays, many_turns, many_seen, ends, goes_on, BeginsWithName, StraysFromName, HasOneJournal, HasJournalOrFault, HasOneFault}
 use Rattle.flow_journal.proofs.FileLemmas.{parts-of, never-strays, within-front}
 

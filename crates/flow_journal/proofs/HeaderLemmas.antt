@@ -5,7 +5,7 @@ use Rattle.std.specs.Int.{w32, to_le_bytes}
 use Rattle.std.proofs.lemmas.List.{drop-drop, take-append-drop, take-append-le, length-take}
 use Rattle.std.proofs.lemmas.Nat.{from_le_bytes-to_le_bytes_4}
 use Rattle.std.proofs.lemmas.Bool.Decides.{nat_tests}
-use Rattle.flow_journal.specs.declared.file.TheConstants.{RUN_LIMIT}
+use Rattle.flow_limits.specs.declared.TheConstants.{RUN_LIMIT}
 use Rattle.flow_journal.specs.declared.merge.Journal.{Journal}
 use Rattle.flow_journal.specs.Files.{name, numbers_written, written, header_written, body_length, number_at, BeginsWithName, IsFileOf, HasHeader, IsFault, IsHeaderFault, strays, many_turns, many_seen, ends, goes_on}
 use Rattle.flow_journal.proofs.FileLemmas.{AreBytes, bytes-behind, four-in-front, never-strays, parts-of}

@@ -2,13 +2,11 @@
 use Rattle.std.proofs.Common.{◌≡◌, ◌≢◌, inl, inr, ℕ, ◌+◌, ◌<◌, ◌≤◌, Bool, true, false, nat_eq, get_or, List, [], ◌∷◌, ◌++◌, length, Some, suc, zero, take, drop, refl, sym, ap, ◌∙◌, subst, arith, slice_get, length-set, length-append, append_assoc, append-nil}
 use Rattle.std.specs.Prelude.{Result, Ok, Err, OnOk}
 use Rattle.std.proofs.lemmas.List.{take-append-drop}
-use Rattle.flow_packet.specs.Held.{Held}
-use Rattle.flow_component.specs.declared.Answer.{Answer}
-use Rattle.flow_component.specs.declared.Shape.{Shape}
-use Rattle.flow_component.specs.Laws.{Outcome, Obeys, StaysReady, IsSteady}
+use Rattle.flow_component.specs.Laws.{Rules, Lawful}
 use Rattle.flow_model.specs.States.{Process, State}
 use Rattle.flow_model.specs.Events.{seen_by}
-use Rattle.flow_model.specs.Schedules.{then_turns, Leads, Settles, IsThought, IsThoughtStage}
+use Rattle.flow_model.specs.Stages.{IsThoughtStage}
+use Rattle.flow_model.specs.Schedules.{then_turns, Leads, Settles, IsThought}
 use Rattle.flow_model.specs.Schedules.{Journal as Schedule}
 use Rattle.flow_model.specs.Stands.{StandsForOpen}
 use Rattle.flow_model.specs.Fit.{Fit}
@@ -82,29 +80,26 @@ within-of (y ∷ xs) (suc i) x is = omega (arith, within-of xs i x is)
 pub made-within : {K : Type 0} (old : NetValue K) (p stamp : ℕ) (seen left : List ℕ) (new : NetValue K) → MadeTurn old p stamp seen left new → p < length new.bodies
 made-within old p stamp seen left new made = omega (arith, as-many-made old p stamp seen left new made, within-of old.bodies p made.turn.before made.turn.there)
 
-module _ {K : Type 0} (shape_of : K → Shape) (uses : K → ℕ → Bool) (ready : K → Held → Answer → Type 0) (next : K → Held → Answer → Outcome K → Type 0)
-    (obeys : (component : K) (held : Held) (answer : Answer) (outcome : Outcome K) → ready component held answer → next component held answer outcome → Obeys (shape_of component) (uses component) held outcome)
-    (stays : (component : K) (held : Held) (answer : Answer) (outcome : Outcome K) → ready component held answer → next component held answer outcome → StaysReady ready outcome)
-    (steady : (component : K) (held : Held) (answer : Answer) (outcome : Outcome K) → next component held answer outcome → IsSteady shape_of uses component outcome) where
+module _ {K : Type 0} (rules : Rules K) (lawful : Lawful rules) where
   -- the work of a process, in a state
-  settles-in : (old : NetValue K) (p : ℕ) (new : NetValue K) → SettlesNet next old p new → (s : State K) → Fit shape_of uses ready s → StandsForOpen (shown_net old) s → (s' : State K) × Settles next s p s' × Fit shape_of uses ready s' × StandsForOpen (shown_net new) s'
+  settles-in : (old : NetValue K) (p : ℕ) (new : NetValue K) → SettlesNet rules old p new → (s : State K) → Fit rules s → StandsForOpen (shown_net old) s → (s' : State K) × Settles rules s p s' × Fit rules s' × StandsForOpen (shown_net new) s'
   settles-in old p new settle s fit stands = by settle.settles
     where
-      by : SettlesBody next settle.before settle.after → (s' : State K) × Settles next s p s' × Fit shape_of uses ready s' × StandsForOpen (shown_net new) s'
+      by : SettlesBody rules settle.before settle.after → (s' : State K) × Settles rules s p s' × Fit rules s' × StandsForOpen (shown_net new) s'
       by (inl same) =
           let thought : IsThought s.kept p = λ x is. (let h : Some settle.before.process ≡ Some x = sym (process-in old s p settle.before stands settle.there) ∙ is in let e : settle.before.process ≡ x = cc in subst (λ (y : Process K). IsThoughtStage y.stage) e same.0) in
-          (s, inl (thought, refl), fit, goes-same shape_of uses ready next obeys stays steady old p settle.before settle.after new settle.there same.1 settle.bodies settle.channels s stands)
+          (s, inl (thought, refl), fit, goes-same rules lawful old p settle.before settle.after new settle.there same.1 settle.bodies settle.channels s stands)
       by (inr work) =
-          let g = goes-work shape_of uses ready next obeys stays steady old p settle.before settle.after new settle.there work settle.bodies settle.channels s fit stands in
+          let g = goes-work rules lawful old p settle.before settle.after new settle.there work settle.bodies settle.channels s fit stands in
           (g.0, inr g.1, g.2, g.3)
 
   -- before its first turn the journal has led nowhere
-  pub leads-none : (journal : Journal) (start : NetValue K) (n : ℕ) → Goes shape_of uses ready (LeadsTo next journal 0 journal.seen) start n start n
+  pub leads-none : (journal : Journal) (start : NetValue K) (n : ℕ) → Goes rules (LeadsTo rules journal 0 journal.seen) start n start n
   leads-none journal start n = ([], omega arith, record { remembers = remember-none n start.bodies; states = λ s fit stands. (s, record { turns = refl; seen = refl; leads = (refl, refl) }, fit, stands); connections = refl })
 
   -- it leads on by a turn and its work
-  pub leads-more : (journal : Journal) (start old mid new : NetValue K) (p n m place : ℕ) (seen left : List ℕ) → Goes shape_of uses ready (LeadsTo next journal place seen) start n old m → MadeTurn old p m seen left mid → SettlesNet next mid p new → slice_get journal.turns place ≡ Some p
-      → Goes shape_of uses ready (LeadsTo next journal (place + 1) left) start n new (m + 1)
+  pub leads-more : (journal : Journal) (start old mid new : NetValue K) (p n m place : ℕ) (seen left : List ℕ) → Goes rules (LeadsTo rules journal place seen) start n old m → MadeTurn old p m seen left mid → SettlesNet rules mid p new → slice_get journal.turns place ≡ Some p
+      → Goes rules (LeadsTo rules journal (place + 1) left) start n new (m + 1)
   leads-more journal start old mid new p n m place seen left goes made settle there =
       let log = goes.0 in
       let e = made.event in
@@ -120,18 +115,18 @@ module _ {K : Type 0} (shape_of : K → Shape) (uses : K → ℕ → Bool) (read
           remembers = remember-then start.bodies old.bodies new.bodies n m log (one ∷ []) goes.2.remembers goes.1 more (sym count_mid ∙ count_new);
           states = λ s fit stands.
               let g = goes.2.states s fit stands in
-              let t = goes-by shape_of uses ready old p made.level e m mid made.turn g.0 g.2 g.3 in
+              let t = goes-by rules old p made.level e m mid made.turn g.0 g.2 g.3 in
               let w = settles-in mid p new settle t.0 t.2 t.3 in
               let single : Schedule = record { turns = p ∷ []; seen = seen_by e ++ [] } in
-              let step : Leads next g.0 single w.0 = (e, w.0, [], (t.0, t.1, w.1), refl, (refl, refl)) in
+              let step : Leads rules g.0 single w.0 = (e, w.0, [], (t.0, t.1, w.1), refl, (refl, refl)) in
               let journal_is : journal_of (log ++ one ∷ []) ≡ then_turns (journal_of log) single = journal_of-append log (one ∷ []) in
-              let leads : Leads next s (then_turns (journal_of log) single) w.0 = Leads-then next s g.0 w.0 (journal_of log) single g.1.leads step in (
+              let leads : Leads rules s (then_turns (journal_of log) single) w.0 = Leads-then rules s g.0 w.0 (journal_of log) single g.1.leads step in (
                 w.0,
                 record {
                   turns = ap (λ (j : Schedule). j.turns) journal_is ∙ ap (λ (ts : List ℕ). ts ++ p ∷ []) g.1.turns ∙ sym (taken-more journal.turns place p there);
                   seen = ap (λ (j : Schedule). j.seen ++ left) journal_is ∙ append_assoc (journal_of log).seen (seen_by e ++ []) left
                       ∙ ap (λ (ns : List ℕ). (journal_of log).seen ++ ns) (append_assoc (seen_by e) [] left ∙ sym made.numbers) ∙ g.1.seen;
-                  leads = subst (λ (j : Schedule). Leads next s j w.0) (sym journal_is) leads;
+                  leads = subst (λ (j : Schedule). Leads rules s j w.0) (sym journal_is) leads;
                 },
                 w.2,
                 w.3,
@@ -141,7 +136,7 @@ module _ {K : Type 0} (shape_of : K → Shape) (uses : K → ℕ → Bool) (read
       )
 
   -- where all turns were made and no number is left, the whole journal leads on
-  pub leads-whole : (journal : Journal) (start new : NetValue K) (n m place : ℕ) (left : List ℕ) → length journal.turns ≤ place → left ≡ [] → Goes shape_of uses ready (LeadsTo next journal place left) start n new m → Goes shape_of uses ready (LeadsOn next journal) start n new m
+  pub leads-whole : (journal : Journal) (start new : NetValue K) (n m place : ℕ) (left : List ℕ) → length journal.turns ≤ place → left ≡ [] → Goes rules (LeadsTo rules journal place left) start n new m → Goes rules (LeadsOn rules journal) start n new m
   leads-whole journal start new n m place left all none goes = (
     goes.0,
     goes.1,
@@ -157,8 +152,8 @@ module _ {K : Type 0} (shape_of : K → Shape) (uses : K → ℕ → Bool) (read
   )
 
   -- where a turn is refused, the journal stops there
-  pub stops-at : (journal : Journal) (start old : NetValue K) (n m place : ℕ) (left : List ℕ) (p : ℕ) (refusal : Refusal) → Goes shape_of uses ready (LeadsTo next journal place left) start n old m → slice_get journal.turns place ≡ Some p → RefusesTurn old p left refusal
-      → StopsMaking shape_of uses ready next start journal (NoTurn place p refusal)
+  pub stops-at : (journal : Journal) (start old : NetValue K) (n m place : ℕ) (left : List ℕ) (p : ℕ) (refusal : Refusal) → Goes rules (LeadsTo rules journal place left) start n old m → slice_get journal.turns place ≡ Some p → RefusesTurn old p left refusal
+      → StopsMaking rules start journal (NoTurn place p refusal)
   stops-at journal start old n m place left p refusal goes there refused = λ s fit stands.
       (let g = goes.2.states s fit stands in
       let turns : journal.turns ≡ (journal_of goes.0).turns ++ drop place journal.turns = sym (ap (λ (ts : List ℕ). ts ++ drop place journal.turns) g.1.turns ∙ take-append-drop place journal.turns) in
@@ -174,8 +169,8 @@ module _ {K : Type 0} (shape_of : K → Shape) (uses : K → ℕ → Bool) (read
       })
 
   -- where numbers are left behind the last turn, it stops there
-  pub stops-behind : (journal : Journal) (start old : NetValue K) (n m place : ℕ) (left : List ℕ) → length journal.turns ≤ place → left ≢ [] → Goes shape_of uses ready (LeadsTo next journal place left) start n old m
-      → StopsMaking shape_of uses ready next start journal (NoTurn (length journal.turns) 0 Seen)
+  pub stops-behind : (journal : Journal) (start old : NetValue K) (n m place : ℕ) (left : List ℕ) → length journal.turns ≤ place → left ≢ [] → Goes rules (LeadsTo rules journal place left) start n old m
+      → StopsMaking rules start journal (NoTurn (length journal.turns) 0 Seen)
   stops-behind journal start old n m place left all some goes = λ s fit stands.
       (let g = goes.2.states s fit stands in
       let front : (journal_of goes.0).turns ≡ journal.turns = g.1.turns ∙ taken-all journal.turns place all in
@@ -191,8 +186,8 @@ module _ {K : Type 0} (shape_of : K → Shape) (uses : K → ℕ → Bool) (read
       })
 
   -- all pending works, and then the whole journal
-  pub replays : (journal : Journal) (old mid new : NetValue K) → length mid.bodies ≡ length new.bodies → turns_made mid ≡ turns_made old → Goes shape_of uses ready (all_settled next) old (turns_made old) mid (turns_made old) → Goes shape_of uses ready (LeadsOn next journal) mid (turns_made mid) new (turns_made new)
-      → Goes shape_of uses ready (replayed next journal) old (turns_made old) new (turns_made new)
+  pub replays : (journal : Journal) (old mid new : NetValue K) → length mid.bodies ≡ length new.bodies → turns_made mid ≡ turns_made old → Goes rules (all_settled rules) old (turns_made old) mid (turns_made old) → Goes rules (LeadsOn rules journal) mid (turns_made mid) new (turns_made new)
+      → Goes rules (replayed rules journal) old (turns_made old) new (turns_made new)
   replays journal old mid new count made settled goes =
       let none : settled.0 ≡ [] = none-of settled.0 (omega (arith, settled.1)) in
       let rest : Remembers (turns_made old) mid.bodies goes.0 new.bodies = subst (λ (k : ℕ). Remembers k mid.bodies goes.0 new.bodies) made goes.2.remembers in
@@ -210,7 +205,7 @@ module _ {K : Type 0} (shape_of : K → Shape) (uses : K → ℕ → Bool) (read
       )
 
   -- what stops after all pending works stops from the first state
-  pub stops-from : (journal : Journal) (old mid : NetValue K) (stop : ReplayStop) → Goes shape_of uses ready (all_settled next) old (turns_made old) mid (turns_made old) → StopsMaking shape_of uses ready next mid journal stop → StopsFrom shape_of uses ready next old journal stop
+  pub stops-from : (journal : Journal) (old mid : NetValue K) (stop : ReplayStop) → Goes rules (all_settled rules) old (turns_made old) mid (turns_made old) → StopsMaking rules mid journal stop → StopsFrom rules old journal stop
   stops-from journal old mid (NoTurn place p refusal) settled stops = λ s fit stands. (let t = settled.2.states s fit stands in (t.0, t.1.1, stops t.0 t.2 t.3))
   stops-from journal old mid NoMemory settled stops = tt
 

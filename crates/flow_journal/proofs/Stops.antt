@@ -2,10 +2,8 @@
 use Rattle.std.proofs.Common.{◌≡◌, ◌⊎◌, inl, inr, ℕ, ◌<◌, Bool, true, false, cond, List, [], ◌∷◌, ◌++◌, length, Some, None, refl, sym, ap, ◌∙◌, subst, arith, slice_get, append_assoc}
 use Rattle.std.specs.Prelude.{option_and_then, nat_le, ◌&&◌}
 use Rattle.std.proofs.lemmas.Bool.Decides.{nat_tests}
-use Rattle.flow_packet.specs.Held.{Held}
-use Rattle.flow_component.specs.declared.Answer.{Answer}
 use Rattle.flow_component.specs.declared.Wish.TheVariants as wishes
-use Rattle.flow_component.specs.Laws.{Outcome}
+use Rattle.flow_component.specs.Laws.{Rules}
 use Rattle.flow_model.specs.declared.Stage.TheVariants as stages
 use Rattle.flow_model.specs.States.{Process, Kept, State, output_at}
 use Rattle.flow_model.specs.Events.{Event, Learns, Look, look, looks, told_level, stage_event, event_from, event_of, seen_by}
@@ -96,31 +94,31 @@ module _ {K : Type 0} (kept : Kept K) (p n : ℕ) (x : Process K) (e : Event) (r
       none-some e (sym (block-no_turn (looks kept.channels) x why n waits) ∙ happens)
   refused-none seen Seen refused numbers = number-none seen refused numbers
 
-module _ {K : Type 0} (next : K → Held → Answer → Outcome K → Type 0) where
+module _ {K : Type 0} (rules : Rules K) where
   -- what stops at once leads nowhere
-  stops-once : (mid : State K) (turns seen : List ℕ) (p : ℕ) (refusal : Refusal) (s' : State K) → StopsAtOnce mid.kept turns seen p refusal → LeadsBy next mid turns seen s' → ⊥
+  stops-once : (mid : State K) (turns seen : List ℕ) (p : ℕ) (refusal : Refusal) (s' : State K) → StopsAtOnce mid.kept turns seen p refusal → LeadsBy rules mid turns seen s' → ⊥
   stops-once mid [] seen p refusal s' stops leads = stops.0 leads.0
   stops-once mid (q ∷ turns) seen p refusal s' stops leads =
       let turn = leads.3.1.kept in
       refused-none mid.kept q turn.level turn.before leads.0 leads.2 turn.there turn.happens seen refusal stops.1 leads.4
 
   -- a schedule, cut
-  cut-lead : (s : State K) (turns more seen : List ℕ) (s' : State K) → LeadsBy next s (turns ++ more) seen s' → (front : List ℕ) × (back : List ℕ) × (mid : State K) × LeadsBy next s turns front mid × LeadsBy next mid more back s' × (seen ≡ front ++ back)
+  cut-lead : (s : State K) (turns more seen : List ℕ) (s' : State K) → LeadsBy rules s (turns ++ more) seen s' → (front : List ℕ) × (back : List ℕ) × (mid : State K) × LeadsBy rules s turns front mid × LeadsBy rules mid more back s' × (seen ≡ front ++ back)
   cut-lead s [] more seen s' leads = ([], seen, s, (refl, refl), leads, refl)
   cut-lead s (p ∷ turns) more seen s' leads =
       let r = cut-lead leads.1 turns more leads.2 s' leads.5 in
       (seen_by leads.0 ++ r.0, r.1, r.2, (leads.0, leads.1, r.0, leads.3, refl, r.3), r.4, leads.4 ∙ ap (λ (ns : List ℕ). seen_by leads.0 ++ ns) r.5 ∙ sym (append_assoc (seen_by leads.0) r.0 r.1))
 
-  module _ (lead_to_one : (s : State K) (journal : Schedule) (a b : State K) → Leads next s journal a → Leads next s journal b → a ≡ b) where
-    same-whole : (s : State K) (p : ℕ) (e f : Event) (a b : State K) → WholeTurn next s p e a → WholeTurn next s p f b → seen_by e ≡ seen_by f → a ≡ b
+  module _ (lead_to_one : (s : State K) (journal : Schedule) (a b : State K) → Leads rules s journal a → Leads rules s journal b → a ≡ b) where
+    same-whole : (s : State K) (p : ℕ) (e f : Event) (a b : State K) → WholeTurn rules s p e a → WholeTurn rules s p f b → seen_by e ≡ seen_by f → a ≡ b
     same-whole s p e f a b one two same =
         let journal : Schedule = record { turns = p ∷ []; seen = seen_by e ++ [] } in
-        let first : Leads next s journal a = (e, a, [], one, refl, (refl, refl)) in
-        let second : Leads next s journal b = (f, b, [], two, ap (λ (ns : List ℕ). ns ++ []) same, (refl, refl)) in
+        let first : Leads rules s journal a = (e, a, [], one, refl, (refl, refl)) in
+        let second : Leads rules s journal b = (f, b, [], two, ap (λ (ns : List ℕ). ns ++ []) same, (refl, refl)) in
         lead_to_one s journal a b first second
 
     -- the same turns see the same numbers, and lead to the same state
-    same-fronts : (s : State K) (turns seen seen' back back' : List ℕ) (a b : State K) → LeadsBy next s turns seen a → LeadsBy next s turns seen' b → seen ++ back ≡ seen' ++ back' → (seen ≡ seen') × (a ≡ b)
+    same-fronts : (s : State K) (turns seen seen' back back' : List ℕ) (a b : State K) → LeadsBy rules s turns seen a → LeadsBy rules s turns seen' b → seen ++ back ≡ seen' ++ back' → (seen ≡ seen') × (a ≡ b)
     same-fronts s [] seen seen' back back' a b one two same = (one.0 ∙ sym two.0, one.1 ∙ sym two.1)
     same-fronts s (p ∷ turns) seen seen' back back' a b one two same =
         let count = same-count s p one.0 two.0 one.3.0 two.3.0 one.3.1 two.3.1 in
@@ -128,17 +126,17 @@ module _ {K : Type 0} (next : K → Held → Answer → Outcome K → Type 0) wh
         sym (append_assoc (seen_by one.0) one.2 back) ∙ ap (λ (ns : List ℕ). ns ++ back) (sym one.4) ∙ same ∙ ap (λ (ns : List ℕ). ns ++ back') two.4 ∙ append_assoc (seen_by two.0) two.2 back' in
         let cut = same-front (seen_by one.0) (seen_by two.0) (one.2 ++ back) (two.2 ++ back') count long in
         let mid = same-whole s p one.0 two.0 one.1 two.1 one.3 two.3 cut.0 in
-        let rest = same-fronts two.1 turns one.2 two.2 back back' a b (subst (λ (t : State K). LeadsBy next t turns one.2 a) mid one.5) two.5 cut.1 in
+        let rest = same-fronts two.1 turns one.2 two.2 back back' a b (subst (λ (t : State K). LeadsBy rules t turns one.2 a) mid one.5) two.5 cut.1 in
         (one.4 ∙ (λ i. cut.0 i ++ rest.0 i) ∙ sym two.4, rest.1)
 
-    no-schedule : (s : State K) (journal : Schedule) (place p : ℕ) (refusal : Refusal) (s' : State K) → StopsAtTurn next s journal place p refusal → Leads next s journal s' → ⊥
+    no-schedule : (s : State K) (journal : Schedule) (place p : ℕ) (refusal : Refusal) (s' : State K) → StopsAtTurn rules s journal place p refusal → Leads rules s journal s' → ⊥
     no-schedule s journal place p refusal s' stop leads =
-        let whole = subst (λ (j : Schedule). Leads next s j s') stop.whole leads in
+        let whole = subst (λ (j : Schedule). Leads rules s j s') stop.whole leads in
         let cut = cut-lead s stop.front.turns stop.back.turns (stop.front.seen ++ stop.back.seen) s' whole in
         let same = same-fronts s stop.front.turns stop.front.seen cut.0 stop.back.seen cut.1 stop.mid cut.2 stop.leads cut.3 cut.5 in
         let back = same-front stop.front.seen cut.0 stop.back.seen cut.1 (ap length same.0) cut.5 in
-        let rest = subst (λ (t : State K). LeadsBy next t stop.back.turns cut.1 s') (sym same.1) cut.4 in
-        stops-once stop.mid stop.back.turns stop.back.seen p refusal s' stop.stops (subst (λ (ns : List ℕ). LeadsBy next stop.mid stop.back.turns ns s') (sym back.1) rest)
+        let rest = subst (λ (t : State K). LeadsBy rules t stop.back.turns cut.1 s') (sym same.1) cut.4 in
+        stops-once stop.mid stop.back.turns stop.back.seen p refusal s' stop.stops (subst (λ (ns : List ℕ). LeadsBy rules stop.mid stop.back.turns ns s') (sym back.1) rest)
 
-  pub stops-are-no-schedules : LeadsToOneState next → StopsAreNoSchedules next
+  pub stops-are-no-schedules : LeadsToOneState rules → StopsAreNoSchedules rules
   stops-are-no-schedules law one s journal place p refusal s' stop leads = no-schedule (law one) s journal place p refusal s' stop leads

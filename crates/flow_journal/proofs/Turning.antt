@@ -18,14 +18,7 @@ use Rattle.flow_journal.specs.Replaying.{MadeTurn}
 -- a stage that asks for a level wishes for one
 pub asking-port : (stage : Stage) → is_asking stage ≡ true → (port : Port) × (stage ≡ stages.Wishing (wishes.Level port))
 asking-port (stages.Wishing (wishes.Level port)) asks = (port, refl)
-asking-port (stages.Wishing (wishes.Receive port)) asks = absurd (cc)
-asking-port (stages.Wishing (wishes.Send port id)) asks = absurd (cc)
-asking-port (stages.Wishing wishes.Deactivate) asks = absurd (cc)
-asking-port stages.Idle asks = absurd (cc)
-asking-port (stages.Told answer) asks = absurd (cc)
-asking-port (stages.Closing i) asks = absurd (cc)
-asking-port stages.Ended asks = absurd (cc)
-asking-port (stages.Failed cause) asks = absurd (cc)
+asking-port stage asks = absurd (cc)
 
 sees-same : (e' e : Event) → Some e' ≡ Some e → seen_by e ≡ seen_by e'
 sees-same e' e is = (let same : e' ≡ e = cc in ap seen_by (sym same))
@@ -105,14 +98,11 @@ module _ {K : Type 0} (looks : List Look) (x : Process K) (n : ℕ) (e : Event) 
 
   sees-none-at : (stage : Stage) → is_asking stage ≡ false → stage_event looks x n stage ≡ Some e → seen_by e ≡ []
   sees-none-at stages.Idle asks is = idles (can_start looks x) (can_finish looks x) (takes_signal looks x) is
-  sees-none-at (stages.Told answer) asks is = absurd (cc)
   sees-none-at (stages.Wishing (wishes.Receive port)) asks is = receives-at port.0 (slice_get x.inputs port.0) is
   sees-none-at (stages.Wishing (wishes.Send port id)) asks is = sends-at port.0 id (output_at x port.0) is
-  sees-none-at (stages.Wishing (wishes.Level port)) asks is = absurd (cc)
   sees-none-at (stages.Wishing wishes.Deactivate) asks is = sees-same Sleeps e is
   sees-none-at (stages.Closing i) asks is = closes-at (slice_get (outlets x) i) is
-  sees-none-at stages.Ended asks is = absurd (cc)
-  sees-none-at (stages.Failed cause) asks is = absurd (cc)
+  sees-none-at stage asks is = absurd (cc)
 
   -- a turn of a process that asks for no level sees no number
   pub sees-none : is_asking x.stage ≡ false → event_from looks x n ≡ Some e → seen_by e ≡ []

@@ -2,7 +2,8 @@
 use Rattle.std.specs.Prelude.{◌≡◌, ◌≢◌, ◌⊎◌, ℕ, ◌+◌, ◌*◌, ◌<◌, ◌≤◌, ◌^◌, List, [], ◌++◌, All, length, take, drop, slice_get, codes}
 use Rattle.std.specs.Int.{w16, w32, to_le_bytes, from_le_bytes}
 use Rattle.std.specs.List.{flat_map}
-use Rattle.flow_journal.specs.declared.file.TheConstants.{HEADER_LENGTH, RUN_LIMIT}
+use Rattle.flow_limits.specs.declared.TheConstants.{RUN_LIMIT}
+use Rattle.flow_journal.specs.declared.file.TheConstants.{HEADER_LENGTH}
 use Rattle.flow_journal.specs.declared.fault.JournalStop.{JournalStop}
 use Rattle.flow_journal.specs.declared.fault.JournalStop.TheVariants.{Fault, NoMemory}
 use Rattle.flow_journal.specs.declared.merge.Journal.{Journal}

@@ -2,3 +2,4 @@ pub mod Files
 pub mod Journals
 pub mod Replaying
 pub mod Replays
+pub mod Runs

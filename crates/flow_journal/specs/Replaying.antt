@@ -1,9 +1,6 @@
 -- What the steps of a replay do to a net.
-use Rattle.std.specs.Prelude.{◌≡◌, ℕ, ◌<◌, ◌≤◌, Bool, List, [], ◌∷◌, ◌++◌, Some, length, take}
-use Rattle.flow_packet.specs.Held.{Held}
-use Rattle.flow_component.specs.declared.Answer.{Answer}
-use Rattle.flow_component.specs.declared.Shape.{Shape}
-use Rattle.flow_component.specs.Laws.{Outcome}
+use Rattle.std.specs.Prelude.{◌≡◌, ℕ, ◌<◌, ◌≤◌, List, [], ◌∷◌, ◌++◌, Some, length, take}
+use Rattle.flow_component.specs.Laws.{Rules}
 use Rattle.flow_model.specs.States.{State}
 use Rattle.flow_model.specs.Events.{Event, seen_by}
 use Rattle.flow_model.specs.Schedules.{Leads}
@@ -39,16 +36,16 @@ RefusesTurn net p seen (Blocked waits) = block_at net p ≡ Some waits
 RefusesTurn net p seen Seen = (p < length net.bodies) × RefusesNumber net p seen
 
 -- The turns before a place were made, these numbers are left, and so far the journal leads on.
-pub record LeadsTo {K : Type 0} (next : K → Held → Answer → Outcome K → Type 0) (journal : Journal) (place : ℕ) (left : List ℕ) (made : Schedule) (s s' : State K) : Type 0 where
+pub record LeadsTo {K : Type 0} (rules : Rules K) (journal : Journal) (place : ℕ) (left : List ℕ) (made : Schedule) (s s' : State K) : Type 0 where
   pub turns : made.turns ≡ take place journal.turns
   pub seen : made.seen ++ left ≡ journal.seen
-  pub leads : Leads next s made s'
+  pub leads : Leads rules s made s'
 
 -- The whole journal leads on.
-abbrev pub LeadsOn : {K : Type 0} → (K → Held → Answer → Outcome K → Type 0) → Journal → Schedule → State K → State K → Type 0
-LeadsOn next journal made s s' = (made ≡ schedule_of journal) × Leads next s made s'
+abbrev pub LeadsOn : {K : Type 0} → Rules K → Journal → Schedule → State K → State K → Type 0
+LeadsOn rules journal made s s' = (made ≡ schedule_of journal) × Leads rules s made s'
 
 -- Each fit state that the net stands for stops the journal there.
-abbrev pub StopsMaking : {K : Type 0} → (K → Shape) → (K → ℕ → Bool) → (K → Held → Answer → Type 0) → (K → Held → Answer → Outcome K → Type 0) → NetValue K → Journal → ReplayStop → Type 0
-StopsMaking {K} shape_of uses ready next net journal (NoTurn place p refusal) = (s : State K) → Fit shape_of uses ready s → StandsForOpen (shown_net net) s → StopsAtTurn next s (schedule_of journal) place p refusal
-StopsMaking shape_of uses ready next net journal NoMemory = Unit {0}
+abbrev pub StopsMaking : {K : Type 0} → Rules K → NetValue K → Journal → ReplayStop → Type 0
+StopsMaking {K} rules net journal (NoTurn place p refusal) = (s : State K) → Fit rules s → StandsForOpen (shown_net net) s → StopsAtTurn rules s (schedule_of journal) place p refusal
+StopsMaking rules net journal NoMemory = Unit {0}

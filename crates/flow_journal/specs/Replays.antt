@@ -1,12 +1,9 @@
 -- What it is to make a journal again: the schedule of the machine by it, or the first turn of it that isn't defined. (This project's own.)
-use Rattle.std.specs.Prelude.{◌≡◌, ◌≢◌, ◌⊎◌, ℕ, ◌<◌, ◌≤◌, Bool, List, [], ◌∷◌, Some, length, slice_get}
-use Rattle.flow_packet.specs.Held.{Held}
-use Rattle.flow_component.specs.declared.Answer.{Answer}
+use Rattle.std.specs.Prelude.{◌≡◌, ◌≢◌, ◌⊎◌, ℕ, ◌<◌, ◌≤◌, List, [], ◌∷◌, Some, length, slice_get}
 use Rattle.flow_component.specs.declared.Fail.{Fail}
 use Rattle.flow_component.specs.declared.Port.{Port}
-use Rattle.flow_component.specs.declared.Shape.{Shape}
 use Rattle.flow_component.specs.declared.Wish.TheVariants as wishes
-use Rattle.flow_component.specs.Laws.{Outcome, AtMostOneOutcome}
+use Rattle.flow_component.specs.Laws.{Rules, AtMostOneOutcome}
 use Rattle.flow_model.specs.declared.Stage.{Stage}
 use Rattle.flow_model.specs.declared.Stage.TheVariants as stages
 use Rattle.flow_model.specs.States.{Process, Channel, Kept, State, output_at}
@@ -70,26 +67,26 @@ StopsAtOnce kept [] seen p refusal = (seen ≢ []) × (p ≡ 0) × (refusal ≡ 
 StopsAtOnce kept (q ∷ turns) seen p refusal = (p ≡ q) × Refuses kept q seen refusal
 
 -- The journal is no schedule from s: its turns before this place, with the numbers that they take, lead to a state in which the rest stops at once.
-pub record StopsAtTurn {K : Type 0} (next : K → Held → Answer → Outcome K → Type 0) (s : State K) (journal : Schedule) (place p : ℕ) (refusal : Refusal) : Type 0 where
+pub record StopsAtTurn {K : Type 0} (rules : Rules K) (s : State K) (journal : Schedule) (place p : ℕ) (refusal : Refusal) : Type 0 where
   pub front : Schedule
   pub back : Schedule
   pub mid : State K
   pub whole : journal ≡ then_turns front back
   pub before : length front.turns ≡ place
-  pub leads : Leads next s front mid
+  pub leads : Leads rules s front mid
   pub stops : StopsAtOnce mid.kept back.turns back.seen p refusal
 
 -- All works that were pending are done, and then exactly this journal leads on.
-abbrev pub replayed : {K : Type 0} → (K → Held → Answer → Outcome K → Type 0) → Journal → Schedule → State K → State K → Type 0
-replayed {K} next journal made s s' = (made ≡ schedule_of journal) × ((t : State K) × SettlesAll next s t × Leads next t made s')
+abbrev pub replayed : {K : Type 0} → Rules K → Journal → Schedule → State K → State K → Type 0
+replayed {K} rules journal made s s' = (made ≡ schedule_of journal) × ((t : State K) × SettlesAll rules s t × Leads rules t made s')
 
 -- From each fit state that the net stands for, with its pending works done, the journal stops there.
-abbrev pub StopsFrom : {K : Type 0} → (K → Shape) → (K → ℕ → Bool) → (K → Held → Answer → Type 0) → (K → Held → Answer → Outcome K → Type 0) → NetValue K → Journal → ReplayStop → Type 0
-StopsFrom {K} shape_of uses ready next net journal (NoTurn place p refusal) =
-    (s : State K) → Fit shape_of uses ready s → StandsForOpen (shown_net net) s → (t : State K) × SettlesAll next s t × StopsAtTurn next t (schedule_of journal) place p refusal
-StopsFrom shape_of uses ready next net journal NoMemory = Unit {0}
+abbrev pub StopsFrom : {K : Type 0} → Rules K → NetValue K → Journal → ReplayStop → Type 0
+StopsFrom {K} rules net journal (NoTurn place p refusal) =
+    (s : State K) → Fit rules s → StandsForOpen (shown_net net) s → (t : State K) × SettlesAll rules s t × StopsAtTurn rules t (schedule_of journal) place p refusal
+StopsFrom rules net journal NoMemory = Unit {0}
 
 -- Where components come to one outcome a journal that stops is no schedule.
-abbrev pub StopsAreNoSchedules : {K : Type 0} → (K → Held → Answer → Outcome K → Type 0) → Type 0
-StopsAreNoSchedules {K} next =
-    AtMostOneOutcome next → (s : State K) (journal : Schedule) (place p : ℕ) (refusal : Refusal) (s' : State K) → StopsAtTurn next s journal place p refusal → Leads next s journal s' → ⊥
+abbrev pub StopsAreNoSchedules : {K : Type 0} → Rules K → Type 0
+StopsAreNoSchedules {K} rules =
+    AtMostOneOutcome rules → (s : State K) (journal : Schedule) (place p : ℕ) (refusal : Refusal) (s' : State K) → StopsAtTurn rules s journal place p refusal → Leads rules s journal s' → ⊥

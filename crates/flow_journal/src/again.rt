@@ -6,11 +6,11 @@ ghost use Rattle.flow_machine.specs.Starts.{AllSet};
 ghost use Rattle.flow_journal.specs.Replays.{replayed, StopsFrom};
 ghost use Rattle.flow_journal.specs.Replaying.{LeadsOn, StopsMaking};
 
-use crate::file::RUN_LIMIT;
 use crate::merge::Journal;
 use crate::refusal::{Refusal, ReplayStop};
 use crate::turn::{make_turn, settle, settle_all};
 use flow_component::Component;
+use flow_limits::RUN_LIMIT;
 use flow_machine::{Closed, Net};
 use std::alloc::Global;
 
@@ -20,8 +20,8 @@ fn make_turns<K: Component>(net: &mut Net<K>, journal: &Journal) -> Result<(), R
     requires few { length journal.now.turns ≤ RUN_LIMIT }
     ensures set { OnOk result (AllSet net.new.bodies) }
     ensures len { OnOk result (length net.new.bodies ≡ length net.old.bodies) }
-    ensures goes { OnOk result (Goes K.shape_of K.uses K.ready (LeadsOn K.next journal.now) net.old (turns_made net.old) net.new (turns_made net.new)) }
-    ensures stops { IfErr result (StopsMaking K.shape_of K.uses K.ready K.next net.old journal.now) }
+    ensures goes { OnOk result (Goes K.rules (LeadsOn K.rules journal.now) net.old (turns_made net.old) net.new (turns_made net.new)) }
+    ensures stops { IfErr result (StopsMaking K.rules net.old journal.now) }
 {
     let first = net.turns_made();
     let turns = journal.turns.as_slice();
@@ -54,8 +54,8 @@ fn make_turns<K: Component>(net: &mut Net<K>, journal: &Journal) -> Result<(), R
 fn make_again<K: Component>(net: &mut Net<K>, journal: &Journal) -> Result<(), ReplayStop>
     requires few { length journal.now.turns ≤ RUN_LIMIT }
     ensures set { OnOk result (AllSet net.new.bodies) }
-    ensures goes { OnOk result (Goes K.shape_of K.uses K.ready (replayed K.next journal.now) net.old (turns_made net.old) net.new (turns_made net.new)) }
-    ensures stops { IfErr result (StopsFrom K.shape_of K.uses K.ready K.next net.old journal.now) }
+    ensures goes { OnOk result (Goes K.rules (replayed K.rules journal.now) net.old (turns_made net.old) net.new (turns_made net.new)) }
+    ensures stops { IfErr result (StopsFrom K.rules net.old journal.now) }
 {
     settle_all(net)?;
     make_turns(net, journal)
@@ -70,10 +70,10 @@ pub fn replay<K: Component>(
     journal: &Journal,
 ) -> Result<Closed<K>, ReplayStop>
     requires few { length journal.now.turns ≤ RUN_LIMIT }
-    ensures replays { IfOk result (λ closed. Goes K.shape_of K.uses K.ready (replayed K.next journal.now) net (turns_made net) closed.net (turns_made closed.net)) }
+    ensures replays { IfOk result (λ closed. Goes K.rules (replayed K.rules journal.now) net (turns_made net) closed.net (turns_made closed.net)) }
     ensures set { IfOk result (λ closed. AllSet closed.net.bodies) }
     ensures none { IfOk result (λ closed. closed.starved.items ≡ []) }
-    ensures stops { IfErr result (StopsFrom K.shape_of K.uses K.ready K.next net journal.now) }
+    ensures stops { IfErr result (StopsFrom K.rules net journal.now) }
 {
     let mut net = net;
     match make_again(&mut net, journal) {

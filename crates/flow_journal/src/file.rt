@@ -3,11 +3,7 @@ ghost use Rattle.std.specs.Prelude.{◌++◌, ◌≡◌, OnOk, IfOk};
 ghost use Rattle.flow_journal.specs.Files.{IsWritable, IsFileOf, numbers_written};
 
 use crate::merge::Journal;
-use flow_limits::{PROCESS_LIMIT, TURN_LIMIT};
 use std::alloc::{AllocError, Global};
-
-/// The most turns of a run: each process makes as many as it may.
-pub const RUN_LIMIT: usize = PROCESS_LIMIT * TURN_LIMIT;
 
 /// The bytes before the turns: the name, and two numbers of four bytes.
 pub const HEADER_LENGTH: usize = 16;

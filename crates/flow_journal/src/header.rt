@@ -1,10 +1,11 @@
 //! The header of a journal's file, which is judged without what follows it.
 ghost use Rattle.std.specs.Prelude.{◌≡◌, ◌+◌, ◌*◌, ◌<◌, ◌≤◌, length, take, IfOk, IfErr, MatchOption};
-ghost use Rattle.flow_journal.specs.declared.file.TheConstants.{RUN_LIMIT};
+ghost use Rattle.flow_limits.specs.declared.TheConstants.{RUN_LIMIT};
 ghost use Rattle.flow_journal.specs.Files.{BeginsWithName, IsHeaderFault, StraysFromName, body_length, header_written, number_at};
 
 use crate::fault::JournalFault;
-use crate::file::{HEADER_LENGTH, RUN_LIMIT};
+use crate::file::HEADER_LENGTH;
+use flow_limits::RUN_LIMIT;
 
 /// What the header of a journal's file tells: how many turns and how many seen numbers follow it. (This project's own.)
 #[derive(Clone, Copy, Debug)]

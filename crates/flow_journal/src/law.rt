@@ -15,7 +15,7 @@ pub fn a_file_has_one_journal_or_one_fault()
 
 /// Where components come to one outcome, a journal that stops at a turn is no schedule.
 pub fn a_journal_that_stops_is_no_schedule<K: Component>()
-    ensures { StopsAreNoSchedules K.next }
+    ensures { StopsAreNoSchedules K.rules }
 {
     schedules_lead_to_one_state::<K>();
 }

@@ -9,15 +9,20 @@ mod law;
 mod merge;
 mod parse;
 mod refusal;
+mod runs;
 mod turn;
 
 pub use again::replay;
 pub use fault::{JournalFault, JournalStop};
-pub use file::{HEADER_LENGTH, RUN_LIMIT};
+pub use file::HEADER_LENGTH;
 pub use header::Header;
 pub use law::{a_file_has_one_journal_or_one_fault, a_journal_that_stops_is_no_schedule};
 pub use merge::Journal;
 pub use refusal::{Refusal, ReplayStop};
+pub use runs::{
+    a_replay_of_a_net_is_scheduled, a_round_of_a_net_is_a_run,
+    a_schedule_sees_no_more_than_its_turns, what_workers_reach_is_a_run,
+};
 
 #[cfg(test)]
 mod tests;

@@ -79,7 +79,7 @@ pub(crate) fn make_turn<'a, K: Component>(
 /// Does the pending work of a process, and takes the room of its next turn.
 pub(crate) fn settle<K: Component>(net: &mut Net<K>, process: u32) -> Result<(), AllocError>
     requires { process < length net.old.bodies }
-    ensures settles { OnOk result (SettlesNet K.next net.old process net.new) }
+    ensures settles { OnOk result (SettlesNet K.rules net.old process net.new) }
     ensures len { length net.new.bodies ≡ length net.old.bodies }
     ensures turns { turns_made net.new ≡ turns_made net.old }
 {
@@ -93,7 +93,7 @@ pub(crate) fn settle<K: Component>(net: &mut Net<K>, process: u32) -> Result<(),
 /// Does all pending works, process by process.
 pub(crate) fn settle_all<K: Component>(net: &mut Net<K>) -> Result<(), AllocError>
     ensures set { OnOk result (AllSet net.new.bodies) }
-    ensures goes { OnOk result (Goes K.shape_of K.uses K.ready (all_settled K.next) net.old (turns_made net.old) net.new (turns_made net.old)) }
+    ensures goes { OnOk result (Goes K.rules (all_settled K.rules) net.old (turns_made net.old) net.new (turns_made net.old)) }
     ensures len { length net.new.bodies ≡ length net.old.bodies }
     ensures turns { turns_made net.new ≡ turns_made net.old }
 {

@@ -1,17 +1,15 @@
 -- What is known of a process that is at a case, and what its turn comes to there.
-use Rattle.std.proofs.Common.{◌≡◌, ℕ, ◌<◌, ◌≤◌, Bool, List, length, Some, None, refl, ap, subst, ◌∙◌, slice_get, slice_set, get_or}
+use Rattle.std.proofs.Common.{◌≡◌, ℕ, ◌<◌, ◌≤◌, List, length, Some, None, refl, ap, subst, ◌∙◌, slice_get, slice_set, get_or}
 use Rattle.std.proofs.lemmas.Option.{slice_get-get_or}
-use Rattle.flow_packet.specs.Held.{Held}
-use Rattle.flow_component.specs.declared.Answer.{Answer as Told}
-use Rattle.flow_component.specs.declared.Shape.{Shape}
 use Rattle.flow_component.specs.declared.Port.{Port}
+use Rattle.flow_component.specs.Laws.{Rules}
 use Rattle.flow_model.specs.declared.Stage.{Stage}
 use Rattle.flow_model.specs.declared.Block.TheVariants as blocks
 use Rattle.flow_model.specs.States.{Outlet}
 use Rattle.flow_model.specs.Events.{Sleeps, Closes, stage_event, idle_event, received, sent, told_level}
 use Rattle.flow_model.specs.Verdicts.{exact_level, waits_for}
 use Rattle.flow_model.specs.Stands.{ChannelShown, look_shown, shown_after}
-use Rattle.flow_model.specs.Schedules.{IsThoughtStage}
+use Rattle.flow_model.specs.Stages.{IsThoughtStage}
 use Rattle.flow_machine.specs.Values.{BodyValue, NetValue, net_of}
 use Rattle.flow_machine.specs.Thoughts.{IsSet, IsSetAt}
 use Rattle.flow_machine.specs.Answers.{CaseIs, case_of}
@@ -34,13 +32,13 @@ pub record AtCase {K : Type 0} (net : NetValue K) (p : ℕ) (case : Case) (b : B
   pub is : CaseIs b.process case
 
 -- All that is to be known of a process that is at a case.
-pub at-case : {K : Type 0} (shape_of : K → Shape) (uses : K → ℕ → Bool) (ready : K → Held → Told → Type 0) (net : NetValue K) (p : ℕ) (case : Case) (b : BodyValue K) → FitNet shape_of uses ready net → slice_get net.bodies p ≡ Some b → case_of b.process ≡ Some case → AtCase net p case b
-at-case shape_of uses ready net p case b fit there is = record { there = there; whole = fit.whole p b there; is = case-is b.process case is }
+pub at-case : {K : Type 0} (rules : Rules K) (net : NetValue K) (p : ℕ) (case : Case) (b : BodyValue K) → FitNet rules net → slice_get net.bodies p ≡ Some b → case_of b.process ≡ Some case → AtCase net p case b
+at-case rules net p case b fit there is = record { there = there; whole = fit.whole p b there; is = case-is b.process case is }
 
 -- The same of a body that was looked up.
-pub at-place : {K : Type 0} (shape_of : K → Shape) (uses : K → ℕ → Bool) (ready : K → Held → Told → Type 0) (bodies : List (BodyValue K)) (channels : List ChannelShown) (p : ℕ) (case : Case) (d : BodyValue K) → FitNet shape_of uses ready (net_of bodies channels) → p < length bodies
+pub at-place : {K : Type 0} (rules : Rules K) (bodies : List (BodyValue K)) (channels : List ChannelShown) (p : ℕ) (case : Case) (d : BodyValue K) → FitNet rules (net_of bodies channels) → p < length bodies
     → case_of (get_or bodies p d).process ≡ Some case → AtCase (net_of bodies channels) p case (get_or bodies p d)
-at-place shape_of uses ready bodies channels p case d fit within is = at-case shape_of uses ready (net_of bodies channels) p case (get_or bodies p d) fit (slice_get-get_or bodies p d within) is
+at-place rules bodies channels p case d fit within is = at-case rules (net_of bodies channels) p case (get_or bodies p d) fit (slice_get-get_or bodies p d within) is
 
 -- A process that is set owes no work, and has the room of its turn.
 pub thought-at : {K : Type 0} (net : NetValue K) (p : ℕ) (b : BodyValue K) → slice_get net.bodies p ≡ Some b → IsSetIn net p → IsThoughtStage b.process.stage

@@ -4,11 +4,9 @@ use Rattle.std.specs.Prelude.{◌&&◌, is_some, option_and_then}
 use Rattle.std.proofs.lemmas.Bool.Decides.{nat_tests}
 use Rattle.flow_packet.specs.Tree.{Tree}
 use Rattle.flow_packet.specs.Hands.{packet_at}
-use Rattle.flow_packet.specs.Held.{Held}
-use Rattle.flow_component.specs.declared.Answer.{Answer as ComponentAnswer}
-use Rattle.flow_component.specs.declared.Shape.{Shape}
 use Rattle.flow_component.specs.declared.Port.{Port}
 use Rattle.flow_component.specs.declared.Wish.TheVariants as wishes
+use Rattle.flow_component.specs.Laws.{Rules}
 use Rattle.flow_model.specs.declared.Stage.{Stage}
 use Rattle.flow_model.specs.declared.Stage.TheVariants as stages
 use Rattle.flow_model.specs.declared.Block.{Block}
@@ -74,9 +72,9 @@ some-of (Some y) is = (y, refl)
 some-of None is = absurd (cc)
 
 -- a send that stands has its packet
-pub wished-there : {K : Type 0} (shape_of : K → Shape) (uses : K → ℕ → Bool) (ready : K → Held → ComponentAnswer → Type 0) (net : NetValue K) (p : ℕ) (b : BodyValue K) (port : Port) (id : ℕ) → FitNet shape_of uses ready net → slice_get net.bodies p ≡ Some b → b.process.stage ≡ stages.Wishing (wishes.Send port id)
+pub wished-there : {K : Type 0} (rules : Rules K) (net : NetValue K) (p : ℕ) (b : BodyValue K) (port : Port) (id : ℕ) → FitNet rules net → slice_get net.bodies p ≡ Some b → b.process.stage ≡ stages.Wishing (wishes.Send port id)
     → (packet : Tree) × (packet_wished b.process ≡ Some packet)
-wished-there shape_of uses ready net p b port id fit there stage =
+wished-there rules net p b port id fit there stage =
     let granted = subst (IsGranted b.process) stage (fit.fit.all_fit p b.process (process-in net fit.state p b fit.stands there)).granted in
     let found = some-of (packet_at b.process.held.packets id) granted.1 in
     (found.0, ap (λ (s : Stage). option_and_then (packet_at b.process.held.packets) (id_sent s)) stage ∙ found.1)

@@ -1,25 +1,23 @@
 -- Turns and thoughts keep what holds of each net.
-use Rattle.flow_limits.specs.declared.TheConstants.{TURN_LIMIT}
-use Rattle.std.proofs.Common.{◌≡◌, ◌≢◌, ℕ, ◌+◌, ◌*◌, ◌<◌, ◌≤◌, Bool, List, [], ◌∷◌, ◌++◌, length, map, Option, Some, None, suc, zero, refl, ap, sym, subst, ◌∙◌, arith, slice_get, slice_set, length-set, length-append, append-nil, ◌⊎◌, inl, inr}
+use Rattle.flow_limits.specs.declared.TheConstants.{RUN_LIMIT, TURN_LIMIT}
+use Rattle.std.proofs.Common.{◌≡◌, ◌≢◌, ℕ, ◌+◌, ◌*◌, ◌<◌, ◌≤◌, List, [], ◌∷◌, ◌++◌, length, map, Option, Some, None, suc, zero, refl, ap, sym, subst, ◌∙◌, arith, slice_get, slice_set, length-set, length-append, append-nil, ◌⊎◌, inl, inr}
 use Rattle.std.specs.Prelude.{sum_by}
 use Rattle.std.proofs.lemmas.List.{map-set}
 use Rattle.std.proofs.lemmas.List.Sums.{sum_by-cons}
 use Rattle.flow_packet.specs.Tree.{Tree}
-use Rattle.flow_packet.specs.Held.{Held}
 use Rattle.flow_packet.proofs.Comes.{comes}
 use Rattle.flow_component.specs.declared.Port.{Port}
-use Rattle.flow_component.specs.declared.Answer.{Answer}
 use Rattle.flow_component.specs.declared.Wish.TheVariants as wishes
-use Rattle.flow_component.specs.declared.Shape.{Shape}
-use Rattle.flow_component.specs.Laws.{Outcome, Wishes, Fails, held_after, Obeys, StaysReady, IsSteady}
+use Rattle.flow_component.specs.Laws.{Rules, Lawful, Outcome, Wishes, Fails, held_after}
 use Rattle.flow_model.specs.declared.Stage.{Stage}
 use Rattle.flow_model.specs.declared.Stage.TheVariants as stages
 use Rattle.flow_model.specs.States.{Process, Channel, Put, State, From, Outlet, outlets, change_at, changed}
-use Rattle.flow_model.specs.Events.{Event, Starts, Finishes, Gets, Takes_text, Hears_end, Sends, Learns, Sleeps, Closes, Signals, event_from, received, seen_by}
-use Rattle.flow_model.specs.Turns.{process_after, channels_after, past_after, Turn}
+use Rattle.flow_model.specs.Events.{Event, Gets, event_from, received, seen_by}
+use Rattle.flow_model.specs.Turns.{process_after, channels_after, past_after, Turn, Change, Added, change_of}
 use Rattle.flow_model.specs.Works.{worked, past_worked, Work}
-use Rattle.flow_model.specs.Stands.{ChannelShown, NetShown, channels_from, body_after, shown_after, all_shown_after, net_after, StandsForOpen}
-use Rattle.flow_model.specs.Valid.{ReadyAt, HasToClose}
+use Rattle.flow_model.specs.Stands.{ChannelShown, NetShown, channels_from, body_after, all_shown_after, net_after, StandsForOpen, shown_changed}
+use Rattle.flow_model.specs.Stages.{HasToClose}
+use Rattle.flow_model.specs.Valid.{ReadyAt}
 use Rattle.flow_model.specs.Fit.{Fit}
 use Rattle.flow_model.proofs.Lists.{change_at-some, slice_get-set_same, slice_get-set_other, same_or_not, sum_by-slice_set}
 use Rattle.flow_model.proofs.Order.{inputs-after, outputs-after, inputs-worked, outputs-worked}
@@ -44,6 +42,7 @@ use Rattle.flow_machine.specs.NetSteps.{GoesByTurn, ThinksNet}
 use Rattle.flow_machine.proofs.Standings.{get-map, process-in, channel-in, happens-in}
 use Rattle.flow_machine.proofs.LogLemmas.{stamps_of-append, levels_of-append, stamps-own, stamps-other, levels-own, levels-other}
 use Rattle.flow_machine.proofs.NetTurns.{receives, set-same}
+use Rattle.flow_model.proofs.Changes.{length-one, get-one}
 
 -- the state after a turn
 abbrev pub state_after : {K : Type 0} → State K → ℕ → Process K → Event → State K
@@ -78,52 +77,25 @@ by-place {K} bodies p b b' P there here others q x is = elim (same_or_not q p) [
 pub turns-set : {K : Type 0} (bodies : List (BodyValue K)) (p : ℕ) (b b' : BodyValue K) → slice_get bodies p ≡ Some b → sum_by (λ (x : BodyValue K). x.process.turns) (slice_set bodies p b') + b.process.turns ≡ sum_by (λ (x : BodyValue K). x.process.turns) bodies + b'.process.turns
 turns-set {K} bodies p b b' there = sum_by-slice_set (λ (x : BodyValue K). x.process.turns) bodies p b b' there
 
-length-change : {A : Type 0} (xs : List A) (i : ℕ) (f : A → A) → length (change_at xs i f) ≡ length xs
-length-change xs i f = by (slice_get xs i)
-  where
-    by : (found : Option _) → length (changed xs i f found) ≡ length xs
-    by (Some x) = length-set xs i (f x)
-    by None = refl
-
 -- An event keeps the number of connections.
 pub channels-len : (e : Event) (channels : List ChannelShown) → length (all_shown_after e channels) ≡ length channels
-channels-len (Gets port c packet) channels = length-change channels c (shown_after (Gets port c packet))
-channels-len (Sends port c packet) channels = length-change channels c (shown_after (Sends port c packet))
-channels-len (Closes output c) channels = length-change channels c (shown_after (Closes output c))
-channels-len (Signals c packet) channels = length-change channels c (shown_after (Signals c packet))
-channels-len Starts channels = refl
-channels-len Finishes channels = refl
-channels-len (Takes_text port text) channels = refl
-channels-len (Hears_end port) channels = refl
-channels-len (Learns port level) channels = refl
-channels-len Sleeps channels = refl
+channels-len e channels = length-one shown_changed channels (change_of e)
 
 -- at most one put more
 abbrev PutsMost : List ChannelShown → ℕ → Type 0
 PutsMost channels m = (c : ℕ) (channel : ChannelShown) → slice_get channels c ≡ Some channel → channel.puts ≤ m
 
-puts-change : (channels : List ChannelShown) (c m : ℕ) (f : ChannelShown → ChannelShown) → ((channel : ChannelShown) → (f channel).puts ≤ channel.puts + 1) → PutsMost channels m → PutsMost (change_at channels c f) (m + 1)
-puts-change channels c m f one most d channel is = by (slice_get channels c) refl is
-  where
-    by : (found : Option ChannelShown) → slice_get channels c ≡ found → slice_get (changed channels c f found) d ≡ Some channel → channel.puts ≤ m + 1
-    by None there is = omega (arith, most d channel is)
-    by (Some x) there is = elim (same_or_not d c) [
-      | inl here ↦ (let h : Some (f x) ≡ Some channel = sym (ap (slice_get (slice_set channels c (f x))) here ∙ slice_get-set_same channels c x (f x) there) ∙ is in
-          let e : f x ≡ channel = cc in omega (arith, most c x there, one x, ap (λ (ch : ChannelShown). ch.puts) e))
-      | inr other ↦ omega (arith, most d channel (sym (slice_get-set_other channels c d (f x) other) ∙ is))
-    ]
-
 puts-after : (e : Event) (channels : List ChannelShown) (m : ℕ) → PutsMost channels m → PutsMost (all_shown_after e channels) (m + 1)
-puts-after (Gets port c packet) channels m most = puts-change channels c m (shown_after (Gets port c packet)) (λ ch. omega arith) most
-puts-after (Sends port c packet) channels m most = puts-change channels c m (shown_after (Sends port c packet)) (λ ch. omega arith) most
-puts-after (Closes output c) channels m most = puts-change channels c m (shown_after (Closes output c)) (λ ch. omega arith) most
-puts-after (Signals c packet) channels m most = puts-change channels c m (shown_after (Signals c packet)) (λ ch. omega arith) most
-puts-after Starts channels m most = λ d ch is. omega (arith, most d ch is)
-puts-after Finishes channels m most = λ d ch is. omega (arith, most d ch is)
-puts-after (Takes_text port text) channels m most = λ d ch is. omega (arith, most d ch is)
-puts-after (Hears_end port) channels m most = λ d ch is. omega (arith, most d ch is)
-puts-after (Learns port level) channels m most = λ d ch is. omega (arith, most d ch is)
-puts-after Sleeps channels m most = λ d ch is. omega (arith, most d ch is)
+puts-after e channels m most c channel is =
+    let was = get-one shown_changed channels (change_of e) c channel is in
+    elim was.2 [
+      | inl same ↦ omega (arith, most c was.0 was.1, ap (λ (k : ChannelShown). k.puts) same)
+      | inr change ↦ omega (arith, most c was.0 was.1, ap (λ (k : ChannelShown). k.puts) change.3, by change.0.change was.0)
+    ]
+  where
+    by : (change : Change) (k : ChannelShown) → (shown_changed change k).puts ≤ k.puts + 1
+    by (Added packet) k = omega arith
+    by change k = omega arith
 
 -- A body with the same inputs and outputs has only connections of the net.
 pub wired-same : {K : Type 0} (channels : ℕ) (b b' : BodyValue K) → b'.process.inputs ≡ b.process.inputs → b'.process.outputs ≡ b.process.outputs → IsWiredBody channels b → IsWiredBody channels b'
@@ -132,16 +104,16 @@ wired-same {K} channels b b' inputs outputs wired = record {
   outputs = λ o c is. wired.outputs o c (ap (λ outs. output_in outs o) (sym outputs) ∙ is);
 }
 
-module _ {K : Type 0} (shape_of : K → Shape) (uses : K → ℕ → Bool) (ready : K → Held → Answer → Type 0) where
+module _ {K : Type 0} (rules : Rules K) where
   -- a state that a net stood for goes on by the turn
-  pub goes-by : (old : NetValue K) (p n : ℕ) (e : Event) (stamp : ℕ) (new : NetValue K) → NetTurn old p n e stamp new → GoesByTurn shape_of uses ready old p e new
+  pub goes-by : (old : NetValue K) (p n : ℕ) (e : Event) (stamp : ℕ) (new : NetValue K) → NetTurn old p n e stamp new → GoesByTurn rules old p e new
   goes-by old p n e stamp new turn s fit stands =
       let t = turn-in old s p n turn.before e stands turn.there turn.happens in
       let s' : State K = state_after s p turn.before.process e in
-      (s', t, Fit-turn shape_of uses ready s p e s' t fit, shown-after old p n e stamp new turn ∙ ap (net_after p e) stands ∙ sym (shown-turn s p e s' t fit.valid.in_order fit.valid.senders))
+      (s', t, Fit-turn rules s p e s' t fit, shown-after old p n e stamp new turn ∙ ap (net_after p e) stands ∙ sym (shown-turn s p e s' t fit.valid.in_order fit.valid.senders))
 
   -- a turn keeps what holds of each net
-  pub fit-turn : (old : NetValue K) (p n : ℕ) (e : Event) (stamp : ℕ) (new : NetValue K) → NetTurn old p n e stamp new → stamp ≡ turns_made old → FitNet shape_of uses ready old → FitNet shape_of uses ready new
+  pub fit-turn : (old : NetValue K) (p n : ℕ) (e : Event) (stamp : ℕ) (new : NetValue K) → NetTurn old p n e stamp new → stamp ≡ turns_made old → FitNet rules old → FitNet rules new
   fit-turn old p n e stamp new turn next fit =
       let b = turn.before in
       let after = goes-by old p n e stamp new turn fit.state fit.fit fit.stands in
@@ -181,19 +153,19 @@ module _ {K : Type 0} (shape_of : K → Shape) (uses : K → ℕ → Bool) (read
           → (c : ℕ) (channel : ChannelShown) → slice_get news c ≡ Some channel → channel.puts ≤ k
       puts-now e olds news m k are k_is most c channel is = omega (arith, puts-after e olds m most c channel (ap (λ (cs : List ChannelShown). slice_get cs c) (sym are) ∙ is), k_is)
 
-  pub fit-answer : (old : NetValue K) (p n stamp : ℕ) (answer : Turning) (new : NetValue K) → TurnsNet old p n stamp answer new → stamp ≡ turns_made old → FitNet shape_of uses ready old → FitNet shape_of uses ready new
+  pub fit-answer : (old : NetValue K) (p n stamp : ℕ) (answer : Turning) (new : NetValue K) → TurnsNet old p n stamp answer new → stamp ≡ turns_made old → FitNet rules old → FitNet rules new
   fit-answer old p n stamp (turns.Made s) new made next fit = fit-turn old p n made.1.0 stamp new made.1.1 next fit
-  fit-answer old p n stamp (turns.Blocked block) new same next fit = subst (FitNet shape_of uses ready) (sym same.1) fit
-  fit-answer old p n stamp (turns.Over overs.Ended) new same next fit = subst (FitNet shape_of uses ready) (sym same.1) fit
-  fit-answer old p n stamp (turns.Over overs.Failed) new same next fit = subst (FitNet shape_of uses ready) (sym same.1) fit
+  fit-answer old p n stamp (turns.Blocked block) new same next fit = subst (FitNet rules) (sym same.1) fit
+  fit-answer old p n stamp (turns.Over overs.Ended) new same next fit = subst (FitNet rules) (sym same.1) fit
+  fit-answer old p n stamp (turns.Over overs.Failed) new same next fit = subst (FitNet rules) (sym same.1) fit
   fit-answer old p n stamp (turns.Over overs.Starved) new never next fit = absurd never
 
-  pub fit-seen : (old : NetValue K) (p n stamp : ℕ) (answer : Option Turning) (new : NetValue K) → SeesNet old p n stamp answer new → stamp ≡ turns_made old → FitNet shape_of uses ready old → FitNet shape_of uses ready new
+  pub fit-seen : (old : NetValue K) (p n stamp : ℕ) (answer : Option Turning) (new : NetValue K) → SeesNet old p n stamp answer new → stamp ≡ turns_made old → FitNet rules old → FitNet rules new
   fit-seen old p n stamp (Some answer) new sees next fit = fit-answer old p n stamp answer new sees.1 next fit
-  fit-seen old p n stamp None new same next fit = subst (FitNet shape_of uses ready) (sym same.1) fit
+  fit-seen old p n stamp None new same next fit = subst (FitNet rules) (sym same.1) fit
 
   -- a packet that is got leaves the hands sound
-  pub sound-got : (net : NetValue K) (p c : ℕ) (port : Port) (b : BodyValue K) (channel : ChannelShown) → FitNet shape_of uses ready net → slice_get net.bodies p ≡ Some b → b.process.stage ≡ stages.Wishing (wishes.Receive port) → slice_get b.process.inputs port.0 ≡ Some (From c)
+  pub sound-got : (net : NetValue K) (p c : ℕ) (port : Port) (b : BodyValue K) (channel : ChannelShown) → FitNet rules net → slice_get net.bodies p ≡ Some b → b.process.stage ≡ stages.Wishing (wishes.Receive port) → slice_get b.process.inputs port.0 ≡ Some (From c)
       → slice_get net.channels c ≡ Some channel → GetsSound b.process channel.packets
   sound-got net p c port b channel fit there stage input at = by channel.packets refl
     where
@@ -204,7 +176,7 @@ module _ {K : Type 0} (shape_of : K → Shape) (uses : K → ℕ → Bool) (read
           let happens : event_from (looks_of net.channels) b.process 0 ≡ Some e = receives net.channels b.process 0 c port channel stage input at ∙ ap (λ (ps : List Tree). received port.0 c ps channel.open_senders) is in
           let s = fit.state in
           let s' : State K = state_after s p b.process e in
-          let good = Fit-turn shape_of uses ready s p e s' (turn-in net s p 0 b e fit.stands there happens) fit.fit in
+          let good = Fit-turn rules s p e s' (turn-in net s p 0 b e fit.stands there happens) fit.fit in
           let there' : slice_get s'.kept.processes p ≡ Some (process_after b.process e) = slice_get-set_same s.kept.processes p b.process (process_after b.process e) (process-in net s p b fit.stands there) in
           let each = good.valid.each p (process_after b.process e) there' in
           sound-hands s' p (process_after b.process e) there' each.maker (omega (arith, each.made, each.turns)) good.valid.one_place
@@ -217,7 +189,7 @@ module _ {K : Type 0} (shape_of : K → Shape) (uses : K → ℕ → Bool) (read
       let rest = turns-few bodies m (λ p x is. each (suc p) x is) in
       omega (arith, sum_by-cons (λ (x : BodyValue K). x.process.turns) b bodies, first, rest)
 
-  pub turns-most : (net : NetValue K) → FitNet shape_of uses ready net → turns_made net ≤ 1073741824
+  pub turns-most : (net : NetValue K) → FitNet rules net → turns_made net ≤ RUN_LIMIT
   turns-most net fit =
       let each = turns-few net.bodies TURN_LIMIT (λ p b is. omega (arith, (fit.fit.valid.each p b.process (process-in net fit.state p b fit.stands is)).turns)) in
       omega (arith, each, fit.few)
@@ -235,7 +207,7 @@ module _ {K : Type 0} (shape_of : K → Shape) (uses : K → ℕ → Bool) (read
   length-channels net s stands = ap (λ (n : NetShown K). length n.channels) stands ∙ channels_from-length s.past.put 0 s.kept.channels
 
   -- no connection of the net holds more than it takes, and its capacity is small
-  pub level-fits : (net : NetValue K) (c : ℕ) (ch : ChannelShown) → FitNet shape_of uses ready net → slice_get net.channels c ≡ Some ch → (length ch.packets ≤ ch.capacity) × (ch.capacity < 65536)
+  pub level-fits : (net : NetValue K) (c : ℕ) (ch : ChannelShown) → FitNet rules net → slice_get net.channels c ≡ Some ch → (length ch.packets ≤ ch.capacity) × (ch.capacity < 65536)
   level-fits net c ch fit at =
       let r = channel-in net fit.state c ch fit.stands at in
       let packets : length ch.packets ≡ length r.0.packets = ap (λ (x : ChannelShown). length x.packets) r.2 in
@@ -243,7 +215,7 @@ module _ {K : Type 0} (shape_of : K → Shape) (uses : K → ℕ → Bool) (read
       (omega (arith, packets, capacity, fit.fit.valid.within c r.0 r.1), omega (arith, capacity, fit.fit.valid.capacities c r.0 r.1))
 
   -- a process that closes an output is an open sender there
-  pub sender-open : (net : NetValue K) (p c i : ℕ) (b : BodyValue K) (outlet : Outlet) → FitNet shape_of uses ready net → slice_get net.bodies p ≡ Some b → b.process.stage ≡ stages.Closing i → slice_get (outlets b.process) i ≡ Some outlet → outlet.connection ≡ c
+  pub sender-open : (net : NetValue K) (p c i : ℕ) (b : BodyValue K) (outlet : Outlet) → FitNet rules net → slice_get net.bodies p ≡ Some b → b.process.stage ≡ stages.Closing i → slice_get (outlets b.process) i ≡ Some outlet → outlet.connection ≡ c
       → (c < length net.channels) × ((ch : ChannelShown) → slice_get net.channels c ≡ Some ch → 0 < ch.open_senders)
   sender-open net p c i b outlet fit there stage is same =
       let has : HasToClose b.process.stage i = subst (λ (st : Stage). HasToClose st i) (sym stage) (let h : i ≤ i = omega arith in h) in
@@ -267,23 +239,20 @@ signal-worked x (Wishes component held wish) = refl
 signal-worked x (Fails component held cause) = refl
 
 -- what a thought did: nothing that is shown, or a work
-pub thinks-step : {K : Type 0} (next : K → Held → Answer → Outcome K → Type 0) (old : BodyValue K) (t : Thought) (new : BodyValue K) → Thinks next old t new → SameBody old new ⊎ WorkedBody next old new
-thinks-step {K} next old thoughts.Wishing new thinks = settled thinks.0
+pub thinks-step : {K : Type 0} (rules : Rules K) (old : BodyValue K) (t : Thought) (new : BodyValue K) → Thinks rules old t new → SameBody old new ⊎ WorkedBody rules old new
+thinks-step {K} rules old thoughts.Wishing new thinks = settled thinks.0
   where
-    settled : SettlesBody next old new → SameBody old new ⊎ WorkedBody next old new
+    settled : SettlesBody rules old new → SameBody old new ⊎ WorkedBody rules old new
     settled (inl same) = inl same.1
     settled (inr work) = inr work
-thinks-step {K} next old (thoughts.Failed cause) new thinks = settled thinks.0
+thinks-step {K} rules old (thoughts.Failed cause) new thinks = settled thinks.0
   where
-    settled : SettlesBody next old new → SameBody old new ⊎ WorkedBody next old new
+    settled : SettlesBody rules old new → SameBody old new ⊎ WorkedBody rules old new
     settled (inl same) = inl same.1
     settled (inr work) = inr work
-thinks-step next old thoughts.NoMemory new thinks = thinks.0
+thinks-step rules old thoughts.NoMemory new thinks = thinks.0
 
-module _ {K : Type 0} (shape_of : K → Shape) (uses : K → ℕ → Bool) (ready : K → Held → Answer → Type 0) (next : K → Held → Answer → Outcome K → Type 0)
-    (obeys : (component : K) (held : Held) (answer : Answer) (outcome : Outcome K) → ready component held answer → next component held answer outcome → Obeys (shape_of component) (uses component) held outcome)
-    (stays : (component : K) (held : Held) (answer : Answer) (outcome : Outcome K) → ready component held answer → next component held answer outcome → StaysReady ready outcome)
-    (steady : (component : K) (held : Held) (answer : Answer) (outcome : Outcome K) → next component held answer outcome → IsSteady shape_of uses component outcome) where
+module _ {K : Type 0} (rules : Rules K) (lawful : Lawful rules) where
   -- the state after a work
   state-worked : State K → ℕ → Process K → Outcome K → State K
   state-worked s p x outcome = record { kept = record { processes = slice_set s.kept.processes p (worked x outcome); channels = s.kept.channels }; past = past_worked s.past p x.held (held_after outcome) }
@@ -297,20 +266,20 @@ module _ {K : Type 0} (shape_of : K → Shape) (uses : K → ℕ → Bool) (read
       (let both : shown_net new ≡ shown_net old = λ i. record { bodies = all i; channels = channels i } in both) ∙ stands
 
   -- a state that a net stood for goes on by the work of a body
-  pub goes-work : (old : NetValue K) (p : ℕ) (before after : BodyValue K) (new : NetValue K) → slice_get old.bodies p ≡ Some before → WorkedBody next before after → new.bodies ≡ slice_set old.bodies p after → new.channels ≡ old.channels
-      → (s : State K) → Fit shape_of uses ready s → StandsForOpen (shown_net old) s → (s' : State K) × Work next s p s' × Fit shape_of uses ready s' × StandsForOpen (shown_net new) s'
+  pub goes-work : (old : NetValue K) (p : ℕ) (before after : BodyValue K) (new : NetValue K) → slice_get old.bodies p ≡ Some before → WorkedBody rules before after → new.bodies ≡ slice_set old.bodies p after → new.channels ≡ old.channels
+      → (s : State K) → Fit rules s → StandsForOpen (shown_net old) s → (s' : State K) × Work rules s p s' × Fit rules s' × StandsForOpen (shown_net new) s'
   unfolding state-worked
   goes-work old p before after new there work bodies channels s fit stands =
       let x = before.process in
       let outcome = work.outcome in
       let at = process-in old s p before stands there in
       let s' : State K = state-worked s p x outcome in
-      let step : Work next s p s' = record { before = x; outcome = outcome; kept = record { answer = work.answer; there = at; told = work.told; comes = work.comes; processes = refl; channels = refl }; past = refl } in
+      let step : Work rules s p s' = record { before = x; outcome = outcome; kept = record { answer = work.answer; there = at; told = work.told; comes = work.comes; processes = refl; channels = refl }; past = refl } in
       let was = fit.valid.each p x at in
       let below : x.held.made < 4294967296 = omega (arith, was.made, was.turns) in
       let sound = sound-hands s p x at was.maker below fit.valid.one_place in
-      let now : ready x.component x.held work.answer = (subst (ReadyAt (ready x.component) x.held) work.told was.is_ready) sound in
-      let works = comes x.held (held_after outcome) (comes-of (shape_of x.component) (uses x.component) x.held outcome (obeys x.component x.held work.answer outcome now work.comes)) in
+      let now : rules.ready x.component x.held work.answer = (subst (ReadyAt (rules.ready x.component) x.held) work.told was.is_ready) sound in
+      let works = comes x.held (held_after outcome) (comes-of (rules.shape x.component) (rules.uses x.component) x.held outcome (lawful.obeys x.component x.held work.answer outcome now work.comes)) in
       let body : shown_body after ≡ body_worked outcome (shown_body before) = λ i. record { process = work.process i; dropped = work.dropped i } in
       let all : map shown_body new.bodies ≡ change_at (map shown_body old.bodies) p (body_worked outcome) =
       ap (map shown_body) bodies ∙ map-set shown_body old.bodies p after ∙ ap (slice_set (map shown_body old.bodies) p) body
@@ -318,22 +287,22 @@ module _ {K : Type 0} (shape_of : K → Shape) (uses : K → ℕ → Bool) (read
       let f : NetShown K → NetShown K = λ n. record { bodies = change_at n.bodies p (body_worked outcome); channels = n.channels } in (
         s',
         step,
-        Fit-work shape_of uses ready next obeys stays steady s p s' step fit,
-        (let both : shown_net new ≡ f (shown_net old) = λ i. record { bodies = all i; channels = channels i } in both) ∙ ap f stands ∙ sym (shown-work next s p s' step works below sound),
+        Fit-work rules lawful s p s' step fit,
+        (let both : shown_net new ≡ f (shown_net old) = λ i. record { bodies = all i; channels = channels i } in both) ∙ ap f stands ∙ sym (shown-work rules s p s' step works below sound),
       )
 
-  pub goes-think : (old : NetValue K) (p : ℕ) (before after : BodyValue K) (new : NetValue K) → slice_get old.bodies p ≡ Some before → SameBody before after ⊎ WorkedBody next before after → new.bodies ≡ slice_set old.bodies p after → new.channels ≡ old.channels
-      → (s : State K) → Fit shape_of uses ready s → StandsForOpen (shown_net old) s → (s' : State K) × Fit shape_of uses ready s' × StandsForOpen (shown_net new) s'
+  pub goes-think : (old : NetValue K) (p : ℕ) (before after : BodyValue K) (new : NetValue K) → slice_get old.bodies p ≡ Some before → SameBody before after ⊎ WorkedBody rules before after → new.bodies ≡ slice_set old.bodies p after → new.channels ≡ old.channels
+      → (s : State K) → Fit rules s → StandsForOpen (shown_net old) s → (s' : State K) × Fit rules s' × StandsForOpen (shown_net new) s'
   goes-think old p before after new there (inl same) bodies channels s fit stands = (s, fit, goes-same old p before after new there same bodies channels s stands)
   goes-think old p before after new there (inr work) bodies channels s fit stands = let g = goes-work old p before after new there work bodies channels s fit stands in (g.0, g.2, g.3)
 
-  pub same-turns : (before after : BodyValue K) → SameBody before after ⊎ WorkedBody next before after → (after.process.turns ≡ before.process.turns) × (after.process.inputs ≡ before.process.inputs) × (after.process.outputs ≡ before.process.outputs) × (after.process.signal ≡ before.process.signal)
+  pub same-turns : (before after : BodyValue K) → SameBody before after ⊎ WorkedBody rules before after → (after.process.turns ≡ before.process.turns) × (after.process.inputs ≡ before.process.inputs) × (after.process.outputs ≡ before.process.outputs) × (after.process.signal ≡ before.process.signal)
   same-turns before after (inl same) = (ap (λ (x : Process K). x.turns) same.process, ap (λ (x : Process K). x.inputs) same.process, ap (λ (x : Process K). x.outputs) same.process, ap (λ (x : Process K). x.signal) same.process)
   same-turns before after (inr work) = (ap (λ (x : Process K). x.turns) work.process ∙ turns-worked before.process work.outcome, ap (λ (x : Process K). x.inputs) work.process ∙ inputs-worked before.process work.outcome, ap (λ (x : Process K). x.outputs) work.process ∙ outputs-worked before.process work.outcome, ap (λ (x : Process K). x.signal) work.process ∙ signal-worked before.process work.outcome)
 
   -- what a body does ahead of its turn keeps what holds of each net
-  pub fit-rest : (old : NetValue K) (p : ℕ) (b b' : BodyValue K) (new : NetValue K) → slice_get old.bodies p ≡ Some b → SameBody b b' ⊎ WorkedBody next b b' → KeepsTurns b b' → new.bodies ≡ slice_set old.bodies p b' → new.channels ≡ old.channels
-      → FitNet shape_of uses ready old → FitNet shape_of uses ready new
+  pub fit-rest : (old : NetValue K) (p : ℕ) (b b' : BodyValue K) (new : NetValue K) → slice_get old.bodies p ≡ Some b → SameBody b b' ⊎ WorkedBody rules b b' → KeepsTurns b b' → new.bodies ≡ slice_set old.bodies p b' → new.channels ≡ old.channels
+      → FitNet rules old → FitNet rules new
   fit-rest old p b b' new there step keeps bodies channels fit =
       let after = goes-think old p b b' new there step bodies channels fit.state fit.fit fit.stands in
       let same = same-turns b b' step in
@@ -357,5 +326,5 @@ module _ {K : Type 0} (shape_of : K → Shape) (uses : K → ℕ → Bool) (read
       }
 
   -- a thought keeps what holds of each net
-  pub fit-think : (old : NetValue K) (p : ℕ) (t : Thought) (new : NetValue K) → ThinksNet next old p t new → FitNet shape_of uses ready old → FitNet shape_of uses ready new
-  fit-think old p t new think fit = fit-rest old p think.before think.after new think.there (thinks-step next think.before t think.after think.thinks) think.keeps think.bodies think.channels fit
+  pub fit-think : (old : NetValue K) (p : ℕ) (t : Thought) (new : NetValue K) → ThinksNet rules old p t new → FitNet rules old → FitNet rules new
+  fit-think old p t new think fit = fit-rest old p think.before think.after new think.there (thinks-step rules think.before t think.after think.thinks) think.keeps think.bodies think.channels fit

@@ -256,9 +256,8 @@ kind-content : (t : Tree) → kind_of (content t) ≡ kind_of t
 kind-content (node id kind text cs) = refl
 
 open-closes : (k : Kind) → is_open_kind k ≡ true → is_close_kind k ≡ false
-open-closes kinds.Open is = refl
-open-closes kinds.Normal is = refl
 open-closes kinds.Close is = absurd (cc)
+open-closes k is = refl
 
 -- Open packets open as many brackets as they are, and close none.
 pub open-depth : (ts : List Tree) → AllOpen ts → (opens (map entry_of ts) ≡ length ts) × (closes (map entry_of ts) ≡ 0)

@@ -1,15 +1,13 @@
 -- The pieces of a net may be joined.
 use Rattle.flow_limits.specs.declared.TheConstants.{PROCESS_LIMIT, TURN_LIMIT}
-use Rattle.std.proofs.Common.{◌≡◌, ℕ, ◌+◌, ◌-◌, ◌*◌, ◌^◌, ◌<◌, ◌≤◌, min, Bool, true, false, cond, List, [], ◌∷◌, ◌++◌, length, map, Option, Some, None, suc, zero, refl, ap, sym, ◌∙◌, subst, arith, nat_eq, nat_lt, slice_get, slice_index, length-append, ◌⊎◌, inl, inr}
+use Rattle.std.proofs.Common.{◌≡◌, ℕ, ◌+◌, ◌-◌, ◌*◌, ◌^◌, ◌<◌, ◌≤◌, min, Bool, true, false, cond, List, [], ◌∷◌, ◌++◌, length, map, Option, Some, None, suc, zero, refl, ap, sym, ◌∙◌, subst, arith, nat_eq, nat_lt, slice_get, slice_index, length-append, inl, inr}
 use Rattle.std.specs.Prelude.{filter, flat_map, sum_by, count_by, option_and_then}
 use Rattle.std.proofs.lemmas.Bool.Decides.{nat_tests}
 use Rattle.std.proofs.lemmas.List.{length-map}
 use Rattle.std.proofs.lemmas.List.Sums.{sum_by-cons, length-filter}
 use Rattle.flow_packet.specs.Ids.{times, maker_of, ordinal_of}
 use Rattle.flow_packet.specs.Tree.{Tree, node, kind_of, content, all_ids}
-use Rattle.flow_packet.specs.Held.{Held}
-use Rattle.flow_component.specs.declared.Answer.{Answer}
-use Rattle.flow_component.specs.declared.Shape.{Shape}
+use Rattle.flow_component.specs.Laws.{Rules}
 use Rattle.flow_plan.specs.declared.plan.Sender.{Sender}
 use Rattle.flow_plan.specs.declared.plan.Connection.{Connection}
 use Rattle.flow_model.specs.States.{Process, Channel, Entry, entry_of, Put, State, Outlet, output_at, got_at, sent_at, is_sender}
@@ -26,7 +24,7 @@ use Rattle.flow_machine.proofs.Standings.{process-in, channel-in}
 use Rattle.flow_machine.proofs.JoinLogs.{from, sum-from, stamps-rise, levels-under, sum-lengths}
 use Rattle.flow_machine.proofs.JoinSenders.{counted-yes, counted-no, fewer-among, passing, passed, passing-different, among-first, among-rest, same-sender, sender-itself, outlet-there, outlet-from, later-closes, left-open}
 use Rattle.flow_machine.proofs.Planning.{input-wires, output-wires, unwrapped, processes-of, received_at, received-cases}
-use Rattle.flow_machine.proofs.JoinState.{sum-mapped}
+use Rattle.flow_machine.proofs.JoinSums.{sum-mapped}
 
 sum-same : {A : Type 0} (f g : A → ℕ) (xs : List A) → ((i : ℕ) (x : A) → slice_get xs i ≡ Some x → f x ≡ g x) → sum_by f xs ≡ sum_by g xs
 sum-same f g [] same = refl
@@ -144,7 +142,7 @@ opens-append : (es fs : List Entry) → opens (es ++ fs) ≡ opens es + opens fs
 opens-append [] fs = omega arith
 opens-append (e ∷ es) fs = omega (arith, opens-append es fs, sum_by-cons (λ (g : Entry). cond (is_open_kind (kind_of g.content)) 1 0) e (es ++ fs), sum_by-cons (λ (g : Entry). cond (is_open_kind (kind_of g.content)) 1 0) e es)
 
-module _ {K : Type 0} (shape_of : K → Shape) (uses : K → ℕ → Bool) (ready : K → Held → Answer → Type 0) (net : NetValue K) (fit : FitNet shape_of uses ready net) (planned : IsPlanned net) where
+module _ {K : Type 0} (rules : Rules K) (net : NetValue K) (fit : FitNet rules net) (planned : IsPlanned net) where
   abbrev s : State K
   s = fit.state
 
@@ -154,7 +152,7 @@ module _ {K : Type 0} (shape_of : K → Shape) (uses : K → ℕ → Bool) (read
   processes-are : s.kept.processes ≡ ps
   processes-are = processes-of net s fit.stands
 
-  piece : (p : ℕ) (b : BodyValue K) → slice_get net.bodies p ≡ Some b → IsPiece shape_of uses ready p b
+  piece : (p : ℕ) (b : BodyValue K) → slice_get net.bodies p ≡ Some b → IsPiece rules p b
   piece p b is =
       let at = process-in net s p b fit.stands is in
       let log = fit.logs p b is in
@@ -329,7 +327,7 @@ module _ {K : Type 0} (shape_of : K → Shape) (uses : K → ℕ → Bool) (read
       }
 
   -- a net's pieces may be joined
-  pub joins-pieces : Joins shape_of uses ready net
+  pub joins-pieces : Joins rules net
   joins-pieces = record {
     planned = planned;
     bodies = piece;

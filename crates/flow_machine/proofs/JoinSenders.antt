@@ -8,7 +8,8 @@ use Rattle.flow_plan.specs.declared.plan.Sender.{Sender}
 use Rattle.flow_model.specs.declared.Stage.{Stage}
 use Rattle.flow_model.specs.declared.Stage.TheVariants as stages
 use Rattle.flow_model.specs.States.{is_sender, without_sender, Outlet, outlets_from}
-use Rattle.flow_model.specs.Valid.{HasToClose, IsOpenSender, AllDifferent, IsFailedStage}
+use Rattle.flow_model.specs.Stages.{HasToClose, IsFailedStage}
+use Rattle.flow_model.specs.Valid.{IsOpenSender, AllDifferent}
 use Rattle.flow_model.proofs.Senders.{length-without_sender, both-true, stays-open}
 use Rattle.flow_machine.specs.Joins.{closes_later, leaves_open}
 
@@ -237,47 +238,35 @@ outlet-from k (None ∷ os) j u is = let r = outlet-from (k + 1) os j u is in (s
 
 -- stages
 pub later-closes : (j : ℕ) (stage : Stage) → closes_later j stage ≡ true → HasToClose stage j
-later-closes j stages.Idle is = tt
-later-closes j (stages.Told answer) is = tt
-later-closes j (stages.Wishing wish) is = tt
 later-closes j (stages.Closing i) is = grind (arith, nat_tests)
 later-closes j stages.Ended is = absurd (cc)
 later-closes j (stages.Failed cause) is = absurd (cc)
+later-closes j stage is = tt
 
 -- A stage that still has to close an output closes it later.
 pub closes-later : (j : ℕ) (stage : Stage) → HasToClose stage j → closes_later j stage ≡ true
-closes-later j stages.Idle has = refl
-closes-later j (stages.Told answer) has = refl
-closes-later j (stages.Wishing wish) has = refl
 closes-later j (stages.Closing i) has = grind (arith, nat_tests)
 closes-later j stages.Ended has = absurd has
 closes-later j (stages.Failed cause) has = absurd has
+closes-later j stage has = refl
 
 -- An output that is closed later is left open now.
 pub later-open : (j : ℕ) (stage : Stage) → closes_later j stage ≡ true → leaves_open j stage ≡ true
-later-open j stages.Idle is = refl
-later-open j (stages.Told answer) is = refl
-later-open j (stages.Wishing wish) is = refl
 later-open j (stages.Closing i) is = is
 later-open j stages.Ended is = is
-later-open j (stages.Failed cause) is = refl
+later-open j stage is = refl
 
 -- An output that is left open has still to be closed, or its process failed.
 pub open-left : (j : ℕ) (stage : Stage) → leaves_open j stage ≡ true → HasToClose stage j ⊎ IsFailedStage stage
-open-left j stages.Idle is = inl tt
-open-left j (stages.Told answer) is = inl tt
-open-left j (stages.Wishing wish) is = inl tt
 open-left j (stages.Closing i) is = inl (grind (arith, nat_tests))
 open-left j stages.Ended is = absurd (cc)
 open-left j (stages.Failed cause) is = inr tt
+open-left j stage is = inl tt
 
 -- The other way round.
 pub left-open : (j : ℕ) (stage : Stage) → HasToClose stage j ⊎ IsFailedStage stage → leaves_open j stage ≡ true
-left-open j stages.Idle left = refl
-left-open j (stages.Told answer) left = refl
-left-open j (stages.Wishing wish) left = refl
 left-open j (stages.Closing i) (inl has) = grind (arith, nat_tests)
 left-open j (stages.Closing i) (inr failed) = absurd failed
 left-open j stages.Ended (inl has) = absurd has
 left-open j stages.Ended (inr failed) = absurd failed
-left-open j (stages.Failed cause) left = refl
+left-open j stage left = refl

@@ -9,11 +9,10 @@ use Rattle.std.proofs.lemmas.List.Concat.{flat_map-append}
 use Rattle.std.proofs.lemmas.List.FromFn.{length-map-range_with_len}
 use Rattle.flow_packet.specs.Ids.{times, maker_of, ordinal_of}
 use Rattle.flow_packet.specs.Tree.{Tree, all_ids}
-use Rattle.flow_packet.specs.Held.{Held, held_ids}
+use Rattle.flow_packet.specs.Held.{held_ids}
 use Rattle.flow_packet.proofs.Counts.{times-append}
-use Rattle.flow_component.specs.declared.Answer.{Answer}
-use Rattle.flow_component.specs.declared.Shape.{Shape}
 use Rattle.flow_component.specs.Happenings.{Happening, Received, Sent}
+use Rattle.flow_component.specs.Laws.{Rules}
 use Rattle.flow_plan.specs.declared.plan.Sender.{Sender}
 use Rattle.flow_plan.specs.declared.plan.Connection.{Connection}
 use Rattle.flow_model.specs.States.{Process, Channel, Entry, entry_of, Past, State, Outlet, output_at, got_by, sent_by, got_at, sent_at, is_sender}
@@ -32,30 +31,11 @@ use Rattle.flow_machine.specs.Joins.{Joins, processes_of, places_count, packets_
 use Rattle.flow_machine.proofs.Lists.{element-there}
 use Rattle.flow_machine.proofs.Standings.{get-map}
 use Rattle.flow_machine.proofs.Planning.{input-wires, output-wires, unwrapped, received_at, own-within, input-received, signal-received}
+use Rattle.flow_machine.proofs.JoinSums.{sum-mapped, times-flat, length-flat, sum-most}
 use Rattle.flow_machine.proofs.JoinLogs.{log_of, turn_at, log-from, part-least}
 use Rattle.flow_machine.proofs.JoinPlaces.{missing, missing-times, missing-length, cut, cut-total, cut-length, bodies-shown, channel_of, channels_of, channels-there, channels-from, channels-shown, transit-of}
 use Rattle.flow_machine.proofs.JoinSenders.{picked-different, picked-only, picked-all, picked-length, outlet-there, outlet-from, later-open, open-left, closes-later}
 use Rattle.flow_machine.proofs.JoinPast.{Move, open_packet, AllOpen, taken, present, moves, packets_moved, as_put, trees_by, claims_of, taken-length, present-packets, moved-append, put-entries, put-length, put-by, open-replicate, moves-open, moves-count, claims-length, claims-count, open-depth, open-nests, spread, spread-at, got-own, got-other, got-sent, sent-own, sent-other, sent-got}
-
--- A sum over a mapped list is the sum of what is mapped.
-pub sum-mapped : {A B : Type 0} (f : B → ℕ) (g : A → B) (xs : List A) → sum_by f (map g xs) ≡ sum_by (λ x. f (g x)) xs
-sum-mapped f g [] = refl
-sum-mapped f g (x ∷ xs) = omega (arith, sum-mapped f g xs, sum_by-cons f (g x) (map g xs), sum_by-cons (λ y. f (g y)) x xs)
-
-pub times-flat : {A : Type 0} (id : ℕ) (f : A → List ℕ) (xs : List A) → times id (flat_map f xs) ≡ sum_by (λ x. times id (f x)) xs
-times-flat id f [] = refl
-times-flat id f (x ∷ xs) = times-append id (f x) (flat_map f xs) ∙ omega (arith, times-flat id f xs, sum_by-cons (λ x. times id (f x)) x xs)
-
-pub length-flat : {A : Type 0} (f : A → List ℕ) (xs : List A) → length (flat_map f xs) ≡ sum_by (λ x. length (f x)) xs
-length-flat f [] = refl
-length-flat f (x ∷ xs) = length-append (f x) (flat_map f xs) ∙ omega (arith, length-flat f xs, sum_by-cons (λ x. length (f x)) x xs)
-
-sum-most : {A : Type 0} (f : A → ℕ) (m : ℕ) (xs : List A) → ((i : ℕ) (x : A) → slice_get xs i ≡ Some x → f x ≤ m) → sum_by f xs ≤ length xs * m
-sum-most f m [] each = omega arith
-sum-most f m (x ∷ xs) each = let first = each 0 x refl in let rest = sum-most f m xs (λ i y is. each (suc i) y is) in let cons = sum_by-cons f x xs in let more : length (x ∷ xs) * m ≡ m + length xs * m = multiplied (length xs) m in omega (arith, first, rest, cons, more)
-  where
-    multiplied : (n m : ℕ) → suc n * m ≡ m + n * m
-    multiplied n m = omega arith
 
 so-open : {K : Type 0} (o : ℕ) (found : Option (Process K)) → is_so_at closes_later o found ≡ true → is_so_at leaves_open o found ≡ true
 so-open o (Some x) is = later-open (outlet_place x.outputs o) x.stage is
@@ -65,7 +45,7 @@ empty-spread : (g : Happening → List Entry) (f : ℕ → List Happening) (n : 
 empty-spread g f zero none = refl
 empty-spread g f (suc n) none = flat_map-append g (spread f n) (f n) ∙ (λ i. empty-spread g f n none i ++ none n i)
 
-module _ {K : Type 0} (shape_of : K → Shape) (uses : K → ℕ → Bool) (ready : K → Held → Answer → Type 0) (net : NetValue K) (j : Joins shape_of uses ready net) where
+module _ {K : Type 0} (rules : Rules K) (net : NetValue K) (j : Joins rules net) where
   abbrev ps : List (Process K)
   ps = processes_of net.bodies
 
@@ -443,7 +423,7 @@ module _ {K : Type 0} (shape_of : K → Shape) (uses : K → ℕ → Bool) (read
         absurd (omega (arith, below, number)));
   }
 
-  pub valid-joined : Valid ready joined_state
+  pub valid-joined : Valid rules joined_state
   valid-joined = record {
     one_place = place-in;
     in_order = record { received = received-in; signalled = signalled-in; sent = sent-in; nested = nested-in };
@@ -453,13 +433,13 @@ module _ {K : Type 0} (shape_of : K → Shape) (uses : K → ℕ → Bool) (read
     capacities = λ c ch is. (let r = channels-from ps net.connections net.channels c ch is in omega (arith, capacity-is c r.0 r.1 r.2 r.3, (j.planned.capacity c r.0 r.2).1, ap (λ (d : Channel). d.capacity) r.4));
     within = λ c ch is. (let r = channels-from ps net.connections net.channels c ch is in omega (arith, (j.channels c r.0 r.1 r.2 r.3).within, ap (λ (d : Channel). d.capacity) r.4, ap (λ (d : Channel). length d.packets) r.4));
     senders = senders-open;
-    each = λ p x is. (let b = body-at p x is in subst (GoodProcess ready p) b.2 (j.bodies p b.0 b.1).good);
+    each = λ p x is. (let b = body-at p x is in subst (GoodProcess rules p) b.2 (j.bodies p b.0 b.1).good);
   }
 
-  pub fit-joined : Fit shape_of uses ready joined_state
+  pub fit-joined : Fit rules joined_state
   fit-joined = record {
     valid = valid-joined;
-    all_fit = λ p x is. (let b = body-at p x is in subst (FitProcess shape_of uses) b.2 (j.bodies p b.0 b.1).fit);
+    all_fit = λ p x is. (let b = body-at p x is in subst (FitProcess rules) b.2 (j.bodies p b.0 b.1).fit);
     few = λ p x is. (let b = body-at p x is in subst (λ (y : Process K). length y.held.packets ≤ HANDS_LIMIT) b.2 (j.bodies p b.0 b.1).few);
     senders = senders-tell;
   }
@@ -495,7 +475,7 @@ module _ {K : Type 0} (shape_of : K → Shape) (uses : K → ℕ → Bool) (read
       (sym r.0, piece.levels ∙ sym r.1)
 
   -- pieces that may be joined are those of a net
-  pub fit-join : FitNet shape_of uses ready net
+  pub fit-join : FitNet rules net
   fit-join = record {
     state = joined_state;
     fit = fit-joined;

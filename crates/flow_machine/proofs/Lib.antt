@@ -16,6 +16,7 @@ mod JoinSenders
 mod JoinPast
 mod JoinPlaces
 pub mod Planning
+pub mod JoinSums
 pub mod JoinState
 pub mod JoinPieces
 mod AtCases

@@ -1,5 +1,5 @@
 -- Elements of lists.
-use Rattle.std.proofs.Common.{◌≡◌, ℕ, ◌<◌, List, [], ◌∷◌, ◌++◌, length, map, Some, suc, zero, refl, arith, slice_get, get_or, sym, ap, ◌∙◌, ◌⊎◌, inl, inr}
+use Rattle.std.proofs.Common.{◌≡◌, ℕ, ◌<◌, List, [], ◌∷◌, ◌++◌, length, Some, suc, zero, refl, arith, slice_get, get_or, sym, ap, ◌∙◌, ◌⊎◌, inl, inr}
 use Rattle.std.proofs.lemmas.Option.{slice_get-get_or}
 
 -- There is a member at each place within a list.
@@ -29,9 +29,3 @@ last-or (x ∷ xs) y (suc i) z is = elim (last-or xs y i z is) [
 -- an element that was read
 pub read-there : {A : Type 0} (xs : List A) (i : ℕ) (x : A) → i < length xs → x ≡ get_or xs i x → slice_get xs i ≡ Some x
 read-there xs i x within is = slice_get-get_or xs i x within ∙ ap (λ y. Some y) (sym is)
-
--- what is there is there in the mapped list
-pub map-there : {A B : Type 0} (f : A → B) (xs : List A) (k : ℕ) (x : A) → slice_get xs k ≡ Some x → slice_get (map f xs) k ≡ Some (f x)
-map-there f [] k x is = absurd (cc)
-map-there f (y ∷ xs) zero x is = let e : y ≡ x = cc in ap (λ z. Some (f z)) e
-map-there f (y ∷ xs) (suc k) x is = map-there f xs k x is

@@ -1,7 +1,7 @@
 -- What bodies remember of one turn more.
 use Rattle.std.proofs.Common.{◌≡◌, ◌≢◌, ℕ, ◌+◌, Bool, true, false, cond, List, [], ◌∷◌, ◌++◌, length, map, nat_eq, refl, ap, sym, ◌∙◌, arith, append-nil, append_assoc}
 use Rattle.std.proofs.lemmas.Bool.Decides.{nat_tests}
-use Rattle.flow_model.specs.Events.{Event, Starts, Finishes, Gets, Takes_text, Hears_end, Sends, Learns, Sleeps, Closes, Signals, seen_by}
+use Rattle.flow_model.specs.Events.{Event, Starts, seen_by}
 use Rattle.flow_machine.specs.Logs.{Logged, stamps_of, levels_of}
 use Rattle.flow_machine.specs.Nets.{levels_told}
 
@@ -42,15 +42,7 @@ levels-own p n e = let t : nat_eq p p ≡ true = grind (arith, nat_tests) in rw 
   where
     told : (e : Event) → map (λ (level : ℕ). let t : ℕ × ℕ = (n, level) in t) (seen_by e) ≡ levels_told e n
     told Starts = refl
-    told Finishes = refl
-    told (Gets port c packet) = refl
-    told (Takes_text port text) = refl
-    told (Hears_end port) = refl
-    told (Sends port c packet) = refl
-    told (Learns port level) = refl
-    told Sleeps = refl
-    told (Closes output c) = refl
-    told (Signals c packet) = refl
+    told e = refl
 
 -- A turn of another process gives it no level number.
 pub levels-other : (q p n : ℕ) (seen : List ℕ) → q ≢ p → levels_of q n (record { process = p; seen = seen } ∷ []) ≡ []

@@ -12,11 +12,11 @@ use Rattle.flow_model.specs.declared.Stage.TheVariants as stages
 use Rattle.flow_model.specs.declared.Block.{Block}
 use Rattle.flow_model.specs.declared.Block.TheVariants as blocks
 use Rattle.flow_model.specs.States.{Input, From, Text, Process, Outlet, outlets, output_at}
-use Rattle.flow_model.specs.Events.{Event, Starts, Finishes, Gets, Takes_text, Hears_end, Sends, Learns, Sleeps, Closes, Signals, Look, event_from, stage_event, received, received_from, receive_event, sent, told_level, level_in, is_fresh}
-use Rattle.flow_model.specs.Turns.{process_after}
+use Rattle.flow_model.specs.Events.{Event, Gets, Takes_text, Hears_end, Sends, Learns, Closes, Look, event_from, stage_event, received, received_from, receive_event, sent, told_level, level_in, is_fresh}
+use Rattle.flow_model.specs.Turns.{process_after, ChangeAt, change_of, change_one}
 use Rattle.flow_model.specs.Order.{connection_of}
 use Rattle.flow_model.specs.Verdicts.{block_of, exact_level, exact_level_for, waits_for}
-use Rattle.flow_model.specs.Stands.{ChannelShown, look_shown, shown_after, all_shown_after}
+use Rattle.flow_model.specs.Stands.{ChannelShown, look_shown, shown_after, all_shown_after, shown_changed, shown_by}
 use Rattle.flow_model.proofs.Lists.{change_at-some}
 use Rattle.flow_machine.specs.Values.{BodyValue, NetValue, net_of}
 use Rattle.flow_machine.specs.declared.answers.Case.{Case}
@@ -30,7 +30,7 @@ use Rattle.flow_machine.specs.declared.answers.Effect.TheVariants as effects
 use Rattle.flow_machine.specs.Effects.{id_sent, port_at, text_event, TakesTurn}
 use Rattle.flow_machine.specs.Nets.{looks_of, PairTurns, WakeTurns, NetTurn, TurnsNet, level_of, packet_wished, HasFailed}
 use Rattle.flow_machine.specs.Thoughts.{IsSetAt}
-use Rattle.flow_model.specs.Schedules.{IsThoughtStage}
+use Rattle.flow_model.specs.Stages.{IsThoughtStage}
 use Rattle.flow_machine.proofs.Standings.{get-map}
 use Rattle.flow_machine.proofs.Pairs.{told-some}
 
@@ -82,30 +82,20 @@ pub set-same : {A : Type 0} (xs : List A) (i : ℕ) (x : A) → slice_get xs i �
 set-same xs i x is = ap (slice_set xs i) (sym (get_or_from_slice_get xs i x x is)) ∙ set-get_or xs i x
 
 -- the event is at the connection, or at none
+abbrev pub IsChangeOn : ℕ → Option ChangeAt → Type 0
+IsChangeOn c (Some at) = at.connection ≡ c
+IsChangeOn c None = Unit {0}
+
 abbrev pub IsOn : ℕ → Event → Type 0
-IsOn c (Gets port d packet) = d ≡ c
-IsOn c (Sends port d packet) = d ≡ c
-IsOn c (Closes output d) = d ≡ c
-IsOn c (Hears_end port) = Unit {0}
-IsOn c (Takes_text port text) = Unit {0}
-IsOn c (Learns port level) = Unit {0}
-IsOn c Starts = Unit {0}
-IsOn c Finishes = Unit {0}
-IsOn c Sleeps = Unit {0}
-IsOn c (Signals d packet) = d ≡ c
+IsOn c event = IsChangeOn c (change_of event)
 
 -- An event on one connection changes that one alone.
 pub all-on : (c : ℕ) (channels : List ChannelShown) (channel : ChannelShown) (e : Event) → IsOn c e → slice_get channels c ≡ Some channel → all_shown_after e channels ≡ slice_set channels c (shown_after e channel)
-all-on c channels channel (Gets port d packet) on is = change_at-some channels d (shown_after (Gets port d packet)) channel (ap (slice_get channels) on ∙ is) ∙ ap (λ n. slice_set channels n (shown_after (Gets port d packet) channel)) on
-all-on c channels channel (Sends port d packet) on is = change_at-some channels d (shown_after (Sends port d packet)) channel (ap (slice_get channels) on ∙ is) ∙ ap (λ n. slice_set channels n (shown_after (Sends port d packet) channel)) on
-all-on c channels channel (Closes output d) on is = change_at-some channels d (shown_after (Closes output d)) channel (ap (slice_get channels) on ∙ is) ∙ ap (λ n. slice_set channels n (shown_after (Closes output d) channel)) on
-all-on c channels channel (Signals d packet) on is = change_at-some channels d (shown_after (Signals d packet)) channel (ap (slice_get channels) on ∙ is) ∙ ap (λ n. slice_set channels n (shown_after (Signals d packet) channel)) on
-all-on c channels channel (Hears_end port) on is = sym (set-same channels c channel is)
-all-on c channels channel (Takes_text port text) on is = sym (set-same channels c channel is)
-all-on c channels channel (Learns port level) on is = sym (set-same channels c channel is)
-all-on c channels channel Starts on is = sym (set-same channels c channel is)
-all-on c channels channel Finishes on is = sym (set-same channels c channel is)
-all-on c channels channel Sleeps on is = sym (set-same channels c channel is)
+all-on c channels channel e on is = by (change_of e) on
+  where
+    by : (change : Option ChangeAt) → IsChangeOn c change → change_one shown_changed change channels ≡ slice_set channels c (shown_by change channel)
+    by (Some at) on = change_at-some channels at.connection (shown_changed at.change) channel (ap (slice_get channels) on ∙ is) ∙ ap (λ n. slice_set channels n (shown_changed at.change channel)) on
+    by None on = sym (set-same channels c channel is)
 
 -- a turn of a body at a connection is a turn of the net
 pub pair-net : {K : Type 0} (bodies : List (BodyValue K)) (channels : List ChannelShown) (p c n stamp : ℕ) (b b' : BodyValue K) (channel channel' : ChannelShown) (found : Option Event) (block : Block) (answer : Answer)
@@ -279,12 +269,8 @@ over-net net p n stamp b overs.Starved there is = absurd is
 
 -- a body that is set has no work to come
 pub set-thought : {K : Type 0} (b : BodyValue K) (stage : Stage) → IsSetAt b stage → IsThoughtStage stage
-set-thought b stages.Idle set = tt
 set-thought b (stages.Told answer) set = set
-set-thought b (stages.Wishing wish) set = tt
-set-thought b (stages.Closing i) set = tt
-set-thought b stages.Ended set = tt
-set-thought b (stages.Failed cause) set = tt
+set-thought b stage set = tt
 
 -- a turn that closes an output
 pub close-turn : {K : Type 0} (channels : List ChannelShown) (x : Process K) (n c i : ℕ) (outlet : Outlet) → x.stage ≡ stages.Closing i → slice_get (outlets x) i ≡ Some outlet → outlet.connection ≡ c → event_from (looks_of channels) x n ≡ Some (Closes outlet.output c)

@@ -1,24 +1,9 @@
 -- Looking connections up in a plan.
-use Rattle.std.proofs.Common.{◌≡◌, ℕ, ◌+◌, ◌<◌, ◌≤◌, Bool, true, false, cond, List, [], ◌∷◌, length, drop, drop-cons, get_or, Option, Some, None, suc, zero, nat_lt, nat_eq, refl, ap, sym, ◌∙◌, arith, add-one, option_map}
-use Rattle.std.specs.Prelude.{position, not, ◌≢◌, Result, Ok, Err, IfOk}
+use Rattle.std.proofs.Common.{◌≡◌, ℕ, ◌+◌, ◌<◌, ◌≤◌, Bool, true, false, cond, List, [], ◌∷◌, length, drop, drop-cons, get_or, Option, Some, None, suc, zero, nat_eq, refl, ap, sym, ◌∙◌, arith, add-one, option_map}
+use Rattle.std.specs.Prelude.{position, ◌≢◌, Result, Ok, Err, IfOk}
 use Rattle.flow_model.specs.Plans.{text_at}
-use Rattle.std.specs.List.{prefix_len}
+use Rattle.flow_model.proofs.Lists.{position-cons}
 use Rattle.std.proofs.lemmas.Bool.Decides.{nat_tests}
-
--- the first place from here on, or one later
-pub position-cons : {A : Type 0} (p : A → Bool) (x : A) (xs : List A) → position p (x ∷ xs) ≡ cond {A = Option ℕ} (p x) (Some 0) (option_map suc (position p xs))
-position-cons p x xs = by (p x)
-  where
-    later : (n m : ℕ) (b : Bool) → nat_lt n m ≡ b → cond {A = Option ℕ} (nat_lt (1 + n) (suc m)) (Some (1 + n)) None ≡ option_map suc (cond b (Some n) None)
-    later n m true t = let h : nat_lt (1 + n) (suc m) ≡ true = grind (arith, nat_tests) in rw h (ap (λ k. Some k) (let e : 1 + n ≡ suc n = omega arith in e))
-    later n m false t = let h : nat_lt (1 + n) (suc m) ≡ false = grind (arith, nat_tests) in rw h refl
-
-    first : (m : ℕ) → cond {A = Option ℕ} (nat_lt 0 (suc m)) (Some 0) None ≡ Some 0
-    first m = let h : nat_lt 0 (suc m) ≡ true = grind (arith, nat_tests) in rw h refl
-
-    by : (b : Bool) → cond {A = Option ℕ} (nat_lt (cond (not b) (1 + prefix_len (λ y. not (p y)) xs) 0) (suc (length xs))) (Some (cond (not b) (1 + prefix_len (λ y. not (p y)) xs) 0)) None ≡ cond {A = Option ℕ} b (Some 0) (option_map suc (position p xs))
-    by true = first (length xs)
-    by false = later (prefix_len (λ y. not (p y)) xs) (length xs) (nat_lt (prefix_len (λ y. not (p y)) xs) (length xs)) refl
 
 pub drop-here : {A : Type 0} (xs : List A) (i : ℕ) (x : A) → i < length xs → x ≡ get_or xs i x → drop i xs ≡ x ∷ drop (i + 1) xs
 drop-here {A} xs i x within is = drop-cons xs i x within ∙ ap (λ (y : A). y ∷ drop (suc i) xs) (sym is) ∙ ap (λ n. x ∷ drop n xs) (sym (add-one i))

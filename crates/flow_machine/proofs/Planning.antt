@@ -7,19 +7,17 @@ use Rattle.std.proofs.lemmas.List.{length-map, map-set}
 use Rattle.std.proofs.lemmas.List.FromFn.{length-map-range_with_len}
 use Rattle.std.proofs.lemmas.List.Quantifiers.{position-Some}
 use Rattle.std.proofs.lemmas.Option.{slice_get-get_or}
-use Rattle.flow_packet.specs.Held.{Held}
-use Rattle.flow_component.specs.declared.Answer.{Answer}
-use Rattle.flow_component.specs.declared.Shape.{Shape}
+use Rattle.flow_component.specs.Laws.{Rules}
 use Rattle.flow_plan.specs.Network.{Network, IsInputEnd}
 use Rattle.flow_plan.specs.declared.plan.Process.{Process as PlanProcess}
 use Rattle.flow_plan.specs.declared.plan.Sender.{Sender}
 use Rattle.flow_plan.specs.declared.plan.Connection.{Connection}
 use Rattle.flow_model.specs.States.{Input, Process, Outlet, output_at, change_at, changed}
-use Rattle.flow_model.specs.Events.{Event, Starts, Finishes, Gets, Takes_text, Hears_end, Sends, Learns, Sleeps, Closes, Signals}
+use Rattle.flow_model.specs.Events.{Event}
 use Rattle.flow_model.specs.Order.{connection_of, input_of, signal_of, output_of}
 use Rattle.flow_model.specs.Wires.{Wires, wires}
 use Rattle.flow_model.specs.Plans.{text_at, connected_or, receives_at, sends_at, input_at, leads_to, comes_from, process_at_start, processes_at_start, channel_at_start, start_of, StartsWell}
-use Rattle.flow_model.specs.Stands.{BodyShown, ChannelShown, NetShown, shown_after, all_shown_after, StandsForOpen}
+use Rattle.flow_model.specs.Stands.{BodyShown, ChannelShown, NetShown, all_shown_after, StandsForOpen, shown_changed}
 use Rattle.flow_model.specs.Valid.{IsOpenSender}
 use Rattle.flow_model.proofs.Senders.{both-true}
 use Rattle.flow_model.proofs.Start.{no_connection, port-at, start-process, start-input, start-signal}
@@ -35,6 +33,8 @@ use Rattle.flow_machine.specs.declared.answers.Over.TheVariants as overs
 use Rattle.flow_machine.proofs.Standings.{get-map, processes-shown}
 use Rattle.flow_machine.proofs.NetTurns.{set-same}
 use Rattle.flow_machine.proofs.JoinSenders.{outlet-from}
+use Rattle.flow_model.specs.Turns.{ChangeAt, change_of, change_one}
+use Rattle.flow_model.proofs.Moves.{capacity-shown}
 
 -- The connections at the ports of a body.
 abbrev pub body_wires : {K : Type 0} → BodyValue K → Wires
@@ -116,7 +116,7 @@ length-start plan n [] components each = refl
 length-start plan n (x ∷ xs) [] each = absurd (omega (arith, each))
 length-start plan n (x ∷ xs) (component ∷ components) each = omega (arith, length-start plan (n + 1) xs components (omega (arith, each)))
 
-module _ {K : Type 0} (shape_of : K → Shape) (uses : K → ℕ → Bool) (ready : K → Held → Answer → Type 0) (plan : Network) (components : List K) (well : StartsWell shape_of uses ready plan components) where
+module _ {K : Type 0} (rules : Rules K) (plan : Network) (components : List K) (well : StartsWell rules plan components) where
   abbrev ps : List (Process K)
   ps = processes_at_start plan 0 plan.processes components
 
@@ -177,7 +177,7 @@ module _ {K : Type 0} (shape_of : K → Shape) (uses : K → ℕ → Bool) (read
 
   start-sender : (c : ℕ) (x : Connection) (s : Sender) → slice_get plan.connections c ≡ Some x → IsOpenSender s x.senders → output_of s.output (slice_get ps s.process) ≡ Some c
   start-sender c x s is among =
-      let left = (OpenSendersTell-start shape_of uses ready plan components well).only c (channel_at_start x) s (get-map channel_at_start plan.connections c x is) among in
+      let left = (OpenSendersTell-start rules plan components well).only c (channel_at_start x) s (get-map channel_at_start plan.connections c x is) among in
       let o = outlet-from 0 left.process.outputs left.place (let u : Outlet = record { output = s.output; connection = c } in u) left.outlet in
       let port : s.output ≡ o.0 = omega (arith, o.1) in
       ap (output_of s.output) left.there ∙ ap (output_at left.process) port ∙ ap (option_and_then (λ (connection : Option ℕ). connection)) o.2
@@ -204,7 +204,7 @@ module _ {K : Type 0} (shape_of : K → Shape) (uses : K → ℕ → Bool) (read
     inputs = λ p i c is. start-inputs p i c (sym (input-map ps p i) ∙ is);
     senders = λ c x s is among. output-map ps s.process s.output ∙ start-sender c x s is among;
     outputs = λ p o c is. start-outputs p o c (sym (output-map ps p o) ∙ is);
-    different = λ c x is. (OpenSendersTell-start shape_of uses ready plan components well).once c (channel_at_start x) (get-map channel_at_start plan.connections c x is);
+    different = λ c x is. (OpenSendersTell-start rules plan components well).once c (channel_at_start x) (get-map channel_at_start plan.connections c x is);
     capacity = well.wired.capacities;
     few_senders = well.wired.few_senders;
   }
@@ -240,16 +240,11 @@ capacities-change channels c f same = by (slice_get channels c) refl
     by None there = refl
 
 pub capacities-after : (e : Event) (channels : List ChannelShown) → map capacity_of (all_shown_after e channels) ≡ map capacity_of channels
-capacities-after (Gets port c packet) channels = capacities-change channels c (shown_after (Gets port c packet)) (λ k. refl)
-capacities-after (Sends port c packet) channels = capacities-change channels c (shown_after (Sends port c packet)) (λ k. refl)
-capacities-after (Closes output c) channels = capacities-change channels c (shown_after (Closes output c)) (λ k. refl)
-capacities-after (Signals c packet) channels = capacities-change channels c (shown_after (Signals c packet)) (λ k. refl)
-capacities-after Starts channels = refl
-capacities-after Finishes channels = refl
-capacities-after (Takes_text port text) channels = refl
-capacities-after (Hears_end port) channels = refl
-capacities-after (Learns port level) channels = refl
-capacities-after Sleeps channels = refl
+capacities-after e channels = by (change_of e)
+  where
+    by : (change : Option ChangeAt) → map capacity_of (change_one shown_changed change channels) ≡ map capacity_of channels
+    by (Some at) = capacities-change channels at.connection (shown_changed at.change) (capacity-shown at.change)
+    by None = refl
 
 planned-turn : {K : Type 0} (old : NetValue K) (p n : ℕ) (e : Event) (stamp : ℕ) (new : NetValue K) → NetTurn old p n e stamp new → IsPlanned old → IsPlanned new
 planned-turn {K} old p n e stamp new turn planned =

@@ -1,10 +1,7 @@
 -- Nets that go on by turns and works in any order.
 use Rattle.std.proofs.Common.{◌≡◌, ℕ, Bool, true, false, List, [], ◌∷◌, ◌++◌, length, Some, refl, ap, sym, subst, ◌∙◌, arith, slice_get, slice_set, length-set, length-append, append_assoc, append-nil, ◌⊎◌, inl, inr}
 use Rattle.std.specs.Prelude.{Result, Ok, Err, IsErrAnd, IfErr}
-use Rattle.flow_packet.specs.Held.{Held}
-use Rattle.flow_component.specs.declared.Answer.{Answer}
-use Rattle.flow_component.specs.declared.Shape.{Shape}
-use Rattle.flow_component.specs.Laws.{Outcome, Obeys, StaysReady, IsSteady}
+use Rattle.flow_component.specs.Laws.{Rules, Lawful}
 use Rattle.flow_model.specs.States.{State}
 use Rattle.flow_model.specs.Events.{Event, seen_by}
 use Rattle.flow_model.specs.Schedules.{then_turns, Step, Turned, Worked, Reaches}
@@ -29,10 +26,10 @@ passed-on (Ok x) e P is p = tt
 passed-on (Err y) e P is p = subst P (sym is) p
 
 -- steps after steps
-pub reaches-append : {K : Type 0} (next : K → Held → Answer → Outcome K → Type 0) (s : State K) (a b : List Step) (mid s' : State K) → Reaches next s a mid → Reaches next mid b s' → Reaches next s (a ++ b) s'
-reaches-append {K} next s [] b mid s' first rest = subst (λ (t : State K). Reaches next t b s') first rest
-reaches-append next s (Turned p seen ∷ a) b mid s' first rest = (first.0, first.1, first.2, first.3, reaches-append next first.1 a b mid s' first.4 rest)
-reaches-append next s (Worked p ∷ a) b mid s' first rest = (first.0, first.1, reaches-append next first.0 a b mid s' first.2 rest)
+pub reaches-append : {K : Type 0} (rules : Rules K) (s : State K) (a b : List Step) (mid s' : State K) → Reaches rules s a mid → Reaches rules mid b s' → Reaches rules s (a ++ b) s'
+reaches-append {K} rules s [] b mid s' first rest = subst (λ (t : State K). Reaches rules t b s') first rest
+reaches-append rules s (Turned p seen ∷ a) b mid s' first rest = (first.0, first.1, first.2, first.3, reaches-append rules first.1 a b mid s' first.4 rest)
+reaches-append rules s (Worked p ∷ a) b mid s' first rest = (first.0, first.1, reaches-append rules first.0 a b mid s' first.2 rest)
 
 -- The journal of steps behind steps is that of the first and then that of the others.
 pub steps-append : (a b : List Step) → steps_journal (a ++ b) ≡ then_turns (steps_journal a) (steps_journal b)
@@ -76,12 +73,9 @@ remember-kept {K} old new p n before after there keeps bodies q b b' was is = el
       (ap (λ (x : BodyValue K). x.stamps) (sym same) ∙ sym (append-nil b.stamps), ap (λ (x : BodyValue K). x.levels) (sym same) ∙ sym (append-nil b.levels)))
 ]
 
-module _ {K : Type 0} (shape_of : K → Shape) (uses : K → ℕ → Bool) (ready : K → Held → Answer → Type 0) (next : K → Held → Answer → Outcome K → Type 0)
-    (obeys : (component : K) (held : Held) (answer : Answer) (outcome : Outcome K) → ready component held answer → next component held answer outcome → Obeys (shape_of component) (uses component) held outcome)
-    (stays : (component : K) (held : Held) (answer : Answer) (outcome : Outcome K) → ready component held answer → next component held answer outcome → StaysReady ready outcome)
-    (steady : (component : K) (held : Held) (answer : Answer) (outcome : Outcome K) → next component held answer outcome → IsSteady shape_of uses component outcome) where
+module _ {K : Type 0} (rules : Rules K) (lawful : Lawful rules) where
   abbrev Reached : NetValue K → NetValue K → Type 0
-  Reached old new = ReachesNet shape_of uses ready next old new
+  Reached old new = ReachesNet rules old new
 
   pub reach-none : (net : NetValue K) → Reached net net
   reach-none net = record { len = refl; goes = ([], omega arith, record { remembers = remember-none (turns_made net) net.bodies; states = λ s fit stands. (s, ([], refl, refl), fit, stands); connections = refl }) }
@@ -98,31 +92,31 @@ module _ {K : Type 0} (shape_of : K → Shape) (uses : K → ℕ → Bool) (read
             let g = first.goes.2.states s fit stands in
             let h = rest.goes.2.states g.0 g.2 g.3 in
             let journal : journal_of (first.goes.0 ++ rest.goes.0) ≡ steps_journal (g.1.0 ++ h.1.0) = journal_of-append first.goes.0 rest.goes.0 ∙ (λ i. then_turns (g.1.1 i) (h.1.1 i)) ∙ sym (steps-append g.1.0 h.1.0) in
-            (h.0, (g.1.0 ++ h.1.0, journal, reaches-append next s g.1.0 h.1.0 g.0 h.0 g.1.2 h.1.2), h.2, h.3);
+            (h.0, (g.1.0 ++ h.1.0, journal, reaches-append rules s g.1.0 h.1.0 g.0 h.0 g.1.2 h.1.2), h.2, h.3);
         connections = rest.goes.2.connections ∙ first.goes.2.connections;
       },
     );
   }
 
-  pub reach-think : (old : NetValue K) (p : ℕ) (t : Thought) (new : NetValue K) → ThinksNet next old p t new → Reached old new
+  pub reach-think : (old : NetValue K) (p : ℕ) (t : Thought) (new : NetValue K) → ThinksNet rules old p t new → Reached old new
   reach-think old p t new think = record {
     len = ap length think.bodies ∙ length-set old.bodies p think.after;
     goes = (
       [],
-      omega (arith, think-count next old p t new think),
+      omega (arith, think-count rules old p t new think),
       record {
         remembers = remember-kept old.bodies new.bodies p (turns_made old) think.before think.after think.there think.keeps think.bodies;
-        states = λ s fit stands. by s fit stands (thinks-step next think.before t think.after think.thinks);
+        states = λ s fit stands. by s fit stands (thinks-step rules think.before t think.after think.thinks);
         connections = think.connections;
       },
     );
   }
     where
-      by : (s : State K) → Fit shape_of uses ready s → StandsForOpen (shown_net old) s → SameBody think.before think.after ⊎ WorkedBody next think.before think.after
-          → (s' : State K) × reached next (journal_of []) s s' × Fit shape_of uses ready s' × StandsForOpen (shown_net new) s'
-      by s fit stands (inl same) = (s, ([], refl, refl), fit, goes-same shape_of uses ready next obeys stays steady old p think.before think.after new think.there same think.bodies think.channels s stands)
+      by : (s : State K) → Fit rules s → StandsForOpen (shown_net old) s → SameBody think.before think.after ⊎ WorkedBody rules think.before think.after
+          → (s' : State K) × reached rules (journal_of []) s s' × Fit rules s' × StandsForOpen (shown_net new) s'
+      by s fit stands (inl same) = (s, ([], refl, refl), fit, goes-same rules lawful old p think.before think.after new think.there same think.bodies think.channels s stands)
       by s fit stands (inr work) =
-          let g = goes-work shape_of uses ready next obeys stays steady old p think.before think.after new think.there work think.bodies think.channels s fit stands in
+          let g = goes-work rules lawful old p think.before think.after new think.there work think.bodies think.channels s fit stands in
           (g.0, (Worked p ∷ [], refl, (g.0, g.1, refl)), g.2, g.3)
 
   pub reach-made : (old : NetValue K) (p k m : ℕ) (e : Event) (new : NetValue K) → NetTurn old p k e m new → m ≡ turns_made old → Reached old new
@@ -133,7 +127,7 @@ module _ {K : Type 0} (shape_of : K → Shape) (uses : K → ℕ → Bool) (read
       omega (arith, turn-count old p k e m new turn),
       record {
         remembers = subst (λ (n : ℕ). Remembers n old.bodies (record { process = p; seen = seen_by e } ∷ []) new.bodies) at (remember-one old new p k m e turn);
-        states = λ s fit stands. let t = goes-by shape_of uses ready old p k e m new turn s fit stands in (t.0, (Turned p (seen_by e) ∷ [], refl, (e, t.0, t.1, refl, refl)), t.2, t.3);
+        states = λ s fit stands. let t = goes-by rules old p k e m new turn s fit stands in (t.0, (Turned p (seen_by e) ∷ [], refl, (e, t.0, t.1, refl, refl)), t.2, t.3);
         connections = turn.connections;
       },
     );

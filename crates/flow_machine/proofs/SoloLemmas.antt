@@ -1,20 +1,20 @@
 -- Bursts, passes and rounds, one turn after another.
-use Rattle.std.proofs.Common.{◌≡◌, ◌≢◌, ℕ, ◌+◌, ◌<◌, ◌≤◌, Bool, true, false, List, [], ◌∷◌, ◌++◌, length, map, Option, Some, None, suc, zero, refl, ap, sym, subst, ◌∙◌, arith, slice_get, length-append, append_assoc, append-nil, add-one, ◌⊎◌, inl, inr, slice_set}
+use Rattle.std.proofs.Common.{◌≡◌, ◌≢◌, ℕ, ◌+◌, ◌<◌, ◌≤◌, true, false, List, [], ◌∷◌, ◌++◌, length, map, Option, Some, None, suc, zero, refl, ap, sym, subst, ◌∙◌, arith, slice_get, length-append, append_assoc, append-nil, add-one, ◌⊎◌, inl, inr, slice_set}
+use Rattle.std.proofs.lemmas.Option.{slice_get_within}
 use Rattle.std.specs.Prelude.{option_and_then, IfSome, sum_by}
 use Rattle.std.specs.List.{flat_map}
-use Rattle.flow_packet.specs.Held.{Held}
 use Rattle.flow_component.specs.declared.Answer.{Answer}
 use Rattle.flow_component.specs.declared.Fail.{Fail}
-use Rattle.flow_component.specs.declared.Shape.{Shape}
-use Rattle.flow_component.specs.Laws.{Outcome, Wishes, Fails, Obeys, StaysReady, IsSteady}
+use Rattle.flow_component.specs.Laws.{Rules, Lawful, Outcome, Wishes, Fails}
 use Rattle.flow_model.specs.declared.Stage.{Stage}
 use Rattle.flow_model.specs.declared.Stage.TheVariants as stages
 use Rattle.flow_model.specs.declared.Block.{Block}
 use Rattle.flow_model.specs.States.{Process, State}
-use Rattle.flow_model.specs.Events.{Event, Starts, Finishes, Gets, Takes_text, Hears_end, Sends, Learns, Sleeps, Closes, Signals, Look, looks, event_from, event_of, stage_event, seen_by, level_at}
+use Rattle.flow_model.specs.Events.{Event, Starts, Learns, Look, looks, event_from, event_of, stage_event, seen_by, level_at}
 use Rattle.flow_model.specs.Works.{Work, worked}
 use Rattle.flow_model.proofs.Schedules.{turns-after}
-use Rattle.flow_model.specs.Schedules.{Journal, no_turns, then_turns, Settles, WorksLead, IsThought, IsThoughtStage}
+use Rattle.flow_model.specs.Stages.{IsThoughtStage}
+use Rattle.flow_model.specs.Schedules.{Journal, no_turns, then_turns, Settles, WorksLead, IsThought}
 use Rattle.flow_model.specs.Robin.{IsExact, ExactTurn, TurnsOf, PassBelow, Pass, Passes, joined}
 use Rattle.flow_model.specs.Verdicts.{HasNoTurn, block_of, exact_level, exact_level_for}
 use Rattle.flow_model.specs.Stands.{BodyShown, NetShown, show_body, bodies_from, look_shown, StandsForOpen}
@@ -22,7 +22,7 @@ use Rattle.flow_model.specs.Fit.{Fit}
 use Rattle.flow_model.proofs.Inverse.{explains}
 use Rattle.flow_model.proofs.Stands.{looks-shown}
 use Rattle.flow_model.proofs.Blocks.{block-no_turn}
-use Rattle.flow_model.proofs.Lists.{slice_get-set_same, slice_get-set_other, same_or_not}
+use Rattle.flow_model.proofs.Lists.{slice_get-set_same, slice_get-set_other, same_or_not, map-append}
 use Rattle.flow_machine.specs.Values.{BodyValue, NetValue, shown_body, shown_net}
 use Rattle.flow_machine.specs.declared.answers.Turn.TheVariants as turns
 use Rattle.flow_machine.specs.declared.answers.Over.{Over}
@@ -39,11 +39,7 @@ use Rattle.flow_machine.proofs.Standings.{process-in, happens-in}
 use Rattle.flow_machine.proofs.NetTurns.{if_some, level-there, set-thought}
 use Rattle.flow_machine.proofs.LogLemmas.{stamps_of-append, levels_of-append, stamps-own, stamps-other, levels-own, levels-other}
 use Rattle.flow_machine.proofs.FitLemmas.{goes-by, goes-same, goes-work, thinks-step, turns-set}
-
--- journals of logs
-map-append : (log more : List Logged) → map (λ (t : Logged). t.process) (log ++ more) ≡ map (λ (t : Logged). t.process) log ++ map (λ (t : Logged). t.process) more
-map-append [] more = refl
-map-append (t ∷ log) more = ap (λ xs. t.process ∷ xs) (map-append log more)
+use Rattle.flow_machine.proofs.Lists.{element-there}
 
 seen-append : (log more : List Logged) → flat_map (λ (t : Logged). t.seen) (log ++ more) ≡ flat_map (λ (t : Logged). t.seen) log ++ flat_map (λ (t : Logged). t.seen) more
 seen-append [] more = refl
@@ -51,17 +47,7 @@ seen-append (t ∷ log) more = ap (λ xs. t.seen ++ xs) (seen-append log more) �
 
 -- The journal of a log behind a log is that of the first and then that of the other.
 pub journal_of-append : (log more : List Logged) → journal_of (log ++ more) ≡ then_turns (journal_of log) (journal_of more)
-journal_of-append log more = λ i. record { turns = map-append log more i; seen = seen-append log more i }
-
-get-exists : {A : Type 0} (xs : List A) (i : ℕ) → i < length xs → (x : A) × (slice_get xs i ≡ Some x)
-get-exists [] i below = absurd (omega (arith, below))
-get-exists (x ∷ xs) zero below = (x, refl)
-get-exists (x ∷ xs) (suc i) below = get-exists xs i (omega (arith, below))
-
-get-within : {A : Type 0} (xs : List A) (i : ℕ) (x : A) → slice_get xs i ≡ Some x → i < length xs
-get-within [] i x is = absurd (cc)
-get-within (y ∷ xs) zero x is = omega arith
-get-within (y ∷ xs) (suc i) x is = omega (arith, get-within xs i x is)
+journal_of-append log more = λ i. record { turns = map-append (λ (t : Logged). t.process) log more i; seen = seen-append log more i }
 
 body-from : {K : Type 0} (dropped : ℕ → List ℕ) (k : ℕ) (bodies : List (BodyValue K)) (xs : List (Process K)) (p : ℕ) (x : Process K) → map shown_body bodies ≡ bodies_from dropped k xs → slice_get xs p ≡ Some x → (b : BodyValue K) × (slice_get bodies p ≡ Some b) × (b.process ≡ x)
 body-from dropped k bodies [] p x same is = absurd (cc)
@@ -88,12 +74,12 @@ over-turn {K} old p stamp overs.Failed new over = (λ b n there. ap (stage_event
 over-turn old p stamp overs.Starved new never = absurd never
 
 -- after a thought that found memory the process is settled
-pub settles-wishing : {K : Type 0} (next : K → Held → Answer → Outcome K → Type 0) (old : NetValue K) (p : ℕ) (new : NetValue K) → ThinksNet next old p thoughts.Wishing new → SettlesNet next old p new
-settles-wishing next old p new think = record { before = think.before; after = think.after; there = think.there; settles = think.thinks.0; set = think.thinks.1; keeps = think.keeps; bodies = think.bodies; channels = think.channels; connections = think.connections }
+pub settles-wishing : {K : Type 0} (rules : Rules K) (old : NetValue K) (p : ℕ) (new : NetValue K) → ThinksNet rules old p thoughts.Wishing new → SettlesNet rules old p new
+settles-wishing rules old p new think = record { before = think.before; after = think.after; there = think.there; settles = think.thinks.0; set = think.thinks.1; keeps = think.keeps; bodies = think.bodies; channels = think.channels; connections = think.connections }
 
 -- A thought that ends in a failure settles the process.
-pub settles-failed : {K : Type 0} (next : K → Held → Answer → Outcome K → Type 0) (old : NetValue K) (p : ℕ) (cause : Fail) (new : NetValue K) → ThinksNet next old p (thoughts.Failed cause) new → SettlesNet next old p new
-settles-failed next old p cause new think = record {
+pub settles-failed : {K : Type 0} (rules : Rules K) (old : NetValue K) (p : ℕ) (cause : Fail) (new : NetValue K) → ThinksNet rules old p (thoughts.Failed cause) new → SettlesNet rules old p new
+settles-failed rules old p cause new think = record {
   before = think.before;
   after = think.after;
   there = think.there;
@@ -105,39 +91,31 @@ settles-failed next old p cause new think = record {
   connections = think.connections;
 }
 
-settles-step : {K : Type 0} (next : K → Held → Answer → Outcome K → Type 0) (old new : BodyValue K) → SettlesBody next old new → SameBody old new ⊎ WorkedBody next old new
-settles-step next old new (inl same) = inl same.1
-settles-step next old new (inr work) = inr work
+settles-step : {K : Type 0} (rules : Rules K) (old new : BodyValue K) → SettlesBody rules old new → SameBody old new ⊎ WorkedBody rules old new
+settles-step rules old new (inl same) = inl same.1
+settles-step rules old new (inr work) = inr work
 
 -- a level turn saw the exact length
 exact-turn : {K : Type 0} (net : NetValue K) (s : State K) (p : ℕ) (b : BodyValue K) (e : Event) → StandsForOpen (shown_net net) s → slice_get net.bodies p ≡ Some b → event_from (looks_of net.channels) b.process (level_of net p) ≡ Some e → IsExact s.kept b.process e
-exact-turn net s p b Starts stands there happens = tt
-exact-turn net s p b Finishes stands there happens = tt
-exact-turn net s p b (Gets port c packet) stands there happens = tt
-exact-turn net s p b (Takes_text port text) stands there happens = tt
-exact-turn net s p b (Hears_end port) stands there happens = tt
-exact-turn net s p b (Sends port c packet) stands there happens = tt
-exact-turn net s p b Sleeps stands there happens = tt
-exact-turn net s p b (Closes output c) stands there happens = tt
-exact-turn net s p b (Signals c packet) stands there happens = tt
 exact-turn {K} net s p b (Learns port level) stands there happens =
     let at = explains s.kept.channels b.process (level_of net p) (Learns port level) (sym (happens-in net s b.process (level_of net p) stands) ∙ happens) in
     let exactly : exact_level (looks_of net.channels) b.process ≡ level_at (looks_of net.channels) b.process at.wished.0 = ap (exact_level_for (looks_of net.channels) b.process) at.stage in
     let same : looks_of net.channels ≡ looks s.kept.channels = ap (λ (n : NetShown K). map look_shown n.channels) stands ∙ looks-shown s.past.put 0 s.kept.channels in
     at.seen ∙ level-there net p b there ∙ exactly ∙ ap (λ (ls : List Look). level_at ls b.process at.wished.0) same ∙ ap (level_at (looks s.kept.channels) b.process) at.names
+exact-turn net s p b e stands there happens = tt
 
-TurnsOf-more : {K : Type 0} (next : K → Held → Answer → Outcome K → Type 0) (p : ℕ) (s : State K) (ts seen : List ℕ) (mid : State K) (e : Event) (s' : State K) → TurnsOf next p s ts seen mid → ExactTurn next mid p e s' → TurnsOf next p s (ts ++ p ∷ []) (seen ++ (seen_by e ++ [])) s'
-TurnsOf-more {K} next p s [] seen mid e s' go turn =
+TurnsOf-more : {K : Type 0} (rules : Rules K) (p : ℕ) (s : State K) (ts seen : List ℕ) (mid : State K) (e : Event) (s' : State K) → TurnsOf rules p s ts seen mid → ExactTurn rules mid p e s' → TurnsOf rules p s (ts ++ p ∷ []) (seen ++ (seen_by e ++ [])) s'
+TurnsOf-more {K} rules p s [] seen mid e s' go turn =
     let seen_is : seen_by e ++ [] ≡ seen ++ (seen_by e ++ []) = ap (λ (ns : List ℕ). ns ++ (seen_by e ++ [])) (sym go.0) in
-    (refl, (e, s', [], subst (λ (m : State K). ExactTurn next m p e s') go.1 turn, sym seen_is, (refl, refl)))
-TurnsOf-more next p s (q ∷ ts) seen mid e s' go turn =
+    (refl, (e, s', [], subst (λ (m : State K). ExactTurn rules m p e s') go.1 turn, sym seen_is, (refl, refl)))
+TurnsOf-more rules p s (q ∷ ts) seen mid e s' go turn =
     let more = go.1 in
-    (go.0, (more.0, more.1, more.2 ++ (seen_by e ++ []), more.3, ap (λ (ns : List ℕ). ns ++ (seen_by e ++ [])) more.4 ∙ append_assoc (seen_by more.0) more.2 (seen_by e ++ []), TurnsOf-more next p more.1 ts more.2 mid e s' more.5 turn))
+    (go.0, (more.0, more.1, more.2 ++ (seen_by e ++ []), more.3, ap (λ (ns : List ℕ). ns ++ (seen_by e ++ [])) more.4 ∙ append_assoc (seen_by more.0) more.2 (seen_by e ++ []), TurnsOf-more rules p more.1 ts more.2 mid e s' more.5 turn))
 
 -- what bodies remember of a turn more
-remember-turn : {K : Type 0} (next : K → Held → Answer → Outcome K → Type 0) (old mid tn new : NetValue K) (p n m k : ℕ) (log : List Logged) (e : Event) → Remembers n old.bodies log mid.bodies → m ≡ n + length log → NetTurn mid p k e m tn → SettlesNet next tn p new
+remember-turn : {K : Type 0} (rules : Rules K) (old mid tn new : NetValue K) (p n m k : ℕ) (log : List Logged) (e : Event) → Remembers n old.bodies log mid.bodies → m ≡ n + length log → NetTurn mid p k e m tn → SettlesNet rules tn p new
     → Remembers n old.bodies (log ++ record { process = p; seen = seen_by e } ∷ []) new.bodies
-remember-turn {K} next old mid tn new p n m k log e remembers at turn settle q b b' was is = elim (same_or_not q p) [
+remember-turn {K} rules old mid tn new p n m k log e remembers at turn settle q b b' was is = elim (same_or_not q p) [
   | inl same ↦ (let one : Logged = record { process = p; seen = seen_by e } in
       let here : Some settle.after ≡ Some b' = sym (slice_get-set_same tn.bodies p settle.before settle.after settle.there) ∙ ap (λ (bs : List (BodyValue K)). slice_get bs p) (sym settle.bodies) ∙ ap (slice_get new.bodies) (sym same) ∙ is in
       let after_is : settle.after ≡ b' = cc in
@@ -164,7 +142,7 @@ remember-turn {K} next old mid tn new p n m k log e remembers at turn settle q b
 -- memories follow one another
 pub remember-then : {K : Type 0} (a b c : List (BodyValue K)) (n m : ℕ) (log more : List Logged) → Remembers n a log b → m ≡ n + length log → Remembers m b more c → length b ≡ length c → Remembers n a (log ++ more) c
 remember-then {K} a b c n m log more first at rest len p x z was is =
-    let y = get-exists b p (omega (arith, get-within c p z is, len)) in
+    let y = element-there b p (omega (arith, slice_get_within c p z is, len)) in
     let f = first p x y.0 was y.1 in
     let r = rest p y.0 z y.1 is in (
       r.0 ∙ ap (λ (xs : List ℕ). xs ++ stamps_of p m more) f.0 ∙ append_assoc x.stamps (stamps_of p n log) (stamps_of p m more) ∙ ap (λ (k : ℕ). x.stamps ++ (stamps_of p n log ++ stamps_of p k more)) at ∙ ap (λ (xs : List ℕ). x.stamps ++ xs) (sym (stamps_of-append p n log more)),
@@ -178,9 +156,9 @@ remember-none {K} n bodies p b b' was is =
     let same : b ≡ b' = cc in
     (ap (λ (x : BodyValue K). x.stamps) (sym same) ∙ sym (append-nil b.stamps), ap (λ (x : BodyValue K). x.levels) (sym same) ∙ sym (append-nil b.levels))
 
-Passes-more : {K : Type 0} (next : K → Held → Answer → Outcome K → Type 0) (s : State K) (passes : List Journal) (mid : State K) (pass : Journal) (s' : State K) → Passes next s passes mid → pass.turns ≢ [] → Pass next mid pass s' → Passes next s (passes ++ pass ∷ []) s'
-Passes-more {K} next s [] mid pass s' go some turn = (some, (s', subst (λ (m : State K). Pass next m pass s') go turn, refl))
-Passes-more next s (first ∷ passes) mid pass s' go some turn = (go.0, (go.1.0, go.1.1, Passes-more next go.1.0 passes mid pass s' go.1.2 some turn))
+Passes-more : {K : Type 0} (rules : Rules K) (s : State K) (passes : List Journal) (mid : State K) (pass : Journal) (s' : State K) → Passes rules s passes mid → pass.turns ≢ [] → Pass rules mid pass s' → Passes rules s (passes ++ pass ∷ []) s'
+Passes-more {K} rules s [] mid pass s' go some turn = (some, (s', subst (λ (m : State K). Pass rules m pass s') go turn, refl))
+Passes-more rules s (first ∷ passes) mid pass s' go some turn = (go.0, (go.1.0, go.1.1, Passes-more rules go.1.0 passes mid pass s' go.1.2 some turn))
 
 joined-more : (passes : List Journal) (pass : Journal) → joined (passes ++ pass ∷ []) ≡ then_turns (joined passes) pass
 joined-more [] pass = λ i. record { turns = append-nil pass.turns i; seen = append-nil pass.seen i }
@@ -193,14 +171,14 @@ empty-front [] ys is = (refl, is)
 empty-front (x ∷ xs) ys is = absurd (cc)
 
 -- a pass without a turn changes nothing, and no process has a turn
-quiet-pass : {K : Type 0} (next : K → Held → Answer → Outcome K → Type 0) (n : ℕ) (s : State K) (journal : Journal) (s' : State K) → journal ≡ no_turns → PassBelow next n s journal s' → (s' ≡ s) × ((p : ℕ) → p < n → HasNoTurn s.kept p)
-quiet-pass next zero s journal s' none pass = (pass.1, λ p below. absurd (omega (arith, below)))
-quiet-pass {K} next (suc n) s journal s' none (front, back, mid, components, first, burst) =
+quiet-pass : {K : Type 0} (rules : Rules K) (n : ℕ) (s : State K) (journal : Journal) (s' : State K) → journal ≡ no_turns → PassBelow rules n s journal s' → (s' ≡ s) × ((p : ℕ) → p < n → HasNoTurn s.kept p)
+quiet-pass rules zero s journal s' none pass = (pass.1, λ p below. absurd (omega (arith, below)))
+quiet-pass {K} rules (suc n) s journal s' none (front, back, mid, components, first, burst) =
     let both : then_turns front back ≡ no_turns = sym components ∙ none in
     let ts = empty-front front.turns back.turns (ap (λ (j : Journal). j.turns) both) in
     let ns = empty-front front.seen back.seen (ap (λ (j : Journal). j.seen) both) in
     let front_none : front ≡ no_turns = λ i. record { turns = ts.0 i; seen = ns.0 i } in
-    let rest = quiet-pass next n s front mid front_none first in
+    let rest = quiet-pass rules n s front mid front_none first in
     let last = no-turns back.turns back.seen burst.0 ts.1 in
     let same : s' ≡ s = last ∙ rest.0 in (
       same,
@@ -210,7 +188,7 @@ quiet-pass {K} next (suc n) s journal s' none (front, back, mid, components, fir
       ],
     )
   where
-    no-turns : (ts seen : List ℕ) → TurnsOf next n mid ts seen s' → ts ≡ [] → s' ≡ mid
+    no-turns : (ts seen : List ℕ) → TurnsOf rules n mid ts seen s' → ts ≡ [] → s' ≡ mid
     no-turns [] seen go is = go.1
     no-turns (t ∷ ts) seen go is = absurd (cc)
 
@@ -222,30 +200,27 @@ shown-length : {K : Type 0} (dropped : ℕ → List ℕ) (k : ℕ) (xs : List (P
 shown-length dropped k [] = refl
 shown-length dropped k (x ∷ xs) = omega (arith, shown-length dropped (k + 1) xs)
 
-module _ {K : Type 0} (shape_of : K → Shape) (uses : K → ℕ → Bool) (ready : K → Held → Answer → Type 0) (next : K → Held → Answer → Outcome K → Type 0)
-    (obeys : (component : K) (held : Held) (answer : Answer) (outcome : Outcome K) → ready component held answer → next component held answer outcome → Obeys (shape_of component) (uses component) held outcome)
-    (stays : (component : K) (held : Held) (answer : Answer) (outcome : Outcome K) → ready component held answer → next component held answer outcome → StaysReady ready outcome)
-    (steady : (component : K) (held : Held) (answer : Answer) (outcome : Outcome K) → next component held answer outcome → IsSteady shape_of uses component outcome) where
+module _ {K : Type 0} (rules : Rules K) (lawful : Lawful rules) where
   abbrev Goes' : (Journal → State K → State K → Type 0) → NetValue K → ℕ → NetValue K → ℕ → Type 0
-  Goes' way old n new m = Goes shape_of uses ready way old n new m
+  Goes' way old n new m = Goes rules way old n new m
 
   -- a settled process, in a state
-  settle-state : (old : NetValue K) (p : ℕ) (new : NetValue K) → SettlesNet next old p new → (s : State K) → Fit shape_of uses ready s → StandsForOpen (shown_net old) s → (s' : State K) × Settles next s p s' × Fit shape_of uses ready s' × StandsForOpen (shown_net new) s'
+  settle-state : (old : NetValue K) (p : ℕ) (new : NetValue K) → SettlesNet rules old p new → (s : State K) → Fit rules s → StandsForOpen (shown_net old) s → (s' : State K) × Settles rules s p s' × Fit rules s' × StandsForOpen (shown_net new) s'
   settle-state old p new settle s fit stands = by settle.settles
     where
-      by : SettlesBody next settle.before settle.after → (s' : State K) × Settles next s p s' × Fit shape_of uses ready s' × StandsForOpen (shown_net new) s'
+      by : SettlesBody rules settle.before settle.after → (s' : State K) × Settles rules s p s' × Fit rules s' × StandsForOpen (shown_net new) s'
       by (inl same) =
           let thought : IsThought s.kept p = λ x is. (let h : Some settle.before.process ≡ Some x = sym (process-in old s p settle.before stands settle.there) ∙ is in let e : settle.before.process ≡ x = cc in subst (λ (y : Process K). IsThoughtStage y.stage) e same.0) in
-          (s, inl (thought, refl), fit, goes-same shape_of uses ready next obeys stays steady old p settle.before settle.after new settle.there same.1 settle.bodies settle.channels s stands)
+          (s, inl (thought, refl), fit, goes-same rules lawful old p settle.before settle.after new settle.there same.1 settle.bodies settle.channels s stands)
       by (inr work) =
-          let g = goes-work shape_of uses ready next obeys stays steady old p settle.before settle.after new settle.there work settle.bodies settle.channels s fit stands in
+          let g = goes-work rules lawful old p settle.before settle.after new settle.there work settle.bodies settle.channels s fit stands in
           (g.0, inr g.1, g.2, g.3)
 
   -- a turn and what follows are a whole turn of the machine, which saw the exact length
-  whole-state : (old : NetValue K) (p m : ℕ) (e : Event) (mid new : NetValue K) → NetTurn old p (level_of old p) e m mid → SettlesNet next mid p new → (s : State K) → Fit shape_of uses ready s → StandsForOpen (shown_net old) s
-      → (s' : State K) × ExactTurn next s p e s' × Fit shape_of uses ready s' × StandsForOpen (shown_net new) s'
+  whole-state : (old : NetValue K) (p m : ℕ) (e : Event) (mid new : NetValue K) → NetTurn old p (level_of old p) e m mid → SettlesNet rules mid p new → (s : State K) → Fit rules s → StandsForOpen (shown_net old) s
+      → (s' : State K) × ExactTurn rules s p e s' × Fit rules s' × StandsForOpen (shown_net new) s'
   whole-state old p m e mid new turn settle s fit stands =
-      let t = goes-by shape_of uses ready old p (level_of old p) e m mid turn s fit stands in
+      let t = goes-by rules old p (level_of old p) e m mid turn s fit stands in
       let g = settle-state mid p new settle t.0 t.2 t.3 in
       let b = turn.before in
       let h : Some b.process ≡ Some t.1.kept.before = sym (process-in old s p b stands turn.there) ∙ t.1.kept.there in
@@ -253,7 +228,7 @@ module _ {K : Type 0} (shape_of : K → Shape) (uses : K → ℕ → Bool) (read
       (g.0, record { mid = t.0; turn = t.1; exact = subst (λ (x : Process K). IsExact s.kept x e) same (exact-turn old s p b e stands turn.there turn.happens); settles = g.1 }, g.2, g.3)
 
   -- a burst goes on by a whole turn
-  pub burst-more : (start old mid new : NetValue K) (p n m : ℕ) → Goes' (turns_of next p) start n old m → MakesTurn old p m true mid → SettlesNet next mid p new → Goes' (turns_of next p) start n new (m + 1)
+  pub burst-more : (start old mid new : NetValue K) (p n m : ℕ) → Goes' (turns_of rules p) start n old m → MakesTurn old p m true mid → SettlesNet rules mid p new → Goes' (turns_of rules p) start n new (m + 1)
   burst-more start old mid new p n m goes made settle =
       let log = goes.0 in
       let e = made.0 in
@@ -263,17 +238,17 @@ module _ {K : Type 0} (shape_of : K → Shape) (uses : K → ℕ → Bool) (read
         log ++ one ∷ [],
         omega (arith, goes.1, length-append log (one ∷ [])),
         record {
-          remembers = remember-turn next start old mid new p n m (level_of old p) log e by.remembers goes.1 turn settle;
+          remembers = remember-turn rules start old mid new p n m (level_of old p) log e by.remembers goes.1 turn settle;
           states = λ s fit stands.
               let g = by.states s fit stands in
               let w = whole-state old p m e mid new turn settle g.0 g.2 g.3 in
               let journal = journal_of-append log (one ∷ []) in
-              (w.0, subst (λ (j : Journal). TurnsOf next p s j.turns j.seen w.0) (sym journal) (TurnsOf-more next p s (journal_of log).turns (journal_of log).seen g.0 e w.0 g.1 w.1), w.2, w.3);
+              (w.0, subst (λ (j : Journal). TurnsOf rules p s j.turns j.seen w.0) (sym journal) (TurnsOf-more rules p s (journal_of log).turns (journal_of log).seen g.0 e w.0 g.1 w.1), w.2, w.3);
           connections = settle.connections ∙ turn.connections ∙ by.connections;
         },
       )
 
-  pub burst-none : (start : NetValue K) (p n : ℕ) → Goes' (turns_of next p) start n start n
+  pub burst-none : (start : NetValue K) (p n : ℕ) → Goes' (turns_of rules p) start n start n
   burst-none start p n = ([], omega arith, record { remembers = remember-none n start.bodies; states = λ s fit stands. (s, (refl, refl), fit, stands); connections = refl })
 
   no-turn-state : (net : NetValue K) (p : ℕ) (s : State K) → StandsForOpen (shown_net net) s → HasNoTurnIn net p → HasNoTurn s.kept p
@@ -282,8 +257,8 @@ module _ {K : Type 0} (shape_of : K → Shape) (uses : K → ℕ → Bool) (read
       subst (λ (y : Process K). event_of s.kept.channels y n ≡ None) b.2 (sym (happens-in net s b.0.process n stands) ∙ none b.0 n b.1)
 
   -- a burst ends where there is no turn
-  pub burst-ends : (start old new : NetValue K) (p n m : ℕ) → Goes' (turns_of next p) start n old m → MakesTurn old p m false new → Goes' (burst_of next p) start n new m
-  burst-ends start old new p n m goes none = subst (λ (net : NetValue K). Goes' (burst_of next p) start n net m) (sym none.1) (
+  pub burst-ends : (start old new : NetValue K) (p n m : ℕ) → Goes' (turns_of rules p) start n old m → MakesTurn old p m false new → Goes' (burst_of rules p) start n new m
+  burst-ends start old new p n m goes none = subst (λ (net : NetValue K). Goes' (burst_of rules p) start n net m) (sym none.1) (
     goes.0,
     goes.1,
     record {
@@ -293,11 +268,11 @@ module _ {K : Type 0} (shape_of : K → Shape) (uses : K → ℕ → Bool) (read
     },
   )
 
-  pub pass-none : (start : NetValue K) (n : ℕ) → Goes' (pass_below next 0) start n start n
+  pub pass-none : (start : NetValue K) (n : ℕ) → Goes' (pass_below rules 0) start n start n
   pass-none start n = ([], omega arith, record { remembers = remember-none n start.bodies; states = λ s fit stands. (s, (refl, refl), fit, stands); connections = refl })
 
   -- a pass goes on by a burst
-  pub pass-more : (start old new : NetValue K) (p n m k : ℕ) → length old.bodies ≡ length new.bodies → Goes' (pass_below next p) start n old m → Goes' (burst_of next p) old m new k → Goes' (pass_below next (p + 1)) start n new k
+  pub pass-more : (start old new : NetValue K) (p n m k : ℕ) → length old.bodies ≡ length new.bodies → Goes' (pass_below rules p) start n old m → Goes' (burst_of rules p) old m new k → Goes' (pass_below rules (p + 1)) start n new k
   pass-more start old new p n m k len goes burst = (
     goes.0 ++ burst.0,
     omega (arith, goes.1, burst.1, length-append goes.0 burst.0),
@@ -306,8 +281,8 @@ module _ {K : Type 0} (shape_of : K → Shape) (uses : K → ℕ → Bool) (read
       states = λ s fit stands.
           let g = goes.2.states s fit stands in
           let h = burst.2.states g.0 g.2 g.3 in
-          let to : PassBelow next (suc p) s (journal_of (goes.0 ++ burst.0)) h.0 = (journal_of goes.0, journal_of burst.0, g.0, journal_of-append goes.0 burst.0, g.1, h.1) in
-          (h.0, subst (λ (z : ℕ). PassBelow next z s (journal_of (goes.0 ++ burst.0)) h.0) (sym (add-one p)) to, h.2, h.3);
+          let to : PassBelow rules (suc p) s (journal_of (goes.0 ++ burst.0)) h.0 = (journal_of goes.0, journal_of burst.0, g.0, journal_of-append goes.0 burst.0, g.1, h.1) in
+          (h.0, subst (λ (z : ℕ). PassBelow rules z s (journal_of (goes.0 ++ burst.0)) h.0) (sym (add-one p)) to, h.2, h.3);
       connections = burst.2.connections ∙ goes.2.connections;
     },
   )
@@ -315,7 +290,7 @@ module _ {K : Type 0} (shape_of : K → Shape) (uses : K → ℕ → Bool) (read
   processes-length : (net : NetValue K) (s : State K) → StandsForOpen (shown_net net) s → length net.bodies ≡ length s.kept.processes
   processes-length net s stands = bodies-length net.bodies ∙ ap (λ (n : NetShown K). length n.bodies) stands ∙ shown-length s.past.dropped 0 s.kept.processes
 
-  pub passes-none : (start : NetValue K) (n : ℕ) → Goes' (some_passes next) start n start n
+  pub passes-none : (start : NetValue K) (n : ℕ) → Goes' (some_passes rules) start n start n
   passes-none start n = ([], omega arith, record { remembers = remember-none n start.bodies; states = λ s fit stands. (s, ([], refl, refl), fit, stands); connections = refl })
 
   some-turns : (log : List Logged) → 0 < length log → (journal_of log).turns ≢ []
@@ -323,7 +298,7 @@ module _ {K : Type 0} (shape_of : K → Shape) (uses : K → ℕ → Bool) (read
   some-turns (t ∷ log) some = λ h. cc
 
   -- a round goes on by a pass that has a turn
-  pub round-more : (start old new : NetValue K) (n m k : ℕ) → length old.bodies ≡ length new.bodies → Goes' (some_passes next) start n old m → Goes' (pass_below next (length old.bodies)) old m new k → m < k → Goes' (some_passes next) start n new k
+  pub round-more : (start old new : NetValue K) (n m k : ℕ) → length old.bodies ≡ length new.bodies → Goes' (some_passes rules) start n old m → Goes' (pass_below rules (length old.bodies)) old m new k → m < k → Goes' (some_passes rules) start n new k
   round-more start old new n m k len goes pass some = (
     goes.0 ++ pass.0,
     omega (arith, goes.1, pass.1, length-append goes.0 pass.0),
@@ -332,9 +307,9 @@ module _ {K : Type 0} (shape_of : K → Shape) (uses : K → ℕ → Bool) (read
       states = λ s fit stands.
           let g = goes.2.states s fit stands in
           let h = pass.2.states g.0 g.2 g.3 in
-          let whole : Pass next g.0 (journal_of pass.0) h.0 = subst (λ (z : ℕ). PassBelow next z g.0 (journal_of pass.0) h.0) (processes-length old g.0 g.3) h.1 in
+          let whole : Pass rules g.0 (journal_of pass.0) h.0 = subst (λ (z : ℕ). PassBelow rules z g.0 (journal_of pass.0) h.0) (processes-length old g.0 g.3) h.1 in
           let moved = some-turns pass.0 (omega (arith, pass.1, some)) in
-          (h.0, (g.1.0 ++ journal_of pass.0 ∷ [], journal_of-append goes.0 pass.0 ∙ ap (λ (j : Journal). then_turns j (journal_of pass.0)) g.1.1 ∙ sym (joined-more g.1.0 (journal_of pass.0)), Passes-more next s g.1.0 g.0 (journal_of pass.0) h.0 g.1.2 moved whole), h.2, h.3);
+          (h.0, (g.1.0 ++ journal_of pass.0 ∷ [], journal_of-append goes.0 pass.0 ∙ ap (λ (j : Journal). then_turns j (journal_of pass.0)) g.1.1 ∙ sym (joined-more g.1.0 (journal_of pass.0)), Passes-more rules s g.1.0 g.0 (journal_of pass.0) h.0 g.1.2 moved whole), h.2, h.3);
       connections = pass.2.connections ∙ goes.2.connections;
     },
   )
@@ -352,8 +327,8 @@ module _ {K : Type 0} (shape_of : K → Shape) (uses : K → ℕ → Bool) (read
   not-told stage answer thought = λ is. subst IsThoughtStage is thought
 
   -- a round ends by a pass without a turn
-  pub round-ends : (first start old new : NetValue K) (n k m : ℕ) → length start.bodies ≡ length first.bodies → length old.bodies ≡ length start.bodies → length new.bodies ≡ length old.bodies → AllSet new.bodies → Goes' (all_settled next) first n start n → Goes' (some_passes next) start n old m
-      → Goes' (pass_below next (length old.bodies)) old m new k → k ≡ m → Goes' (round_robin next) first n new k
+  pub round-ends : (first start old new : NetValue K) (n k m : ℕ) → length start.bodies ≡ length first.bodies → length old.bodies ≡ length start.bodies → length new.bodies ≡ length old.bodies → AllSet new.bodies → Goes' (all_settled rules) first n start n → Goes' (some_passes rules) start n old m
+      → Goes' (pass_below rules (length old.bodies)) old m new k → k ≡ m → Goes' (round_robin rules) first n new k
   round-ends first start old new n k m len0 len1 len2 set settled goes pass none =
       let front_none : settled.0 ≡ [] = no-log settled.0 (omega (arith, settled.1)) in
       let last_none : pass.0 ≡ [] = no-log pass.0 (omega (arith, pass.1, none)) in
@@ -368,15 +343,15 @@ module _ {K : Type 0} (shape_of : K → Shape) (uses : K → ℕ → Bool) (read
               let t = settled.2.states s fit stands in
               let g = goes.2.states t.0 t.2 t.3 in
               let h = pass.2.states g.0 g.2 g.3 in
-              let passed : Pass next g.0 (journal_of pass.0) h.0 = subst (λ (z : ℕ). PassBelow next z g.0 (journal_of pass.0) h.0) (processes-length old g.0 g.3) h.1 in
+              let passed : Pass rules g.0 (journal_of pass.0) h.0 = subst (λ (z : ℕ). PassBelow rules z g.0 (journal_of pass.0) h.0) (processes-length old g.0 g.3) h.1 in
               let empty : journal_of pass.0 ≡ no_turns = ap journal_of last_none in
-              let still = quiet-pass next (length g.0.kept.processes) g.0 (journal_of pass.0) h.0 empty passed in
-              let last : Pass next h.0 no_turns h.0 = subst (λ (j : Journal). Pass next h.0 j h.0) empty (subst (λ (u : State K). Pass next u (journal_of pass.0) h.0) (sym still.0) passed) in (
+              let still = quiet-pass rules (length g.0.kept.processes) g.0 (journal_of pass.0) h.0 empty passed in
+              let last : Pass rules h.0 no_turns h.0 = subst (λ (j : Journal). Pass rules h.0 j h.0) empty (subst (λ (u : State K). Pass rules u (journal_of pass.0) h.0) (sym still.0) passed) in (
                 h.0,
                 (
                   t.0,
                   t.1.1,
-                  record { passes = g.1.0; whole = g.1.1; go = subst (λ (u : State K). Passes next t.0 g.1.0 u) (sym still.0) g.1.2; last = last },
+                  record { passes = g.1.0; whole = g.1.1; go = subst (λ (u : State K). Passes rules t.0 g.1.0 u) (sym still.0) g.1.2; last = last },
                   record {
                     thought = λ p x is answer. not-told x.stage answer (all-thought new h.0 h.3 set p x is);
                     still = λ p. subst (λ (u : State K). HasNoTurn u.kept p) (sym still.0) (quiet-at g.0 p still.1);
@@ -390,18 +365,18 @@ module _ {K : Type 0} (shape_of : K → Shape) (uses : K → ℕ → Bool) (read
       )
     where
       quiet-at : (s : State K) (p : ℕ) → ((q : ℕ) → q < length s.kept.processes → HasNoTurn s.kept q) → HasNoTurn s.kept p
-      quiet-at s p all x n is = all p (get-within s.kept.processes p x is) x n is
+      quiet-at s p all x n is = all p (slice_get_within s.kept.processes p x is) x n is
 
   -- pending works, one process after another
-  pub works-none : (start : NetValue K) (n : ℕ) → Goes' (some_works next) start n start n
+  pub works-none : (start : NetValue K) (n : ℕ) → Goes' (some_works rules) start n start n
   works-none start n = ([], omega arith, record { remembers = remember-none n start.bodies; states = λ s fit stands. (s, (refl, ([], refl)), fit, stands); connections = refl })
 
-  works-then : (s : State K) (ps : List ℕ) (mid : State K) (p : ℕ) (s' : State K) → WorksLead next s ps mid → Settles next mid p s' → (qs : List ℕ) × WorksLead next s qs s'
+  works-then : (s : State K) (ps : List ℕ) (mid : State K) (p : ℕ) (s' : State K) → WorksLead rules s ps mid → Settles rules mid p s' → (qs : List ℕ) × WorksLead rules s qs s'
   works-then s [] mid p s' go (inl none) = ([], none.1 ∙ go)
-  works-then s [] mid p s' go (inr work) = (p ∷ [], (s', subst (λ (m : State K). Work next m p s') go work, refl))
+  works-then s [] mid p s' go (inr work) = (p ∷ [], (s', subst (λ (m : State K). Work rules m p s') go work, refl))
   works-then s (q ∷ ps) mid p s' go settles = let r = works-then go.0 ps mid p s' go.2 settles in (q ∷ r.0, (go.0, go.1, r.1))
 
-  remember-keeps : (old new : NetValue K) (p n : ℕ) → SettlesNet next old p new → Remembers n old.bodies [] new.bodies
+  remember-keeps : (old new : NetValue K) (p n : ℕ) → SettlesNet rules old p new → Remembers n old.bodies [] new.bodies
   remember-keeps old new p n settle q b b' was is = elim (same_or_not q p) [
     | inl same ↦ (let here : Some settle.after ≡ Some b' = sym (slice_get-set_same old.bodies p settle.before settle.after settle.there) ∙ ap (λ (bs : List (BodyValue K)). slice_get bs p) (sym settle.bodies) ∙ ap (slice_get new.bodies) (sym same) ∙ is in
         let after_is : settle.after ≡ b' = cc in
@@ -415,7 +390,7 @@ module _ {K : Type 0} (shape_of : K → Shape) (uses : K → ℕ → Bool) (read
         (ap (λ (x : BodyValue K). x.stamps) (sym same) ∙ sym (append-nil b.stamps), ap (λ (x : BodyValue K). x.levels) (sym same) ∙ sym (append-nil b.levels)))
   ]
 
-  pub works-more : (start old new : NetValue K) (p n : ℕ) → length old.bodies ≡ length new.bodies → Goes' (some_works next) start n old n → SettlesNet next old p new → Goes' (some_works next) start n new n
+  pub works-more : (start old new : NetValue K) (p n : ℕ) → length old.bodies ≡ length new.bodies → Goes' (some_works rules) start n old n → SettlesNet rules old p new → Goes' (some_works rules) start n new n
   works-more start old new p n len goes settle =
       let none : goes.0 ≡ [] = no-log goes.0 (omega (arith, goes.1)) in (
         [],
@@ -431,7 +406,7 @@ module _ {K : Type 0} (shape_of : K → Shape) (uses : K → ℕ → Bool) (read
         },
       )
 
-  pub works-all : (start new : NetValue K) (n : ℕ) → Goes' (some_works next) start n new n → AllSet new.bodies → Goes' (all_settled next) start n new n
+  pub works-all : (start new : NetValue K) (n : ℕ) → Goes' (some_works rules) start n new n → AllSet new.bodies → Goes' (all_settled rules) start n new n
   works-all start new n goes set = (
     goes.0,
     goes.1,
@@ -445,16 +420,16 @@ module _ {K : Type 0} (shape_of : K → Shape) (uses : K → ℕ → Bool) (read
   )
 
 -- which processes are set
-pub set-after : {K : Type 0} (next : K → Held → Answer → Outcome K → Type 0) (old mid new : NetValue K) (p k m : ℕ) (e : Event) → AllSet old.bodies → NetTurn old p k e m mid → SettlesNet next mid p new → AllSet new.bodies
-set-after {K} next old mid new p k m e set turn settle q b is = elim (same_or_not q p) [
+pub set-after : {K : Type 0} (rules : Rules K) (old mid new : NetValue K) (p k m : ℕ) (e : Event) → AllSet old.bodies → NetTurn old p k e m mid → SettlesNet rules mid p new → AllSet new.bodies
+set-after {K} rules old mid new p k m e set turn settle q b is = elim (same_or_not q p) [
   | inl same ↦ (let here : Some settle.after ≡ Some b = sym (slice_get-set_same mid.bodies p settle.before settle.after settle.there) ∙ ap (λ (bs : List (BodyValue K)). slice_get bs p) (sym settle.bodies) ∙ ap (slice_get new.bodies) (sym same) ∙ is in
       let after_is : settle.after ≡ b = cc in subst (λ (x : BodyValue K). IsSet x) after_is settle.set)
   | inr other ↦ set q b (sym (slice_get-set_other old.bodies p q turn.after other) ∙ ap (λ (bs : List (BodyValue K)). slice_get bs q) (sym turn.bodies) ∙ sym (slice_get-set_other mid.bodies p q settle.after other) ∙ ap (λ (bs : List (BodyValue K)). slice_get bs q) (sym settle.bodies) ∙ is)
 ]
 
 -- A process that is settled is set with those below it.
-pub set-more : {K : Type 0} (next : K → Held → Answer → Outcome K → Type 0) (old new : NetValue K) (p : ℕ) → SetBelow p old.bodies → SettlesNet next old p new → SetBelow (p + 1) new.bodies
-set-more {K} next old new p set settle q b below is = elim (same_or_not q p) [
+pub set-more : {K : Type 0} (rules : Rules K) (old new : NetValue K) (p : ℕ) → SetBelow p old.bodies → SettlesNet rules old p new → SetBelow (p + 1) new.bodies
+set-more {K} rules old new p set settle q b below is = elim (same_or_not q p) [
   | inl same ↦ (let here : Some settle.after ≡ Some b = sym (slice_get-set_same old.bodies p settle.before settle.after settle.there) ∙ ap (λ (bs : List (BodyValue K)). slice_get bs p) (sym settle.bodies) ∙ ap (slice_get new.bodies) (sym same) ∙ is in
       let after_is : settle.after ≡ b = cc in subst (λ (x : BodyValue K). IsSet x) after_is settle.set)
   | inr other ↦ set q b (omega (arith, below, other)) (sym (slice_get-set_other old.bodies p q settle.after other) ∙ ap (λ (bs : List (BodyValue K)). slice_get bs q) (sym settle.bodies) ∙ is)
@@ -462,7 +437,7 @@ set-more {K} next old new p set settle q b below is = elim (same_or_not q p) [
 
 -- Where those below the last are set, all are.
 pub set-all : {K : Type 0} (n : ℕ) (bodies : List (BodyValue K)) → length bodies ≤ n → SetBelow n bodies → AllSet bodies
-set-all n bodies most set p b is = set p b (omega (arith, get-within bodies p b is, most)) is
+set-all n bodies most set p b is = set p b (omega (arith, slice_get_within bodies p b is, most)) is
 
 pub set-in : {K : Type 0} (net : NetValue K) (p : ℕ) → AllSet net.bodies → IsSetIn net p
 set-in {K} net p set = by (slice_get net.bodies p) refl
@@ -482,20 +457,20 @@ turns-worked x (Wishes component held wish) = refl
 turns-worked x (Fails component held cause) = refl
 
 -- A body that only thought keeps all turns together as they are.
-pub count-rest : {K : Type 0} (next : K → Held → Answer → Outcome K → Type 0) (old : NetValue K) (p : ℕ) (b b' : BodyValue K) (new : NetValue K) → slice_get old.bodies p ≡ Some b → SameBody b b' ⊎ WorkedBody next b b' → new.bodies ≡ slice_set old.bodies p b' → turns_made new ≡ turns_made old
-count-rest {K} next old p b b' new there step bodies = omega (arith, by step, ap (λ (bs : List (BodyValue K)). sum_by (λ (x : BodyValue K). x.process.turns) bs) bodies, turns-set old.bodies p b b' there)
+pub count-rest : {K : Type 0} (rules : Rules K) (old : NetValue K) (p : ℕ) (b b' : BodyValue K) (new : NetValue K) → slice_get old.bodies p ≡ Some b → SameBody b b' ⊎ WorkedBody rules b b' → new.bodies ≡ slice_set old.bodies p b' → turns_made new ≡ turns_made old
+count-rest {K} rules old p b b' new there step bodies = omega (arith, by step, ap (λ (bs : List (BodyValue K)). sum_by (λ (x : BodyValue K). x.process.turns) bs) bodies, turns-set old.bodies p b b' there)
   where
-    by : SameBody b b' ⊎ WorkedBody next b b' → b'.process.turns ≡ b.process.turns
+    by : SameBody b b' ⊎ WorkedBody rules b b' → b'.process.turns ≡ b.process.turns
     by (inl same) = ap (λ (x : Process K). x.turns) same.process
     by (inr work) = ap (λ (x : Process K). x.turns) work.process ∙ turns-worked b.process work.outcome
 
 -- A thought counts as no turn.
-pub think-count : {K : Type 0} (next : K → Held → Answer → Outcome K → Type 0) (old : NetValue K) (p : ℕ) (t : Thought) (new : NetValue K) → ThinksNet next old p t new → turns_made new ≡ turns_made old
-think-count next old p t new think = count-rest next old p think.before think.after new think.there (thinks-step next think.before t think.after think.thinks) think.bodies
+pub think-count : {K : Type 0} (rules : Rules K) (old : NetValue K) (p : ℕ) (t : Thought) (new : NetValue K) → ThinksNet rules old p t new → turns_made new ≡ turns_made old
+think-count rules old p t new think = count-rest rules old p think.before think.after new think.there (thinks-step rules think.before t think.after think.thinks) think.bodies
 
 -- after a thought that found none the process is starved
-pub starves-memory : {K : Type 0} (next : K → Held → Answer → Outcome K → Type 0) (old : NetValue K) (p : ℕ) (new : NetValue K) → ThinksNet next old p thoughts.NoMemory new → StarvesNet old p new
-starves-memory next old p new think = record { before = think.before; after = think.after; there = think.there; unset = think.thinks.2; bodies = think.bodies; connections = think.connections }
+pub starves-memory : {K : Type 0} (rules : Rules K) (old : NetValue K) (p : ℕ) (new : NetValue K) → ThinksNet rules old p thoughts.NoMemory new → StarvesNet old p new
+starves-memory rules old p new think = record { before = think.before; after = think.after; there = think.there; unset = think.thinks.2; bodies = think.bodies; connections = think.connections }
 
 -- a process that is starved is the first one that isn't set, where those below it are
 pub first-unset : {K : Type 0} (old new : NetValue K) (p : ℕ) → SetBelow p old.bodies → StarvesNet old p new → IsFirstUnset new.bodies p

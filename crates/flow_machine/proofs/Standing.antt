@@ -1,40 +1,37 @@
 -- A process that stands well goes on to stand well.
-use Rattle.flow_limits.specs.declared.TheConstants.{HANDS_LIMIT, TURN_LIMIT}
-use Rattle.std.proofs.Common.{◌≡◌, ℕ, ◌+◌, ◌*◌, ◌<◌, ◌≤◌, Bool, true, false, cond, List, [], ◌∷◌, length, Some, None, Option, nat_lt, nat_eq, refl, ap, sym, subst, ◌∙◌, arith, slice_get, slice_set, slice_index, length-set, get_or-set_same, get_or-set_other, suc, zero, ◌⊎◌, inl, inr, IsSome, IsTrue}
+use Rattle.flow_limits.specs.declared.TheConstants.{TURN_LIMIT}
+use Rattle.std.proofs.Common.{◌≡◌, ℕ, ◌+◌, ◌*◌, ◌<◌, ◌≤◌, Bool, true, false, cond, List, [], ◌∷◌, length, Some, Option, nat_lt, nat_eq, refl, ap, sym, subst, ◌∙◌, arith, slice_get, slice_set, slice_index, length-set, get_or-set_same, get_or-set_other, suc, zero, ◌⊎◌, inl, inr, IsSome, IsTrue}
 use Rattle.std.specs.Prelude.{◌^◌}
 use Rattle.std.proofs.lemmas.Bool.Decides.{nat_tests}
 use Rattle.flow_packet.specs.declared.packet.Kind.{Kind}
 use Rattle.flow_packet.specs.declared.packet.Kind.TheVariants as kinds
-use Rattle.flow_packet.specs.Tree.{Tree, kind_of, id_of}
-use Rattle.flow_packet.specs.Hands.{packet_at}
+use Rattle.flow_packet.specs.Tree.{Tree, id_of}
 use Rattle.flow_packet.specs.Ids.{times, ordinal_of}
 use Rattle.flow_packet.specs.Held.{Held, held_ids, next_id, Sound, with_made, with_packet, without_packet}
 use Rattle.flow_packet.proofs.Comes.{Keeps, MakesOne, comes, made-one, drops-keep}
 use Rattle.flow_component.specs.declared.Port.{Port}
 use Rattle.flow_component.specs.declared.Answer.{Answer}
 use Rattle.flow_component.specs.declared.Answer.TheVariants as answers
-use Rattle.flow_component.specs.declared.Wish.{Wish}
 use Rattle.flow_component.specs.declared.Wish.TheVariants as wishes
-use Rattle.flow_component.specs.declared.Shape.{Shape}
-use Rattle.flow_component.specs.declared.Fail.TheVariants as fails
-use Rattle.flow_component.specs.Laws.{Outcome, Wishes, Fails, held_after, ReadyIfSound, Obeys, StaysReady, IsSteady}
+use Rattle.flow_component.specs.Laws.{Rules, Lawful, Outcome, Wishes, Fails, held_after, ReadyIfSound}
 use Rattle.flow_model.specs.declared.Stage.{Stage}
 use Rattle.flow_model.specs.declared.Stage.TheVariants as stages
 use Rattle.flow_model.specs.States.{Process, Input, outlets_from}
 use Rattle.flow_model.specs.Events.{Gets, Takes_text, Signals}
 use Rattle.flow_model.specs.Turns.{limited, process_after, at_stage, depth_after}
-use Rattle.flow_model.specs.Works.{worked, judged, sending, nests}
-use Rattle.flow_model.specs.Schedules.{IsThoughtStage}
-use Rattle.flow_model.specs.Valid.{ReadyAt, IsNested, IsGranted, FitProcess, owed, least_left}
+use Rattle.flow_model.specs.Works.{worked, nests}
+use Rattle.flow_model.specs.Stages.{owed, least_left}
+use Rattle.flow_model.specs.Valid.{ReadyAt, IsNested, IsGranted, FitProcess}
 use Rattle.flow_model.proofs.Counts.{maker_of-next_id, ordinal_of-next_id}
 use Rattle.flow_model.proofs.Lists.{same_or_not}
-use Rattle.flow_model.proofs.Schedules.{comes-of, least_left-most, owed-most}
+use Rattle.flow_model.proofs.Schedules.{comes-of, least_left-most, owed-most, limited-left}
 use Rattle.flow_model.proofs.Ready.{ready-worked, nested-worked}
 use Rattle.flow_model.proofs.Blocks.{fit-worked}
 use Rattle.flow_machine.specs.Outlets.{output_in, closing_in}
 use Rattle.flow_machine.specs.Effects.{port_at, depths_sent, CanDeepen}
 use Rattle.flow_machine.proofs.OutletLemmas.{length-outlets-most}
 use Rattle.flow_machine.specs.Bodies.{StandsWell, HasLeft}
+use Rattle.flow_model.proofs.Stages.{limited-elim, owed-worked}
 
 -- the next id isn't held yet
 next_id-fresh : (old : Held) → Sound old → times (next_id old) (held_ids old) ≡ 0
@@ -70,77 +67,33 @@ sound-comes old new (inr one) below sound = record {
   ]);
 }
 
-owed-judged : (depths : List ℕ) (held : Held) (wish : Wish) → owed (judged depths held wish) ≡ 0
-owed-judged depths held (wishes.Receive port) = by (nat_lt (length held.packets) HANDS_LIMIT)
-  where
-    by : (b : Bool) → owed (cond b (stages.Wishing (wishes.Receive port)) (stages.Failed fails.HandsLimit)) ≡ 0
-    by true = refl
-    by false = refl
-owed-judged depths held (wishes.Send port id) = by (packet_at held.packets id)
-  where
-    by-nests : (b : Bool) → owed (cond b (stages.Wishing (wishes.Send port id)) (stages.Failed (fails.Unnested port))) ≡ 0
-    by-nests true = refl
-    by-nests false = refl
-
-    by : (found : Option Tree) → owed (sending depths port id found) ≡ 0
-    by None = refl
-    by (Some packet) = by-nests (nests (kind_of packet) (slice_index depths port.0))
-owed-judged depths held (wishes.Level port) = refl
-owed-judged depths held wishes.Deactivate = refl
-
-owed-worked : {K : Type 0} (x : Process K) (outcome : Outcome K) → owed (worked x outcome).stage ≡ 0
-owed-worked x (Wishes component held wish) = owed-judged x.depths held wish
-owed-worked x (Fails component held cause) = refl
-
-thought-judged : (depths : List ℕ) (held : Held) (wish : Wish) → IsThoughtStage (judged depths held wish)
-thought-judged depths held (wishes.Receive port) = by (nat_lt (length held.packets) HANDS_LIMIT)
-  where
-    by : (b : Bool) → IsThoughtStage (cond b (stages.Wishing (wishes.Receive port)) (stages.Failed fails.HandsLimit))
-    by true = tt
-    by false = tt
-thought-judged depths held (wishes.Send port id) = by (packet_at held.packets id)
-  where
-    by-nests : (b : Bool) → IsThoughtStage (cond b (stages.Wishing (wishes.Send port id)) (stages.Failed (fails.Unnested port)))
-    by-nests true = tt
-    by-nests false = tt
-
-    by : (found : Option Tree) → IsThoughtStage (sending depths port id found)
-    by None = tt
-    by (Some packet) = by-nests (nests (kind_of packet) (slice_index depths port.0))
-thought-judged depths held (wishes.Level port) = tt
-thought-judged depths held wishes.Deactivate = tt
-
--- after a work none is to come
-pub thought-worked : {K : Type 0} (x : Process K) (outcome : Outcome K) → IsThoughtStage (worked x outcome).stage
-thought-worked x (Wishes component held wish) = thought-judged x.depths held wish
-thought-worked x (Fails component held cause) = tt
-
 less_or : (n m : ℕ) → nat_eq n m ≡ false → n ≤ m → n < m
 less_or n m t most = grind (arith, nat_tests)
 
-module _ {K : Type 0} (shape_of : K → Shape) (uses : K → ℕ → Bool) (ready : K → Held → Answer → Type 0) where
+module _ {K : Type 0} (rules : Rules K) where
   -- so few packets were made
-  pub few-made : (x : Process K) → StandsWell shape_of uses ready x → x.held.made < 4294967295
+  pub few-made : (x : Process K) → StandsWell rules x → x.held.made < 4294967295
   few-made x well = omega (arith, well.good.made, well.good.turns)
 
   -- A process that was told an answer by its turn.
-  pub stands-told : (x y : Process K) (answer : Answer) → StandsWell shape_of uses ready x → x.turns < TURN_LIMIT → y.stage ≡ limited (x.turns + 1) (stages.Told answer) → y.turns ≡ x.turns + 1 → y.component ≡ x.component → y.inputs ≡ x.inputs → y.outputs ≡ x.outputs
+  pub stands-told : (x y : Process K) (answer : Answer) → StandsWell rules x → x.turns < TURN_LIMIT → y.stage ≡ limited (x.turns + 1) (stages.Told answer) → y.turns ≡ x.turns + 1 → y.component ≡ x.component → y.inputs ≡ x.inputs → y.outputs ≡ x.outputs
       → length y.depths ≡ length x.depths → length y.fresh ≡ length x.fresh → ((port : ℕ) → slice_index y.depths port ≤ y.turns) → Sound y.held → y.held.made ≤ x.held.made + 1 → owed x.stage ≡ 0
-      → ReadyIfSound (ready x.component) y.held answer → StandsWell shape_of uses ready y
+      → ReadyIfSound (rules.ready x.component) y.held answer → StandsWell rules y
   stands-told x y answer well left stage turns component inputs outputs depths fresh deep sound made owes is_ready = record {
     good = record {
       maker = refl;
       made = omega (arith, made, turns, owed-most y.stage, well.good.made, owes);
-      turns = subst (λ (st : Stage). y.turns + least_left st ≤ TURN_LIMIT) (sym stage) (limit (nat_eq (x.turns + 1) TURN_LIMIT) refl);
+      turns = subst (λ (st : Stage). y.turns + least_left st ≤ TURN_LIMIT) (sym stage) (omega (arith, turns, limited-left (x.turns + 1) (stages.Told answer) (omega (arith, left))));
       depths = depths ∙ well.good.depths ∙ ap length (sym outputs);
-      nested = subst (IsNested y) (sym stage) (nested (nat_eq (x.turns + 1) TURN_LIMIT));
-      is_ready = subst (ReadyAt (ready y.component) y.held) (sym stage) (can (nat_eq (x.turns + 1) TURN_LIMIT));
+      nested = subst (IsNested y) (sym stage) (limited-elim (IsNested y) (x.turns + 1) (stages.Told answer) tt tt);
+      is_ready = subst (ReadyAt (rules.ready y.component) y.held) (sym stage)
+          (limited-elim (ReadyAt (rules.ready y.component) y.held) (x.turns + 1) (stages.Told answer) tt (subst (λ (k : K). ReadyIfSound (rules.ready k) y.held answer) (sym component) is_ready));
     };
     fit = record {
-      inputs = ap (λ (k : K). (shape_of k).inputs) component ∙ well.fit.inputs ∙ ap length (sym inputs);
-      used = λ port is. (let u = well.fit.used port (subst (λ (k : K). IsTrue (uses k port)) component is) in
+      inputs = ap (λ (k : K). (rules.shape k).inputs) component ∙ well.fit.inputs ∙ ap length (sym inputs);
+      used = λ port is. (let u = well.fit.used port (subst (λ (k : K). IsTrue (rules.uses k port)) component is) in
           subst (λ (os : List (Option ℕ)). IsSome (output_in os port)) (sym outputs) u);
-      granted = subst (IsGranted y) (sym stage) (granted (nat_eq (x.turns + 1) TURN_LIMIT));
+      granted = subst (IsGranted y) (sym stage) (limited-elim (IsGranted y) (x.turns + 1) (stages.Told answer) tt tt);
     };
     sound = sound;
     fresh = fresh ∙ well.fresh ∙ ap length (sym inputs);
@@ -148,45 +101,26 @@ module _ {K : Type 0} (shape_of : K → Shape) (uses : K → ℕ → Bool) (read
     short = λ i text is. well.short i text (ap (λ (ins : List Input). slice_get ins i) (sym inputs) ∙ is);
     few = subst (λ (os : List (Option ℕ)). length os < 2 ^ 32) (sym outputs) well.few;
   }
-    where
-      limit : (b : Bool) → nat_eq (x.turns + 1) TURN_LIMIT ≡ b → y.turns + least_left (cond b (stages.Failed fails.TurnLimit) (stages.Told answer)) ≤ TURN_LIMIT
-      limit true t = omega (arith, turns, left)
-      limit false t = let below : x.turns + 1 < TURN_LIMIT = less_or (x.turns + 1) TURN_LIMIT t (omega (arith, left)) in omega (arith, turns, below)
-
-      nested : (b : Bool) → IsNested y (cond b (stages.Failed fails.TurnLimit) (stages.Told answer))
-      nested true = tt
-      nested false = tt
-
-      can : (b : Bool) → ReadyAt (ready y.component) y.held (cond b (stages.Failed fails.TurnLimit) (stages.Told answer))
-      can true = tt
-      can false = subst (λ (k : K). ReadyIfSound (ready k) y.held answer) (sym component) is_ready
-
-      granted : (b : Bool) → IsGranted y (cond b (stages.Failed fails.TurnLimit) (stages.Told answer))
-      granted true = tt
-      granted false = tt
 
   -- A process that has done its work.
-  pub stands-worked : (next : K → Held → Answer → Outcome K → Type 0)
-      → ((component : K) (held : Held) (answer : Answer) (outcome : Outcome K) → ready component held answer → next component held answer outcome → Obeys (shape_of component) (uses component) held outcome)
-      → ((component : K) (held : Held) (answer : Answer) (outcome : Outcome K) → ready component held answer → next component held answer outcome → StaysReady ready outcome)
-      → ((component : K) (held : Held) (answer : Answer) (outcome : Outcome K) → next component held answer outcome → IsSteady shape_of uses component outcome)
-      → (x : Process K) (answer : Answer) (outcome : Outcome K) → x.stage ≡ stages.Told answer → next x.component x.held answer outcome → StandsWell shape_of uses ready x → StandsWell shape_of uses ready (worked x outcome)
-  stands-worked next obeys stays steady x answer outcome told comes_to well =
-      let now : ready x.component x.held answer = (subst (ReadyAt (ready x.component) x.held) told well.good.is_ready) well.sound in
-      let lawful = obeys x.component x.held answer outcome now comes_to in
-      let works = comes x.held (held_after outcome) (comes-of (shape_of x.component) (uses x.component) x.held outcome lawful) in
+  pub stands-worked : Lawful rules
+      → (x : Process K) (answer : Answer) (outcome : Outcome K) → x.stage ≡ stages.Told answer → rules.next x.component x.held answer outcome → StandsWell rules x → StandsWell rules (worked x outcome)
+  stands-worked lawful x answer outcome told comes_to well =
+      let now : rules.ready x.component x.held answer = (subst (ReadyAt (rules.ready x.component) x.held) told well.good.is_ready) well.sound in
+      let obeyed = lawful.obeys x.component x.held answer outcome now comes_to in
+      let works = comes x.held (held_after outcome) (comes-of (rules.shape x.component) (rules.uses x.component) x.held outcome obeyed) in
       let owes : owed x.stage ≡ 1 = ap owed told in
       let left : least_left x.stage ≡ 1 = ap least_left told in
       let made = made-comes x.held (held_after outcome) works in
-      by outcome (ready-worked ready x outcome (stays x.component x.held answer outcome now comes_to)) (fit-worked shape_of uses x outcome lawful (steady x.component x.held answer outcome comes_to) well.fit)
+      by outcome (ready-worked rules x outcome (lawful.stays_ready x.component x.held answer outcome now comes_to)) (fit-worked rules x outcome obeyed (lawful.steady x.component x.held answer outcome comes_to) well.fit)
       (sound-comes x.held (held_after outcome) works (few-made x well) well.sound) (omega (arith, made, well.good.made, owes)) (omega (arith, well.good.turns, left))
     where
       made-comes : (old new : Held) → Keeps old new ⊎ MakesOne old new → new.made ≤ old.made + 1
       made-comes old new (inl keeps) = omega (arith, keeps.made)
       made-comes old new (inr one) = omega (arith, one.made)
 
-      by : (outcome : Outcome K) → ReadyAt (ready (worked x outcome).component) (worked x outcome).held (worked x outcome).stage → FitProcess shape_of uses (worked x outcome) → Sound (held_after outcome) → (held_after outcome).made ≤ 2 * x.turns → x.turns + 1 ≤ TURN_LIMIT
-          → StandsWell shape_of uses ready (worked x outcome)
+      by : (outcome : Outcome K) → ReadyAt (rules.ready (worked x outcome).component) (worked x outcome).held (worked x outcome).stage → FitProcess rules (worked x outcome) → Sound (held_after outcome) → (held_after outcome).made ≤ 2 * x.turns → x.turns + 1 ≤ TURN_LIMIT
+          → StandsWell rules (worked x outcome)
       by (Wishes component held wish) is_ready fit sound made turns = record {
         good = record {
           maker = refl;
@@ -213,14 +147,17 @@ module _ {K : Type 0} (shape_of : K → Shape) (uses : K → ℕ → Bool) (read
         few = well.few;
       }
 
-  -- A process that goes to its end, or on with it.
-  pub stands-closing : (x y : Process K) (place : ℕ) → StandsWell shape_of uses ready x → x.turns < TURN_LIMIT → y ≡ record x { stage = limited (x.turns + 1) (closing_in x.outputs place); turns = x.turns + 1 } → StandsWell shape_of uses ready y
-  stands-closing x y place well left is = subst (StandsWell shape_of uses ready) (sym is) (by (nat_lt place (length (outlets_from 0 x.outputs))) refl)
+  -- A process that is told nothing by its turn stands well where it goes, and where it fails by the limit.
+  stands-unheard : (x : Process K) (signalled : Bool) (stage : Stage) → StandsWell rules x → x.turns < TURN_LIMIT → (let z : Stage → Process K = λ (st : Stage). record x { stage = st; turns = x.turns + 1; signalled = signalled } in
+      (owed stage ≡ 0 → IsNested (z stage) stage → ReadyAt (rules.ready x.component) x.held stage → IsGranted (z stage) stage → StandsWell rules (z (limited (x.turns + 1) stage))))
+  stands-unheard x signalled stage well left owes nested can granted =
+      well-at (limited (x.turns + 1) stage) (limited-elim (λ st. owed st ≡ 0) (x.turns + 1) stage refl owes) (limited-left (x.turns + 1) stage (omega (arith, left)))
+      (limited-elim (λ st. IsNested (z st) st) (x.turns + 1) stage tt nested) (limited-elim (ReadyAt (rules.ready x.component) x.held) (x.turns + 1) stage tt can) (limited-elim (λ st. IsGranted (z st) st) (x.turns + 1) stage tt granted)
     where
       z : Stage → Process K
-      z stage = record x { stage = stage; turns = x.turns + 1 }
+      z stage = record x { stage = stage; turns = x.turns + 1; signalled = signalled }
 
-      well-at : (stage : Stage) → owed stage ≡ 0 → x.turns + 1 + least_left stage ≤ TURN_LIMIT → IsNested (z stage) stage → ReadyAt (ready x.component) x.held stage → IsGranted (z stage) stage → StandsWell shape_of uses ready (z stage)
+      well-at : (stage : Stage) → owed stage ≡ 0 → x.turns + 1 + least_left stage ≤ TURN_LIMIT → IsNested (z stage) stage → ReadyAt (rules.ready x.component) x.held stage → IsGranted (z stage) stage → StandsWell rules (z stage)
       well-at stage owes most nested can granted = record {
         good = record { maker = refl; made = omega (arith, owes, well.good.made); turns = most; depths = well.good.depths; nested = nested; is_ready = can };
         fit = record { inputs = well.fit.inputs; used = well.fit.used; granted = granted };
@@ -231,60 +168,38 @@ module _ {K : Type 0} (shape_of : K → Shape) (uses : K → ℕ → Bool) (read
         few = well.few;
       }
 
-      limit : (i : ℕ) → i < length (outlets_from 0 x.outputs) → (b : Bool) → nat_eq (x.turns + 1) TURN_LIMIT ≡ b → StandsWell shape_of uses ready (z (cond b (stages.Failed fails.TurnLimit) (stages.Closing i)))
-      limit i within true t = well-at (stages.Failed fails.TurnLimit) refl (omega (arith, left)) tt tt tt
-      limit i within false t = let below : x.turns + 1 < TURN_LIMIT = less_or (x.turns + 1) TURN_LIMIT t (omega (arith, left)) in well-at (stages.Closing i) refl (omega (arith, below)) tt tt within
-
-      by : (b : Bool) → nat_lt place (length (outlets_from 0 x.outputs)) ≡ b → StandsWell shape_of uses ready (z (limited (x.turns + 1) (cond b (stages.Closing place) stages.Ended)))
-      by true t = limit place (let h : place < length (outlets_from 0 x.outputs) = grind (arith, nat_tests) in h) (nat_eq (x.turns + 1) TURN_LIMIT) refl
-      by false t = well-at stages.Ended refl (omega (arith, left)) tt tt tt
+  -- A process that goes to its end, or on with it.
+  pub stands-closing : (x y : Process K) (place : ℕ) → StandsWell rules x → x.turns < TURN_LIMIT → y ≡ record x { stage = limited (x.turns + 1) (closing_in x.outputs place); turns = x.turns + 1 } → StandsWell rules y
+  stands-closing x y place well left is = subst (StandsWell rules) (sym is) (by (nat_lt place (length (outlets_from 0 x.outputs))) refl)
+    where
+      by : (b : Bool) → nat_lt place (length (outlets_from 0 x.outputs)) ≡ b → StandsWell rules (record x { stage = limited (x.turns + 1) (cond b (stages.Closing place) stages.Ended); turns = x.turns + 1 })
+      by true t = stands-unheard x x.signalled (stages.Closing place) well left refl tt tt (let h : place < length (outlets_from 0 x.outputs) = grind (arith, nat_tests) in h)
+      by false t = stands-unheard x x.signalled stages.Ended well left refl tt tt tt
 
   -- A process that still takes turns has one left.
-  pub turn-left : (x : Process K) → StandsWell shape_of uses ready x → least_left x.stage ≡ 1 → x.turns < TURN_LIMIT
+  pub turn-left : (x : Process K) → StandsWell rules x → least_left x.stage ≡ 1 → x.turns < TURN_LIMIT
   turn-left x well one = omega (arith, well.good.turns, one)
 
   -- An idle process that took a packet from its automatic input.
-  pub stands-signal : (x : Process K) (packet : Tree) → StandsWell shape_of uses ready x → x.stage ≡ stages.Idle → StandsWell shape_of uses ready (process_after x (Signals 0 packet))
-  stands-signal x packet well stage = by (nat_eq (x.turns + 1) TURN_LIMIT) refl
-    where
-      left : x.turns < TURN_LIMIT
-      left = turn-left x well (ap least_left stage)
-
-      z : Stage → Process K
-      z stage = record x { stage = stage; turns = x.turns + 1; signalled = true }
-
-      well-at : (stage : Stage) → owed stage ≡ 0 → x.turns + 1 + least_left stage ≤ TURN_LIMIT → IsNested (z stage) stage → ReadyAt (ready x.component) x.held stage → IsGranted (z stage) stage → StandsWell shape_of uses ready (z stage)
-      well-at stage owes most nested can granted = record {
-        good = record { maker = refl; made = omega (arith, owes, well.good.made); turns = most; depths = well.good.depths; nested = nested; is_ready = can };
-        fit = record { inputs = well.fit.inputs; used = well.fit.used; granted = granted };
-        sound = well.sound;
-        fresh = well.fresh;
-        deep = λ port. omega (arith, well.deep port);
-        short = well.short;
-        few = well.few;
-      }
-
-      by : (b : Bool) → nat_eq (x.turns + 1) TURN_LIMIT ≡ b → StandsWell shape_of uses ready (z (cond b (stages.Failed fails.TurnLimit) stages.Idle))
-      by true t = well-at (stages.Failed fails.TurnLimit) refl (omega (arith, left)) tt tt tt
-      by false t = let below : x.turns + 1 < TURN_LIMIT = less_or (x.turns + 1) TURN_LIMIT t (omega (arith, left)) in well-at stages.Idle refl (omega (arith, below)) tt (subst (ReadyAt (ready x.component) x.held) stage well.good.is_ready) tt
+  pub stands-signal : (x : Process K) (packet : Tree) → StandsWell rules x → x.stage ≡ stages.Idle → StandsWell rules (process_after x (Signals 0 packet))
+  stands-signal x packet well stage = stands-unheard x true stages.Idle well (turn-left x well (ap least_left stage)) refl tt (subst (ReadyAt (rules.ready x.component) x.held) stage well.good.is_ready) tt
 
   -- A process that took an initial text.
-  pub stands-text : (x : Process K) (port : Port) (text : List ℕ) → StandsWell shape_of uses ready x → x.stage ≡ stages.Wishing (wishes.Receive port) → StandsWell shape_of uses ready (process_after x (Takes_text port.0 text))
+  pub stands-text : (x : Process K) (port : Port) (text : List ℕ) → StandsWell rules x → x.stage ≡ stages.Wishing (wishes.Receive port) → StandsWell rules (process_after x (Takes_text port.0 text))
   stands-text x port text well stage =
-      let now = subst (ReadyAt (ready x.component) x.held) stage well.good.is_ready in
+      let now = subst (ReadyAt (rules.ready x.component) x.held) stage well.good.is_ready in
       stands-told x (process_after x (Takes_text port.0 text)) (answers.Got (next_id x.held)) well (turn-left x well (ap least_left stage)) refl refl refl refl refl refl (length-set x.fresh port.0 false) (λ p. omega (arith, well.deep p))
       (sound-comes x.held (with_made x.held kinds.Normal text) (inr (made-one x.held kinds.Normal text)) (few-made x well) well.sound) (omega arith) (ap owed stage) (now.2 text)
 
   -- A process that got a packet.
-  pub stands-got : (x : Process K) (port : Port) (packet : Tree) → StandsWell shape_of uses ready x → x.stage ≡ stages.Wishing (wishes.Receive port) → Sound (with_packet x.held packet) → StandsWell shape_of uses ready (process_after x (Gets port.0 0 packet))
+  pub stands-got : (x : Process K) (port : Port) (packet : Tree) → StandsWell rules x → x.stage ≡ stages.Wishing (wishes.Receive port) → Sound (with_packet x.held packet) → StandsWell rules (process_after x (Gets port.0 0 packet))
   stands-got x port packet well stage sound =
-      let now = subst (ReadyAt (ready x.component) x.held) stage well.good.is_ready in
+      let now = subst (ReadyAt (rules.ready x.component) x.held) stage well.good.is_ready in
       stands-told x (process_after x (Gets port.0 0 packet)) (answers.Got (id_of packet)) well (turn-left x well (ap least_left stage)) refl refl refl refl refl refl refl (λ p. omega (arith, well.deep p)) sound (omega arith) (ap owed stage) (now.1 packet)
 
   depth-most : (kind : Kind) (depth : ℕ) → depth_after kind depth ≤ depth + 1
   depth-most kinds.Normal depth = omega arith
-  depth-most kinds.Open depth = omega arith
-  depth-most kinds.Close depth = omega arith
+  depth-most kind depth = omega arith
 
   within-some : (os : List (Option ℕ)) (port : ℕ) → IsSome (output_in os port) → port < length os
   within-some [] port is = absurd (cc)
@@ -298,7 +213,7 @@ module _ {K : Type 0} (shape_of : K → Shape) (uses : K → ℕ → Bool) (read
   ]
 
   -- A packet that left may be sent: its port is there, and it nests.
-  pub may-deepen : (kind : Kind) (x : Process K) → HasLeft shape_of uses ready kind x → CanDeepen x.depths (port_at x.stage) (Some kind)
+  pub may-deepen : (kind : Kind) (x : Process K) → HasLeft rules kind x → CanDeepen x.depths (port_at x.stage) (Some kind)
   may-deepen kind x left =
       let y = left.before in
       let at : CanDeepen y.depths (port_at y.stage) (Some kind) = subst (λ (n : ℕ). CanDeepen y.depths n (Some kind)) (sym (ap port_at left.wished)) (
@@ -308,27 +223,27 @@ module _ {K : Type 0} (shape_of : K → Shape) (uses : K → ℕ → Bool) (read
       ) in
       subst (λ (z : Process K). CanDeepen z.depths (port_at z.stage) (Some kind)) (sym left.is) at
     where
-      port-there : (kind : Kind) (x : Process K) (left : HasLeft shape_of uses ready kind x) → left.port.0 < length left.before.depths
+      port-there : (kind : Kind) (x : Process K) (left : HasLeft rules kind x) → left.port.0 < length left.before.depths
       port-there kind x left = omega (arith, within-some left.before.outputs left.port.0 (subst (IsGranted left.before) left.wished left.stood.fit.granted).0, left.stood.good.depths)
 
   -- A process whose packet was sent.
-  pub stands-sent : (kind : Kind) (x : Process K) → HasLeft shape_of uses ready kind x → StandsWell shape_of uses ready (record (at_stage x (stages.Told answers.Sent)) { depths = depths_sent x.depths (port_at x.stage) (Some kind) })
+  pub stands-sent : (kind : Kind) (x : Process K) → HasLeft rules kind x → StandsWell rules (record (at_stage x (stages.Told answers.Sent)) { depths = depths_sent x.depths (port_at x.stage) (Some kind) })
   stands-sent kind x left =
       let y = left.before in
       let well = left.stood in
-      let now = subst (ReadyAt (ready y.component) y.held) left.wished well.good.is_ready in
+      let now = subst (ReadyAt (rules.ready y.component) y.held) left.wished well.good.is_ready in
       let granted = subst (IsGranted y) left.wished well.fit.granted in
       let there : left.port.0 < length y.depths = omega (arith, within-some y.outputs left.port.0 granted.0, well.good.depths) in
       let z : ℕ → Process K = λ port. record y { stage = limited (y.turns + 1) (stages.Told answers.Sent); turns = y.turns + 1; held = without_packet y.held left.id; depths = slice_set y.depths port (depth_after kind (slice_index y.depths port)) } in
-      let sent : StandsWell shape_of uses ready (z left.port.0) =
+      let sent : StandsWell rules (z left.port.0) =
       stands-told y (z left.port.0) answers.Sent well (turn-left y well (ap least_left left.wished)) refl refl refl refl refl (length-set y.depths left.port.0 (depth_after kind (slice_index y.depths left.port.0))) refl
       (deep-set y.depths left.port.0 y.turns (depth_after kind (slice_index y.depths left.port.0)) there (omega (arith, depth-most kind (slice_index y.depths left.port.0), well.deep left.port.0)) well.deep)
       (sound-comes y.held (without_packet y.held left.id) (inl (drops-keep y.held left.id)) (few-made y well) well.sound) (omega arith) (ap owed left.wished) now in
-      subst (λ (w : Process K). StandsWell shape_of uses ready (record (at_stage w (stages.Told answers.Sent)) { depths = depths_sent w.depths (port_at w.stage) (Some kind) })) (sym left.is)
-      (subst (λ (n : ℕ). StandsWell shape_of uses ready (z n)) (sym (ap port_at left.wished)) sent)
+      subst (λ (w : Process K). StandsWell rules (record (at_stage w (stages.Told answers.Sent)) { depths = depths_sent w.depths (port_at w.stage) (Some kind) })) (sym left.is)
+      (subst (λ (n : ℕ). StandsWell rules (z n)) (sym (ap port_at left.wished)) sent)
 
   -- The next place to close is a number of 32 bits.
-  pub closing-fits : (x : Process K) (place : ℕ) → StandsWell shape_of uses ready x → x.stage ≡ stages.Closing place → place + 1 < 2 ^ 32
+  pub closing-fits : (x : Process K) (place : ℕ) → StandsWell rules x → x.stage ≡ stages.Closing place → place + 1 < 2 ^ 32
   closing-fits x place well stage =
       let granted : place < length (outlets_from 0 x.outputs) = subst (IsGranted x) stage well.fit.granted in
       by place (length x.outputs) (omega (arith, granted, length-outlets-most 0 x.outputs)) well.few

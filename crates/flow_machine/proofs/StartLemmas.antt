@@ -6,11 +6,9 @@ use Rattle.std.proofs.lemmas.List.{length-map}
 use Rattle.std.proofs.lemmas.List.Sums.{sum_by-cons}
 use Rattle.std.proofs.lemmas.List.Quantifiers.{position-Some}
 use Rattle.std.proofs.lemmas.Option.{slice_get_within}
-use Rattle.flow_packet.specs.Held.{Held}
 use Rattle.flow_plan.specs.declared.plan.Connection.{Connection as NetConnection}
 use Rattle.flow_plan.specs.Network.{Network}
-use Rattle.flow_component.specs.declared.Answer.{Answer}
-use Rattle.flow_component.specs.declared.Shape.{Shape}
+use Rattle.flow_component.specs.Laws.{Rules}
 use Rattle.flow_model.specs.States.{Input, From, Text, Process, output_at}
 use Rattle.flow_model.specs.Plans.{text_at, connected_or, receives_at, sends_at, input_at, process_at_start, processes_at_start, channel_at_start, start_of, StartsWell}
 use Rattle.flow_plan.specs.Network.{Network as Plan}
@@ -76,15 +74,15 @@ connected text (Some d) c is = let h : d ≡ c = cc in ap (λ n. Some n) h
 connected text None c is = absurd (cc)
 
 -- A body that begins stands for its process at the start.
-pub stands-start : {K : Type 0} (shape_of : K → Shape) (uses : K → ℕ → Bool) (ready : K → Held → Answer → Type 0) (plan : Plan) (components : List K) (p : ℕ) (q : PlanProcess) (component : K) → StartsWell shape_of uses ready plan components → slice_get plan.processes p ≡ Some q → slice_get components p ≡ Some component
-    → q.outputs + 1 < 2 ^ 32 → StandsWell shape_of uses ready (process_at_start plan p q component)
-stands-start {K} shape_of uses ready plan components p q component well is at few =
+pub stands-start : {K : Type 0} (rules : Rules K) (plan : Plan) (components : List K) (p : ℕ) (q : PlanProcess) (component : K) → StartsWell rules plan components → slice_get plan.processes p ≡ Some q → slice_get components p ≡ Some component
+    → q.outputs + 1 < 2 ^ 32 → StandsWell rules (process_at_start plan p q component)
+stands-start {K} rules plan components p q component well is at few =
     let x : Process K = process_at_start plan p q component in
     let z : 0 + p ≡ p = omega arith in
     let there : slice_get (start_of plan components).kept.processes p ≡ Some x = process-there plan 0 plan.processes components p q component is at ∙ ap (λ (m : ℕ). Some (process_at_start plan m q component)) z in
     record {
-      good = (Valid-start ready shape_of uses plan components well).each p x there;
-      fit = AllFit-start shape_of uses ready plan components well p x there;
+      good = (Valid-start rules plan components well).each p x there;
+      fit = AllFit-start rules plan components well p x there;
       sound = record { once = λ id. omega arith; counted = omega arith; below = λ id here own. absurd (omega (arith, here)) };
       fresh = length-replicate q.inputs false ∙ sym (length-ports (input_at plan p q) 0 q.inputs);
       deep = λ port. omega (arith, zero-depth (q.outputs + 1) port);
@@ -184,11 +182,11 @@ starts-same {K} plan p p' q q' component component' b b' places specs components
     (subst (λ (x : PlanProcess). StartsBody (process_at_start plan p' x component) b) specs
     (subst (λ (x : ℕ). StartsBody (process_at_start plan x q component) b) places start)))
 
-module _ {K : Type 0} (shape_of : K → Shape) (uses : K → ℕ → Bool) (ready : K → Held → Answer → Type 0) (network : Network) (components : List K) (bodies : List (BodyValue K)) where
+module _ {K : Type 0} (rules : Rules K) (network : Network) (components : List K) (bodies : List (BodyValue K)) where
   abbrev pub begun_net : NetValue K
   begun_net = net_with network.connections bodies (map channel_begun network.connections)
 
-  pub starts-net : StartsWell shape_of uses ready network components → StartsBodies network components bodies → StartsNet network components begun_net
+  pub starts-net : StartsWell rules network components → StartsBodies network components bodies → StartsNet network components begun_net
   starts-net well start =
       let plan = network in
       let shown = bodies-shown plan 0 plan.processes components bodies well.one_each start.count
@@ -201,14 +199,14 @@ module _ {K : Type 0} (shape_of : K → Shape) (uses : K → ℕ → Bool) (read
         connections = refl;
       }
 
-  pub fit-start : StartsWell shape_of uses ready network components → StartsBodies network components bodies → FitNet shape_of uses ready begun_net
+  pub fit-start : StartsWell rules network components → StartsBodies network components bodies → FitNet rules begun_net
   fit-start well start =
       let plan = network in
       let each = begun plan components bodies well.one_each start in
       let none = turns-none bodies (λ p b is. ap (λ (x : Process K). x.turns) (each p b is).starts.process) in
       record {
         state = start_of plan components;
-        fit = Fit-start shape_of uses ready plan components well;
+        fit = Fit-start rules plan components well;
         stands = (starts-net well start).stands;
         log = [];
         logs = λ p b is. (let s = (each p b is).starts in (s.stamps, s.levels));
@@ -220,5 +218,5 @@ module _ {K : Type 0} (shape_of : K → Shape) (uses : K → ℕ → Bool) (read
         counted = λ p b is. (let s = (each p b is).starts in omega (arith, ap length s.stamps, ap (λ (x : Process K). x.turns) s.process));
       }
 
-  pub is-start : StartsWell shape_of uses ready network components → StartsBodies network components bodies → IsNet shape_of uses ready begun_net
-  is-start well start = record { fit = fit-start well start; planned = planned-start shape_of uses ready network components well begun_net (starts-net well start).stands refl refl }
+  pub is-start : StartsWell rules network components → StartsBodies network components bodies → IsNet rules begun_net
+  is-start well start = record { fit = fit-start well start; planned = planned-start rules network components well begun_net (starts-net well start).stands refl refl }

@@ -1,8 +1,6 @@
 -- A net with its connections, and its bodies and channels alone.
-use Rattle.std.proofs.Common.{ℕ, Bool, List, Option, Some, None, refl}
-use Rattle.flow_packet.specs.Held.{Held}
-use Rattle.flow_component.specs.declared.Answer.{Answer}
-use Rattle.flow_component.specs.declared.Shape.{Shape}
+use Rattle.std.proofs.Common.{ℕ, List, Option, Some, None, refl}
+use Rattle.flow_component.specs.Laws.{Rules}
 use Rattle.flow_plan.specs.declared.plan.Connection.{Connection}
 use Rattle.flow_model.specs.Stands.{ChannelShown}
 use Rattle.flow_machine.specs.Values.{BodyValue, NetValue, net_with, net_of}
@@ -13,8 +11,8 @@ use Rattle.flow_machine.specs.FitNets.{FitNet}
 use Rattle.flow_machine.specs.Nets.{TurnsNet, SeesNet}
 
 -- what holds of a net's bodies and channels doesn't depend on the connections
-pub fit-with : {K : Type 0} (shape_of : K → Shape) (uses : K → ℕ → Bool) (ready : K → Held → Answer → Type 0) (cs ds : List Connection) (bodies : List (BodyValue K)) (channels : List ChannelShown) → FitNet shape_of uses ready (net_with cs bodies channels) → FitNet shape_of uses ready (net_with ds bodies channels)
-fit-with shape_of uses ready cs ds bodies channels fit = record { state = fit.state; fit = fit.fit; stands = fit.stands; log = fit.log; logs = fit.logs; total = fit.total; few = fit.few; whole = fit.whole; wired = fit.wired; puts = fit.puts; counted = fit.counted }
+pub fit-with : {K : Type 0} (rules : Rules K) (cs ds : List Connection) (bodies : List (BodyValue K)) (channels : List ChannelShown) → FitNet rules (net_with cs bodies channels) → FitNet rules (net_with ds bodies channels)
+fit-with rules cs ds bodies channels fit = record { state = fit.state; fit = fit.fit; stands = fit.stands; log = fit.log; logs = fit.logs; total = fit.total; few = fit.few; whole = fit.whole; wired = fit.wired; puts = fit.puts; counted = fit.counted }
 
 module _ {K : Type 0} (cs : List Connection) (bodies bodies' : List (BodyValue K)) (channels channels' : List ChannelShown) where
   abbrev old : NetValue K

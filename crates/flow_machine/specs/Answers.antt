@@ -16,11 +16,11 @@ use Rattle.flow_machine.specs.declared.answers.Over.TheVariants as overs
 -- The status of a process at a stage.
 abbrev pub status_of : Stage → Status
 status_of stages.Idle = statuses.Idle
-status_of (stages.Told answer) = statuses.Active
-status_of (stages.Wishing wish) = statuses.Active
 status_of (stages.Closing i) = statuses.Closing i
 status_of stages.Ended = statuses.Ended
 status_of (stages.Failed cause) = statuses.Failed cause
+status_of (stages.Told answer) = statuses.Active
+status_of (stages.Wishing wish) = statuses.Active
 
 -- A receive is from a connection, or takes an initial text.
 abbrev pub receive_case : Port → Option Input → Option Case

@@ -66,9 +66,7 @@ wish_from (suc (suc (suc k))) n id = wishes.Deactivate
 
 wish-back : (w : Wish) → wish_from (wish_numbers w).0 (wish_numbers w).1.0 (wish_numbers w).1.1.0 ≡ w
 wish-back (wishes.Receive p) = refl
-wish-back (wishes.Send p id) = refl
-wish-back (wishes.Level p) = refl
-wish-back wishes.Deactivate = refl
+wish-back w = refl
 
 abbrev fail_numbers : Fail → Numbers
 fail_numbers (fails.Unnested p) = (0, (p.0, (0, 0)))
@@ -132,12 +130,10 @@ abbrev stage_of : ℕ × Numbers → Stage
 stage_of n = stage_from n.0 n.1.0 n.1.1.0 n.1.1.1.0
 
 pub stage-back : (s : Stage) → stage_of (stage_numbers s) ≡ s
-stage-back stages.Idle = refl
 stage-back (stages.Told answer) = ap stages.Told (answer-back answer)
 stage-back (stages.Wishing wish) = ap stages.Wishing (wish-back wish)
-stage-back (stages.Closing i) = refl
-stage-back stages.Ended = refl
 stage-back (stages.Failed cause) = ap stages.Failed (fail-back cause)
+stage-back s = refl
 
 abbrev pub stage_code : Coded Stage
 stage_code = code_by (ℕ × Numbers) (coded× coded_ℕ (coded× coded_ℕ (coded× coded_ℕ (coded× coded_ℕ coded_ℕ)))) stage_numbers stage_of stage-back
@@ -154,8 +150,7 @@ kind_from (suc (suc n)) = kinds.Close
 
 pub kind-back : (k : Kind) → kind_from (kind_number k) ≡ k
 kind-back kinds.Normal = refl
-kind-back kinds.Open = refl
-kind-back kinds.Close = refl
+kind-back k = refl
 
 abbrev pub kind_code : Coded Kind
 kind_code = code_by ℕ coded_ℕ kind_number kind_from kind-back

@@ -27,11 +27,7 @@ port_of wishes.Deactivate = 0
 -- The port that a wish names.
 abbrev pub port_at : Stage → ℕ
 port_at (stages.Wishing wish) = port_of wish
-port_at stages.Idle = 0
-port_at (stages.Told answer) = 0
-port_at (stages.Closing i) = 0
-port_at stages.Ended = 0
-port_at (stages.Failed cause) = 0
+port_at stage = 0
 
 -- A receive on a port with an initial text takes it where it is fresh, and else hears the end.
 abbrev pub text_event : ℕ → Bool → Option Input → Event
@@ -67,28 +63,12 @@ effected x leaving (effects.Signal packet) = process_after x (Signals 0 packet)
 -- The level numbers that a turn with this effect and stamp adds.
 abbrev pub levels_by : Effect → ℕ → List (ℕ × ℕ)
 levels_by (effects.Level n) stamp = (stamp, n) ∷ []
-levels_by effects.Start stamp = []
-levels_by effects.ToClosing stamp = []
-levels_by (effects.Got packet) stamp = []
-levels_by effects.End stamp = []
-levels_by effects.Initial stamp = []
-levels_by effects.Sent stamp = []
-levels_by effects.Deactivate stamp = []
-levels_by effects.Closed stamp = []
-levels_by (effects.Signal packet) stamp = []
+levels_by effect stamp = []
 
 -- The count of the dropped after a turn with this effect: a packet that came at an automatic input is dropped, with its tree.
 abbrev pub drops_by : Effect → ℕ → ℕ
 drops_by (effects.Signal packet) n = min (n + length (ids packet)) (2 ^ 64 - 1)
-drops_by (effects.Level level) n = n
-drops_by effects.Start n = n
-drops_by effects.ToClosing n = n
-drops_by (effects.Got packet) n = n
-drops_by effects.End n = n
-drops_by effects.Initial n = n
-drops_by effects.Sent n = n
-drops_by effects.Deactivate n = n
-drops_by effects.Closed n = n
+drops_by effect n = n
 
 -- The process wishes to receive, to send or to ask a level.
 abbrev pub WishesReceive : Stage → Type 0
@@ -112,8 +92,6 @@ IsClosing stage = (i : ℕ) × (stage ≡ stages.Closing i)
 
 -- The effect is one of the process's case: a packet that is got leaves the hands sound, a packet that is sent has left them, and a level is below 65,536.
 abbrev pub IsEffectFor : {K : Type 0} → Process K → Option Kind → Effect → Type 0
-IsEffectFor x leaving effects.Start = (leaving ≡ None) × (x.stage ≡ stages.Idle)
-IsEffectFor x leaving effects.ToClosing = (leaving ≡ None) × (x.stage ≡ stages.Idle)
 IsEffectFor x leaving (effects.Got packet) = (leaving ≡ None) × WishesReceive x.stage × Sound (with_packet x.held packet)
 IsEffectFor x leaving effects.End = (leaving ≡ None) × WishesReceive x.stage
 IsEffectFor x leaving effects.Initial = (leaving ≡ None) × WishesText x
@@ -121,23 +99,19 @@ IsEffectFor x leaving effects.Sent = (kind : Kind) × (leaving ≡ Some kind) ×
 IsEffectFor x leaving (effects.Level n) = (leaving ≡ None) × WishesLevel x.stage × (n < 65536)
 IsEffectFor x leaving effects.Deactivate = (leaving ≡ None) × (x.stage ≡ stages.Wishing wishes.Deactivate)
 IsEffectFor x leaving effects.Closed = (leaving ≡ None) × IsClosing x.stage
+IsEffectFor x leaving effects.Start = (leaving ≡ None) × (x.stage ≡ stages.Idle)
+IsEffectFor x leaving effects.ToClosing = (leaving ≡ None) × (x.stage ≡ stages.Idle)
 IsEffectFor x leaving (effects.Signal packet) = (leaving ≡ None) × (x.stage ≡ stages.Idle)
 
 -- The id of the packet that the process at this stage wishes to send, if it wishes to send one.
 abbrev pub id_wished : Wish → Option ℕ
 id_wished (wishes.Send port id) = Some id
-id_wished (wishes.Receive port) = None
-id_wished (wishes.Level port) = None
-id_wished wishes.Deactivate = None
+id_wished wish = None
 
 -- The packet that it wishes to send.
 abbrev pub id_sent : Stage → Option ℕ
 id_sent (stages.Wishing wish) = id_wished wish
-id_sent stages.Idle = None
-id_sent (stages.Told answer) = None
-id_sent (stages.Closing i) = None
-id_sent stages.Ended = None
-id_sent (stages.Failed cause) = None
+id_sent stage = None
 
 -- The body takes a turn with this effect and stamp: the process and the count of the dropped change as it does, the stamp and the level number, if there
 -- is one, are added.

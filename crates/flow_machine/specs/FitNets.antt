@@ -1,9 +1,7 @@
 -- What holds of each net.
 use Rattle.flow_limits.specs.declared.TheConstants.{PROCESS_LIMIT}
-use Rattle.std.specs.Prelude.{◌≡◌, ℕ, ◌<◌, ◌≤◌, Bool, List, length, None, Some, slice_get}
-use Rattle.flow_packet.specs.Held.{Held}
-use Rattle.flow_component.specs.declared.Answer.{Answer}
-use Rattle.flow_component.specs.declared.Shape.{Shape}
+use Rattle.std.specs.Prelude.{◌≡◌, ℕ, ◌<◌, ◌≤◌, List, length, None, Some, slice_get}
+use Rattle.flow_component.specs.Laws.{Rules}
 use Rattle.flow_model.specs.States.{From, State, output_at}
 use Rattle.flow_model.specs.Stands.{ChannelShown, StandsForOpen}
 use Rattle.flow_model.specs.Fit.{Fit}
@@ -17,9 +15,9 @@ pub record IsWiredBody {K : Type 0} (channels : ℕ) (b : BodyValue K) : Type 0 
   pub outputs : (o c : ℕ) → output_at b.process o ≡ Some c → c < channels
 
 -- A net stands for some state of the machine in which all is well, and its bodies remember all turns that were made, each with a stamp.
-pub record FitNet {K : Type 0} (shape_of : K → Shape) (uses : K → ℕ → Bool) (ready : K → Held → Answer → Type 0) (net : NetValue K) : Type 0 where
+pub record FitNet {K : Type 0} (rules : Rules K) (net : NetValue K) : Type 0 where
   pub state : State K
-  pub fit : Fit shape_of uses ready state
+  pub fit : Fit rules state
   pub stands : StandsForOpen (shown_net net) state
   pub log : List Logged
   pub logs : Logs log net
@@ -31,6 +29,6 @@ pub record FitNet {K : Type 0} (shape_of : K → Shape) (uses : K → ℕ → Bo
   pub counted : (p : ℕ) (b : BodyValue K) → slice_get net.bodies p ≡ Some b → length b.stamps ≡ b.process.turns
 
 -- What holds of each net: that, and its connections are those of its bodies and channels, as a valid plan has them.
-pub record IsNet {K : Type 0} (shape_of : K → Shape) (uses : K → ℕ → Bool) (ready : K → Held → Answer → Type 0) (net : NetValue K) : Type 0 where
-  pub fit : FitNet shape_of uses ready net
+pub record IsNet {K : Type 0} (rules : Rules K) (net : NetValue K) : Type 0 where
+  pub fit : FitNet rules net
   pub planned : IsPlanned net

@@ -3,9 +3,7 @@ use Rattle.flow_limits.specs.declared.TheConstants.{CAPACITY_LIMIT, CONNECTION_L
 use Rattle.std.specs.Prelude.{◌≡◌, ℕ, ◌+◌, ◌<◌, ◌≤◌, ◌==◌, if◌then◌else◌, nat_le, nat_lt, Bool, true, false, List, map, filter, take, length, flat_map, sum_by, count_by, Option, Some, None, slice_get, slice_index, option_and_then}
 use Rattle.flow_packet.specs.Tree.{Tree, kind_of, all_ids}
 use Rattle.flow_packet.specs.Ids.{times}
-use Rattle.flow_packet.specs.Held.{Held}
-use Rattle.flow_component.specs.declared.Answer.{Answer}
-use Rattle.flow_component.specs.declared.Shape.{Shape}
+use Rattle.flow_component.specs.Laws.{Rules}
 use Rattle.flow_plan.specs.declared.plan.Sender.{Sender}
 use Rattle.flow_plan.specs.declared.plan.Connection.{Connection}
 use Rattle.flow_model.specs.declared.Stage.{Stage}
@@ -58,9 +56,9 @@ levels_under levels stamp = filter (λ (level : ℕ × ℕ). level.0 == stamp) l
 
 -- A body that is process p: it has that number; its component fits it and is ready, and its wish can be granted; its hands are within their limit; no
 -- packet is leaving it; it has as many stamps as turns, in order; and its level numbers are, stamp after stamp, those that it was told.
-pub record IsPiece {K : Type 0} (shape_of : K → Shape) (uses : K → ℕ → Bool) (ready : K → Held → Answer → Type 0) (p : ℕ) (b : BodyValue K) : Type 0 where
-  pub good : GoodProcess ready p b.process
-  pub fit : FitProcess shape_of uses b.process
+pub record IsPiece {K : Type 0} (rules : Rules K) (p : ℕ) (b : BodyValue K) : Type 0 where
+  pub good : GoodProcess rules p b.process
+  pub fit : FitProcess rules b.process
   pub few : length b.process.held.packets ≤ HANDS_LIMIT
   pub whole : b.leaving ≡ None
   pub turns : length b.stamps ≡ b.process.turns
@@ -85,21 +83,16 @@ outlet_place outputs o = length (outlets_from 0 (take o outputs))
 
 -- A process at this stage still has to close its connected output number j.
 abbrev pub closes_later : ℕ → Stage → Bool
-closes_later j stages.Idle = true
-closes_later j (stages.Told answer) = true
-closes_later j (stages.Wishing wish) = true
 closes_later j (stages.Closing i) = nat_le i j
 closes_later j stages.Ended = false
 closes_later j (stages.Failed cause) = false
+closes_later j stage = true
 
 -- It has that, or has failed and may have left it open.
 abbrev pub leaves_open : ℕ → Stage → Bool
-leaves_open j stages.Idle = true
-leaves_open j (stages.Told answer) = true
-leaves_open j (stages.Wishing wish) = true
 leaves_open j (stages.Closing i) = nat_le i j
 leaves_open j stages.Ended = false
-leaves_open j (stages.Failed cause) = true
+leaves_open j stage = true
 
 -- Whether a process is so at the place of an output among its connected ones; where there is no process it isn't.
 abbrev pub is_so_at : {K : Type 0} → (ℕ → Stage → Bool) → ℕ → Option (Process K) → Bool
@@ -133,9 +126,9 @@ pub record IsChannelOf {K : Type 0} (net : NetValue K) (x : Connection) (k : Cha
 -- Pieces that may be joined to a net: they are those of a valid plan; each body is its process, and each channel its connection's; the stamps of all
 -- bodies together are the numbers below the number of turns, each once; no id is twice in the hands of all bodies and in all channels, trees
 -- followed; each that is there was made; and of the packets that were made as many were dropped as aren't there.
-pub record Joins {K : Type 0} (shape_of : K → Shape) (uses : K → ℕ → Bool) (ready : K → Held → Answer → Type 0) (net : NetValue K) : Type 0 where
+pub record Joins {K : Type 0} (rules : Rules K) (net : NetValue K) : Type 0 where
   pub planned : IsPlanned net
-  pub bodies : (p : ℕ) (b : BodyValue K) → slice_get net.bodies p ≡ Some b → IsPiece shape_of uses ready p b
+  pub bodies : (p : ℕ) (b : BodyValue K) → slice_get net.bodies p ≡ Some b → IsPiece rules p b
   pub channels : (c : ℕ) (x : Connection) (k : ChannelShown) → slice_get net.connections c ≡ Some x → slice_get net.channels c ≡ Some k → IsChannelOf net x k
   pub stamps : (n : ℕ) → sum_by (λ (b : BodyValue K). times n b.stamps) net.bodies ≡ (if nat_lt n (turns_made net) then 1 else 0)
   pub once : (id : ℕ) → places_count net id ≤ 1

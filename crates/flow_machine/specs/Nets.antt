@@ -10,7 +10,7 @@ use Rattle.flow_model.specs.declared.Stage.{Stage}
 use Rattle.flow_model.specs.declared.Stage.TheVariants as stages
 use Rattle.flow_model.specs.declared.Block.{Block}
 use Rattle.flow_model.specs.States.{Process, output_at}
-use Rattle.flow_model.specs.Events.{Event, Starts, Finishes, Gets, Takes_text, Hears_end, Sends, Learns, Sleeps, Closes, Signals, Look, event_from}
+use Rattle.flow_model.specs.Events.{Event, Learns, Look, event_from}
 use Rattle.flow_model.specs.Turns.{process_after}
 use Rattle.flow_model.specs.Verdicts.{block_of, exact_level}
 use Rattle.flow_model.specs.Stands.{ChannelShown, look_shown, dropped_after, shown_after, all_shown_after}
@@ -29,15 +29,7 @@ looks_of channels = map look_shown channels
 -- The level numbers that a turn with this stamp adds.
 abbrev pub levels_told : Event → ℕ → List (ℕ × ℕ)
 levels_told (Learns port level) stamp = (stamp, level) ∷ []
-levels_told Starts stamp = []
-levels_told Finishes stamp = []
-levels_told (Gets port c packet) stamp = []
-levels_told (Takes_text port text) stamp = []
-levels_told (Hears_end port) stamp = []
-levels_told (Sends port c packet) stamp = []
-levels_told Sleeps stamp = []
-levels_told (Closes output c) stamp = []
-levels_told (Signals c packet) stamp = []
+levels_told event stamp = []
 
 -- A body takes the turn that is this event, with this stamp: its process and the count of the dropped change as the machine says, and it remembers the
 -- stamp, and the number of a level.
@@ -120,14 +112,7 @@ is_full channel = nat_le channel.capacity (length channel.packets)
 -- A process at this stage asks for a level.
 abbrev pub is_asking : Stage → Bool
 is_asking (stages.Wishing (wishes.Level port)) = true
-is_asking (stages.Wishing (wishes.Receive port)) = false
-is_asking (stages.Wishing (wishes.Send port id)) = false
-is_asking (stages.Wishing wishes.Deactivate) = false
-is_asking stages.Idle = false
-is_asking (stages.Told answer) = false
-is_asking (stages.Closing i) = false
-is_asking stages.Ended = false
-is_asking (stages.Failed cause) = false
+is_asking stage = false
 
 -- It wishes to learn a level.
 abbrev pub asks_level : Stage → Type 0

@@ -1,7 +1,7 @@
 -- What is told of a net in which nobody has anything left to do.
 use Rattle.std.specs.Prelude.{◌≡◌, ℕ, List, All, Some, slice_get}
 use Rattle.flow_model.specs.States.{State}
-use Rattle.flow_model.specs.Schedules.{IsThoughtStage}
+use Rattle.flow_model.specs.Stages.{IsThoughtStage}
 use Rattle.flow_model.specs.Verdicts.{Quiet}
 use Rattle.flow_model.specs.Stands.{StandsForOpen}
 use Rattle.flow_machine.specs.Thoughts.{IsUnset}

@@ -1,9 +1,6 @@
 -- What one thread does with a net: turns of each process in turn, until none has one.
 use Rattle.std.specs.Prelude.{◌≡◌, ℕ, ◌+◌, ◌<◌, Bool, true, false, List, length, None, Some, slice_get, slice_set, [], ◌∷◌}
-use Rattle.flow_packet.specs.Held.{Held}
-use Rattle.flow_component.specs.declared.Answer.{Answer}
-use Rattle.flow_component.specs.declared.Shape.{Shape}
-use Rattle.flow_component.specs.Laws.{Outcome}
+use Rattle.flow_component.specs.Laws.{Rules}
 use Rattle.flow_model.specs.States.{State}
 use Rattle.flow_model.specs.Events.{Event, event_from}
 use Rattle.flow_model.specs.Schedules.{Journal, no_turns, SettlesAll, WorksLead, Step, Reaches}
@@ -18,19 +15,19 @@ use Rattle.flow_machine.specs.Thoughts.{SettlesBody, KeepsTurns, IsSet, IsUnset}
 use Rattle.flow_machine.specs.Logs.{Logged, journal_of, Remembers, turns_made}
 
 -- Each fit state that a net stood for goes on in this way to one that it stands for afterwards.
-abbrev pub GoesOn : {K : Type 0} → (K → Shape) → (K → ℕ → Bool) → (K → Held → Answer → Type 0) → (State K → State K → Type 0) → NetValue K → NetValue K → Type 0
-GoesOn {K} shape_of uses ready way old new = (s : State K) → Fit shape_of uses ready s → StandsForOpen (shown_net old) s → (s' : State K) × way s s' × Fit shape_of uses ready s' × StandsForOpen (shown_net new) s'
+abbrev pub GoesOn : {K : Type 0} → Rules K → (State K → State K → Type 0) → NetValue K → NetValue K → Type 0
+GoesOn {K} rules way old new = (s : State K) → Fit rules s → StandsForOpen (shown_net old) s → (s' : State K) × way s s' × Fit rules s' × StandsForOpen (shown_net new) s'
 
 -- A net goes on by these turns, the first of which has stamp n: its bodies remember them, beside what they remembered, its states go on in this
 -- way, and its connections stay.
-pub record GoesBy {K : Type 0} (shape_of : K → Shape) (uses : K → ℕ → Bool) (ready : K → Held → Answer → Type 0) (way : Journal → State K → State K → Type 0) (old : NetValue K) (n : ℕ) (log : List Logged) (new : NetValue K) : Type 0 where
+pub record GoesBy {K : Type 0} (rules : Rules K) (way : Journal → State K → State K → Type 0) (old : NetValue K) (n : ℕ) (log : List Logged) (new : NetValue K) : Type 0 where
   pub remembers : Remembers n old.bodies log new.bodies
-  pub states : GoesOn shape_of uses ready (way (journal_of log)) old new
+  pub states : GoesOn rules (way (journal_of log)) old new
   pub connections : new.connections ≡ old.connections
 
 -- The same by some turns, after which m turns have been made.
-abbrev pub Goes : {K : Type 0} → (K → Shape) → (K → ℕ → Bool) → (K → Held → Answer → Type 0) → (Journal → State K → State K → Type 0) → NetValue K → ℕ → NetValue K → ℕ → Type 0
-Goes shape_of uses ready way old n new m = (log : List Logged) × (m ≡ n + length log) × GoesBy shape_of uses ready way old n log new
+abbrev pub Goes : {K : Type 0} → Rules K → (Journal → State K → State K → Type 0) → NetValue K → ℕ → NetValue K → ℕ → Type 0
+Goes rules way old n new m = (log : List Logged) × (m ≡ n + length log) × GoesBy rules way old n log new
 
 -- Process p has no turn, whatever number a level turn would see.
 abbrev pub HasNoTurnIn : {K : Type 0} → NetValue K → ℕ → Type 0
@@ -42,11 +39,11 @@ MakesTurn old p stamp true new = (event : Event) × NetTurn old p (level_of old 
 MakesTurn old p stamp false new = HasNoTurnIn old p × (new ≡ old)
 
 -- The pending work of process p is done, if there was any, and it is set.
-pub record SettlesNet {K : Type 0} (next : K → Held → Answer → Outcome K → Type 0) (old : NetValue K) (p : ℕ) (new : NetValue K) : Type 0 where
+pub record SettlesNet {K : Type 0} (rules : Rules K) (old : NetValue K) (p : ℕ) (new : NetValue K) : Type 0 where
   pub before : BodyValue K
   pub after : BodyValue K
   pub there : slice_get old.bodies p ≡ Some before
-  pub settles : SettlesBody next before after
+  pub settles : SettlesBody rules before after
   pub set : IsSet after
   pub keeps : KeepsTurns before after
   pub bodies : new.bodies ≡ slice_set old.bodies p after
@@ -74,41 +71,41 @@ pub record IsFirstUnset {K : Type 0} (bodies : List (BodyValue K)) (p : ℕ) : T
   pub below : SetBelow p bodies
 
 -- Turns of p alone; a burst of p; a pass over the processes below p; passes that have turns.
-abbrev pub turns_of : {K : Type 0} → (K → Held → Answer → Outcome K → Type 0) → ℕ → Journal → State K → State K → Type 0
-turns_of next p journal s s' = TurnsOf next p s journal.turns journal.seen s'
+abbrev pub turns_of : {K : Type 0} → Rules K → ℕ → Journal → State K → State K → Type 0
+turns_of rules p journal s s' = TurnsOf rules p s journal.turns journal.seen s'
 
 -- Turns of one process until it has none.
-abbrev pub burst_of : {K : Type 0} → (K → Held → Answer → Outcome K → Type 0) → ℕ → Journal → State K → State K → Type 0
-burst_of next p journal s s' = Burst next p s journal s'
+abbrev pub burst_of : {K : Type 0} → Rules K → ℕ → Journal → State K → State K → Type 0
+burst_of rules p journal s s' = Burst rules p s journal s'
 
 -- A pass over the first n processes.
-abbrev pub pass_below : {K : Type 0} → (K → Held → Answer → Outcome K → Type 0) → ℕ → Journal → State K → State K → Type 0
-pass_below next n journal s s' = PassBelow next n s journal s'
+abbrev pub pass_below : {K : Type 0} → Rules K → ℕ → Journal → State K → State K → Type 0
+pass_below rules n journal s s' = PassBelow rules n s journal s'
 
 -- Passes, each with a turn.
-abbrev pub some_passes : {K : Type 0} → (K → Held → Answer → Outcome K → Type 0) → Journal → State K → State K → Type 0
-some_passes next journal s s' = (passes : List Journal) × (journal ≡ joined passes) × Passes next s passes s'
+abbrev pub some_passes : {K : Type 0} → Rules K → Journal → State K → State K → Type 0
+some_passes rules journal s s' = (passes : List Journal) × (journal ≡ joined passes) × Passes rules s passes s'
 
 -- Works of some processes, without a turn; all works that were to come.
-abbrev pub some_works : {K : Type 0} → (K → Held → Answer → Outcome K → Type 0) → Journal → State K → State K → Type 0
-some_works next journal s s' = (journal ≡ no_turns) × ((works : List ℕ) × WorksLead next s works s')
+abbrev pub some_works : {K : Type 0} → Rules K → Journal → State K → State K → Type 0
+some_works rules journal s s' = (journal ≡ no_turns) × ((works : List ℕ) × WorksLead rules s works s')
 
 -- The pending works, process by process.
-abbrev pub all_settled : {K : Type 0} → (K → Held → Answer → Outcome K → Type 0) → Journal → State K → State K → Type 0
-all_settled next journal s s' = (journal ≡ no_turns) × SettlesAll next s s'
+abbrev pub all_settled : {K : Type 0} → Rules K → Journal → State K → State K → Type 0
+all_settled rules journal s s' = (journal ≡ no_turns) × SettlesAll rules s s'
 
 -- A round robin: the pending works are done, and then each process takes turns until it has none, round and round, until no process has one.
-abbrev pub round_robin : {K : Type 0} → (K → Held → Answer → Outcome K → Type 0) → Journal → State K → State K → Type 0
-round_robin {K} next journal s s' = (t : State K) × SettlesAll next s t × RoundRobin next t journal s' × Quiet s'
+abbrev pub round_robin : {K : Type 0} → Rules K → Journal → State K → State K → Type 0
+round_robin {K} rules journal s s' = (t : State K) × SettlesAll rules s t × RoundRobin rules t journal s' × Quiet s'
 
 -- Turns and works in some order, of which the turns are this journal.
-abbrev pub reached : {K : Type 0} → (K → Held → Answer → Outcome K → Type 0) → Journal → State K → State K → Type 0
-reached next journal s s' = (steps : List Step) × (journal ≡ steps_journal steps) × Reaches next s steps s'
+abbrev pub reached : {K : Type 0} → Rules K → Journal → State K → State K → Type 0
+reached rules journal s s' = (steps : List Step) × (journal ≡ steps_journal steps) × Reaches rules s steps s'
 
 -- A net goes on by turns and works in some order, and has the same processes.
-pub record ReachesNet {K : Type 0} (shape_of : K → Shape) (uses : K → ℕ → Bool) (ready : K → Held → Answer → Type 0) (next : K → Held → Answer → Outcome K → Type 0) (old new : NetValue K) : Type 0 where
+pub record ReachesNet {K : Type 0} (rules : Rules K) (old new : NetValue K) : Type 0 where
   pub len : length new.bodies ≡ length old.bodies
-  pub goes : Goes shape_of uses ready (reached next) old (turns_made old) new (turns_made new)
+  pub goes : Goes rules (reached rules) old (turns_made old) new (turns_made new)
 
 -- A run stopped for want of memory: no process was starved and nothing was done, or this one was, the first one that isn't set.
 abbrev pub StopsAt : {K : Type 0} → NetValue K → NetValue K → List ℕ → Type 0

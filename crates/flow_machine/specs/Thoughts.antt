@@ -2,18 +2,17 @@
 use Rattle.std.specs.Prelude.{◌≡◌, ◌⊎◌, ℕ, ◌<◌, true, List, Option, None, slice_get}
 use Rattle.flow_packet.specs.Tree.{Tree}
 use Rattle.flow_packet.specs.Hands.{IsAtRoot}
-use Rattle.flow_packet.specs.Held.{Held}
 use Rattle.flow_component.specs.declared.Answer.{Answer}
 use Rattle.flow_component.specs.declared.Wish.{Wish}
 use Rattle.flow_component.specs.declared.Wish.TheVariants as wishes
-use Rattle.flow_component.specs.Laws.{Outcome, held_after}
+use Rattle.flow_component.specs.Laws.{Rules, Outcome, held_after}
 use Rattle.flow_component.specs.Resumes.{drops_between, dropped_count}
 use Rattle.flow_model.specs.declared.Stage.{Stage}
 use Rattle.flow_model.specs.declared.Stage.TheVariants as stages
 use Rattle.flow_model.specs.States.{Process}
+use Rattle.flow_model.specs.Stages.{HasNotFailed, IsThoughtStage}
 use Rattle.flow_model.specs.Events.{is_fresh}
 use Rattle.flow_model.specs.Works.{worked}
-use Rattle.flow_model.specs.Schedules.{IsThoughtStage}
 use Rattle.flow_machine.specs.declared.answers.Thought.{Thought}
 use Rattle.flow_machine.specs.declared.answers.Thought.TheVariants as thoughts
 use Rattle.flow_machine.specs.Values.{BodyValue}
@@ -22,18 +21,12 @@ use Rattle.flow_machine.specs.Texts.{text_taken}
 -- The initial text at the input that a wish names.
 abbrev pub text_wished : {K : Type 0} → Process K → Wish → Option (List ℕ)
 text_wished x (wishes.Receive port) = text_taken (is_fresh x port.0) (slice_get x.inputs port.0)
-text_wished x (wishes.Send port id) = None
-text_wished x (wishes.Level port) = None
-text_wished x wishes.Deactivate = None
+text_wished x wish = None
 
 -- The initial text that the next turn of a process takes, if it takes one.
 abbrev pub next_text : {K : Type 0} → Process K → Stage → Option (List ℕ)
 next_text x (stages.Wishing wish) = text_wished x wish
-next_text x stages.Idle = None
-next_text x (stages.Told answer) = None
-next_text x (stages.Closing i) = None
-next_text x stages.Ended = None
-next_text x (stages.Failed cause) = None
+next_text x stage = None
 
 -- The body has the room of its next turn: a place for a packet, for a stamp and for a level number, and a copy of the initial text that it would receive.
 pub record HasRoom {K : Type 0} (body : BodyValue K) : Type 0 where
@@ -44,12 +37,12 @@ pub record HasRoom {K : Type 0} (body : BodyValue K) : Type 0 where
 
 -- A body at this stage is set: no work is to come, and it has the room of its next turn, or is over and its component was told its end.
 abbrev pub IsSetAt : {K : Type 0} → BodyValue K → Stage → Type 0
-IsSetAt body stages.Idle = HasRoom body
 IsSetAt body (stages.Told answer) = ⊥
-IsSetAt body (stages.Wishing wish) = HasRoom body
-IsSetAt body (stages.Closing i) = HasRoom body
 IsSetAt body stages.Ended = body.told_end ≡ true
 IsSetAt body (stages.Failed cause) = body.told_end ≡ true
+IsSetAt body stages.Idle = HasRoom body
+IsSetAt body (stages.Wishing wish) = HasRoom body
+IsSetAt body (stages.Closing i) = HasRoom body
 
 -- A body is set for its next turn, which then takes no memory.
 abbrev pub IsSet : {K : Type 0} → BodyValue K → Type 0
@@ -60,11 +53,11 @@ abbrev pub IsUnset : {K : Type 0} → BodyValue K → Type 0
 IsUnset body = IsSet body → ⊥
 
 -- The pending work was done, with some outcome that the component may come to.
-pub record WorkedBody {K : Type 0} (next : K → Held → Answer → Outcome K → Type 0) (old new : BodyValue K) : Type 0 where
+pub record WorkedBody {K : Type 0} (rules : Rules K) (old new : BodyValue K) : Type 0 where
   pub answer : Answer
   pub outcome : Outcome K
   pub told : old.process.stage ≡ stages.Told answer
-  pub comes : next old.process.component old.process.held answer outcome
+  pub comes : rules.next old.process.component old.process.held answer outcome
   pub process : new.process ≡ worked old.process outcome
   pub dropped : new.dropped ≡ dropped_count old.dropped (drops_between old.process.held (held_after outcome))
 
@@ -74,24 +67,19 @@ pub record SameBody {K : Type 0} (old new : BodyValue K) : Type 0 where
   pub dropped : new.dropped ≡ old.dropped
 
 -- No work is pending any more: there was none, or it was done.
-abbrev pub SettlesBody : {K : Type 0} → (K → Held → Answer → Outcome K → Type 0) → BodyValue K → BodyValue K → Type 0
-SettlesBody next old new = (IsThoughtStage old.process.stage × SameBody old new) ⊎ WorkedBody next old new
+abbrev pub SettlesBody : {K : Type 0} → Rules K → BodyValue K → BodyValue K → Type 0
+SettlesBody rules old new = (IsThoughtStage old.process.stage × SameBody old new) ⊎ WorkedBody rules old new
 
--- The process at this stage hasn't failed.
-abbrev pub HasNotFailed : Stage → Type 0
-HasNotFailed stages.Idle = Unit {0}
-HasNotFailed (stages.Told answer) = Unit {0}
-HasNotFailed (stages.Wishing wish) = Unit {0}
-HasNotFailed (stages.Closing i) = Unit {0}
-HasNotFailed stages.Ended = Unit {0}
-HasNotFailed (stages.Failed cause) = ⊥
+-- Where a work is pending, the gate was passed for it: by this process, after so many turns of its own.
+abbrev pub PassesFirst : {K : Type 0} → (ℕ → ℕ → Type 0) → BodyValue K → Type 0
+PassesFirst has_passed body = (answer : Answer) → body.process.stage ≡ stages.Told answer → has_passed body.process.held.maker body.process.turns
 
 -- What a thought comes to. After a wish and after a failure the pending work is done, and the body is set; without memory either nothing changed that
 -- is shown, or the work is done and only the room is missing, and the body isn't set: so the process hasn't ended.
-abbrev pub Thinks : {K : Type 0} → (K → Held → Answer → Outcome K → Type 0) → BodyValue K → Thought → BodyValue K → Type 0
-Thinks next old thoughts.Wishing new = SettlesBody next old new × IsSet new × HasNotFailed new.process.stage
-Thinks next old (thoughts.Failed cause) new = SettlesBody next old new × IsSet new × (new.process.stage ≡ stages.Failed cause)
-Thinks next old thoughts.NoMemory new = (SameBody old new ⊎ WorkedBody next old new) × HasNotFailed new.process.stage × IsUnset new
+abbrev pub Thinks : {K : Type 0} → Rules K → BodyValue K → Thought → BodyValue K → Type 0
+Thinks rules old thoughts.Wishing new = SettlesBody rules old new × IsSet new × HasNotFailed new.process.stage
+Thinks rules old (thoughts.Failed cause) new = SettlesBody rules old new × IsSet new × (new.process.stage ≡ stages.Failed cause)
+Thinks rules old thoughts.NoMemory new = (SameBody old new ⊎ WorkedBody rules old new) × HasNotFailed new.process.stage × IsUnset new
 
 -- The same of a body whose work is done: it takes the room of its next turn.
 abbrev pub Prepares : {K : Type 0} → BodyValue K → Thought → BodyValue K → Type 0
@@ -108,6 +96,4 @@ pub record KeepsTurns {K : Type 0} (old new : BodyValue K) : Type 0 where
 -- A packet that the wish sends is at the root.
 abbrev pub SendsHeld : List Tree → Wish → Type 0
 SendsHeld packets (wishes.Send port id) = IsAtRoot packets id
-SendsHeld packets (wishes.Receive port) = Unit {0}
-SendsHeld packets (wishes.Level port) = Unit {0}
-SendsHeld packets wishes.Deactivate = Unit {0}
+SendsHeld packets wish = Unit {0}

@@ -6,7 +6,7 @@ ghost use Rattle.std.specs.List.{list_any};
 ghost use Rattle.flow_packet.specs.Tree.{id_of, kind_of};
 ghost use Rattle.flow_packet.specs.Held.{held_of, without_packet};
 ghost use Rattle.flow_packet.specs.Hands.{packet_at};
-ghost use Rattle.flow_model.specs.Schedules.{IsThoughtStage};
+ghost use Rattle.flow_model.specs.Stages.{IsThoughtStage};
 ghost use Rattle.flow_model.specs.declared.Stage.TheVariants.{Wishing};
 ghost use Rattle.flow_machine.specs.Answers.{status_of, case_of};
 ghost use Rattle.flow_machine.specs.Effects.{WishesSend, id_sent};
@@ -28,8 +28,6 @@ mod think;
 
 /// A process: it runs a component.
 pub struct Body<K: Component> {
-    /// The number of the process, for the gate.
-    number: u32,
     stage: Stage,
     has_run: bool,
     component: K,
@@ -64,7 +62,7 @@ impl<K: Component> Model for Body<K> {
 
     ghost view = { body_shown K.state_of K.told_end };
 
-    ghost invariant = { λ b. IsBody K.shape_of K.uses K.ready (process_shown K.state_of b) b.leaving };
+    ghost invariant = { λ b. IsBody K.rules (process_shown K.state_of b) b.leaving };
 }
 
 /// The packet that is to be sent at this stage.
@@ -262,7 +260,6 @@ impl<K: Component> Body<K> {
     /// Gives it up, and spends what it holds.
     pub fn discard(self) {
         let Body {
-            number: _,
             stage: _,
             has_run: _,
             component: _,

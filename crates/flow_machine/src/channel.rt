@@ -141,15 +141,6 @@ impl Channel {
         self.open_senders -= 1;
     }
 
-    /// Begins again with these open senders, as if so many packets had been put and taken.
-    pub fn restart(&mut self, senders: u32, takes: u64)
-        requires { self.old.packets ≡ [] }
-        ensures { self.new ≡ record self.old { open_senders = senders; puts = takes; takes = takes } }
-    {
-        self.open_senders = senders;
-        self.puts = takes;
-    }
-
     /// Spends the packets that are in it. Only calls that give up a whole run use it.
     pub fn discard(self) {
         let Channel {

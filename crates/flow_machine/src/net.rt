@@ -1,10 +1,12 @@
 //! A network that runs.
 ghost use Rattle.std.specs.Prelude.{◌≡◌, ◌<◌, ◌≤◌, length, IfSome, None, Some, slice_get, sum_by};
+ghost use Rattle.flow_limits.specs.declared.TheConstants.{RUN_LIMIT};
 ghost use Rattle.flow_model.specs.Events.{Event};
-ghost use Rattle.flow_model.specs.Schedules.{IsThoughtStage};
+ghost use Rattle.flow_model.specs.Stages.{IsThoughtStage};
 ghost use Rattle.flow_machine.specs.Nets.{level_of, looks_of, block_at, is_asking, asks_level, IsAt, NetTurn, TurnsNet, SeesNet};
 ghost use Rattle.flow_machine.specs.Inlets.{watches_signal};
 ghost use Rattle.flow_machine.specs.NetSteps.{IsSetIn, ThinksNet, GoesByTurn};
+ghost use Rattle.flow_machine.specs.Thoughts.{PassesFirst};
 ghost use Rattle.flow_machine.specs.Logs.{turns_made, HasLog};
 
 use self::begin::{discard_bodies, discard_channels};
@@ -14,7 +16,7 @@ use crate::channel::Channel;
 use flow_component::{Component, Gate, Wish};
 use flow_limits::PROCESS_LIMIT;
 use flow_model::{Block, Stage};
-use flow_net::Connection;
+use flow_plan::Connection;
 use std::marker::Model;
 
 mod begin;
@@ -46,12 +48,12 @@ impl<K: Component> Model for Net<K> {
 
     ghost view = { λ n. net_with n.connections.items n.bodies.items n.channels.items };
 
-    ghost invariant = { λ n. IsNet K.shape_of K.uses K.ready (net_with n.connections.items n.bodies.items n.channels.items) };
+    ghost invariant = { λ n. IsNet K.rules (net_with n.connections.items n.bodies.items n.channels.items) };
 }
 
 /// The turns of these processes together.
 fn count_turns<K: Component>(bodies: &[Body<K>]) -> u32
-    requires { sum_by (λ b. b.process.turns) bodies.now ≤ 1073741824 }
+    requires { sum_by (λ b. b.process.turns) bodies.now ≤ RUN_LIMIT }
     ensures turns { result ≡ sum_by (λ b. b.process.turns) bodies.now }
     ensures stamps { result ≡ sum_by (λ b. length b.stamps) bodies.now }
 {
@@ -96,7 +98,8 @@ impl<K: Component> Net<K> {
     #[inline(always)]
     pub fn think<G: Gate>(&mut self, process: u32, gate: &G) -> Thought
         requires { process < length self.old.bodies }
-        ensures { ThinksNet K.next self.old process result self.new }
+        ensures thinks { ThinksNet K.rules self.old process result self.new }
+        ensures passed { IfSome (slice_get self.old.bodies process) (PassesFirst (G.has_passed gate.now)) }
     {
         self.bodies[process as usize].think(gate)
     }
@@ -108,8 +111,8 @@ impl<K: Component> Net<K> {
         requires set { IsSetIn self.old process }
         requires next { stamp ≡ turns_made self.old }
         ensures turns { TurnsNet self.old process (level_of self.old process) stamp result self.new }
-        ensures goes { (event : Event) → NetTurn self.old process (level_of self.old process) event stamp self.new → GoesByTurn K.shape_of K.uses K.ready self.old process event self.new }
-        ensures few { turns_made self.new ≤ 1073741824 }
+        ensures goes { (event : Event) → NetTurn self.old process (level_of self.old process) event stamp self.new → GoesByTurn K.rules self.old process event self.new }
+        ensures few { turns_made self.new ≤ RUN_LIMIT }
     {
         turns::turn_of(&mut self.bodies, &mut self.channels, process, stamp)
     }
@@ -136,7 +139,7 @@ impl<K: Component> Net<K> {
         requires next { stamp ≡ turns_made self.old }
         requires asks { IsAt self.old process asks_level }
         ensures sees { SeesNet self.old process seen stamp result self.new }
-        ensures goes { (event : Event) → NetTurn self.old process seen event stamp self.new → GoesByTurn K.shape_of K.uses K.ready self.old process event self.new }
+        ensures goes { (event : Event) → NetTurn self.old process seen event stamp self.new → GoesByTurn K.rules self.old process event self.new }
     {
         levels::seen_of(&mut self.bodies, &self.channels, process, stamp, seen)
     }
@@ -161,7 +164,7 @@ impl<K: Component> Net<K> {
     /// How many turns were made.
     pub fn turns_made(&self) -> u32
         ensures turns { result ≡ turns_made self.now }
-        ensures few { result ≤ 1073741824 }
+        ensures few { result ≤ RUN_LIMIT }
         ensures stamps { result ≡ sum_by (λ b. length b.stamps) self.now.bodies }
         ensures log { HasLog self.now }
     {

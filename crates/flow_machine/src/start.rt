@@ -6,7 +6,7 @@ ghost use Rattle.flow_machine.specs.Inlets.{input_shown};
 
 use crate::inlet::Inlet;
 use flow_items::Text;
-use flow_net::Process;
+use flow_plan::Process;
 use std::alloc::{AllocError, Global};
 
 /// As many as a process has inputs or outputs.

@@ -5,7 +5,7 @@ ghost use Rattle.flow_machine.specs.Wires.{ports_of, AreRows, noted, all_noted};
 
 use crate::start::places;
 use flow_items::Items;
-use flow_net::{Plan, Process, Sender};
+use flow_plan::{Plan, Process, Sender};
 use std::alloc::{AllocError, Global};
 
 // How many inputs or outputs a process has, the automatic one among them.

@@ -27,7 +27,8 @@ use Rattle.flow_plan.specs.declared.plan.Process.{Process as PlanProcess}
 use Rattle.flow_plan.specs.declared.plan.Connection.{Connection as PlanConnection}
 use Rattle.flow_meanings.specs.Batches.{HasKind, HasNumber}
 use Rattle.flow_determinate.specs.Standard.{AreFirstOf}
-use Rattle.flow_meanings.proofs.Chaining.{get-there, any-there}
+use Rattle.flow_model.proofs.Lists.{get-there}
+use Rattle.flow_meanings.proofs.Chaining.{any-there}
 
 -- digits have no space among them
 split-digits : (ds : List ℕ) → AllDigits 10 ds → slice_split (λ b. nat_eq b 32) ds ≡ ds ∷ []

@@ -12,7 +12,7 @@ use Rattle.flow_component.specs.Runs.{text_packet}
 use Rattle.flow_parts.specs.Meanings.{rendered_all, words_of}
 use Rattle.flow_catalogue.specs.declared.standard.Std.{Std}
 use Rattle.flow_catalogue.specs.declared.standard.Std.TheVariants as components
-use Rattle.flow_catalogue.specs.Std.{std_shape, std_uses, StdReady, StdNext}
+use Rattle.flow_catalogue.specs.Std.{std_shape, std_rules}
 use Rattle.flow_model.specs.States.{Input, From, is_sender}
 use Rattle.flow_plan.specs.declared.plan.Sender.{Sender}
 use Rattle.flow_model.proofs.Start.{port-at}
@@ -26,6 +26,7 @@ use Rattle.flow_meanings.specs.Means.{is_looper}
 use Rattle.flow_meanings.specs.Composition.{Sending, coming, activated, inputs_of, arriving, leaving, Composes, wrote_in}
 use Rattle.flow_model.specs.Rising.{LeadsOn}
 use Rattle.flow_model.proofs.Rising.{finished-leads_on}
+use Rattle.flow_model.proofs.Lists.{get-there}
 use Rattle.flow_meanings.specs.Chains.{RunsComponent, LeadsTo, TelegramMeans}
 use Rattle.flow_determinate.specs.Standard.{IsDeterminate}
 use Rattle.flow_meanings.specs.Outcomes.{AreSettled, IsUnmerged, OneOutcome, SameFiles, PlanSameFiles}
@@ -74,12 +75,6 @@ map-same : {A B : Type 0} (f g : A → B) (xs : List A) → ((i : ℕ) (x : A) �
 map-same f g [] same = refl
 map-same f g (x ∷ xs) same = λ j. same 0 x refl j ∷ map-same f g xs (λ i y at. same (suc i) y at) j
 
--- What is within a list is there.
-pub get-there : {A : Type 0} (xs : List A) (c : ℕ) (d : A) → c < length xs → slice_get xs c ≡ Some (get_or xs c d)
-get-there [] c d l = absurd (omega arith)
-get-there (x ∷ xs) zero d l = refl
-get-there (x ∷ xs) (suc c) d l = get-there xs c d (omega arith)
-
 -- Where any passes a test, one that is there does.
 pub any-there : {A : Type 0} (test : A → Bool) (xs : List A) → list_any test xs ≡ true → (k : ℕ) × (y : A) × (slice_get xs k ≡ Some y) × (test y ≡ true)
 any-there {A} test [] is = absurd (cc)
@@ -93,7 +88,7 @@ no_connection : PlanConnection
 no_connection = record { receiver = 0; input = 0; capacity = 0; senders = [] }
 
 -- whoever sends to a connection is a process whose component has that output
-feeds : (plan : Plan) (ks : List Std) → StartsWell std_shape std_uses StdReady plan ks → (p o c : ℕ) → sends_at plan p o ≡ Some c → ((component : Std) → slice_get ks p ≡ Some component → o < (std_shape component).outputs) → (component : Std) × RunsComponent plan ks p component × (o < (std_shape component).outputs)
+feeds : (plan : Plan) (ks : List Std) → StartsWell std_rules plan ks → (p o c : ℕ) → sends_at plan p o ≡ Some c → ((component : Std) → slice_get ks p ≡ Some component → o < (std_shape component).outputs) → (component : Std) × RunsComponent plan ks p component × (o < (std_shape component).outputs)
 feeds plan ks well p o c sends own =
     let sender : Sender = record { process = p; output = o } in
     let pos = position-Some (λ (x : PlanConnection). list_any (is_sender sender) x.senders) plan.connections c no_connection sends in
@@ -108,7 +103,7 @@ feeds plan ks well p o c sends own =
     (component, record { process = q.0; there = there; here = here }, own component here)
 
 -- in a network without merges and without a way back, what arrives at a process is the same in each composition
-module _ (plan : Plan) (ks : List Std) (wrote other : ℕ → List ℕ) (well : StartsWell std_shape std_uses StdReady plan ks) (settled : AreSettled ks) (unmerged : IsUnmerged plan) (order : LeadsOn plan) (m : Composes plan ks wrote) (n : Composes plan ks other) where
+module _ (plan : Plan) (ks : List Std) (wrote other : ℕ → List ℕ) (well : StartsWell std_rules plan ks) (settled : AreSettled ks) (unmerged : IsUnmerged plan) (order : LeadsOn plan) (m : Composes plan ks wrote) (n : Composes plan ks other) where
   abbrev Same : ℕ → Type 0
   Same c = map (λ (sending : Sending). sending.content) (m.on c) ≡ map (λ (sending : Sending). sending.content) (n.on c)
 
@@ -175,7 +170,7 @@ one-outcome plan ks wrote other well settled unmerged order m n p bytes runs =
 -- Two compositions of such a network have the same files.
 pub same-files : SameFiles
 same-files plan ks journal other s t well first settled unmerged leads finished leads' finished' p bytes runs =
-    let order = finished-leads_on std_shape std_uses StdReady StdNext plan ks journal s well leads finished in
+    let order = finished-leads_on std_rules plan ks journal s well leads finished in
     one-outcome plan ks (wrote_in s) (wrote_in t) well settled unmerged order (finished-composes plan ks journal s well first leads finished) (finished-composes plan ks other t well first leads' finished') p bytes runs
 
 -- A plan that merges and balances nothing

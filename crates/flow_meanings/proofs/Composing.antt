@@ -12,8 +12,8 @@ use Rattle.flow_component.specs.Happenings.{Happening}
 use Rattle.flow_component.specs.Runs.{got, sent, text_packet}
 use Rattle.flow_catalogue.specs.declared.standard.Std.{Std}
 use Rattle.flow_catalogue.specs.declared.standard.Std.TheVariants as components
-use Rattle.flow_catalogue.specs.Std.{std_shape, std_uses, StdReady, StdNext, written_of}
-use Rattle.flow_catalogue.specs.StdLaws.{std_obeys, std_stays_ready, std_steady}
+use Rattle.flow_catalogue.specs.Std.{std_shape, std_uses, StdReady, written_of, std_rules}
+use Rattle.flow_catalogue.specs.StdLaws.{std_lawful}
 use Rattle.flow_model.specs.declared.Stage.TheVariants as stages
 use Rattle.flow_model.specs.States.{Input, From, Text, Process, Put, State, is_sender, output_at, got_at, sent_at}
 use Rattle.flow_plan.specs.declared.plan.Sender.{Sender}
@@ -46,21 +46,21 @@ some-contents [] some none = some refl
 some-contents (put ∷ puts) some none = cc
 
 -- what a schedule leads to, from a start of standard components
-module _ (plan : Plan) (components : List Std) (journal : Journal) (s : State Std) (well : StartsWell std_shape std_uses StdReady plan components) (leads : Leads StdNext (start_of plan components) journal s) where
-  told : AllTell StdReady StdNext components s
-  told = AllTell-leads StdReady StdNext std_shape std_uses std_obeys std_stays_ready components (start_of plan components) journal s (Valid-start StdReady std_shape std_uses plan components well) (AllTell-start StdReady StdNext plan components) leads
+module _ (plan : Plan) (components : List Std) (journal : Journal) (s : State Std) (well : StartsWell std_rules plan components) (leads : Leads std_rules (start_of plan components) journal s) where
+  told : AllTell std_rules components s
+  told = AllTell-leads std_rules std_lawful components (start_of plan components) journal s (Valid-start std_rules plan components well) (AllTell-start std_rules plan components) leads
 
-  valid : Valid StdReady s
-  valid = Valid-leads StdReady StdNext std_shape std_uses std_obeys std_stays_ready (start_of plan components) journal s (Valid-start StdReady std_shape std_uses plan components well) leads
+  valid : Valid std_rules s
+  valid = Valid-leads std_rules std_lawful (start_of plan components) journal s (Valid-start std_rules plan components well) leads
 
   order : InOrder s
   order = valid.in_order
 
   kept : SameWires (start_of plan components) s × PutBySenders s
-  kept = wires-leads StdNext plan components journal s leads
+  kept = wires-leads std_rules plan components journal s leads
 
   gots : EndedGotAll s
-  gots = got-all StdReady StdNext components s order told
+  gots = got-all std_rules components s order told
 
   -- a process as it was at the start, and as it is
   was : (p : ℕ) (x : Process Std) → slice_get s.kept.processes p ≡ Some x → (z : Process Std) × (slice_get (processes_at_start plan 0 plan.processes components) p ≡ Some z) × (wires z ≡ wires x)
@@ -78,13 +78,13 @@ module _ (plan : Plan) (components : List Std) (journal : Journal) (s : State St
       let began = begins plan 0 plan.processes components p z.0 component z.1 at in
       let own : z.0.component ≡ component = ap (λ (y : Process Std). y.component) began.1 in
       let fit = well.fit p z.0 z.1 in
-      let run = Tells-run StdReady StdNext components s.kept.channels p (s.past.told p) x component at (turns-most x (valid.each p x there).turns) (told p x there) in
+      let run = Tells-run std_rules components s.kept.channels p (s.past.told p) x component at (turns-most x (valid.each p x there).turns) (told p x there) in
       record {
         run = run;
         ended = ended;
         fits = ap (λ (k : Std). (std_shape k).inputs) (sym own) ∙ fit.inputs ∙ ap (λ (w : Wires). length w.inputs) z.2;
         can_start = subst (λ (k : Std). CanStart (StdReady k)) own fit.can_start;
-        woken = λ some. elim (all-woken StdReady StdNext std_shape std_uses std_obeys std_stays_ready plan components journal s well leads p x there (begins-starts (s.past.told p) (ended-begins component p (s.past.told p) x run ended some))) [
+        woken = λ some. elim (all-woken std_rules std_lawful plan components journal s well leads p x there (begins-starts (s.past.told p) (ended-begins component p (s.past.told p) x run ended some))) [
           | inl none ↦ inl none
           | inr gets ↦ inr (record {
             input = gets.input;
@@ -265,7 +265,7 @@ finished-composes plan components journal s well first leads finished = record {
       where
         sends-own : (put : Put) (x : Process Std) → slice_get s.kept.processes put.sender.process ≡ Some x → output_at x put.sender.output ≡ Some c → (k : ℕ) → slice_get (s.past.put c) k ≡ Some put → slice_get components put.sender.process ≡ Some component → put.sender.output < (std_shape component).outputs
         sends-own put x there output k here at =
-            let owns = owns-leads std_shape std_uses StdReady StdNext std_obeys std_stays_ready std_steady std-own plan components well journal s leads put.sender.process x there in
+            let owns = owns-leads std_rules std_lawful std-own plan components well journal s leads put.sender.process x there in
             let z = was plan components journal s well leads put.sender.process x there in
             let began = begins plan 0 plan.processes components put.sender.process z.0 component z.1 at in
             let same : z.0.component ≡ component = ap (λ (y : Process Std). y.component) began.1 in
@@ -324,7 +324,7 @@ finished-composes plan components journal s well first leads finished = record {
         by : (found : Option ℕ) → sends_at plan p o ≡ found → leaving (put_on s) (record { process = p; output = o }) found ≡ []
         by None is = refl
         by (Some c) is =
-            let z = sends-now std_shape std_uses StdReady StdNext plan components journal s well leads p o c is in
+            let z = sends-now std_rules plan components journal s well leads p o c is in
             sym (ap (leaving (put_on s) (record { process = p; output = o })) is) ∙ sym (leaves p z.0 o c z.1 z.2) ∙ none
 
     each : (p : ℕ) (x : PlanProcess) (component : Std) → slice_get plan.processes p ≡ Some x → slice_get components p ≡ Some component

@@ -2,7 +2,7 @@
 use Rattle.std.proofs.Common.{◌≡◌, ℕ, List, [], ◌∷◌, ◌++◌, map, filter, refl, ap, ◌∙◌, Bool, true, false, cond, nat_eq}
 use Rattle.std.specs.List.{flat_map}
 use Rattle.flow_packet.specs.Tree.{content}
-use Rattle.flow_component.specs.Happenings.{Happening, Started, Received, Ended, Sent, Learned}
+use Rattle.flow_component.specs.Happenings.{Happening, Received, Sent}
 use Rattle.flow_component.specs.Runs.{content_got, content_sent, got, sent}
 use Rattle.flow_plan.specs.declared.plan.Sender.{Sender}
 use Rattle.flow_model.specs.States.{Entry, Past, Put, State, is_sender, got_by, sent_by, got_at, sent_at}
@@ -13,26 +13,20 @@ use Rattle.flow_meanings.specs.Composition.{Sending}
 
 -- contents of entries, read off what was told
 got-step : (port : ℕ) (h : Happening) → contents (got_by port h) ≡ content_got port h
-got-step port Started = refl
 got-step port (Received i t) = by (nat_eq port i)
   where
     by : (b : Bool) → contents (cond b (Rattle.flow_model.specs.States.entry_of t ∷ []) []) ≡ cond b (content t ∷ []) []
     by true = refl
     by false = refl
-got-step port (Ended i) = refl
-got-step port (Sent o t) = refl
-got-step port (Learned o level) = refl
+got-step port h = refl
 
 sent-step : (port : ℕ) (h : Happening) → contents (sent_by port h) ≡ content_sent port h
-sent-step port Started = refl
-sent-step port (Received i t) = refl
-sent-step port (Ended i) = refl
 sent-step port (Sent o t) = by (nat_eq port o)
   where
     by : (b : Bool) → contents (cond b (Rattle.flow_model.specs.States.entry_of t ∷ []) []) ≡ cond b (content t ∷ []) []
     by true = refl
     by false = refl
-sent-step port (Learned o level) = refl
+sent-step port h = refl
 
 map-flat : {A B C : Type 0} (g : B → C) (f : A → List B) (k : A → List C) → ((x : A) → map g (f x) ≡ k x) → (xs : List A) → map g (flat_map f xs) ≡ flat_map k xs
 map-flat g f k same [] = refl

@@ -4,98 +4,91 @@ use Rattle.flow_packet.specs.Held.{Held, without_packet, with_made, next_id}
 use Rattle.flow_packet.specs.Hands.{text_at, kind_at}
 use Rattle.flow_packet.specs.declared.packet.Kind.{Kind}
 use Rattle.flow_packet.specs.declared.packet.Kind.TheVariants.{Normal, Open, Close}
-use Rattle.flow_component.specs.declared.Answer.{Answer}
 use Rattle.flow_component.specs.declared.Wish.{Wish}
 use Rattle.flow_component.specs.declared.Wish.TheVariants as wishes
 use Rattle.flow_component.specs.declared.Fail.TheVariants.{TreeDepth}
-use Rattle.flow_component.specs.declared.Shape.{Shape}
-use Rattle.flow_component.specs.Laws.{Outcome, Wishes, Fails, Obeys, IsAllowed}
-use Rattle.flow_component.specs.Outcomes.{IsAtHand}
-use Rattle.flow_component.specs.Ports.{one_to_none, one_to_one, uses_none, uses_first, receive_first, send_first}
+use Rattle.flow_component.specs.Laws.{Rules, Lawful, Outcome, Wishes, Fails, IsAllowed}
+use Rattle.flow_component.specs.Ports.{receive_first, send_first}
 use Rattle.flow_component.specs.Happenings.{Happening, Started, Received, Ended, Sent, Learned, answer_of}
 use Rattle.flow_component.specs.Runs.{Poise, fresh, Steps, Runs, EndedRun, IsEnd, HeardEnd}
-use Rattle.flow_parts.specs.WriteLines.{WriteLinesNext}
-use Rattle.flow_parts.specs.WriteLinesLaws.{write_lines_obeys}
+use Rattle.flow_parts.specs.WriteLines.{write_lines_rules}
+use Rattle.flow_parts.specs.WriteLinesLaws.{write_lines_lawful}
 use Rattle.flow_parts.specs.declared.words.Words.{Words}
 use Rattle.flow_parts.specs.declared.words.Words.TheVariants as words_parts
 use Rattle.flow_parts.specs.Text.{word_start, word_end}
-use Rattle.flow_parts.specs.Words.{sends_piece, takes, goes_on, WordsNext, WordsReady}
-use Rattle.flow_parts.specs.WordsLaws.{words_obeys}
+use Rattle.flow_parts.specs.Words.{sends_piece, takes, goes_on, words_rules}
+use Rattle.flow_parts.specs.WordsLaws.{words_lawful}
 use Rattle.flow_parts.specs.Brackets as brackets
-use Rattle.flow_parts.specs.Brackets.{turns, bracket_of, BracketsNext, BracketsReady}
-use Rattle.flow_parts.specs.BracketsLaws.{brackets_obeys}
+use Rattle.flow_parts.specs.Brackets.{turns, bracket_of, brackets_rules}
+use Rattle.flow_parts.specs.BracketsLaws.{brackets_lawful}
 use Rattle.flow_parts.specs.declared.fill.FillPlace.{FillPlace}
 use Rattle.flow_parts.specs.declared.fill.FillPlace.TheVariants as places
 use Rattle.flow_parts.specs.FillState.{FillState}
 use Rattle.flow_parts.specs.Fill as fill
-use Rattle.flow_parts.specs.Fill.{fill_next, FillNext, FillReady}
-use Rattle.flow_parts.specs.FillLaws.{fill_obeys}
+use Rattle.flow_parts.specs.Fill.{fill_rules}
+use Rattle.flow_parts.specs.FillLaws.{fill_lawful}
 use Rattle.flow_parts.specs.Meanings.{fresh_fill}
 use Rattle.flow_parts.specs.Count as count
-use Rattle.flow_parts.specs.Count.{CountState, CountNext, CountReady, count_shape, count_uses}
-use Rattle.flow_parts.specs.CountLaws.{count_obeys}
+use Rattle.flow_parts.specs.Count.{CountState, count_rules}
+use Rattle.flow_parts.specs.CountLaws.{count_lawful}
 use Rattle.flow_parts.specs.Meanings.{fresh_count}
 use Rattle.flow_packet.specs.Tree.{Tree, id_of}
 use Rattle.flow_packet.specs.Hands.{chain_of_root, height_at}
 use Rattle.flow_streams.specs.declared.copy.CopyPlace.{CopyPlace}
 use Rattle.flow_streams.specs.declared.copy.CopyPlace.TheVariants as copy_places
 use Rattle.flow_streams.specs.Copy as copy
-use Rattle.flow_streams.specs.Copy.{CopyState, CopyNext, CopyReady, copy_shape, copy_uses}
-use Rattle.flow_streams.specs.CopyLaws.{copy_obeys}
+use Rattle.flow_streams.specs.Copy.{CopyState, copy_rules}
+use Rattle.flow_streams.specs.CopyLaws.{copy_lawful}
 use Rattle.flow_streams.specs.declared.load_balance.LoadPlace.{LoadPlace}
 use Rattle.flow_streams.specs.declared.load_balance.LoadPlace.TheVariants as load_places
 use Rattle.flow_streams.specs.LoadBalance as load
-use Rattle.flow_streams.specs.LoadBalance.{LoadState, LoadNext, LoadReady, load_shape, load_uses}
-use Rattle.flow_streams.specs.LoadBalanceLaws.{load_obeys}
+use Rattle.flow_streams.specs.LoadBalance.{LoadState, load_rules}
+use Rattle.flow_streams.specs.LoadBalanceLaws.{load_lawful}
 use Rattle.flow_streams.specs.declared.bundle.Bundle.{Bundle}
 use Rattle.flow_streams.specs.declared.bundle.Bundle.TheVariants as bundle_parts
 use Rattle.flow_streams.specs.Bundle as bundle
-use Rattle.flow_streams.specs.Bundle.{BundleNext, BundleReady, items}
-use Rattle.flow_streams.specs.BundleLaws.{bundle_obeys}
+use Rattle.flow_streams.specs.Bundle.{items, bundle_rules}
+use Rattle.flow_streams.specs.BundleLaws.{bundle_lawful}
 use Rattle.flow_streams.specs.declared.unbundle.Unbundle.{Unbundle}
 use Rattle.flow_streams.specs.declared.unbundle.Unbundle.TheVariants as unbundle_parts
 use Rattle.flow_streams.specs.Unbundle as unbundle
-use Rattle.flow_streams.specs.Unbundle.{UnbundleNext, UnbundleReady}
-use Rattle.flow_streams.specs.UnbundleLaws.{unbundle_obeys}
-use Rattle.flow_streams.specs.Discard.{DiscardNext}
-use Rattle.flow_streams.specs.DiscardLaws.{discard_obeys}
-use Rattle.flow_streams.specs.Hoard.{HoardNext}
-use Rattle.flow_streams.specs.HoardLaws.{hoard_obeys}
-use Rattle.flow_streams.specs.Passthru.{passes, PassthruNext}
-use Rattle.flow_streams.specs.PassthruLaws.{passthru_obeys}
+use Rattle.flow_streams.specs.Unbundle.{unbundle_rules}
+use Rattle.flow_streams.specs.UnbundleLaws.{unbundle_lawful}
+use Rattle.flow_streams.specs.Discard.{discard_rules}
+use Rattle.flow_streams.specs.DiscardLaws.{discard_lawful}
+use Rattle.flow_streams.specs.Hoard.{hoard_rules}
+use Rattle.flow_streams.specs.HoardLaws.{hoard_lawful}
+use Rattle.flow_streams.specs.Passthru.{passes, passthru_rules}
+use Rattle.flow_streams.specs.PassthruLaws.{passthru_lawful}
 
 -- where only an end leads to a deactivation, or what is on the way to one since an end
-module _ {K : Type 0} (ready : K → Held → Answer → Type 0) (next : K → Held → Answer → Outcome K → Type 0) (shape_of : K → Shape) (uses : K → ℕ → Bool) (one : (component : K) → (shape_of component).inputs ≡ 1)
-    (obeys : (component : K) (held : Held) (answer : Answer) (outcome : Outcome K) → ready component held answer → next component held answer outcome → Obeys (shape_of component) (uses component) held outcome)
+module _ {K : Type 0} (rules : Rules K) (one : (component : K) → (rules.shape component).inputs ≡ 1)
+    (lawful : Lawful rules)
     (Leaves : K → Type 0)
-    (start : (p : Poise K) (q : Poise K) → Steps ready next p Started q → (q.wish ≡ wishes.Deactivate) ⊎ Leaves q.component → ⊥)
-    (got : (p : Poise K) (port : ℕ) (t : _) (q : Poise K) → Steps ready next p (Received port t) q → (q.wish ≡ wishes.Deactivate) ⊎ Leaves q.component → ⊥)
-    (sent : (p : Poise K) (port : ℕ) (t : _) (q : Poise K) → Steps ready next p (Sent port t) q → (q.wish ≡ wishes.Deactivate) ⊎ Leaves q.component → Leaves p.component)
-    (learned : (p : Poise K) (port level : ℕ) (q : Poise K) → Steps ready next p (Learned port level) q → (q.wish ≡ wishes.Deactivate) ⊎ Leaves q.component → ⊥) where
+    (start : (p : Poise K) (q : Poise K) → Steps rules p Started q → (q.wish ≡ wishes.Deactivate) ⊎ Leaves q.component → ⊥)
+    (got : (p : Poise K) (port : ℕ) (t : _) (q : Poise K) → Steps rules p (Received port t) q → (q.wish ≡ wishes.Deactivate) ⊎ Leaves q.component → ⊥)
+    (sent : (p : Poise K) (port : ℕ) (t : _) (q : Poise K) → Steps rules p (Sent port t) q → (q.wish ≡ wishes.Deactivate) ⊎ Leaves q.component → Leaves p.component)
+    (learned : (p : Poise K) (port level : ℕ) (q : Poise K) → Steps rules p (Learned port level) q → (q.wish ≡ wishes.Deactivate) ⊎ Leaves q.component → ⊥) where
   -- it receives from its one input alone
   abbrev FromFirst : Wish → Type 0
   FromFirst (wishes.Receive port) = port.0 ≡ 0
-  FromFirst (wishes.Send port id) = Unit {0}
-  FromFirst (wishes.Level port) = Unit {0}
-  FromFirst wishes.Deactivate = Unit {0}
+  FromFirst wish = Unit {0}
 
-  from-first : (component : K) (held : Held) (wish : Wish) → IsAllowed (shape_of component) (uses component) held wish → FromFirst wish
+  from-first : (component : K) (held : Held) (wish : Wish) → IsAllowed (rules.shape component) (rules.uses component) held wish → FromFirst wish
   from-first component held (wishes.Receive port) a = omega (arith, a, one component)
-  from-first component held (wishes.Send port id) a = tt
-  from-first component held (wishes.Level port) a = tt
-  from-first component held wishes.Deactivate a = tt
+  from-first component held wish a = tt
 
-  stays-first : (p : Poise K) (e : Happening) (q : Poise K) → Steps ready next p e q → FromFirst q.wish
-  stays-first p e q s = from-first p.component q.held q.wish (obeys p.component s.held (answer_of e) (Wishes q.component q.held q.wish) s.is_ready s.comes_to).1
+  stays-first : (p : Poise K) (e : Happening) (q : Poise K) → Steps rules p e q → FromFirst q.wish
+  stays-first p e q s = from-first p.component q.held q.wish (lawful.obeys p.component s.held (answer_of e) (Wishes q.component q.held q.wish) s.is_ready s.comes_to).1
 
-  heard-step : (p : Poise K) (e : Happening) (q : Poise K) → FromFirst p.wish → Steps ready next p e q → (q.wish ≡ wishes.Deactivate) ⊎ Leaves q.component → IsEnd 0 e ⊎ Leaves p.component
+  heard-step : (p : Poise K) (e : Happening) (q : Poise K) → FromFirst p.wish → Steps rules p e q → (q.wish ≡ wishes.Deactivate) ⊎ Leaves q.component → IsEnd 0 e ⊎ Leaves p.component
   heard-step p Started q a s l = absurd (start p q s l)
   heard-step p (Received port t) q a s l = absurd (got p port t q s l)
   heard-step p (Ended port) q a s l = (let z : port ≡ 0 = rw s.grants.0 at a in inl z)
   heard-step p (Sent port t) q a s l = inr (sent p port t q s l)
   heard-step p (Learned port level) q a s l = absurd (learned p port level q s l)
 
-  heard-run : (es : List Happening) (p q : Poise K) → FromFirst p.wish → Runs ready next p es q → q.wish ≡ wishes.Deactivate → es ≢ [] → HeardEnd 0 es ⊎ Leaves p.component
+  heard-run : (es : List Happening) (p q : Poise K) → FromFirst p.wish → Runs rules p es q → q.wish ≡ wishes.Deactivate → es ≢ [] → HeardEnd 0 es ⊎ Leaves p.component
   heard-run [] p q a r d some = absurd (some refl)
   heard-run (e ∷ []) p q a r d some =
       let w : r.0.wish ≡ wishes.Deactivate = ap (λ (u : Poise K). u.wish) (sym r.2) ∙ d in
@@ -107,7 +100,7 @@ module _ {K : Type 0} (ready : K → Held → Answer → Type 0) (next : K → H
         | inr l ↦ elim (heard-step p e m a r.1 (inr l)) [ inl h ↦ inl (inl h) | inr k ↦ inr k ]
       ]
 
-  pub end-heard : (component : K) (told : List Happening) → EndedRun ready next component told → (Leaves component → ⊥) → told ≢ [] → HeardEnd 0 told
+  pub end-heard : (component : K) (told : List Happening) → EndedRun rules component told → (Leaves component → ⊥) → told ≢ [] → HeardEnd 0 told
   end-heard component told run not some = elim (heard-run told (fresh component run.maker) run.last tt run.runs run.idle some) [ inl h ↦ h | inr l ↦ absurd (not l) ]
 
 -- Nothing of it leaves before an end.
@@ -115,36 +108,36 @@ abbrev pub Never : {K : Type 0} → K → Type 0
 Never component = ⊥
 
 -- A WriteLines that has run and ended has heard the end of its input.
-pub write_lines-hears : (bytes : List ℕ) (told : List Happening) → EndedRun (λ (_ : List ℕ). IsAtHand) WriteLinesNext bytes told → told ≢ [] → HeardEnd 0 told
+pub write_lines-hears : (bytes : List ℕ) (told : List Happening) → EndedRun write_lines_rules bytes told → told ≢ [] → HeardEnd 0 told
 write_lines-hears bytes told run some =
-    end-heard (λ (_ : List ℕ). IsAtHand) WriteLinesNext (λ _. one_to_none) (λ _. uses_none) (λ _. refl) write_lines_obeys Never
+    end-heard write_lines_rules (λ _. refl) write_lines_lawful Never
     (λ p q s l. elim l [ inl d ↦ (let c : Wishes q.component q.held q.wish ≡ Wishes p.component s.held receive_first = s.comes_to in cc) | inr n ↦ n ])
     (λ p port t q s l. elim l [ inl d ↦ (let c = s.comes_to in let w : q.wish ≡ receive_first = cc in cc) | inr n ↦ n ])
     (λ p port t q s l. elim l [ inl d ↦ (let c : Wishes q.component q.held q.wish ≡ Wishes p.component s.held receive_first = s.comes_to in cc) | inr n ↦ n ])
     (λ p port level q s l. s.is_ready) bytes told run (λ n. n) some
 
 -- So has a Passthru.
-pub passthru-hears : {K : Type 0} (component : K) (told : List Happening) → EndedRun (λ (_ : K). IsAtHand) PassthruNext component told → told ≢ [] → HeardEnd 0 told
+pub passthru-hears : {K : Type 0} (component : K) (told : List Happening) → EndedRun passthru_rules component told → told ≢ [] → HeardEnd 0 told
 passthru-hears {K} component told run some =
-    end-heard (λ (_ : K). IsAtHand) PassthruNext (λ _. one_to_one) (λ _. uses_first) (λ _. refl) passthru_obeys Never
+    end-heard {K = K} passthru_rules (λ _. refl) passthru_lawful Never
     (λ p q s l. elim l [ inl d ↦ (let c : Wishes q.component q.held q.wish ≡ Wishes p.component s.held receive_first = s.comes_to in cc) | inr n ↦ n ])
     (λ p port t q s l. elim l [ inl d ↦ (let c = s.comes_to in let w : q.wish ≡ passes (answer_of (Received port t)) = cc in cc) | inr n ↦ n ])
     (λ p port t q s l. elim l [ inl d ↦ (let c : Wishes q.component q.held q.wish ≡ Wishes p.component s.held receive_first = s.comes_to in cc) | inr n ↦ n ])
     (λ p port level q s l. s.is_ready) component told run (λ n. n) some
 
 -- a Discard and a Hoard
-pub discard-hears : {K : Type 0} (component : K) (told : List Happening) → EndedRun (λ (_ : K). IsAtHand) DiscardNext component told → told ≢ [] → HeardEnd 0 told
+pub discard-hears : {K : Type 0} (component : K) (told : List Happening) → EndedRun discard_rules component told → told ≢ [] → HeardEnd 0 told
 discard-hears {K} component told run some =
-    end-heard (λ (_ : K). IsAtHand) DiscardNext (λ _. one_to_none) (λ _. uses_none) (λ _. refl) discard_obeys Never
+    end-heard {K = K} discard_rules (λ _. refl) discard_lawful Never
     (λ p q s l. elim l [ inl d ↦ (let c : Wishes q.component q.held q.wish ≡ Wishes p.component s.held receive_first = s.comes_to in cc) | inr n ↦ n ])
     (λ p port t q s l. elim l [ inl d ↦ (let c : Wishes q.component q.held q.wish ≡ Wishes p.component (without_packet s.held (Rattle.flow_packet.specs.Tree.id_of t)) receive_first = s.comes_to in cc) | inr n ↦ n ])
     (λ p port t q s l. elim l [ inl d ↦ (let c : Wishes q.component q.held q.wish ≡ Wishes p.component s.held receive_first = s.comes_to in cc) | inr n ↦ n ])
     (λ p port level q s l. s.is_ready) component told run (λ n. n) some
 
 -- So has a Hoard.
-pub hoard-hears : {K : Type 0} (component : K) (told : List Happening) → EndedRun (λ (_ : K). IsAtHand) HoardNext component told → told ≢ [] → HeardEnd 0 told
+pub hoard-hears : {K : Type 0} (component : K) (told : List Happening) → EndedRun hoard_rules component told → told ≢ [] → HeardEnd 0 told
 hoard-hears {K} component told run some =
-    end-heard (λ (_ : K). IsAtHand) HoardNext (λ _. one_to_none) (λ _. uses_none) (λ _. refl) hoard_obeys Never
+    end-heard {K = K} hoard_rules (λ _. refl) hoard_lawful Never
     (λ p q s l. elim l [ inl d ↦ (let c : Wishes q.component q.held q.wish ≡ Wishes p.component s.held receive_first = s.comes_to in cc) | inr n ↦ n ])
     (λ p port t q s l. elim l [ inl d ↦ (let c : Wishes q.component q.held q.wish ≡ Wishes p.component s.held receive_first = s.comes_to in cc) | inr n ↦ n ])
     (λ p port t q s l. elim l [ inl d ↦ (let c : Wishes q.component q.held q.wish ≡ Wishes p.component s.held receive_first = s.comes_to in cc) | inr n ↦ n ])
@@ -172,9 +165,9 @@ words-goes held words_parts.Waiting = λ d. cc
 words-goes held (words_parts.Splitting id taken) = words-piece held id (text_at held.packets id) taken
 
 -- So has a Words.
-pub words-hears : (component : Words) (told : List Happening) → EndedRun WordsReady WordsNext component told → told ≢ [] → HeardEnd 0 told
+pub words-hears : (component : Words) (told : List Happening) → EndedRun words_rules component told → told ≢ [] → HeardEnd 0 told
 words-hears component told run some =
-    end-heard WordsReady WordsNext (λ _. one_to_one) (λ _. uses_first) (λ _. refl) words_obeys Never
+    end-heard words_rules (λ _. refl) words_lawful Never
     (λ p q s l. elim l [ inl d ↦ (let c : Wishes q.component q.held q.wish ≡ Wishes words_parts.Waiting s.held receive_first = s.comes_to in cc) | inr n ↦ n ])
     (λ p port t q s l. elim l [ inl d ↦ subst GoesOn (sym s.comes_to) (words-takes s.held (Rattle.flow_packet.specs.Tree.id_of t) (kind_at s.held.packets (Rattle.flow_packet.specs.Tree.id_of t))) d | inr n ↦ n ])
     (λ p port t q s l. elim l [ inl d ↦ subst GoesOn (sym s.comes_to) (words-goes s.held p.component) d | inr n ↦ n ])
@@ -190,9 +183,9 @@ brackets-take component held id Open = λ d. cc
 brackets-take component held id Close = λ d. cc
 
 -- So has a Brackets.
-pub brackets-hears : {K : Type 0} (component : K) (told : List Happening) → EndedRun BracketsReady BracketsNext component told → told ≢ [] → HeardEnd 0 told
+pub brackets-hears : {K : Type 0} (component : K) (told : List Happening) → EndedRun brackets_rules component told → told ≢ [] → HeardEnd 0 told
 brackets-hears {K} component told run some =
-    end-heard {K = K} BracketsReady BracketsNext (λ _. one_to_one) (λ _. uses_first) (λ _. refl) brackets_obeys Never
+    end-heard {K = K} brackets_rules (λ _. refl) brackets_lawful Never
     (λ p q s l. elim l [ inl d ↦ subst GoesOn (sym s.comes_to) (λ e. cc) d | inr n ↦ n ])
     (λ p port t q s l. elim l [ inl d ↦ subst GoesOn (sym s.comes_to) (brackets-take p.component s.held (Rattle.flow_packet.specs.Tree.id_of t) (kind_at s.held.packets (Rattle.flow_packet.specs.Tree.id_of t))) d | inr n ↦ n ])
     (λ p port t q s l. elim l [ inl d ↦ subst GoesOn (sym s.comes_to) (λ e. cc) d | inr n ↦ n ])
@@ -245,9 +238,9 @@ fill-goes state held (places.Passing id) w = λ h. elim h [ inl d ↦ absurd (cc
 fill-goes state held places.Leaving w = λ h. w
 
 -- So has a Fill.
-pub fill-hears : (size : ℕ) (told : List Happening) → EndedRun FillReady FillNext (fresh_fill size) told → told ≢ [] → HeardEnd 0 told
+pub fill-hears : (size : ℕ) (told : List Happening) → EndedRun fill_rules (fresh_fill size) told → told ≢ [] → HeardEnd 0 told
 fill-hears size told run some =
-    end-heard FillReady FillNext (λ _. one_to_one) (λ _. uses_first) (λ _. refl) fill_obeys IsLeaving
+    end-heard fill_rules (λ _. refl) fill_lawful IsLeaving
     (λ p q s l. subst Stays (sym s.comes_to) (stays-waiting p.component receive_first s.is_ready.0 (λ d. cc)) l)
     (λ p port t q s l. subst Stays (sym s.comes_to) (fill-packet p.component s.held (Rattle.flow_packet.specs.Tree.id_of t) (kind_at s.held.packets (Rattle.flow_packet.specs.Tree.id_of t)) s.is_ready.0) l)
     (λ p port t q s l. subst (Left p.component) (sym s.comes_to) (fill-goes p.component s.held p.component.place refl) l)
@@ -267,9 +260,9 @@ copy-on state held copy_places.Waiting = λ d. cc
 copy-on state held (copy_places.Copying id output) = copy-goes state held id output
 
 -- So has a Copy.
-pub copy-hears : (component : CopyState) (told : List Happening) → EndedRun CopyReady CopyNext component told → told ≢ [] → HeardEnd 0 told
+pub copy-hears : (component : CopyState) (told : List Happening) → EndedRun copy_rules component told → told ≢ [] → HeardEnd 0 told
 copy-hears component told run some =
-    end-heard CopyReady CopyNext copy_shape copy_uses (λ _. refl) copy_obeys Never
+    end-heard copy_rules (λ _. refl) copy_lawful Never
     (λ p q s l. elim l [ inl d ↦ subst GoesOn (sym s.comes_to) (λ e. cc) d | inr n ↦ n ])
     (λ p port t q s l. elim l [ inl d ↦ subst GoesOn (sym s.comes_to) (copy-goes p.component s.held (id_of t) 0) d | inr n ↦ n ])
     (λ p port t q s l. elim l [ inl d ↦ subst GoesOn (sym s.comes_to) (copy-on p.component s.held p.component.place) d | inr n ↦ n ])
@@ -296,9 +289,9 @@ not-telling : (state : CountState) → state.leaving ≡ false → IsTelling sta
 not-telling state f l = let h : false ≡ true = sym f ∙ l in cc
 
 -- So has a Count.
-pub count-hears : (connected : Bool) (told : List Happening) → EndedRun CountReady CountNext (fresh_count connected) told → told ≢ [] → HeardEnd 0 told
+pub count-hears : (connected : Bool) (told : List Happening) → EndedRun count_rules (fresh_count connected) told → told ≢ [] → HeardEnd 0 told
 count-hears connected told run some =
-    end-heard CountReady CountNext (λ _. count_shape) count_uses (λ _. refl) count_obeys IsTelling
+    end-heard count_rules (λ _. refl) count_lawful IsTelling
     (λ p q s l. not-telling p.component s.is_ready.0 (subst (Counts p.component) (sym s.comes_to) (λ h. elim h [ inl d ↦ absurd (cc) | inr k ↦ k ]) l))
     (λ p port t q s l. not-telling p.component s.is_ready.0 (subst (Counts p.component) (sym s.comes_to) (count-goes p.component.connected (record p.component { number = count.one_more (kind_at s.held.packets (id_of t)) p.component.number }) s.held (id_of t)) l))
     (λ p port t q s l. subst (Counts p.component) (sym s.comes_to) (count-on p.component.leaving p.component s.held refl) l)
@@ -329,9 +322,9 @@ load-comes state held id zero = λ d. cc
 load-comes state held id (suc outer) = λ d. cc
 
 -- So has a LoadBalance.
-pub load-hears : (component : LoadState) (told : List Happening) → EndedRun LoadReady LoadNext component told → told ≢ [] → HeardEnd 0 told
+pub load-hears : (component : LoadState) (told : List Happening) → EndedRun load_rules component told → told ≢ [] → HeardEnd 0 told
 load-hears component told run some =
-    end-heard LoadReady LoadNext load_shape load_uses (λ _. refl) load_obeys Never
+    end-heard load_rules (λ _. refl) load_lawful Never
     (λ p q s l. elim l [ inl d ↦ subst GoesOn (sym s.comes_to) (λ e. cc) d | inr n ↦ n ])
     (λ p port t q s l. elim l [ inl d ↦ subst GoesOn (sym s.comes_to) (load-comes (record p.component { depth = load.depth_after (kind_at s.held.packets (id_of t)) p.component.depth }) s.held (id_of t) p.component.depth) d | inr n ↦ n ])
     (λ p port t q s l. elim l [ inl d ↦ subst GoesOn (sym s.comes_to) (λ e. cc) d | inr n ↦ n ])
@@ -360,9 +353,9 @@ bundle-takes (bundle_parts.Inside id depth) held packet Close = by (nat_lt 1 dep
     by false = λ d. cc
 
 -- So has a Bundle.
-pub bundle-hears : (component : Bundle) (told : List Happening) → EndedRun BundleReady BundleNext component told → told ≢ [] → HeardEnd 0 told
+pub bundle-hears : (component : Bundle) (told : List Happening) → EndedRun bundle_rules component told → told ≢ [] → HeardEnd 0 told
 bundle-hears component told run some =
-    end-heard BundleReady BundleNext (λ _. one_to_one) (λ _. uses_first) (λ _. refl) bundle_obeys Never
+    end-heard bundle_rules (λ _. refl) bundle_lawful Never
     (λ p q s l. elim l [ inl d ↦ subst GoesOn (sym s.comes_to) (λ e. cc) d | inr n ↦ n ])
     (λ p port t q s l. elim l [ inl d ↦ subst GoesOn (sym s.comes_to) (bundle-takes p.component s.held (id_of t) (kind_at s.held.packets (id_of t))) d | inr n ↦ n ])
     (λ p port t q s l. elim l [ inl d ↦ subst GoesOn (sym s.comes_to) (λ e. cc) d | inr n ↦ n ])
@@ -383,9 +376,9 @@ unbundle-on held unbundle_parts.Waiting = λ d. cc
 unbundle-on held (unbundle_parts.Unpacking id) = unbundle-unpacks held id (chain_of_root held.packets id items)
 
 -- So has an Unbundle.
-pub unbundle-hears : (component : Unbundle) (told : List Happening) → EndedRun UnbundleReady UnbundleNext component told → told ≢ [] → HeardEnd 0 told
+pub unbundle-hears : (component : Unbundle) (told : List Happening) → EndedRun unbundle_rules component told → told ≢ [] → HeardEnd 0 told
 unbundle-hears component told run some =
-    end-heard UnbundleReady UnbundleNext (λ _. one_to_one) (λ _. uses_first) (λ _. refl) unbundle_obeys Never
+    end-heard unbundle_rules (λ _. refl) unbundle_lawful Never
     (λ p q s l. elim l [ inl d ↦ subst GoesOn (sym s.comes_to) (λ e. cc) d | inr n ↦ n ])
     (λ p port t q s l. elim l [ inl d ↦ subst GoesOn (sym s.comes_to) (unbundle-opens s.held (id_of t) (chain_of_root s.held.packets (id_of t) items)) d | inr n ↦ n ])
     (λ p port t q s l. elim l [ inl d ↦ subst GoesOn (sym s.comes_to) (unbundle-on s.held p.component) d | inr n ↦ n ])

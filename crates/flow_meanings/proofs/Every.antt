@@ -46,22 +46,13 @@ some-fields text = omega (arith, length-map (slice_split (λ b. b == 32) text) n
 
 first-first : (kind : StdKind) (given : Given) (file : List ℕ) → IsFirst (first_component kind given file)
 first-first kinds.ReadLines given file = tt
-first-first kinds.WriteLines given file = refl
 first-first kinds.Passthru given file = tt
-first-first kinds.Words given file = refl
 first-first kinds.Fill given file = (_, refl)
 first-first kinds.Brackets given file = tt
-first-first kinds.Copy given file = refl
-first-first kinds.Concat given file = refl
 first-first kinds.Collate given file = (some-fields given.option, refl)
 first-first kinds.Discard given file = tt
-first-first kinds.Bundle given file = refl
-first-first kinds.Unbundle given file = refl
 first-first kinds.Hoard given file = tt
-first-first kinds.Count given file = refl
-first-first kinds.LoadBalance given file = refl
-first-first kinds.Select given file = refl
-first-first kinds.Update given file = refl
+first-first kind given file = refl
 
 -- the component of a process in its first state is so by its meaning too
 pub made-first : (plan : Network) (p : ℕ) (process : Process) (file : List ℕ) (component : Std) → IsMade plan p process file component → IsFirst component

@@ -3,20 +3,19 @@ use Rattle.std.proofs.Common.{◌≡◌, ◌≢◌, ℕ, zero, suc, ◌<◌, Lis
 use Rattle.std.specs.List.{flat_map, list_any}
 use Rattle.std.specs.Fmt.{decimal}
 use Rattle.flow_packet.specs.Tree.{Tree}
-use Rattle.flow_component.specs.Outcomes.{IsAtHand}
 use Rattle.flow_component.specs.Happenings.{Happening}
 use Rattle.flow_component.specs.Runs.{EndedRun, got, sent, text_packet, StartsBring, Wakes}
 use Rattle.flow_component.proofs.Texts.{text-brings, brings-more}
-use Rattle.flow_parts.specs.ReadLines.{reads, ReadLinesReady}
-use Rattle.flow_parts.specs.WriteLines.{writes}
+use Rattle.flow_parts.specs.ReadLines.{read_lines_rules}
+use Rattle.flow_parts.specs.WriteLines.{write_lines_rules}
 use Rattle.flow_parts.specs.declared.words.Words.{Words}
-use Rattle.flow_parts.specs.Words.{words_next, WordsReady, WordsNext}
+use Rattle.flow_parts.specs.Words.{words_rules}
 use Rattle.flow_parts.specs.FillState.{FillState}
-use Rattle.flow_parts.specs.Fill.{fill_next, FillReady, FillNext}
+use Rattle.flow_parts.specs.Fill.{fill_rules}
 use Rattle.flow_parts.specs.Filling.{Filling}
 use Rattle.flow_parts.specs.declared.brackets.Brackets.{Brackets}
-use Rattle.flow_parts.specs.Brackets.{brackets_next, BracketsReady}
-use Rattle.flow_parts.specs.Count.{CountState, count_next, CountReady, CountNext}
+use Rattle.flow_parts.specs.Brackets.{brackets_rules}
+use Rattle.flow_parts.specs.Count.{CountState, count_rules}
 use Rattle.flow_parts.specs.Meanings.{fresh_fill, fresh_count, rendered_all, words_of, bracketed, IsCounted, normals}
 use Rattle.flow_parts.proofs.ReadLinesStream.{read_lines_meaning}
 use Rattle.flow_parts.proofs.WriteLinesStream.{write_lines_meaning}
@@ -27,6 +26,7 @@ use Rattle.flow_parts.proofs.BracketsStream.{brackets_meaning}
 use Rattle.flow_parts.proofs.CountStream.{count_meaning}
 use Rattle.flow_catalogue.specs.declared.standard.Std.{Std}
 use Rattle.flow_catalogue.specs.declared.standard.Std.TheVariants as components
+use Rattle.flow_catalogue.specs.Components.{brackets_kind, count_kind, fill_kind, read_lines_kind, words_kind, write_lines_kind}
 use Rattle.flow_model.specs.States.{Input, From, Text, Process}
 use Rattle.flow_model.specs.Events.{is_connected}
 use Rattle.flow_model.specs.Runs.{IsConnectedAt}
@@ -35,8 +35,8 @@ use Rattle.flow_meanings.proofs.Over.{Over, Own, own, none-alone, single-ends, s
 use Rattle.flow_meanings.proofs.EndHeard.{write_lines-hears, words-hears, fill-hears, brackets-hears, count-hears}
 use Rattle.flow_meanings.proofs.Facts.{Facts}
 
-read_lines-own : (left : List (List ℕ)) (p : ℕ) (told : List Happening) (x : Process Std) → Over (components.ReadLines left) p told x → Own components.ReadLines ReadLinesReady (λ left held answer outcome. outcome ≡ reads held left) left told x
-read_lines-own left p told x over = own components.ReadLines ReadLinesReady (λ left held answer. reads held left) (λ component held answer r. r) (λ component held answer. refl) left p told x over
+read_lines-own : (left : List (List ℕ)) (p : ℕ) (told : List Happening) (x : Process Std) → Over (components.ReadLines left) p told x → Own components.ReadLines read_lines_rules left told x
+read_lines-own left p told x over = own components.ReadLines read_lines_kind (λ k. refl) left p told x over
 
 -- The facts of ReadLines.
 pub read_lines-facts : (left : List (List ℕ)) → Facts (components.ReadLines left)
@@ -52,8 +52,8 @@ read_lines-facts left = record {
     one y y' zero m n l = m ∙ sym n
     one y y' (suc o) m n l = absurd (omega arith)
 
-write_lines-own : (bytes : List ℕ) (p : ℕ) (told : List Happening) (x : Process Std) → Over (components.WriteLines bytes) p told x → Own components.WriteLines (λ (_ : List ℕ). IsAtHand) (λ component held answer outcome. outcome ≡ writes component held answer) bytes told x
-write_lines-own bytes p told x over = own components.WriteLines (λ (_ : List ℕ). IsAtHand) writes (λ component held answer r. r) (λ component held answer. refl) bytes p told x over
+write_lines-own : (bytes : List ℕ) (p : ℕ) (told : List Happening) (x : Process Std) → Over (components.WriteLines bytes) p told x → Own components.WriteLines write_lines_rules bytes told x
+write_lines-own bytes p told x over = own components.WriteLines write_lines_kind (λ k. refl) bytes p told x over
 
 -- The facts of WriteLines.
 pub write_lines-facts : (bytes : List ℕ) → Facts (components.WriteLines bytes)
@@ -70,24 +70,24 @@ pub by-one : (f : List Tree → List Tree) (x x' y y' : ℕ → List Tree) → (
 by-one f x x' y y' ins m n zero l = m ∙ ap f (ins 0) ∙ sym n
 by-one f x x' y y' ins m n (suc o) l = absurd (omega arith)
 
-words-own : (component : Words) (p : ℕ) (told : List Happening) (x : Process Std) → Over (components.Words component) p told x → Own components.Words WordsReady WordsNext component told x
-words-own component p told x over = own components.Words WordsReady words_next (λ component held answer r. r) (λ component held answer. refl) component p told x over
+words-own : (component : Words) (p : ℕ) (told : List Happening) (x : Process Std) → Over (components.Words component) p told x → Own components.Words words_rules component told x
+words-own component p told x over = own components.Words words_kind (λ k. refl) component p told x over
 
 -- The facts of Words.
 pub words-facts : (component : Words) → Facts (components.Words component)
 words-facts component = record {
-  means = λ p told x first over. words_meaning told (subst (λ (w : Words). EndedRun WordsReady WordsNext w told) first (words-own component p told x over).run);
+  means = λ p told x first over. words_meaning told (subst (λ (w : Words). EndedRun words_rules w told) first (words-own component p told x over).run);
   texts = λ p told x first over some. single-texts (components.Words component) p told x over refl some (words-hears component told (words-own component p told x over).run some);
   change = λ w w' x x' y y' same m. sym (same.outputs 0 refl) ∙ m ∙ ap (λ (ts : List Tree). flat_map words_of ts) (same.inputs 0 (omega arith));
   wrote_none = λ p told x over none. ap bytes_of (words-own component p told x over).is;
   settles = λ s w w' x x' y y' ins m n. by-one (λ ts. flat_map words_of ts) x x' y y' ins m n;
 }
 
-fill-own : (state : FillState) (p : ℕ) (told : List Happening) (x : Process Std) → Over (components.Fill state) p told x → Own components.Fill FillReady FillNext state told x
-fill-own state p told x over = own components.Fill FillReady fill_next (λ component held answer r. r) (λ component held answer. refl) state p told x over
+fill-own : (state : FillState) (p : ℕ) (told : List Happening) (x : Process Std) → Over (components.Fill state) p told x → Own components.Fill fill_rules state told x
+fill-own state p told x over = own components.Fill fill_kind (λ k. refl) state p told x over
 
-fill-run : (state : FillState) (size : ℕ) (p : ℕ) (told : List Happening) (x : Process Std) → state ≡ fresh_fill size → Over (components.Fill state) p told x → EndedRun FillReady FillNext (fresh_fill size) told
-fill-run state size p told x first over = subst (λ (w : FillState). EndedRun FillReady FillNext w told) first (fill-own state p told x over).run
+fill-run : (state : FillState) (size : ℕ) (p : ℕ) (told : List Happening) (x : Process Std) → state ≡ fresh_fill size → Over (components.Fill state) p told x → EndedRun fill_rules (fresh_fill size) told
+fill-run state size p told x first over = subst (λ (w : FillState). EndedRun fill_rules w told) first (fill-own state p told x over).run
 
 -- The facts of Fill.
 pub fill-facts : (state : FillState) → Facts (components.Fill state)
@@ -104,8 +104,8 @@ fill-facts state = record {
     one x x' y y' ins m n zero l = one_filling state.size (x' 0) (y 0) (y' 0) (subst (λ (ts : List Tree). Filling state.size ts (y 0)) (ins 0) m) n
     one x x' y y' ins m n (suc o) l = absurd (omega arith)
 
-brackets-own : (component : Brackets) (p : ℕ) (told : List Happening) (x : Process Std) → Over (components.Brackets component) p told x → Own components.Brackets BracketsReady (λ component held answer outcome. outcome ≡ brackets_next component held answer) component told x
-brackets-own component p told x over = own components.Brackets BracketsReady brackets_next (λ component held answer r. r) (λ component held answer. refl) component p told x over
+brackets-own : (component : Brackets) (p : ℕ) (told : List Happening) (x : Process Std) → Over (components.Brackets component) p told x → Own components.Brackets brackets_rules component told x
+brackets-own component p told x over = own components.Brackets brackets_kind (λ k. refl) component p told x over
 
 -- The facts of Brackets.
 pub brackets-facts : (component : Brackets) → Facts (components.Brackets component)
@@ -119,11 +119,11 @@ brackets-facts component = record {
 
 -- Count
 
-count-own : (state : CountState) (p : ℕ) (told : List Happening) (x : Process Std) → Over (components.Count state) p told x → Own components.Count CountReady CountNext state told x
-count-own state p told x over = own components.Count CountReady count_next (λ component held answer r. r) (λ component held answer. refl) state p told x over
+count-own : (state : CountState) (p : ℕ) (told : List Happening) (x : Process Std) → Over (components.Count state) p told x → Own components.Count count_rules state told x
+count-own state p told x over = own components.Count count_kind (λ k. refl) state p told x over
 
-count-run : (state : CountState) (p : ℕ) (told : List Happening) (x : Process Std) → state ≡ fresh_count state.connected → Over (components.Count state) p told x → EndedRun CountReady CountNext (fresh_count state.connected) told
-count-run state p told x first over = subst (λ (w : CountState). EndedRun CountReady CountNext w told) first (count-own state p told x over).run
+count-run : (state : CountState) (p : ℕ) (told : List Happening) (x : Process Std) → state ≡ fresh_count state.connected → Over (components.Count state) p told x → EndedRun count_rules (fresh_count state.connected) told
+count-run state p told x first over = subst (λ (w : CountState). EndedRun count_rules w told) first (count-own state p told x over).run
 
 -- each start brings something at its one input
 single-brings : (component : Std) (p : ℕ) (told : List Happening) (x : Process Std) → Over component p told x → (inputs : List Input) → x.inputs ≡ inputs → 1 ≡ length inputs → StartsBring (λ port. port ≡ 0) told

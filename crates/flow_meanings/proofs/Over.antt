@@ -3,16 +3,14 @@ use Rattle.std.proofs.Common.{◌≡◌, ◌≢◌, ◌⊎◌, inl, inr, ℕ, ze
 use Rattle.std.specs.Prelude.{replicate, min, max}
 use Rattle.std.specs.List.{list_any}
 use Rattle.flow_packet.specs.Tree.{Tree, id_of}
-use Rattle.flow_packet.specs.Held.{Held}
-use Rattle.flow_component.specs.declared.Answer.{Answer}
 use Rattle.flow_component.specs.declared.Wish.TheVariants as wishes
-use Rattle.flow_component.specs.Laws.{Outcome, CanStart}
-use Rattle.flow_component.specs.Outcomes.{outcome_as}
+use Rattle.flow_component.specs.Laws.{Rules, CanStart}
 use Rattle.flow_component.specs.Happenings.{Happening, Started, Received, Ended, Sent, Learned}
 use Rattle.flow_component.specs.Runs.{Poise, fresh, Runs, EndedRun, got, HeardEnd, GivesText, starts, text_packet}
 use Rattle.flow_component.proofs.Texts.{until-start}
 use Rattle.flow_catalogue.specs.declared.standard.Std.{Std}
-use Rattle.flow_catalogue.specs.Std.{std_shape, StdReady, std_next, StdNext}
+use Rattle.flow_catalogue.specs.Kinded.{Kinded}
+use Rattle.flow_catalogue.specs.Std.{Standing, Stands, standing, ReadyStanding, next_standing, std_shape, StdReady, std_rules}
 use Rattle.flow_model.specs.declared.Stage.TheVariants as stages
 use Rattle.flow_model.specs.States.{Input, From, Text, Process}
 use Rattle.flow_model.specs.Events.{is_connected}
@@ -29,24 +27,24 @@ pub record HasCome (told : List Happening) (inputs : List Input) : Type 0 where
 -- A process that has ended, with what it was told. Its component began with as many inputs as the process has, and could start; it wasn't told anything unless it
 -- was woken.
 pub record Over (component : Std) (p : ℕ) (told : List Happening) (x : Process Std) : Type 0 where
-  pub run : HasRun StdReady StdNext component p told x
+  pub run : HasRun std_rules component p told x
   pub ended : x.stage ≡ stages.Ended
   pub fits : (std_shape component).inputs ≡ length x.inputs
   pub can_start : CanStart (StdReady component)
   pub woken : told ≢ [] → NoneConnected x ⊎ HasCome told x.inputs
 
 -- its run, of its own kind
-pub record Own {K : Type 0} (f : K → Std) (own-ready : K → Held → Answer → Type 0) (own-next : K → Held → Answer → Outcome K → Type 0) (component : K) (told : List Happening) (x : Process Std) : Type 0 where
-  pub run : EndedRun own-ready own-next component told
+pub record Own {K : Type 0} (f : K → Std) (rules : Rules K) (component : K) (told : List Happening) (x : Process Std) : Type 0 where
+  pub run : EndedRun rules component told
   pub is : x.component ≡ f run.last.component
 
 -- What the standard component of a kind was told is a run of the kind's own component.
-pub own : {K : Type 0} (f : K → Std) (own-ready : K → Held → Answer → Type 0) (own-next : K → Held → Answer → Outcome K)
-    → ((component : K) (held : Held) (answer : Answer) → StdReady (f component) held answer → own-ready component held answer) → ((component : K) (held : Held) (answer : Answer) → std_next (f component) held answer ≡ outcome_as f (own-next component held answer))
-    → (component : K) (p : ℕ) (told : List Happening) (x : Process Std) → Over (f component) p told x → Own f own-ready (λ component held answer outcome. outcome ≡ own-next component held answer) component told x
-own f own-ready own-next down-ready down-next component p told x over =
-    let r : Runs StdReady StdNext (fresh (f component) p) told (poise x wishes.Deactivate) = subst (Follows StdReady StdNext (fresh (f component) p) told x) over.ended over.run.follows in
-    let o = own-run f own-ready own-next StdReady std_next down-ready down-next told (fresh component p) (poise x wishes.Deactivate) r in
+pub own : {K : Type 0} (f : K → Std) (kind : Kinded K) → ((component : K) → standing (f component) ≡ Stands K kind f component)
+    → (component : K) (p : ℕ) (told : List Happening) (x : Process Std) → Over (f component) p told x → Own f kind.rules component told x
+own f kind stands component p told x over =
+    let r : Runs std_rules (fresh (f component) p) told (poise x wishes.Deactivate) = subst (Follows std_rules (fresh (f component) p) told x) over.ended over.run.follows in
+    let o = own-run f kind.rules std_rules (λ k held answer ready. subst (λ (z : Standing). ReadyStanding z held answer) (stands k) ready)
+    (λ k held answer outcome is. (kind.next k held answer, kind.comes k held answer, is ∙ ap (λ (z : Standing). next_standing z held answer) (stands k))) told (fresh component p) (poise x wishes.Deactivate) r in
     record {
       run = record { maker = p; last = o.0; runs = o.1; idle = sym (ap (λ (u : Poise Std). u.wish) o.2) };
       is = ap (λ (u : Poise Std). u.component) o.2;
@@ -59,7 +57,7 @@ pub record Begins (told : List Happening) : Type 0 where
   pub later : List Happening
   pub is : told ≡ Started ∷ later
 
-begins-run : (component : Std) (p : ℕ) (es : List Happening) (q : Poise Std) → Runs StdReady StdNext (fresh component p) es q → es ≢ [] → Begins es
+begins-run : (component : Std) (p : ℕ) (es : List Happening) (q : Poise Std) → Runs std_rules (fresh component p) es q → es ≢ [] → Begins es
 begins-run component p [] q r some = absurd (some refl)
 begins-run component p (Started ∷ es) q r some = record { later = es; is = refl }
 begins-run component p (Received i t ∷ es) q r some = absurd (let h : wishes.Deactivate ≡ wishes.Receive (record { 0 = i }) = r.1.grants.0 in cc)
@@ -68,8 +66,8 @@ begins-run component p (Sent o t ∷ es) q r some = absurd (let h : wishes.Deact
 begins-run component p (Learned o n ∷ es) q r some = absurd (let h : wishes.Deactivate ≡ wishes.Level (record { 0 = o }) = r.1.grants.0 in cc)
 
 -- A process that was told something and ended was told to start first.
-pub ended-begins : (component : Std) (p : ℕ) (told : List Happening) (x : Process Std) → HasRun StdReady StdNext component p told x → x.stage ≡ stages.Ended → told ≢ [] → Begins told
-ended-begins component p told x run ended some = begins-run component p told (poise x wishes.Deactivate) (subst (Follows StdReady StdNext (fresh component p) told x) ended run.follows) some
+pub ended-begins : (component : Std) (p : ℕ) (told : List Happening) (x : Process Std) → HasRun std_rules component p told x → x.stage ≡ stages.Ended → told ≢ [] → Begins told
+ended-begins component p told x run ended some = begins-run component p told (poise x wishes.Deactivate) (subst (Follows std_rules (fresh component p) told x) ended run.follows) some
 
 -- What begins with a start has one.
 pub begins-starts : (told : List Happening) → Begins told → 0 < starts told

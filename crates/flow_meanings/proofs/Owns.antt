@@ -1,28 +1,21 @@
 -- Components send at their own outputs alone, so that nothing leaves an automatic output.
-use Rattle.flow_limits.specs.declared.TheConstants.{HANDS_LIMIT, TURN_LIMIT}
-use Rattle.std.proofs.Common.{◌≡◌, ℕ, ◌+◌, ◌<◌, ◌≤◌, Bool, true, false, List, [], ◌∷◌, ◌++◌, length, Some, None, Option, IsTrue, refl, sym, ap, ◌∙◌, subst, cond, ◌==◌, nat_eq, nat_lt, arith, inl, inr, slice_get, slice_set}
-use Rattle.std.specs.Prelude.{slice_index}
+use Rattle.std.proofs.Common.{◌≡◌, ℕ, ◌+◌, ◌<◌, ◌≤◌, Bool, true, false, List, [], ◌∷◌, ◌++◌, length, Some, IsTrue, refl, sym, ap, ◌∙◌, subst, cond, ◌==◌, nat_eq, arith, inl, inr, slice_get, slice_set}
 use Rattle.std.specs.List.{flat_map}
 use Rattle.std.proofs.lemmas.Bool.Decides.{nat_tests}
 use Rattle.std.proofs.lemmas.Grind.{flat_map-append}
-use Rattle.flow_packet.specs.Tree.{Tree, id_of, kind_of}
-use Rattle.flow_packet.specs.Held.{Held, next_id}
-use Rattle.flow_packet.specs.Hands.{packet_at}
-use Rattle.flow_component.specs.declared.Answer.{Answer}
-use Rattle.flow_component.specs.declared.Answer.TheVariants as answers
+use Rattle.flow_packet.specs.Held.{Held}
 use Rattle.flow_component.specs.declared.Shape.{Shape}
-use Rattle.flow_component.specs.declared.Fail.TheVariants as fails
 use Rattle.flow_component.specs.declared.Wish.{Wish}
 use Rattle.flow_component.specs.declared.Wish.TheVariants as wishes
 use Rattle.flow_component.specs.Happenings.{Happening}
-use Rattle.flow_component.specs.Laws.{Outcome, Wishes, Fails, component_after, IsAllowed, Obeys, StaysReady, IsSteady}
+use Rattle.flow_component.specs.Laws.{Rules, Lawful, Outcome, Wishes, Fails, component_after, IsAllowed, Obeys}
 use Rattle.flow_plan.specs.Network.{Network as Plan}
 use Rattle.flow_model.specs.declared.Stage.{Stage}
 use Rattle.flow_model.specs.declared.Stage.TheVariants as stages
-use Rattle.flow_model.specs.States.{Process, Channel, State, outlets, sent_by, sent_at}
-use Rattle.flow_model.specs.Events.{Event, Starts, Finishes, Gets, Takes_text, Hears_end, Sends, Learns, Sleeps, Closes, Signals, event_of}
-use Rattle.flow_model.specs.Turns.{process_after, limited, closing, closing_on, heard, Turn}
-use Rattle.flow_model.specs.Works.{judged, sending, nests, worked, Work}
+use Rattle.flow_model.specs.States.{Process, Channel, State, sent_by, sent_at}
+use Rattle.flow_model.specs.Events.{Event, Finishes, Sends, Closes, event_of}
+use Rattle.flow_model.specs.Turns.{process_after, closing_on, heard, Turn, stage_after}
+use Rattle.flow_model.specs.Works.{judged, worked, Work}
 use Rattle.flow_model.specs.Schedules.{Settles, LeadsBy, Journal, Leads}
 use Rattle.flow_model.specs.Plans.{start_of, StartsWell}
 use Rattle.flow_model.specs.Valid.{ReadyAt}
@@ -34,92 +27,45 @@ use Rattle.flow_model.proofs.Ready.{sound-hands}
 use Rattle.flow_model.proofs.Rising.{found-set}
 use Rattle.flow_model.proofs.Start.{start-process}
 use Rattle.flow_model.proofs.Fits.{Fit-start, Fit-turn, Fit-settles}
+use Rattle.flow_model.proofs.Stages.{limited-elim, closing-elim, judged-elim}
 
 -- A wish to send names one of n outputs but the last.
 abbrev SendsOwn : ℕ → Stage → Type 0
 SendsOwn n (stages.Wishing (wishes.Send port id)) = port.0 + 1 < n
-SendsOwn n (stages.Wishing (wishes.Receive port)) = Unit {0}
-SendsOwn n (stages.Wishing (wishes.Level port)) = Unit {0}
-SendsOwn n (stages.Wishing wishes.Deactivate) = Unit {0}
-SendsOwn n stages.Idle = Unit {0}
-SendsOwn n (stages.Told answer) = Unit {0}
-SendsOwn n (stages.Closing i) = Unit {0}
-SendsOwn n stages.Ended = Unit {0}
-SendsOwn n (stages.Failed cause) = Unit {0}
-
--- what a turn leads to is no wish, or the one that stood
-limited-own : (n turns : ℕ) (stage : Stage) → SendsOwn n stage → SendsOwn n (limited turns stage)
-limited-own n turns stage is = by stage is
-  where
-    either : (b : Bool) (stage : Stage) → SendsOwn n stage → SendsOwn n (cond b (stages.Failed fails.TurnLimit) stage)
-    either true stage is = tt
-    either false stage is = is
-
-    by : (stage : Stage) → SendsOwn n stage → SendsOwn n (limited turns stage)
-    by stages.Ended is = tt
-    by stages.Idle is = either (turns == TURN_LIMIT) stages.Idle is
-    by (stages.Told answer) is = either (turns == TURN_LIMIT) (stages.Told answer) is
-    by (stages.Wishing wish) is = either (turns == TURN_LIMIT) (stages.Wishing wish) is
-    by (stages.Closing i) is = either (turns == TURN_LIMIT) (stages.Closing i) is
-    by (stages.Failed cause) is = either (turns == TURN_LIMIT) (stages.Failed cause) is
-
-closing-own : {K : Type 0} (n : ℕ) (x : Process K) (i : ℕ) → SendsOwn n (closing x i)
-closing-own n x i = by (nat_lt i (length (outlets x)))
-  where
-    by : (b : Bool) → SendsOwn n (cond b (stages.Closing i) stages.Ended)
-    by true = tt
-    by false = tt
+SendsOwn n stage = Unit {0}
 
 closing_on-own : {K : Type 0} (n : ℕ) (x : Process K) (stage : Stage) → SendsOwn n stage → SendsOwn n (closing_on x stage)
-closing_on-own n x (stages.Closing i) is = closing-own n x (i + 1)
-closing_on-own n x stages.Idle is = is
-closing_on-own n x (stages.Told answer) is = is
-closing_on-own n x (stages.Wishing wish) is = is
-closing_on-own n x stages.Ended is = is
-closing_on-own n x (stages.Failed cause) is = is
+closing_on-own n x (stages.Closing i) is = closing-elim (SendsOwn n) x (i + 1) (λ _. tt) (λ _. tt)
+closing_on-own n x stage is = is
 
+-- what a turn leads to is no wish
 after-own : {K : Type 0} (n : ℕ) (x : Process K) (e : Event) → SendsOwn n x.stage → SendsOwn n (process_after x e).stage
-after-own n x Starts is = limited-own n (x.turns + 1) (stages.Told answers.Start) tt
-after-own n x Finishes is = limited-own n (x.turns + 1) (closing x 0) (closing-own n x 0)
-after-own n x (Gets port c packet) is = limited-own n (x.turns + 1) (stages.Told (answers.Got (id_of packet))) tt
-after-own n x (Takes_text port text) is = limited-own n (x.turns + 1) (stages.Told (answers.Got (next_id x.held))) tt
-after-own n x (Hears_end port) is = limited-own n (x.turns + 1) (stages.Told answers.End) tt
-after-own n x (Sends port c packet) is = limited-own n (x.turns + 1) (stages.Told answers.Sent) tt
-after-own n x (Learns port level) is = limited-own n (x.turns + 1) (stages.Told (answers.Level level)) tt
-after-own n x Sleeps is = limited-own n (x.turns + 1) stages.Idle tt
-after-own n x (Closes output c) is = limited-own n (x.turns + 1) (closing_on x x.stage) (closing_on-own n x x.stage is)
-after-own n x (Signals c packet) is = limited-own n (x.turns + 1) stages.Idle tt
+after-own n x e is = limited-elim (SendsOwn n) (x.turns + 1) (stage_after x e) tt (by e)
+  where
+    by : (e : Event) → SendsOwn n (stage_after x e)
+    by Finishes = closing-elim (SendsOwn n) x 0 (λ _. tt) (λ _. tt)
+    by (Closes output c) = closing_on-own n x x.stage is
+    by e = tt
 
 -- what a process hears of a turn isn't sent at its automatic output
 heard-none : {K : Type 0} (channels : List Channel) (x : Process K) (n o : ℕ) (e : Event) → event_of channels x n ≡ Some e → SendsOwn (length x.outputs) x.stage → length x.outputs ≤ o + 1 → flat_map (sent_by o) (heard x e) ≡ []
-heard-none channels x n o Starts is own last = refl
-heard-none channels x n o Finishes is own last = refl
-heard-none channels x n o (Gets port c packet) is own last = refl
-heard-none channels x n o (Takes_text port text) is own last = refl
-heard-none channels x n o (Hears_end port) is own last = refl
 heard-none channels x n o (Sends port c packet) is own last =
     let at = explains channels x n (Sends port c packet) is in
     let below : at.wished.0 + 1 < length x.outputs = subst (SendsOwn (length x.outputs)) at.stage own in
     let named : at.wished.0 ≡ port = at.names in
     let other : nat_eq o port ≡ false = grind (arith, nat_tests) in
     rw other refl
-heard-none channels x n o (Learns port level) is own last = refl
-heard-none channels x n o Sleeps is own last = refl
-heard-none channels x n o (Closes output c) is own last = refl
-heard-none channels x n o (Signals c packet) is own last = refl
+heard-none channels x n o e is own last = refl
 
 grown-none : (o : ℕ) (b : Bool) (told more : List Happening) → flat_map (sent_by o) told ≡ [] → (b ≡ true → flat_map (sent_by o) more ≡ []) → flat_map (sent_by o) (cond b (told ++ more) told) ≡ []
 grown-none o true told more old new = flat_map-append (sent_by o) told more ∙ ap (λ es. es ++ flat_map (sent_by o) more) old ∙ new refl
 grown-none o false told more old new = old
 
-module _ {K : Type 0} (shape_of : K → Shape) (uses : K → ℕ → Bool) (ready : K → Held → Answer → Type 0) (next : K → Held → Answer → Outcome K → Type 0)
-    (obeys : (component : K) (held : Held) (answer : Answer) (outcome : Outcome K) → ready component held answer → next component held answer outcome → Obeys (shape_of component) (uses component) held outcome)
-    (stays : (component : K) (held : Held) (answer : Answer) (outcome : Outcome K) → ready component held answer → next component held answer outcome → StaysReady ready outcome)
-    (steady : (component : K) (held : Held) (answer : Answer) (outcome : Outcome K) → next component held answer outcome → IsSteady shape_of uses component outcome)
-    (own : (component : K) (port : ℕ) → IsTrue (uses component port) → port < (shape_of component).outputs) where
+module _ {K : Type 0} (rules : Rules K) (lawful : Lawful rules)
+    (own : (component : K) (port : ℕ) → IsTrue (rules.uses component port) → port < (rules.shape component).outputs) where
   -- A process's outputs are its component's and the automatic one, at which it doesn't send.
   pub record Owns (s : State K) (p : ℕ) (x : Process K) : Type 0 where
-    pub outputs : (shape_of x.component).outputs + 1 ≡ length x.outputs
+    pub outputs : (rules.shape x.component).outputs + 1 ≡ length x.outputs
     pub wish : SendsOwn (length x.outputs) x.stage
     pub none : (o : ℕ) → length x.outputs ≤ o + 1 → sent_at s.past p o ≡ []
 
@@ -131,7 +77,7 @@ module _ {K : Type 0} (shape_of : K → Shape) (uses : K → ℕ → Bool) (read
     | inl same ↦ (let was = old p x turn.kept.there in
         let outputs = outputs-after x e in
         subst (λ (y : Process K). Owns s' q y) same.1 (record {
-          outputs = ap (λ k. (shape_of k).outputs + 1) (component-after x e) ∙ was.outputs ∙ ap length (sym outputs);
+          outputs = ap (λ k. (rules.shape k).outputs + 1) (component-after x e) ∙ was.outputs ∙ ap length (sym outputs);
           wish = subst (λ os. SendsOwn (length os) (process_after x e).stage) (sym outputs) (after-own (length x.outputs) x e was.wish);
           none = λ o last. (let last' : length x.outputs ≤ o + 1 = subst (λ os. length os ≤ o + 1) outputs last in
               told q o (subst (λ k. sent_at s.past k o ≡ []) (sym same.0) (was.none o last')) (λ here. heard-none s.kept.channels x turn.kept.level o e turn.kept.happens was.wish last'));
@@ -154,43 +100,29 @@ module _ {K : Type 0} (shape_of : K → Shape) (uses : K → ℕ → Bool) (read
       told q o was new = ap (λ past. sent_at past q o) turn.past ∙ grown-none o (nat_eq q p) (s.past.told q) (heard x e) was new
 
   -- a wish to send after a work
-  judged-own : (n : ℕ) (component : K) (depths : List ℕ) (held : Held) (wish : Wish) → (shape_of component).outputs + 1 ≡ n → IsAllowed (shape_of component) (uses component) held wish → SendsOwn n (judged depths held wish)
-  judged-own n component depths held (wishes.Receive port) many allowed = by (nat_lt (length held.packets) HANDS_LIMIT)
+  judged-own : (n : ℕ) (component : K) (depths : List ℕ) (held : Held) (wish : Wish) → (rules.shape component).outputs + 1 ≡ n → IsAllowed (rules.shape component) (rules.uses component) held wish → SendsOwn n (judged depths held wish)
+  judged-own n component depths held wish many allowed = judged-elim (SendsOwn n) depths held wish (λ cause. tt) (λ _. by wish allowed)
     where
-      by : (b : Bool) → SendsOwn n (cond b (stages.Wishing (wishes.Receive port)) (stages.Failed fails.HandsLimit))
-      by true = tt
-      by false = tt
-  judged-own n component depths held (wishes.Send port id) many allowed = by (packet_at held.packets id)
-    where
-      below : port.0 + 1 < n
-      below = let h = own component port.0 allowed.0 in omega (arith, h, many)
+      by : (wish : Wish) → IsAllowed (rules.shape component) (rules.uses component) held wish → SendsOwn n (stages.Wishing wish)
+      by (wishes.Send port id) allowed = let h = own component port.0 allowed.0 in omega (arith, h, many)
+      by wish allowed = tt
 
-      by-nests : (b : Bool) → SendsOwn n (cond b (stages.Wishing (wishes.Send port id)) (stages.Failed (fails.Unnested port)))
-      by-nests true = below
-      by-nests false = tt
-
-      by : (found : Option Tree) → SendsOwn n (sending depths port id found)
-      by None = below
-      by (Some packet) = by-nests (nests (kind_of packet) (slice_index depths port.0))
-  judged-own n component depths held (wishes.Level port) many allowed = tt
-  judged-own n component depths held wishes.Deactivate many allowed = tt
-
-  worked-own : (n : ℕ) (x : Process K) (outcome : Outcome K) → (shape_of x.component).outputs + 1 ≡ n → Obeys (shape_of x.component) (uses x.component) x.held outcome → SendsOwn n (worked x outcome).stage
-  worked-own n x (Wishes component held wish) many lawful = judged-own n x.component x.depths held wish many lawful.1
-  worked-own n x (Fails component held cause) many lawful = tt
+  worked-own : (n : ℕ) (x : Process K) (outcome : Outcome K) → (rules.shape x.component).outputs + 1 ≡ n → Obeys (rules.shape x.component) (rules.uses x.component) x.held outcome → SendsOwn n (worked x outcome).stage
+  worked-own n x (Wishes component held wish) many obeyed = judged-own n x.component x.depths held wish many obeyed.1
+  worked-own n x (Fails component held cause) many obeyed = tt
 
   component-worked : (x : Process K) (outcome : Outcome K) → (worked x outcome).component ≡ component_after outcome
   component-worked x (Wishes component held wish) = refl
   component-worked x (Fails component held cause) = refl
 
-  owns-work : (s : State K) (p : ℕ) (s' : State K) → Work next s p s' → Fit shape_of uses ready s → AllOwn s → AllOwn s'
+  owns-work : (s : State K) (p : ℕ) (s' : State K) → Work rules s p s' → Fit rules s → AllOwn s → AllOwn s'
   owns-work s p s' work fit old q z is = elim (found-set s.kept.processes p x y work.kept.there q z is') as (λ _. Owns s' q z) [
     | inl same ↦ (let was = old p x work.kept.there in
         let outputs = outputs-worked x work.outcome in
-        let shape : shape_of y.component ≡ shape_of x.component = ap shape_of (component-worked x work.outcome) ∙ (steady x.component x.held work.kept.answer work.outcome work.kept.comes).shape in
+        let shape : rules.shape y.component ≡ rules.shape x.component = ap rules.shape (component-worked x work.outcome) ∙ (lawful.steady x.component x.held work.kept.answer work.outcome work.kept.comes).shape in
         subst (λ (w : Process K). Owns s' q w) same.1 (record {
           outputs = ap (λ (shape : Shape). shape.outputs + 1) shape ∙ was.outputs ∙ ap length (sym outputs);
-          wish = subst (λ os. SendsOwn (length os) y.stage) (sym outputs) (worked-own (length x.outputs) x work.outcome was.outputs lawful);
+          wish = subst (λ os. SendsOwn (length os) y.stage) (sym outputs) (worked-own (length x.outputs) x work.outcome was.outputs obeyed);
           none = λ o last. ap (λ past. sent_at past q o) work.past ∙ subst (λ k. sent_at s.past k o ≡ []) (sym same.0) (was.none o (subst (λ os. length os ≤ o + 1) outputs last));
         }))
     | inr other ↦ (let was = old q z other.1 in record { outputs = was.outputs; wish = was.wish; none = λ o last. ap (λ past. sent_at past q o) work.past ∙ was.none o last })
@@ -205,29 +137,29 @@ module _ {K : Type 0} (shape_of : K → Shape) (uses : K → ℕ → Bool) (read
       is' : slice_get (slice_set s.kept.processes p y) q ≡ Some z
       is' = ap (λ (ps : List (Process K)). slice_get ps q) (sym work.kept.processes) ∙ is
 
-      lawful : Obeys (shape_of x.component) (uses x.component) x.held work.outcome
-      lawful =
+      obeyed : Obeys (rules.shape x.component) (rules.uses x.component) x.held work.outcome
+      obeyed =
           let was = fit.valid.each p x work.kept.there in
           let below : x.held.made < 4294967296 = omega (arith, was.made, was.turns) in
           let sound = sound-hands s p x work.kept.there was.maker below fit.valid.one_place in
-          let now : ready x.component x.held work.kept.answer = subst (ReadyAt (ready x.component) x.held) work.kept.told was.is_ready sound in
-          obeys x.component x.held work.kept.answer work.outcome now work.kept.comes
+          let now : rules.ready x.component x.held work.kept.answer = subst (ReadyAt (rules.ready x.component) x.held) work.kept.told was.is_ready sound in
+          lawful.obeys x.component x.held work.kept.answer work.outcome now work.kept.comes
 
-  owns-settles : (s : State K) (p : ℕ) (s' : State K) → Settles next s p s' → Fit shape_of uses ready s → AllOwn s → AllOwn s'
+  owns-settles : (s : State K) (p : ℕ) (s' : State K) → Settles rules s p s' → Fit rules s → AllOwn s → AllOwn s'
   owns-settles s p s' (inl none) fit old = subst AllOwn (sym none.1) old
   owns-settles s p s' (inr work) fit old = owns-work s p s' work fit old
 
-  owns-leads_by : (s : State K) (turns seen : List ℕ) (s' : State K) → Fit shape_of uses ready s → AllOwn s → LeadsBy next s turns seen s' → AllOwn s'
+  owns-leads_by : (s : State K) (turns seen : List ℕ) (s' : State K) → Fit rules s → AllOwn s → LeadsBy rules s turns seen s' → AllOwn s'
   owns-leads_by s [] seen s' fit old leads = subst AllOwn (sym leads.1) old
   owns-leads_by s (p ∷ turns) seen s' fit old leads =
       let whole = leads.3 in
-      let mid = Fit-turn shape_of uses ready s p leads.0 whole.0 whole.1 fit in
-      owns-leads_by leads.1 turns leads.2 s' (Fit-settles shape_of uses ready next obeys stays steady whole.0 p leads.1 whole.2 mid)
+      let mid = Fit-turn rules s p leads.0 whole.0 whole.1 fit in
+      owns-leads_by leads.1 turns leads.2 s' (Fit-settles rules lawful whole.0 p leads.1 whole.2 mid)
       (owns-settles whole.0 p leads.1 whole.2 mid (owns-turn s p leads.0 whole.0 whole.1 old)) leads.5
 
   -- So it is after every schedule from a start.
-  pub owns-leads : (plan : Plan) (components : List K) → StartsWell shape_of uses ready plan components → (journal : Journal) (s : State K) → Leads next (start_of plan components) journal s → AllOwn s
-  owns-leads plan components well journal s leads = owns-leads_by (start_of plan components) journal.turns journal.seen s (Fit-start shape_of uses ready plan components well) start leads
+  pub owns-leads : (plan : Plan) (components : List K) → StartsWell rules plan components → (journal : Journal) (s : State K) → Leads rules (start_of plan components) journal s → AllOwn s
+  owns-leads plan components well journal s leads = owns-leads_by (start_of plan components) journal.turns journal.seen s (Fit-start rules plan components well) start leads
     where
       start : AllOwn (start_of plan components)
       start p x there = record {

@@ -7,12 +7,13 @@ use Rattle.flow_packet.specs.Tree.{Tree}
 use Rattle.flow_component.specs.Happenings.{Happening}
 use Rattle.flow_component.specs.Runs.{EndedRun, got, sent, EndIsLast, StartsBring, text_packet, starts}
 use Rattle.flow_component.proofs.Texts.{brings-more}
-use Rattle.flow_streams.specs.Select.{SelectState, select_next, SelectReady, SelectNext}
+use Rattle.flow_streams.specs.Select.{SelectState, select_rules}
 use Rattle.flow_streams.specs.Selected.{accepted, rejected, IsSelected}
 use Rattle.flow_streams.specs.Meanings.{fresh_select}
 use Rattle.flow_streams.proofs.SelectStream.{select_meaning, select_takes_texts, select_starts}
 use Rattle.flow_catalogue.specs.declared.standard.Std.{Std}
 use Rattle.flow_catalogue.specs.declared.standard.Std.TheVariants as components
+use Rattle.flow_catalogue.specs.Components.{select_kind}
 use Rattle.flow_model.specs.States.{Input, From, Text, Process}
 use Rattle.flow_model.specs.Events.{is_connected}
 use Rattle.flow_model.specs.Runs.{IsConnectedAt}
@@ -21,12 +22,12 @@ use Rattle.flow_meanings.specs.Means.{bytes_of}
 use Rattle.flow_meanings.proofs.Over.{Over, Own, own, came, GotTexts, ended-begins, begins-starts}
 use Rattle.flow_meanings.proofs.Facts.{Facts}
 
-select-own : (state : SelectState) (p : ℕ) (told : List Happening) (x : Process Std) → Over (components.Select state) p told x → Own components.Select SelectReady SelectNext state told x
-select-own state p told x over = own components.Select SelectReady select_next (λ component held answer r. r) (λ component held answer. refl) state p told x over
+select-own : (state : SelectState) (p : ℕ) (told : List Happening) (x : Process Std) → Over (components.Select state) p told x → Own components.Select select_rules state told x
+select-own state p told x over = own components.Select select_kind (λ k. refl) state p told x over
 
 module _ (state : SelectState) (p : ℕ) (told : List Happening) (x : Process Std) (first : state ≡ fresh_select state.rejects) (over : Over (components.Select state) p told x) where
-  run : EndedRun SelectReady SelectNext (fresh_select state.rejects) told
-  run = subst (λ (w : SelectState). EndedRun SelectReady SelectNext w told) first (select-own state p told x over).run
+  run : EndedRun select_rules (fresh_select state.rejects) told
+  run = subst (λ (w : SelectState). EndedRun select_rules w told) first (select-own state p told x over).run
 
   -- what ends at one of its inputs ends for good
   last-at : (port : ℕ) (input : Input) → port < 2 → slice_get x.inputs port ≡ Some input → EndIsLast port told

@@ -11,12 +11,13 @@ use Rattle.flow_batch.specs.declared.records.Posting.{Posting}
 use Rattle.flow_batch.specs.declared.records.Posting.TheVariants.{Applied, Refused}
 use Rattle.flow_batch.specs.Records.{posted}
 use Rattle.flow_batch.specs.Around.{Around, Outside, InGroup, UpdateState}
-use Rattle.flow_batch.specs.Update.{refuses, posts, closes, comes, update_next, UpdateNext, UpdateReady, update_shape, update_uses}
-use Rattle.flow_batch.specs.UpdateLaws.{update_obeys}
+use Rattle.flow_batch.specs.Update.{refuses, posts, closes, comes, update_rules}
+use Rattle.flow_batch.specs.UpdateLaws.{update_lawful}
 use Rattle.flow_batch.specs.Updated.{fresh_update, new_masters, refused_packets, IsUpdated}
 use Rattle.flow_batch.proofs.UpdateStream.{update_meaning}
 use Rattle.flow_catalogue.specs.declared.standard.Std.{Std}
 use Rattle.flow_catalogue.specs.declared.standard.Std.TheVariants as components
+use Rattle.flow_catalogue.specs.Components.{update_kind}
 use Rattle.flow_model.specs.States.{Process}
 use Rattle.flow_meanings.specs.Means.{bytes_of}
 use Rattle.flow_meanings.proofs.EndHeard.{GoesOn, Never, end-heard}
@@ -45,19 +46,19 @@ comes-on state held id (InGroup key balance) Open = tt
 comes-on state held id (InGroup key balance) Close = closes-on state held id key balance
 
 -- An Update that has run and ended has heard the end of its input.
-update-hears : (state : UpdateState) (told : List Happening) → EndedRun UpdateReady UpdateNext state told → told ≢ [] → HeardEnd 0 told
+update-hears : (state : UpdateState) (told : List Happening) → EndedRun update_rules state told → told ≢ [] → HeardEnd 0 told
 update-hears state told run some =
-    end-heard UpdateReady UpdateNext (λ _. update_shape) update_uses (λ _. refl) update_obeys Never
+    end-heard update_rules (λ _. refl) update_lawful Never
     (λ p q s l. elim l [ inl d ↦ subst GoesOn (sym s.comes_to) (λ e. cc) d | inr n ↦ n ])
     (λ p port t q s l. elim l [ inl d ↦ subst GoesOn (sym s.comes_to) (comes-on p.component s.held (id_of t) p.component.around (kind_at s.held.packets (id_of t))) d | inr n ↦ n ])
     (λ p port t q s l. elim l [ inl d ↦ subst GoesOn (sym s.comes_to) (λ e. cc) d | inr n ↦ n ])
     (λ p port level q s l. s.is_ready) state told run (λ n. n) some
 
-update-own : (state : UpdateState) (p : ℕ) (told : List Happening) (x : Process Std) → Over (components.Update state) p told x → Own components.Update UpdateReady UpdateNext state told x
-update-own state p told x over = own components.Update UpdateReady update_next (λ component held answer r. r) (λ component held answer. refl) state p told x over
+update-own : (state : UpdateState) (p : ℕ) (told : List Happening) (x : Process Std) → Over (components.Update state) p told x → Own components.Update update_rules state told x
+update-own state p told x over = own components.Update update_kind (λ k. refl) state p told x over
 
-update-run : (state : UpdateState) (p : ℕ) (told : List Happening) (x : Process Std) → state ≡ fresh_update state.keylen state.rep → Over (components.Update state) p told x → EndedRun UpdateReady UpdateNext (fresh_update state.keylen state.rep) told
-update-run state p told x first over = subst (λ (w : UpdateState). EndedRun UpdateReady UpdateNext w told) first (update-own state p told x over).run
+update-run : (state : UpdateState) (p : ℕ) (told : List Happening) (x : Process Std) → state ≡ fresh_update state.keylen state.rep → Over (components.Update state) p told x → EndedRun update_rules (fresh_update state.keylen state.rep) told
+update-run state p told x first over = subst (λ (w : UpdateState). EndedRun update_rules w told) first (update-own state p told x over).run
 
 -- the streams of an Update, where its second output is connected or isn't
 updated-change : (keylen : ℕ) (rep : Bool) (x x' y y' z z' : List Tree) → x ≡ x' → y ≡ y' → (rep ≡ true → z ≡ z') → (z ≡ [] → z' ≡ []) → IsUpdated keylen rep x y z → IsUpdated keylen rep x' y' z'

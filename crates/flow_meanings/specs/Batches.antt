@@ -12,7 +12,7 @@ use Rattle.flow_catalogue.specs.declared.standard.Std.TheVariants as components
 use Rattle.flow_catalogue.specs.declared.table.StdKind.{StdKind}
 use Rattle.flow_catalogue.specs.declared.table.StdKind.TheVariants as kinds
 use Rattle.flow_catalogue.specs.Kinds.{name_of}
-use Rattle.flow_catalogue.specs.Std.{std_shape, std_uses, StdReady, StdNext}
+use Rattle.flow_catalogue.specs.Std.{std_rules}
 use Rattle.flow_model.specs.declared.Stage.TheVariants as stages
 use Rattle.flow_model.specs.States.{Process, State, got_at, sent_at}
 use Rattle.flow_model.specs.Schedules.{Journal, Leads}
@@ -32,7 +32,7 @@ AreCollated ks s =
 -- So it is after every schedule from a start of standard components in their first states.
 abbrev pub EndedCollates : Type 0
 EndedCollates =
-    (plan : Plan) (ks : List Std) (journal : Journal) (s : State Std) → StartsWell std_shape std_uses StdReady plan ks → AreFirst ks → Leads StdNext (start_of plan ks) journal s → AreCollated ks s
+    (plan : Plan) (ks : List Std) (journal : Journal) (s : State Std) → StartsWell std_rules plan ks → AreFirst ks → Leads std_rules (start_of plan ks) journal s → AreCollated ks s
 
 -- Output o of process p, and no other, sends to the connection at input i of process q.
 pub record Feeds (plan : Plan) (p o q i : ℕ) : Type 0 where

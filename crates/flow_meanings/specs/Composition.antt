@@ -5,7 +5,7 @@ use Rattle.std.specs.List.{range_with_len}
 use Rattle.flow_packet.specs.Tree.{Tree}
 use Rattle.flow_component.specs.Runs.{text_packet}
 use Rattle.flow_catalogue.specs.declared.standard.Std.{Std}
-use Rattle.flow_catalogue.specs.Std.{std_shape, std_uses, StdReady, StdNext, written_of}
+use Rattle.flow_catalogue.specs.Std.{std_shape, written_of, std_rules}
 use Rattle.flow_model.specs.States.{Input, From, Text, is_sender, Process, State}
 use Rattle.flow_plan.specs.declared.plan.Sender.{Sender}
 use Rattle.flow_model.specs.Schedules.{Journal, Leads}
@@ -68,5 +68,5 @@ wrote_in s p = unwrap_or (option_and_then (λ (x : Process Std). written_of x.co
 -- Whatever the schedule, where a network of standard components has finished, its writers have written what it means.
 abbrev pub FinishedComposes : Type 0
 FinishedComposes =
-    (plan : Plan) (components : List Std) (journal : Journal) (s : State Std) → StartsWell std_shape std_uses StdReady plan components → AreFirst components → Leads StdNext (start_of plan components) journal s → IsFinished s
+    (plan : Plan) (components : List Std) (journal : Journal) (s : State Std) → StartsWell std_rules plan components → AreFirst components → Leads std_rules (start_of plan components) journal s → IsFinished s
     → Composes plan components (wrote_in s)

@@ -2,7 +2,7 @@
 use Rattle.std.specs.Prelude.{◌≡◌, ℕ, Bool, List, [], map, Some, slice_get, unwrap_or}
 use Rattle.flow_packet.specs.Tree.{Tree}
 use Rattle.flow_catalogue.specs.declared.standard.Std.{Std}
-use Rattle.flow_catalogue.specs.Std.{std_shape, std_uses, StdReady, StdNext, written_of}
+use Rattle.flow_catalogue.specs.Std.{written_of, std_rules}
 use Rattle.flow_model.specs.declared.Stage.TheVariants as stages
 use Rattle.flow_model.specs.States.{Entry, Process, State, got_at, sent_at}
 use Rattle.flow_model.specs.Schedules.{Journal, Leads}
@@ -37,6 +37,6 @@ contents entries = map (λ e. e.content) entries
 -- After every schedule from a start of standard components, what each process that has ended got, sent and wrote is as its kind means.
 abbrev pub KeepsMeanings : Type 0
 KeepsMeanings =
-    (plan : Plan) (components : List Std) (journal : Journal) (s : State Std) → StartsWell std_shape std_uses StdReady plan components → Leads StdNext (start_of plan components) journal s
+    (plan : Plan) (components : List Std) (journal : Journal) (s : State Std) → StartsWell std_rules plan components → Leads std_rules (start_of plan components) journal s
     → (p : ℕ) (component : Std) (x : Process Std) → slice_get components p ≡ Some component → IsFirst component → slice_get s.kept.processes p ≡ Some x → x.stage ≡ stages.Ended
     → Means component (bytes_of x.component) (λ i. contents (got_at s.past p i)) (λ o. contents (sent_at s.past p o))

@@ -2,7 +2,7 @@
 use Rattle.std.specs.Prelude.{◌≡◌, ℕ, true, List, Some, slice_get}
 use Rattle.flow_catalogue.specs.declared.standard.Std.{Std}
 use Rattle.flow_catalogue.specs.declared.standard.Std.TheVariants as components
-use Rattle.flow_catalogue.specs.Std.{std_shape, std_uses, StdReady, StdNext}
+use Rattle.flow_catalogue.specs.Std.{std_rules}
 use Rattle.flow_model.specs.States.{State}
 use Rattle.flow_model.specs.Schedules.{Journal, Leads}
 use Rattle.flow_model.specs.Verdicts.{IsFinished}
@@ -25,14 +25,14 @@ IsUnmerged plan = (c p o q r : ℕ) → sends_at plan p o ≡ Some c → sends_a
 -- Such a network means one outcome: what a writer wrote is the same in all of its compositions.
 abbrev pub OneOutcome : Type 0
 OneOutcome =
-    (plan : Plan) (ks : List Std) (wrote other : ℕ → List ℕ) → StartsWell std_shape std_uses StdReady plan ks → AreSettled ks → IsUnmerged plan → LeadsOn plan → Composes plan ks wrote → Composes plan ks other
+    (plan : Plan) (ks : List Std) (wrote other : ℕ → List ℕ) → StartsWell std_rules plan ks → AreSettled ks → IsUnmerged plan → LeadsOn plan → Composes plan ks wrote → Composes plan ks other
     → (p : ℕ) (bytes : List ℕ) → RunsComponent plan ks p (components.WriteLines bytes) → wrote p ≡ other p
 
 -- Whatever the schedules, two of them that finish leave the same files. (That a network finishes shows that no connection leads back.)
 abbrev pub SameFiles : Type 0
 SameFiles =
-    (plan : Plan) (ks : List Std) (journal other : Journal) (s t : State Std) → StartsWell std_shape std_uses StdReady plan ks → AreFirst ks → AreSettled ks → IsUnmerged plan
-    → Leads StdNext (start_of plan ks) journal s → IsFinished s → Leads StdNext (start_of plan ks) other t → IsFinished t
+    (plan : Plan) (ks : List Std) (journal other : Journal) (s t : State Std) → StartsWell std_rules plan ks → AreFirst ks → AreSettled ks → IsUnmerged plan
+    → Leads std_rules (start_of plan ks) journal s → IsFinished s → Leads std_rules (start_of plan ks) other t → IsFinished t
     → (p : ℕ) (bytes : List ℕ) → RunsComponent plan ks p (components.WriteLines bytes) → wrote_in s p ≡ wrote_in t p
 
 -- Components that are those of a plan, in their first states, are in them also as their meanings have it.
@@ -42,6 +42,6 @@ ComponentsAreFirst = (plan : Plan) (ks : List Std) → AreFirstOf plan ks → Ar
 -- Where a plan is determinate, two schedules that finish leave the same files.
 abbrev pub PlanSameFiles : Type 0
 PlanSameFiles =
-    (plan : Plan) (ks : List Std) (journal other : Journal) (s t : State Std) → IsDeterminate plan → StartsWell std_shape std_uses StdReady plan ks → AreFirstOf plan ks
-    → Leads StdNext (start_of plan ks) journal s → IsFinished s → Leads StdNext (start_of plan ks) other t → IsFinished t
+    (plan : Plan) (ks : List Std) (journal other : Journal) (s t : State Std) → IsDeterminate plan → StartsWell std_rules plan ks → AreFirstOf plan ks
+    → Leads std_rules (start_of plan ks) journal s → IsFinished s → Leads std_rules (start_of plan ks) other t → IsFinished t
     → (p : ℕ) (bytes : List ℕ) → RunsComponent plan ks p (components.WriteLines bytes) → wrote_in s p ≡ wrote_in t p

@@ -7,13 +7,17 @@ use Rattle.flow_packet.specs.Tree.{Tree}
 use Rattle.flow_model.specs.declared.Stage.{Stage}
 use Rattle.flow_model.specs.States.{Input, From, Text, Process, Channel, Kept, without_sender, change_at, changed}
 use Rattle.flow_plan.specs.declared.plan.Sender.{Sender}
-use Rattle.flow_model.specs.Events.{Event, Starts, Finishes, Gets, Takes_text, Hears_end, Sends, Learns, Sleeps, Closes, Signals, Look, looks, event_of, stage_event, idle_event, receive_event, received_from, received, is_fresh, is_connected, has_packet, has_ended, can_start, can_finish, is_woken, is_released, signal_over, takes_signal, signalled_by, signalled_from, signal_event, passes, holds_packet, is_empty, is_over}
-use Rattle.flow_model.specs.Turns.{channel_after, channels_after}
-use Rattle.flow_model.specs.Valid.{SendersOpen, HasToClose}
+use Rattle.flow_model.specs.Events.{Event, Starts, Finishes, Gets, Takes_text, Hears_end, Sends, Closes, Signals, Look, looks, event_of, stage_event, idle_event, receive_event, received_from, received, is_fresh, is_connected, has_packet, has_ended, can_start, can_finish, is_woken, is_released, signal_over, takes_signal, signalled_by, signalled_from, signal_event, passes, holds_packet, is_empty, is_over}
+use Rattle.flow_model.specs.Turns.{channel_after, channels_after, Added, Closed, Change, Taken, change_of}
+use Rattle.flow_model.specs.Stages.{HasToClose}
+use Rattle.flow_model.specs.Valid.{SendersOpen}
 use Rattle.flow_model.specs.Runs.{NoneConnected}
 use Rattle.flow_model.proofs.Lists.{slice_get-set_same, slice_get-set_other, same_or_not, change_at-some}
-use Rattle.flow_model.proofs.Inverse.{explains, seen-there}
+use Rattle.flow_model.proofs.Inverse.{explains, seen-there, SendsTo, ExplainsChange, explains-change}
 use Rattle.flow_model.proofs.Blocks.{outlet-of}
+use Rattle.flow_model.proofs.Changes.{goes-one}
+use Rattle.flow_model.proofs.Senders.{length-without_sender}
+use Rattle.flow_model.proofs.Stages.{same-found}
 
 -- The connection is empty without open sender.
 pub record IsDry (channels : List Channel) (c : ℕ) : Type 0 where
@@ -293,9 +297,6 @@ changed-here channels c d f channel same there =
     let here : slice_get channels d ≡ Some channel = ap (slice_get channels) (sym same) ∙ there in
     ap (λ (cs : List Channel). slice_get cs c) (change_at-some channels d f channel here) ∙ ap (slice_get (slice_set channels d (f channel))) same ∙ slice_get-set_same channels d channel (f channel) here
 
-dry-other : (channels : List Channel) (c d : ℕ) (f : Channel → Channel) → c ≢ d → IsDry channels c → IsDry (change_at channels d f) c
-dry-other channels c d f ne h = record { channel = h.channel; there = changed-other channels d c f (slice_get channels d) ne ∙ h.there; empty = h.empty; closed = h.closed }
-
 some-other : (channels : List Channel) (c d : ℕ) (f : Channel → Channel) → c ≢ d → HoldsSome channels c → HoldsSome (change_at channels d f) c
 some-other channels c d f ne h = record { channel = h.channel; there = changed-other channels d c f (slice_get channels d) ne ∙ h.there; packet = h.packet; rest = h.rest; packets = h.packets }
 
@@ -309,65 +310,54 @@ dry-packets channels c d channel packet rest h same there has =
 
 module _ {K : Type 0} (kept : Kept K) (p : ℕ) (x : Process K) (n : ℕ) (there : slice_get kept.processes p ≡ Some x) (senders : SendersOpen kept) where
   -- whoever sends is an open sender
-  sends-open : (port c : ℕ) (packet : Tree) → event_of kept.channels x n ≡ Some (Sends port c packet) → IsDry kept.channels c → ⊥
-  sends-open port c packet is h = by (slice_get x.outputs port) refl (explains kept.channels x n (Sends port c packet) is).output
+  pub sender-open : (port c : ℕ) (packet : Tree) → SendsTo kept.channels x port c packet → (channel : Channel) × (slice_get kept.channels c ≡ Some channel) × (0 < length channel.open_senders)
+  sender-open port c packet why = by (slice_get x.outputs port) refl why.output
     where
-      by : (found : Option (Option ℕ)) → slice_get x.outputs port ≡ found → option_and_then (λ (c : Option ℕ). c) found ≡ Some c → ⊥
-      by None at out = cc
-      by (Some None) at out = cc
+      by : (found : Option (Option ℕ)) → slice_get x.outputs port ≡ found → option_and_then (λ (c : Option ℕ). c) found ≡ Some c → (channel : Channel) × (slice_get kept.channels c ≡ Some channel) × (0 < length channel.open_senders)
+      by None at out = absurd (cc)
+      by (Some None) at out = absurd (cc)
       by (Some (Some d)) at out =
           let same : d ≡ c = cc in
           let o = outlet-of 0 x.outputs port d at in
-          let has : HasToClose x.stage o.0 = subst (λ (st : Stage). HasToClose st o.0) (sym (explains kept.channels x n (Sends port c packet) is).stage) tt in
-          let open_one = senders p o.0 x o.1 there o.2 has in
-          let k : Some h.channel ≡ Some open_one.0 = sym h.there ∙ ap (slice_get kept.channels) (sym same ∙ sym o.3) ∙ open_one.1 in
-          let ch : h.channel ≡ open_one.0 = cc in
-          let z : open_one.0.open_senders ≡ [] = sym (ap (λ (c : Channel). c.open_senders) ch) ∙ h.closed in
-          (let bad = rw z at open_one.2 in cc)
+          let has : HasToClose x.stage o.0 = subst (λ (st : Stage). HasToClose st o.0) (sym why.stage) tt in
+          let open_one = senders p o.0 x o.1 there o.2 has in (
+            open_one.0,
+            ap (slice_get kept.channels) (sym same ∙ sym o.3) ∙ open_one.1,
+            omega (arith, length-without_sender (record { process = p; output = o.1.output }) open_one.0.open_senders open_one.2),
+          )
+
+  -- so its connection isn't dry
+  sends-open : (port c : ℕ) (packet : Tree) → SendsTo kept.channels x port c packet → IsDry kept.channels c → ⊥
+  sends-open port c packet why h =
+      let o = sender-open port c packet why in
+      let same : h.channel ≡ o.0 = same-found (sym h.there ∙ o.1) in
+      let none : length o.0.open_senders ≡ 0 = ap (λ (ch : Channel). length ch.open_senders) (sym same) ∙ ap length h.closed in
+      omega (arith, none, o.2)
 
   -- what is dry stays dry
   pub dry-after : (e : Event) → event_of kept.channels x n ≡ Some e → (c : ℕ) → IsDry kept.channels c → IsDry (channels_after kept.channels p e) c
-  dry-after Starts is c h = h
-  dry-after Finishes is c h = h
-  dry-after (Gets port d packet) is c h = elim (same_or_not c d) [
-    | inl same ↦ (let from = explains kept.channels x n (Gets port d packet) is in absurd (dry-packets kept.channels c d from.channel packet from.rest h same from.there from.packets))
-    | inr other ↦ dry-other kept.channels c d _ other h
-  ]
-  dry-after (Takes_text port text) is c h = h
-  dry-after (Hears_end port) is c h = h
-  dry-after (Sends port d packet) is c h = elim (same_or_not c d) [
-    | inl same ↦ absurd (sends-open port d packet is (subst (IsDry kept.channels) same h))
-    | inr other ↦ dry-other kept.channels c d _ other h
-  ]
-  dry-after (Signals d packet) is c h = elim (same_or_not c d) [
-    | inl same ↦ (let from = explains kept.channels x n (Signals d packet) is in absurd (dry-packets kept.channels c d from.channel packet from.rest h same from.there from.packets))
-    | inr other ↦ dry-other kept.channels c d _ other h
-  ]
-  dry-after (Learns port level) is c h = h
-  dry-after Sleeps is c h = h
-  dry-after (Closes output d) is c h = elim (same_or_not c d) [
-    | inl same ↦ (let f : Channel → Channel = λ channel. channel_after p channel (Closes output d) in
-        record { channel = f h.channel; there = changed-here kept.channels c d f h.channel same h.there; empty = h.empty; closed = ap (without_sender (record { process = p; output = output })) h.closed })
-    | inr other ↦ dry-other kept.channels c d _ other h
-  ]
+  dry-after e is c h =
+      let came = goes-one (channel_after p) kept.channels (change_of e) c h.channel h.there in
+      elim came.2 [
+        | inl same ↦ record { channel = came.0; there = came.1; empty = ap (λ (ch : Channel). ch.packets) same ∙ h.empty; closed = ap (λ (ch : Channel). ch.open_senders) same ∙ h.closed }
+        | inr change ↦ (let still = by change.0.connection change.0.change (explains-change kept.channels x n e is change.0 change.1) (subst (IsDry kept.channels) (sym change.2) h) in
+            record { channel = came.0; there = came.1; empty = ap (λ (ch : Channel). ch.packets) change.3 ∙ still.0; closed = ap (λ (ch : Channel). ch.open_senders) change.3 ∙ still.1 })
+      ]
+    where
+      -- what is dry stays so: nothing is taken there, whoever adds is an open sender, and a close leaves it
+      by : (d : ℕ) (change : Change) → ExplainsChange kept.channels x d change → IsDry kept.channels d → ((channel_after p change h.channel).packets ≡ []) × ((channel_after p change h.channel).open_senders ≡ [])
+      by d Taken why empty = absurd (dry-packets kept.channels d d why.channel why.packet why.rest empty refl why.there why.packets)
+      by d (Added packet) why empty = absurd (sends-open why.0 d packet why.1 empty)
+      by d (Closed output) why empty = (h.empty, ap (without_sender (record { process = p; output = output })) h.closed)
 
 -- The turn takes a packet from this connection.
 abbrev pub TakesFrom : Event → ℕ → Type 0
 TakesFrom (Gets port d packet) c = c ≡ d
 TakesFrom (Signals d packet) c = c ≡ d
-TakesFrom Starts c = ⊥
-TakesFrom Finishes c = ⊥
-TakesFrom (Takes_text port text) c = ⊥
-TakesFrom (Hears_end port) c = ⊥
-TakesFrom (Sends port d packet) c = ⊥
-TakesFrom (Learns port level) c = ⊥
-TakesFrom Sleeps c = ⊥
-TakesFrom (Closes output d) c = ⊥
+TakesFrom event c = ⊥
 
 -- a connection from which nothing is taken still holds what it held
 pub some-after : (channels : List Channel) (p : ℕ) (e : Event) (c : ℕ) → (TakesFrom e c → ⊥) → HoldsSome channels c → HoldsSome (channels_after channels p e) c
-some-after channels p Starts c ne h = h
-some-after channels p Finishes c ne h = h
 some-after channels p (Gets port d packet) c ne h = elim (same_or_not c d) [
   | inl same ↦ absurd (ne same)
   | inr other ↦ some-other channels c d _ other h
@@ -376,17 +366,14 @@ some-after channels p (Signals d packet) c ne h = elim (same_or_not c d) [
   | inl same ↦ absurd (ne same)
   | inr other ↦ some-other channels c d _ other h
 ]
-some-after channels p (Takes_text port text) c ne h = h
-some-after channels p (Hears_end port) c ne h = h
 some-after channels p (Sends port d packet) c ne h = elim (same_or_not c d) [
-  | inl same ↦ (let f : Channel → Channel = λ channel. channel_after p channel (Sends port d packet) in
+  | inl same ↦ (let f : Channel → Channel = λ channel. channel_after p (Added packet) channel in
       record { channel = f h.channel; there = changed-here channels c d f h.channel same h.there; packet = h.packet; rest = h.rest ++ packet ∷ []; packets = ap (λ ps. ps ++ packet ∷ []) h.packets })
   | inr other ↦ some-other channels c d _ other h
 ]
-some-after channels p (Learns port level) c ne h = h
-some-after channels p Sleeps c ne h = h
 some-after channels p (Closes output d) c ne h = elim (same_or_not c d) [
-  | inl same ↦ (let f : Channel → Channel = λ channel. channel_after p channel (Closes output d) in
+  | inl same ↦ (let f : Channel → Channel = λ channel. channel_after p (Closed output) channel in
       record { channel = f h.channel; there = changed-here channels c d f h.channel same h.there; packet = h.packet; rest = h.rest; packets = h.packets })
   | inr other ↦ some-other channels c d _ other h
 ]
+some-after channels p e c ne h = h

@@ -6,11 +6,8 @@ use Rattle.flow_component.proofs.Streams.{got-more}
 
 -- It is a packet at this input.
 abbrev pub IsGot : ℕ → Happening → Type 0
-IsGot port Started = ⊥
 IsGot port (Received input packet) = input ≡ port
-IsGot port (Ended input) = ⊥
-IsGot port (Sent output packet) = ⊥
-IsGot port (Learned output level) = ⊥
+IsGot port happening = ⊥
 
 abbrev pub HasGot : ℕ → List Happening → Type 0
 HasGot port [] = ⊥
@@ -37,16 +34,13 @@ nothing-more port es e h k = got-more port es e ∙ (λ i. h i ++ k i)
 
 -- an end that is the last stays the last, where nothing is got at an input whose end was heard
 pub last-more : (port : ℕ) (es : List Happening) (e : Happening) → EndIsLast port es → (HeardEnd port es → content_got port e ≡ []) → EndIsLast port (es ++ e ∷ [])
-last-more port [] Started l h = tt
-last-more port [] (Received p t) l h = tt
 last-more port [] (Ended p) l h = ((λ same. refl), tt)
-last-more port [] (Sent p t) l h = tt
-last-more port [] (Learned p n) l h = tt
 last-more port (Started ∷ es) e l h = last-more port es e l (λ k. h (inr k))
 last-more port (Received p t ∷ es) e l h = last-more port es e l (λ k. h (inr k))
 last-more port (Ended p ∷ es) e l h = ((λ same. nothing-more port es e (l.0 same) (h (inl same))), last-more port es e l.1 (λ k. h (inr k)))
 last-more port (Sent p t ∷ es) e l h = last-more port es e l (λ k. h (inr k))
 last-more port (Learned p n ∷ es) e l h = last-more port es e l (λ k. h (inr k))
+last-more port [] e l h = tt
 
 -- what was got first stays so
 brings-more : (port : ℕ) (es : List Happening) (e : Happening) → BringsFirst port es → HasGot port es ⊎ (IsEnd port e → ⊥) → BringsFirst port (es ++ e ∷ [])
@@ -56,22 +50,19 @@ brings-more port [] (Ended p) b (inl g) = absurd g
 brings-more port [] (Ended p) b (inr g) = (g, tt)
 brings-more port [] (Sent p t) b g = tt
 brings-more port [] (Learned p n) b g = tt
-brings-more port (Started ∷ es) e b (inl (inl g)) = absurd g
 brings-more port (Started ∷ es) e b (inl (inr g)) = brings-more port es e b (inl g)
 brings-more port (Started ∷ es) e b (inr g) = brings-more port es e b (inr g)
 brings-more port (Received p t ∷ es) e (inl same) g = inl same
 brings-more port (Received p t ∷ es) e (inr b) (inl (inl same)) = inl same
 brings-more port (Received p t ∷ es) e (inr b) (inl (inr g)) = inr (brings-more port es e b (inl g))
 brings-more port (Received p t ∷ es) e (inr b) (inr g) = inr (brings-more port es e b (inr g))
-brings-more port (Ended p ∷ es) e b (inl (inl g)) = absurd g
 brings-more port (Ended p ∷ es) e b (inl (inr g)) = (b.0, brings-more port es e b.1 (inl g))
 brings-more port (Ended p ∷ es) e b (inr g) = (b.0, brings-more port es e b.1 (inr g))
-brings-more port (Sent p t ∷ es) e b (inl (inl g)) = absurd g
 brings-more port (Sent p t ∷ es) e b (inl (inr g)) = brings-more port es e b (inl g)
 brings-more port (Sent p t ∷ es) e b (inr g) = brings-more port es e b (inr g)
-brings-more port (Learned p n ∷ es) e b (inl (inl g)) = absurd g
 brings-more port (Learned p n ∷ es) e b (inl (inr g)) = brings-more port es e b (inl g)
 brings-more port (Learned p n ∷ es) e b (inr g) = brings-more port es e b (inr g)
+brings-more port happening e b (inl (inl g)) = absurd g
 
 -- After each start one of these inputs brings a packet before its end: it was got already, or it waits.
 pub record Brings (waits among : ℕ → Type 0) (later : List Happening) : Type 0 where
@@ -127,10 +118,7 @@ module _ (old new among : ℕ → Type 0) (e : Happening) (no_end : (port : ℕ)
 
   last-one : (f : Happening) → (IsStart f → (port : ℕ) × among port × new port) → StartsKeep new among (f ∷ [])
   last-one Started b = (record { port = (b tt).0; within = (b tt).1; first = tt; got_or_waits = inr ((b tt).2) }, tt)
-  last-one (Received p t) b = tt
-  last-one (Ended p) b = tt
-  last-one (Sent p t) b = tt
-  last-one (Learned p m) b = tt
+  last-one f b = tt
 
   pub starts-more : (es : List Happening) → StartsKeep old among es → StartsKeep new among (es ++ e ∷ [])
   starts-more [] k = last-one e begins
@@ -147,16 +135,16 @@ wakes-more n before (f ∷ es) e w starts =
     (w.0, wakes-more n (before ++ f ∷ []) es e w.1 (λ s. subst (λ (hs : List Happening). (hs ≡ []) ⊎ ((port : ℕ) × (port < n) × (HeardEnd port hs → ⊥))) (sym (append_assoc before (f ∷ []) es)) (starts s)))
 
 -- Whether a text at this input is fresh, once these were told.
-abbrev pub fresh_after : ℕ → Bool → List Happening → Bool
-fresh_after port fresh [] = fresh
-fresh_after port fresh (Started ∷ later) = fresh_after port true later
-fresh_after port fresh (Received input packet ∷ later) = fresh_after port (fresh && not (input == port)) later
-fresh_after port fresh (Ended input ∷ later) = fresh_after port fresh later
-fresh_after port fresh (Sent output packet ∷ later) = fresh_after port fresh later
-fresh_after port fresh (Learned output level ∷ later) = fresh_after port fresh later
+abbrev pub fresh_told : ℕ → Bool → List Happening → Bool
+fresh_told port fresh [] = fresh
+fresh_told port fresh (Started ∷ later) = fresh_told port true later
+fresh_told port fresh (Received input packet ∷ later) = fresh_told port (fresh && not (input == port)) later
+fresh_told port fresh (Ended input ∷ later) = fresh_told port fresh later
+fresh_told port fresh (Sent output packet ∷ later) = fresh_told port fresh later
+fresh_told port fresh (Learned output level ∷ later) = fresh_told port fresh later
 
 -- One more happening changes whether an initial text is fresh as it alone would.
-pub fresh-more : (port : ℕ) (fresh : Bool) (es : List Happening) (e : Happening) → fresh_after port fresh (es ++ e ∷ []) ≡ fresh_after port (fresh_after port fresh es) (e ∷ [])
+pub fresh-more : (port : ℕ) (fresh : Bool) (es : List Happening) (e : Happening) → fresh_told port fresh (es ++ e ∷ []) ≡ fresh_told port (fresh_told port fresh es) (e ∷ [])
 fresh-more port fresh [] e = refl
 fresh-more port fresh (Started ∷ es) e = fresh-more port true es e
 fresh-more port fresh (Received i t ∷ es) e = fresh-more port (fresh && not (i == port)) es e
@@ -165,7 +153,7 @@ fresh-more port fresh (Sent o t ∷ es) e = fresh-more port fresh es e
 fresh-more port fresh (Learned o n ∷ es) e = fresh-more port fresh es e
 
 -- one more is told at an input with a text
-pub gives-more : (port : ℕ) (text : List ℕ) (fresh : Bool) (es : List Happening) (e : Happening) → GivesText port text fresh es → GivesText port text (fresh_after port fresh es) (e ∷ []) → GivesText port text fresh (es ++ e ∷ [])
+pub gives-more : (port : ℕ) (text : List ℕ) (fresh : Bool) (es : List Happening) (e : Happening) → GivesText port text fresh es → GivesText port text (fresh_told port fresh es) (e ∷ []) → GivesText port text fresh (es ++ e ∷ [])
 gives-more port text fresh [] e g h = h
 gives-more port text fresh (Started ∷ es) e g h = gives-more port text true es e g h
 gives-more port text fresh (Received i t ∷ es) e g h = (g.0, gives-more port text (fresh && not (i == port)) es e g.1 h)

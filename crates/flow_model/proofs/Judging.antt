@@ -1,9 +1,8 @@
 -- In each state one verdict holds, and one only.
-use Rattle.std.proofs.Common.{◌≡◌, ◌≢◌, ℕ, List, [], ◌∷◌, Option, Some, None, Bool, refl, ap, sym, subst, ◌∙◌, zero, suc, ◌⊎◌, inl, inr, IsSome, slice_get}
-use Rattle.flow_packet.specs.Held.{Held}
+use Rattle.std.proofs.Common.{◌≡◌, ◌≢◌, ℕ, List, [], ◌∷◌, Option, Some, None, refl, ap, sym, subst, ◌∙◌, zero, suc, ◌⊎◌, inl, inr, IsSome, slice_get}
 use Rattle.flow_component.specs.declared.Answer.{Answer}
 use Rattle.flow_component.specs.declared.Fail.{Fail}
-use Rattle.flow_component.specs.declared.Shape.{Shape}
+use Rattle.flow_component.specs.Laws.{Rules}
 use Rattle.flow_model.specs.declared.Stage.{Stage}
 use Rattle.flow_model.specs.declared.Stage.TheVariants as stages
 use Rattle.flow_model.specs.declared.Block.{Block}
@@ -11,7 +10,8 @@ use Rattle.flow_model.specs.States.{Process, Channel, State}
 use Rattle.flow_model.specs.Events.{Event, looks, event_from, event_of, stage_event}
 use Rattle.flow_model.specs.Verdicts.{exact_level, block_of, Quiet, AllEnded, SomeFailed, OneVerdict}
 use Rattle.flow_model.specs.Fit.{Fit}
-use Rattle.flow_model.proofs.Blocks.{IsOverOrOwes, turn-or-block, block-no_turn}
+use Rattle.flow_model.specs.Stages.{IsOverOrOwes}
+use Rattle.flow_model.proofs.Blocks.{turn-or-block, block-no_turn}
 
 -- of a list whose elements can be told apart by a fact, all have it or some one has it not
 decide : {A : Type 0} (P : A → Type 0) (xs : List A) → ((i : ℕ) (x : A) → slice_get xs i ≡ Some x → P x ⊎ (P x → ⊥)) → ((i : ℕ) (x : A) → slice_get xs i ≡ Some x → P x) ⊎ ((i : ℕ) × (x : A) × (slice_get xs i ≡ Some x) × (P x → ⊥))
@@ -40,7 +40,7 @@ over-still channels x stage none thought is = record {
 }
 
 -- a process of a state that fits has a turn, or is still
-module _ {K : Type 0} (shape_of : K → Shape) (uses : K → ℕ → Bool) (ready : K → Held → Answer → Type 0) (s : State K) (fit : Fit shape_of uses ready s) where
+module _ {K : Type 0} (rules : Rules K) (s : State K) (fit : Fit rules s) where
   still-or-on : (p : ℕ) (x : Process K) (stage : Stage) → slice_get s.kept.processes p ≡ Some x → x.stage ≡ stage → (IsOverOrOwes stage → ⊥) → IsStill s.kept.channels x ⊎ (IsStill s.kept.channels x → ⊥)
   still-or-on p x stage there is on = by (event_from (looks s.kept.channels) x (exact_level (looks s.kept.channels) x)) refl
     where
@@ -64,9 +64,7 @@ module _ {K : Type 0} (shape_of : K → Shape) (uses : K → ℕ → Bool) (read
   still-or p x stages.Ended there is = inl (over-still s.kept.channels x stages.Ended (λ n. refl) (λ answer told. cc) is)
   still-or p x (stages.Failed cause) there is = inl (over-still s.kept.channels x (stages.Failed cause) (λ n. refl) (λ answer told. cc) is)
   still-or p x (stages.Told answer) there is = inr (λ quiet. quiet.thought answer is)
-  still-or p x stages.Idle there is = still-or-on p x stages.Idle there is (λ lacks. lacks)
-  still-or p x (stages.Wishing wish) there is = still-or-on p x (stages.Wishing wish) there is (λ lacks. lacks)
-  still-or p x (stages.Closing i) there is = still-or-on p x (stages.Closing i) there is (λ lacks. lacks)
+  still-or p x stage there is = still-or-on p x stage there is (λ lacks. lacks)
 
   -- it is quiet or it isn't
   quiet-or : Quiet s ⊎ (Quiet s → ⊥)
@@ -77,31 +75,19 @@ module _ {K : Type 0} (shape_of : K → Shape) (uses : K → ℕ → Bool) (read
 
 ended-or : (stage : Stage) → (stage ≡ stages.Ended) ⊎ (stage ≡ stages.Ended → ⊥)
 ended-or stages.Ended = inl refl
-ended-or stages.Idle = inr (λ h. cc)
-ended-or (stages.Told answer) = inr (λ h. cc)
-ended-or (stages.Wishing wish) = inr (λ h. cc)
-ended-or (stages.Closing i) = inr (λ h. cc)
-ended-or (stages.Failed cause) = inr (λ h. cc)
+ended-or stage = inr (λ h. cc)
 
 -- it hasn't failed
 abbrev HasNotFailed : Stage → Type 0
 HasNotFailed stage = (cause : Fail) → stage ≡ stages.Failed cause → ⊥
 
 failed-or : (stage : Stage) → HasNotFailed stage ⊎ (HasNotFailed stage → ⊥)
-failed-or stages.Ended = inl (λ cause h. cc)
-failed-or stages.Idle = inl (λ cause h. cc)
-failed-or (stages.Told answer) = inl (λ cause h. cc)
-failed-or (stages.Wishing wish) = inl (λ cause h. cc)
-failed-or (stages.Closing i) = inl (λ cause h. cc)
 failed-or (stages.Failed cause) = inr (λ lacks. lacks cause refl)
+failed-or stage = inl (λ cause h. cc)
 
 failed-at : (stage : Stage) → (HasNotFailed stage → ⊥) → (cause : Fail) × (stage ≡ stages.Failed cause)
-failed-at stages.Ended lacks = absurd (lacks (λ cause h. cc))
-failed-at stages.Idle lacks = absurd (lacks (λ cause h. cc))
-failed-at (stages.Told answer) lacks = absurd (lacks (λ cause h. cc))
-failed-at (stages.Wishing wish) lacks = absurd (lacks (λ cause h. cc))
-failed-at (stages.Closing i) lacks = absurd (lacks (λ cause h. cc))
 failed-at (stages.Failed cause) lacks = (cause, refl)
+failed-at stage lacks = absurd (lacks (λ cause h. cc))
 
 all-ended-or : {K : Type 0} (s : State K) → AllEnded s ⊎ (AllEnded s → ⊥)
 all-ended-or {K} s = elim (decide (λ (x : Process K). x.stage ≡ stages.Ended) s.kept.processes (λ p x there. ended-or x.stage)) [
@@ -123,11 +109,11 @@ ended-quiet s all = record {
 }
 
 -- one verdict holds in a state that fits
-pub one-verdict : {K : Type 0} (shape_of : K → Shape) (uses : K → ℕ → Bool) (ready : K → Held → Answer → Type 0) (s : State K) → Fit shape_of uses ready s → OneVerdict s
-one-verdict shape_of uses ready s fit = record {
+pub one-verdict : {K : Type 0} (rules : Rules K) (s : State K) → Fit rules s → OneVerdict s
+one-verdict rules s fit = record {
   some = elim (all-ended-or s) [
     | inl all ↦ inl all
-    | inr not_all ↦ elim (quiet-or shape_of uses ready s fit) [
+    | inr not_all ↦ elim (quiet-or rules s fit) [
       | inr loud ↦ inr (inr (inr loud))
       | inl quiet ↦ elim (some-failed-or s) [
         | inl failed ↦ inr (inl (quiet, failed))

@@ -1,39 +1,31 @@
 -- Open senders are those that still have to close, or that a failed process leaves open: at the start, and after every turn and work.
-use Rattle.flow_limits.specs.declared.TheConstants.{HANDS_LIMIT, TURN_LIMIT}
-use Rattle.std.proofs.Common.{◌≡◌, ◌≢◌, ℕ, ◌+◌, ◌<◌, ◌≤◌, List, [], ◌∷◌, length, Some, None, true, false, refl, ap, arith, nat_lt, nat_eq, Option, ◌∙◌, sym, Bool, cond, ◌==◌, ◌||◌, slice_get, slice_set, slice_index, get_or, subst, map, suc, zero, ◌⊎◌, inl, inr, IsTrue, position}
+use Rattle.std.proofs.Common.{◌≡◌, ◌≢◌, ℕ, ◌+◌, ◌<◌, ◌≤◌, List, [], ◌∷◌, length, Some, None, true, false, refl, ap, arith, nat_eq, Option, ◌∙◌, sym, Bool, cond, ◌||◌, slice_get, slice_set, get_or, subst, map, suc, zero, ◌⊎◌, inl, inr, IsTrue, position}
 use Rattle.std.specs.List.{list_any, range_with_len}
 use Rattle.std.proofs.lemmas.Bool.Decides.{nat_tests}
 use Rattle.std.proofs.lemmas.List.Quantifiers.{position-Some}
 use Rattle.std.proofs.lemmas.Option.{slice_get_within, slice_get-get_or, get_or_from_slice_get}
-use Rattle.flow_packet.specs.Held.{Held}
 use Rattle.flow_packet.proofs.Trees.{position-None}
-use Rattle.flow_component.specs.declared.Answer.{Answer}
-use Rattle.flow_component.specs.declared.Wish.TheVariants as wishes
-use Rattle.flow_component.specs.declared.Wish.{Wish}
-use Rattle.flow_component.specs.declared.Answer.TheVariants as answers
-use Rattle.flow_component.specs.declared.Fail.TheVariants as fails
-use Rattle.flow_component.specs.declared.Shape.{Shape}
-use Rattle.flow_component.specs.Laws.{Outcome, Wishes, Fails}
-use Rattle.flow_packet.specs.Tree.{Tree, id_of, kind_of}
-use Rattle.flow_packet.specs.Hands.{packet_at}
+use Rattle.flow_component.specs.Laws.{Rules, Outcome}
 use Rattle.flow_model.specs.declared.Stage.{Stage}
 use Rattle.flow_model.specs.declared.Stage.TheVariants as stages
-use Rattle.flow_model.specs.States.{is_sender, without_sender, Process, Channel, State, Outlet, outlets, outlets_from, change_at, changed}
+use Rattle.flow_model.specs.States.{is_sender, without_sender, Process, Channel, State, Outlet, outlets, outlets_from, changed}
 use Rattle.flow_plan.specs.declared.plan.Sender.{Sender}
-use Rattle.flow_model.specs.Events.{Event, Starts, Finishes, Gets, Takes_text, Hears_end, Sends, Learns, Sleeps, Closes, Signals, Look, looks, stage_event, event_of}
-use Rattle.flow_model.specs.Turns.{process_after, channel_after, channels_after, limited, closing, closing_on, Turn}
-use Rattle.flow_model.specs.Works.{judged, sending, nests, worked, Work}
+use Rattle.flow_model.specs.Events.{Event, Closes, looks, event_of}
+use Rattle.flow_model.specs.Turns.{process_after, channel_after, channels_after, closing, Turn, Taken, Added, Closed, Change, change_of}
+use Rattle.flow_model.specs.Works.{worked, Work}
 use Rattle.flow_model.specs.Plans.{sends_at, process_at_start, processes_at_start, start_of, StartsWell}
 use Rattle.flow_plan.specs.Network.{Network as Plan}
 use Rattle.flow_plan.specs.declared.plan.Process.{Process as PlanProcess}
 use Rattle.flow_plan.specs.declared.plan.Connection.{Connection as PlanConnection}
 use Rattle.flow_plan.specs.Valid.{IsWired}
-use Rattle.flow_model.specs.Valid.{HasToClose, IsOpenSender, IsFailedStage, IsLeftOpen, AllDifferent, OpenSendersTell, EndedLeftClosed}
+use Rattle.flow_model.specs.Stages.{HasToClose, IsFailedStage}
+use Rattle.flow_model.specs.Valid.{IsOpenSender, IsLeftOpen, AllDifferent, OpenSendersTell, EndedLeftClosed}
 use Rattle.flow_model.proofs.Lists.{slice_get-set_same, slice_get-set_other, same_or_not}
-use Rattle.flow_model.proofs.Inverse.{explains}
 use Rattle.flow_model.proofs.Order.{outputs-after, outputs-worked}
 use Rattle.flow_model.proofs.Senders.{both-true, SendersOpen-turn, SendersOpen-work}
 use Rattle.flow_model.proofs.Start.{start-channel, start-senders}
+use Rattle.flow_model.proofs.Stages.{closing-elim, worked-elim, after-turn, failed-still, same-found}
+use Rattle.flow_model.proofs.Changes.{get-one}
 
 -- two senders that pass the test are the same
 same-sender : (a b : Sender) → is_sender a b ≡ true → a ≡ b
@@ -86,41 +78,28 @@ pub record WasChannel (channels : List Channel) (p : ℕ) (e : Event) (c : ℕ) 
   pub still : (sender : Sender) → IsOpenSender sender channel.open_senders → IsOpenSender sender old.open_senders
   pub different : AllDifferent old.open_senders → AllDifferent channel.open_senders
 
-same-channel : (channels : List Channel) (p : ℕ) (e : Event) (c : ℕ) (channel : Channel) → slice_get channels c ≡ Some channel → WasChannel channels p e c channel
-same-channel channels p e c channel is = record { old = channel; there = is; still = λ sender goes. goes; different = λ all. all }
-
-changed-channel : (channels : List Channel) (p : ℕ) (e : Event) (d c : ℕ) (f : Channel → Channel) (channel : Channel)
-    → ((x : Channel) (sender : Sender) → IsOpenSender sender (f x).open_senders → IsOpenSender sender x.open_senders) → ((x : Channel) → AllDifferent x.open_senders → AllDifferent (f x).open_senders)
-    → slice_get (change_at channels d f) c ≡ Some channel → WasChannel channels p e c channel
-changed-channel channels p e d c f channel still different is = by (slice_get channels d) refl is
-  where
-    by : (found : Option Channel) → slice_get channels d ≡ found → slice_get (changed channels d f found) c ≡ Some channel → WasChannel channels p e c channel
-    by None there is = same-channel channels p e c channel is
-    by (Some x) there is = elim (same_or_not c d) [
-      | inl same ↦ (let h : Some (f x) ≡ Some channel = sym (ap (slice_get (slice_set channels d (f x))) same ∙ slice_get-set_same channels d x (f x) there) ∙ is in
-          let after : f x ≡ channel = cc in
-          record {
-            old = x;
-            there = ap (slice_get channels) same ∙ there;
-            still = λ sender goes. still x sender (subst (λ (ch : Channel). IsOpenSender sender ch.open_senders) (sym after) goes);
-            different = λ all. subst (λ (ch : Channel). AllDifferent ch.open_senders) after (different x all);
-          })
-      | inr other ↦ same-channel channels p e c channel (sym (slice_get-set_other channels d c (f x) other) ∙ is)
-    ]
-
 was-channel : (channels : List Channel) (p : ℕ) (e : Event) (c : ℕ) (channel : Channel) → slice_get (channels_after channels p e) c ≡ Some channel → WasChannel channels p e c channel
-was-channel channels p Starts c channel is = same-channel channels p Starts c channel is
-was-channel channels p Finishes c channel is = same-channel channels p Finishes c channel is
-was-channel channels p (Takes_text port text) c channel is = same-channel channels p (Takes_text port text) c channel is
-was-channel channels p (Hears_end port) c channel is = same-channel channels p (Hears_end port) c channel is
-was-channel channels p (Learns port level) c channel is = same-channel channels p (Learns port level) c channel is
-was-channel channels p Sleeps c channel is = same-channel channels p Sleeps c channel is
-was-channel channels p (Signals d packet) c channel is = changed-channel channels p (Signals d packet) d c (λ ch. channel_after p ch (Signals d packet)) channel (λ x sender goes. goes) (λ x all. all) is
-was-channel channels p (Gets port d packet) c channel is = changed-channel channels p (Gets port d packet) d c (λ ch. channel_after p ch (Gets port d packet)) channel (λ x sender goes. goes) (λ x all. all) is
-was-channel channels p (Sends port d packet) c channel is = changed-channel channels p (Sends port d packet) d c (λ ch. channel_after p ch (Sends port d packet)) channel (λ x sender goes. goes) (λ x all. all) is
-was-channel channels p (Closes output d) c channel is =
-    let t : Sender = record { process = p; output = output } in
-    changed-channel channels p (Closes output d) d c (λ ch. channel_after p ch (Closes output d)) channel (λ x sender goes. still-open t sender x.open_senders goes) (λ x all. different-without t x.open_senders all) is
+was-channel channels p e c channel is =
+    let was = get-one (channel_after p) channels (change_of e) c channel is in
+    elim was.2 [
+      | inl same ↦ record { old = was.0; there = was.1; still = λ sender goes. subst (λ (ch : Channel). IsOpenSender sender ch.open_senders) same goes; different = λ all. subst (λ (ch : Channel). AllDifferent ch.open_senders) (sym same) all }
+      | inr change ↦ record {
+        old = was.0;
+        there = was.1;
+        still = λ sender goes. still change.0.change was.0 sender (subst (λ (ch : Channel). IsOpenSender sender ch.open_senders) change.3 goes);
+        different = λ all. subst (λ (ch : Channel). AllDifferent ch.open_senders) (sym change.3) (different change.0.change was.0 all);
+      }
+    ]
+  where
+    still : (change : Change) (x : Channel) (sender : Sender) → IsOpenSender sender (channel_after p change x).open_senders → IsOpenSender sender x.open_senders
+    still Taken x sender goes = goes
+    still (Added packet) x sender goes = goes
+    still (Closed output) x sender goes = still-open (record { process = p; output = output }) sender x.open_senders goes
+
+    different : (change : Change) (x : Channel) → AllDifferent x.open_senders → AllDifferent (channel_after p change x).open_senders
+    different Taken x all = all
+    different (Added packet) x all = all
+    different (Closed output) x all = different-without (record { process = p; output = output }) x.open_senders all
 
 -- after a close the sender that closed isn't open there
 closed-there : (channels : List Channel) (p output d : ℕ) (channel : Channel) → ((x : Channel) → slice_get channels d ≡ Some x → AllDifferent x.open_senders) → slice_get (channels_after channels p (Closes output d)) d ≡ Some channel
@@ -130,97 +109,37 @@ closed-there channels p output d channel once is = by (slice_get channels d) ref
     t : Sender
     t = record { process = p; output = output }
 
-    by : (found : Option Channel) → slice_get channels d ≡ found → slice_get (changed channels d (λ ch. channel_after p ch (Closes output d)) found) d ≡ Some channel → IsOpenSender (record { process = p; output = output }) channel.open_senders → ⊥
+    by : (found : Option Channel) → slice_get channels d ≡ found → slice_get (changed channels d (channel_after p (Closed output)) found) d ≡ Some channel → IsOpenSender (record { process = p; output = output }) channel.open_senders → ⊥
     by None there is goes = let h : None ≡ Some channel = sym there ∙ is in cc
     by (Some x) there is goes =
-        let h : Some (channel_after p x (Closes output d)) ≡ Some channel = sym (slice_get-set_same channels d x (channel_after p x (Closes output d)) there) ∙ is in
-        let after : channel_after p x (Closes output d) ≡ channel = cc in
+        let h : Some (channel_after p (Closed output) x) ≡ Some channel = sym (slice_get-set_same channels d x (channel_after p (Closed output) x) there) ∙ is in
+        let after : channel_after p (Closed output) x ≡ channel = cc in
         closed-gone (record { process = p; output = output }) x.open_senders (once x there) (subst (λ (ch : Channel). IsOpenSender (record { process = p; output = output }) ch.open_senders) (sym after) goes)
 
 -- It has to close this output, or it failed.
 abbrev Leaves : Stage → ℕ → Type 0
 Leaves stage j = HasToClose stage j ⊎ IsFailedStage stage
 
-leaves-cond : (b : Bool) (stage : Stage) (j : ℕ) → HasToClose stage j → Leaves (cond b (stages.Failed fails.TurnLimit) stage) j
-leaves-cond true stage j has = inr tt
-leaves-cond false stage j has = inl has
-
-leaves-limited : (n : ℕ) (stage : Stage) (j : ℕ) → HasToClose stage j → Leaves (limited n stage) j
-leaves-limited n stages.Ended j has = absurd has
-leaves-limited n stages.Idle j has = leaves-cond (n == TURN_LIMIT) stages.Idle j has
-leaves-limited n (stages.Told a) j has = leaves-cond (n == TURN_LIMIT) (stages.Told a) j has
-leaves-limited n (stages.Wishing w) j has = leaves-cond (n == TURN_LIMIT) (stages.Wishing w) j has
-leaves-limited n (stages.Closing i) j has = leaves-cond (n == TURN_LIMIT) (stages.Closing i) j has
-leaves-limited n (stages.Failed c) j has = absurd has
-
--- one that goes on closing at i still has to close each outlet from there on
-closes-from : {K : Type 0} (x : Process K) (i j : ℕ) → i ≤ j → j < length (outlets x) → HasToClose (closing x i) j
-closes-from x i j least within = by (nat_lt i (length (outlets x))) refl
-  where
-    by : (b : Bool) → nat_lt i (length (outlets x)) ≡ b → HasToClose (cond b (stages.Closing i) stages.Ended) j
-    by true t = least
-    by false t = absurd (let past : length (outlets x) ≤ i = grind (arith, nat_tests) in omega (arith, past, least, within))
-
--- a process that fails or has ended has no turn
-no-turn-failed : {K : Type 0} (channels : List Look) (x : Process K) (n : ℕ) (stage : Stage) (e : Event) → stage_event channels x n stage ≡ Some e → IsFailedStage stage → ⊥
-no-turn-failed channels x n (stages.Failed cause) e is failed = cc
-no-turn-failed channels x n stages.Idle e is failed = failed
-no-turn-failed channels x n (stages.Told a) e is failed = failed
-no-turn-failed channels x n (stages.Wishing w) e is failed = failed
-no-turn-failed channels x n (stages.Closing i) e is failed = failed
-no-turn-failed channels x n stages.Ended e is failed = failed
-
 -- a turn doesn't close this outlet
 abbrev NotClosed : {K : Type 0} → List Channel → Process K → ℕ → Event → ℕ → Type 0
 NotClosed {K} channels x n (Closes output c) j = (i : ℕ) → x.stage ≡ stages.Closing i → slice_get (outlets x) i ≡ Some (let o : Outlet = record { output = output; connection = c } in o) → j ≢ i
-NotClosed channels x n Starts j = Unit {0}
-NotClosed channels x n Finishes j = Unit {0}
-NotClosed channels x n (Gets port c packet) j = Unit {0}
-NotClosed channels x n (Takes_text port text) j = Unit {0}
-NotClosed channels x n (Hears_end port) j = Unit {0}
-NotClosed channels x n (Sends port c packet) j = Unit {0}
-NotClosed channels x n (Learns port level) j = Unit {0}
-NotClosed channels x n Sleeps j = Unit {0}
-NotClosed channels x n (Signals w signal) j = Unit {0}
+NotClosed channels x n event j = Unit {0}
 
 -- after a turn that doesn't close this outlet, it is still to be closed, or the process has failed
 leaves-after : {K : Type 0} (channels : List Channel) (x : Process K) (n : ℕ) (e : Event) (j : ℕ) → event_of channels x n ≡ Some e → j < length (outlets x) → NotClosed channels x n e j → HasToClose x.stage j → Leaves (process_after x e).stage j
-leaves-after channels x n Starts j is within spared has = leaves-limited (x.turns + 1) (stages.Told answers.Start) j tt
-leaves-after channels x n Finishes j is within spared has = leaves-limited (x.turns + 1) (closing x 0) j (closes-from x 0 j (omega arith) within)
-leaves-after channels x n (Gets port c packet) j is within spared has = leaves-limited (x.turns + 1) (stages.Told (answers.Got (id_of packet))) j tt
-leaves-after channels x n (Takes_text port text) j is within spared has = leaves-limited (x.turns + 1) (stages.Told (answers.Got _)) j tt
-leaves-after channels x n (Hears_end port) j is within spared has = leaves-limited (x.turns + 1) (stages.Told answers.End) j tt
-leaves-after channels x n (Sends port c packet) j is within spared has = leaves-limited (x.turns + 1) (stages.Told answers.Sent) j tt
-leaves-after channels x n (Learns port level) j is within spared has = leaves-limited (x.turns + 1) (stages.Told (answers.Level level)) j tt
-leaves-after channels x n Sleeps j is within spared has = leaves-limited (x.turns + 1) stages.Idle j tt
-leaves-after channels x n (Signals w signal) j is within spared has = leaves-limited (x.turns + 1) stages.Idle j tt
-leaves-after channels x n (Closes output c) j is within spared has =
-    let at = explains channels x n (Closes output c) is in
-    let least : at.i ≤ j = subst (λ (st : Stage). HasToClose st j) at.stage has in
+leaves-after channels x n e j is within spared has = after-turn channels x n e is (λ f _ stage. NotClosed channels x n f j → Leaves stage j) (λ _. inr tt) (λ h _ _. inl tt) (λ _ _. inl tt) (λ c packet _ _. inl tt)
+    (λ _ _. goes-on 0 (omega arith))
+    (λ output c at spared. (let least : at.i ≤ j = subst (λ (st : Stage). HasToClose st j) at.stage has in
     let ne : j ≢ at.i = spared at.i at.stage at.outlet in
-    subst (λ (st : Stage). Leaves (limited (x.turns + 1) (closing_on x st)) j) (sym at.stage) (leaves-limited (x.turns + 1) (closing x (at.i + 1)) j (closes-from x (at.i + 1) j (omega (arith, least, ne)) within))
-
-leaves-judged : (depths : List ℕ) (held : Held) (wish : Wish) (j : ℕ) → Leaves (judged depths held wish) j
-leaves-judged depths held (wishes.Receive port) j = by (nat_lt (length held.packets) HANDS_LIMIT)
+    goes-on (at.i + 1) (omega (arith, least, ne))))
+    spared
   where
-    by : (b : Bool) → Leaves (cond b (stages.Wishing (wishes.Receive port)) (stages.Failed fails.HandsLimit)) j
-    by true = inl tt
-    by false = inr tt
-leaves-judged depths held (wishes.Send port id) j = by (packet_at held.packets id)
-  where
-    by-nests : (b : Bool) → Leaves (cond b (stages.Wishing (wishes.Send port id)) (stages.Failed (fails.Unnested port))) j
-    by-nests true = inl tt
-    by-nests false = inr tt
-
-    by : (found : Option Tree) → Leaves (sending depths port id found) j
-    by None = inl tt
-    by (Some packet) = by-nests (nests (kind_of packet) (slice_index depths port.0))
-leaves-judged depths held (wishes.Level port) j = inl tt
-leaves-judged depths held wishes.Deactivate j = inl tt
+    -- one that goes on closing at i still has to close each outlet from there on
+    goes-on : (i : ℕ) → i ≤ j → Leaves (closing x i) j
+    goes-on i least = closing-elim (λ stage. Leaves stage j) x i (λ _. inl least) (λ past. absurd (omega (arith, past, least, within)))
 
 leaves-worked : {K : Type 0} (x : Process K) (outcome : Outcome K) (j : ℕ) → Leaves (worked x outcome).stage j
-leaves-worked x (Wishes component held wish) j = leaves-judged x.depths held wish j
-leaves-worked x (Fails component held cause) j = inr tt
+leaves-worked x outcome j = worked-elim (λ stage. Leaves stage j) x outcome (λ cause. inr tt) (λ wish. inl tt)
 
 -- what is left open stays so where another process changes
 left-other : {K : Type 0} (processes : List (Process K)) (p : ℕ) (y : Process K) (sender : Sender) (c : ℕ) → sender.process ≢ p → IsLeftOpen processes sender c → IsLeftOpen (slice_set processes p y) sender c
@@ -243,9 +162,6 @@ left-own {K} processes p x y sender c there same left outputs is leaves = record
   left = leaves;
 }
 
-same-found : {A : Type 0} (a b : A) → Some a ≡ Some b → a ≡ b
-same-found a b h = cc
-
 not-closed : {K : Type 0} (channels : List Channel) (x : Process K) (n p : ℕ) (e : Event) (sender : Sender) (c : ℕ) (channel : Channel) (place : ℕ) → ((d : ℕ) (ch : Channel) → slice_get channels d ≡ Some ch → AllDifferent ch.open_senders)
     → sender.process ≡ p → slice_get (channels_after channels p e) c ≡ Some channel → IsOpenSender sender channel.open_senders → slice_get (outlets x) place ≡ Some (let o : Outlet = record { output = sender.output; connection = c } in o)
     → NotClosed channels x n e place
@@ -259,15 +175,7 @@ not-closed channels x n p (Closes output d) sender c channel place once same is 
     let t : Sender = record { process = p; output = output } in
     let sender_same : sender ≡ t = λ k. record { process = same k; output = output_same k } in
     closed-there channels p output d channel (once d) (ap (slice_get (channels_after channels p (Closes output d))) (sym connection_same) ∙ is) (subst (λ (u : Sender). IsOpenSender u channel.open_senders) sender_same goes))
-not-closed channels x n p Starts sender c channel place once same is goes outlet = tt
-not-closed channels x n p Finishes sender c channel place once same is goes outlet = tt
-not-closed channels x n p (Gets port d packet) sender c channel place once same is goes outlet = tt
-not-closed channels x n p (Takes_text port text) sender c channel place once same is goes outlet = tt
-not-closed channels x n p (Hears_end port) sender c channel place once same is goes outlet = tt
-not-closed channels x n p (Sends port d packet) sender c channel place once same is goes outlet = tt
-not-closed channels x n p (Learns port level) sender c channel place once same is goes outlet = tt
-not-closed channels x n p Sleeps sender c channel place once same is goes outlet = tt
-not-closed channels x n p (Signals w signal) sender c channel place once same is goes outlet = tt
+not-closed channels x n p e sender c channel place once same is goes outlet = tt
 
 -- a turn keeps it
 pub OpenSendersTell-turn : {K : Type 0} (s : State K) (p : ℕ) (event : Event) (s' : State K) → Turn s p event s' → OpenSendersTell s.kept → OpenSendersTell s'.kept
@@ -284,13 +192,13 @@ OpenSendersTell-turn {K} s p event s' turn old =
           subst (λ (ps : List (Process K)). IsLeftOpen ps sender c) (sym turn.kept.processes) (elim (same_or_not sender.process p) [
             | inr ne ↦ left-other s.kept.processes p y sender c ne left
             | inl same ↦ (let found : Some left.process ≡ Some x = sym left.there ∙ ap (slice_get s.kept.processes) same ∙ turn.kept.there in
-                let here : left.process ≡ x = same-found left.process x found in
+                let here : left.process ≡ x = same-found found in
                 let outlet : slice_get (outlets x) left.place ≡ Some (let o : Outlet = record { output = sender.output; connection = c } in o) = ap (λ (w : Process K). slice_get (outlets w) left.place) (sym here) ∙ left.outlet in
                 let spared = not-closed s.kept.channels x turn.kept.level p event sender c channel left.place old.once same is' goes outlet in
                 let within = slice_get_within (outlets x) left.place _ outlet in
                 let leaves : Leaves x.stage left.place = subst (λ (w : Process K). Leaves w.stage left.place) here left.left in
                 left-own s.kept.processes p x y sender c turn.kept.there same left (outputs-after x event) here
-                (after leaves (λ has. leaves-after s.kept.channels x turn.kept.level event left.place turn.kept.happens within spared has) (no-turn-failed (looks s.kept.channels) x turn.kept.level x.stage event turn.kept.happens)))
+                (after leaves (λ has. leaves-after s.kept.channels x turn.kept.level event left.place turn.kept.happens within spared has) (failed-still (looks s.kept.channels) x turn.kept.level event x.stage turn.kept.happens)))
           ]));
     }
   where
@@ -299,19 +207,19 @@ OpenSendersTell-turn {K} s p event s' turn old =
     after (inr b) f g = absurd (g b)
 
 -- a work keeps it
-pub OpenSendersTell-work : {K : Type 0} (next : K → Held → Answer → Outcome K → Type 0) (s : State K) (p : ℕ) (s' : State K) → Work next s p s' → OpenSendersTell s.kept → OpenSendersTell s'.kept
-OpenSendersTell-work {K} next s p s' work old =
+pub OpenSendersTell-work : {K : Type 0} (rules : Rules K) (s : State K) (p : ℕ) (s' : State K) → Work rules s p s' → OpenSendersTell s.kept → OpenSendersTell s'.kept
+OpenSendersTell-work {K} rules s p s' work old =
     let x = work.before in
     let y = worked x work.outcome in
     record {
-      all = SendersOpen-work next s p s' work old.all;
+      all = SendersOpen-work rules s p s' work old.all;
       once = λ c channel is. old.once c channel (ap (λ (chs : List Channel). slice_get chs c) (sym work.kept.channels) ∙ is);
       only = λ c channel sender is goes.
           (let left = old.only c channel sender (ap (λ (chs : List Channel). slice_get chs c) (sym work.kept.channels) ∙ is) goes in
           subst (λ (ps : List (Process K)). IsLeftOpen ps sender c) (sym work.kept.processes) (elim (same_or_not sender.process p) [
             | inr ne ↦ left-other s.kept.processes p y sender c ne left
             | inl same ↦ (let found : Some left.process ≡ Some x = sym left.there ∙ ap (slice_get s.kept.processes) same ∙ work.kept.there in
-                left-own s.kept.processes p x y sender c work.kept.there same left (outputs-worked x work.outcome) (same-found left.process x found) (leaves-worked x work.outcome left.place))
+                left-own s.kept.processes p x y sender c work.kept.there same left (outputs-worked x work.outcome) (same-found found) (leaves-worked x work.outcome left.place))
           ]));
     }
 
@@ -319,7 +227,7 @@ OpenSendersTell-work {K} next s p s' work old =
 pub ended-closed : {K : Type 0} (s : State K) → OpenSendersTell s.kept → EndedLeftClosed s.kept
 ended-closed {K} s tell p j x outlet channel there ended at is goes =
     let left = tell.only outlet.connection channel (record { process = p; output = outlet.output }) is goes in
-    let here : left.process ≡ x = same-found left.process x (sym left.there ∙ there) in
+    let here : left.process ≡ x = same-found (sym left.there ∙ there) in
     let stage : left.process.stage ≡ stages.Ended = ap (λ (w : Process K). w.stage) here ∙ ended in
     none left.place (subst (λ (st : Stage). Leaves st left.place) stage left.left)
   where
@@ -341,7 +249,7 @@ sender-is s = let a : nat_eq s.process s.process ≡ true = grind (arith, nat_te
 
 place-open : (sender : Sender) (senders : List Sender) (k : ℕ) → slice_get senders k ≡ Some sender → IsOpenSender sender senders
 place-open sender [] k is = absurd (cc)
-place-open sender (s ∷ senders) zero is = let same : s ≡ sender = same-found s sender is in let t : is_sender sender s ≡ true = ap (is_sender sender) same ∙ sender-is sender in rw t refl
+place-open sender (s ∷ senders) zero is = let same : s ≡ sender = same-found is in let t : is_sender sender s ≡ true = ap (is_sender sender) same ∙ sender-is sender in rw t refl
 place-open sender (s ∷ senders) (suc k) is = or-right (is_sender sender s) (list_any (is_sender sender) senders) (place-open sender senders k is)
 
 -- a list in which no sender has two places has none twice
@@ -380,7 +288,7 @@ pub process-there : {K : Type 0} (plan : Plan) (n : ℕ) (xs : List PlanProcess)
 process-there plan n [] components k x each is = absurd (cc)
 process-there plan n (y ∷ xs) [] k x each is = absurd (omega (arith, each))
 process-there plan n (y ∷ xs) (component ∷ components) zero x each is =
-    let same : y ≡ x = same-found y x is in
+    let same : y ≡ x = same-found is in
     let m : n ≡ n + zero = omega arith in
     (component, λ i. Some (process_at_start plan (m i) (same i) component))
 process-there {K} plan n (y ∷ xs) (component ∷ components) (suc k) x each is =
@@ -413,8 +321,8 @@ left-start {K} plan components wired each c sender connection is k at =
     }
 
 -- it holds at the start
-pub OpenSendersTell-start : {K : Type 0} (shape_of : K → Shape) (uses : K → ℕ → Bool) (ready : K → Held → Answer → Type 0) (plan : Plan) (components : List K) → StartsWell shape_of uses ready plan components → OpenSendersTell (start_of plan components).kept
-OpenSendersTell-start {K} shape_of uses ready plan components well = record {
+pub OpenSendersTell-start : {K : Type 0} (rules : Rules K) (plan : Plan) (components : List K) → StartsWell rules plan components → OpenSendersTell (start_of plan components).kept
+OpenSendersTell-start {K} rules plan components well = record {
   all = start-senders plan components;
   once = λ c channel is. (let at = start-channel plan.connections c channel is in
       subst (λ (ch : Channel). AllDifferent ch.open_senders) (sym at.2) (places-different at.0.senders (λ k l s ks ls. (well.wired.one_sender c c k l at.0 at.0 s at.1 at.1 ks ls).1)));

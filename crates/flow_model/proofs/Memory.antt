@@ -5,7 +5,7 @@ use Rattle.flow_packet.specs.declared.packet.Kind.TheVariants as kinds
 use Rattle.flow_packet.specs.Tree.{packet_of}
 use Rattle.flow_packet.specs.Held.{next_id}
 use Rattle.flow_model.specs.States.{Process, Past, Put, Entry, entry_of, got_by, got_at, sent_by, sent_at}
-use Rattle.flow_model.specs.Events.{Event, Starts, Finishes, Gets, Takes_text, Hears_end, Sends, Learns, Sleeps, Closes, Signals}
+use Rattle.flow_model.specs.Events.{Event, Gets, Takes_text, Sends}
 use Rattle.flow_model.specs.Turns.{heard, put_after, past_after}
 
 -- by process and port what was sent and what was got, and by connection what was put
@@ -25,26 +25,11 @@ add_at_port i k x f j l = if (j == i) && (l == k) then f j l ++ x ∷ [] else f 
 abbrev pub got_then : {K : Type 0} → (ℕ → ℕ → List Entry) → ℕ → Process K → Event → ℕ → ℕ → List Entry
 got_then got p x (Gets port c packet) = add_at_port p port (entry_of packet) got
 got_then got p x (Takes_text port text) = add_at_port p port (entry_of (packet_of (next_id x.held) kinds.Normal text [])) got
-got_then got p x Starts = got
-got_then got p x Finishes = got
-got_then got p x (Hears_end port) = got
-got_then got p x (Sends port c packet) = got
-got_then got p x (Learns port level) = got
-got_then got p x Sleeps = got
-got_then got p x (Signals w signal) = got
-got_then got p x (Closes output c) = got
+got_then got p x event = got
 
 abbrev pub sent_then : {K : Type 0} → (ℕ → ℕ → List Entry) → ℕ → Process K → Event → ℕ → ℕ → List Entry
 sent_then sent p x (Sends port c packet) = add_at_port p port (entry_of packet) sent
-sent_then sent p x (Gets port c packet) = sent
-sent_then sent p x (Takes_text port text) = sent
-sent_then sent p x Starts = sent
-sent_then sent p x Finishes = sent
-sent_then sent p x (Hears_end port) = sent
-sent_then sent p x (Learns port level) = sent
-sent_then sent p x Sleeps = sent
-sent_then sent p x (Signals w signal) = sent
-sent_then sent p x (Closes output c) = sent
+sent_then sent p x event = sent
 
 -- what is remembered after a turn of process p
 abbrev pub memory_after : {K : Type 0} → Memory → ℕ → Process K → Event → Memory
@@ -77,14 +62,7 @@ got_at-turn past p x e q port = grows (got_by port) (nat_eq q p) (past.told q) (
     by : (e : Event) → (if nat_eq q p then got_at past q port ++ flat_map (got_by port) (heard x e) else got_at past q port) ≡ got_then (got_at past) p x e q port
     by (Gets i c packet) = one_more (nat_eq q p) (nat_eq port i) (got_at past q port) (entry_of packet)
     by (Takes_text i text) = one_more (nat_eq q p) (nat_eq port i) (got_at past q port) (entry_of (packet_of (next_id x.held) kinds.Normal text []))
-    by Starts = none_more (nat_eq q p) (got_at past q port)
-    by Finishes = none_more (nat_eq q p) (got_at past q port)
-    by (Hears_end i) = none_more (nat_eq q p) (got_at past q port)
-    by (Sends i c packet) = none_more (nat_eq q p) (got_at past q port)
-    by (Learns i level) = none_more (nat_eq q p) (got_at past q port)
-    by Sleeps = none_more (nat_eq q p) (got_at past q port)
-    by (Signals w signal) = none_more (nat_eq q p) (got_at past q port)
-    by (Closes output c) = none_more (nat_eq q p) (got_at past q port)
+    by e = none_more (nat_eq q p) (got_at past q port)
 
 -- what was sent after a turn
 pub sent_at-turn : {K : Type 0} (past : Past) (p : ℕ) (x : Process K) (e : Event) (q port : ℕ) → sent_at (past_after past p x e) q port ≡ sent_then (sent_at past) p x e q port
@@ -92,12 +70,4 @@ sent_at-turn past p x e q port = grows (sent_by port) (nat_eq q p) (past.told q)
   where
     by : (e : Event) → (if nat_eq q p then sent_at past q port ++ flat_map (sent_by port) (heard x e) else sent_at past q port) ≡ sent_then (sent_at past) p x e q port
     by (Sends i c packet) = one_more (nat_eq q p) (nat_eq port i) (sent_at past q port) (entry_of packet)
-    by (Gets i c packet) = none_more (nat_eq q p) (sent_at past q port)
-    by (Takes_text i text) = none_more (nat_eq q p) (sent_at past q port)
-    by Starts = none_more (nat_eq q p) (sent_at past q port)
-    by Finishes = none_more (nat_eq q p) (sent_at past q port)
-    by (Hears_end i) = none_more (nat_eq q p) (sent_at past q port)
-    by (Learns i level) = none_more (nat_eq q p) (sent_at past q port)
-    by Sleeps = none_more (nat_eq q p) (sent_at past q port)
-    by (Signals w signal) = none_more (nat_eq q p) (sent_at past q port)
-    by (Closes output c) = none_more (nat_eq q p) (sent_at past q port)
+    by e = none_more (nat_eq q p) (sent_at past q port)

@@ -1,14 +1,11 @@
 -- A process knows whether a packet came at its automatic input, is started only where it is released, and leaves nothing there as it ends.
 use Rattle.std.proofs.Common.{◌≡◌, ◌≢◌, inl, inr, ℕ, ◌+◌, ◌<◌, Bool, true, false, List, [], ◌∷◌, ◌++◌, zero, suc, not, ◌||◌, ◌&&◌, Some, refl, sym, ap, ◌∙◌, subst, cond, nat_eq, arith, slice_get, map, append-nil}
 use Rattle.std.proofs.lemmas.Bool.Decides.{nat_tests}
-use Rattle.flow_packet.specs.Held.{Held}
-use Rattle.flow_component.specs.declared.Answer.{Answer}
-use Rattle.flow_component.specs.declared.Shape.{Shape}
-use Rattle.flow_component.specs.Laws.{Outcome, Wishes, Fails, Obeys, StaysReady}
+use Rattle.flow_component.specs.Laws.{Rules, Lawful, Outcome, Wishes, Fails}
 use Rattle.flow_component.specs.Happenings.{Happening}
 use Rattle.flow_component.specs.Runs.{starts}
 use Rattle.flow_model.specs.States.{Process, Channel, Past, State, Entry, entry_of}
-use Rattle.flow_model.specs.Events.{Event, Starts, Finishes, Gets, Takes_text, Hears_end, Sends, Learns, Sleeps, Closes, Signals, looks, event_of, is_empty, is_released, is_woken, signal_over}
+use Rattle.flow_model.specs.Events.{Event, Starts, Signals, looks, event_of, is_empty, is_released, is_woken, signal_over}
 use Rattle.flow_model.specs.Turns.{Turn, process_after, heard, signals_after, past_after}
 use Rattle.flow_model.specs.Works.{Work, worked}
 use Rattle.flow_model.specs.Schedules.{Settles, Journal, Leads, LeadsBy}
@@ -20,7 +17,8 @@ use Rattle.flow_model.specs.Released.{SignalsTell, NothingComes, WasReleased, St
 use Rattle.flow_model.specs.Order.{packets_at, signal_of}
 use Rattle.flow_model.specs.declared.Stage.TheVariants as stages
 use Rattle.flow_packet.specs.Tree.{Tree}
-use Rattle.flow_model.proofs.Telling.{IsOverStage, judged-works, over-before}
+use Rattle.flow_model.specs.Stages.{HasBegunToClose}
+use Rattle.flow_model.proofs.Stages.{begun-before, begun-worked}
 use Rattle.flow_model.proofs.Order.{signal-after, signal-worked}
 use Rattle.flow_model.proofs.Exhausting.{IsDry, starts-can, signal-dry, finishes-signal, dry-after}
 use Rattle.flow_model.proofs.Rising.{found-set}
@@ -43,28 +41,12 @@ not-none (x ∷ xs) is none = cc
 -- what came at the automatic input of another process stays
 signals-apart : (signals : ℕ → List Entry) (p : ℕ) (e : Event) (q : ℕ) → nat_eq q p ≡ false → signals_after signals p e q ≡ signals q
 signals-apart signals p (Signals c packet) q apart = rw apart refl
-signals-apart signals p Starts q apart = refl
-signals-apart signals p Finishes q apart = refl
-signals-apart signals p (Gets port c packet) q apart = refl
-signals-apart signals p (Takes_text port text) q apart = refl
-signals-apart signals p (Hears_end port) q apart = refl
-signals-apart signals p (Sends port c packet) q apart = refl
-signals-apart signals p (Learns port level) q apart = refl
-signals-apart signals p Sleeps q apart = refl
-signals-apart signals p (Closes output c) q apart = refl
+signals-apart signals p e q apart = refl
 
 -- a turn notes what came at the automatic input of its own process
 signals-here : {K : Type 0} (x : Process K) (signals : ℕ → List Entry) (p : ℕ) (e : Event) (q : ℕ) → nat_eq q p ≡ true → x.signalled ≡ not (is_empty (signals q)) → (process_after x e).signalled ≡ not (is_empty (signals_after signals p e q))
 signals-here x signals p (Signals c packet) q here old = rw here (sym (ap not (pushed (signals q) (entry_of packet))))
-signals-here x signals p Starts q here old = old
-signals-here x signals p Finishes q here old = old
-signals-here x signals p (Gets port c packet) q here old = old
-signals-here x signals p (Takes_text port text) q here old = old
-signals-here x signals p (Hears_end port) q here old = old
-signals-here x signals p (Sends port c packet) q here old = old
-signals-here x signals p (Learns port level) q here old = old
-signals-here x signals p Sleeps q here old = old
-signals-here x signals p (Closes output c) q here old = old
+signals-here x signals p e q here old = old
 
 -- what came stays
 signals-stay : (signals : ℕ → List Entry) (p : ℕ) (e : Event) (q : ℕ) → signals q ≢ [] → signals_after signals p e q ≢ []
@@ -77,19 +59,7 @@ signals-stay signals p (Signals c packet) q some = by (nat_eq q p)
     by : (b : Bool) → cond b (signals q ++ entry_of packet ∷ []) (signals q) ≡ [] → ⊥
     by true is = more (signals q) (entry_of packet) is
     by false is = some is
-signals-stay signals p Starts q some = some
-signals-stay signals p Finishes q some = some
-signals-stay signals p (Gets port c packet) q some = some
-signals-stay signals p (Takes_text port text) q some = some
-signals-stay signals p (Hears_end port) q some = some
-signals-stay signals p (Sends port c packet) q some = some
-signals-stay signals p (Learns port level) q some = some
-signals-stay signals p Sleeps q some = some
-signals-stay signals p (Closes output c) q some = some
-
-over-worked : {K : Type 0} (x : Process K) (outcome : Outcome K) → IsOverStage (worked x outcome).stage → ⊥
-over-worked x (Wishes component held wish) over = judged-works x.depths held wish over
-over-worked x (Fails component held cause) over = over
+signals-stay signals p e q some = some
 
 signalled-worked : {K : Type 0} (x : Process K) (outcome : Outcome K) → (worked x outcome).signalled ≡ x.signalled
 signalled-worked x (Wishes component held wish) = refl
@@ -103,7 +73,7 @@ nothing-of channels c h = record { channel = h.channel; there = h.there; empty =
 
 -- nothing comes at the automatic input of a process that has begun to close
 abbrev OverDry : {K : Type 0} → State K → Type 0
-OverDry {K} s = (p : ℕ) (x : Process K) → slice_get s.kept.processes p ≡ Some x → IsOverStage x.stage → (c : ℕ) → x.signal ≡ Some c → IsDry s.kept.channels c
+OverDry {K} s = (p : ℕ) (x : Process K) → slice_get s.kept.processes p ≡ Some x → HasBegunToClose x.stage → (c : ℕ) → x.signal ≡ Some c → IsDry s.kept.channels c
 
 abbrev All : {K : Type 0} → State K → Type 0
 All s = SignalsTell s × StartedReleased s × OverDry s
@@ -115,7 +85,7 @@ unsignalled plan p (x ∷ xs) [] q z is = absurd (cc)
 unsignalled {K} plan p (x ∷ xs) (component ∷ components) zero z is = let same : process_at_start plan p x component ≡ z = cc in sym (ap (λ (w : Process K). w.signalled) same)
 unsignalled plan p (x ∷ xs) (component ∷ components) (suc q) z is = unsignalled plan (p + 1) xs components q z is
 
-module _ {K : Type 0} (ready : K → Held → Answer → Type 0) where
+module _ {K : Type 0} (rules : Rules K) where
   -- a process that starts is released
   starts-released : (s : State K) (p n : ℕ) (x : Process K) → SignalsTell s → slice_get s.kept.processes p ≡ Some x → event_of s.kept.channels x n ≡ Some Starts → WasReleased s p x
   starts-released s p n x tells there is = by x.signalled refl (and-left (is_released (looks s.kept.channels) x) (is_woken (looks s.kept.channels) x) (starts-can s.kept.channels x n is))
@@ -128,7 +98,7 @@ module _ {K : Type 0} (ready : K → Held → Answer → Type 0) where
   stays-released s s' p x y signal some dry (inl came) = inl (some came)
   stays-released s s' p x y signal some dry (inr over) = inr (λ c at. nothing-of s'.kept.channels c (dry c (dry-of s.kept.channels c (over c (sym signal ∙ at)))))
 
-  module _ (s : State K) (p : ℕ) (e : Event) (s' : State K) (turn : Turn s p e s') (valid : Valid ready s) (old : All s) where
+  module _ (s : State K) (p : ℕ) (e : Event) (s' : State K) (turn : Turn s p e s') (valid : Valid rules s) (old : All s) where
     signals-are : (q : ℕ) → s'.past.signals q ≡ signals_after s.past.signals p e q
     signals-are q = ap (λ (past : Past). past.signals q) turn.past
 
@@ -183,7 +153,7 @@ module _ {K : Type 0} (ready : K → Held → Answer → Type 0) where
       | inl same ↦ (
           let there : slice_get s.kept.processes q ≡ Some turn.kept.before = ap (slice_get s.kept.processes) same.0 ∙ turn.kept.there in
           let signal : turn.kept.before.signal ≡ Some c = sym (signal-after turn.kept.before e) ∙ ap (λ (w : Process K). w.signal) same.1 ∙ at in
-          elim (over-before s.kept.channels turn.kept.before turn.kept.level e turn.kept.happens (subst (λ (w : Process K). IsOverStage w.stage) (sym same.1) over)) as (λ _. IsDry s.kept.channels c) [
+          elim (begun-before s.kept.channels turn.kept.before turn.kept.level e turn.kept.happens (subst (λ (w : Process K). HasBegunToClose w.stage) (sym same.1) over)) as (λ _. IsDry s.kept.channels c) [
             | inl before ↦ old.2 q turn.kept.before there before c signal
             | inr finishes ↦ signal-dry s.kept.channels turn.kept.before.signal (finishes-signal s.kept.channels turn.kept.before turn.kept.level (turn.kept.happens ∙ ap (λ (f : Event). Some f) finishes)) c signal
           ]
@@ -194,8 +164,8 @@ module _ {K : Type 0} (ready : K → Held → Answer → Type 0) where
     all-turn : All s'
     all-turn = (tells-turn, released-turn, over-turn)
 
-  module _ (next : K → Held → Answer → Outcome K → Type 0) where
-    all-work : (s : State K) (p : ℕ) (s' : State K) → Work next s p s' → All s → All s'
+  module _ where
+    all-work : (s : State K) (p : ℕ) (s' : State K) → Work rules s p s' → All s → All s'
     all-work s p s' work old = (tells, released, over)
       where
         signals-are : (q : ℕ) → s'.past.signals q ≡ s.past.signals q
@@ -224,37 +194,35 @@ module _ {K : Type 0} (ready : K → Held → Answer → Type 0) where
         over : OverDry s'
         over q z is over_stage c at = subst (λ (channels : List Channel). IsDry channels c) (sym work.kept.channels) (
             elim (found-set s.kept.processes p work.before (worked work.before work.outcome) work.kept.there q z (sym (ap (λ (ps : List (Process K)). slice_get ps q) work.kept.processes) ∙ is)) as (λ _. IsDry s.kept.channels c) [
-              | inl same ↦ absurd (over-worked work.before work.outcome (subst (λ (w : Process K). IsOverStage w.stage) (sym same.1) over_stage))
+              | inl same ↦ absurd (begun-worked work.before work.outcome (subst (λ (w : Process K). HasBegunToClose w.stage) (sym same.1) over_stage))
               | inr other ↦ old.2 q z other.1 over_stage c at
             ])
 
-    all-settles : (s : State K) (p : ℕ) (s' : State K) → Settles next s p s' → All s → All s'
+    all-settles : (s : State K) (p : ℕ) (s' : State K) → Settles rules s p s' → All s → All s'
     all-settles s p s' (inl none) old = subst All (sym none.1) old
     all-settles s p s' (inr work) old = all-work s p s' work old
 
-    module _ (shape_of : K → Shape) (uses : K → ℕ → Bool)
-        (obeys : (component : K) (held : Held) (answer : Answer) (outcome : Outcome K) → ready component held answer → next component held answer outcome → Obeys (shape_of component) (uses component) held outcome)
-        (stays : (component : K) (held : Held) (answer : Answer) (outcome : Outcome K) → ready component held answer → next component held answer outcome → StaysReady ready outcome) where
-      all-leads : (s : State K) (turns seen : List ℕ) (s' : State K) → LeadsBy next s turns seen s' → Valid ready s → All s → Valid ready s' × All s'
-      all-leads s [] seen s' leads valid old = subst (λ (t : State K). Valid ready t × All t) (sym leads.1) (valid, old)
+    module _ (lawful : Lawful rules) where
+      all-leads : (s : State K) (turns seen : List ℕ) (s' : State K) → LeadsBy rules s turns seen s' → Valid rules s → All s → Valid rules s' × All s'
+      all-leads s [] seen s' leads valid old = subst (λ (t : State K). Valid rules t × All t) (sym leads.1) (valid, old)
       all-leads s (p ∷ turns) seen s' leads valid old =
           let whole = leads.3 in
-          let valid' = Valid-turn ready s p leads.0 whole.0 whole.1 valid in
-          all-leads leads.1 turns leads.2 s' leads.5 (Valid-settles ready next shape_of uses obeys stays whole.0 p leads.1 whole.2 valid') (all-settles whole.0 p leads.1 whole.2 (all-turn s p leads.0 whole.0 whole.1 valid old))
+          let valid' = Valid-turn rules s p leads.0 whole.0 whole.1 valid in
+          all-leads leads.1 turns leads.2 s' leads.5 (Valid-settles rules lawful whole.0 p leads.1 whole.2 valid') (all-settles whole.0 p leads.1 whole.2 (all-turn s p leads.0 whole.0 whole.1 valid old))
 
-      pub all-released : (plan : Plan) (components : List K) (journal : Journal) (s : State K) → StartsWell shape_of uses ready plan components → Leads next (start_of plan components) journal s → SignalsTell s × StartedReleased s × EndedTookSignals s
+      pub all-released : (plan : Plan) (components : List K) (journal : Journal) (s : State K) → StartsWell rules plan components → Leads rules (start_of plan components) journal s → SignalsTell s × StartedReleased s × EndedTookSignals s
       all-released plan components journal s well leads = (come.1.0, come.1.1, took)
         where
-          idle : (p : ℕ) (x : Process K) → slice_get (start_of plan components).kept.processes p ≡ Some x → IsOverStage x.stage → ⊥
-          idle p x is over = let start = start-process plan components p x is in let h : x.stage ≡ stages.Idle = ap (λ (z : Process K). z.stage) start.is in subst IsOverStage h over
+          idle : (p : ℕ) (x : Process K) → slice_get (start_of plan components).kept.processes p ≡ Some x → HasBegunToClose x.stage → ⊥
+          idle p x is over = let start = start-process plan components p x is in let h : x.stage ≡ stages.Idle = ap (λ (z : Process K). z.stage) start.is in subst HasBegunToClose h over
 
-          come : Valid ready s × All s
+          come : Valid rules s × All s
           come =
-              all-leads (start_of plan components) journal.turns journal.seen s leads (Valid-start ready shape_of uses plan components well)
+              all-leads (start_of plan components) journal.turns journal.seen s leads (Valid-start rules plan components well)
               (λ p x is. unsignalled plan 0 plan.processes components p x is, λ p x is some. absurd (omega (arith, some)), λ p x is over c at. absurd (idle p x is over))
 
           took : EndedTookSignals s
           took p c x there ended at =
-              let dry = come.1.2 p x there (subst IsOverStage (sym ended) tt) c at in
+              let dry = come.1.2 p x there (subst HasBegunToClose (sym ended) tt) c at in
               let none : packets_at (slice_get s.kept.channels c) ≡ [] = ap packets_at dry.there ∙ dry.empty in
               come.0.in_order.signalled p c (ap signal_of there ∙ at) ∙ ap (λ (ts : List Tree). s.past.signals p ++ map entry_of ts) none ∙ append-nil (s.past.signals p)

@@ -1,19 +1,18 @@
 -- A schedule stands where components are replaced by others that come to the same.
 use Rattle.std.proofs.Common.{◌≡◌, ◌≢◌, ◌⊎◌, ℕ, zero, suc, ◌==◌, List, [], ◌∷◌, ◌++◌, Some, refl, ap, sym, subst, ◌∙◌, inl, inr, slice_get, slice_set, if◌then◌else◌}
-use Rattle.flow_packet.specs.Held.{Held}
-use Rattle.flow_component.specs.declared.Answer.{Answer}
 use Rattle.flow_component.specs.declared.Wish.{Wish}
 use Rattle.flow_component.specs.declared.Wish.TheVariants as wishes
 use Rattle.flow_component.specs.Happenings.{Happening}
-use Rattle.flow_component.specs.Laws.{Outcome, Wishes, Fails, held_after, component_after}
+use Rattle.flow_component.specs.Laws.{Rules, Outcome, Wishes, Fails, held_after, component_after}
 use Rattle.flow_component.specs.Outcomes.{outcome_as}
 use Rattle.flow_model.specs.declared.Stage.{Stage}
 use Rattle.flow_model.specs.declared.Stage.TheVariants as stages
 use Rattle.flow_model.specs.States.{Process, Past, State}
-use Rattle.flow_model.specs.Events.{Event, Starts, Finishes, Gets, Takes_text, Hears_end, Sends, Learns, Sleeps, Closes, Signals, Look, looks, stage_event, wish_event}
+use Rattle.flow_model.specs.Events.{Event, Starts, Closes, Look, looks, stage_event, wish_event}
 use Rattle.flow_model.specs.Turns.{Turn, at_stage, process_after, past_after, heard, closing_on}
 use Rattle.flow_model.specs.Works.{Work, worked, past_worked}
-use Rattle.flow_model.specs.Schedules.{IsThought, IsThoughtStage, Settles, LeadsBy, Leads, Journal}
+use Rattle.flow_model.specs.Stages.{IsThoughtStage}
+use Rattle.flow_model.specs.Schedules.{IsThought, Settles, LeadsBy, Leads, Journal}
 use Rattle.flow_model.specs.Replaced.{with_component, all_replaced, replaced, OfEach, Mimics}
 use Rattle.flow_model.proofs.Lists.{slice_get-set_same, slice_get-set_other, same_or_not}
 
@@ -38,67 +37,33 @@ replaced-set other (y ∷ xs) (suc p) x = ap (λ zs. with_component y (other 0 y
 -- what a process does next doesn't depend on its component
 wish-same : {K L : Type 0} (channels : List Look) (x : Process K) (c : L) (n : ℕ) (wish : Wish) → wish_event channels (with_component x c) n wish ≡ wish_event channels x n wish
 wish-same channels x c n (wishes.Receive port) = refl
-wish-same channels x c n (wishes.Send port id) = refl
-wish-same channels x c n (wishes.Level port) = refl
-wish-same channels x c n wishes.Deactivate = refl
+wish-same channels x c n wish = refl
 
 stage-same : {K L : Type 0} (channels : List Look) (x : Process K) (c : L) (n : ℕ) (stage : Stage) → stage_event channels (with_component x c) n stage ≡ stage_event channels x n stage
-stage-same channels x c n stages.Idle = refl
-stage-same channels x c n (stages.Told answer) = refl
 stage-same channels x c n (stages.Wishing wish) = wish-same channels x c n wish
-stage-same channels x c n (stages.Closing i) = refl
-stage-same channels x c n stages.Ended = refl
-stage-same channels x c n (stages.Failed cause) = refl
+stage-same channels x c n stage = refl
 
 closing-same : {K L : Type 0} (x : Process K) (c : L) (stage : Stage) → closing_on (with_component x c) stage ≡ closing_on x stage
 closing-same x c stages.Idle = refl
-closing-same x c (stages.Told answer) = refl
-closing-same x c (stages.Wishing wish) = refl
-closing-same x c (stages.Closing i) = refl
-closing-same x c stages.Ended = refl
-closing-same x c (stages.Failed cause) = refl
+closing-same x c stage = refl
 
 -- nor what a turn makes of it
 after-same : {K L : Type 0} (x : Process K) (c : L) (event : Event) → process_after (with_component x c) event ≡ with_component (process_after x event) c
-after-same x c Starts = refl
-after-same x c Finishes = refl
-after-same x c (Gets port d packet) = refl
-after-same x c (Takes_text port text) = refl
-after-same x c (Hears_end port) = refl
-after-same x c (Sends port d packet) = refl
-after-same x c (Learns port level) = refl
-after-same x c Sleeps = refl
-after-same x c (Signals d packet) = refl
 after-same x c (Closes output d) = ap (λ (stage : Stage). with_component (at_stage x stage) c) (closing-same x c x.stage)
+after-same x c event = refl
 
 component-same : {K : Type 0} (x : Process K) (event : Event) → (process_after x event).component ≡ x.component
 component-same x Starts = refl
-component-same x Finishes = refl
-component-same x (Gets port d packet) = refl
-component-same x (Takes_text port text) = refl
-component-same x (Hears_end port) = refl
-component-same x (Sends port d packet) = refl
-component-same x (Learns port level) = refl
-component-same x Sleeps = refl
-component-same x (Signals d packet) = refl
-component-same x (Closes output d) = refl
+component-same x event = refl
 
 heard-same : {K L : Type 0} (x : Process K) (c : L) (event : Event) → heard (with_component x c) event ≡ heard x event
 heard-same x c Starts = refl
-heard-same x c Finishes = refl
-heard-same x c (Gets port d packet) = refl
-heard-same x c (Takes_text port text) = refl
-heard-same x c (Hears_end port) = refl
-heard-same x c (Sends port d packet) = refl
-heard-same x c (Learns port level) = refl
-heard-same x c Sleeps = refl
-heard-same x c (Signals d packet) = refl
-heard-same x c (Closes output d) = refl
+heard-same x c event = refl
 
 past-same : {K L : Type 0} (past : Past) (p : ℕ) (x : Process K) (c : L) (event : Event) → past_after past p (with_component x c) event ≡ past_after past p x event
 past-same past p x c event = ap {B = Past} (λ (hs : List Happening). record { dropped = (past_after past p x event).dropped; told = λ q. if q == p then past.told q ++ hs else past.told q; signals = (past_after past p x event).signals; put = (past_after past p x event).put }) (heard-same x c event)
 
-module _ {K L : Type 0} (next : K → Held → Answer → Outcome K → Type 0) (next' : L → Held → Answer → Outcome L → Type 0) (holds : ℕ → K → Type 0) (other : ℕ → K → L) (mimics : Mimics next next' holds other) where
+module _ {K L : Type 0} (rules : Rules K) (rules' : Rules L) (holds : ℕ → K → Type 0) (other : ℕ → K → L) (mimics : Mimics rules rules' holds other) where
   -- a turn with the other components
   turn-replaced : (s : State K) (p : ℕ) (event : Event) (s' : State K) → Turn s p event s' → Turn (replaced other s) p event (replaced other s')
   turn-replaced s p event s' turn =
@@ -131,13 +96,13 @@ module _ {K L : Type 0} (next : K → Held → Answer → Outcome K → Type 0) 
   worked-component x (Fails component held cause) = refl
 
   -- what holds of the component after a work
-  holds-after : (s : State K) (p : ℕ) (s' : State K) → (work : Work next s p s') → OfEach holds s' → holds p (component_after work.outcome)
+  holds-after : (s : State K) (p : ℕ) (s' : State K) → (work : Work rules s p s') → OfEach holds s' → holds p (component_after work.outcome)
   holds-after s p s' work each =
       let here : slice_get s'.kept.processes p ≡ Some (worked work.before work.outcome) =
       ap (λ (ps : List (Process K)). slice_get ps p) work.kept.processes ∙ slice_get-set_same s.kept.processes p work.before (worked work.before work.outcome) work.kept.there in
       subst (holds p) (worked-component work.before work.outcome) (each p (worked work.before work.outcome) here)
 
-  work-replaced : (s : State K) (p : ℕ) (s' : State K) → Work next s p s' → OfEach holds s' → Work next' (replaced other s) p (replaced other s')
+  work-replaced : (s : State K) (p : ℕ) (s' : State K) → Work rules s p s' → OfEach holds s' → Work rules' (replaced other s) p (replaced other s')
   work-replaced s p s' work each =
       let x = work.before in
       record {
@@ -170,7 +135,7 @@ module _ {K L : Type 0} (next : K → Held → Answer → Outcome K → Type 0) 
       by q x there (inr ne) =
           each q x (ap (λ (ps : List (Process K)). slice_get ps q) turn.kept.processes ∙ slice_get-set_other s.kept.processes p q (process_after turn.kept.before event) ne ∙ there)
 
-  work-back : (s : State K) (p : ℕ) (s' : State K) → Work next s p s' → OfEach holds s' → OfEach holds s
+  work-back : (s : State K) (p : ℕ) (s' : State K) → Work rules s p s' → OfEach holds s' → OfEach holds s
   work-back s p s' work each = λ q x there. by q x there (same_or_not q p)
     where
       by : (q : ℕ) (x : Process K) → slice_get s.kept.processes q ≡ Some x → (q ≡ p) ⊎ (q ≢ p) → holds q x.component
@@ -185,22 +150,22 @@ module _ {K L : Type 0} (next : K → Held → Answer → Outcome K → Type 0) 
   thought-replaced : (s : State K) (p : ℕ) → IsThought s.kept p → IsThought (replaced other s).kept p
   thought-replaced s p thought = λ y there. (let from = replaced-from other s.kept.processes p y there in subst (λ (z : Process L). IsThoughtStage z.stage) from.2 (thought from.0 from.1))
 
-  settles-replaced : (s : State K) (p : ℕ) (s' : State K) → Settles next s p s' → OfEach holds s' → Settles next' (replaced other s) p (replaced other s')
+  settles-replaced : (s : State K) (p : ℕ) (s' : State K) → Settles rules s p s' → OfEach holds s' → Settles rules' (replaced other s) p (replaced other s')
   settles-replaced s p s' (inl thought) each = inl (thought-replaced s p thought.0, ap (replaced other) thought.1)
   settles-replaced s p s' (inr work) each = inr (work-replaced s p s' work each)
 
-  settles-back : (s : State K) (p : ℕ) (s' : State K) → Settles next s p s' → OfEach holds s' → OfEach holds s
+  settles-back : (s : State K) (p : ℕ) (s' : State K) → Settles rules s p s' → OfEach holds s' → OfEach holds s
   settles-back s p s' (inl thought) each = subst (OfEach holds) thought.1 each
   settles-back s p s' (inr work) each = work-back s p s' work each
 
-  leads-back : (turns seen : List ℕ) (s s' : State K) → LeadsBy next s turns seen s' → OfEach holds s' → OfEach holds s
+  leads-back : (turns seen : List ℕ) (s s' : State K) → LeadsBy rules s turns seen s' → OfEach holds s' → OfEach holds s
   leads-back [] seen s s' leads each = subst (OfEach holds) leads.1 each
   leads-back (p ∷ turns) seen s s' leads each =
       let after = leads-back turns leads.2 leads.1 s' leads.5 each in
       let told = settles-back leads.3.0 p leads.1 leads.3.2 after in
       turn-back s p leads.0 leads.3.0 leads.3.1 told
 
-  leads-replaced : (turns seen : List ℕ) (s s' : State K) → LeadsBy next s turns seen s' → OfEach holds s' → LeadsBy next' (replaced other s) turns seen (replaced other s')
+  leads-replaced : (turns seen : List ℕ) (s s' : State K) → LeadsBy rules s turns seen s' → OfEach holds s' → LeadsBy rules' (replaced other s) turns seen (replaced other s')
   leads-replaced [] seen s s' leads each = (leads.0, ap (replaced other) leads.1)
   leads-replaced (p ∷ turns) seen s s' leads each =
       let after = leads-back turns leads.2 leads.1 s' leads.5 each in (
@@ -213,5 +178,5 @@ module _ {K L : Type 0} (next : K → Held → Answer → Outcome K → Type 0) 
       )
 
   -- A journal that leads from one state to another leads so with other components that mimic these.
-  pub replaced-leads : (journal : Journal) (s s' : State K) → Leads next s journal s' → OfEach holds s' → Leads next' (replaced other s) journal (replaced other s')
+  pub replaced-leads : (journal : Journal) (s s' : State K) → Leads rules s journal s' → OfEach holds s' → Leads rules' (replaced other s) journal (replaced other s')
   replaced-leads journal s s' leads each = leads-replaced journal.turns journal.seen s s' leads each

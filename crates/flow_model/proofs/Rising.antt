@@ -1,38 +1,31 @@
 -- Each process begins to close after all that feed it.
-use Rattle.flow_limits.specs.declared.TheConstants.{HANDS_LIMIT, TURN_LIMIT}
-use Rattle.std.proofs.Common.{◌≡◌, ◌≢◌, ◌⊎◌, inl, inr, ℕ, ◌+◌, ◌<◌, ◌≤◌, Bool, true, false, List, [], ◌∷◌, map, length, Option, Some, None, refl, sym, ap, ◌∙◌, subst, cond, nat_eq, nat_lt, arith, slice_get, slice_set, suc, zero, if◌then◌else◌, get_or, ◌==◌, ◌&&◌}
-use Rattle.std.specs.Prelude.{option_and_then, option_map, slice_index}
+use Rattle.std.proofs.Common.{◌≡◌, ◌≢◌, ◌⊎◌, inl, inr, ℕ, ◌+◌, ◌<◌, ◌≤◌, Bool, true, false, List, [], ◌∷◌, map, length, Option, Some, None, refl, sym, ap, ◌∙◌, subst, nat_eq, nat_lt, arith, slice_get, slice_set, suc, zero, get_or, ◌==◌, ◌&&◌, if◌then◌else◌}
+use Rattle.std.specs.Prelude.{option_and_then, option_map}
 use Rattle.std.specs.List.{list_any}
 use Rattle.std.proofs.lemmas.Bool.Decides.{nat_tests}
 use Rattle.std.proofs.lemmas.Option.{slice_get-map}
 use Rattle.std.proofs.lemmas.List.Quantifiers.{position-Some}
-use Rattle.flow_packet.specs.Tree.{Tree, id_of, kind_of}
-use Rattle.flow_packet.specs.Held.{Held, next_id}
-use Rattle.flow_packet.specs.Hands.{packet_at}
-use Rattle.flow_component.specs.declared.Answer.{Answer}
-use Rattle.flow_component.specs.declared.Answer.TheVariants as answers
-use Rattle.flow_component.specs.declared.Shape.{Shape}
-use Rattle.flow_component.specs.declared.Fail.TheVariants as fails
 use Rattle.flow_component.specs.declared.Wish.{Wish}
 use Rattle.flow_component.specs.declared.Wish.TheVariants as wishes
-use Rattle.flow_component.specs.Laws.{Outcome, Wishes, Fails}
+use Rattle.flow_component.specs.Laws.{Rules}
 use Rattle.flow_model.specs.declared.Stage.{Stage}
 use Rattle.flow_model.specs.declared.Stage.TheVariants as stages
-use Rattle.flow_model.specs.States.{Input, From, Process, Channel, is_sender, Kept, State, outlets, output_at}
+use Rattle.flow_model.specs.States.{Input, From, Process, Channel, is_sender, Kept, State, output_at}
+use Rattle.flow_model.specs.Stages.{HasBegunToClose, HasToClose, IsFailedStage}
 use Rattle.flow_plan.specs.declared.plan.Sender.{Sender}
 use Rattle.flow_model.specs.Plans.{sends_at, receives_at, input_at, connected_or, text_at, process_at_start, processes_at_start, start_of, StartsWell}
 use Rattle.flow_plan.specs.Network.{Network as Plan}
 use Rattle.flow_plan.specs.declared.plan.Connection.{Connection as PlanConnection}
 use Rattle.flow_model.specs.Wires.{Wires, wires, SameWires}
 use Rattle.flow_model.specs.Rising.{LeadsOn}
-use Rattle.flow_model.specs.Events.{Event, Starts, Finishes, Gets, Takes_text, Hears_end, Sends, Learns, Sleeps, Closes, Signals, Look, looks, event_of, stage_event}
-use Rattle.flow_model.specs.Turns.{Turn, process_after, limited, closing_on}
-use Rattle.flow_model.specs.Works.{Work, worked, judged, sending, nests}
+use Rattle.flow_model.specs.Events.{Event, Finishes, Sleeps, looks, event_of, Signals}
+use Rattle.flow_model.specs.Turns.{Turn, process_after, closing}
+use Rattle.flow_model.specs.Works.{Work, worked}
 use Rattle.flow_model.specs.Schedules.{Settles, Journal, Leads, LeadsBy}
-use Rattle.flow_model.specs.Valid.{HasToClose, SendersOpen, IsFailedStage}
+use Rattle.flow_model.specs.Valid.{SendersOpen}
 use Rattle.flow_model.specs.Verdicts.{IsFinished}
-use Rattle.flow_model.proofs.Lists.{map-found, slice_get-set_same, slice_get-set_other, same_or_not}
-use Rattle.flow_model.proofs.Inverse.{explains}
+use Rattle.flow_model.proofs.Lists.{map-found, slice_get-set_same, slice_get-set_other, same_or_not, get-there}
+use Rattle.flow_model.proofs.Inverse.{explains, Takes}
 use Rattle.flow_model.proofs.Blocks.{outlet-of}
 use Rattle.flow_model.proofs.Order.{inputs-after, outputs-after, signal-after, outputs-worked}
 use Rattle.flow_model.proofs.Senders.{SendersOpen-turn, SendersOpen-work, both-true}
@@ -40,103 +33,27 @@ use Rattle.flow_model.proofs.Start.{start-process, start-senders, no_connection}
 use Rattle.flow_model.proofs.Leaving.{process-there, ports-at, open-place}
 use Rattle.flow_model.proofs.Wiring.{wires-leads}
 use Rattle.flow_model.proofs.Exhausting.{IsDry, finishes-all, finishes-signal, all-dry, signal-dry}
-
--- It closes its outputs, or has closed them.
-abbrev pub HasBegun : Stage → Type 0
-HasBegun stages.Idle = ⊥
-HasBegun (stages.Told answer) = ⊥
-HasBegun (stages.Wishing wish) = ⊥
-HasBegun (stages.Closing i) = Unit {0}
-HasBegun stages.Ended = Unit {0}
-HasBegun (stages.Failed cause) = ⊥
-
--- What a turn does to the stages
-
-told-not : (b : Bool) (answer : Answer) → HasBegun (cond b (stages.Failed fails.TurnLimit) (stages.Told answer)) → ⊥
-told-not true answer has = has
-told-not false answer has = has
-
-idle-not : (b : Bool) → HasBegun (cond b (stages.Failed fails.TurnLimit) stages.Idle) → ⊥
-idle-not true has = has
-idle-not false has = has
-
--- one that begins by a turn finishes by it
-begun-before : {K : Type 0} (channels : List Channel) (x : Process K) (n : ℕ) (e : Event) → event_of channels x n ≡ Some e → HasBegun (process_after x e).stage → HasBegun x.stage ⊎ (e ≡ Finishes)
-begun-before channels x n Starts is has = absurd (told-not (x.turns + 1 == TURN_LIMIT) answers.Start has)
-begun-before channels x n Finishes is has = inr refl
-begun-before channels x n (Gets port c packet) is has = absurd (told-not (x.turns + 1 == TURN_LIMIT) (answers.Got (id_of packet)) has)
-begun-before channels x n (Takes_text port text) is has = absurd (told-not (x.turns + 1 == TURN_LIMIT) (answers.Got (next_id x.held)) has)
-begun-before channels x n (Hears_end port) is has = absurd (told-not (x.turns + 1 == TURN_LIMIT) answers.End has)
-begun-before channels x n (Sends port c packet) is has = absurd (told-not (x.turns + 1 == TURN_LIMIT) answers.Sent has)
-begun-before channels x n (Learns port level) is has = absurd (told-not (x.turns + 1 == TURN_LIMIT) (answers.Level level) has)
-begun-before channels x n Sleeps is has = absurd (idle-not (x.turns + 1 == TURN_LIMIT) has)
-begun-before channels x n (Signals w signal) is has = absurd (idle-not (x.turns + 1 == TURN_LIMIT) has)
-begun-before channels x n (Closes output c) is has = inl (subst HasBegun (sym (explains channels x n (Closes output c) is).stage) tt)
-
-limited-begun : (n : ℕ) (b c : Bool) (i : ℕ) → (n == TURN_LIMIT) ≡ c → HasBegun (limited n (cond b (stages.Closing i) stages.Ended)) ⊎ IsFailedStage (limited n (cond b (stages.Closing i) stages.Ended))
-limited-begun n true true i t = inr (rw t tt)
-limited-begun n true false i t = inl (rw t tt)
-limited-begun n false c i t = inl tt
+use Rattle.flow_model.proofs.Stages.{closing-elim, after-turn, heard-wished, begun-before, begun-worked, failed-still}
+use Rattle.flow_component.specs.Happenings.{Happening, Started}
 
 -- one that closes goes on closing, has closed all, or fails
-begun-after : {K : Type 0} (channels : List Channel) (x : Process K) (n : ℕ) (e : Event) → event_of channels x n ≡ Some e → HasBegun x.stage → HasBegun (process_after x e).stage ⊎ IsFailedStage (process_after x e).stage
-begun-after channels x n Starts is has = absurd (subst HasBegun (explains channels x n Starts is) has)
-begun-after channels x n Finishes is has = absurd (subst HasBegun (explains channels x n Finishes is) has)
-begun-after channels x n (Gets port c packet) is has = absurd (subst HasBegun (explains channels x n (Gets port c packet) is).stage has)
-begun-after channels x n (Takes_text port text) is has = absurd (subst HasBegun (explains channels x n (Takes_text port text) is).stage has)
-begun-after channels x n (Hears_end port) is has = absurd (subst HasBegun (explains channels x n (Hears_end port) is).stage has)
-begun-after channels x n (Sends port c packet) is has = absurd (subst HasBegun (explains channels x n (Sends port c packet) is).stage has)
-begun-after channels x n (Learns port level) is has = absurd (subst HasBegun (explains channels x n (Learns port level) is).stage has)
-begun-after channels x n Sleeps is has = absurd (subst HasBegun (explains channels x n Sleeps is) has)
-begun-after channels x n (Signals w signal) is has = absurd (subst HasBegun (explains channels x n (Signals w signal) is).stage has)
-begun-after channels x n (Closes output c) is has =
-    let at = explains channels x n (Closes output c) is in
-    let Goal : Stage → Type 0 = λ stage. HasBegun (limited (x.turns + 1) (closing_on x stage)) ⊎ IsFailedStage (limited (x.turns + 1) (closing_on x stage)) in
-    subst Goal (sym at.stage) (limited-begun (x.turns + 1) (nat_lt (at.i + 1) (length (outlets x))) (x.turns + 1 == TURN_LIMIT) (at.i + 1) refl)
-
--- one that has failed has no turn
-stays-failed : {K : Type 0} (ls : List Look) (x : Process K) (n : ℕ) (e : Event) (stage : Stage) → stage_event ls x n stage ≡ Some e → IsFailedStage stage → ⊥
-stays-failed ls x n e stages.Idle is has = has
-stays-failed ls x n e (stages.Told answer) is has = has
-stays-failed ls x n e (stages.Wishing wish) is has = has
-stays-failed ls x n e (stages.Closing i) is has = has
-stays-failed ls x n e stages.Ended is has = has
-stays-failed ls x n e (stages.Failed cause) is has = cc
-
--- a work begins nothing
-judged-not : (depths : List ℕ) (held : Held) (wish : Wish) → HasBegun (judged depths held wish) → ⊥
-judged-not depths held (wishes.Receive port) has = by (nat_lt (length held.packets) HANDS_LIMIT) has
+begun-after : {K : Type 0} (channels : List Channel) (x : Process K) (n : ℕ) (e : Event) → event_of channels x n ≡ Some e → HasBegunToClose x.stage → HasBegunToClose (process_after x e).stage ⊎ IsFailedStage (process_after x e).stage
+begun-after channels x n e is has = after-turn channels x n e is (λ _ _ stage. HasBegunToClose stage ⊎ IsFailedStage stage) (inr tt) (λ h told. absurd (by (heard-wished channels x n e is h told).stage))
+    (λ asleep. absurd (subst HasBegunToClose (explains channels x n Sleeps asleep) has))
+    (λ c packet signals. absurd (subst HasBegunToClose (explains channels x n (Signals c packet) signals).stage has)) (λ _. goes 0) (λ output c at. goes (at.i + 1))
   where
-    by : (b : Bool) → HasBegun (cond b (stages.Wishing (wishes.Receive port)) (stages.Failed fails.HandsLimit)) → ⊥
-    by true h = h
-    by false h = h
-judged-not depths held (wishes.Send port id) has = by (packet_at held.packets id) has
-  where
-    nested : (b : Bool) → HasBegun (cond b (stages.Wishing (wishes.Send port id)) (stages.Failed (fails.Unnested port))) → ⊥
-    nested true h = h
-    nested false h = h
+    goes : (i : ℕ) → HasBegunToClose (closing x i) ⊎ IsFailedStage (closing x i)
+    goes i = closing-elim (λ stage. HasBegunToClose stage ⊎ IsFailedStage stage) x i (λ _. inl tt) (λ _. inl tt)
 
-    by : (found : Option Tree) → HasBegun (sending depths port id found) → ⊥
-    by (Some packet) h = nested (nests (kind_of packet) (slice_index depths port.0)) h
-    by None h = h
-judged-not depths held (wishes.Level port) has = has
-judged-not depths held wishes.Deactivate has = has
-
-worked-not : {K : Type 0} (x : Process K) (outcome : Outcome K) → HasBegun (worked x outcome).stage → ⊥
-worked-not x (Wishes component held wish) has = judged-not x.depths held wish has
-worked-not x (Fails component held cause) has = has
-
--- The order in which processes began to close
-
--- The connection leads to an input of the process, or to its automatic input.
-abbrev Takes : {K : Type 0} → Process K → ℕ → Type 0
-Takes x c = ((i : ℕ) × (slice_get x.inputs i ≡ Some (From c))) ⊎ (x.signal ≡ Some c)
+    by : {wish : Wish} {h : Happening} → (x.stage ≡ stages.Wishing wish) ⊎ ((x.stage ≡ stages.Idle) × (wish ≡ wishes.Deactivate) × (h ≡ Started)) → ⊥
+    by (inl at) = subst HasBegunToClose at has
+    by (inr at) = subst HasBegunToClose at.0 has
 
 -- Those that have begun have a rank below this number, and each has a higher one than all that feed it, which have begun or failed.
 record Ranks {K : Type 0} (processes : List (Process K)) (rank : ℕ → ℕ) (top : ℕ) : Type 0 where
-  below : (p : ℕ) (y : Process K) → slice_get processes p ≡ Some y → HasBegun y.stage → rank p < top
-  rises : (q p o c : ℕ) (x y : Process K) → slice_get processes q ≡ Some x → output_at x o ≡ Some c → slice_get processes p ≡ Some y → Takes y c → HasBegun y.stage
-      → (HasBegun x.stage × (rank q < rank p)) ⊎ IsFailedStage x.stage
+  below : (p : ℕ) (y : Process K) → slice_get processes p ≡ Some y → HasBegunToClose y.stage → rank p < top
+  rises : (q p o c : ℕ) (x y : Process K) → slice_get processes q ≡ Some x → output_at x o ≡ Some c → slice_get processes p ≡ Some y → Takes y c → HasBegunToClose y.stage
+      → (HasBegunToClose x.stage × (rank q < rank p)) ⊎ IsFailedStage x.stage
 
 -- in a list where a process was set stands that one, or another that stood there
 pub found-set : {K : Type 0} (processes : List (Process K)) (p : ℕ) (x y : Process K) → slice_get processes p ≡ Some x → (q : ℕ) (z : Process K) → slice_get (slice_set processes p y) q ≡ Some z
@@ -163,13 +80,11 @@ open-not-dry {K} kept senders q o c x there out has h = by (slice_get x.outputs 
         (let bad = rw z at open_one.2 in cc)
 
 -- a process may still close all, has begun, or has failed
-stands : (stage : Stage) → ((j : ℕ) → HasToClose stage j) ⊎ (HasBegun stage ⊎ IsFailedStage stage)
-stands stages.Idle = inl (λ j. tt)
-stands (stages.Told answer) = inl (λ j. tt)
-stands (stages.Wishing wish) = inl (λ j. tt)
+stands : (stage : Stage) → ((j : ℕ) → HasToClose stage j) ⊎ (HasBegunToClose stage ⊎ IsFailedStage stage)
 stands (stages.Closing i) = inr (inl tt)
 stands stages.Ended = inr (inl tt)
 stands (stages.Failed cause) = inr (inr tt)
+stands stage = inl (λ j. tt)
 
 abbrev placed : ℕ → ℕ → (ℕ → ℕ) → ℕ → ℕ
 placed p top rank j = if j == p then top else rank j
@@ -181,20 +96,12 @@ placed-other : (p top : ℕ) (rank : ℕ → ℕ) (j : ℕ) → j ≢ p → plac
 placed-other p top rank j other = let t : nat_eq j p ≡ false = grind (arith, nat_tests) in rw t refl
 
 is-finish : (e : Event) → (e ≡ Finishes) ⊎ (e ≡ Finishes → ⊥)
-is-finish Starts = inr (λ h. cc)
 is-finish Finishes = inl refl
-is-finish (Gets port c packet) = inr (λ h. cc)
-is-finish (Takes_text port text) = inr (λ h. cc)
-is-finish (Hears_end port) = inr (λ h. cc)
-is-finish (Sends port c packet) = inr (λ h. cc)
-is-finish (Learns port level) = inr (λ h. cc)
-is-finish Sleeps = inr (λ h. cc)
-is-finish (Signals w signal) = inr (λ h. cc)
-is-finish (Closes output c) = inr (λ h. cc)
+is-finish e = inr (λ h. cc)
 
 module _ {K : Type 0} (kept : Kept K) (p : ℕ) (x : Process K) (n : ℕ) (e : Event) (there : slice_get kept.processes p ≡ Some x) (happens : event_of kept.channels x n ≡ Some e) (rank : ℕ → ℕ) (top : ℕ) (old : Ranks kept.processes rank top) where
   abbrev Edge : (ℕ → ℕ) → ℕ → ℕ → Process K → Type 0
-  Edge ranks q r u = (HasBegun u.stage × (ranks q < ranks r)) ⊎ IsFailedStage u.stage
+  Edge ranks q r u = (HasBegunToClose u.stage × (ranks q < ranks r)) ⊎ IsFailedStage u.stage
 
   out-before : (o c : ℕ) (u : Process K) → process_after x e ≡ u → output_at u o ≡ Some c → output_at x o ≡ Some c
   out-before o c u same out = ap (λ (os : List (Option ℕ)). option_and_then (λ (d : Option ℕ). d) (slice_get os o)) (sym (outputs-after x e) ∙ ap (λ (z : Process K). z.outputs) same) ∙ out
@@ -205,17 +112,17 @@ module _ {K : Type 0} (kept : Kept K) (p : ℕ) (x : Process K) (n : ℕ) (e : E
 
   -- a turn that isn't a finish leaves the ranks as they are
   module _ (goes_on : e ≡ Finishes → ⊥) where
-    begun : (u : Process K) → process_after x e ≡ u → HasBegun u.stage → HasBegun x.stage
-    begun u same has = elim (begun-before kept.channels x n e happens (subst (λ (z : Process K). HasBegun z.stage) (sym same) has)) [ inl b ↦ b | inr f ↦ absurd (goes_on f) ]
+    begun : (u : Process K) → process_after x e ≡ u → HasBegunToClose u.stage → HasBegunToClose x.stage
+    begun u same has = elim (begun-before kept.channels x n e happens (subst (λ (z : Process K). HasBegunToClose z.stage) (sym same) has)) [ inl b ↦ b | inr f ↦ absurd (goes_on f) ]
 
-    from-edge : (q r o c : ℕ) (u y : Process K) → slice_get (slice_set kept.processes p (process_after x e)) q ≡ Some u → output_at u o ≡ Some c → slice_get kept.processes r ≡ Some y → Takes y c → HasBegun y.stage → Edge rank q r u
+    from-edge : (q r o c : ℕ) (u y : Process K) → slice_get (slice_set kept.processes p (process_after x e)) q ≡ Some u → output_at u o ≡ Some c → slice_get kept.processes r ≡ Some y → Takes y c → HasBegunToClose y.stage → Edge rank q r u
     from-edge q r o c u y is out at inp has = elim (found-set kept.processes p x (process_after x e) there q u is) as (λ _. Edge rank q r u) [
       | inl same ↦ elim (old.rises p r o c x y there (out-before o c u same.1 out) at inp has) as (λ _. Edge rank q r u) [
         | inl b ↦ elim (begun-after kept.channels x n e happens b.0) as (λ _. Edge rank q r u) [
-          | inl more ↦ inl (subst (λ (z : Process K). HasBegun z.stage) same.1 more, subst (λ (k : ℕ). rank k < rank r) (sym same.0) b.1)
+          | inl more ↦ inl (subst (λ (z : Process K). HasBegunToClose z.stage) same.1 more, subst (λ (k : ℕ). rank k < rank r) (sym same.0) b.1)
           | inr failed ↦ inr (subst (λ (z : Process K). IsFailedStage z.stage) same.1 failed)
         ]
-        | inr failed ↦ absurd (stays-failed (looks kept.channels) x n e x.stage happens failed)
+        | inr failed ↦ absurd (failed-still (looks kept.channels) x n e x.stage happens failed)
       ]
       | inr other ↦ old.rises q r o c u y other.1 out at inp has
     ]
@@ -253,10 +160,10 @@ module _ {K : Type 0} (kept : Kept K) (p : ℕ) (x : Process K) (n : ℕ) (e : E
       ]
     ]
 
-    beside : (q r o c : ℕ) (u y : Process K) → slice_get (slice_set kept.processes p (process_after x e)) q ≡ Some u → output_at u o ≡ Some c → r ≢ p → slice_get kept.processes r ≡ Some y → Takes y c → HasBegun y.stage → Edge (placed p top rank) q r u
+    beside : (q r o c : ℕ) (u y : Process K) → slice_get (slice_set kept.processes p (process_after x e)) q ≡ Some u → output_at u o ≡ Some c → r ≢ p → slice_get kept.processes r ≡ Some y → Takes y c → HasBegunToClose y.stage → Edge (placed p top rank) q r u
     beside q r o c u y is out apart at inp has = elim (found-set kept.processes p x (process_after x e) there q u is) as (λ _. Edge (placed p top rank) q r u) [
       | inl same ↦ elim (old.rises p r o c x y there (out-before o c u same.1 out) at inp has) as (λ _. Edge (placed p top rank) q r u) [
-        | inl b ↦ absurd (subst HasBegun was-idle b.0)
+        | inl b ↦ absurd (subst HasBegunToClose was-idle b.0)
         | inr failed ↦ absurd (subst IsFailedStage was-idle failed)
       ]
       | inr other ↦ elim (old.rises q r o c u y other.1 out at inp has) as (λ _. Edge (placed p top rank) q r u) [
@@ -300,16 +207,16 @@ ranked-turn {K} s p e s' turn r = elim (is-finish e) as (λ _. Ranked s'.kept) [
   }
 ]
 
-module _ {K : Type 0} (next : K → Held → Answer → Outcome K → Type 0) where
-  module _ (s : State K) (p : ℕ) (s' : State K) (work : Work next s p s') (rank : ℕ → ℕ) (top : ℕ) (old : Ranks s.kept.processes rank top) where
+module _ {K : Type 0} (rules : Rules K) where
+  module _ (s : State K) (p : ℕ) (s' : State K) (work : Work rules s p s') (rank : ℕ → ℕ) (top : ℕ) (old : Ranks s.kept.processes rank top) where
     abbrev x : Process K
     x = work.before
 
     abbrev y : Process K
     y = worked work.before work.outcome
 
-    told-none : HasBegun x.stage → ⊥
-    told-none has = subst HasBegun work.kept.told has
+    told-none : HasBegunToClose x.stage → ⊥
+    told-none has = subst HasBegunToClose work.kept.told has
 
     told-stands : IsFailedStage x.stage → ⊥
     told-stands has = subst IsFailedStage work.kept.told has
@@ -317,32 +224,32 @@ module _ {K : Type 0} (next : K → Held → Answer → Outcome K → Type 0) wh
     ranks-work : Ranks (slice_set s.kept.processes p y) rank top
     ranks-work = record {
       below = λ q z is has. elim (found-set s.kept.processes p x y work.kept.there q z is) as (λ _. rank q < top) [
-        | inl same ↦ absurd (worked-not work.before work.outcome (subst (λ (w : Process K). HasBegun w.stage) (sym same.1) has))
+        | inl same ↦ absurd (begun-worked work.before work.outcome (subst (λ (w : Process K). HasBegunToClose w.stage) (sym same.1) has))
         | inr other ↦ old.below q z other.1 has
       ];
-      rises = λ q r o c u z is out at inp has. elim (found-set s.kept.processes p x y work.kept.there r z at) as (λ _. (HasBegun u.stage × (rank q < rank r)) ⊎ IsFailedStage u.stage) [
-        | inl same ↦ absurd (worked-not work.before work.outcome (subst (λ (w : Process K). HasBegun w.stage) (sym same.1) has))
-        | inr other ↦ elim (found-set s.kept.processes p x y work.kept.there q u is) as (λ _. (HasBegun u.stage × (rank q < rank r)) ⊎ IsFailedStage u.stage) [
+      rises = λ q r o c u z is out at inp has. elim (found-set s.kept.processes p x y work.kept.there r z at) as (λ _. (HasBegunToClose u.stage × (rank q < rank r)) ⊎ IsFailedStage u.stage) [
+        | inl same ↦ absurd (begun-worked work.before work.outcome (subst (λ (w : Process K). HasBegunToClose w.stage) (sym same.1) has))
+        | inr other ↦ elim (found-set s.kept.processes p x y work.kept.there q u is) as (λ _. (HasBegunToClose u.stage × (rank q < rank r)) ⊎ IsFailedStage u.stage) [
           | inl same ↦ (let out' : output_at x o ≡ Some c = ap (λ (os : List (Option ℕ)). option_and_then (λ (d : Option ℕ). d) (slice_get os o)) (sym (outputs-worked x work.outcome) ∙ ap (λ (w : Process K). w.outputs) same.1) ∙ out in
-              elim (old.rises p r o c x z work.kept.there out' other.1 inp has) as (λ _. (HasBegun u.stage × (rank q < rank r)) ⊎ IsFailedStage u.stage) [ inl b ↦ absurd (told-none b.0) | inr failed ↦ absurd (told-stands failed) ])
+              elim (old.rises p r o c x z work.kept.there out' other.1 inp has) as (λ _. (HasBegunToClose u.stage × (rank q < rank r)) ⊎ IsFailedStage u.stage) [ inl b ↦ absurd (told-none b.0) | inr failed ↦ absurd (told-stands failed) ])
           | inr apart ↦ old.rises q r o c u z apart.1 out other.1 inp has
         ]
       ];
     }
 
-  ranked-work : (s : State K) (p : ℕ) (s' : State K) → Work next s p s' → Ranked s.kept → Ranked s'.kept
+  ranked-work : (s : State K) (p : ℕ) (s' : State K) → Work rules s p s' → Ranked s.kept → Ranked s'.kept
   ranked-work s p s' work r = record {
     rank = r.rank;
     top = r.top;
     ranks = subst (λ (ps : List (Process K)). Ranks ps r.rank r.top) (sym work.kept.processes) (ranks-work s p s' work r.rank r.top r.ranks);
-    senders = SendersOpen-work next s p s' work r.senders;
+    senders = SendersOpen-work rules s p s' work r.senders;
   }
 
-  ranked-settles : (s : State K) (p : ℕ) (s' : State K) → Settles next s p s' → Ranked s.kept → Ranked s'.kept
+  ranked-settles : (s : State K) (p : ℕ) (s' : State K) → Settles rules s p s' → Ranked s.kept → Ranked s'.kept
   ranked-settles s p s' (inl none) r = subst (λ (t : State K). Ranked t.kept) (sym none.1) r
   ranked-settles s p s' (inr work) r = ranked-work s p s' work r
 
-  ranked-leads : (s : State K) (turns seen : List ℕ) (s' : State K) → LeadsBy next s turns seen s' → Ranked s.kept → Ranked s'.kept
+  ranked-leads : (s : State K) (turns seen : List ℕ) (s' : State K) → LeadsBy rules s turns seen s' → Ranked s.kept → Ranked s'.kept
   ranked-leads s [] seen s' leads r = subst (λ (t : State K). Ranked t.kept) (sym leads.1) r
   ranked-leads s (p ∷ turns) seen s' leads r =
       let whole = leads.3 in
@@ -350,14 +257,9 @@ module _ {K : Type 0} (next : K → Held → Answer → Outcome K → Type 0) wh
 
 -- The plan's ports in the last state
 
-get-there : {A : Type 0} (xs : List A) (c : ℕ) (d : A) → c < length xs → slice_get xs c ≡ Some (get_or xs c d)
-get-there [] c d l = absurd (omega arith)
-get-there (x ∷ xs) zero d l = refl
-get-there (x ∷ xs) (suc c) d l = get-there xs c d (omega arith)
-
-module _ {K : Type 0} (shape_of : K → Shape) (uses : K → ℕ → Bool) (ready : K → Held → Answer → Type 0) (next : K → Held → Answer → Outcome K → Type 0) (plan : Plan) (components : List K) (journal : Journal) (s : State K) (well : StartsWell shape_of uses ready plan components) (leads : Leads next (start_of plan components) journal s) where
+module _ {K : Type 0} (rules : Rules K) (plan : Plan) (components : List K) (journal : Journal) (s : State K) (well : StartsWell rules plan components) (leads : Leads rules (start_of plan components) journal s) where
   kept-wires : SameWires (start_of plan components) s
-  kept-wires = (wires-leads next plan components journal s leads).0
+  kept-wires = (wires-leads rules plan components journal s leads).0
 
   now : (p : ℕ) (z : Process K) → slice_get (processes_at_start plan 0 plan.processes components) p ≡ Some z → (x : Process K) × (slice_get s.kept.processes p ≡ Some x) × (wires x ≡ wires z)
   now p z there =
@@ -414,17 +316,17 @@ module _ {K : Type 0} (shape_of : K → Shape) (uses : K → ℕ → Bool) (read
     senders = start-senders plan components;
   }
     where
-      idle-start : (p : ℕ) (y : Process K) → slice_get (processes_at_start plan 0 plan.processes components) p ≡ Some y → HasBegun y.stage → ⊥
-      idle-start p y is has = subst (λ (z : Process K). HasBegun z.stage) (start-process plan components p y is).is has
+      idle-start : (p : ℕ) (y : Process K) → slice_get (processes_at_start plan 0 plan.processes components) p ≡ Some y → HasBegunToClose y.stage → ⊥
+      idle-start p y is has = subst (λ (z : Process K). HasBegunToClose z.stage) (start-process plan components p y is).is has
 
   pub finished-leads_on : IsFinished s → LeadsOn plan
   finished-leads_on finished =
-      let r = ranked-leads next (start_of plan components) journal.turns journal.seen s leads start-ranked in
+      let r = ranked-leads rules (start_of plan components) journal.turns journal.seen s leads start-ranked in
       record {
         rank = r.rank;
         rises = λ p o q i c sends receive. (
             let x = sends-now p o c sends in
             let y = receives-now q i c receive in
-            elim (r.ranks.rises p q o c x.0 y.0 x.1 x.2 y.1 y.2 (subst HasBegun (sym (finished q y.0 y.1)) tt)) [ inl b ↦ b.1 | inr failed ↦ absurd (subst IsFailedStage (finished p x.0 x.1) failed) ]
+            elim (r.ranks.rises p q o c x.0 y.0 x.1 x.2 y.1 y.2 (subst HasBegunToClose (sym (finished q y.0 y.1)) tt)) [ inl b ↦ b.1 | inr failed ↦ absurd (subst IsFailedStage (finished p x.0 x.1) failed) ]
             );
       }

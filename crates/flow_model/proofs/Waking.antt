@@ -2,18 +2,15 @@
 use Rattle.std.proofs.Common.{◌≡◌, ◌≢◌, ◌⊎◌, inl, inr, ℕ, ◌+◌, ◌<◌, Bool, true, false, List, [], ◌∷◌, ◌++◌, map, not, ◌||◌, ◌&&◌, Some, refl, sym, ap, ◌∙◌, subst, cond, nat_eq, arith, slice_get, slice_set}
 use Rattle.std.specs.List.{list_any}
 use Rattle.std.proofs.lemmas.Bool.Decides.{nat_tests}
-use Rattle.flow_packet.specs.Held.{Held}
-use Rattle.flow_component.specs.declared.Answer.{Answer}
-use Rattle.flow_component.specs.declared.Shape.{Shape}
-use Rattle.flow_component.specs.Laws.{Outcome, Obeys, StaysReady}
+use Rattle.flow_component.specs.Laws.{Rules, Lawful}
 use Rattle.flow_component.specs.Happenings.{Happening, Started, Received, Ended, Sent, Learned}
 use Rattle.flow_component.specs.Runs.{starts}
-use Rattle.flow_model.specs.States.{Input, From, Process, Channel, Put, State, Entry, entry_of, got_at}
-use Rattle.flow_model.specs.Events.{Event, Starts, Finishes, Gets, Takes_text, Hears_end, Sends, Learns, Sleeps, Closes, Signals, looks, event_of, is_connected, has_packet}
+use Rattle.flow_model.specs.States.{Input, From, Process, Put, State, Entry, entry_of, got_at}
+use Rattle.flow_model.specs.Events.{Event, Starts, Sends, looks, event_of, is_connected, has_packet}
 use Rattle.flow_model.specs.Turns.{Turn, process_after, heard, put_after, past_after}
 use Rattle.flow_model.specs.Works.{Work, worked}
 use Rattle.flow_model.specs.Schedules.{Settles, Journal, Leads, LeadsBy}
-use Rattle.flow_model.specs.Order.{InOrder, entries, input_of, packets_at}
+use Rattle.flow_model.specs.Order.{entries, input_of, packets_at}
 use Rattle.flow_model.specs.Plans.{start_of, StartsWell}
 use Rattle.flow_plan.specs.Network.{Network as Plan}
 use Rattle.flow_model.specs.Valid.{Valid}
@@ -44,28 +41,12 @@ put-stays put p (Sends port d packet) c some = by (nat_eq c d)
     by : (b : Bool) → cond b (put c ++ record { sender = record { process = p; output = port }; entry = entry_of packet } ∷ []) (put c) ≡ [] → ⊥
     by true is = pushed (put c) (record { sender = record { process = p; output = port }; entry = entry_of packet }) is
     by false is = some is
-put-stays put p Starts c some = some
-put-stays put p Finishes c some = some
-put-stays put p (Gets port d packet) c some = some
-put-stays put p (Takes_text port text) c some = some
-put-stays put p (Hears_end port) c some = some
-put-stays put p (Learns port level) c some = some
-put-stays put p Sleeps c some = some
-put-stays put p (Signals w signal) c some = some
-put-stays put p (Closes output d) c some = some
+put-stays put p e c some = some
 
 -- a turn is a start, or starts nothing
 pub starts-heard : {K : Type 0} (x : Process K) (e : Event) → (e ≡ Starts) ⊎ (starts (heard x e) ≡ 0)
 starts-heard x Starts = inl refl
-starts-heard x Finishes = inr refl
-starts-heard x (Gets port c packet) = inr refl
-starts-heard x (Takes_text port text) = inr refl
-starts-heard x (Hears_end port) = inr refl
-starts-heard x (Sends port c packet) = inr refl
-starts-heard x (Learns port level) = inr refl
-starts-heard x Sleeps = inr refl
-starts-heard x (Signals w signal) = inr refl
-starts-heard x (Closes output c) = inr refl
+starts-heard x e = inr refl
 
 abbrev Woken : {K : Type 0} → State K → Process K → Type 0
 Woken s x = NoneConnected x ⊎ GetsSome s x
@@ -74,9 +55,9 @@ Woken s x = NoneConnected x ⊎ GetsSome s x
 abbrev AllWoken : {K : Type 0} → State K → Type 0
 AllWoken {K} s = (p : ℕ) (x : Process K) → slice_get s.kept.processes p ≡ Some x → 0 < starts (s.past.told p) → Woken s x
 
-module _ {K : Type 0} (ready : K → Held → Answer → Type 0) where
+module _ {K : Type 0} (rules : Rules K) where
   -- where a connection holds a packet one was put
-  put-some : (s : State K) (p port c : ℕ) (x : Process K) → Valid ready s → slice_get s.kept.processes p ≡ Some x → slice_get x.inputs port ≡ Some (From c) → HoldsSome s.kept.channels c → s.past.put c ≢ []
+  put-some : (s : State K) (p port c : ℕ) (x : Process K) → Valid rules s → slice_get s.kept.processes p ≡ Some x → slice_get x.inputs port ≡ Some (From c) → HoldsSome s.kept.channels c → s.past.put c ≢ []
   put-some s p port c x valid there input holds none =
       let at : input_of port (slice_get s.kept.processes p) ≡ Some c = ap (input_of port) there ∙ ap Rattle.flow_model.specs.Order.connection_of input in
       let order = valid.in_order.received p port c at in
@@ -88,7 +69,7 @@ module _ {K : Type 0} (ready : K → Held → Answer → Type 0) where
       longer [] y ys is = cc
       longer (x ∷ xs) y ys is = cc
 
-  starts-woken : (s : State K) (p n : ℕ) (x : Process K) → Valid ready s → slice_get s.kept.processes p ≡ Some x → event_of s.kept.channels x n ≡ Some Starts → Woken s x
+  starts-woken : (s : State K) (p n : ℕ) (x : Process K) → Valid rules s → slice_get s.kept.processes p ≡ Some x → event_of s.kept.channels x n ≡ Some Starts → Woken s x
   starts-woken s p n x valid there is = by (list_any (has_packet (looks s.kept.channels)) x.inputs) refl (list_any is_connected x.inputs) refl (starts-is_woken s.kept.channels x n is)
     where
       by : (b : Bool) → list_any (has_packet (looks s.kept.channels)) x.inputs ≡ b → (k : Bool) → list_any is_connected x.inputs ≡ k → (list_any (has_packet (looks s.kept.channels)) x.inputs || (not (list_any is_connected x.inputs) && not x.has_run)) ≡ true → Woken s x
@@ -100,7 +81,7 @@ module _ {K : Type 0} (ready : K → Held → Answer → Type 0) where
   stays-woken s s' x y inputs puts (inl none) = inl (ap (list_any is_connected) inputs ∙ none)
   stays-woken s s' x y inputs puts (inr gets) = inr (record { input = gets.input; connection = gets.connection; at = ap (λ (is : List Input). slice_get is gets.input) inputs ∙ gets.at; some = puts gets.connection gets.some })
 
-  woken-turn : (s : State K) (p : ℕ) (e : Event) (s' : State K) → Turn s p e s' → Valid ready s → AllWoken s → AllWoken s'
+  woken-turn : (s : State K) (p : ℕ) (e : Event) (s' : State K) → Turn s p e s' → Valid rules s → AllWoken s → AllWoken s'
   woken-turn s p e s' turn valid old q z is some =
       let x = turn.kept.before in
       let puts : (c : ℕ) → s.past.put c ≢ [] → s'.past.put c ≢ [] = λ c has none. put-stays s.past.put p e c has (sym (ap (λ (past : Rattle.flow_model.specs.States.Past). past.put c) turn.past) ∙ none) in
@@ -127,8 +108,8 @@ module _ {K : Type 0} (ready : K → Held → Answer → Type 0) where
             )
       ]
 
-  module _ (next : K → Held → Answer → Outcome K → Type 0) where
-    woken-work : (s : State K) (p : ℕ) (s' : State K) → Work next s p s' → AllWoken s → AllWoken s'
+  module _ where
+    woken-work : (s : State K) (p : ℕ) (s' : State K) → Work rules s p s' → AllWoken s → AllWoken s'
     woken-work s p s' work old q z is some =
         let x = work.before in
         let puts : (c : ℕ) → s.past.put c ≢ [] → s'.past.put c ≢ [] = λ c has none. has (sym (ap (λ (past : Rattle.flow_model.specs.States.Past). past.put c) work.past) ∙ none) in
@@ -140,19 +121,17 @@ module _ {K : Type 0} (ready : K → Held → Answer → Type 0) where
           | inr other ↦ stays-woken s s' z z refl puts (old q z other.1 before)
         ]
 
-    woken-settles : (s : State K) (p : ℕ) (s' : State K) → Settles next s p s' → AllWoken s → AllWoken s'
+    woken-settles : (s : State K) (p : ℕ) (s' : State K) → Settles rules s p s' → AllWoken s → AllWoken s'
     woken-settles s p s' (inl none) old = subst AllWoken (sym none.1) old
     woken-settles s p s' (inr work) old = woken-work s p s' work old
 
-    module _ (shape_of : K → Shape) (uses : K → ℕ → Bool)
-        (obeys : (component : K) (held : Held) (answer : Answer) (outcome : Outcome K) → ready component held answer → next component held answer outcome → Obeys (shape_of component) (uses component) held outcome)
-        (stays : (component : K) (held : Held) (answer : Answer) (outcome : Outcome K) → ready component held answer → next component held answer outcome → StaysReady ready outcome) where
-      woken-leads : (s : State K) (turns seen : List ℕ) (s' : State K) → LeadsBy next s turns seen s' → Valid ready s → AllWoken s → AllWoken s'
+    module _ (lawful : Lawful rules) where
+      woken-leads : (s : State K) (turns seen : List ℕ) (s' : State K) → LeadsBy rules s turns seen s' → Valid rules s → AllWoken s → AllWoken s'
       woken-leads s [] seen s' leads valid old = subst AllWoken (sym leads.1) old
       woken-leads s (p ∷ turns) seen s' leads valid old =
           let whole = leads.3 in
-          let valid' = Valid-turn ready s p leads.0 whole.0 whole.1 valid in
-          woken-leads leads.1 turns leads.2 s' leads.5 (Valid-settles ready next shape_of uses obeys stays whole.0 p leads.1 whole.2 valid') (woken-settles whole.0 p leads.1 whole.2 (woken-turn s p leads.0 whole.0 whole.1 valid old))
+          let valid' = Valid-turn rules s p leads.0 whole.0 whole.1 valid in
+          woken-leads leads.1 turns leads.2 s' leads.5 (Valid-settles rules lawful whole.0 p leads.1 whole.2 valid') (woken-settles whole.0 p leads.1 whole.2 (woken-turn s p leads.0 whole.0 whole.1 valid old))
 
-      pub all-woken : (plan : Plan) (components : List K) (journal : Journal) (s : State K) → StartsWell shape_of uses ready plan components → Leads next (start_of plan components) journal s → AllWoken s
-      all-woken plan components journal s well leads = woken-leads (start_of plan components) journal.turns journal.seen s leads (Valid-start ready shape_of uses plan components well) (λ p x is some. absurd (omega (arith, some)))
+      pub all-woken : (plan : Plan) (components : List K) (journal : Journal) (s : State K) → StartsWell rules plan components → Leads rules (start_of plan components) journal s → AllWoken s
+      all-woken plan components journal s well leads = woken-leads (start_of plan components) journal.turns journal.seen s leads (Valid-start rules plan components well) (λ p x is some. absurd (omega (arith, some)))

@@ -1,9 +1,7 @@
 -- What a running net keeps of each state that it stands for. (This project's own.)
 use Rattle.flow_limits.specs.declared.TheConstants.{HANDS_LIMIT}
-use Rattle.std.specs.Prelude.{◌≡◌, ℕ, ◌≤◌, Bool, List, length, Some, slice_get}
-use Rattle.flow_packet.specs.Held.{Held}
-use Rattle.flow_component.specs.declared.Answer.{Answer}
-use Rattle.flow_component.specs.declared.Shape.{Shape}
+use Rattle.std.specs.Prelude.{◌≡◌, ℕ, ◌≤◌, List, length, Some, slice_get}
+use Rattle.flow_component.specs.Laws.{Rules}
 use Rattle.flow_model.specs.States.{Process, State}
 use Rattle.flow_model.specs.Valid.{Valid, AllFit, OpenSendersTell}
 
@@ -13,8 +11,8 @@ FewAtRoot {K} processes = (p : ℕ) (x : Process K) → slice_get processes p �
 
 -- The state is valid, each component fits its process and each wish that stands can be granted, all hands are within their limit,
 -- and the open senders are those that still have to close or that a failed process leaves open.
-pub record Fit {K : Type 0} (shape_of : K → Shape) (uses : K → ℕ → Bool) (ready : K → Held → Answer → Type 0) (s : State K) : Type 0 where
-  pub valid : Valid ready s
-  pub all_fit : AllFit shape_of uses s.kept.processes
+pub record Fit {K : Type 0} (rules : Rules K) (s : State K) : Type 0 where
+  pub valid : Valid rules s
+  pub all_fit : AllFit rules s.kept.processes
   pub few : FewAtRoot s.kept.processes
   pub senders : OpenSendersTell s.kept

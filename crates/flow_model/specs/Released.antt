@@ -1,10 +1,7 @@
 -- What automatic inputs do: a process knows whether a packet came there, none is started before it is released, and one that has ended left
 -- nothing there. (This project's own.)
-use Rattle.std.specs.Prelude.{◌≡◌, ◌≢◌, ◌⊎◌, ℕ, ◌<◌, not, Bool, List, [], Some, slice_get}
-use Rattle.flow_packet.specs.Held.{Held}
-use Rattle.flow_component.specs.declared.Answer.{Answer}
-use Rattle.flow_component.specs.declared.Shape.{Shape}
-use Rattle.flow_component.specs.Laws.{Outcome}
+use Rattle.std.specs.Prelude.{◌≡◌, ◌≢◌, ◌⊎◌, ℕ, ◌<◌, not, List, [], Some, slice_get}
+use Rattle.flow_component.specs.Laws.{Rules}
 use Rattle.flow_component.specs.Runs.{starts}
 use Rattle.flow_model.specs.declared.Stage.TheVariants as stages
 use Rattle.flow_model.specs.States.{Process, Channel, State}
@@ -38,6 +35,6 @@ abbrev pub EndedTookSignals : {K : Type 0} → State K → Type 0
 EndedTookSignals {K} s = (p c : ℕ) (x : Process K) → slice_get s.kept.processes p ≡ Some x → x.stage ≡ stages.Ended → x.signal ≡ Some c → entries (s.past.put c) ≡ s.past.signals p
 
 -- All this holds after every schedule from a start.
-abbrev pub KeepsReleased : {K : Type 0} → (K → Shape) → (K → ℕ → Bool) → (K → Held → Answer → Type 0) → (K → Held → Answer → Outcome K → Type 0) → Type 0
-KeepsReleased {K} shape_of uses ready next =
-    (plan : Plan) (components : List K) (journal : Journal) (s : State K) → StartsWell shape_of uses ready plan components → Leads next (start_of plan components) journal s → SignalsTell s × StartedReleased s × EndedTookSignals s
+abbrev pub KeepsReleased : {K : Type 0} → Rules K → Type 0
+KeepsReleased {K} rules =
+    (plan : Plan) (components : List K) (journal : Journal) (s : State K) → StartsWell rules plan components → Leads rules (start_of plan components) journal s → SignalsTell s × StartedReleased s × EndedTookSignals s

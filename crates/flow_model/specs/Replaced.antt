@@ -2,7 +2,7 @@
 use Rattle.std.specs.Prelude.{◌≡◌, ℕ, suc, List, [], ◌∷◌, Some, slice_get}
 use Rattle.flow_packet.specs.Held.{Held}
 use Rattle.flow_component.specs.declared.Answer.{Answer}
-use Rattle.flow_component.specs.Laws.{Outcome, component_after}
+use Rattle.flow_component.specs.Laws.{Rules, Outcome, component_after}
 use Rattle.flow_component.specs.Outcomes.{outcome_as}
 use Rattle.flow_model.specs.States.{Process, State}
 
@@ -37,6 +37,6 @@ OfEach {K} holds s = (p : ℕ) (x : Process K) → slice_get s.kept.processes p 
 
 -- What held after an outcome held before it; and told the same with the same hands, the other component comes to the same, and to that which stands for
 -- the component after it.
-pub record Mimics {K L : Type 0} (next : K → Held → Answer → Outcome K → Type 0) (next' : L → Held → Answer → Outcome L → Type 0) (holds : ℕ → K → Type 0) (other : ℕ → K → L) : Type 0 where
-  pub before : (p : ℕ) (component : K) (held : Held) (answer : Answer) (outcome : Outcome K) → next component held answer outcome → holds p (component_after outcome) → holds p component
-  pub same : (p : ℕ) (component : K) (held : Held) (answer : Answer) (outcome : Outcome K) → next component held answer outcome → holds p (component_after outcome) → next' (other p component) held answer (outcome_as (other p) outcome)
+pub record Mimics {K L : Type 0} (rules : Rules K) (rules' : Rules L) (holds : ℕ → K → Type 0) (other : ℕ → K → L) : Type 0 where
+  pub before : (p : ℕ) (component : K) (held : Held) (answer : Answer) (outcome : Outcome K) → rules.next component held answer outcome → holds p (component_after outcome) → holds p component
+  pub same : (p : ℕ) (component : K) (held : Held) (answer : Answer) (outcome : Outcome K) → rules.next component held answer outcome → holds p (component_after outcome) → rules'.next (other p component) held answer (outcome_as (other p) outcome)

@@ -1,10 +1,7 @@
 -- That no connection leads back. (This project's own; Morrison's book tells of loops among the causes of deadlocks.)
 use Rattle.std.specs.Prelude.{◌≡◌, ℕ, ◌<◌, Some}
-use Rattle.std.specs.Prelude.{List, Bool}
-use Rattle.flow_packet.specs.Held.{Held}
-use Rattle.flow_component.specs.declared.Answer.{Answer}
-use Rattle.flow_component.specs.declared.Shape.{Shape}
-use Rattle.flow_component.specs.Laws.{Outcome}
+use Rattle.std.specs.Prelude.{List}
+use Rattle.flow_component.specs.Laws.{Rules}
 use Rattle.flow_model.specs.States.{State}
 use Rattle.flow_model.specs.Schedules.{Journal, Leads}
 use Rattle.flow_model.specs.Plans.{sends_at, receives_at, start_of, StartsWell}
@@ -18,6 +15,6 @@ pub record LeadsOn (plan : Plan) : Type 0 where
 
 -- Whatever the schedule, where a network has finished no connection of its plan leads back: a process begins to close only once all that feed it have, so those on
 -- a circle never do.
-abbrev pub FinishedLeadsOn : {K : Type 0} → (K → Shape) → (K → ℕ → Bool) → (K → Held → Answer → Type 0) → (K → Held → Answer → Outcome K → Type 0) → Type 0
-FinishedLeadsOn {K} shape_of uses ready next =
-    (plan : Plan) (components : List K) (journal : Journal) (s : State K) → StartsWell shape_of uses ready plan components → Leads next (start_of plan components) journal s → IsFinished s → LeadsOn plan
+abbrev pub FinishedLeadsOn : {K : Type 0} → Rules K → Type 0
+FinishedLeadsOn {K} rules =
+    (plan : Plan) (components : List K) (journal : Journal) (s : State K) → StartsWell rules plan components → Leads rules (start_of plan components) journal s → IsFinished s → LeadsOn plan

@@ -1,10 +1,7 @@
 -- What stays as the plan says: which connection, or which text, is at each input and output, the automatic ones too; and whose the packets of a connection are.
 -- (This project's own.)
-use Rattle.std.specs.Prelude.{◌≡◌, ℕ, Bool, List, map, Option, Some, slice_get}
-use Rattle.flow_packet.specs.Held.{Held}
-use Rattle.flow_component.specs.declared.Answer.{Answer}
-use Rattle.flow_component.specs.declared.Shape.{Shape}
-use Rattle.flow_component.specs.Laws.{Outcome}
+use Rattle.std.specs.Prelude.{◌≡◌, ℕ, List, map, Option, Some, slice_get}
+use Rattle.flow_component.specs.Laws.{Rules}
 use Rattle.flow_model.specs.States.{Input, Process, Put, State}
 use Rattle.flow_model.specs.Order.{output_of}
 use Rattle.flow_model.specs.Schedules.{Journal, Leads}
@@ -30,6 +27,6 @@ abbrev pub PutBySenders : {K : Type 0} → State K → Type 0
 PutBySenders s = (c k : ℕ) (put : Put) → slice_get (s.past.put c) k ≡ Some put → output_of put.sender.output (slice_get s.kept.processes put.sender.process) ≡ Some c
 
 -- So it is after every schedule from a start.
-abbrev pub KeepsWires : {K : Type 0} → (K → Shape) → (K → ℕ → Bool) → (K → Held → Answer → Type 0) → (K → Held → Answer → Outcome K → Type 0) → Type 0
-KeepsWires {K} shape_of uses ready next =
-    (plan : Plan) (components : List K) (journal : Journal) (s : State K) → StartsWell shape_of uses ready plan components → Leads next (start_of plan components) journal s → SameWires (start_of plan components) s × PutBySenders s
+abbrev pub KeepsWires : {K : Type 0} → Rules K → Type 0
+KeepsWires {K} rules =
+    (plan : Plan) (components : List K) (journal : Journal) (s : State K) → StartsWell rules plan components → Leads rules (start_of plan components) journal s → SameWires (start_of plan components) s × PutBySenders s

@@ -25,4 +25,6 @@ pub mod Rows
 pub mod OptionTexts
 pub mod PlanOptions
 pub mod Overs
+pub mod InitialTexts
+pub mod Needs
 pub mod Validity

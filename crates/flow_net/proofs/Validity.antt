@@ -1,14 +1,13 @@
 -- The plan of a sound draft without a fault is valid.
 use Rattle.flow_limits.specs.declared.TheConstants.{CAPACITY_LIMIT, CAPACITY_SUM_LIMIT, SENDER_LIMIT, TEXT_LIMIT}
-use Rattle.std.proofs.Common.{◌≡◌, ℕ, ◌+◌, ◌-◌, ◌<◌, ◌≤◌, List, [], ◌∷◌, Option, Some, Ok, Bool, true, false, map, refl, ap, sym, ◌∙◌, subst, zero, suc, inl, inr, ◌⊎◌, slice_get, length, take, arith}
-use Rattle.std.specs.Prelude.{◌==◌, nat_le, if◌then◌else◌, codes}
+use Rattle.std.proofs.Common.{◌≡◌, ℕ, ◌-◌, ◌<◌, ◌≤◌, List, Option, Some, Ok, Bool, true, false, map, refl, ap, sym, ◌∙◌, subst, inl, inr, ◌⊎◌, slice_get, length, arith}
+use Rattle.std.specs.Prelude.{◌==◌, nat_le, codes}
 use Rattle.std.specs.declared.result.Result.{Result}
 use Rattle.std.specs.Option.{option_map, option_map_or, option_and_then}
 use Rattle.std.specs.List.{sum_by}
-use Rattle.std.proofs.lemmas.Bool.{false≢true, cases_lt}
+use Rattle.std.proofs.lemmas.Bool.{false≢true}
 use Rattle.std.proofs.lemmas.Bool.Decides.{nat_tests}
 use Rattle.std.proofs.lemmas.List.{length-map}
-use Rattle.std.proofs.lemmas.List.Sums.{sum_by-cons}
 use Rattle.std.proofs.lemmas.Option.{slice_get-map}
 use Rattle.flow_net.specs.declared.draft.End.{End}
 use Rattle.flow_net.specs.declared.draft.DraftPort.{DraftPort}
@@ -26,15 +25,14 @@ use Rattle.flow_net.specs.declared.fault.PlanFault.{PlanFault}
 use Rattle.flow_net.specs.Drafts.{Draft, ◌>>=◌, binding_at, is_free, is_side, is_stream_at, is_stream_port, same}
 use Rattle.flow_net.specs.Calls.{process_at}
 use Rattle.flow_net.specs.Sound.{IsSound, into_of, sender_at, text_at, is_input_at}
-use Rattle.flow_net.specs.Finishes.{first_fault, sum_fault, draft_fault, name_of, elements_in, count_of, counted, number_of, total_of, sender_of, connection_of, process_of, plan_of, capacity_of, initials_of, row_of, rows_of, table_of}
+use Rattle.flow_net.specs.Finishes.{first_fault, sum_fault, draft_fault, name_of, count_of, counted, number_of, total_of, sender_of, connection_of, process_of, plan_of, capacity_of, rows_of, table_of}
 use Rattle.flow_plan.specs.Valid.{IsValid, HasConnection, HasText, HasSender, NeedsOutput, needs_of}
 use Rattle.flow_net.proofs.Wiring.{same_end}
 use Rattle.flow_net.proofs.Steps.{map_some, then_some}
 use Rattle.flow_net.proofs.Ends.{bind_ok, refused_ok, if_true, and_true, same_true, eqb_true}
 use Rattle.flow_net.proofs.SoundGives.{some_at}
 use Rattle.flow_net.proofs.Placed.{capacity_of-small}
-use Rattle.flow_plan.proofs.PortNames.{slice_get-left, slice_get-right}
-use Rattle.flow_net.proofs.Laying.{LaidOut-plan, row-count}
+use Rattle.flow_net.proofs.Laying.{LaidOut-plan}
 use Rattle.flow_net.proofs.Lasts.{get-flat-front, Closes, closes-kind, count-automatic, last-number, not-last}
 use Rattle.flow_net.specs.Kinds.{automatic}
 use Rattle.flow_plan.specs.declared.kind.PortSpec.{PortSpec}
@@ -43,135 +41,8 @@ use Rattle.flow_net.proofs.Numbers.{number_at, number-within, number-same, Numbe
 use Rattle.flow_net.proofs.Rows.{mapped}
 use Rattle.flow_net.proofs.PlanOptions.{HasOptions-plan, HasRows-plan}
 use Rattle.flow_net.proofs.Wholes.{Located, Located-bound, each_bound, no_fault}
-
--- a text at a stream port is an initial text of its number
-initial_there : (ports : List DraftPort) (texts : List (End × List ℕ)) (k : ℕ) (end : End) (text : List ℕ) → slice_get texts k ≡ Some (end, text) → is_stream_at ports end ≡ true → (m : ℕ) × (slice_get (initials_of ports texts) m ≡ Some (number_of ports end, text))
-initial_there ports [] k end text here stream = absurd (cc)
-initial_there ports (x ∷ xs) zero end text here stream =
-    let whole : ◌≡◌ {A = End × List ℕ} x (end, text) = cc in
-    let test : is_stream_at ports x.0 ≡ true = ap (λ (y : End × List ℕ). is_stream_at ports y.0) whole ∙ stream in
-    (0, ap (λ b. slice_get (if b then (number_of ports x.0, x.1) ∷ initials_of ports xs else initials_of ports xs) 0) test ∙ ap (λ (y : End × List ℕ). Some (number_of ports y.0, y.1)) whole)
-initial_there ports (x ∷ xs) (suc k) end text here stream = by (is_stream_at ports x.0) (initial_there ports xs k end text here stream)
-  where
-    by : (b : Bool) → (m : ℕ) × (slice_get (initials_of ports xs) m ≡ Some (number_of ports end, text)) → (m : ℕ) × (slice_get (if b then (number_of ports x.0, x.1) ∷ initials_of ports xs else initials_of ports xs) m ≡ Some (number_of ports end, text))
-    by true later = (suc later.0, later.1)
-    by false later = later
-
--- An initial text is a text at a stream port of its number.
-pub record FromText (ports : List DraftPort) (texts : List (End × List ℕ)) (i : ℕ) (text : List ℕ) : Type 0 where
-  pub place : ℕ
-  pub end : End
-  pub here : slice_get texts place ≡ Some (end, text)
-  pub stream : is_stream_at ports end ≡ true
-  pub number : number_of ports end ≡ i
-
-initial_from : (ports : List DraftPort) (texts : List (End × List ℕ)) (m i : ℕ) (text : List ℕ) → slice_get (initials_of ports texts) m ≡ Some (i, text) → FromText ports texts i text
-initial_from ports [] m i text here = absurd (cc)
-initial_from ports (x ∷ xs) m i text here = by (is_stream_at ports x.0) refl m here (λ k at. initial_from ports xs k i text at)
-  where
-    later : FromText ports xs i text → FromText ports (x ∷ xs) i text
-    later from = record { place = suc from.place; end = from.end; here = from.here; stream = from.stream; number = from.number }
-
-    by : (b : Bool) → is_stream_at ports x.0 ≡ b → (m : ℕ) → slice_get (if b then (number_of ports x.0, x.1) ∷ initials_of ports xs else initials_of ports xs) m ≡ Some (i, text) → ((k : ℕ) → slice_get (initials_of ports xs) k ≡ Some (i, text) → FromText ports xs i text) → FromText ports (x ∷ xs) i text
-    by true test zero here rest =
-        let pair : ◌≡◌ {A = ℕ × List ℕ} (number_of ports x.0, x.1) (i, text) = cc in
-        record { place = 0; end = x.0; here = ap (λ (y : ℕ × List ℕ). Some (x.0, y.1)) pair; stream = test; number = ap (λ (y : ℕ × List ℕ). y.0) pair }
-    by true test (suc k) here rest = later (rest k here)
-    by false test m here rest = later (rest m here)
-
--- no two initial texts have one number, where no two texts at stream ports have
-initial_once : (ports : List DraftPort) (texts : List (End × List ℕ)) → ((k l : ℕ) (a b : End × List ℕ) → slice_get texts k ≡ Some a → slice_get texts l ≡ Some b → is_stream_at ports a.0 ≡ true → is_stream_at ports b.0 ≡ true → number_of ports a.0 ≡ number_of ports b.0 → k ≡ l) → (m o i : ℕ) (t u : List ℕ) → slice_get (initials_of ports texts) m ≡ Some (i, t) → slice_get (initials_of ports texts) o ≡ Some (i, u) → m ≡ o
-initial_once ports [] once m o i t u here there = absurd (cc)
-initial_once ports (x ∷ xs) once m o i t u here there = by (is_stream_at ports x.0) refl m o here there (λ p q a b. initial_once ports xs (λ k l v w h g s r n. suc_same k l (once (suc k) (suc l) v w h g s r n)) p q i t u a b)
-  where
-    suc_same : (k l : ℕ) → suc k ≡ suc l → k ≡ l
-    suc_same k l is = omega arith
-
-    clash : (k : ℕ) (v : List ℕ) → is_stream_at ports x.0 ≡ true → number_of ports x.0 ≡ i → slice_get (initials_of ports xs) k ≡ Some (i, v) → ⊥
-    clash k v stream number at =
-        let from = initial_from ports xs k i v at in
-        let same_place : 0 ≡ suc from.place = once 0 (suc from.place) x (from.end, v) refl from.here stream from.stream (number ∙ sym from.number) in
-        absurd (omega arith)
-
-    first : (v : List ℕ) → ◌≡◌ {A = Option (ℕ × List ℕ)} (Some (number_of ports x.0, x.1)) (Some (i, v)) → number_of ports x.0 ≡ i
-    first v is =
-        let pair : ◌≡◌ {A = ℕ × List ℕ} (number_of ports x.0, x.1) (i, v) = cc in
-        ap (λ (y : ℕ × List ℕ). y.0) pair
-
-    by : (b : Bool) → is_stream_at ports x.0 ≡ b → (m o : ℕ) → slice_get (if b then (number_of ports x.0, x.1) ∷ initials_of ports xs else initials_of ports xs) m ≡ Some (i, t) → slice_get (if b then (number_of ports x.0, x.1) ∷ initials_of ports xs else initials_of ports xs) o ≡ Some (i, u) → ((p q : ℕ) → slice_get (initials_of ports xs) p ≡ Some (i, t) → slice_get (initials_of ports xs) q ≡ Some (i, u) → p ≡ q) → m ≡ o
-    by true test zero zero here there rest = refl
-    by true test zero (suc q) here there rest = absurd (clash q u test (first t here) there)
-    by true test (suc p) zero here there rest = absurd (clash p t test (first u there) here)
-    by true test (suc p) (suc q) here there rest = ap suc (rest p q here there)
-    by false test m o here there rest = rest m o here there
-
-sum_by_map : {A B : Type 0} (g : B → ℕ) (f : A → B) (xs : List A) → sum_by g (map f xs) ≡ sum_by (λ x. g (f x)) xs
-sum_by_map g f [] = refl
-sum_by_map g f (x ∷ xs) = omega (arith, sum_by_map g f xs, sum_by-cons g (f x) (map f xs), sum_by-cons (λ x. g (f x)) x xs)
-
-counted_side : (p : ℕ) (s : Bool) (port : DraftPort) (e : ℕ) → e < counted p s port → (is_side p s port ≡ true) × (e < count_of port)
-counted_side p s port e within = by (is_side p s port) refl within
-  where
-    by : (b : Bool) → is_side p s port ≡ b → e < (if b then count_of port else 0) → (is_side p s port ≡ true) × (e < count_of port)
-    by true test below = (test, below)
-    by false test below = absurd (omega arith)
-
-count_stream : (port : DraftPort) (e : ℕ) → e < count_of port → (is_stream port.spec.class ≡ true) × (e < elements_in port)
-count_stream port e within = by (is_stream port.spec.class) refl within
-  where
-    by : (b : Bool) → is_stream port.spec.class ≡ b → e < (if b then elements_in port else 0) → (is_stream port.spec.class ≡ true) × (e < elements_in port)
-    by true test below = (test, below)
-    by false test below = absurd (omega arith)
-
--- An element of this number, whose port is needed or not.
-pub record NeedsNumber (ports : List DraftPort) (p : ℕ) (s : Bool) (o : ℕ) (needed : Bool) : Type 0 where
-  pub numbered : Numbered (counted p s) ports o
-  pub is : numbered.port.spec.needed ≡ needed
-
-mapped_same : {A B : Type 0} (b c : B) (xs : List A) (i : ℕ) → slice_get (map (λ x. b) xs) i ≡ Some c → b ≡ c
-mapped_same b c xs i is = (mapped (λ x. b) xs i c is).2
-
-needs_numbered : (ports : List DraftPort) (p : ℕ) (s : Bool) (o : ℕ) (needed : Bool) → slice_get (needs_of (rows_of ports p s)) o ≡ Some needed → NeedsNumber ports p s o needed
-needs_numbered [] p s o needed is = absurd (cc)
-needs_numbered (port ∷ ports) p s o needed is = by (is_side p s port) refl is (λ k at. needs_numbered ports p s k needed at)
-  where
-    later : (k : ℕ) → counted p s port + k ≡ o → NeedsNumber ports p s k needed → NeedsNumber (port ∷ ports) p s o needed
-    later k sum at = record {
-      numbered = record {
-        place = suc at.numbered.place;
-        element = at.numbered.element;
-        port = at.numbered.port;
-        here = at.numbered.here;
-        within = at.numbered.within;
-        number = omega (arith, at.numbered.number, sum, sum_by-cons (counted p s) port (take at.numbered.place ports));
-      };
-      is = at.is;
-    }
-
-    by : (b : Bool) → is_side p s port ≡ b → slice_get (needs_of (if b then row_of port ∷ rows_of ports p s else rows_of ports p s)) o ≡ Some needed → ((k : ℕ) → slice_get (needs_of (rows_of ports p s)) k ≡ Some needed → NeedsNumber ports p s k needed) → NeedsNumber (port ∷ ports) p s o needed
-    by false test is rest =
-        let none : counted p s port ≡ 0 = ap (λ b. if b then count_of port else 0) test in
-        later o (omega (arith, none)) (rest o is)
-    by true test is rest = at (cases_lt o (length (map (λ (r : PortRef). port.spec.needed) (elements_of (row_of port)))))
-      where
-        count : counted p s port ≡ length (elements_of (row_of port))
-        count = ap (λ b. if b then count_of port else 0) test ∙ sym (row-count port)
-
-        long : length (map (λ (r : PortRef). port.spec.needed) (elements_of (row_of port))) ≡ length (elements_of (row_of port))
-        long = length-map (elements_of (row_of port)) (λ (r : PortRef). port.spec.needed)
-
-        at : (o < length (map (λ (r : PortRef). port.spec.needed) (elements_of (row_of port)))) ⊎ (length (map (λ (r : PortRef). port.spec.needed) (elements_of (row_of port))) ≤ o) → NeedsNumber (port ∷ ports) p s o needed
-        at (inl first) =
-            let value : slice_get (map (λ (r : PortRef). port.spec.needed) (elements_of (row_of port))) o ≡ Some needed =
-            sym (slice_get-left (map (λ (r : PortRef). port.spec.needed) (elements_of (row_of port))) (needs_of (rows_of ports p s)) o first) ∙ is in
-            record {
-              numbered = record { place = 0; element = o; port = port; here = refl; within = omega (arith, count, long, first); number = omega arith };
-              is = mapped_same port.spec.needed needed (elements_of (row_of port)) o value;
-            }
-        at (inr past) =
-            let sum : o ≡ length (map (λ (r : PortRef). port.spec.needed) (elements_of (row_of port))) + (o - counted p s port) = omega (arith, count, long, past) in
-            later (o - counted p s port) (omega (arith, count, long, past))
-            (rest (o - counted p s port) (sym (slice_get-right (map (λ (r : PortRef). port.spec.needed) (elements_of (row_of port))) (needs_of (rows_of ports p s)) o (o - counted p s port) sum) ∙ is))
+use Rattle.flow_net.proofs.InitialTexts.{initial_there, FromText, initial_from, initial_once}
+use Rattle.flow_net.proofs.Needs.{sum_by_map, counted_side, count_stream, NeedsNumber, needs_numbered}
 
 module _ (draft : Draft) (sound : IsSound draft) (u : Unit {0}) (whole : draft_fault draft ≡ Ok u) where
   abbrev network : Network

@@ -1,5 +1,5 @@
 -- What is wrong with a draft that is to be a plan, and the plan that it is.
-use Rattle.flow_limits.specs.declared.TheConstants.{CAPACITY_SUM_LIMIT}
+use Rattle.flow_limits.specs.declared.TheConstants.{CAPACITY_SUM_LIMIT, DEFAULT_CAPACITY}
 use Rattle.std.specs.Prelude.{ℕ, ◌+◌, ◌-◌, ◌==◌, nat_le, if◌then◌else◌, Bool, true, false, List, [], ◌∷◌, map, take, length, Option, Some, None, Ok, Err, slice_get, position, unwrap_or}
 use Rattle.std.specs.declared.result.Result.{Result}
 use Rattle.std.specs.List.{sum_by}
@@ -45,9 +45,9 @@ abbrev pub first_fault : List DraftProcess → List DraftPort → Result (Unit {
 first_fault processes [] = Ok tt
 first_fault processes (port ∷ ports) = port_fault (name_of processes port.process) port >>= λ none. first_fault processes ports
 
--- The capacity of a connection, which is 10 where none was given.
+-- The capacity of a connection, which is DEFAULT_CAPACITY where none was given.
 abbrev pub capacity_of : Link → ℕ
-capacity_of link = unwrap_or link.capacity 10
+capacity_of link = unwrap_or link.capacity DEFAULT_CAPACITY
 
 -- The capacities of all connections come to 65,536 at most.
 abbrev pub sum_fault : List Link → Result (Unit {0}) PlanFault

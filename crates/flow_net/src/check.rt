@@ -7,7 +7,9 @@ ghost use Rattle.flow_net.specs.Finishes.{size_of, gap_fault, port_fault, first_
 use crate::draft::{Binding, DraftPort, DraftProcess, Link};
 use crate::fault::{Many, PlanFault, PlanStop};
 use flow_items::Text;
-use flow_limits::{CAPACITY_LIMIT, CAPACITY_SUM_LIMIT, CONNECTION_LIMIT, ELEMENT_LIMIT};
+use flow_limits::{
+    CAPACITY_LIMIT, CAPACITY_SUM_LIMIT, CONNECTION_LIMIT, DEFAULT_CAPACITY, ELEMENT_LIMIT,
+};
 use std::alloc::Global;
 
 fn is_free(binding: &Binding) -> bool
@@ -107,7 +109,7 @@ fn capacity_sum(links: &[Link]) -> u32
 {
     let mut sum = 0u32;
     for link in links {
-        sum += link.capacity.unwrap_or(10);
+        sum += link.capacity.unwrap_or(DEFAULT_CAPACITY);
     }
     sum
 }

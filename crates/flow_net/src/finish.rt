@@ -11,7 +11,7 @@ use crate::draft::{DraftPort, DraftProcess, End, Link};
 use crate::find::{is_side, is_stream_at};
 use crate::give::process_at;
 use flow_items::{Items, Text};
-use flow_limits::ELEMENT_LIMIT;
+use flow_limits::{DEFAULT_CAPACITY, ELEMENT_LIMIT};
 use flow_plan::{Connection, PortClass, PortRow, PortSpec, PortTable, Process, Sender};
 use std::alloc::{AllocError, Global};
 
@@ -153,7 +153,7 @@ fn connection(
     Ok(Connection {
         receiver: process_at(ports, link.into),
         input: number(ports, counts, link.into),
-        capacity: link.capacity.unwrap_or(10),
+        capacity: link.capacity.unwrap_or(DEFAULT_CAPACITY),
         senders,
     })
 }

@@ -15,5 +15,7 @@ mod options;
 
 pub use builder::PlanBuilder;
 pub use fault::{Many, PlanFault, PlanStop};
-pub use flow_plan::{Connection, KindSpec, Plan, PortClass, PortRef, PortSpec, Process, Sender};
 pub use options::first_field;
+
+#[cfg(test)]
+mod tests;

@@ -5,6 +5,7 @@ ghost use Rattle.flow_plan.specs.Texts.{IsNumberWithin, IsFields, IsFileName, Is
 ghost use Rattle.flow_net.specs.Options.{FitsPort};
 
 use crate::draft::{DraftPort, End};
+use flow_limits::FILE_NAME_LIMIT;
 use flow_plan::PortClass;
 use flow_text::decimal;
 
@@ -67,7 +68,10 @@ fn has_no_zero(text: &[u8]) -> bool
 fn is_file_name(text: &[u8]) -> bool
     ensures { IsTrue result ↔ IsFileName text.now }
 {
-    !text.is_empty() && text.len() <= 255 && str::from_utf8(text).is_ok() && has_no_zero(text)
+    !text.is_empty()
+        && text.len() <= FILE_NAME_LIMIT
+        && str::from_utf8(text).is_ok()
+        && has_no_zero(text)
 }
 
 fn is_of_class(class: PortClass, text: &[u8]) -> bool

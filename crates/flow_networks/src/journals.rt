@@ -1,13 +1,7 @@
 //! Journals of runs, kept in files and made again, and makes.
-use crate::run::call_plain;
-use flow_text::{MemShelf, MemSink};
+use flow_rig::{CallStop, Called, call_alone};
 use std::alloc::{AllocError, Global};
-use std::process::Abort;
 use std::test::Fail;
-
-const ROOM: usize = 33_554_432;
-
-const PIECE: usize = 65_536;
 
 /// A reader and a writer.
 const COPYING: &[u8] =
@@ -24,46 +18,19 @@ const JOURNAL: &[u8] = b"FLOWJ001\x0a\0\0\0\0\0\0\0\0\0\0\0\0\x01\x01\x01\x01\x0
 const BALANCING: &[u8] =
     b"flow 1\n'in' -> FILE Read(ReadLines)\nRead OUT -> IN Load(LoadBalance)\nLoad OUT[0] -> IN A(WriteLines)\nLoad OUT[1] -> IN B(WriteLines)\n'a' -> FILE A\n'b' -> FILE B\n";
 
-/// What a call came to.
-#[derive(Drop)]
-struct Called {
-    status: u8,
-    printed: Vec<u8>,
-    shelf: MemShelf,
-}
-
-fn text(alloc: Global, name: &str) -> Result<String, AllocError> {
-    String::from_str(alloc, name)
-}
-
 /// A call with these words, over the network file `net`, the input file `in`, and the file `j` where it has bytes.
 fn call(
-    rt: &impl Abort,
     alloc: Global,
     line: &[&str],
     net: &[u8],
     input: &[u8],
     journal: &[u8],
-) -> Result<Called, AllocError> {
-    let mut files = vec![in alloc;
-        (text(alloc, "net")?, net.to_vec(alloc)?),
-        (text(alloc, "in")?, input.to_vec(alloc)?),
-    ]?;
-    if !journal.is_empty() {
-        files.push((text(alloc, "j")?, journal.to_vec(alloc)?))?;
+) -> Result<Called, CallStop> {
+    if journal.is_empty() {
+        call_alone(alloc, line, &[("net", net), ("in", input)])
+    } else {
+        call_alone(alloc, line, &[("net", net), ("in", input), ("j", journal)])
     }
-    let mut words = Vec::new(alloc);
-    for word in line {
-        words.push(text(alloc, *word)?)?;
-    }
-    let mut shelf = MemShelf::new(alloc, files, PIECE, ROOM, Vec::new(alloc), Vec::new(alloc));
-    let mut out = MemSink::new(alloc, PIECE, ROOM, Vec::new(alloc))?;
-    let outcome = call_plain(rt, alloc, &words, &mut shelf, &mut out)?;
-    Ok(Called {
-        status: outcome.status.code(),
-        printed: out.bytes().to_vec(alloc)?,
-        shelf,
-    })
 }
 
 const RUN: &[&str] = &["--journal", "j", "net"];
@@ -73,12 +40,12 @@ const REPLAY: &[&str] = &["--replay", "j", "net"];
 #[test]
 fn a_run_keeps_its_journal(rt: HostRuntime) -> Result<(), Fail> {
     let alloc = rt.alloc();
-    let ran = call(&rt, alloc, RUN, COPYING, b"x\n", b"")?;
+    let ran = call(alloc, RUN, COPYING, b"x\n", b"")?;
     assert_eq!(rt; ran.status, 0);
     assert_eq!(rt; ran.printed.as_slice(), COPIED);
     assert!(rt; ran.shelf.file("out") == Some(b"x\n".as_slice()));
     assert!(rt; ran.shelf.file("j") == Some(JOURNAL));
-    let again = call(&rt, alloc, REPLAY, COPYING, b"x\n", JOURNAL)?;
+    let again = call(alloc, REPLAY, COPYING, b"x\n", JOURNAL)?;
     assert_eq!(rt; again.status, 0);
     assert_eq!(rt; again.printed.as_slice(), COPIED);
     assert!(rt; again.shelf.file("out").is_none());
@@ -140,19 +107,19 @@ fn other_journals_are_refused(rt: HostRuntime) -> Result<(), Fail> {
     ];
     for (turns, seen, behind, status, printed) in rows {
         let journal = changed(alloc, turns, seen, behind)?;
-        let again = call(&rt, alloc, REPLAY, COPYING, b"x\n", &journal)?;
+        let again = call(alloc, REPLAY, COPYING, b"x\n", &journal)?;
         assert_eq!(rt; again.printed.as_slice(), printed);
         assert_eq!(rt; again.status, status);
     }
     let mut longer = JOURNAL.to_vec(alloc)?;
     longer.push(0)?;
-    let again = call(&rt, alloc, REPLAY, COPYING, b"x\n", &longer)?;
+    let again = call(alloc, REPLAY, COPYING, b"x\n", &longer)?;
     assert_eq!(rt;
         again.printed.as_slice(),
         b"journal refused: byte 26\n".as_slice()
     );
     let other = b"FLOWJ002\x0a\0\0\0\0\0\0\0\0\0\0\0\0\x01\x01\x01\x01\x01";
-    let again = call(&rt, alloc, REPLAY, COPYING, b"x\n", other)?;
+    let again = call(alloc, REPLAY, COPYING, b"x\n", other)?;
     assert_eq!(rt;
         again.printed.as_slice(),
         b"journal refused: byte 7\n".as_slice()
@@ -164,13 +131,13 @@ fn other_journals_are_refused(rt: HostRuntime) -> Result<(), Fail> {
 fn each_shorter_file_ends_too_early(rt: HostRuntime) -> Result<(), Fail> {
     let alloc = rt.alloc();
     for length in 1..26usize {
-        let again = call(&rt, alloc, REPLAY, COPYING, b"x\n", &JOURNAL[..length])?;
+        let again = call(alloc, REPLAY, COPYING, b"x\n", &JOURNAL[..length])?;
         let printed = format!(in alloc; "journal refused: byte {length}\n")?;
         assert_eq!(rt; again.printed.as_slice(), printed.as_bytes());
         assert_eq!(rt; again.status, 10);
     }
     // A file of no bytes is one too, and no file is a fault of reading.
-    let again = call(&rt, alloc, REPLAY, COPYING, b"x\n", b"")?;
+    let again = call(alloc, REPLAY, COPYING, b"x\n", b"")?;
     assert_eq!(rt; again.printed.as_slice(), b"read fault: j\n".as_slice());
     assert_eq!(rt; again.status, 6);
     Ok(())
@@ -180,7 +147,7 @@ fn each_shorter_file_ends_too_early(rt: HostRuntime) -> Result<(), Fail> {
 fn seen_numbers_are_seen_again(rt: HostRuntime) -> Result<(), Fail> {
     let alloc = rt.alloc();
     let lines: &[u8] = b"a\nb\nc\nd\n";
-    let ran = call(&rt, alloc, RUN, BALANCING, lines, b"")?;
+    let ran = call(alloc, RUN, BALANCING, lines, b"")?;
     assert_eq!(rt; ran.status, 0);
     assert!(rt; ran.shelf.file("a") == Some(b"a\nc\n".as_slice()));
     assert!(rt; ran.shelf.file("b") == Some(b"b\nd\n".as_slice()));
@@ -191,7 +158,7 @@ fn seen_numbers_are_seen_again(rt: HostRuntime) -> Result<(), Fail> {
     let seen: &[u8] = b"\0\0\0\0\x01\0\0\0\x01\0\x01\0\x02\0\x01\0";
     assert_eq!(rt; journal.len(), 16 + 42 + 16);
     assert!(rt; journal.ends_with(seen));
-    let again = call(&rt, alloc, REPLAY, BALANCING, lines, &journal)?;
+    let again = call(alloc, REPLAY, BALANCING, lines, &journal)?;
     assert_eq!(rt; again.status, 0);
     assert_eq!(rt; again.printed.as_slice(), ran.printed.as_slice());
     // The first number seen is more than the connection can hold; and one number more than are asked for.
@@ -202,13 +169,13 @@ fn seen_numbers_are_seen_again(rt: HostRuntime) -> Result<(), Fail> {
         more[12] = 9;
     }
     more.extend_from_slice(b"\0\0")?;
-    let again = call(&rt, alloc, REPLAY, BALANCING, lines, &other)?;
+    let again = call(alloc, REPLAY, BALANCING, lines, &other)?;
     assert_eq!(rt;
         again.printed.as_slice(),
         b"journal refused: entry 10: process 1 seen\n".as_slice()
     );
     assert_eq!(rt; again.status, 10);
-    let again = call(&rt, alloc, REPLAY, BALANCING, lines, &more)?;
+    let again = call(alloc, REPLAY, BALANCING, lines, &more)?;
     assert_eq!(rt;
         again.printed.as_slice(),
         b"journal refused: entry 42: process 0 seen\n".as_slice()
@@ -219,7 +186,7 @@ fn seen_numbers_are_seen_again(rt: HostRuntime) -> Result<(), Fail> {
 #[test]
 fn a_make_runs_the_made_network(rt: HostRuntime) -> Result<(), Fail> {
     let alloc = rt.alloc();
-    let made = call(&rt, alloc, &["--make", "7"], b"", b"", b"")?;
+    let made = call(alloc, &["--make", "7"], b"", b"", b"")?;
     assert_eq!(rt; made.status, 0);
     assert!(rt; made.printed.starts_with(b"make 7 input "));
     let parts: [&[u8]; 6] = [
@@ -255,7 +222,7 @@ fn other_words_are_no_command_line(rt: HostRuntime) -> Result<(), Fail> {
         &["--journal", "j", "--replay", "j", "net"],
     ];
     for line in lines {
-        let called = call(&rt, alloc, line, COPYING, b"x\n", b"")?;
+        let called = call(alloc, line, COPYING, b"x\n", b"")?;
         assert_eq!(rt; called.status, 2);
         assert!(rt; called.printed.starts_with(b"usage: flow "));
     }

@@ -4,8 +4,6 @@
 #[cfg(test)]
 mod batches;
 #[cfg(test)]
-mod examples;
-#[cfg(test)]
 mod faults;
 #[cfg(test)]
 mod journals;

@@ -1,11 +1,9 @@
 //! Networks of the second version: a process begins when another one has ended, or has sent.
-use crate::run::{NONE, ROW, Row, call_plain, run_row};
-use flow_text::{MemShelf, MemSink};
-use std::alloc::{AllocError, Global};
+use crate::run::{NONE, ROW, Row, run_row};
+use flow_rig::{File, call_alone};
+use std::alloc::Global;
 use std::process::Abort;
 use std::test::Fail;
-
-const ROOM: usize = 1_048_576;
 
 /// A and W are the first step, B and V the second.
 const STEPS: &[u8] =
@@ -30,28 +28,13 @@ fn a_second_step_leaves_its_file_too(rt: HostRuntime) -> Result<(), Fail> {
     Ok(())
 }
 
-fn text(alloc: Global, name: &str) -> Result<String, AllocError> {
-    String::from_str(alloc, name)
-}
-
 /// The turns of a run of this network, as the file of its journal has them, process by process.
 fn turns_of(rt: &impl Abort, alloc: Global, net: &[u8]) -> Result<Vec<u8>, Fail> {
-    let files = vec![in alloc;
-        (text(alloc, "net")?, net.to_vec(alloc)?),
-        (text(alloc, "i")?, b"x\n".to_vec(alloc)?),
-        (text(alloc, "j")?, b"y\n".to_vec(alloc)?),
-    ]?;
-    let words = vec![in alloc;
-        text(alloc, "--journal")?,
-        text(alloc, "kept")?,
-        text(alloc, "net")?,
-    ]?;
-    let mut shelf = MemShelf::new(alloc, files, ROOM, ROOM, Vec::new(alloc), Vec::new(alloc));
-    let mut out = MemSink::new(alloc, ROOM, ROOM, Vec::new(alloc))?;
-    let outcome = call_plain(rt, alloc, &words, &mut shelf, &mut out)?;
-    assert_eq!(rt; outcome.status.code(), 0);
+    let files: [File; 3] = [("net", net), ("i", b"x\n"), ("j", b"y\n")];
+    let called = call_alone(alloc, &["--journal", "kept", "net"], &files)?;
+    assert_eq!(rt; called.status, 0);
     let mut turns = Vec::new(alloc);
-    for process in shelf.file("kept").unwrap_or(b"").iter().skip(16) {
+    for process in called.shelf.file("kept").unwrap_or(b"").iter().skip(16) {
         turns.push(*process)?;
     }
     Ok(turns)

@@ -3,7 +3,7 @@ use Rattle.std.specs.Prelude.{◌≡◌, ℕ, Bool}
 use Rattle.flow_packet.specs.Held.{Held}
 use Rattle.flow_component.specs.declared.Answer.{Answer}
 use Rattle.flow_component.specs.declared.Shape.{Shape}
-use Rattle.flow_component.specs.Laws.{Outcome}
+use Rattle.flow_component.specs.Laws.{Rules, Outcome}
 use Rattle.flow_component.specs.Outcomes.{outcome_as}
 use Rattle.flow_own.specs.declared.mixed.Mix.{Mix}
 use Rattle.flow_own.specs.declared.mixed.Mix.TheVariants as mixes
@@ -15,19 +15,19 @@ pub data Mixed (K : Type 0) : Type 0 where
   Own : (own : OwnValue) → Mixed K
 
 -- Each comes to what it would come to by itself.
-abbrev pub MixedNext : {K : Type 0} → (K → Held → Answer → Outcome K → Type 0) → Mixed K → Held → Answer → Outcome (Mixed K) → Type 0
-MixedNext {K} next (Other component) held answer outcome = (o : Outcome K) × next component held answer o × (outcome ≡ outcome_as Other o)
-MixedNext next (Own own) held answer outcome = (o : Outcome OwnValue) × OwnNext own held answer o × (outcome ≡ outcome_as Own o)
+abbrev pub MixedNext : {K : Type 0} → Rules K → Mixed K → Held → Answer → Outcome (Mixed K) → Type 0
+MixedNext {K} rules (Other component) held answer outcome = (o : Outcome K) × rules.next component held answer o × (outcome ≡ outcome_as Other o)
+MixedNext rules (Own own) held answer outcome = (o : Outcome OwnValue) × OwnNext own held answer o × (outcome ≡ outcome_as Own o)
 
 -- How many inputs and outputs it has.
-abbrev pub mixed_shape : {K : Type 0} → (K → Shape) → Mixed K → Shape
-mixed_shape shape_of (Other component) = shape_of component
-mixed_shape shape_of (Own own) = own.shape
+abbrev pub mixed_shape : {K : Type 0} → Rules K → Mixed K → Shape
+mixed_shape rules (Other component) = rules.shape component
+mixed_shape rules (Own own) = own.shape
 
 -- Which outputs it uses.
-abbrev pub mixed_uses : {K : Type 0} → (K → ℕ → Bool) → Mixed K → ℕ → Bool
-mixed_uses uses (Other component) = uses component
-mixed_uses uses (Own own) = own_uses own
+abbrev pub mixed_uses : {K : Type 0} → Rules K → Mixed K → ℕ → Bool
+mixed_uses rules (Other component) = rules.uses component
+mixed_uses rules (Own own) = own_uses own
 
 -- Its state.
 abbrev pub mixed_state : {K : Type 0} → (K → K) → Mixed K → Mixed K
@@ -40,9 +40,13 @@ mixed_told told_end (Other component) = told_end component
 mixed_told told_end (Own own) = own_told own
 
 -- It is ready for the answer, with these hands.
-abbrev pub MixedReady : {K : Type 0} → (K → Held → Answer → Type 0) → Mixed K → Held → Answer → Type 0
-MixedReady ready (Other component) held answer = ready component held answer
-MixedReady ready (Own own) held answer = OwnReady own held answer
+abbrev pub MixedReady : {K : Type 0} → Rules K → Mixed K → Held → Answer → Type 0
+MixedReady rules (Other component) held answer = rules.ready component held answer
+MixedReady rules (Own own) held answer = OwnReady own held answer
+
+-- All that a network knows of it.
+abbrev pub mixed_rules : {K : Type 0} → Rules K → Rules (Mixed K)
+mixed_rules rules = record { shape = mixed_shape rules; uses = mixed_uses rules; ready = MixedReady rules; next = MixedNext rules }
 
 -- The component that a value of the program's type is.
 abbrev pub mixed_of : {K P : Type 0} → Mix K P → Mixed K

@@ -13,7 +13,7 @@ use Rattle.flow_component.specs.declared.OwnFail.TheVariants as owns
 use Rattle.flow_component.specs.declared.Shape.{Shape}
 use Rattle.flow_component.specs.declared.Stop.{Stop}
 use Rattle.flow_component.specs.declared.Stop.TheVariants as stops
-use Rattle.flow_component.specs.Laws.{Outcome, Wishes, Fails}
+use Rattle.flow_component.specs.Laws.{Rules, Outcome, Wishes, Fails}
 use Rattle.flow_own.specs.declared.tape.End.{End}
 use Rattle.flow_own.specs.declared.tape.End.TheVariants as ends
 use Rattle.flow_own.specs.declared.tape.Entry.{Entry}
@@ -162,6 +162,10 @@ NextAs (Some place) own held answer outcome = outcome ≡ played own held answer
 -- What it may come to once it is told an answer.
 abbrev pub OwnNext : OwnValue → Held → Answer → Outcome OwnValue → Type 0
 OwnNext own held answer outcome = NextAs own.place own held answer outcome
+
+-- All that a network knows of it.
+abbrev pub own_rules : Rules OwnValue
+own_rules = record { shape = λ own. own.shape; uses = own_uses; ready = OwnReady; next = OwnNext }
 
 -- What holds of each: a live part is no player, and a part that is recorded has failed where its tape is at its limit.
 pub record IsOwn (own : OwnValue) : Type 0 where

@@ -10,13 +10,13 @@ use Rattle.flow_component.specs.declared.Wish.{Wish}
 use Rattle.flow_component.specs.declared.Wish.TheVariants as wishes
 use Rattle.flow_component.specs.declared.OwnFail.TheVariants as owns
 use Rattle.flow_component.specs.declared.Shape.{Shape}
-use Rattle.flow_component.specs.Laws.{Outcome, Obeys, IsAllowed, ReadyAfter, StaysReady, IsSteady, HasOutcome}
+use Rattle.flow_component.specs.Laws.{Lawful, Outcome, Obeys, IsAllowed, ReadyAfter, StaysReady, IsSteady}
 use Rattle.flow_own.specs.declared.tape.End.{End}
 use Rattle.flow_own.specs.declared.tape.End.TheVariants as ends
 use Rattle.flow_own.specs.declared.tape.Entry.{Entry}
 use Rattle.flow_own.specs.Acts.{Made, CanMake, CanDrop, CanAct, after_make, after_drops, after_acts}
 use Rattle.flow_own.specs.Ends.{is_used}
-use Rattle.flow_own.specs.Tapes.{OwnValue, own_uses, is_failure, has_failed, ReadyAs, NextAs, OwnReady, can_wish, can_end, outcome_by, after_entry, is_full, Records, is_answer, can_make, can_drop, can_play, differs, played, OwnNext}
+use Rattle.flow_own.specs.Tapes.{OwnValue, own_uses, is_failure, has_failed, ReadyAs, NextAs, OwnReady, can_wish, can_end, outcome_by, after_entry, is_full, Records, is_answer, can_make, can_drop, can_play, differs, played, own_rules}
 
 -- drops, as edits of the hands
 abbrev drops_of : List ℕ → List Edit
@@ -103,10 +103,6 @@ obeys-as None own held answer outcome next =
     (obeys-by own (record own { part = None; tape = own.tape ++ entry ∷ [] }) held (after_entry held entry) entry.end (comes-by held entry.made entry.dropped next.1.acts) next.1.ends_well)
 obeys-as (Some place) own held answer outcome next = subst (Obeys own.shape (own_uses own) held) (sym next) (played-obeys own held answer place (slice_get own.tape place))
 
--- What it does keeps what the hands ask of every component.
-pub own_obeys : (own : OwnValue) (held : Held) (answer : Answer) (outcome : Outcome OwnValue) → OwnReady own held answer → OwnNext own held answer outcome → Obeys own.shape (own_uses own) held outcome
-own_obeys own held answer outcome ready next = obeys-as own.place own held answer outcome next
-
 -- what is ready for everything is ready after each wish
 ready-after : (ready : Held → Answer → Type 0) → ((held : Held) (answer : Answer) → ready held answer) → (held : Held) (wish : Wish) → ReadyAfter ready held wish
 ready-after ready all held (wishes.Receive port) = (λ s. all held _, λ packet s. all _ _, λ text s. all _ _)
@@ -114,7 +110,7 @@ ready-after ready all held (wishes.Send port id) = λ s. all _ _
 ready-after ready all held (wishes.Level port) = λ n within s. all _ _
 ready-after ready all held wishes.Deactivate = λ s. all _ _
 
-stays-by : (own : OwnValue) (held : Held) (end : End) → (is_failure end ≡ false → (h : Held) (a : Answer) → OwnReady own h a) → StaysReady OwnReady (outcome_by own held end)
+stays-by : (own : OwnValue) (held : Held) (end : End) → (is_failure end ≡ false → (h : Held) (a : Answer) → OwnReady own h a) → StaysReady own_rules (outcome_by own held end)
 stays-by own held (ends.Wish wish) ready = ready-after (OwnReady own) (ready refl) held wish
 stays-by own held (ends.Fail cause) ready = tt
 
@@ -127,47 +123,39 @@ has_failed-push (e ∷ tape) entry none last = by (is_failure e.end) none (has_f
     by true h rest = cc
     by false h rest = rest h last
 
-played-stays : (own : OwnValue) (held : Held) (answer : Answer) (place : ℕ) (entry : Option Entry) → StaysReady OwnReady (played own held answer place entry)
+played-stays : (own : OwnValue) (held : Held) (answer : Answer) (place : ℕ) (entry : Option Entry) → StaysReady own_rules (played own held answer place entry)
 played-stays own held answer place None = tt
 played-stays own held answer place (Some entry) = by (can_play own.shape own.used held answer entry)
   where
-    by : (b : Bool) → StaysReady OwnReady (if b then outcome_by (record own { part = None; place = Some (place + 1) }) (after_entry held entry) entry.end else differs own held)
+    by : (b : Bool) → StaysReady own_rules (if b then outcome_by (record own { part = None; place = Some (place + 1) }) (after_entry held entry) entry.end else differs own held)
     by true = stays-by (record own { part = None; place = Some (place + 1) }) (after_entry held entry) entry.end (λ e h a. tt)
     by false = tt
 
-stays-as : (place : Option ℕ) (own : OwnValue) (held : Held) (answer : Answer) (outcome : Outcome OwnValue) → own.place ≡ place → ReadyAs place own.tape → NextAs place own held answer outcome → StaysReady OwnReady outcome
+stays-as : (place : Option ℕ) (own : OwnValue) (held : Held) (answer : Answer) (outcome : Outcome OwnValue) → own.place ≡ place → ReadyAs place own.tape → NextAs place own held answer outcome → StaysReady own_rules outcome
 stays-as None own held answer outcome e ready next =
     let entry = next.0 in
     let own' : OwnValue = record own { part = None; tape = own.tape ++ entry ∷ [] } in
     let P : Option ℕ → Type 0 = λ p. ReadyAs p own'.tape in
-    subst (StaysReady OwnReady) (sym next.2) (stays-by own' (after_entry held entry) entry.end (λ f h a. subst P (sym e) (has_failed-push own.tape entry ready f)))
-stays-as (Some place) own held answer outcome e ready next = subst (StaysReady OwnReady) (sym next) (played-stays own held answer place (slice_get own.tape place))
+    subst (StaysReady own_rules) (sym next.2) (stays-by own' (after_entry held entry) entry.end (λ f h a. subst P (sym e) (has_failed-push own.tape entry ready f)))
+stays-as (Some place) own held answer outcome e ready next = subst (StaysReady own_rules) (sym next) (played-stays own held answer place (slice_get own.tape place))
 
--- Whatever it may be told next, it is ready for it.
-pub own_stays_ready : (own : OwnValue) (held : Held) (answer : Answer) (outcome : Outcome OwnValue) → OwnReady own held answer → OwnNext own held answer outcome → StaysReady OwnReady outcome
-own_stays_ready own held answer outcome ready next = stays-as own.place own held answer outcome refl ready next
-
-steady-by : (own own' : OwnValue) (held : Held) (end : End) → own'.shape ≡ own.shape → own_uses own' ≡ own_uses own → IsSteady (λ (o : OwnValue). o.shape) own_uses own (outcome_by own' held end)
+steady-by : (own own' : OwnValue) (held : Held) (end : End) → own'.shape ≡ own.shape → own_uses own' ≡ own_uses own → IsSteady own_rules own (outcome_by own' held end)
 steady-by own own' held (ends.Wish wish) s u = record { shape = s; outputs = u }
 steady-by own own' held (ends.Fail cause) s u = record { shape = s; outputs = u }
 
-played-steady : (own : OwnValue) (held : Held) (answer : Answer) (place : ℕ) (entry : Option Entry) → IsSteady (λ (o : OwnValue). o.shape) own_uses own (played own held answer place entry)
+played-steady : (own : OwnValue) (held : Held) (answer : Answer) (place : ℕ) (entry : Option Entry) → IsSteady own_rules own (played own held answer place entry)
 played-steady own held answer place None = record { shape = refl; outputs = refl }
 played-steady own held answer place (Some entry) = by (can_play own.shape own.used held answer entry)
   where
-    by : (b : Bool) → IsSteady (λ (o : OwnValue). o.shape) own_uses own (if b then outcome_by (record own { part = None; place = Some (place + 1) }) (after_entry held entry) entry.end else differs own held)
+    by : (b : Bool) → IsSteady own_rules own (if b then outcome_by (record own { part = None; place = Some (place + 1) }) (after_entry held entry) entry.end else differs own held)
     by true = steady-by own (record own { part = None; place = Some (place + 1) }) (after_entry held entry) entry.end refl refl
     by false = record { shape = refl; outputs = refl }
 
-steady-as : (place : Option ℕ) (own : OwnValue) (held : Held) (answer : Answer) (outcome : Outcome OwnValue) → NextAs place own held answer outcome → IsSteady (λ (o : OwnValue). o.shape) own_uses own outcome
+steady-as : (place : Option ℕ) (own : OwnValue) (held : Held) (answer : Answer) (outcome : Outcome OwnValue) → NextAs place own held answer outcome → IsSteady own_rules own outcome
 steady-as None own held answer outcome next =
     let entry = next.0 in
-    subst (IsSteady (λ (o : OwnValue). o.shape) own_uses own) (sym next.2) (steady-by own (record own { part = None; tape = own.tape ++ entry ∷ [] }) (after_entry held entry) entry.end refl refl)
-steady-as (Some place) own held answer outcome next = subst (IsSteady (λ (o : OwnValue). o.shape) own_uses own) (sym next) (played-steady own held answer place (slice_get own.tape place))
-
--- Its shape, and the ports that it uses, never change.
-pub own_steady : (own : OwnValue) (held : Held) (answer : Answer) (outcome : Outcome OwnValue) → OwnNext own held answer outcome → IsSteady (λ (o : OwnValue). o.shape) own_uses own outcome
-own_steady own held answer outcome next = steady-as own.place own held answer outcome next
+    subst (IsSteady own_rules own) (sym next.2) (steady-by own (record own { part = None; tape = own.tape ++ entry ∷ [] }) (after_entry held entry) entry.end refl refl)
+steady-as (Some place) own held answer outcome next = subst (IsSteady own_rules own) (sym next) (played-steady own held answer place (slice_get own.tape place))
 
 -- an entry that a part may always come to: it fails, with the number 0 or since its tape is at the limit
 abbrev giving_up : Bool → Answer → Entry
@@ -182,6 +170,11 @@ outcome-as : (place : Option ℕ) (own : OwnValue) (held : Held) (answer : Answe
 outcome-as None own held answer = let entry = giving_up (is_full own.tape) answer in (_, (entry, gives-up own held answer (is_full own.tape) refl, refl))
 outcome-as (Some place) own held answer = (_, refl)
 
--- It comes to some outcome.
-pub own_has_outcome : (own : OwnValue) (held : Held) (answer : Answer) → OwnReady own held answer → HasOutcome OwnNext own held answer
-own_has_outcome own held answer ready = outcome-as own.place own held answer
+-- It keeps the laws of components.
+pub own_lawful : Lawful own_rules
+own_lawful = record {
+  obeys = λ own held answer outcome _ next. obeys-as own.place own held answer outcome next;
+  stays_ready = λ own held answer outcome ready next. stays-as own.place own held answer outcome refl ready next;
+  steady = λ own held answer outcome next. steady-as own.place own held answer outcome next;
+  has_outcome = λ own held answer _. outcome-as own.place own held answer;
+}

@@ -45,28 +45,16 @@ impl<K: Component, P: Part> Mixed<K, P> {
 }
 
 impl<K: Component, P: Part> Component for Mixed<K, P> {
-    ghost use Rattle.flow_own.specs.Mixed.{MixedNext, MixedReady, mixed_shape, mixed_uses, mixed_state, mixed_told};
-    ghost use Rattle.flow_own.specs.MixedLaws.{mixed_obeys, mixed_stays_ready, mixed_steady, mixed_has_outcome};
+    ghost use Rattle.flow_own.specs.Mixed.{mixed_rules, mixed_state, mixed_told};
+    ghost use Rattle.flow_own.specs.MixedLaws.{mixed_lawful};
 
-    ghost shape_of = { mixed_shape K.shape_of };
-
-    ghost uses = { mixed_uses K.uses };
+    ghost rules = { mixed_rules K.rules };
 
     ghost state_of = { mixed_state K.state_of };
 
     ghost told_end = { mixed_told K.told_end };
 
-    ghost ready = { MixedReady K.ready };
-
-    ghost next = { MixedNext K.next };
-
-    ghost obeys = { mixed_obeys K.shape_of K.uses K.ready K.next K.obeys };
-
-    ghost stays_ready = { mixed_stays_ready K.shape_of K.uses K.ready K.next K.stays_ready };
-
-    ghost steady = { mixed_steady K.shape_of K.uses K.ready K.next K.steady };
-
-    ghost has_outcome = { mixed_has_outcome K.shape_of K.uses K.ready K.next K.has_outcome };
+    ghost lawful = { mixed_lawful K.rules K.lawful };
 
     fn shape(&self) -> Shape {
         match &self.mix {

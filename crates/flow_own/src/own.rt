@@ -258,29 +258,17 @@ impl<P: Part> Component for Own<P> {
     ghost use Rattle.std.specs.Prelude.{◌<◌};
     ghost use Rattle.flow_packet.specs.Held.{held_of};
     ghost use Rattle.flow_component.specs.Resumes.{Resumes};
-    ghost use Rattle.flow_own.specs.Tapes.{OwnReady, OwnNext, own_state, own_told, own_uses};
+    ghost use Rattle.flow_own.specs.Tapes.{OwnReady, OwnNext, own_rules, own_state, own_told};
     ghost use Rattle.flow_own.specs.Taping.{IsTaped};
-    ghost use Rattle.flow_own.specs.TapesLaws.{own_obeys, own_stays_ready, own_steady, own_has_outcome};
+    ghost use Rattle.flow_own.specs.TapesLaws.{own_lawful};
 
-    ghost shape_of = { λ own. own.shape };
-
-    ghost uses = { own_uses };
+    ghost rules = { own_rules };
 
     ghost state_of = { own_state };
 
     ghost told_end = { own_told };
 
-    ghost ready = { OwnReady };
-
-    ghost next = { OwnNext };
-
-    ghost obeys = { own_obeys };
-
-    ghost stays_ready = { own_stays_ready };
-
-    ghost steady = { own_steady };
-
-    ghost has_outcome = { own_has_outcome };
+    ghost lawful = { own_lawful };
 
     fn shape(&self) -> Shape {
         self.shape

@@ -1,7 +1,7 @@
 -- What a queue keeps.
 use Rattle.std.specs.Prelude.{◌≤◌, length, take, All}
 use Rattle.flow_packet.specs.Bare.{IsBare}
-use Rattle.flow_packet.specs.declared.packet.Queue.TheInside.{Inside}
+use Rattle.flow_packet.specs.declared.queue.Queue.TheInside.{Inside}
 
 -- The places that were taken hold bare packets.
 pub record IsQueue (q : Inside) : Type 0 where

@@ -5,7 +5,7 @@ use denote.Param.Weighed.{most}
 use Rattle.flow_packet.specs.Tree.{Tree, node, Chains, no_chains, chain, from_chains, to_trees, weight, weight_of_chains, weight_of_trees}
 use Rattle.flow_packet.specs.Bare.{IsBare}
 use Rattle.flow_packet.specs.Queue.{IsQueue}
-use Rattle.flow_packet.specs.declared.packet.Queue.TheInside.{Inside}
+use Rattle.flow_packet.specs.declared.queue.Queue.TheInside.{Inside}
 
 no_chains-weight : (cs : Chains) → from_chains cs ≡ [] → weight_of_chains cs ≡ 0
 no_chains-weight no_chains e = refl

@@ -12,7 +12,7 @@ use Rattle.flow_parse.specs.declared.value.NetText.{NetText}
 use Rattle.flow_parse.specs.Spelling.{is_word_byte}
 use Rattle.flow_parse.specs.Names.{is_name, capacity_limit}
 
--- A name is made of letters, digits and _, begins with a letter, has at most 64 bytes and is not reserved.
+-- A name is made of letters, digits and _, begins with a letter, has at most NAME_LIMIT bytes and is not reserved.
 abbrev pub IsName : List ℕ → Type 0
 IsName word = (is_name word ≡ true) × AllByRecursion (λ b. is_word_byte b ≡ true) word
 

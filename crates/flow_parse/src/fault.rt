@@ -15,7 +15,7 @@ pub enum Reason {
     Quote,
     /// The tokens are none of the forms of a line, or the form may not stand there.
     Form,
-    /// A word in the place of a name is none: a name begins with a letter, has at most 64 bytes, and is
+    /// A word in the place of a name is none: a name begins with a letter, has at most NAME_LIMIT bytes, and is
     /// none of `flow`, `subnet`, `end`, `inport` and `outport`.
     Name,
     /// A capacity isn't a decimal number from 1 to FIRST_CAPACITY_LIMIT in version 1 or from 1 to

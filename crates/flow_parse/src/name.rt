@@ -7,10 +7,8 @@ ghost use Rattle.std.specs.Prelude.{is_some};
 use crate::form::{EndMention, Form, Mention, PortMention};
 use crate::same::is;
 use flow_items::Text;
-use flow_limits::{CAPACITY_LIMIT, FIRST_CAPACITY_LIMIT, LAST_ELEMENT};
+use flow_limits::{CAPACITY_LIMIT, FIRST_CAPACITY_LIMIT, LAST_ELEMENT, NAME_LIMIT};
 use flow_text::decimal;
-
-pub const MOST_NAME: usize = 64;
 
 fn is_reserved_word(word: &Text) -> bool
     ensures { result ≡ is_reserved word.now }
@@ -34,7 +32,7 @@ fn letter_first(word: &[u8]) -> bool
 fn is_a_name(word: &Text) -> bool
     ensures { result ≡ is_name word.now }
 {
-    letter_first(word.as_slice()) && word.len() <= MOST_NAME && !is_reserved_word(word)
+    letter_first(word.as_slice()) && word.len() <= NAME_LIMIT && !is_reserved_word(word)
 }
 
 fn mention_named(mention: &Mention) -> bool

@@ -10,7 +10,7 @@ ghost use Rattle.flow_parse.specs.declared.value.Statement.TheVariants.{Connect,
 
 use crate::value::{NetPart, NetText, Statement};
 use flow_items::Text;
-use flow_net::PortRef;
+use flow_plan::PortRef;
 use flow_text::put_decimal;
 use std::alloc::{AllocError, Global};
 

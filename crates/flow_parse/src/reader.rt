@@ -6,9 +6,10 @@ ghost use Rattle.flow_parse.specs.Reader.{Stands, Reads, Gives, IsPart, HasRead,
 use crate::fault::{NetFault, ParseStop, Reason};
 use crate::form::Form;
 use crate::line::read_line;
+use crate::mentions::add_mentions;
 use crate::name::{named, numbered};
 use crate::part::MentionedProcess;
-use crate::pieces::{add_mentions, add_statement};
+use crate::statements::add_statement;
 use crate::stop::LineStop;
 use crate::subnets::Subnets;
 use crate::table::{Processes, kindless};
@@ -255,33 +256,7 @@ impl Reader {
             Form::Header { version: _ } => Ok(()),
             Form::Subnet { name } => self.open(alloc, line, name),
             Form::End => self.close(alloc, line),
-            Form::Process { name, kind } => self.add(alloc, line, Form::Process { name, kind }),
-            Form::Connection {
-                from,
-                out,
-                capacity,
-                into,
-                to,
-            } => self.add(
-                alloc,
-                line,
-                Form::Connection {
-                    from,
-                    out,
-                    capacity,
-                    into,
-                    to,
-                },
-            ),
-            Form::Initial { text, into, to } => {
-                self.add(alloc, line, Form::Initial { text, into, to })
-            }
-            Form::InPort { outer, into, to } => {
-                self.add(alloc, line, Form::InPort { outer, into, to })
-            }
-            Form::OutPort { from, out, outer } => {
-                self.add(alloc, line, Form::OutPort { from, out, outer })
-            }
+            form => self.add(alloc, line, form),
         }
     }
 

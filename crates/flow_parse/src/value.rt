@@ -1,6 +1,6 @@
 //! The value of a network file. The format is this project's own.
 use flow_items::{Items, Text};
-use flow_net::PortRef;
+use flow_plan::PortRef;
 
 /// What a line of a network file adds to its part. A process is named as its part names it; a port may
 /// be given with an element, and a connection with a capacity: from 1 to FIRST_CAPACITY_LIMIT packets in

@@ -19,8 +19,8 @@ use Rattle.flow_component.specs.Runs.{Poise, fresh, Steps, content_got, content_
 use Rattle.flow_component.proofs.Roots.{same_id}
 use Rattle.flow_component.proofs.Lone.{HoldsOnly-packet_at, HoldsOnly-text, HoldsOnly-kind, HoldsOnly-end}
 use Rattle.flow_component.proofs.Streams.{owed-run, stays-allowed, Comes-packets, contents_in, content-kind, content-text, port_zero, port_below_one}
-use Rattle.flow_parts.specs.Brackets.{bracket_of, turns, takes, BracketsNext, BracketsReady}
-use Rattle.flow_parts.specs.BracketsLaws.{renewed, brackets_obeys}
+use Rattle.flow_parts.specs.Brackets.{bracket_of, turns, takes, brackets_rules}
+use Rattle.flow_parts.specs.BracketsLaws.{renewed, brackets_lawful}
 use Rattle.flow_parts.specs.Meanings.{bracketed_as, bracketed_by, bracketed, BracketsMeaning}
 
 take-all : (xs : List ℕ) → take (length xs) xs ≡ xs
@@ -62,7 +62,7 @@ module _ {K : Type 0} where
   after-taking component held t Open h e = let a : packet_at held.packets (id_of t) ≡ Some t = HoldsOnly-packet_at held (id_of t) h ∙ ap Some (sym e) in rw a refl
   after-taking component held t Close h e = let a : packet_at held.packets (id_of t) ≡ Some t = HoldsOnly-packet_at held (id_of t) h ∙ ap Some (sym e) in rw a refl
 
-  step : (p : Poise K) (e : Happening) (q : Poise K) → IsAllowed one_to_one uses_first p.held p.wish → Steps BracketsReady BracketsNext p e q
+  step : (p : Poise K) (e : Happening) (q : Poise K) → IsAllowed one_to_one uses_first p.held p.wish → Steps brackets_rules p e q
       → owed p ++ flat_map (λ t. bracketed t ∷ []) (content_got 0 e) ≡ content_sent 0 e ++ owed q
   step p Started q g s =
       let a : owed p ≡ [] = rw s.grants.0 refl in
@@ -89,7 +89,7 @@ module _ {K : Type 0} where
 
   pub brackets_meaning : BracketsMeaning K
   brackets_meaning component told run =
-      let e = owed-run BracketsReady BracketsNext (λ p. IsAllowed one_to_one uses_first p.held p.wish) (λ t. bracketed t ∷ []) owed
-      (λ p e q g s. (stays-allowed BracketsReady BracketsNext one_to_one uses_first brackets_obeys p e q s, step p e q g s)) (fresh component run.maker) told run.last tt run.runs in
+      let e = owed-run brackets_rules (λ p. IsAllowed one_to_one uses_first p.held p.wish) (λ t. bracketed t ∷ []) owed
+      (λ p e q g s. (stays-allowed brackets_rules brackets_lawful p e q s, step p e q g s)) (fresh component run.maker) told run.last tt run.runs in
       let b : owed run.last ≡ [] = rw run.idle refl in
       sym (append-nil (sent 0 told)) ∙ ap (λ us. sent 0 told ++ us) (sym b) ∙ sym e ∙ map-single bracketed (got 0 told)

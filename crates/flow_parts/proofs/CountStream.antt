@@ -17,7 +17,7 @@ use Rattle.flow_component.proofs.Lone.{HoldsOnly-kind, HoldsOnly-end}
 use Rattle.flow_component.proofs.Streams.{Comes-packets, contents_in, made_at, one-alone, content-kind}
 use Rattle.flow_component.proofs.Ends.{heard-now, heard-later}
 use Rattle.flow_component.proofs.Wished.{port_of, id_in}
-use Rattle.flow_parts.specs.Count.{CountState, one_more, passes_on, goes_on, CountNext, CountReady}
+use Rattle.flow_parts.specs.Count.{CountState, one_more, passes_on, goes_on, count_rules}
 use Rattle.flow_parts.specs.Meanings.{fresh_count, normal_one, normals, IsCounted, CountMeaning}
 
 brought-step : (t : Tree) (es : List Happening) (c : Bool) → (got 0 es ≡ [] → ⊥) → cond c (content t ∷ []) [] ++ got 0 es ≡ [] → ⊥
@@ -74,11 +74,11 @@ counted-one Open n l = omega arith
 counted-one Close n l = omega arith
 
 abbrev Rec : Bool → List Happening → Poise CountState → Type 0
-Rec c es q = (n : ℕ) (before : List Happening) (p : Poise CountState) (phase : Phase) → Stands c n before p phase → Runs CountReady CountNext p es q → Wakes 1 before es → n + length es ≤ TURN_LIMIT → Leads c n phase es
+Rec c es q = (n : ℕ) (before : List Happening) (p : Poise CountState) (phase : Phase) → Stands c n before p phase → Runs count_rules p es q → Wakes 1 before es → n + length es ≤ TURN_LIMIT → Leads c n phase es
 
 -- a packet came
 takes : (c : Bool) (n : ℕ) (es : List Happening) (before : List Happening) (port : ℕ) (t : Tree) (held : Held) (m q : Poise CountState) (kind : Kind) → nat_eq 0 port ≡ true → held.packets ≡ t ∷ [] → kind ≡ kind_of (content t)
-    → Wishes m.component m.held m.wish ≡ passes_on c (at_number c (one_more kind n) false) held (id_of t) → Runs CountReady CountNext m es q → Wakes 1 (before ++ Received port t ∷ []) es → n + (length es + 1) ≤ TURN_LIMIT → Rec c es q
+    → Wishes m.component m.held m.wish ≡ passes_on c (at_number c (one_more kind n) false) held (id_of t) → Runs count_rules m es q → Wakes 1 (before ++ Received port t ∷ []) es → n + (length es + 1) ≤ TURN_LIMIT → Rec c es q
     → Makes c n [] (Received port t ∷ es)
 takes true n es before port t held m q kind z alone k comes r w few rec =
     let component : m.component ≡ at_number true (one_more kind n) false = cc in
@@ -119,9 +119,9 @@ takes false n es before port t held m q kind z alone k comes r w few rec =
     most-one Close = omega arith
 
 abbrev Step : Poise CountState → Happening → Poise CountState → Type 0
-Step p e m = Steps CountReady CountNext p e m
+Step p e m = Steps count_rules p e m
 
-step : (c : Bool) (n : ℕ) (es before : List Happening) (p m q : Poise CountState) (e : Happening) (phase : Phase) → Stands c n before p phase → Step p e m → Runs CountReady CountNext m es q → Wakes 1 before (e ∷ es) → n + length (e ∷ es) ≤ TURN_LIMIT → Rec c es q
+step : (c : Bool) (n : ℕ) (es before : List Happening) (p m q : Poise CountState) (e : Happening) (phase : Phase) → Stands c n before p phase → Step p e m → Runs count_rules m es q → Wakes 1 before (e ∷ es) → n + length (e ∷ es) ≤ TURN_LIMIT → Rec c es q
     → Leads c n phase (e ∷ es)
 step c n es before p m q Started Receiving st s r w few rec = absurd (let h : wishes.Deactivate ≡ receive_first = sym s.grants.0 ∙ st.0 in cc)
 step c n es before p m q (Received port t) Receiving st s r w few rec =
@@ -207,7 +207,7 @@ count_run : (c : Bool) (es : List Happening) (q : Poise CountState) → q.wish �
 count_run c [] q d n before p phase st r w few = ends c n before p q phase st r d
 count_run c (e ∷ es) q d n before p phase st r w few = step c n es before p r.0 q e phase st r.1 r.2 w few (count_run c es q d)
 
-begun : (c : Bool) (e : Happening) (es : List Happening) (p m q : Poise CountState) → p ≡ fresh (fresh_count c) p.held.maker → Step p e m → Runs CountReady CountNext m es q → q.wish ≡ wishes.Deactivate → Rattle.flow_component.specs.Runs.StartsBring (λ port. port ≡ 0) (e ∷ es) → Wakes 1 [] (e ∷ es)
+begun : (c : Bool) (e : Happening) (es : List Happening) (p m q : Poise CountState) → p ≡ fresh (fresh_count c) p.held.maker → Step p e m → Runs count_rules m es q → q.wish ≡ wishes.Deactivate → Rattle.flow_component.specs.Runs.StartsBring (λ port. port ≡ 0) (e ∷ es) → Wakes 1 [] (e ∷ es)
     → length (e ∷ es) ≤ TURN_LIMIT → IsCounted c (got 0 (e ∷ es)) (sent 0 (e ∷ es)) (sent 1 (e ∷ es))
 begun c Started es p m q is s r d brings w few =
     let comes : Wishes m.component m.held m.wish ≡ Wishes (fresh_count c) s.held receive_first = s.comes_to ∙ ap (λ (u : Poise CountState). Wishes u.component s.held receive_first) is in

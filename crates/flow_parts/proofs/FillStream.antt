@@ -20,8 +20,8 @@ use Rattle.flow_parts.specs.declared.fill.FillPlace.TheVariants.{Waiting, Passin
 use Rattle.flow_component.specs.Ports.{one_to_one, uses_first, receive_first}
 use Rattle.flow_parts.specs.Text.{is_filled}
 use Rattle.flow_parts.specs.FillState.{FillState}
-use Rattle.flow_parts.specs.Fill.{line_sent, word_after, word_comes, bracket_comes, end_comes, goes_on, packet_comes, fill_next, FillNext, FillReady}
-use Rattle.flow_parts.specs.FillLaws.{fill_obeys}
+use Rattle.flow_parts.specs.Fill.{line_sent, word_after, word_comes, bracket_comes, end_comes, goes_on, packet_comes, fill_next, fill_rules}
+use Rattle.flow_parts.specs.FillLaws.{fill_lawful}
 use Rattle.flow_parts.specs.Meanings.{fresh_fill, FillMeaning}
 use Rattle.flow_parts.specs.Filling.{Each, IsNormal, IsBracket, Line, line_text, IsLine}
 use Rattle.flow_parts.proofs.Fillings.{Begun, IsHand, Begun-filling, Begun-end, Begun-bracket, Begun-skip, Begun-take, Begun-break, Begun-nothing}
@@ -140,15 +140,15 @@ after-sent state held t Waiting x y a f = (y, rw a refl, f)
 after-sent state held t (Passing b) x y a f = (f.0, rw a (ap (λ us. content t ∷ us) f.1), f.2)
 after-sent state held t Leaving x y a f = (y, rw a refl, f)
 
-allowed : (p : Poise FillState) (e : Happening) (m : Poise FillState) → Steps FillReady FillNext p e m → IsAllowed one_to_one uses_first m.held m.wish
-allowed p e m s = stays-allowed FillReady FillNext one_to_one uses_first fill_obeys p e m s
+allowed : (p : Poise FillState) (e : Happening) (m : Poise FillState) → Steps fill_rules p e m → IsAllowed one_to_one uses_first m.held m.wish
+allowed p e m s = stays-allowed fill_rules fill_lawful p e m s
 
 -- what holds of the outcome, once it holds of where it leads
-later : (p : Poise FillState) (e : Happening) (m : Poise FillState) (es : List Happening) (s : Steps FillReady FillNext p e m) → FromWish m.component m.held m.wish (got 0 es) (sent 0 es)
+later : (p : Poise FillState) (e : Happening) (m : Poise FillState) (es : List Happening) (s : Steps fill_rules p e m) → FromWish m.component m.held m.wish (got 0 es) (sent 0 es)
     → FromOutcome (fill_next p.component s.held (answer_of e)) (got 0 es) (sent 0 es)
 later p e m es s h = subst (λ o. FromOutcome o (got 0 es) (sent 0 es)) s.comes_to h
 
-fill_run : (events : List Happening) (p q : Poise FillState) → Runs FillReady FillNext p events q → EndIsLast 0 events → q.wish ≡ wishes.Deactivate → IsAllowed one_to_one uses_first p.held p.wish
+fill_run : (events : List Happening) (p q : Poise FillState) → Runs fill_rules p events q → EndIsLast 0 events → q.wish ≡ wishes.Deactivate → IsAllowed one_to_one uses_first p.held p.wish
     → FromWish p.component p.held p.wish (got 0 events) (sent 0 events)
 fill_run [] p q r l d a =
     let w : p.wish ≡ wishes.Deactivate = ap (λ (u : Poise FillState). u.wish) (sym r) ∙ d in

@@ -14,8 +14,8 @@ use Rattle.flow_component.specs.Ports.{none_to_one, uses_first, send_first}
 use Rattle.flow_component.specs.Happenings.{Happening, Started, Received, Ended, Sent, Learned}
 use Rattle.flow_component.specs.Runs.{Poise, fresh, Steps, Runs, got, sent, content_got, content_sent, text_packet}
 use Rattle.flow_component.proofs.Streams.{owed-run, stays-allowed, contents_in, made_at, port_zero}
-use Rattle.flow_parts.specs.ReadLines.{reads, ReadLinesNext, ReadLinesReady}
-use Rattle.flow_parts.specs.ReadLinesLaws.{read_lines_obeys}
+use Rattle.flow_parts.specs.ReadLines.{reads, read_lines_rules}
+use Rattle.flow_parts.specs.ReadLinesLaws.{read_lines_lawful}
 use Rattle.flow_parts.specs.Meanings.{ReadLinesMeaning}
 
 abbrev Lines : Type 0
@@ -54,7 +54,7 @@ Good p = IsAllowed none_to_one uses_first p.held p.wish
 abbrev Next : Poise Lines → Happening → Poise Lines → Type 0
 Next p e q = (owed p ++ flat_map (λ t. t ∷ []) (content_got 0 e) ≡ content_sent 0 e ++ owed q) × (q.wish ≡ wishes.Deactivate → q.component ≡ [])
 
-step : (p : Poise Lines) (e : Happening) (q : Poise Lines) → Good p → Steps ReadLinesReady ReadLinesNext p e q → Next p e q
+step : (p : Poise Lines) (e : Happening) (q : Poise Lines) → Good p → Steps read_lines_rules p e q → Next p e q
 step p Started q g s =
     let a = after-reading s.held p.component s.is_ready in
     let w : owed q ≡ map text_packet p.component = ap owes_after s.comes_to ∙ a.0 in
@@ -68,10 +68,10 @@ step p (Sent port t) q g s =
     (rw (s.grants.0, s.grants.1, w, z) (append-nil _), subst IsSpent (sym s.comes_to) a.1)
 step p (Learned port level) q g s = absurd s.is_ready
 
-allowed : (p : Poise Lines) (e : Happening) (q : Poise Lines) → Steps ReadLinesReady ReadLinesNext p e q → Good q
-allowed p e q s = stays-allowed ReadLinesReady ReadLinesNext none_to_one uses_first read_lines_obeys p e q s
+allowed : (p : Poise Lines) (e : Happening) (q : Poise Lines) → Steps read_lines_rules p e q → Good q
+allowed p e q s = stays-allowed read_lines_rules read_lines_lawful p e q s
 
-no_got : (es : List Happening) (p q : Poise Lines) → Runs ReadLinesReady ReadLinesNext p es q → got 0 es ≡ []
+no_got : (es : List Happening) (p q : Poise Lines) → Runs read_lines_rules p es q → got 0 es ≡ []
 no_got [] p q r = refl
 no_got (Started ∷ es) p q r = no_got es r.0 q r.2
 no_got (Received port t ∷ es) p q r = absurd r.1.is_ready
@@ -79,7 +79,7 @@ no_got (Ended port ∷ es) p q r = absurd r.1.is_ready
 no_got (Sent port t ∷ es) p q r = no_got es r.0 q r.2
 no_got (Learned port level ∷ es) p q r = absurd r.1.is_ready
 
-spent : (es : List Happening) (p q : Poise Lines) → Good p → (p.wish ≡ wishes.Deactivate → p.component ≡ []) → Runs ReadLinesReady ReadLinesNext p es q → q.wish ≡ wishes.Deactivate → q.component ≡ []
+spent : (es : List Happening) (p q : Poise Lines) → Good p → (p.wish ≡ wishes.Deactivate → p.component ≡ []) → Runs read_lines_rules p es q → q.wish ≡ wishes.Deactivate → q.component ≡ []
 spent [] p q g h r d = rw r (h (ap (λ (u : Poise Lines). u.wish) (sym r) ∙ d))
 spent (e ∷ es) p q g h r d = spent es r.0 q (allowed p e r.0 r.1) (step p e r.0 g r.1).1 r.2 d
 
@@ -90,7 +90,7 @@ read_lines_meaning left (event ∷ events) run some =
     let p = fresh left run.maker in
     let q = run.last in
     let r = run.runs in
-    let e = owed-run ReadLinesReady ReadLinesNext Good (λ t. t ∷ []) owed (λ p e q g s. (allowed p e q s, (step p e q g s).0)) p (event ∷ events) q tt r in
+    let e = owed-run read_lines_rules Good (λ t. t ∷ []) owed (λ p e q g s. (allowed p e q s, (step p e q g s).0)) p (event ∷ events) q tt r in
     let n = no_got (event ∷ events) p q r in
     let k : q.component ≡ [] = spent events r.0 q (allowed p event r.0 r.1) (step p event r.0 tt r.1).1 r.2 run.idle in
     let o : owed q ≡ [] = rw (run.idle, k) refl in

@@ -21,8 +21,8 @@ use Rattle.flow_component.proofs.Streams.{owed-run, stays-allowed, Comes-packets
 use Rattle.flow_parts.specs.declared.words.Words.{Words}
 use Rattle.flow_parts.specs.declared.words.Words.TheVariants.{Waiting, Splitting}
 use Rattle.flow_parts.specs.Text.{words, word_start, word_end}
-use Rattle.flow_parts.specs.Words.{sends_next, takes, goes_on, WordsNext, WordsReady, IsReadyOn}
-use Rattle.flow_parts.specs.WordsLaws.{words_obeys}
+use Rattle.flow_parts.specs.Words.{sends_next, takes, goes_on, IsReadyOn, words_rules}
+use Rattle.flow_parts.specs.WordsLaws.{words_lawful}
 use Rattle.flow_parts.specs.Meanings.{words_as, words_of, WordsMeaning}
 use Rattle.flow_parts.proofs.Wording.{words-some, words-none}
 
@@ -80,7 +80,7 @@ after-taking held t Close h e =
     let a : packet_at held.packets (id_of t) ≡ Some t = HoldsOnly-packet_at held (id_of t) h ∙ ap Some (sym e) in
     rw a refl
 
-step : (p : Poise Words) (e : Happening) (q : Poise Words) → IsAllowed one_to_one uses_first p.held p.wish → Steps WordsReady WordsNext p e q
+step : (p : Poise Words) (e : Happening) (q : Poise Words) → IsAllowed one_to_one uses_first p.held p.wish → Steps words_rules p e q
     → owed p ++ flat_map words_of (content_got 0 e) ≡ content_sent 0 e ++ owed q
 step p Started q g s =
     let a : owed p ≡ [] = rw s.grants.0 refl in
@@ -108,7 +108,7 @@ step p (Learned port level) q g s = absurd s.is_ready
 -- Over a whole run it sends what its meaning makes of what it got.
 pub words_meaning : WordsMeaning
 words_meaning told run =
-    let e = owed-run WordsReady WordsNext (λ p. IsAllowed one_to_one uses_first p.held p.wish) words_of owed
-    (λ p e q g s. (stays-allowed WordsReady WordsNext one_to_one uses_first words_obeys p e q s, step p e q g s)) (fresh Waiting run.maker) told run.last tt run.runs in
+    let e = owed-run words_rules (λ p. IsAllowed one_to_one uses_first p.held p.wish) words_of owed
+    (λ p e q g s. (stays-allowed words_rules words_lawful p e q s, step p e q g s)) (fresh Waiting run.maker) told run.last tt run.runs in
     let b : owed run.last ≡ [] = rw run.idle refl in
     sym (e ∙ rw b (append-nil _))

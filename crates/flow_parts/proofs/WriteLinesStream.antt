@@ -6,12 +6,11 @@ use Rattle.flow_packet.specs.Held.{Held, without_packet}
 use Rattle.flow_component.specs.declared.Wish.TheVariants as wishes
 use Rattle.flow_component.specs.Laws.{Wishes, IsAllowed}
 use Rattle.flow_component.specs.Ports.{one_to_none, uses_none, receive_first}
-use Rattle.flow_component.specs.Outcomes.{IsAtHand}
 use Rattle.flow_component.specs.Happenings.{Happening, Started, Received, Ended, Sent, Learned}
 use Rattle.flow_component.specs.Runs.{Poise, fresh, Steps, Runs, got, content_got}
 use Rattle.flow_component.proofs.Streams.{flat_map-append, stays-allowed, Comes-packets, kind-alone, text-alone, gone-alone, content-kind, content-text, port_below_one}
-use Rattle.flow_parts.specs.WriteLines.{rendered, WriteLinesNext}
-use Rattle.flow_parts.specs.WriteLinesLaws.{write_lines_obeys}
+use Rattle.flow_parts.specs.WriteLines.{rendered, write_lines_rules}
+use Rattle.flow_parts.specs.WriteLinesLaws.{write_lines_lawful}
 use Rattle.flow_parts.specs.Meanings.{rendered_all, WriteLinesMeaning}
 
 abbrev Bytes : Type 0
@@ -22,7 +21,7 @@ abbrev Good : Poise Bytes → Type 0
 Good p = IsAllowed one_to_none uses_none p.held p.wish × (p.held.packets ≡ [])
 
 abbrev Step : Poise Bytes → Happening → Poise Bytes → Type 0
-Step p e q = Steps (λ (_ : Bytes). IsAtHand) WriteLinesNext p e q
+Step p e q = Steps write_lines_rules p e q
 
 abbrev Next : Poise Bytes → Happening → Poise Bytes → Type 0
 Next p e q = (q.held.packets ≡ []) × (q.component ≡ p.component ++ rendered_all (content_got 0 e))
@@ -54,9 +53,9 @@ step p (Sent port t) q g s = absurd (let bad = rw s.grants.0 at g.0 in cc bad.0)
 step p (Learned port level) q g s = absurd s.is_ready
 
 allowed : (p : Poise Bytes) (e : Happening) (q : Poise Bytes) → Step p e q → IsAllowed one_to_none uses_none q.held q.wish
-allowed p e q s = stays-allowed (λ (_ : Bytes). IsAtHand) WriteLinesNext one_to_none uses_none write_lines_obeys p e q s
+allowed p e q s = stays-allowed write_lines_rules write_lines_lawful p e q s
 
-wrote : (es : List Happening) (p q : Poise Bytes) → Good p → Runs (λ (_ : Bytes). IsAtHand) WriteLinesNext p es q → q.component ≡ p.component ++ rendered_all (got 0 es)
+wrote : (es : List Happening) (p q : Poise Bytes) → Good p → Runs write_lines_rules p es q → q.component ≡ p.component ++ rendered_all (got 0 es)
 wrote [] p q g r = ap (λ (u : Poise Bytes). u.component) r ∙ sym (append-nil p.component)
 wrote (e ∷ es) p q g r =
     let s = step p e r.0 g r.1 in

@@ -7,8 +7,8 @@ use Rattle.flow_packet.specs.Held.{Held, next_id, without_packet, with_made}
 use Rattle.flow_component.specs.declared.Answer.{Answer}
 use Rattle.flow_component.specs.declared.Answer.TheVariants as answers
 use Rattle.flow_component.specs.declared.Wish.TheVariants.{Deactivate}
-use Rattle.flow_component.specs.Laws.{Outcome, Wishes}
-use Rattle.flow_component.specs.Ports.{receive_first, send_first}
+use Rattle.flow_component.specs.Laws.{Rules, Outcome, Wishes}
+use Rattle.flow_component.specs.Ports.{one_to_one, uses_first, receive_first, send_first}
 use Rattle.flow_component.specs.Alone.{HoldsOnly}
 
 -- The bracket that a text names by its first byte, if it does.
@@ -46,3 +46,7 @@ BracketsReady component held (answers.Got id) = HoldsOnly held id
 BracketsReady component held answers.End = held.packets ≡ []
 BracketsReady component held answers.Sent = held.packets ≡ []
 BracketsReady component held (answers.Level n) = ⊥
+
+-- All that a network knows of it.
+abbrev pub brackets_rules : {K : Type 0} → Rules K
+brackets_rules = record { shape = λ _. one_to_one; uses = λ _. uses_first; ready = BracketsReady; next = BracketsNext }

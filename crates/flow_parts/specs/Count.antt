@@ -10,7 +10,7 @@ use Rattle.flow_component.specs.declared.Answer.TheVariants as answers
 use Rattle.flow_component.specs.declared.Port.{Port}
 use Rattle.flow_component.specs.declared.Shape.{Shape}
 use Rattle.flow_component.specs.declared.Wish.TheVariants.{Send, Deactivate}
-use Rattle.flow_component.specs.Laws.{Outcome, Wishes}
+use Rattle.flow_component.specs.Laws.{Rules, Outcome, Wishes}
 use Rattle.flow_component.specs.Ports.{receive_first, send_first}
 use Rattle.flow_component.specs.Alone.{HoldsOnly}
 
@@ -71,3 +71,7 @@ CountReady state held (answers.Got id) = (state.leaving ≡ false) × HoldsOnly 
 CountReady state held answers.End = (state.leaving ≡ false) × (held.packets ≡ [])
 CountReady state held answers.Sent = held.packets ≡ []
 CountReady state held (answers.Level n) = ⊥
+
+-- All that a network knows of it.
+abbrev pub count_rules : Rules CountState
+count_rules = record { shape = λ _. count_shape; uses = count_uses; ready = CountReady; next = CountNext }

@@ -7,11 +7,11 @@ use Rattle.flow_component.specs.declared.Answer.{Answer}
 use Rattle.flow_component.specs.declared.Answer.TheVariants as answers
 use Rattle.flow_component.specs.declared.Wish.TheVariants.{Deactivate}
 use Rattle.flow_packet.specs.Held.{Held, next_id, without_packet, with_made}
-use Rattle.flow_component.specs.Laws.{Outcome, Wishes}
+use Rattle.flow_component.specs.Laws.{Rules, Outcome, Wishes}
 use Rattle.flow_component.specs.Alone.{HoldsOnly}
 use Rattle.flow_parts.specs.declared.fill.FillPlace.{FillPlace}
 use Rattle.flow_parts.specs.declared.fill.FillPlace.TheVariants.{Waiting, Passing, Leaving}
-use Rattle.flow_component.specs.Ports.{receive_first, send_first}
+use Rattle.flow_component.specs.Ports.{one_to_one, uses_first, receive_first, send_first}
 use Rattle.flow_parts.specs.FillState.{FillState}
 
 -- It sends its line, and has this one then.
@@ -76,3 +76,7 @@ FillReady state held (answers.Got id) = (state.place ≡ Waiting) × HoldsOnly h
 FillReady state held answers.End = (state.place ≡ Waiting) × (held.packets ≡ [])
 FillReady state held answers.Sent = IsReadyOn state held state.place
 FillReady state held (answers.Level n) = ⊥
+
+-- All that a network knows of it.
+abbrev pub fill_rules : Rules FillState
+fill_rules = record { shape = λ _. one_to_one; uses = λ _. uses_first; ready = FillReady; next = FillNext }

@@ -8,18 +8,17 @@ use Rattle.flow_packet.specs.declared.packet.Kind.{Kind}
 use Rattle.flow_packet.specs.declared.packet.Kind.TheVariants.{Normal, Open, Close}
 use Rattle.flow_packet.specs.Tree.{Tree, kind_of, text_of, packet_of}
 use Rattle.flow_component.specs.Happenings.{Happening}
-use Rattle.flow_component.specs.Outcomes.{IsAtHand}
 use Rattle.flow_component.specs.Runs.{EndedRun, EndIsLast, got, sent, text_packet, StartsBring, Wakes}
-use Rattle.flow_parts.specs.ReadLines.{ReadLinesNext, ReadLinesReady}
-use Rattle.flow_parts.specs.WriteLines.{WriteLinesNext, rendered}
+use Rattle.flow_parts.specs.ReadLines.{read_lines_rules}
+use Rattle.flow_parts.specs.WriteLines.{rendered, write_lines_rules}
 use Rattle.flow_parts.specs.declared.fill.FillPlace.TheVariants.{Waiting}
 use Rattle.flow_parts.specs.declared.words.Words.TheVariants as words_parts
 use Rattle.flow_parts.specs.Text.{words}
-use Rattle.flow_parts.specs.Words.{WordsNext, WordsReady}
-use Rattle.flow_parts.specs.Brackets.{bracket_of, BracketsNext, BracketsReady}
-use Rattle.flow_parts.specs.Count.{CountState, CountNext, CountReady}
+use Rattle.flow_parts.specs.Words.{words_rules}
+use Rattle.flow_parts.specs.Brackets.{bracket_of, brackets_rules}
+use Rattle.flow_parts.specs.Count.{CountState, count_rules}
 use Rattle.flow_parts.specs.FillState.{FillState}
-use Rattle.flow_parts.specs.Fill.{FillNext, FillReady}
+use Rattle.flow_parts.specs.Fill.{fill_rules}
 use Rattle.flow_parts.specs.Filling.{Filling}
 
 -- A stream as the bytes of a file: each packet as a line.
@@ -28,11 +27,11 @@ rendered_all x = flat_map (λ packet. rendered (kind_of packet) (text_of packet)
 
 -- A ReadLines that has run sends a Normal packet for each of its lines.
 abbrev pub ReadLinesMeaning : Type 0
-ReadLinesMeaning = (left : List (List ℕ)) (told : List Happening) → EndedRun ReadLinesReady ReadLinesNext left told → told ≢ [] → sent 0 told ≡ map text_packet left
+ReadLinesMeaning = (left : List (List ℕ)) (told : List Happening) → EndedRun read_lines_rules left told → told ≢ [] → sent 0 told ≡ map text_packet left
 
 -- A WriteLines has written what it got.
 abbrev pub WriteLinesMeaning : Type 0
-WriteLinesMeaning = (bytes : List ℕ) (told : List Happening) (run : EndedRun (λ (_ : List ℕ). IsAtHand) WriteLinesNext bytes told) → run.last.component ≡ bytes ++ rendered_all (got 0 told)
+WriteLinesMeaning = (bytes : List ℕ) (told : List Happening) (run : EndedRun write_lines_rules bytes told) → run.last.component ≡ bytes ++ rendered_all (got 0 told)
 
 -- A Fill at its start: it has no line in hand.
 abbrev pub fresh_fill : ℕ → FillState
@@ -40,7 +39,7 @@ fresh_fill size = record { size = size; line = []; place = Waiting }
 
 -- What a Fill sends is a filling of what it gets.
 abbrev pub FillMeaning : Type 0
-FillMeaning = (size : ℕ) (told : List Happening) → EndedRun FillReady FillNext (fresh_fill size) told → EndIsLast 0 told → Filling size (got 0 told) (sent 0 told)
+FillMeaning = (size : ℕ) (told : List Happening) → EndedRun fill_rules (fresh_fill size) told → EndIsLast 0 told → Filling size (got 0 told) (sent 0 told)
 
 -- A Normal packet as its words; a bracket stays as it is.
 abbrev pub words_as : Kind → Tree → List Tree
@@ -54,7 +53,7 @@ words_of packet = words_as (kind_of packet) packet
 
 -- A Words sends what it gets, each Normal packet replaced by its words.
 abbrev pub WordsMeaning : Type 0
-WordsMeaning = (told : List Happening) → EndedRun WordsReady WordsNext words_parts.Waiting told → sent 0 told ≡ flat_map words_of (got 0 told)
+WordsMeaning = (told : List Happening) → EndedRun words_rules words_parts.Waiting told → sent 0 told ≡ flat_map words_of (got 0 told)
 
 -- There is at most one filling of a stream.
 abbrev pub OneFilling : Type 0
@@ -85,7 +84,7 @@ pub record IsCounted (connected : Bool) (x y count : List Tree) : Type 0 where
 
 -- The meaning of Count, over whole runs.
 abbrev pub CountMeaning : Type 0
-CountMeaning = (connected : Bool) (told : List Happening) → EndedRun CountReady CountNext (fresh_count connected) told → StartsBring (λ port. port ≡ 0) told → Wakes 1 [] told → length told ≤ TURN_LIMIT
+CountMeaning = (connected : Bool) (told : List Happening) → EndedRun count_rules (fresh_count connected) told → StartsBring (λ port. port ≡ 0) told → Wakes 1 [] told → length told ≤ TURN_LIMIT
     → IsCounted connected (got 0 told) (sent 0 told) (sent 1 told)
 
 -- A packet, or the bracket that its text names, with the rest of the text.
@@ -105,4 +104,4 @@ bracketed packet = bracketed_by (kind_of packet) packet
 
 -- A Brackets sends what it gets, each Normal packet that names a bracket replaced by that.
 abbrev pub BracketsMeaning : Type 0 → Type 0
-BracketsMeaning K = (component : K) (told : List Happening) → EndedRun BracketsReady BracketsNext component told → sent 0 told ≡ map bracketed (got 0 told)
+BracketsMeaning K = (component : K) (told : List Happening) → EndedRun brackets_rules component told → sent 0 told ≡ map bracketed (got 0 told)

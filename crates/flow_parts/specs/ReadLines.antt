@@ -7,8 +7,8 @@ use Rattle.flow_component.specs.declared.Answer.{Answer}
 use Rattle.flow_component.specs.declared.Answer.TheVariants as answers
 use Rattle.flow_component.specs.declared.Wish.TheVariants.{Deactivate}
 use Rattle.flow_component.specs.declared.Fail.TheVariants.{TextLimit}
-use Rattle.flow_component.specs.Laws.{Outcome, Wishes, Fails}
-use Rattle.flow_component.specs.Ports.{send_first}
+use Rattle.flow_component.specs.Laws.{Rules, Outcome, Wishes, Fails}
+use Rattle.flow_component.specs.Ports.{none_to_one, uses_first, send_first}
 
 -- It makes a Normal packet of the next line and sends it, and deactivates where there is no line. A line that is too long for a packet is a failure.
 abbrev pub reads : Held → List (List ℕ) → Outcome (List (List ℕ))
@@ -27,3 +27,7 @@ ReadLinesReady left held (answers.Got id) = ⊥
 ReadLinesReady left held answers.End = ⊥
 ReadLinesReady left held answers.Sent = held.packets ≡ []
 ReadLinesReady left held (answers.Level n) = ⊥
+
+-- All that a network knows of it.
+abbrev pub read_lines_rules : Rules (List (List ℕ))
+read_lines_rules = record { shape = λ _. none_to_one; uses = λ _. uses_first; ready = ReadLinesReady; next = ReadLinesNext }

@@ -7,8 +7,8 @@ use Rattle.flow_packet.specs.Held.{Held, next_id, without_packet, with_made}
 use Rattle.flow_component.specs.declared.Answer.{Answer}
 use Rattle.flow_component.specs.declared.Answer.TheVariants as answers
 use Rattle.flow_component.specs.declared.Wish.TheVariants.{Deactivate}
-use Rattle.flow_component.specs.Laws.{Outcome, Wishes}
-use Rattle.flow_component.specs.Ports.{receive_first, send_first}
+use Rattle.flow_component.specs.Laws.{Rules, Outcome, Wishes}
+use Rattle.flow_component.specs.Ports.{one_to_one, uses_first, receive_first, send_first}
 use Rattle.flow_component.specs.Alone.{HoldsOnly}
 use Rattle.flow_parts.specs.declared.words.Words.{Words}
 use Rattle.flow_parts.specs.declared.words.Words.TheVariants.{Waiting, Splitting}
@@ -65,3 +65,7 @@ WordsReady component held (answers.Got id) = IsWaiting component × HoldsOnly he
 WordsReady component held answers.End = IsWaiting component × (held.packets ≡ [])
 WordsReady component held answers.Sent = IsReadyOn held component
 WordsReady component held (answers.Level n) = ⊥
+
+-- All that a network knows of it.
+abbrev pub words_rules : Rules Words
+words_rules = record { shape = λ _. one_to_one; uses = λ _. uses_first; ready = WordsReady; next = WordsNext }

@@ -7,8 +7,9 @@ use Rattle.flow_packet.specs.Held.{Held, without_packet}
 use Rattle.flow_component.specs.declared.Answer.{Answer}
 use Rattle.flow_component.specs.declared.Answer.TheVariants as answers
 use Rattle.flow_component.specs.declared.Wish.TheVariants.{Deactivate}
-use Rattle.flow_component.specs.Laws.{Outcome, Wishes}
-use Rattle.flow_component.specs.Ports.{receive_first}
+use Rattle.flow_component.specs.Laws.{Rules, Outcome, Wishes}
+use Rattle.flow_component.specs.Ports.{one_to_none, uses_none, receive_first}
+use Rattle.flow_component.specs.Outcomes.{IsAtHand}
 
 -- A packet as a line: its text, behind a parenthesis for a bracket, and a line feed.
 abbrev pub rendered : Kind → List ℕ → List ℕ
@@ -27,3 +28,7 @@ writes bytes held (answers.Level n) = Wishes bytes held Deactivate
 -- It comes to this alone.
 abbrev pub WriteLinesNext : List ℕ → Held → Answer → Outcome (List ℕ) → Type 0
 WriteLinesNext bytes held answer outcome = outcome ≡ writes bytes held answer
+
+-- All that a network knows of it.
+abbrev pub write_lines_rules : Rules (List ℕ)
+write_lines_rules = record { shape = λ _. one_to_none; uses = λ _. uses_none; ready = λ _. IsAtHand; next = WriteLinesNext }

@@ -50,26 +50,12 @@ impl Brackets {
 }
 
 impl Component for Brackets {
-    ghost use Rattle.std.specs.Prelude.{refl};
-    ghost use Rattle.flow_component.specs.Ports.{one_to_one, uses_first};
-    ghost use Rattle.flow_parts.specs.Brackets.{BracketsReady, BracketsNext, brackets_next};
-    ghost use Rattle.flow_parts.specs.BracketsLaws.{brackets_obeys, brackets_stays_ready, brackets_steady};
+    ghost use Rattle.flow_parts.specs.Brackets.{brackets_rules};
+    ghost use Rattle.flow_parts.specs.BracketsLaws.{brackets_lawful};
 
-    ghost shape_of = { λ _. one_to_one };
+    ghost rules = { brackets_rules };
 
-    ghost uses = { λ _. uses_first };
-
-    ghost ready = { BracketsReady };
-
-    ghost next = { BracketsNext };
-
-    ghost obeys = { brackets_obeys };
-
-    ghost stays_ready = { brackets_stays_ready };
-
-    ghost steady = { brackets_steady };
-
-    ghost has_outcome = { λ component held answer _. (brackets_next component held answer, refl) };
+    ghost lawful = { brackets_lawful };
 
     fn shape(&self) -> Shape {
         Shape {

@@ -88,25 +88,12 @@ impl Count {
 }
 
 impl Component for Count {
-    ghost use Rattle.std.specs.Prelude.{refl};
-    ghost use Rattle.flow_parts.specs.Count.{CountReady, CountNext, count_shape, count_uses, count_next};
-    ghost use Rattle.flow_parts.specs.CountLaws.{count_obeys, count_stays_ready, count_steady};
+    ghost use Rattle.flow_parts.specs.Count.{count_rules};
+    ghost use Rattle.flow_parts.specs.CountLaws.{count_lawful};
 
-    ghost shape_of = { λ _. count_shape };
+    ghost rules = { count_rules };
 
-    ghost uses = { count_uses };
-
-    ghost ready = { CountReady };
-
-    ghost next = { CountNext };
-
-    ghost obeys = { count_obeys };
-
-    ghost stays_ready = { count_stays_ready };
-
-    ghost steady = { count_steady };
-
-    ghost has_outcome = { λ component held answer _. (count_next component held answer, refl) };
+    ghost lawful = { count_lawful };
 
     fn shape(&self) -> Shape {
         Shape {

@@ -165,26 +165,12 @@ impl Fill {
 }
 
 impl Component for Fill {
-    ghost use Rattle.std.specs.Prelude.{refl};
-    ghost use Rattle.flow_component.specs.Ports.{one_to_one, uses_first};
-    ghost use Rattle.flow_parts.specs.Fill.{FillReady, FillNext, fill_next};
-    ghost use Rattle.flow_parts.specs.FillLaws.{fill_obeys, fill_stays_ready, fill_steady};
+    ghost use Rattle.flow_parts.specs.Fill.{fill_rules};
+    ghost use Rattle.flow_parts.specs.FillLaws.{fill_lawful};
 
-    ghost shape_of = { λ _. one_to_one };
+    ghost rules = { fill_rules };
 
-    ghost uses = { λ _. uses_first };
-
-    ghost ready = { FillReady };
-
-    ghost next = { FillNext };
-
-    ghost obeys = { fill_obeys };
-
-    ghost stays_ready = { fill_stays_ready };
-
-    ghost steady = { fill_steady };
-
-    ghost has_outcome = { λ component held answer _. (fill_next component held answer, refl) };
+    ghost lawful = { fill_lawful };
 
     fn shape(&self) -> Shape {
         Shape {

@@ -6,10 +6,10 @@ use flow_component::Component;
 
 /// Told the same in the same state with the same hands, each of them comes to at most one outcome.
 pub fn each_comes_to_one_outcome()
-    ensures brackets { AtMostOneOutcome ⟦<Brackets as Component>⟧.next }
-    ensures fill { AtMostOneOutcome ⟦<Fill as Component>⟧.next }
-    ensures read_lines { AtMostOneOutcome ⟦<ReadLines as Component>⟧.next }
-    ensures words { AtMostOneOutcome ⟦<Words as Component>⟧.next }
-    ensures write_lines { AtMostOneOutcome ⟦<WriteLines as Component>⟧.next }
-    ensures count { AtMostOneOutcome ⟦<Count as Component>⟧.next }
+    ensures brackets { AtMostOneOutcome ⟦<Brackets as Component>⟧.rules }
+    ensures fill { AtMostOneOutcome ⟦<Fill as Component>⟧.rules }
+    ensures read_lines { AtMostOneOutcome ⟦<ReadLines as Component>⟧.rules }
+    ensures words { AtMostOneOutcome ⟦<Words as Component>⟧.rules }
+    ensures write_lines { AtMostOneOutcome ⟦<WriteLines as Component>⟧.rules }
+    ensures count { AtMostOneOutcome ⟦<Count as Component>⟧.rules }
 {}

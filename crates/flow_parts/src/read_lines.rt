@@ -70,26 +70,12 @@ impl ReadLines {
 }
 
 impl Component for ReadLines {
-    ghost use Rattle.std.specs.Prelude.{refl};
-    ghost use Rattle.flow_component.specs.Ports.{none_to_one, uses_first};
-    ghost use Rattle.flow_parts.specs.ReadLines.{ReadLinesReady, ReadLinesNext, reads};
-    ghost use Rattle.flow_parts.specs.ReadLinesLaws.{read_lines_obeys, read_lines_stays_ready, read_lines_steady};
+    ghost use Rattle.flow_parts.specs.ReadLines.{read_lines_rules};
+    ghost use Rattle.flow_parts.specs.ReadLinesLaws.{read_lines_lawful};
 
-    ghost shape_of = { λ _. none_to_one };
+    ghost rules = { read_lines_rules };
 
-    ghost uses = { λ _. uses_first };
-
-    ghost ready = { ReadLinesReady };
-
-    ghost next = { ReadLinesNext };
-
-    ghost obeys = { read_lines_obeys };
-
-    ghost stays_ready = { read_lines_stays_ready };
-
-    ghost steady = { read_lines_steady };
-
-    ghost has_outcome = { λ component held _ _. (reads held component, refl) };
+    ghost lawful = { read_lines_lawful };
 
     fn shape(&self) -> Shape {
         Shape {

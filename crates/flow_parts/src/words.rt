@@ -114,26 +114,12 @@ impl Words {
 }
 
 impl Component for Words {
-    ghost use Rattle.std.specs.Prelude.{refl};
-    ghost use Rattle.flow_component.specs.Ports.{one_to_one, uses_first};
-    ghost use Rattle.flow_parts.specs.Words.{WordsReady, WordsNext, words_next};
-    ghost use Rattle.flow_parts.specs.WordsLaws.{words_obeys, words_stays_ready, words_steady};
+    ghost use Rattle.flow_parts.specs.Words.{words_rules};
+    ghost use Rattle.flow_parts.specs.WordsLaws.{words_lawful};
 
-    ghost shape_of = { λ _. one_to_one };
+    ghost rules = { words_rules };
 
-    ghost uses = { λ _. uses_first };
-
-    ghost ready = { WordsReady };
-
-    ghost next = { WordsNext };
-
-    ghost obeys = { words_obeys };
-
-    ghost stays_ready = { words_stays_ready };
-
-    ghost steady = { words_steady };
-
-    ghost has_outcome = { λ component held answer _. (words_next component held answer, refl) };
+    ghost lawful = { words_lawful };
 
     fn shape(&self) -> Shape {
         Shape {

@@ -86,27 +86,12 @@ impl WriteLines {
 }
 
 impl Component for WriteLines {
-    ghost use Rattle.std.specs.Prelude.{refl};
-    ghost use Rattle.flow_component.specs.Ports.{one_to_none, uses_none};
-    ghost use Rattle.flow_component.specs.Outcomes.{IsAtHand};
-    ghost use Rattle.flow_parts.specs.WriteLines.{WriteLinesNext, writes};
-    ghost use Rattle.flow_parts.specs.WriteLinesLaws.{write_lines_obeys, write_lines_stays_ready, write_lines_steady};
+    ghost use Rattle.flow_parts.specs.WriteLines.{write_lines_rules};
+    ghost use Rattle.flow_parts.specs.WriteLinesLaws.{write_lines_lawful};
 
-    ghost shape_of = { λ _. one_to_none };
+    ghost rules = { write_lines_rules };
 
-    ghost uses = { λ _. uses_none };
-
-    ghost ready = { λ _. IsAtHand };
-
-    ghost next = { WriteLinesNext };
-
-    ghost obeys = { write_lines_obeys };
-
-    ghost stays_ready = { write_lines_stays_ready };
-
-    ghost steady = { write_lines_steady };
-
-    ghost has_outcome = { λ component held answer _. (writes component held answer, refl) };
+    ghost lawful = { write_lines_lawful };
 
     fn shape(&self) -> Shape {
         Shape {

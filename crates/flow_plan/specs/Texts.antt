@@ -1,4 +1,5 @@
 -- The texts that option ports take.
+use Rattle.flow_limits.specs.declared.TheConstants.{FILE_NAME_LIMIT}
 use Rattle.std.specs.Prelude.{◌≢◌, ℕ, ◌≤◌, ◌==◌, List, length}
 use Rattle.std.specs.List.{All, slice_split}
 use Rattle.std.specs.Str.{IsUtf8}
@@ -14,9 +15,9 @@ IsNumberWithin least most text = IsPlain text × (least ≤ number_of text) × (
 abbrev pub IsFields : List ℕ → Type 0
 IsFields text = (length (slice_split (λ b. b == 32) text) ≤ 8) × All (IsNumberWithin 1 255) (slice_split (λ b. b == 32) text)
 
--- One to 255 bytes of UTF-8 without byte 0.
+-- One to FILE_NAME_LIMIT bytes of UTF-8 without byte 0.
 abbrev pub IsFileName : List ℕ → Type 0
-IsFileName text = (1 ≤ length text) × (length text ≤ 255) × IsUtf8 text × All (λ b. b ≢ 0) text
+IsFileName text = (1 ≤ length text) × (length text ≤ FILE_NAME_LIMIT) × IsUtf8 text × All (λ b. b ≢ 0) text
 
 -- A text of a port's class. A stream port takes every text.
 abbrev pub IsOfClass : PortClass → List ℕ → Type 0

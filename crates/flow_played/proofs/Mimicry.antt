@@ -6,7 +6,7 @@ use Rattle.flow_packet.specs.Hands.{packet_at}
 use Rattle.flow_packet.specs.Held.{Held, without_packet}
 use Rattle.flow_component.specs.declared.Answer.{Answer}
 use Rattle.flow_component.specs.declared.Answer.TheVariants as answers
-use Rattle.flow_component.specs.Laws.{Outcome, Wishes, Fails, component_after}
+use Rattle.flow_component.specs.Laws.{Outcome, Wishes, Fails, component_after, Rules}
 use Rattle.flow_component.specs.Outcomes.{outcome_as}
 use Rattle.flow_own.specs.declared.tape.End.{End}
 use Rattle.flow_own.specs.declared.tape.End.TheVariants as ends
@@ -14,7 +14,7 @@ use Rattle.flow_own.specs.declared.tape.Entry.{Entry}
 use Rattle.flow_own.specs.Acts.{Made, CanMake, CanDrop, after_make}
 use Rattle.flow_own.specs.Tapes.{OwnValue, Records, NextAs, OwnNext, is_answer, can_make, can_drop, can_play, after_entry, outcome_by, differs, played as played_outcome}
 use Rattle.flow_model.specs.Replaced.{Mimics}
-use Rattle.flow_own.specs.Mixed.{Mixed, Other, Own, MixedNext}
+use Rattle.flow_own.specs.Mixed.{Mixed, Other, Own, MixedNext, mixed_rules}
 use Rattle.flow_played.specs.Played.{player_of, played_by, HasTape}
 
 same-answer : (answer : Answer) → is_answer answer answer ≡ true
@@ -133,7 +133,7 @@ came-same whole own held answer outcome c =
     ∙ ap (λ (b : Bool). if b then outcome_by moved (after_entry held entry) entry.end else differs player held) (sym can)
     ∙ ap (played_outcome player held answer place) (sym there)
 
-module _ {K : Type 0} (next : K → Held → Answer → Outcome K → Type 0) (tapes : ℕ → List Entry) where
+module _ {K : Type 0} (rules : Rules K) (tapes : ℕ → List Entry) where
   own-after : (p : ℕ) (o : Outcome OwnValue) → IsBehind {K = K} tapes p (component_after (outcome_as Own o)) → Behind (tapes p) (component_after o)
   own-after p (Wishes own held wish) h = h
   own-after p (Fails own held cause) h = h
@@ -146,21 +146,21 @@ module _ {K : Type 0} (next : K → Held → Answer → Outcome K → Type 0) (t
   other-twice p (Wishes component held wish) = refl
   other-twice p (Fails component held cause) = refl
 
-  own-came : (p : ℕ) (own : OwnValue) (held : Held) (answer : Answer) (outcome : Outcome (Mixed K)) → (n : MixedNext next (Own own) held answer outcome) → IsBehind tapes p (component_after outcome) → Came (tapes p) own held answer n.0
+  own-came : (p : ℕ) (own : OwnValue) (held : Held) (answer : Answer) (outcome : Outcome (Mixed K)) → (n : MixedNext rules (Own own) held answer outcome) → IsBehind tapes p (component_after outcome) → Came (tapes p) own held answer n.0
   own-came p own held answer outcome n h =
       came (tapes p) own.place own held answer n.0 refl n.1 (own-after p n.0 (subst (λ (o : Outcome (Mixed K)). IsBehind tapes p (component_after o)) n.2 h))
 
-  before : (p : ℕ) (component : Mixed K) (held : Held) (answer : Answer) (outcome : Outcome (Mixed K)) → MixedNext next component held answer outcome → IsBehind tapes p (component_after outcome) → IsBehind tapes p component
+  before : (p : ℕ) (component : Mixed K) (held : Held) (answer : Answer) (outcome : Outcome (Mixed K)) → MixedNext rules component held answer outcome → IsBehind tapes p (component_after outcome) → IsBehind tapes p component
   before p (Other component) held answer outcome n h = tt
   before p (Own own) held answer outcome n h = came-back (tapes p) own held answer n.0 (own-came p own held answer outcome n h)
 
-  same : (p : ℕ) (component : Mixed K) (held : Held) (answer : Answer) (outcome : Outcome (Mixed K)) → MixedNext next component held answer outcome → IsBehind tapes p (component_after outcome)
-      → MixedNext next (played_by tapes p component) held answer (outcome_as (played_by tapes p) outcome)
+  same : (p : ℕ) (component : Mixed K) (held : Held) (answer : Answer) (outcome : Outcome (Mixed K)) → MixedNext rules component held answer outcome → IsBehind tapes p (component_after outcome)
+      → MixedNext rules (played_by tapes p component) held answer (outcome_as (played_by tapes p) outcome)
   same p (Other component) held answer outcome n h = (n.0, n.1, ap (outcome_as (played_by tapes p)) n.2 ∙ other-twice p n.0)
   same p (Own own) held answer outcome n h =
       (outcome_as (player_of (tapes p)) n.0, came-same (tapes p) own held answer n.0 (own-came p own held answer outcome n h), ap (outcome_as (played_by tapes p)) n.2 ∙ own-twice p n.0)
 
-  pub mimics : Mimics (MixedNext next) (MixedNext next) (IsBehind tapes) (played_by tapes)
+  pub mimics : Mimics (mixed_rules rules) (mixed_rules rules) (IsBehind tapes) (played_by tapes)
   mimics = record { before = before; same = same }
 
   -- A part whose tape is the whole tape is behind nothing.

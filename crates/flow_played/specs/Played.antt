@@ -1,14 +1,12 @@
 -- A state with the players of tapes in the place of the parts that were recorded.
 use Rattle.std.specs.Prelude.{◌≡◌, ℕ, List, length, Some, None}
-use Rattle.flow_packet.specs.Held.{Held}
-use Rattle.flow_component.specs.declared.Answer.{Answer}
-use Rattle.flow_component.specs.Laws.{Outcome}
+use Rattle.flow_component.specs.Laws.{Rules}
 use Rattle.flow_own.specs.declared.tape.Entry.{Entry}
 use Rattle.flow_own.specs.Tapes.{OwnValue}
 use Rattle.flow_model.specs.States.{State}
 use Rattle.flow_model.specs.Schedules.{Journal, Leads}
 use Rattle.flow_model.specs.Replaced.{replaced, OfEach}
-use Rattle.flow_own.specs.Mixed.{Mixed, Other, Own, MixedNext}
+use Rattle.flow_own.specs.Mixed.{Mixed, Other, Own, mixed_rules}
 
 -- The player of a tape, at the place to which this part's tape has come.
 abbrev pub player_of : List Entry → OwnValue → OwnValue
@@ -33,6 +31,6 @@ abbrev pub TapesOf : {K : Type 0} → (ℕ → List Entry) → State (Mixed K) �
 TapesOf tapes s = OfEach (HasTape tapes) s
 
 -- What leads to a state leads to it with its players, from where these stood then.
-abbrev pub PlaysRuns : {K : Type 0} → (K → Held → Answer → Outcome K → Type 0) → Type 0
-PlaysRuns {K} next =
-    (tapes : ℕ → List Entry) (journal : Journal) (s s' : State (Mixed K)) → TapesOf tapes s' → Leads (MixedNext next) s journal s' → Leads (MixedNext next) (played tapes s) journal (played tapes s')
+abbrev pub PlaysRuns : {K : Type 0} → Rules K → Type 0
+PlaysRuns {K} rules =
+    (tapes : ℕ → List Entry) (journal : Journal) (s s' : State (Mixed K)) → TapesOf tapes s' → Leads (mixed_rules rules) s journal s' → Leads (mixed_rules rules) (played tapes s) journal (played tapes s')

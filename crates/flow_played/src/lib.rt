@@ -9,5 +9,5 @@ use flow_component::Component;
 /// Let a journal lead from one state to another in which no component of the caller's own is a player. Then it leads so from the first state
 /// to the second with the players of the tapes of the second in their places, each at the place to which its tape had come.
 pub fn a_run_is_one_of_its_players<K: Component>()
-    ensures { PlaysRuns K.next }
+    ensures { PlaysRuns K.rules }
 {}

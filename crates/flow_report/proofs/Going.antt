@@ -6,8 +6,8 @@ use Rattle.flow_model.specs.declared.Block.{Block}
 use Rattle.flow_model.specs.Verdicts.{block_of}
 use Rattle.flow_machine.specs.Values.{BodyValue, NetValue}
 use Rattle.flow_machine.specs.Nets.{looks_of, block_at}
-use Rattle.flow_cycle.specs.Nets.{has_ended}
-use Rattle.flow_report.specs.Of.{has_failed, goes_on}
+use Rattle.flow_model.specs.Stages.{has_ended, has_failed}
+use Rattle.flow_report.specs.Of.{goes_on}
 
 nor : (e f : Bool) → not (e || f) ≡ (not e && not f)
 nor true f = refl

@@ -11,6 +11,7 @@ use Rattle.flow_report.specs.declared.report.Place.{Place}
 use Rattle.flow_report.specs.declared.report.Place.TheVariants.{InChain}
 use Rattle.flow_report.specs.Left.{left_in, left_in_chains, left_in_trees, left_at, left_in_chain}
 use Rattle.flow_report.proofs.Tellings.{take-more}
+use Rattle.flow_model.proofs.Lists.{map-append}
 
 -- The packets of one chain of a packet.
 abbrev pub in_chain : ℕ → Chain → List LeftPacket
@@ -106,10 +107,6 @@ chain-whole of t at index name children start after same below named only is who
     rest ∙ ap (λ (l : List Tree). start ++ left_at (InChain name of) l) (take_all index children whole)
     ∙ ap (λ (l : List LeftPacket). start ++ l) (chain-told of (chains_of t) at name children below named only is)
     ∙ ap (λ n. start ++ left_in_chain n (slice_get (chains_of t) at)) same
-
-map-append : {A B : Type 0} (f : A → B) (xs ys : List A) → map f (xs ++ ys) ≡ map f xs ++ map f ys
-map-append f [] ys = refl
-map-append f (x ∷ xs) ys = ap (λ l. f x ∷ l) (map-append f xs ys)
 
 -- The ids of some packets that are left.
 abbrev pub ids_told : List LeftPacket → List ℕ

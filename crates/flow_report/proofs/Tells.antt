@@ -1,14 +1,9 @@
 -- The report of a net tells of each state that the net stands for.
-use Rattle.flow_limits.specs.declared.TheConstants.{PROCESS_LIMIT}
-use Rattle.std.proofs.Common.{◌≡◌, ℕ, zero, suc, ◌+◌, ◌*◌, ◌-◌, ◌^◌, ◌<◌, ◌≤◌, Bool, List, [], ◌∷◌, ◌++◌, map, length, Option, Some, None, refl, sym, ◌∙◌, ap, subst, arith, slice_get}
+use Rattle.std.proofs.Common.{◌≡◌, ℕ, suc, ◌+◌, ◌*◌, ◌-◌, ◌^◌, ◌<◌, ◌≤◌, List, [], ◌∷◌, ◌++◌, map, length, Option, Some, None, refl, sym, ◌∙◌, ap, arith, slice_get}
 use Rattle.std.specs.Prelude.{sum_by, unwrap_or}
-use Rattle.std.specs.List.{list_all, list_any, flat_map}
+use Rattle.std.specs.List.{list_all, list_any}
 use Rattle.std.proofs.lemmas.List.Sums.{sum_by-cons}
-use Rattle.flow_packet.specs.Held.{Held, held_ids}
-use Rattle.flow_packet.specs.Tree.{all_ids}
-use Rattle.flow_component.specs.declared.Answer.{Answer}
-use Rattle.flow_component.specs.declared.Shape.{Shape}
-use Rattle.flow_component.specs.Laws.{Outcome}
+use Rattle.flow_component.specs.Laws.{Rules}
 use Rattle.flow_model.specs.States.{Process, Channel, Put, State}
 use Rattle.flow_model.specs.Events.{Look, looks}
 use Rattle.flow_model.specs.Places.{places, ids_in_hands, ids_in_transit, ids_dropped, TotalsAddUp}
@@ -22,8 +17,8 @@ use Rattle.flow_cycle.specs.declared.Waits.{Waits}
 use Rattle.flow_cycle.specs.Nets.{cycle_in, IsCycleOf, FindsCycles}
 use Rattle.flow_report.specs.declared.report.LeftPacket.{LeftPacket}
 use Rattle.flow_report.specs.declared.report.Place.TheVariants.{InHands, InConnection}
-use Rattle.flow_cycle.specs.Nets.{has_ended}
-use Rattle.flow_report.specs.Of.{has_failed, goes_on, totals_in, told_from, block_told, failure_told, hands_told, transit_told, connection_told, processes_of, left_of}
+use Rattle.flow_model.specs.Stages.{has_ended, has_failed}
+use Rattle.flow_report.specs.Of.{goes_on, totals_in, told_from, block_told, failure_told, hands_told, transit_told, connection_told, processes_of, left_of}
 use Rattle.flow_report.specs.States.{connection_in, transit_in, TellsWaits, ReportsTell}
 use Rattle.flow_report.proofs.LeftLists.{ids_told, ids_told-append, ids-left_at, length-told}
 use Rattle.flow_report.proofs.Shown.{processes-shown, lines-shown, sum-processes, all-processes, any-processes, dropped_from, dropped-all, dropped-shown}
@@ -60,8 +55,8 @@ waits-tell plan s (Some cycle) is = record { cycle = λ deadlock. is.1; none = �
 waits-tell plan s None is = record { cycle = λ deadlock. absurd (is deadlock); none = λ not. refl }
 
 -- The report of a net tells of each state that the net stands for and a schedule reaches.
-pub reports-tell : {K : Type 0} (shape_of : K → Shape) (uses : K → ℕ → Bool) (ready : K → Held → Answer → Type 0) (next : K → Held → Answer → Outcome K → Type 0) → FindsCycles shape_of uses ready next → ReportsTell shape_of uses ready next
-reports-tell {K} shape_of uses ready next finds plan net s fit few reached =
+pub reports-tell : {K : Type 0} (rules : Rules K) → FindsCycles rules → ReportsTell rules
+reports-tell {K} rules finds plan net s fit few reached =
     let stands = reached.stands in
     let xs = s.kept.processes in
     let cs = s.kept.channels in
@@ -91,7 +86,7 @@ reports-tell {K} shape_of uses ready next finds plan net s fit few reached =
     ap (λ (l : List LeftPacket). ids_told l) left ∙ ids_told-append (told_from hands_told 0 xs) (told_from transit_in 0 cs) ∙ (λ i. hands-places 0 xs i ++ transit-places 0 cs i) in
     let count : length (left_of net) ≡ length (places s) = length-told (left_of net) (places s) each_place in
     record {
-      verdict = verdict-tells shape_of uses ready s
+      verdict = verdict-tells rules s
           (list_all (λ (b : BodyValue K). has_ended b.process.stage) bodies)
           (list_any (λ (b : BodyValue K). goes_on (looks_of net.channels) b.process) bodies)
           (list_any (λ (b : BodyValue K). has_failed b.process.stage) bodies)

@@ -2,14 +2,11 @@
 use Rattle.std.proofs.Common.{◌≡◌, ℕ, zero, suc, ◌<◌, Bool, true, false, List, [], ◌∷◌, length, take, Option, Some, None, refl, sym, ◌∙◌, ap, arith, slice_get}
 use Rattle.std.specs.Prelude.{◌&&◌, ◌||◌, IfSome}
 use Rattle.std.specs.List.{list_all, list_any}
+use Rattle.flow_model.proofs.Lookups.{any-there}
 
 and-false : (b : Bool) → (b && false) ≡ false
 and-false true = refl
 and-false false = refl
-
-or-true : (b : Bool) → (b || true) ≡ true
-or-true true = refl
-or-true false = refl
 
 -- One more that passes.
 pub all-more : {A : Type 0} → (f : A → Bool) (xs : List A) (k : ℕ) (x : A) → slice_get xs k ≡ Some x → f x ≡ true → list_all f (take k xs) ≡ true → list_all f (take (suc k) xs) ≡ true
@@ -36,12 +33,6 @@ any-more f (y ∷ ys) (suc k) x there is before = by (f y) (λ rest. any-more f 
     by : (b : Bool) → (list_any f (take k ys) ≡ false → list_any f (take (suc k) ys) ≡ false) → (b || list_any f (take k ys)) ≡ false → (b || list_any f (take (suc k) ys)) ≡ false
     by false later before = later before
     by true later before = absurd cc
-
--- One that does.
-pub any-there : {A : Type 0} → (f : A → Bool) (xs : List A) (k : ℕ) (x : A) → slice_get xs k ≡ Some x → f x ≡ true → list_any f xs ≡ true
-any-there f [] k x there is = absurd cc
-any-there f (y ∷ ys) zero x there is = let same : y ≡ x = cc in let first : f y ≡ true = cc in rw first refl
-any-there f (y ∷ ys) (suc k) x there is = let rest = any-there f ys k x there is in rw rest (or-true (f y))
 
 -- Where some pass, one does.
 pub any-some : {A : Type 0} → (f : A → Bool) (xs : List A) → list_any f xs ≡ true → (k : ℕ) × (x : A) × (slice_get xs k ≡ Some x) × (f x ≡ true)

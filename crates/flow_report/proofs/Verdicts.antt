@@ -1,12 +1,11 @@
 -- The verdict of a report is that on the state.
-use Rattle.std.proofs.Common.{◌≡◌, ℕ, zero, suc, ◌==◌, Bool, true, false, List, [], ◌∷◌, length, Option, Some, None, IsSome, refl, sym, ◌∙◌, ap, subst, arith, slice_get}
+use Rattle.std.proofs.Common.{◌≡◌, ℕ, suc, ◌==◌, Bool, true, false, List, [], ◌∷◌, length, Option, Some, None, IsSome, refl, sym, ◌∙◌, ap, arith, slice_get}
 use Rattle.std.specs.Prelude.{◌&&◌, ◌||◌, not}
 use Rattle.std.specs.List.{list_all, list_any}
 use Rattle.std.specs.Option.{is_none}
 use Rattle.std.proofs.lemmas.Bool.Decides.{nat_tests}
-use Rattle.flow_packet.specs.Held.{Held}
 use Rattle.flow_component.specs.declared.Answer.{Answer}
-use Rattle.flow_component.specs.declared.Shape.{Shape}
+use Rattle.flow_component.specs.Laws.{Rules}
 use Rattle.flow_model.specs.declared.Stage.{Stage}
 use Rattle.flow_model.specs.declared.Stage.TheVariants as stages
 use Rattle.flow_model.specs.declared.Block.{Block}
@@ -15,27 +14,20 @@ use Rattle.flow_model.specs.Events.{Look, looks, event_from, stage_event}
 use Rattle.flow_model.specs.Places.{places}
 use Rattle.flow_model.specs.Fit.{Fit}
 use Rattle.flow_model.specs.Verdicts.{exact_level, block_of, Quiet}
-use Rattle.flow_model.proofs.Blocks.{IsOverOrOwes, turn-or-block, block-no_turn}
-use Rattle.flow_cycle.specs.Nets.{has_ended}
-use Rattle.flow_report.specs.Of.{has_failed, goes_on, verdict_by}
+use Rattle.flow_model.proofs.Blocks.{turn-or-block, block-no_turn}
+use Rattle.flow_model.proofs.Lookups.{any-there}
+use Rattle.flow_model.specs.Stages.{has_ended, has_failed, IsOverOrOwes}
+use Rattle.flow_report.specs.Of.{goes_on, verdict_by}
 use Rattle.flow_report.specs.States.{IsVerdict}
-use Rattle.flow_report.proofs.Tests.{all-each, any-some, any-none, any-there, all-not}
+use Rattle.flow_report.proofs.Tests.{all-each, any-some, any-none}
 
 has-ended : (stage : Stage) → has_ended stage ≡ true → stage ≡ stages.Ended
 has-ended stages.Ended is = refl
-has-ended stages.Idle is = absurd cc
-has-ended (stages.Told answer) is = absurd cc
-has-ended (stages.Wishing wish) is = absurd cc
-has-ended (stages.Closing place) is = absurd cc
-has-ended (stages.Failed cause) is = absurd cc
+has-ended stage is = absurd cc
 
 has-failed : (stage : Stage) → has_failed stage ≡ true → (cause : _) × (stage ≡ stages.Failed cause)
 has-failed (stages.Failed cause) is = (cause, refl)
-has-failed stages.Idle is = absurd cc
-has-failed (stages.Told answer) is = absurd cc
-has-failed (stages.Wishing wish) is = absurd cc
-has-failed (stages.Closing place) is = absurd cc
-has-failed stages.Ended is = absurd cc
+has-failed stage is = absurd cc
 
 -- all have ended where the test says so, and not where it doesn't
 ended-all : {K : Type 0} (xs : List (Process K)) → list_all (λ x. has_ended x.stage) xs ≡ true → (k : ℕ) (x : Process K) → slice_get xs k ≡ Some x → x.stage ≡ stages.Ended
@@ -67,10 +59,7 @@ not-going {K} channels x n is = by (block_of channels x) refl is
     over : (stage : Stage) → x.stage ≡ stage → (not (has_ended stage) && not (has_failed stage) && true) ≡ false → stage_event channels x n stage ≡ None
     over stages.Ended at isn = refl
     over (stages.Failed cause) at isn = refl
-    over stages.Idle at isn = absurd (apart isn)
-    over (stages.Told answer) at isn = absurd (apart isn)
-    over (stages.Wishing wish) at isn = absurd (apart isn)
-    over (stages.Closing place) at isn = absurd (apart isn)
+    over stage at isn = absurd (apart isn)
 
     by : (b : Option Block) → block_of channels x ≡ b → (not (has_ended x.stage) && not (has_failed x.stage) && is_none b) ≡ false → event_from channels x n ≡ None
     by (Some b) at isn = block-no_turn channels x b n at
@@ -101,9 +90,9 @@ quiet-of {K} s none = record {
 }
 
 -- Where some process goes on, it isn't.
-running-of : {K : Type 0} (shape_of : K → Shape) (uses : K → ℕ → Bool) (ready : K → Held → Answer → Type 0) (s : State K) → Fit shape_of uses ready s
+running-of : {K : Type 0} (rules : Rules K) (s : State K) → Fit rules s
     → list_any (goes_on (looks s.kept.channels)) s.kept.processes ≡ true → Quiet s → ⊥
-running-of {K} shape_of uses ready s fit some quiet =
+running-of {K} rules s fit some quiet =
     let channels = looks s.kept.channels in
     let found = any-some (goes_on channels) s.kept.processes some in
     let p = found.0 in
@@ -116,19 +105,17 @@ running-of {K} shape_of uses ready s fit some quiet =
     on stages.Ended thought ended failed over = cc
     on (stages.Failed cause) thought ended failed over = cc
     on (stages.Told answer) thought ended failed over = thought answer refl
-    on stages.Idle thought ended failed over = over
-    on (stages.Wishing wish) thought ended failed over = over
-    on (stages.Closing place) thought ended failed over = over
+    on stage thought ended failed over = over
 
     unblocked : (b : Option Block) → is_none b ≡ true → IsSome b → ⊥
     unblocked (Some b) none some = cc
     unblocked None none some = absurd cc
 
 -- The verdict by these four tests is that on the state.
-pub verdict-tells : {K : Type 0} (shape_of : K → Shape) (uses : K → ℕ → Bool) (ready : K → Held → Answer → Type 0) (s : State K) (ended goes failed : Bool) (left : ℕ) → Fit shape_of uses ready s
+pub verdict-tells : {K : Type 0} (rules : Rules K) (s : State K) (ended goes failed : Bool) (left : ℕ) → Fit rules s
     → list_all (λ x. has_ended x.stage) s.kept.processes ≡ ended → list_any (goes_on (looks s.kept.channels)) s.kept.processes ≡ goes
     → list_any (λ x. has_failed x.stage) s.kept.processes ≡ failed → left ≡ length (places s) → IsVerdict s (verdict_by ended goes failed (left == 0))
-verdict-tells {K} shape_of uses ready s ended goes failed left fit ended_is goes_is failed_is left_is = by ended ended_is goes goes_is failed failed_is (left == 0) refl
+verdict-tells {K} rules s ended goes failed left fit ended_is goes_is failed_is left_is = by ended ended_is goes goes_is failed failed_is (left == 0) refl
   where
     none : (ids : List ℕ) → length ids ≡ 0 → ids ≡ []
     none [] is = refl
@@ -141,7 +128,7 @@ verdict-tells {K} shape_of uses ready s ended goes failed left fit ended_is goes
       ended-all s.kept.processes e_is,
       λ empty. let h : length (places s) ≡ 0 = ap length empty in let z : left ≡ 0 = left_is ∙ h in let bad : (left == 0) ≡ true = grind (arith, nat_tests) in cc,
     )
-    by false e_is true g_is f f_is n n_is = running-of shape_of uses ready s fit g_is
+    by false e_is true g_is f f_is n n_is = running-of rules s fit g_is
     by false e_is false g_is true f_is n n_is = (quiet-of s g_is, failed-some s.kept.processes f_is)
     by false e_is false g_is false f_is n n_is = (
       quiet-of s g_is,

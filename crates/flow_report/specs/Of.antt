@@ -1,5 +1,5 @@
 -- What a report tells of a net.
-use Rattle.std.specs.Prelude.{◌==◌, ◌+◌, ◌-◌, ◌^◌, ◌++◌, ◌&&◌, ◌||◌, not, ℕ, min, Bool, true, false, List, [], ◌∷◌, map, length, sum_by, Option, Some, None, unwrap_or, if◌then◌else◌}
+use Rattle.std.specs.Prelude.{◌==◌, ◌+◌, ◌-◌, ◌^◌, ◌++◌, ◌&&◌, ◌||◌, not, ℕ, min, Bool, List, [], ◌∷◌, map, length, sum_by, Option, Some, None, unwrap_or, if◌then◌else◌}
 use Rattle.std.specs.List.{list_all, list_any}
 use Rattle.std.specs.Option.{is_none}
 use Rattle.flow_packet.specs.Tree.{Tree, all_ids}
@@ -11,6 +11,7 @@ use Rattle.flow_model.specs.declared.Stage.TheVariants as stages
 use Rattle.flow_model.specs.declared.Block.{Block}
 use Rattle.flow_model.specs.declared.Block.TheVariants as blocks
 use Rattle.flow_model.specs.States.{Process}
+use Rattle.flow_model.specs.Stages.{has_failed, has_ended}
 use Rattle.flow_model.specs.Events.{Look}
 use Rattle.flow_model.specs.Verdicts.{block_of}
 use Rattle.flow_model.specs.Stands.{ChannelShown}
@@ -18,7 +19,7 @@ use Rattle.flow_machine.specs.Answers.{status_of}
 use Rattle.flow_machine.specs.Values.{BodyValue, NetValue}
 use Rattle.flow_machine.specs.Nets.{looks_of}
 use Rattle.flow_plan.specs.Network.{Network}
-use Rattle.flow_cycle.specs.Nets.{cycle_in, has_ended}
+use Rattle.flow_cycle.specs.Nets.{cycle_in}
 use Rattle.flow_report.specs.declared.of.Totals.{Totals}
 use Rattle.flow_report.specs.declared.report.Verdict.{Verdict}
 use Rattle.flow_report.specs.declared.report.Verdict.TheVariants.{Finished, FinishedLeft, Deadlock, Failed, Running}
@@ -38,15 +39,6 @@ use Rattle.flow_report.specs.Text.{Told}
 -- A sum, which stands still at the end of its type.
 abbrev pub capped : ℕ → ℕ
 capped n = min n (2 ^ 64 - 1)
-
--- The process has failed.
-abbrev pub has_failed : Stage → Bool
-has_failed (stages.Failed cause) = true
-has_failed stages.Idle = false
-has_failed (stages.Told answer) = false
-has_failed (stages.Wishing wish) = false
-has_failed (stages.Closing place) = false
-has_failed stages.Ended = false
 
 -- A process that has neither ended nor failed goes on where it isn't blocked: it has a turn, or a work that is still to come.
 abbrev pub goes_on : {K : Type 0} → List Look → Process K → Bool
@@ -95,11 +87,7 @@ cause_at plan p (fails.Own own) = causes.Own own
 -- What is told of a process that failed.
 abbrev pub failed_at : Network → ℕ → Stage → List Failure
 failed_at plan p (stages.Failed cause) = record { name = name_text plan p; cause = cause_at plan p cause } ∷ []
-failed_at plan p stages.Idle = []
-failed_at plan p (stages.Told answer) = []
-failed_at plan p (stages.Wishing wish) = []
-failed_at plan p (stages.Closing place) = []
-failed_at plan p stages.Ended = []
+failed_at plan p stage = []
 
 -- What the report says of a process, of what blocks it, of why it failed, and of the packets in its hands.
 abbrev pub process_told : {K : Type 0} → Network → ℕ → BodyValue K → List ProcessLine

@@ -1,10 +1,7 @@
 -- What a report tells of a state of the network machine.
 use Rattle.flow_limits.specs.declared.TheConstants.{PROCESS_LIMIT}
-use Rattle.std.specs.Prelude.{◌≡◌, ◌≢◌, ℕ, ◌≤◌, ◌+◌, ◌-◌, ◌++◌, Bool, List, [], ◌∷◌, map, length, sum_by}
-use Rattle.flow_packet.specs.Held.{Held}
-use Rattle.flow_component.specs.declared.Answer.{Answer}
-use Rattle.flow_component.specs.declared.Shape.{Shape}
-use Rattle.flow_component.specs.Laws.{Outcome}
+use Rattle.std.specs.Prelude.{◌≡◌, ◌≢◌, ℕ, ◌≤◌, ◌+◌, ◌-◌, ◌++◌, List, [], ◌∷◌, map, length, sum_by}
+use Rattle.flow_component.specs.Laws.{Rules}
 use Rattle.flow_model.specs.States.{Process, Channel, Put, State}
 use Rattle.flow_model.specs.Events.{looks}
 use Rattle.flow_model.specs.Places.{places, ids_dropped}
@@ -75,8 +72,8 @@ abbrev pub HasOneReport : {K : Type 0} → State K → Type 0
 HasOneReport s = (plan : Network) (told other : Told) → TellsOf plan s told → TellsOf plan s other → told ≡ other
 
 -- The report of a net tells of every state that the net stands for and a schedule reaches from a start of the plan, whether or not a process can go on there.
-abbrev pub ReportsTell : {K : Type 0} → (K → Shape) → (K → ℕ → Bool) → (K → Held → Answer → Type 0) → (K → Held → Answer → Outcome K → Type 0) → Type 0
-ReportsTell {K} shape_of uses ready next =
+abbrev pub ReportsTell : {K : Type 0} → Rules K → Type 0
+ReportsTell {K} rules =
     (plan : Network) (net : NetValue K) (s : State K)
-    → Fit shape_of uses ready s → length s.kept.processes ≤ PROCESS_LIMIT → IsReached shape_of uses ready next plan net s
+    → Fit rules s → length s.kept.processes ≤ PROCESS_LIMIT → IsReached rules plan net s
     → TellsOf plan s (told_of plan net)

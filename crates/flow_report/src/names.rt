@@ -4,7 +4,7 @@ ghost use Rattle.flow_report.specs.Names.{has_input, has_output, input_text, out
 
 use flow_component::Port;
 use flow_items::Text;
-use flow_net::Plan;
+use flow_plan::Plan;
 use std::alloc::{AllocError, Global};
 
 fn has_input(plan: &Plan, process: u32, input: u32) -> bool

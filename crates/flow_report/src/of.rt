@@ -3,8 +3,9 @@ ghost use Rattle.std.specs.Prelude.{◌≡◌, ◌<◌, ◌++◌, ◌==◌, ◌|
 ghost use Rattle.std.specs.List.{list_all, list_any};
 ghost use Rattle.std.specs.Option.{is_none};
 ghost use Rattle.flow_machine.specs.Nets.{block_at, looks_of};
-ghost use Rattle.flow_cycle.specs.Nets.{cycle_in, has_ended, owes_work};
-ghost use Rattle.flow_report.specs.Of.{totals_in, with_process, verdict_by, has_failed, goes_on, cause_at, failed_at, named_block, block_told, failure_told, told_from, processes_of};
+ghost use Rattle.flow_model.specs.Stages.{has_ended, owes_work, has_failed};
+ghost use Rattle.flow_cycle.specs.Nets.{cycle_in};
+ghost use Rattle.flow_report.specs.Of.{totals_in, with_process, verdict_by, goes_on, cause_at, failed_at, named_block, block_told, failure_told, told_from, processes_of};
 
 use crate::names::{input_text, name_text, output_text};
 use crate::report::{Blocked, Cause, Failure, LeftPacket, Verdict, Wait};
@@ -12,7 +13,7 @@ use flow_component::{Component, Fail};
 use flow_cycle::{Waits, cycle};
 use flow_items::{Items, Text};
 use flow_machine::{Block, Body, Net, Stage};
-use flow_net::Plan;
+use flow_plan::Plan;
 use std::alloc::{AllocError, Global};
 
 /// The sums over the processes of a network. A sum stands still at the end of its type.
@@ -92,17 +93,6 @@ fn block_of<K: Component>(net: &Net<K>, process: u32) -> Option<Block>
     }
 }
 
-// It has ended or failed.
-fn is_over(stage: Stage) -> bool
-    ensures { result ≡ (has_ended stage || has_failed stage) }
-{
-    match stage {
-        Stage::Ended => true,
-        Stage::Failed(_) => true,
-        _ => false,
-    }
-}
-
 fn is_free(block: Option<Block>) -> bool
     ensures { result ≡ is_none block }
 {
@@ -116,7 +106,7 @@ fn process_goes_on<K: Component>(net: &Net<K>, process: u32) -> bool
     requires { process < length net.now.bodies }
     ensures { IfSome (slice_get net.now.bodies process) (λ b. result ≡ goes_on (looks_of net.now.channels) b.process) }
 {
-    let over = is_over(net.body(process).stage());
+    let over = net.body(process).stage().is_over();
     let free = is_free(block_of(net, process));
     !over & free
 }

@@ -11,8 +11,8 @@ use flow_component::{Component, OwnFail};
 use flow_cycle::Waits;
 use flow_items::{Items, Text};
 use flow_machine::{Closed, Status};
-use flow_net::Plan;
 use flow_packet::PacketId;
+use flow_plan::Plan;
 use std::alloc::{AllocError, Global};
 use std::marker::Model;
 

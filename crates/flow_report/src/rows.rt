@@ -8,7 +8,7 @@ use crate::report::{ConnectionLine, LeftPacket, ProcessLine};
 use flow_component::Component;
 use flow_items::Items;
 use flow_machine::{Body, Channel, Net};
-use flow_net::Plan;
+use flow_plan::Plan;
 use std::alloc::{AllocError, Global};
 
 /// Adds the line of a process, and the packets in its hands.

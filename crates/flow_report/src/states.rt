@@ -8,7 +8,7 @@ use flow_component::Component;
 /// the machine's, each process that is blocked or has failed is named, in a deadlock the cycle of those that wait for one another is
 /// told, and the totals are the state's.
 pub fn a_report_tells_of_its_state<K: Component>()
-    ensures { ReportsTell K.shape_of K.uses K.ready K.next }
+    ensures { ReportsTell K.rules }
 {}
 
 /// One report at most tells of a state of the machine: so two networks that stand for one state, and two runs that end in it, have one report.

@@ -84,7 +84,7 @@ impl Layout {
     }
 
     /// What holds of all these places: different words lie on different lines, different things have different slots, and all are within the table. It
-    /// does nothing.
+    /// does nothing, and is there for its contract alone: no code calls it.
     pub fn lie_apart(&self)
         ensures lines { OneLineEach self.now.processes self.now.connections }
         ensures words { WordsWithin self.now.processes self.now.connections }

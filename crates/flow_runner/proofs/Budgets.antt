@@ -1,19 +1,15 @@
 -- How many turns workers made together.
-use Rattle.std.proofs.Common.{◌≡◌, ℕ, zero, suc, ◌+◌, ◌*◌, ◌<◌, ◌≤◌, Bool, true, false, cond, List, [], ◌∷◌, All, length, get_or, refl, sym, ap, subst, ◌∙◌, arith, ◌⊎◌, inl, inr}
+use Rattle.std.proofs.Common.{◌≡◌, ℕ, suc, ◌+◌, ◌*◌, ◌≤◌, Bool, true, false, cond, List, [], ◌∷◌, All, length, refl, ap, subst, ◌∙◌, arith, ◌⊎◌, inl, inr}
 use Rattle.std.specs.Prelude.{sum_by, nat_lt, ◌||◌}
 use Rattle.std.specs.List.{list_any}
 use Rattle.std.proofs.lemmas.List.Sums.{sum_by-cons}
-use Rattle.flow_packet.specs.Held.{Held as Hands}
-use Rattle.flow_component.specs.declared.Answer.{Answer}
-use Rattle.flow_component.specs.declared.Shape.{Shape}
-use Rattle.flow_component.specs.Laws.{Outcome}
+use Rattle.flow_component.specs.Laws.{Rules}
 use Rattle.flow_machine.specs.Values.{NetValue}
 use Rattle.flow_machine.specs.Logs.{Logged, turns_made}
 use Rattle.flow_floor.specs.declared.floor.Worker.{Worker}
 use Rattle.flow_floor.specs.Crew.{made_by}
-use Rattle.flow_floor.specs.Floors.{HasReadZero, SomeReadZero, IsNewWorker, turns_of}
-use Rattle.flow_floor.specs.Law.{numbered}
-use Rattle.flow_floor.specs.Plays.{insert, merge}
+use Rattle.flow_floor.specs.Floors.{SomeReadZero, IsNewWorker, turns_of}
+use Rattle.flow_floor.specs.Made.{numbered, insert, merge}
 use Rattle.flow_floor.specs.Shut.{IsShut}
 use Rattle.flow_runner.specs.Attempts.{HasMade, HasSpent}
 
@@ -72,15 +68,15 @@ module _ {K : Type 0} where
       or-true true b e = refl
       or-true false b e = e
 
-module _ {K : Type 0} (shape_of : K → Shape) (uses : K → ℕ → Bool) (ready : K → Hands → Answer → Type 0) (next : K → Hands → Answer → Outcome K → Type 0) where
-  total-made : (start net : NetValue K) (ws : List (Worker K)) → IsShut shape_of uses ready next start (made_by ws) net → turns_made net ≡ turns_made start + sum_by (λ (w : Worker K). length w.seat.me.0.made) ws
+module _ {K : Type 0} (rules : Rules K) where
+  total-made : (start net : NetValue K) (ws : List (Worker K)) → IsShut rules start (made_by ws) net → turns_made net ≡ turns_made start + sum_by (λ (w : Worker K). length w.seat.me.0.made) ws
   total-made start net ws h = omega (arith, h.total, length-numbered (turns_made start) h.log, ap (λ xs. length xs) h.turns, length-made ws)
 
   -- All workers together made no more turns than they were to make, and so many unless one read 0.
-  pub most-made : (start net : NetValue K) (ws : List (Worker K)) (n budget : ℕ) → IsShut shape_of uses ready next start (made_by ws) net → length ws ≡ n → All (HasMade budget) ws → turns_made net ≤ turns_made start + n * budget
+  pub most-made : (start net : NetValue K) (ws : List (Worker K)) (n budget : ℕ) → IsShut rules start (made_by ws) net → length ws ≡ n → All (HasMade budget) ws → turns_made net ≤ turns_made start + n * budget
   most-made start net ws n budget h count all = let t = total-made start net ws h in let m = sum-most budget ws all in let e : length ws * budget ≡ n * budget = ap (λ k. k * budget) count in omega (arith, t, m, e)
 
-  pub all-made : (start net : NetValue K) (ws : List (Worker K)) (n budget : ℕ) → IsShut shape_of uses ready next start (made_by ws) net → length ws ≡ n → All (HasMade budget) ws → (turns_made net ≡ turns_made start + n * budget) ⊎ SomeReadZero ws
+  pub all-made : (start net : NetValue K) (ws : List (Worker K)) (n budget : ℕ) → IsShut rules start (made_by ws) net → length ws ≡ n → All (HasMade budget) ws → (turns_made net ≡ turns_made start + n * budget) ⊎ SomeReadZero ws
   all-made start net ws n budget h count all = let t = total-made start net ws h in let e : length ws * budget ≡ n * budget = ap (λ k. k * budget) count in elim (sum-or budget ws all) [
     | inl z ↦ inr z
     | inr m ↦ inl (omega (arith, t, m, e))

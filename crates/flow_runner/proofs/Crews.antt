@@ -1,10 +1,7 @@
 -- What the workers come to together.
-use Rattle.std.proofs.Common.{◌≡◌, ℕ, ◌<◌, ◌++◌, Bool, List, length, take, drop, get_or, ap, ◌∙◌, subst}
+use Rattle.std.proofs.Common.{◌≡◌, ℕ, ◌<◌, ◌++◌, List, length, take, drop, get_or, ap, ◌∙◌, subst}
 use Rattle.std.proofs.Math.Seq.{take-append_seam}
-use Rattle.flow_packet.specs.Held.{Held as Hands}
-use Rattle.flow_component.specs.declared.Answer.{Answer}
-use Rattle.flow_component.specs.declared.Shape.{Shape}
-use Rattle.flow_component.specs.Laws.{Outcome}
+use Rattle.flow_component.specs.Laws.{Rules}
 use Rattle.flow_machine.specs.Values.{NetValue}
 use Rattle.flow_machine.specs.Solo.{ReachesNet}
 use Rattle.flow_floor.specs.declared.floor.Floor.{Floor}
@@ -40,7 +37,7 @@ module _ {K : Type 0} where
   pub crew-served : (floor : Floor K) (xs ys : List (Worker K)) → IsCrewOf floor xs → length ys ≡ length xs → ((i : ℕ) (d : Worker K) → i < length xs → HasServed floor (get_or xs i d) (get_or ys i d)) → IsCrewOf floor ys
   crew-served floor xs ys crew same each = crew-each floor.table.shared.table_id xs ys crew same (λ i d lt. let h = each i d lt in (h.idle, h.share))
 
-module _ {K : Type 0} (shape_of : K → Shape) (uses : K → ℕ → Bool) (ready : K → Hands → Answer → Type 0) (next : K → Hands → Answer → Outcome K → Type 0) where
+module _ {K : Type 0} (rules : Rules K) where
   -- The net of a floor that was closed is one that the opened net reaches.
-  pub shut-reaches : (start net : NetValue K) (made : List (ℕ × ℕ)) → IsShut shape_of uses ready next start made net → ReachesNet shape_of uses ready next start net
+  pub shut-reaches : (start net : NetValue K) (made : List (ℕ × ℕ)) → IsShut rules start made net → ReachesNet rules start net
   shut-reaches start net made h = record { len = h.len; goes = (h.log, h.total, h.goes) }

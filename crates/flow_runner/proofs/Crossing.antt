@@ -2,7 +2,7 @@
 -- over all of them at once meets its limits.
 use mir.Syntax.{Lifetime}
 use base.Fml.{Lft}
-use denote.Builtin.{u32, u64}
+use denote.Builtin.{u64}
 use denote.RattleType.{RattleType}
 use denote.Ref.{ShrRef}
 use denote.Param.Send.{IsSend, IsSync, sendable}
@@ -64,12 +64,9 @@ connection-sync = search (sendable, crosses) depth 20
 connections-sync : IsSync (Vec.the_row Connection.the_row Heap.the_row ghosts)
 connections-sync = search (sendable, crosses, connection-sync) depth 20
 
-rows-sync : IsSync (Vec.the_row (Vec.the_row u32 Heap.the_row ghosts) Heap.the_row ghosts)
-rows-sync = search (sendable, crosses) depth 20
-
--- A floor has the table, the plan's connections, and who is at them.
+-- A floor has the table and the plan's connections.
 pub floor-sync : (K : RattleType) (g : Component.Ghosts K.Denot) → IsSend K → IsSync (Floor.the_row K g)
-floor-sync K g s = let slot = slot-send K g s in search (sendable, table-sync, connections-sync, rows-sync) depth 20
+floor-sync K g s = let slot = slot-send K g s in search (sendable, table-sync, connections-sync) depth 20
 
 -- So may a reference to a number.
 pub number-sync : (ℓ : Lifetime) (κ : Lft) → IsSync (ShrRef ℓ κ u64)

@@ -1,5 +1,6 @@
 -- Each move of a pass keeps the rule of the line.
 use Rattle.std.proofs.Common.{◌≡◌, ◌≢◌, ℕ, zero, suc, ◌+◌, ◌-◌, ◌<◌, ◌≤◌, List, [], ◌∷◌, ◌++◌, All, length, set, sym, refl, ap, ◌∙◌, subst, arith, ⊎_elim, length-append, Option, Some, None}
+use Rattle.flow_limits.specs.declared.TheConstants.{WORKER_LIMIT}
 use Rattle.std.specs.Prelude.{sum_by, MatchOption}
 use Rattle.std.proofs.lemmas.List.Elements.{All-append}
 use Rattle.std.proofs.lemmas.List.Sums.{sum_by-cons, sum_by-append, sum_by_push}
@@ -67,11 +68,11 @@ inside (u ∷ us) zero v at = omega arith
 inside (u ∷ us) (suc j) v at = let r = inside us j v at in omega (arith, r)
 
 -- A new line keeps the rule.
-pub begins : Fair [] (hand 0 32 [] [] ∷ [])
+pub begins : Fair [] (hand 0 WORKER_LIMIT [] [] ∷ [])
 begins = record { most = 0; parts = refl; each = each; within = λ k d lt. absurd (omega (arith, lt)); room = omega arith; balanced = λ h. refl }
   where
-    each : (j : ℕ) (v : Hand) → get_elem? (hand 0 32 [] [] ∷ []) j ≡ some v → Knows 0 v
-    each zero v at = subst (Knows 0) (some-injective (hand 0 32 [] []) v at) ((λ _. refl), (λ none. absurd (omega (arith, none))))
+    each : (j : ℕ) (v : Hand) → get_elem? (hand 0 WORKER_LIMIT [] [] ∷ []) j ≡ some v → Knows 0 v
+    each zero v at = subst (Knows 0) (some-injective (hand 0 WORKER_LIMIT [] []) v at) ((λ _. refl), (λ none. absurd (omega (arith, none))))
     each (suc j) v at = absurd (some-ne-none v (sym at))
 
 -- A push keeps it.
@@ -109,11 +110,11 @@ pub learns : (port : ℕ) (v : Hand) → Learns Fair port v (Was v)
 learns port v items views f at = (views, port, f, at)
 
 -- The first pass learns for how many processes the line is.
-pub sizes : (n port : ℕ) (v : Hand) → v ≡ hand 0 32 [] [] → Forks Fair port v (hand n v.parts v.put v.taken) (hand 0 0 [] [])
+pub sizes : (n port : ℕ) (v : Hand) → v ≡ hand 0 WORKER_LIMIT [] [] → Forks Fair port v (hand n v.parts v.put v.taken) (hand 0 0 [] [])
 sizes n port v is items views f at =
     let l : Hand = hand n v.parts v.put v.taken in
     let r : Hand = hand 0 0 [] [] in
-    let all : v.parts ≡ 32 = ap (λ (u : Hand). u.parts) is in
+    let all : v.parts ≡ WORKER_LIMIT = ap (λ (u : Hand). u.parts) is in
     let none_yet : v.most ≡ 0 = ap (λ (u : Hand). u.most) is in
     let vs = set views port l in
     let most : v.most ≡ f.most = (f.each port v at).0 (omega (arith, all)) in
@@ -172,7 +173,7 @@ merges port v other u part items views f at two at' =
     }
 
 -- A pass with all parts knows the whole.
-pub alone : (v : Hand) (items : List ℕ) → Was v items → v.parts ≡ 32 → (h : ℕ → ℕ) → sum_by h v.put ≡ sum_by h v.taken + sum_by h items
+pub alone : (v : Hand) (items : List ℕ) → Was v items → v.parts ≡ WORKER_LIMIT → (h : ℕ → ℕ) → sum_by h v.put ≡ sum_by h v.taken + sum_by h items
 alone v items (views, j, f, at) all h =
     let bare = λ (k : ℕ) (u : Hand) (e : get_elem? views k ≡ some u) (none : u.parts ≡ 0). (f.each k u e).1 none in
     let put = total_alone (λ (u : Hand). sum_by h u.put) views j v (λ u none empty. ap (sum_by h) empty.0) bare at (f.parts ∙ sym all) in
@@ -182,7 +183,7 @@ ones : (xs : List ℕ) → sum_by (λ _. 1) xs ≡ length xs
 ones [] = refl
 ones (x ∷ xs) = let r = ones xs in omega (arith, r, sum_by-cons (λ (_ : ℕ). 1) x xs)
 
-pub alone-long : (v : Hand) (items : List ℕ) → Was v items → v.parts ≡ 32 → length v.put ≡ length v.taken + length items
+pub alone-long : (v : Hand) (items : List ℕ) → Was v items → v.parts ≡ WORKER_LIMIT → length v.put ≡ length v.taken + length items
 alone-long v items was all = omega (arith, alone v items was all (λ _. 1), ones v.put, ones v.taken, ones items)
 
 -- The line holds no more numbers than processes.
@@ -190,24 +191,24 @@ pub room-of : (v : Hand) (items : List ℕ) → Was v items → 0 < v.parts → 
 room-of v items (views, j, f, at) part = let most = (f.each j v at).0 part in omega (arith, f.room, most)
 
 -- what the only pass knows of an answer to a push, and to a pop
-pub put-alone : (v w : Hand) (x : ℕ) → Put v x w → v.parts ≡ 32 → length v.put < length v.taken + v.most
+pub put-alone : (v w : Hand) (x : ℕ) → Put v x w → v.parts ≡ WORKER_LIMIT → length v.put < length v.taken + v.most
 put-alone v w x h all =
     let now = h.0 in
     let l = alone-long w (h.1.0 ++ x ∷ []) h.1.2 (ap (λ (u : Hand). u.parts) now ∙ all) in
     omega (arith, l, h.1.1, ap (λ (u : Hand). length u.put) now, ap (λ (u : Hand). length u.taken) now, length-append v.put (x ∷ []), length-append h.1.0 (x ∷ []))
 
-pub full-alone : (v : Hand) (n : ℕ) → Held n (Was v) → v.parts ≡ 32 → length v.put ≡ length v.taken + n
+pub full-alone : (v : Hand) (n : ℕ) → Held n (Was v) → v.parts ≡ WORKER_LIMIT → length v.put ≡ length v.taken + n
 full-alone v n h all = let l = alone-long v h.0 h.2 all in omega (arith, l, h.1)
 
-pub taken-alone : (v w : Hand) (x : ℕ) → Taken v x w → v.parts ≡ 32 → length v.taken < length v.put
+pub taken-alone : (v w : Hand) (x : ℕ) → Taken v x w → v.parts ≡ WORKER_LIMIT → length v.taken < length v.put
 taken-alone v w x h all = let l = alone-long v (x ∷ h.2.0) h.2.1 all in omega (arith, l)
 
-pub popped-alone : (o : Option ℕ) (v w : Hand) → MatchOption o ((w ≡ v) × Held 0 (Was v)) (λ x. Taken v x w) → v.parts ≡ 32 → MatchOption o (length v.put ≡ length v.taken) (λ _. length v.taken < length v.put)
+pub popped-alone : (o : Option ℕ) (v w : Hand) → MatchOption o ((w ≡ v) × Held 0 (Was v)) (λ x. Taken v x w) → v.parts ≡ WORKER_LIMIT → MatchOption o (length v.put ≡ length v.taken) (λ _. length v.taken < length v.put)
 popped-alone None v w h all = (let l = full-alone v 0 h.1 all in omega (arith, l))
 popped-alone (Some x) v w h all = taken-alone v w x h all
 
 -- where the line is empty the only pass has popped what it pushed
-pub none-left : (v : Hand) → Held 0 (Was v) → v.parts ≡ 32 → (h : ℕ → ℕ) → sum_by h v.put ≡ sum_by h v.taken
+pub none-left : (v : Hand) → Held 0 (Was v) → v.parts ≡ WORKER_LIMIT → (h : ℕ → ℕ) → sum_by h v.put ≡ sum_by h v.taken
 none-left v (items, none_there, was) all h = by items none_there was
   where
     by : (items : List ℕ) → length items ≡ 0 → Was v items → sum_by h v.put ≡ sum_by h v.taken
@@ -215,5 +216,5 @@ none-left v (items, none_there, was) all h = by items none_there was
     by (x ∷ xs) none_there was = absurd (omega (arith, none_there))
 
 -- The line holds no more numbers than processes, so the only pass has pushed no more than so many beyond what it popped.
-pub few-left : (v : Hand) → ((items : List ℕ) × Was v items) → v.parts ≡ 32 → length v.put ≤ length v.taken + v.most
+pub few-left : (v : Hand) → ((items : List ℕ) × Was v items) → v.parts ≡ WORKER_LIMIT → length v.put ≤ length v.taken + v.most
 few-left v h all = let l = alone-long v h.0 h.1 all in let r = room-of v h.0 h.1 (omega (arith, all)) in omega (arith, l, r)

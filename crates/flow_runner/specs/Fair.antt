@@ -1,5 +1,6 @@
 -- The rule of the ready line.
 use Rattle.std.specs.Prelude.{◌≡◌, ℕ, ◌+◌, ◌<◌, ◌≤◌, ◌==◌, List, [], ◌∷◌, ◌++◌, All, length, sum_by, count_by}
+use Rattle.flow_limits.specs.declared.TheConstants.{WORKER_LIMIT}
 use mathlib.Core.Option.{some}
 use lib.ListN.{get_elem?}
 use Rattle.flow_runner.specs.declared.line.Hand.{Hand}
@@ -19,7 +20,7 @@ Knows most v = (0 < v.parts → v.most ≡ most) × (v.parts ≡ 0 → (v.put �
 -- however the numbers are weighed; all are numbers of processes, and there are no more of them than processes.
 pub record Fair (items : List ℕ) (views : List Hand) : Type 0 where
   pub most : ℕ
-  pub parts : sum_by (λ (v : Hand). v.parts) views ≡ 32
+  pub parts : sum_by (λ (v : Hand). v.parts) views ≡ WORKER_LIMIT
   pub each : (j : ℕ) (v : Hand) → get_elem? views j ≡ some v → Knows most v
   pub within : All (λ x. x < most) items
   pub room : length items ≤ most

@@ -60,7 +60,7 @@ pub fn run<K: Component + Send, G: Gate + Sync, R: Threads + Wait + Sync>(
 ) -> Result<Closed<K>, RunStop>
     requires least { 1 ≤ workers }
     requires most { workers ≤ WORKER_LIMIT }
-    ensures reaches { IfOk result (λ closed. ReachesNet K.shape_of K.uses K.ready K.next net closed.net) }
+    ensures reaches { IfOk result (λ closed. ReachesNet K.rules net closed.net) }
     ensures starved { IfOk result (λ closed. AllUnset closed.net closed.starved.items) }
     ensures quiet { IfOk result (λ closed. closed.starved.items ≡ [] → IsQuietNet closed.net) }
 {

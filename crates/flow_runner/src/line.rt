@@ -7,8 +7,8 @@ use crossbeam_queue::{Pass, RuledArrayQueue};
 use std::collections::LinkedList;
 use std::marker::{Brand, PhantomData};
 
-/// What a pass knows: of its line how many processes there are, its parts of the right to know the whole, of which all passes have 32, and what it
-/// pushed and popped. No value of it is made.
+/// What a pass knows: of its line how many processes there are, its parts of the right to know the whole, of which all passes together have
+/// `WORKER_LIMIT`, and what it pushed and popped. No value of it is made.
 pub struct Hand {
     pub most: u64,
     pub parts: u64,
@@ -21,11 +21,12 @@ pub struct Fairly;
 
 impl Protocol<u32, Hand> for Fairly {
     ghost use Rattle.std.specs.Prelude.{[]};
+    ghost use Rattle.flow_limits.specs.declared.TheConstants.{WORKER_LIMIT};
     ghost use Rattle.flow_runner.specs.Fair.{Fair, hand};
 
     ghost holds = { Fair };
 
-    ghost first = { hand 0 32 [] [] };
+    ghost first = { hand 0 WORKER_LIMIT [] [] };
 }
 
 /// How many processes a line is for. Each call picks it.

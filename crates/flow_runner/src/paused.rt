@@ -95,7 +95,7 @@ pub fn run_for<K: Component + Send, G: Gate + Sync, R: Threads + Wait + Sync>(
     requires least { 1 ≤ workers }
     requires most { workers ≤ WORKER_LIMIT }
     requires budget { 1 ≤ budget }
-    ensures reaches { IfOk result (λ closed. ReachesNet K.shape_of K.uses K.ready K.next net closed.net) }
+    ensures reaches { IfOk result (λ closed. ReachesNet K.rules net closed.net) }
     ensures starved { IfOk result (λ closed. AllUnset closed.net closed.starved.items) }
     ensures most { IfOk result (λ closed. turns_made closed.net ≤ turns_made net + workers * budget) }
     ensures spent { IfOk result (λ closed. (turns_made closed.net ≡ turns_made net + workers * budget) ⊎ (closed.starved.items ≡ [] → IsQuietNet closed.net)) }

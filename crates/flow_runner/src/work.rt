@@ -1,5 +1,6 @@
 //! What a worker does with one process.
 ghost use Rattle.flow_floor.specs.Floors.{IsHeldAt, IsIdleAt, IsSameWorker, IsWiredAt, process_count, turns_of};
+ghost use Rattle.flow_machine.specs.Thoughts.{PassesFirst};
 ghost use Rattle.flow_runner.specs.Attempts.{Adds, MayGo, Spends};
 ghost use Rattle.std.specs.Prelude.{◌≡◌, ◌<◌};
 
@@ -29,13 +30,14 @@ fn try_turn<K: Component, G: Gate>(
     held: &mut Held<K>,
     gate: &G,
 ) -> Attempt
-    requires held { IsHeldAt K.next floor.now worker.old held.old }
+    requires held { IsHeldAt K.rules floor.now worker.old held.old }
     requires wired { IsWiredAt floor.now held.old }
-    ensures held { IsHeldAt K.next floor.now worker.new held.new }
+    ensures held { IsHeldAt K.rules floor.now worker.new held.new }
     ensures wired { IsWiredAt floor.now held.new }
     ensures may { MayGo floor.now worker.new held.new result }
     ensures same { IsSameWorker worker.old worker.new }
     ensures adds { Adds result (turns_of worker.old) (turns_of worker.new) }
+    ensures passed { PassesFirst (G.has_passed gate.now) held.old.body }
 {
     match held.think(gate) {
         Thought::Wishing => match floor.turn(worker, held) {
@@ -57,9 +59,9 @@ fn work<K: Component, G: Gate>(
     gate: &G,
     left: &mut u64,
 ) -> Attempt
-    requires held { IsHeldAt K.next floor.now worker.old held.old }
+    requires held { IsHeldAt K.rules floor.now worker.old held.old }
     requires wired { IsWiredAt floor.now held.old }
-    ensures held { IsHeldAt K.next floor.now worker.new held.new }
+    ensures held { IsHeldAt K.rules floor.now worker.new held.new }
     ensures may { MayGo floor.now worker.new held.new result }
     ensures same { IsSameWorker worker.old worker.new }
     ensures spends { Spends (turns_of worker.old) left.old (turns_of worker.new) left.new }
@@ -80,7 +82,7 @@ fn work<K: Component, G: Gate>(
 
 /// Lets the process go, as the last attempt asks for: blocked, it is parked; over, it is retired; else it is ready for the next worker.
 fn let_go<K: Component>(floor: &Floor<K>, worker: &mut Worker<K>, held: Held<K>, last: Attempt)
-    requires held { IsHeldAt K.next floor.now worker.old held }
+    requires held { IsHeldAt K.rules floor.now worker.old held }
     requires may { MayGo floor.now worker.old held last }
     ensures idle { IsIdleAt floor.now worker.new }
     ensures same { IsSameWorker worker.old worker.new }

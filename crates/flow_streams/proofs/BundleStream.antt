@@ -17,7 +17,7 @@ use Rattle.flow_component.specs.Runs.{Poise, fresh, Steps, Runs, got, sent}
 use Rattle.flow_component.proofs.Lone.{HoldsOnly-kind, HoldsOnly-text, HoldsOnly-end}
 use Rattle.flow_component.proofs.Streams.{Comes-packets, content-kind, content-text, one-alone}
 use Rattle.flow_component.proofs.Wished.{port_of, id_in}
-use Rattle.flow_streams.specs.Bundle.{items, deeper, begins, gathers, ends_bundle, bundles, BundleNext, BundleReady, HoldsTwo}
+use Rattle.flow_streams.specs.Bundle.{items, deeper, begins, gathers, ends_bundle, bundles, HoldsTwo, bundle_rules}
 use Rattle.flow_streams.specs.BundleLaws.{renewed, two-gone, two-gathered}
 use Rattle.flow_streams.specs.declared.bundle.Bundle.{Bundle}
 use Rattle.flow_streams.specs.declared.bundle.Bundle.TheVariants as components
@@ -84,7 +84,7 @@ Leads (In id bundle depth) es = sent 0 es ≡ bundled (Inside (content bundle) d
 Leads (Passing t) es = sent 0 es ≡ content t ∷ bundled Outside (got 0 es)
 
 abbrev Rec : List Happening → Poise Bundle → Type 0
-Rec es q = (p : Poise Bundle) (phase : Phase) → Stands p phase → Runs BundleReady BundleNext p es q → Leads phase es
+Rec es q = (p : Poise Bundle) (phase : Phase) → Stands p phase → Runs bundle_rules p es q → Leads phase es
 
 rests-port : (p : Poise Bundle) (port : ℕ) → Rests p → p.wish ≡ wishes.Receive (record { 0 = port }) → port ≡ 0
 rests-port p port (inl a) b = ap port_of (sym b ∙ a)
@@ -96,7 +96,7 @@ rests-not p port id (inr a) b = let h : wishes.Send (record { 0 = port }) id ≡
 
 -- A packet comes
 
-passes : (es : List Happening) (m q : Poise Bundle) (t : Tree) (held : Held) → held.packets ≡ t ∷ [] → Wishes m.component m.held m.wish ≡ Wishes components.Outside held (send_first (id_of t)) → Runs BundleReady BundleNext m es q → Rec es q
+passes : (es : List Happening) (m q : Poise Bundle) (t : Tree) (held : Held) → held.packets ≡ t ∷ [] → Wishes m.component m.held m.wish ≡ Wishes components.Outside held (send_first (id_of t)) → Runs bundle_rules m es q → Rec es q
     → sent 0 es ≡ content t ∷ bundled Outside (got 0 es)
 passes es m q t held alone comes r rec =
     let component : m.component ≡ components.Outside = cc in
@@ -104,7 +104,7 @@ passes es m q t held alone comes r rec =
     let wish : m.wish ≡ send_first (id_of t) = cc in
     rec m (Passing t) (component, wish, ap (λ (h : Held). h.packets) hands ∙ alone) r
 
-comes-out : (es : List Happening) (m q : Poise Bundle) (t : Tree) (held : Held) (h : HoldsOnly held (id_of t)) (kind : Kind) → held.packets ≡ t ∷ [] → Wishes m.component m.held m.wish ≡ bundles components.Outside held (id_of t) kind → Runs BundleReady BundleNext m es q → Rec es q
+comes-out : (es : List Happening) (m q : Poise Bundle) (t : Tree) (held : Held) (h : HoldsOnly held (id_of t)) (kind : Kind) → held.packets ≡ t ∷ [] → Wishes m.component m.held m.wish ≡ bundles components.Outside held (id_of t) kind → Runs bundle_rules m es q → Rec es q
     → text_at held.packets (id_of t) ≡ text_of (content t) → sent 0 es ≡ leaves_with Outside (content t) kind ++ bundled (around_after Outside (content t) kind) (got 0 es)
 comes-out es m q t held h Normal alone comes r rec text = passes es m q t held alone comes r rec
 comes-out es m q t held h Close alone comes r rec text = passes es m q t held alone comes r rec
@@ -118,7 +118,7 @@ comes-out es m q t held h Open alone comes r rec text =
     rec m (In (next_id held) (packet_of (next_id held) Normal new []) 1) (component, inl wish, one) r ∙ ap (λ (s : List ℕ). bundled (Inside (packet_of 0 Normal s []) 1) (got 0 es)) text
 
 gathers-in : (es : List Happening) (m q : Poise Bundle) (id depth depth' : ℕ) (u t : Tree) (held : Held) (h : HoldsTwo held id (id_of t)) (b : Bool) → h.first ≡ u → h.second ≡ t
-    → Wishes m.component m.held m.wish ≡ (if b then Fails (components.Inside id depth) held TreeDepth else Wishes (components.Inside id depth') (record held { packets = attached held.packets id items (id_of t) }) receive_first) → Runs BundleReady BundleNext m es q → Rec es q
+    → Wishes m.component m.held m.wish ≡ (if b then Fails (components.Inside id depth) held TreeDepth else Wishes (components.Inside id depth') (record held { packets = attached held.packets id items (id_of t) }) receive_first) → Runs bundle_rules m es q → Rec es q
     → sent 0 es ≡ bundled (Inside (with_item (content u) (content t)) depth') (got 0 es)
 gathers-in es m q id depth depth' u t held h true first second comes r rec = absurd (cc)
 gathers-in es m q id depth depth' u t held h false first second comes r rec =
@@ -128,7 +128,7 @@ gathers-in es m q id depth depth' u t held h false first second comes r rec =
     let one : m.held.packets ≡ with_item u t ∷ [] = ap (λ (x : Held). x.packets) hands ∙ two-gathered held id (id_of t) h ∙ (λ i. with_item (first i) (second i) ∷ []) in
     rec m (In id (with_item u t) depth') (component, inl wish, one) r ∙ ap (λ (x : Tree). bundled (Inside x depth') (got 0 es)) (item-content u t)
 
-ends-in : (es : List Happening) (m q : Poise Bundle) (id : ℕ) (u t : Tree) (held : Held) (h : HoldsTwo held id (id_of t)) → h.first ≡ u → Wishes m.component m.held m.wish ≡ ends_bundle held id (id_of t) → Runs BundleReady BundleNext m es q → Rec es q
+ends-in : (es : List Happening) (m q : Poise Bundle) (id : ℕ) (u t : Tree) (held : Held) (h : HoldsTwo held id (id_of t)) → h.first ≡ u → Wishes m.component m.held m.wish ≡ ends_bundle held id (id_of t) → Runs bundle_rules m es q → Rec es q
     → sent 0 es ≡ content u ∷ bundled Outside (got 0 es)
 ends-in es m q id u t held h first comes r rec =
     let component : m.component ≡ components.Outside = cc in
@@ -138,7 +138,7 @@ ends-in es m q id u t held h first comes r rec =
     rec m (Passing u) (component, wish ∙ ap send_first named, ap (λ (x : Held). x.packets) hands ∙ two-gone held id (id_of t) h ∙ ap (λ (x : Tree). x ∷ []) first) r
 
 comes-in : (es : List Happening) (m q : Poise Bundle) (id depth : ℕ) (u t : Tree) (held : Held) (h : HoldsTwo held id (id_of t)) (kind : Kind) → h.first ≡ u → h.second ≡ t → Wishes m.component m.held m.wish ≡ bundles (components.Inside id depth) held (id_of t) kind
-    → Runs BundleReady BundleNext m es q → Rec es q → sent 0 es ≡ leaves_with (Inside (content u) depth) (content t) kind ++ bundled (around_after (Inside (content u) depth) (content t) kind) (got 0 es)
+    → Runs bundle_rules m es q → Rec es q → sent 0 es ≡ leaves_with (Inside (content u) depth) (content t) kind ++ bundled (around_after (Inside (content u) depth) (content t) kind) (got 0 es)
 comes-in es m q id depth u t held h Normal first second comes r rec = gathers-in es m q id depth depth u t held h (height_at held.packets (id_of t) == 16) first second comes r rec
 comes-in es m q id depth u t held h Open first second comes r rec = gathers-in es m q id depth (deeper depth) u t held h (height_at held.packets (id_of t) == 16) first second comes r rec
 comes-in es m q id depth u t held h Close first second comes r rec = by (nat_lt 1 depth) comes
@@ -152,9 +152,9 @@ two-are : (held : Held) (u t : Tree) (id : ℕ) (h : HoldsTwo held id (id_of t))
 two-are held u t id h e = let s : h.first ∷ h.second ∷ [] ≡ u ∷ t ∷ [] = sym h.holds ∙ e in (cc, cc)
 
 abbrev Step : Poise Bundle → Happening → Poise Bundle → Type 0
-Step p e m = Steps BundleReady BundleNext p e m
+Step p e m = Steps bundle_rules p e m
 
-step : (es : List Happening) (p m q : Poise Bundle) (e : Happening) (phase : Phase) → Stands p phase → Step p e m → Runs BundleReady BundleNext m es q → Rec es q → Leads phase (e ∷ es)
+step : (es : List Happening) (p m q : Poise Bundle) (e : Happening) (phase : Phase) → Stands p phase → Step p e m → Runs bundle_rules m es q → Rec es q → Leads phase (e ∷ es)
 step es p m q Started Out st s r rec =
     let c : Wishes m.component m.held m.wish ≡ Wishes p.component s.held receive_first = s.comes_to in
     let component : m.component ≡ p.component = cc in

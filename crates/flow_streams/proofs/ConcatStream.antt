@@ -13,7 +13,7 @@ use Rattle.flow_component.proofs.Lone.{HoldsOnly-end}
 use Rattle.flow_component.proofs.Streams.{Comes-packets, one-alone}
 use Rattle.flow_component.proofs.Ends.{heard-now, heard-later}
 use Rattle.flow_component.proofs.Wished.{port_of, id_in}
-use Rattle.flow_streams.specs.Concat.{ConcatState, receive_at, ends, ConcatNext, ConcatReady}
+use Rattle.flow_streams.specs.Concat.{ConcatState, receive_at, ends, concat_rules}
 use Rattle.flow_streams.specs.Meanings.{fresh_concat, got_from, ConcatMeaning}
 
 -- a happening that brings nothing at these inputs
@@ -66,14 +66,14 @@ Leads k r (Passing t) es = Makes k r (content t ∷ []) es
 Leads k r Over es = es ≡ []
 
 abbrev Step : Poise ConcatState → Happening → Poise ConcatState → Type 0
-Step p e m = Steps ConcatReady ConcatNext p e m
+Step p e m = Steps concat_rules p e m
 
 abbrev Rec : ℕ → List Happening → Poise ConcatState → Type 0
-Rec n es q = (k r : ℕ) → n ≡ k + r + 1 → (before : List Happening) (p : Poise ConcatState) (phase : Phase) → Stands k r before p phase → Runs ConcatReady ConcatNext p es q → Wakes n before es → Leads k r phase es
+Rec n es q = (k r : ℕ) → n ≡ k + r + 1 → (before : List Happening) (p : Poise ConcatState) (phase : Phase) → Stands k r before p phase → Runs concat_rules p es q → Wakes n before es → Leads k r phase es
 
 -- the end of an input
 after-end : (n k r : ℕ) → n ≡ k + r + 1 → (es before : List Happening) (p m q : Poise ConcatState) (held : Held) (b : Bool) → nat_lt (k + 1) (k + r + 1) ≡ b → ((i : ℕ) → i < k → HeardEnd i before) → Wishes m.component m.held m.wish ≡ ends b (at_input k r) held
-    → Runs ConcatReady ConcatNext m es q → Wakes n (before ++ Ended k ∷ []) es → Rec n es q → Makes k r [] (Ended k ∷ es)
+    → Runs concat_rules m es q → Wakes n (before ++ Ended k ∷ []) es → Rec n es q → Makes k r [] (Ended k ∷ es)
 after-end n k zero c es before p m q held true t heard comes r w rec = absurd (let l : k + 1 < k + 0 + 1 = grind (arith, nat_tests) in omega arith)
 after-end n k (suc r') c es before p m q held true t heard comes r w rec =
     let c' : n ≡ k + 1 + r' + 1 = omega arith in
@@ -124,7 +124,7 @@ after-end n k r c es before p m q held false t heard comes run w rec =
         by true u = heard-later i before (Ended k) (heard i (let v : i < k = grind (arith, nat_tests) in v))
         by false u = heard-now i before (Ended k) (let v : k ≤ i = grind (arith, nat_tests) in let less : k + r + 1 ≤ k + 1 = grind (arith, nat_tests) in let e : k ≡ i = omega arith in e)
 
-step : (n k r : ℕ) → n ≡ k + r + 1 → (es before : List Happening) (p m q : Poise ConcatState) (e : Happening) (phase : Phase) → Stands k r before p phase → Step p e m → Runs ConcatReady ConcatNext m es q → Wakes n before (e ∷ es) → Rec n es q → Leads k r phase (e ∷ es)
+step : (n k r : ℕ) → n ≡ k + r + 1 → (es before : List Happening) (p m q : Poise ConcatState) (e : Happening) (phase : Phase) → Stands k r before p phase → Step p e m → Runs concat_rules m es q → Wakes n before (e ∷ es) → Rec n es q → Leads k r phase (e ∷ es)
 step n k r c es before p m q Started Receiving st s run w rec = absurd (let h : wishes.Deactivate ≡ receive_at k = sym s.grants.0 ∙ st.0 in cc)
 step n k r c es before p m q (Received port t) Receiving st s run w rec =
     let h : wishes.Receive (record { 0 = port }) ≡ receive_at k = sym s.grants.0 ∙ st.0 in
@@ -189,7 +189,7 @@ concat_run : (n : ℕ) (es : List Happening) (q : Poise ConcatState) → q.wish 
 concat_run n [] q d k r c before p phase st run w = ends-run k r before p q phase st run d
 concat_run n (e ∷ es) q d k r c before p phase st run w = step n k r c es before p run.0 q e phase st run.1 run.2 w (concat_run n es q d)
 
-begun : (n : ℕ) (e : Happening) (es : List Happening) (p m q : Poise ConcatState) → p ≡ fresh (fresh_concat (n + 1)) p.held.maker → Step p e m → Runs ConcatReady ConcatNext m es q → q.wish ≡ wishes.Deactivate → Wakes (n + 1) [] (e ∷ es)
+begun : (n : ℕ) (e : Happening) (es : List Happening) (p m q : Poise ConcatState) → p ≡ fresh (fresh_concat (n + 1)) p.held.maker → Step p e m → Runs concat_rules m es q → q.wish ≡ wishes.Deactivate → Wakes (n + 1) [] (e ∷ es)
     → (sent 0 (e ∷ es) ≡ got_from 0 (n + 1) (e ∷ es)) × (starts (e ∷ es) ≤ 1) × (e ∷ es ≢ [] → (i : ℕ) → i ≤ n → HeardEnd i (e ∷ es))
 begun n Started es p m q is s r d w =
     let comes : Wishes m.component m.held m.wish ≡ Wishes (fresh_concat (n + 1)) s.held (receive_at 0) = s.comes_to ∙ ap (λ (u : Poise ConcatState). Wishes u.component s.held (receive_at u.component.at)) is in

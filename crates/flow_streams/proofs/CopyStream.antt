@@ -17,8 +17,8 @@ use Rattle.flow_component.proofs.Lone.{HoldsOnly-packet_at, HoldsOnly-text, Hold
 use Rattle.flow_component.proofs.Streams.{owed-to, Comes-packets, contents_in, content-kind, content-text, port_below_one}
 use Rattle.flow_streams.specs.declared.copy.CopyPlace.{CopyPlace}
 use Rattle.flow_streams.specs.declared.copy.CopyPlace.TheVariants.{Waiting, Copying}
-use Rattle.flow_streams.specs.Copy.{CopyState, send_at, copies, goes_on, CopyNext, CopyReady, IsReadyOn}
-use Rattle.flow_streams.specs.CopyLaws.{copy_obeys, next-count}
+use Rattle.flow_streams.specs.Copy.{CopyState, send_at, copies, goes_on, IsReadyOn, copy_rules}
+use Rattle.flow_streams.specs.CopyLaws.{next-count, copy_lawful}
 use Rattle.flow_streams.specs.Meanings.{fresh_copy, share, CopyMeaning}
 
 -- how many outputs there are, and the output of which is spoken
@@ -99,13 +99,13 @@ module _ (n o : ℕ) where
       found true = rw (HoldsOnly-packet_at held id r.0) refl
       found false = refl
 
-  stays : (p : Poise CopyState) (e : Happening) (q : Poise CopyState) → Good p → Steps CopyReady CopyNext p e q → Good q
+  stays : (p : Poise CopyState) (e : Happening) (q : Poise CopyState) → Good p → Steps copy_rules p e q → Good q
   stays p e q g s =
-      let lawful = copy_obeys p.component s.held (answer_of e) (Wishes q.component q.held q.wish) s.is_ready s.comes_to in
+      let obeys = copy_lawful.obeys p.component s.held (answer_of e) (Wishes q.component q.held q.wish) s.is_ready s.comes_to in
       let count : q.component.count ≡ p.component.count = ap (λ (out : Outcome CopyState). (Rattle.flow_component.specs.Laws.component_after out).count) s.comes_to ∙ next-count p.component s.held (answer_of e) in
-      (count ∙ g.0, subst (λ (k : ℕ). IsAllowed (record { inputs = 1; outputs = k }) (λ port. nat_lt port k) q.held q.wish) g.0 lawful.1)
+      (count ∙ g.0, subst (λ (k : ℕ). IsAllowed (record { inputs = 1; outputs = k }) (λ port. nat_lt port k) q.held q.wish) g.0 obeys.1)
 
-  step : (p : Poise CopyState) (e : Happening) (q : Poise CopyState) → o < n → Good p → Steps CopyReady CopyNext p e q → owed p ++ flat_map shared (content_got 0 e) ≡ content_sent o e ++ owed q
+  step : (p : Poise CopyState) (e : Happening) (q : Poise CopyState) → o < n → Good p → Steps copy_rules p e q → owed p ++ flat_map shared (content_got 0 e) ≡ content_sent o e ++ owed q
   step p Started q below g s =
       let a : owed p ≡ [] = rw s.grants.0 refl in
       let b : owed q ≡ [] = ap owes_after s.comes_to in
@@ -136,6 +136,6 @@ map-single f (x ∷ xs) = ap (λ ys. f x ∷ ys) (map-single f xs)
 -- Over a whole run it sends what its meaning makes of what it got.
 pub copy_meaning : CopyMeaning
 copy_meaning n told run o below =
-    let e = owed-to CopyReady CopyNext o (Good n o) (shared n o) (owed n o) (λ p e q g s. (stays n o p e q g s, step n o p e q below g s)) (fresh (fresh_copy n) run.maker) told run.last (refl, tt) run.runs in
+    let e = owed-to copy_rules o (Good n o) (shared n o) (owed n o) (λ p e q g s. (stays n o p e q g s, step n o p e q below g s)) (fresh (fresh_copy n) run.maker) told run.last (refl, tt) run.runs in
     let b : owed n o run.last ≡ [] = rw run.idle refl in
     sym (append-nil (sent o told)) ∙ ap (λ us. sent o told ++ us) (sym b) ∙ sym e ∙ map-single (share n o) (got 0 told)

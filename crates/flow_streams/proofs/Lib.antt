@@ -6,6 +6,7 @@ pub mod Levels
 pub mod Merging
 pub mod Seats
 pub mod Gathering
+pub mod CollateChoices
 pub mod CollateStream
 pub mod Silence
 pub mod UnbundleStream

@@ -17,7 +17,7 @@ use Rattle.flow_component.proofs.Streams.{Comes-packets, contents_in, content-ki
 use Rattle.flow_component.proofs.Wished.{port_of, id_in}
 use Rattle.flow_streams.specs.declared.load_balance.LoadPlace.{LoadPlace}
 use Rattle.flow_streams.specs.declared.load_balance.LoadPlace.TheVariants.{Waiting, Asking}
-use Rattle.flow_streams.specs.LoadBalance.{LoadState, send_at, level_at, depth_after, no_level, comes_at, comes, asks_on, weighs, learns, load_next, LoadNext, LoadReady}
+use Rattle.flow_streams.specs.LoadBalance.{LoadState, send_at, level_at, depth_after, no_level, comes_at, comes, asks_on, weighs, learns, load_next, load_rules}
 use Rattle.flow_streams.specs.Split.{Routed, StaysWhole, AreWithin, going_to}
 use Rattle.flow_streams.specs.Meanings.{fresh_load, LoadBalanceMeaning}
 
@@ -74,21 +74,21 @@ Leads n p (Passing t) es =
     × ((depth before : ℕ) → p.component.depth ≡ depth_after (kind_of (content t)) depth → (depth ≡ 0) ⊎ (p.component.chosen ≡ before) → StaysWhole depth before (routes_of es))
 
 abbrev Step : Poise LoadState → Happening → Poise LoadState → Type 0
-Step p e m = Steps LoadReady LoadNext p e m
+Step p e m = Steps load_rules p e m
 
 -- what is known of the rest of a run
 abbrev Rec : ℕ → List Happening → Poise LoadState → Type 0
-Rec n es q = (p : Poise LoadState) (phase : Phase) → Stands n p phase → Runs LoadReady LoadNext p es q → Leads n p phase es
+Rec n es q = (p : Poise LoadState) (phase : Phase) → Stands n p phase → Runs load_rules p es q → Leads n p phase es
 
 -- it rests as before
-same-rest : (n : ℕ) (es : List Happening) (p m q : Poise LoadState) → p.component.count ≡ n → m.component ≡ p.component → (m.wish ≡ receive_first) ⊎ (m.wish ≡ wishes.Deactivate) → Runs LoadReady LoadNext m es q → Rec n es q → Leads n p Resting es
+same-rest : (n : ℕ) (es : List Happening) (p m q : Poise LoadState) → p.component.count ≡ n → m.component ≡ p.component → (m.wish ≡ receive_first) ⊎ (m.wish ≡ wishes.Deactivate) → Runs load_rules m es q → Rec n es q → Leads n p Resting es
 same-rest n es p m q count component wish r rec =
     let l = rec m Resting (ap (λ (s : LoadState). s.count) component ∙ count, wish) r in
     (l.0, l.1, subst (λ (s : LoadState). StaysWhole s.depth s.chosen (routes_of es)) component l.2)
 
 -- a packet came outside of all brackets, or inside
 comes-on : (n : ℕ) (es : List Happening) (p m q : Poise LoadState) (t : Tree) (held : Held) (kind : Kind) (depth : ℕ) → p.component.count ≡ n → p.component.chosen < n → held.packets ≡ t ∷ [] → kind ≡ kind_of (content t) → p.component.depth ≡ depth
-    → Wishes m.component m.held m.wish ≡ comes_at (record p.component { depth = depth_after kind p.component.depth }) held (id_of t) depth → Runs LoadReady LoadNext m es q → Rec n es q
+    → Wishes m.component m.held m.wish ≡ comes_at (record p.component { depth = depth_after kind p.component.depth }) held (id_of t) depth → Runs load_rules m es q → Rec n es q
     → (contents (routes_of es) ≡ content t ∷ got 0 es) × AreWithin n (routes_of es) × StaysWhole p.component.depth p.component.chosen (routes_of es)
 comes-on n es p m q t held kind zero count below alone k d comes r rec =
     let component : m.component ≡ record p.component { depth = depth_after kind p.component.depth; place = Asking (id_of t) 0 no_level } = cc in
@@ -111,7 +111,7 @@ comes-on n es p m q t held kind (suc outer) count below alone k d comes r rec =
 -- the next output is asked, or the packet is sent to the chosen one
 asks-more : (n : ℕ) (es : List Happening) (m q : Poise LoadState) (t : Tree) (state : LoadState) (held : Held) (output least : ℕ) (b : Bool) → state.count ≡ n → state.chosen < n → held.packets ≡ t ∷ [] → state.depth ≡ depth_after (kind_of (content t)) 0
     → Wishes m.component m.held m.wish ≡ (if b then Wishes (record state { place = Asking (id_of t) (output + 1) least }) held (level_at (output + 1)) else Wishes (record state { place = Waiting }) held (send_at state.chosen (id_of t)))
-    → Runs LoadReady LoadNext m es q → Rec n es q
+    → Runs load_rules m es q → Rec n es q
     → (contents (routes_of es) ≡ content t ∷ got 0 es) × AreWithin n (routes_of es) × ((before : ℕ) → StaysWhole 0 before (routes_of es))
 asks-more n es m q t state held output least true count below alone d comes r rec =
     let component : m.component ≡ record state { place = Asking (id_of t) (output + 1) least } = cc in
@@ -131,7 +131,7 @@ asks-more n es m q t state held output least false count below alone d comes r r
 -- a level was learned
 weighs-on : (n : ℕ) (es : List Happening) (m q : Poise LoadState) (t : Tree) (state : LoadState) (held : Held) (output least level : ℕ) (b : Bool) → state.count ≡ n → state.chosen < n → output < n → held.packets ≡ t ∷ []
     → state.depth ≡ depth_after (kind_of (content t)) 0
-    → Wishes m.component m.held m.wish ≡ (if b then asks_on (record state { chosen = output }) held (id_of t) output level else asks_on state held (id_of t) output least) → Runs LoadReady LoadNext m es q → Rec n es q
+    → Wishes m.component m.held m.wish ≡ (if b then asks_on (record state { chosen = output }) held (id_of t) output level else asks_on state held (id_of t) output least) → Runs load_rules m es q → Rec n es q
     → (contents (routes_of es) ≡ content t ∷ got 0 es) × AreWithin n (routes_of es) × ((before : ℕ) → StaysWhole 0 before (routes_of es))
 weighs-on n es m q t state held output least level true count below within alone d comes r rec =
     asks-more n es m q t (record state { chosen = output }) held output level (nat_lt (output + 1) state.count) count within alone d comes r rec
@@ -139,7 +139,7 @@ weighs-on n es m q t state held output least level false count below within alon
     asks-more n es m q t state held output least (nat_lt (output + 1) state.count) count below alone d comes r rec
 
 learns-on : (n : ℕ) (es : List Happening) (m q : Poise LoadState) (t : Tree) (state : LoadState) (held : Held) (place : LoadPlace) (level : ℕ) → state.count ≡ n → state.chosen < n → Rattle.flow_streams.specs.LoadBalance.IsAsking state held place
-    → held.packets ≡ t ∷ [] → state.depth ≡ depth_after (kind_of (content t)) 0 → Wishes m.component m.held m.wish ≡ learns state held place level → Runs LoadReady LoadNext m es q → Rec n es q
+    → held.packets ≡ t ∷ [] → state.depth ≡ depth_after (kind_of (content t)) 0 → Wishes m.component m.held m.wish ≡ learns state held place level → Runs load_rules m es q → Rec n es q
     → (contents (routes_of es) ≡ content t ∷ got 0 es) × AreWithin n (routes_of es) × ((before : ℕ) → StaysWhole 0 before (routes_of es))
 learns-on n es m q t state held Waiting level count below asking alone d comes r rec = absurd asking
 learns-on n es m q t state held (Asking id output least) level count below asking alone d comes r rec =
@@ -161,7 +161,7 @@ rests-port : (w : Wish) (port : ℕ) → (w ≡ receive_first) ⊎ (w ≡ wishes
 rests-port w port (inl a) b = ap port_of (sym b ∙ a)
 rests-port w port (inr a) b = absurd (let h : wishes.Receive (record { 0 = port }) ≡ wishes.Deactivate = sym b ∙ a in cc)
 
-step : (n : ℕ) (es : List Happening) (p m q : Poise LoadState) (e : Happening) (phase : Phase) → Stands n p phase → Step p e m → Runs LoadReady LoadNext m es q → Rec n es q → Leads n p phase (e ∷ es)
+step : (n : ℕ) (es : List Happening) (p m q : Poise LoadState) (e : Happening) (phase : Phase) → Stands n p phase → Step p e m → Runs load_rules m es q → Rec n es q → Leads n p phase (e ∷ es)
 step n es p m q Started Resting st s r rec =
     let component : m.component ≡ p.component = (let c : Wishes m.component m.held m.wish ≡ Wishes p.component s.held receive_first = s.comes_to in cc) in
     let wish : m.wish ≡ receive_first = (let c : Wishes m.component m.held m.wish ≡ Wishes p.component s.held receive_first = s.comes_to in cc) in

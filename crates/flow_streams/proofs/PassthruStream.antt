@@ -8,12 +8,11 @@ use Rattle.flow_component.specs.declared.Wish.{Wish}
 use Rattle.flow_component.specs.declared.Wish.TheVariants as wishes
 use Rattle.flow_component.specs.Laws.{Wishes, IsAllowed}
 use Rattle.flow_component.specs.Ports.{one_to_one, uses_first, receive_first, send_first}
-use Rattle.flow_component.specs.Outcomes.{IsAtHand}
 use Rattle.flow_component.specs.Happenings.{Happening, Started, Received, Ended, Sent, Learned}
 use Rattle.flow_component.specs.Runs.{Poise, fresh, Steps, got, sent, content_got, content_sent}
 use Rattle.flow_component.proofs.Streams.{owed-run, good-run, stays-allowed, Comes-packets, one-alone, gone-alone, port_zero, port_below_one, flat_map-single}
-use Rattle.flow_streams.specs.Passthru.{PassthruNext}
-use Rattle.flow_streams.specs.PassthruLaws.{passthru_obeys}
+use Rattle.flow_streams.specs.Passthru.{passthru_rules}
+use Rattle.flow_streams.specs.PassthruLaws.{passthru_lawful}
 use Rattle.flow_streams.specs.Meanings.{PassthruMeaning}
 
 -- While it wishes to send a packet it holds that one alone, and otherwise nothing.
@@ -28,7 +27,7 @@ module _ {K : Type 0} where
   Good p = IsAllowed one_to_one uses_first p.held p.wish × IsHolding p.held.packets p.wish
 
   abbrev Step : Poise K → Happening → Poise K → Type 0
-  Step p e q = Steps (λ (_ : K). IsAtHand) PassthruNext p e q
+  Step p e q = Steps passthru_rules p e q
 
   abbrev owed : Poise K → List Tree
   owed p = map content p.held.packets
@@ -74,12 +73,12 @@ module _ {K : Type 0} where
   step p (Learned port level) q g s = absurd s.is_ready
 
   kept : (p : Poise K) (e : Happening) (q : Poise K) → Good p → Step p e q → Good q
-  kept p e q g s = (stays-allowed (λ (_ : K). IsAtHand) PassthruNext one_to_one uses_first passthru_obeys p e q s, (step p e q g s).0)
+  kept p e q g s = (stays-allowed passthru_rules passthru_lawful p e q s, (step p e q g s).0)
 
   pub passthru_meaning : PassthruMeaning K
   passthru_meaning component told run =
       let p = fresh component run.maker in
-      let e = owed-run (λ (_ : K). IsAtHand) PassthruNext Good (λ t. t ∷ []) owed (λ p e q g s. (kept p e q g s, (step p e q g s).1)) p told run.last (tt, refl) run.runs in
-      let g = good-run (λ (_ : K). IsAtHand) PassthruNext Good kept p told run.last (tt, refl) run.runs in
+      let e = owed-run passthru_rules Good (λ t. t ∷ []) owed (λ p e q g s. (kept p e q g s, (step p e q g s).1)) p told run.last (tt, refl) run.runs in
+      let g = good-run passthru_rules Good kept p told run.last (tt, refl) run.runs in
       let none : run.last.held.packets ≡ [] = rw run.idle at g.1 in
       sym (append-nil (sent 0 told)) ∙ ap (λ ts. sent 0 told ++ map content ts) (sym none) ∙ sym e ∙ flat_map-single (got 0 told)

@@ -19,7 +19,7 @@ use Rattle.flow_component.proofs.Wished.{port_of, id_in}
 use Rattle.flow_streams.specs.BundleLaws.{second-found}
 use Rattle.flow_streams.specs.declared.select.SelectPlace.{SelectPlace}
 use Rattle.flow_streams.specs.declared.select.SelectPlace.TheVariants as places
-use Rattle.flow_streams.specs.Select.{SelectState, key_port, in_port, accepted_port, rejected_port, rejects_packet, selects, comes_as, select_next, SelectNext, SelectReady}
+use Rattle.flow_streams.specs.Select.{SelectState, key_port, in_port, accepted_port, rejected_port, rejects_packet, selects, comes_as, select_next, SelectReady, select_rules}
 use Rattle.flow_streams.specs.SelectLaws.{first-gone}
 use Rattle.flow_streams.specs.Selected.{accepts, accepted, rejected}
 use Rattle.flow_streams.specs.Meanings.{fresh_select, count_among, SelectMeaning, SelectTakesTexts, SelectStarts}
@@ -79,13 +79,13 @@ Rest r (Selecting key) es = (packet : Option Tree) × (rounds : List Round) × (
 Rest r (Passing port t) es = (rounds : List Round) × (es ≡ Sent port t ∷ told_by r rounds)
 
 abbrev Step : Poise SelectState → Happening → Poise SelectState → Type 0
-Step p e m = Steps SelectReady SelectNext p e m
+Step p e m = Steps select_rules p e m
 
 abbrev Rec : Bool → List Happening → Poise SelectState → Type 0
-Rec r es q = (p : Poise SelectState) (phase : Phase) → Stands r p phase → Runs SelectReady SelectNext p es q → Rest r phase es
+Rec r es q = (p : Poise SelectState) (phase : Phase) → Stands r p phase → Runs select_rules p es q → Rest r phase es
 
 -- a packet is rejected
-rejecting : (r : Bool) (place : SelectPlace) (es : List Happening) (m q : Poise SelectState) (held : Held) (t : Tree) → held.packets ≡ t ∷ [] → Wishes m.component m.held m.wish ≡ rejects_packet (at r place) held (id_of t) → Runs SelectReady SelectNext m es q → Rec r es q
+rejecting : (r : Bool) (place : SelectPlace) (es : List Happening) (m q : Poise SelectState) (held : Held) (t : Tree) → held.packets ≡ t ∷ [] → Wishes m.component m.held m.wish ≡ rejects_packet (at r place) held (id_of t) → Runs select_rules m es q → Rec r es q
     → (rounds : List Round) × (es ≡ leaves r false t ++ told_by r rounds)
 rejecting true place es m q held t alone comes run rec =
     let component : m.component ≡ at true places.Passing = cc in
@@ -100,7 +100,7 @@ rejecting false place es m q held t alone comes run rec =
 -- it is accepted or rejected
 judging : (r b : Bool) (place : SelectPlace) (es : List Happening) (m q : Poise SelectState) (held : Held) (key : ℕ) (t : Tree) → (without_packet held key).packets ≡ t ∷ []
     → Wishes m.component m.held m.wish ≡ (if b then Wishes (at r places.Passing) (without_packet held key) (wishes.Send accepted_port (id_of t)) else rejects_packet (at r place) (without_packet held key) (id_of t))
-    → Runs SelectReady SelectNext m es q → Rec r es q → (rounds : List Round) × (es ≡ leaves r b t ++ told_by r rounds)
+    → Runs select_rules m es q → Rec r es q → (rounds : List Round) × (es ≡ leaves r b t ++ told_by r rounds)
 judging r true place es m q held key t alone comes run rec =
     let component : m.component ≡ at r places.Passing = cc in
     let hands : m.held ≡ without_packet held key = cc in
@@ -117,7 +117,7 @@ two-texts held k t e apart =
     λ i. starts_with nat_eq (second i) (first i)
 
 -- a packet came to be selected
-takes : (r : Bool) (key : Option Tree) (es : List Happening) (p m q : Poise SelectState) (t : Tree) (port : ℕ) (kind : Kind) → Stands r p (Selecting key) → (s : Step p (Received port t) m) → kind_at s.held.packets (id_of t) ≡ kind → Runs SelectReady SelectNext m es q → Rec r es q
+takes : (r : Bool) (key : Option Tree) (es : List Happening) (p m q : Poise SelectState) (t : Tree) (port : ℕ) (kind : Kind) → Stands r p (Selecting key) → (s : Step p (Received port t) m) → kind_at s.held.packets (id_of t) ≡ kind → Runs select_rules m es q → Rec r es q
     → (rounds : List Round) × (es ≡ leaves r (is_accepted key t) t ++ told_by r rounds)
 takes r None es p m q t port Normal st s kind run rec =
     let ready : SelectReady (at r places.Unkeyed) s.held (answers.Got (id_of t)) = subst (λ (state : SelectState). SelectReady state s.held (answers.Got (id_of t))) st.1 s.is_ready in
@@ -144,7 +144,7 @@ takes r (Some k) es p m q t port Close st s kind run rec =
     absurd (let c : Wishes m.component m.held m.wish ≡ comes_as (at r (places.Keyed (id_of k))) s.held (id_of t) Close = s.comes_to ∙ (λ i. comes_as (st.1 i) s.held (id_of t) (kind i)) in cc)
 
 -- a key came
-keys : (r : Bool) (es : List Happening) (p m q : Poise SelectState) (t : Tree) (port : ℕ) (kind : Kind) → Stands r p Keying → (s : Step p (Received port t) m) → kind_at s.held.packets (id_of t) ≡ kind → Runs SelectReady SelectNext m es q → Rec r es q → Rest r (Selecting (Some t)) es
+keys : (r : Bool) (es : List Happening) (p m q : Poise SelectState) (t : Tree) (port : ℕ) (kind : Kind) → Stands r p Keying → (s : Step p (Received port t) m) → kind_at s.held.packets (id_of t) ≡ kind → Runs select_rules m es q → Rec r es q → Rest r (Selecting (Some t)) es
 keys r es p m q t port Normal st s kind run rec =
     let ready : SelectReady (at r places.Waiting) s.held (answers.Got (id_of t)) = subst (λ (state : SelectState). SelectReady state s.held (answers.Got (id_of t))) st.1 s.is_ready in
     let same : t ≡ ready.packet = HoldsOnly-end s.held p.held.packets t (Comes-packets p.held t s.held s.grants.1) ready in
@@ -158,7 +158,7 @@ keys r es p m q t port Open st s kind run rec = absurd (let c : Wishes m.compone
 keys r es p m q t port Close st s kind run rec = absurd (let c : Wishes m.component m.held m.wish ≡ comes_as (at r places.Waiting) s.held (id_of t) Close = s.comes_to ∙ (λ i. comes_as (st.1 i) s.held (id_of t) (kind i)) in cc)
 
 -- nothing came to be selected
-over : (r : Bool) (key : Option Tree) (es : List Happening) (p m q : Poise SelectState) (port : ℕ) → Stands r p (Selecting key) → Step p (Ended port) m → Runs SelectReady SelectNext m es q → Rec r es q → Rest r Resting es
+over : (r : Bool) (key : Option Tree) (es : List Happening) (p m q : Poise SelectState) (port : ℕ) → Stands r p (Selecting key) → Step p (Ended port) m → Runs select_rules m es q → Rec r es q → Rest r Resting es
 over r None es p m q port st s run rec =
     let comes : Wishes m.component m.held m.wish ≡ select_next (at r places.Unkeyed) s.held answers.End = s.comes_to ∙ ap (λ (state : SelectState). select_next state s.held answers.End) st.1 in
     let component : m.component ≡ at r places.Waiting = cc in
@@ -175,7 +175,7 @@ waits : (r : Bool) (key : Option Tree) (p : Poise SelectState) → Stands r p (S
 waits r None p st = st.0
 waits r (Some k) p st = st.0
 
-step : (r : Bool) (es : List Happening) (p m q : Poise SelectState) (e : Happening) (phase : Phase) → Stands r p phase → Step p e m → Runs SelectReady SelectNext m es q → Rec r es q → Rest r phase (e ∷ es)
+step : (r : Bool) (es : List Happening) (p m q : Poise SelectState) (e : Happening) (phase : Phase) → Stands r p phase → Step p e m → Runs select_rules m es q → Rec r es q → Rest r phase (e ∷ es)
 step r es p m q Started Resting st s run rec =
     let comes : Wishes m.component m.held m.wish ≡ select_next (at r places.Waiting) s.held answers.Start = s.comes_to ∙ ap (λ (state : SelectState). select_next state s.held answers.Start) st.1 in
     let component : m.component ≡ at r places.Waiting = cc in
@@ -238,7 +238,7 @@ select_run r [] q d p phase st run = ends r p q phase st run d
 select_run r (e ∷ es) q d p phase st run = step r es p run.0 q e phase st run.1 run.2 (select_run r es q d)
 
 -- what a Select was told, from its start to its end, is one activation after another
-in-rounds : (r : Bool) (told : List Happening) → EndedRun SelectReady SelectNext (fresh_select r) told → (rounds : List Round) × (told ≡ told_by r rounds)
+in-rounds : (r : Bool) (told : List Happening) → EndedRun select_rules (fresh_select r) told → (rounds : List Round) × (told ≡ told_by r rounds)
 in-rounds r told run = select_run r told run.last run.idle (fresh (fresh_select r) run.maker) Resting (refl, refl) run.runs
 
 -- What was sent is no matter to what was got

@@ -21,8 +21,8 @@ use Rattle.flow_streams.specs.Bundle.{items}
 use Rattle.flow_streams.specs.BundleLaws.{renewed, second-found, second-gone}
 use Rattle.flow_streams.specs.declared.unbundle.Unbundle.{Unbundle}
 use Rattle.flow_streams.specs.declared.unbundle.Unbundle.TheVariants.{Waiting, Unpacking}
-use Rattle.flow_streams.specs.Unbundle.{opens_up, unpacks, goes_on, UnbundleNext, UnbundleReady, IsReadyOn}
-use Rattle.flow_streams.specs.UnbundleLaws.{unbundle_obeys, chain-alone, detached-only, child-apart}
+use Rattle.flow_streams.specs.Unbundle.{opens_up, unpacks, goes_on, IsReadyOn, unbundle_rules}
+use Rattle.flow_streams.specs.UnbundleLaws.{chain-alone, detached-only, child-apart, unbundle_lawful}
 use Rattle.flow_streams.specs.Unbundled.{and_behind, members, unbundled}
 use Rattle.flow_streams.specs.Meanings.{UnbundleMeaning}
 
@@ -151,7 +151,7 @@ after-going : (held : Held) (component : Unbundle) → IsReadyOn held component 
 after-going held Waiting r = refl
 after-going held (Unpacking id) r = after-unpacking held id r.0 r.1
 
-step : (p : Poise Unbundle) (e : Happening) (q : Poise Unbundle) → IsAllowed one_to_one uses_first p.held p.wish → Steps UnbundleReady UnbundleNext p e q
+step : (p : Poise Unbundle) (e : Happening) (q : Poise Unbundle) → IsAllowed one_to_one uses_first p.held p.wish → Steps unbundle_rules p e q
     → owed p ++ flat_map unbundled (content_got 0 e) ≡ content_sent 0 e ++ owed q
 step p Started q g s =
     let a : owed p ≡ [] = rw s.grants.0 refl in
@@ -178,7 +178,7 @@ step p (Learned port level) q g s = absurd s.is_ready
 -- Over a whole run it sends what its meaning makes of what it got.
 pub unbundle_meaning : UnbundleMeaning
 unbundle_meaning told run =
-    let e = owed-run UnbundleReady UnbundleNext (λ p. IsAllowed one_to_one uses_first p.held p.wish) unbundled owed
-    (λ p e q g s. (stays-allowed UnbundleReady UnbundleNext one_to_one uses_first unbundle_obeys p e q s, step p e q g s)) (fresh Waiting run.maker) told run.last tt run.runs in
+    let e = owed-run unbundle_rules (λ p. IsAllowed one_to_one uses_first p.held p.wish) unbundled owed
+    (λ p e q g s. (stays-allowed unbundle_rules unbundle_lawful p e q s, step p e q g s)) (fresh Waiting run.maker) told run.last tt run.runs in
     let b : owed run.last ≡ [] = rw run.idle refl in
     sym (e ∙ rw b (append-nil _))

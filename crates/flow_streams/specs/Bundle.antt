@@ -9,8 +9,8 @@ use Rattle.flow_component.specs.declared.Answer.{Answer}
 use Rattle.flow_component.specs.declared.Answer.TheVariants as answers
 use Rattle.flow_component.specs.declared.Wish.TheVariants.{Deactivate}
 use Rattle.flow_component.specs.declared.Fail.TheVariants.{TreeDepth}
-use Rattle.flow_component.specs.Laws.{Outcome, Wishes, Fails}
-use Rattle.flow_component.specs.Ports.{receive_first, send_first}
+use Rattle.flow_component.specs.Laws.{Rules, Outcome, Wishes, Fails}
+use Rattle.flow_component.specs.Ports.{one_to_one, uses_first, receive_first, send_first}
 use Rattle.flow_component.specs.Alone.{HoldsOnly}
 use Rattle.flow_streams.specs.declared.bundle.Bundle.{Bundle}
 use Rattle.flow_streams.specs.declared.bundle.Bundle.TheVariants.{Outside, Inside}
@@ -84,3 +84,7 @@ BundleReady component held (answers.Got id) = HasCome component held id
 BundleReady component held answers.End = IsBetween component held
 BundleReady component held answers.Sent = IsBetween component held
 BundleReady component held (answers.Level n) = ⊥
+
+-- All that a network knows of it.
+abbrev pub bundle_rules : Rules Bundle
+bundle_rules = record { shape = λ _. one_to_one; uses = λ _. uses_first; ready = BundleReady; next = BundleNext }

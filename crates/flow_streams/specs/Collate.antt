@@ -12,8 +12,8 @@ use Rattle.flow_component.specs.declared.Wish.{Wish}
 use Rattle.flow_component.specs.declared.Wish.TheVariants.{Receive, Deactivate}
 use Rattle.flow_component.specs.declared.Fail.TheVariants.{BracketIn}
 use Rattle.flow_component.specs.declared.Shape.{Shape}
-use Rattle.flow_component.specs.Laws.{Outcome, Wishes, Fails}
-use Rattle.flow_component.specs.Ports.{send_first}
+use Rattle.flow_component.specs.Laws.{Rules, Outcome, Wishes, Fails}
+use Rattle.flow_component.specs.Ports.{uses_first, send_first}
 use Rattle.flow_streams.specs.declared.collate.CollatePlace.{CollatePlace}
 use Rattle.flow_streams.specs.declared.collate.CollatePlace.TheVariants.{Filling, Refilling, Turning, Leaving}
 use Rattle.flow_streams.specs.CollateState.{CollateState}
@@ -153,3 +153,7 @@ CollateReady state held (answers.Got id) = Keeps state.elements state.owners hel
 CollateReady state held answers.End = Keeps state.elements state.owners held × IsReceiving state state.place × (length state.owners ≡ length held.packets)
 CollateReady state held answers.Sent = Keeps state.elements state.owners held × IsReadyOn state state.place × (length state.owners ≡ length held.packets)
 CollateReady state held (answers.Level n) = ⊥
+
+-- All that a network knows of it.
+abbrev pub collate_rules : Rules CollateState
+collate_rules = record { shape = collate_shape; uses = λ _. uses_first; ready = CollateReady; next = CollateNext }

@@ -12,7 +12,7 @@ use Rattle.flow_packet.specs.Held.{Held, Sound, next_id, with_made, with_packet,
 use Rattle.flow_component.specs.declared.Answer.{Answer}
 use Rattle.flow_component.specs.declared.Answer.TheVariants as answers
 use Rattle.flow_component.specs.declared.Wish.TheVariants.{Deactivate}
-use Rattle.flow_component.specs.Laws.{Outcome, Wishes, Obeys, StaysReady, IsSteady, component_after}
+use Rattle.flow_component.specs.Laws.{Lawful, Outcome, Wishes, Obeys, StaysReady, component_after}
 use Rattle.flow_component.specs.Ports.{uses_first}
 use Rattle.flow_component.proofs.Roots.{same_id, IsAtRoot-last, IsAtRoot-made}
 use Rattle.flow_component.proofs.Comings.{comes_same, comes_made}
@@ -21,7 +21,7 @@ use Rattle.flow_streams.specs.declared.collate.CollatePlace.{CollatePlace}
 use Rattle.flow_streams.specs.declared.collate.CollatePlace.TheVariants.{Filling, Refilling, Turning, Leaving}
 use Rattle.flow_streams.specs.CollateState.{CollateState}
 use Rattle.flow_streams.specs.Collation.{width, key, packet_there, goes_before, or_later, first_of, levels_from, levels_that_differ}
-use Rattle.flow_streams.specs.Collate.{receive_from, element_of, whole, sends_bracket, sends_packet, turns, opening, closing, turns_to, leaves, chosen, chooses, goes_on, comes, sent_on, collate_next, CollateNext, collate_shape, AreInputs, Keeps, IsReceiving, IsReadyOn, CollateReady}
+use Rattle.flow_streams.specs.Collate.{receive_from, element_of, whole, sends_bracket, sends_packet, turns, opening, closing, turns_to, leaves, chosen, chooses, goes_on, comes, sent_on, collate_next, collate_shape, AreInputs, Keeps, IsReceiving, IsReadyOn, CollateReady, collate_rules}
 
 -- lists of inputs
 pub inputs-push : (n : ℕ) (es : List ℕ) (e : ℕ) → AreInputs n es → e < n → AreInputs n (es ++ e ∷ [])
@@ -90,8 +90,8 @@ opening-most state packet =
     elim state.opened as (λ b. (if b then levels_that_differ state.fields state.last (text_of packet) else length state.fields) ≤ length state.fields) [ true ↦ levels-most-from 0 state.fields state.last (text_of packet) | false ↦ omega arith ]
 
 -- the work from these hands leads to a lawful outcome
-abbrev Lawful : ℕ → Held → Outcome CollateState → Type 0
-Lawful elements held outcome = Obeys (record { inputs = elements; outputs = 1 }) uses_first held outcome × StaysReady CollateReady outcome
+abbrev IsLawful : ℕ → Held → Outcome CollateState → Type 0
+IsLawful elements held outcome = Obeys (record { inputs = elements; outputs = 1 }) uses_first held outcome × StaysReady collate_rules outcome
 
 keeps : (elements : ℕ) (owners : List ℕ) (old new : Held) → Keeps elements owners old → Sound new → Keeps elements owners new
 keeps elements owners old new k s = record { new = Sound-new new s; inputs = k.inputs; some = k.some; most = k.most }
@@ -99,7 +99,7 @@ keeps elements owners old new k s = record { new = Sound-new new s; inputs = k.i
 came : (owners : List ℕ) (ts : List Tree) (t : Tree) → length owners ≡ length ts → length owners + 1 ≡ length (ts ++ t ∷ [])
 came owners ts t e = omega (arith, length-append ts (t ∷ []))
 
-receives : (state : CollateState) (held : Held) (e : ℕ) → Keeps state.elements state.owners held → length state.owners ≡ length held.packets → IsReceiving state state.place → e < state.elements → Lawful state.elements held (Wishes state held (receive_from e))
+receives : (state : CollateState) (held : Held) (e : ℕ) → Keeps state.elements state.owners held → length state.owners ≡ length held.packets → IsReceiving state state.place → e < state.elements → IsLawful state.elements held (Wishes state held (receive_from e))
 receives state held e k same r l = (
   (comes_same held, l),
   (
@@ -110,14 +110,14 @@ receives state held e k same r l = (
 )
 
 bracket : (state : CollateState) (held : Held) (place : CollatePlace) (kind : Kind) (text : List ℕ) → Keeps state.elements state.owners held → length state.owners ≡ length held.packets → length state.owners ≤ state.elements
-    → IsReadyOn (record state { place = place }) place → Lawful state.elements held (sends_bracket state held place kind text)
+    → IsReadyOn (record state { place = place }) place → IsLawful state.elements held (sends_bracket state held place kind text)
 bracket state held place kind text k same few r =
     let new = with_made held kind text in (
       (comes_made held kind text (omega (arith, k.most)), (refl, IsAtRoot-made held kind text)),
       λ s. (keeps state.elements state.owners held (without_packet new (next_id held)) k s, r, same ∙ ap length (sym (made-left held kind text k.new))),
     )
 
-packet : (state : CollateState) (held : Held) (i : ℕ) → Keeps state.elements state.owners held → length state.owners ≡ length held.packets → length state.owners ≤ state.elements → i < length state.owners → Lawful state.elements held (sends_packet state held i)
+packet : (state : CollateState) (held : Held) (i : ℕ) → Keeps state.elements state.owners held → length state.owners ≡ length held.packets → length state.owners ≤ state.elements → i < length state.owners → IsLawful state.elements held (sends_packet state held i)
 packet state held i k same few l =
     let id = id_of (packet_there held.packets i) in
     let at : IsAtRoot held.packets id = IsAtRoot-there held.packets i (omega arith) in
@@ -132,12 +132,12 @@ packet state held i k same few l =
     )
 
 turned : (state : CollateState) (held : Held) (closes opens i : ℕ) → Keeps state.elements state.owners held → length state.owners ≡ length held.packets → length state.owners ≤ state.elements → i < length state.owners → opens ≤ length state.fields
-    → Lawful state.elements held (turns state held closes opens i)
+    → IsLawful state.elements held (turns state held closes opens i)
 turned state held closes opens i k same few l most =
-    elim (closes == 0) as (λ b. Lawful state.elements held (if b then (if opens == 0 then sends_packet state held i
+    elim (closes == 0) as (λ b. IsLawful state.elements held (if b then (if opens == 0 then sends_packet state held i
     else sends_bracket state held (Turning 0 (opens - 1) i) Open (take (width state.fields (length state.fields - (opens - 1))) state.last))
     else sends_bracket state held (Turning (closes - 1) opens i) Close [])) [
-      | true ↦ elim (opens == 0) as (λ b. Lawful state.elements held (if b then sends_packet state held i
+      | true ↦ elim (opens == 0) as (λ b. IsLawful state.elements held (if b then sends_packet state held i
           else sends_bracket state held (Turning 0 (opens - 1) i) Open (take (width state.fields (length state.fields - (opens - 1))) state.last))) [
             | true ↦ packet state held i k same few l
             | false ↦ bracket state held (Turning 0 (opens - 1) i) Open (take (width state.fields (length state.fields - (opens - 1))) state.last) k same few (l, omega arith, few)
@@ -146,38 +146,38 @@ turned state held closes opens i k same few l most =
     ]
 
 turned_to : (state : CollateState) (held : Held) (i opens : ℕ) → Keeps state.elements state.owners held → length state.owners ≡ length held.packets → length state.owners ≤ state.elements → i < length state.owners → opens ≤ length state.fields
-    → Lawful state.elements held (turns_to state held i opens)
+    → IsLawful state.elements held (turns_to state held i opens)
 turned_to state held i opens k same few l most =
-    elim (opens == 0) as (λ b. Lawful state.elements held (if b then sends_packet state held i
+    elim (opens == 0) as (λ b. IsLawful state.elements held (if b then sends_packet state held i
     else turns (record state { opened = true; last = key (whole state) (packet_there held.packets i) }) held (closing state opens) opens i)) [
       | true ↦ packet state held i k same few l
       | false ↦ turned (record state { opened = true; last = key (whole state) (packet_there held.packets i) }) held (closing state opens) opens i k same few l most
     ]
 
-left : (state : CollateState) (held : Held) (closes : ℕ) → Keeps state.elements state.owners held → length state.owners ≡ length held.packets → state.owners ≡ [] → Lawful state.elements held (leaves state held closes)
+left : (state : CollateState) (held : Held) (closes : ℕ) → Keeps state.elements state.owners held → length state.owners ≡ length held.packets → state.owners ≡ [] → IsLawful state.elements held (leaves state held closes)
 left state held closes k same none =
     let len : length state.owners ≡ 0 = ap length none in
-    elim (closes == 0) as (λ b. Lawful state.elements held (if b then Wishes (record state { opened = false; place = Filling 0 }) held Deactivate else sends_bracket state held (Leaving (closes - 1)) Close [])) [
+    elim (closes == 0) as (λ b. IsLawful state.elements held (if b then Wishes (record state { opened = false; place = Filling 0 }) held Deactivate else sends_bracket state held (Leaving (closes - 1)) Close [])) [
       | true ↦ ((comes_same held, tt), λ s. (k, record { place = refl; owners = none; opened = refl }, nil_from_length held.packets (omega arith)))
       | false ↦ bracket state held (Leaving (closes - 1)) Close [] k same (omega (arith, k.some)) none
     ]
 
 chose : (state : CollateState) (held : Held) (o : Option ℕ) → Keeps state.elements state.owners held → length state.owners ≡ length held.packets → length state.owners ≤ state.elements
-    → (o ≡ None → state.owners ≡ []) → ((i : ℕ) → o ≡ Some i → i < length state.owners) → Lawful state.elements held (chosen state held o)
+    → (o ≡ None → state.owners ≡ []) → ((i : ℕ) → o ≡ Some i → i < length state.owners) → IsLawful state.elements held (chosen state held o)
 chose state held None k same few none some = left state held (closing state (length state.fields)) k same (none refl)
 chose state held (Some i) k same few none some = turned_to state held i (opening state (packet_there held.packets i)) k same few (some i refl) (opening-most state (packet_there held.packets i))
 
-choice : (state : CollateState) (held : Held) → Keeps state.elements state.owners held → length state.owners ≡ length held.packets → length state.owners ≤ state.elements → Lawful state.elements held (chooses state held)
+choice : (state : CollateState) (held : Held) → Keeps state.elements state.owners held → length state.owners ≡ length held.packets → length state.owners ≤ state.elements → IsLawful state.elements held (chooses state held)
 choice state held k same few =
     chose state held (first_of (whole state) state.owners held.packets) k same few (λ h. first-none (whole state) state.owners held.packets same h) (λ i h. first-within (whole state) state.owners held.packets i h)
 
 module _ (state : CollateState) (held : Held) (k : Keeps state.elements state.owners held) (same : length state.owners ≡ length held.packets) (few : length state.owners ≤ state.elements) where
   next_input : (e : ℕ) → length state.owners ≤ e + 1 → (b : Bool) → nat_lt (e + 1) state.elements ≡ b
-      → Lawful state.elements held (if b then Wishes (record state { place = Filling (e + 1) }) held (receive_from (e + 1)) else chooses state held)
+      → IsLawful state.elements held (if b then Wishes (record state { place = Filling (e + 1) }) held (receive_from (e + 1)) else chooses state held)
   next_input e most true t = let l : e + 1 < state.elements = grind (arith, nat_tests) in receives (record state { place = Filling (e + 1) }) held (e + 1) k same (l, most) l
   next_input e most false t = choice state held k same few
 
-  went_on : (place : CollatePlace) → ((e : ℕ) → place ≡ Filling e → length state.owners ≤ e + 1) → Lawful state.elements held (goes_on state held place)
+  went_on : (place : CollatePlace) → ((e : ℕ) → place ≡ Filling e → length state.owners ≤ e + 1) → IsLawful state.elements held (goes_on state held place)
   went_on (Filling e) most = next_input e (most e refl) (nat_lt (e + 1) state.elements) refl
   went_on (Refilling e) most = choice state held k same few
   went_on (Turning closes opens place) most = choice state held k same few
@@ -201,7 +201,7 @@ filling-most state (Refilling f) e r is = absurd (cc)
 filling-most state (Turning closes opens place) e r is = absurd r
 filling-most state (Leaving closes) e r is = absurd r
 
-came_here : (state : CollateState) (held : Held) (kind : Kind) → Keeps state.elements state.owners held → IsReceiving state state.place → length state.owners + 1 ≡ length held.packets → Lawful state.elements held (comes state held kind)
+came_here : (state : CollateState) (held : Held) (kind : Kind) → Keeps state.elements state.owners held → IsReceiving state state.place → length state.owners + 1 ≡ length held.packets → IsLawful state.elements held (comes state held kind)
 came_here state held Normal k r same =
     let e = element_of state.place in
     let below = receiving-below state state.place r in
@@ -212,13 +212,13 @@ came_here state held Normal k r same =
 came_here state held Open k r same = ((comes_same held, receiving-below state state.place r), tt)
 came_here state held Close k r same = ((comes_same held, receiving-below state state.place r), tt)
 
-was_sent : (state : CollateState) (held : Held) (place : CollatePlace) → state.place ≡ place → Keeps state.elements state.owners held → IsReadyOn state place → length state.owners ≡ length held.packets → Lawful state.elements held (sent_on state held place)
+was_sent : (state : CollateState) (held : Held) (place : CollatePlace) → state.place ≡ place → Keeps state.elements state.owners held → IsReadyOn state place → length state.owners ≡ length held.packets → IsLawful state.elements held (sent_on state held place)
 was_sent state held (Filling e) is k r same = absurd r
 was_sent state held (Refilling e) is k r same = receives state held e k same (rw is r) r.0
 was_sent state held (Turning closes opens place) is k r same = turned state held closes opens place k same r.2 r.0 r.1
 was_sent state held (Leaving closes) is k r same = left state held closes k same r
 
-lawful : (state : CollateState) (held : Held) (answer : Answer) → CollateReady state held answer → Lawful state.elements held (collate_next state held answer)
+lawful : (state : CollateState) (held : Held) (answer : Answer) → CollateReady state held answer → IsLawful state.elements held (collate_next state held answer)
 lawful state held answers.Start r =
     let f = r.1 in
     let none = ap length f.owners in
@@ -229,14 +229,6 @@ lawful state held (answers.Got id) r = came_here state held (kind_at held.packet
 lawful state held answers.End r = went_on state held r.0 r.2 (let l = receiving-fewer state state.place r.1 in omega arith) state.place (λ e is. let m = filling-most state state.place e r.1 is in omega arith)
 lawful state held answers.Sent r = was_sent state held state.place refl r.0 r.1 r.2
 lawful state held (answers.Level n) r = absurd r
-
--- What it does keeps what the hands ask of every component.
-pub collate_obeys : (state : CollateState) (held : Held) (answer : Answer) (outcome : Outcome CollateState) → CollateReady state held answer → CollateNext state held answer outcome → Obeys (collate_shape state) uses_first held outcome
-collate_obeys state held answer outcome r is = subst (Obeys (collate_shape state) uses_first held) (sym is) (lawful state held answer r).0
-
--- Whatever it may be told next, it is ready for it.
-pub collate_stays_ready : (state : CollateState) (held : Held) (answer : Answer) (outcome : Outcome CollateState) → CollateReady state held answer → CollateNext state held answer outcome → StaysReady CollateReady outcome
-collate_stays_ready state held answer outcome r is = subst (StaysReady CollateReady) (sym is) (lawful state held answer r).1
 
 -- the number of inputs never changes
 abbrev Elements : ℕ → Outcome CollateState → Type 0
@@ -296,7 +288,12 @@ next-elements state held answers.End = goes_on-elements state held state.place
 next-elements state held answers.Sent = sent_on-elements state held state.place
 next-elements state held (answers.Level n) = refl
 
--- Its shape, and the ports that it uses, never change.
-pub collate_steady : (state : CollateState) (held : Held) (answer : Answer) (outcome : Outcome CollateState) → CollateNext state held answer outcome → IsSteady collate_shape (λ _. uses_first) state outcome
-collate_steady state held answer outcome is =
-    record { shape = ap (λ n. record { inputs = n; outputs = 1 }) (ap (λ (o : Outcome CollateState). (component_after o).elements) is ∙ next-elements state held answer); outputs = refl }
+-- It keeps the laws of components.
+pub collate_lawful : Lawful collate_rules
+collate_lawful = record {
+  obeys = λ state held answer outcome r is. subst (Obeys (collate_shape state) uses_first held) (sym is) (lawful state held answer r).0;
+  stays_ready = λ state held answer outcome r is. subst (StaysReady collate_rules) (sym is) (lawful state held answer r).1;
+  steady = λ state held answer outcome is.
+      record { shape = ap (λ n. record { inputs = n; outputs = 1 }) (ap (λ (o : Outcome CollateState). (component_after o).elements) is ∙ next-elements state held answer); outputs = refl };
+  has_outcome = λ component held answer _. (collate_next component held answer, refl);
+}

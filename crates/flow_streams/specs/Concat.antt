@@ -6,8 +6,8 @@ use Rattle.flow_component.specs.declared.Answer.TheVariants as answers
 use Rattle.flow_component.specs.declared.Wish.{Wish}
 use Rattle.flow_component.specs.declared.Wish.TheVariants.{Receive, Deactivate}
 use Rattle.flow_component.specs.declared.Shape.{Shape}
-use Rattle.flow_component.specs.Laws.{Outcome, Wishes}
-use Rattle.flow_component.specs.Ports.{send_first}
+use Rattle.flow_component.specs.Laws.{Rules, Outcome, Wishes}
+use Rattle.flow_component.specs.Ports.{uses_first, send_first}
 use Rattle.flow_component.specs.Alone.{HoldsOnly}
 
 -- How many inputs it has, and the one that it has come to.
@@ -47,3 +47,7 @@ ConcatReady state held (answers.Got id) = (state.at < state.count) × HoldsOnly 
 ConcatReady state held answers.End = (state.at < state.count) × (held.packets ≡ [])
 ConcatReady state held answers.Sent = (state.at < state.count) × (held.packets ≡ [])
 ConcatReady state held (answers.Level n) = ⊥
+
+-- All that a network knows of it.
+abbrev pub concat_rules : Rules ConcatState
+concat_rules = record { shape = concat_shape; uses = λ _. uses_first; ready = ConcatReady; next = ConcatNext }

@@ -7,7 +7,7 @@ use Rattle.flow_component.specs.declared.Answer.TheVariants as answers
 use Rattle.flow_component.specs.declared.Shape.{Shape}
 use Rattle.flow_component.specs.declared.Wish.{Wish}
 use Rattle.flow_component.specs.declared.Wish.TheVariants.{Send, Deactivate}
-use Rattle.flow_component.specs.Laws.{Outcome, Wishes}
+use Rattle.flow_component.specs.Laws.{Rules, Outcome, Wishes}
 use Rattle.flow_component.specs.Ports.{receive_first}
 use Rattle.flow_component.specs.Alone.{HoldsOnly}
 use Rattle.flow_streams.specs.declared.copy.CopyPlace.{CopyPlace}
@@ -65,3 +65,7 @@ CopyReady state held (answers.Got id) = (1 ≤ state.count) × (state.place ≡ 
 CopyReady state held answers.End = (1 ≤ state.count) × (state.place ≡ Waiting) × (held.packets ≡ [])
 CopyReady state held answers.Sent = (1 ≤ state.count) × IsReadyOn state held state.place
 CopyReady state held (answers.Level n) = ⊥
+
+-- All that a network knows of it.
+abbrev pub copy_rules : Rules CopyState
+copy_rules = record { shape = copy_shape; uses = copy_uses; ready = CopyReady; next = CopyNext }

@@ -9,7 +9,7 @@ use Rattle.flow_component.specs.declared.Answer.TheVariants as answers
 use Rattle.flow_component.specs.declared.Shape.{Shape}
 use Rattle.flow_component.specs.declared.Wish.{Wish}
 use Rattle.flow_component.specs.declared.Wish.TheVariants.{Send, Level, Deactivate}
-use Rattle.flow_component.specs.Laws.{Outcome, Wishes}
+use Rattle.flow_component.specs.Laws.{Rules, Outcome, Wishes}
 use Rattle.flow_component.specs.Ports.{receive_first}
 use Rattle.flow_component.specs.Alone.{HoldsOnly}
 use Rattle.flow_streams.specs.declared.load_balance.LoadPlace.{LoadPlace}
@@ -98,3 +98,7 @@ LoadReady state held (answers.Got id) = (state.chosen < state.count) × (state.p
 LoadReady state held answers.End = (state.chosen < state.count) × (state.place ≡ Waiting) × (held.packets ≡ [])
 LoadReady state held answers.Sent = (state.chosen < state.count) × (state.place ≡ Waiting) × (held.packets ≡ [])
 LoadReady state held (answers.Level level) = (state.chosen < state.count) × IsAsking state held state.place
+
+-- All that a network knows of it.
+abbrev pub load_rules : Rules LoadState
+load_rules = record { shape = load_shape; uses = load_uses; ready = LoadReady; next = LoadNext }

@@ -3,12 +3,12 @@ use Rattle.std.proofs.Common.{refl, sym, subst, arith}
 use Rattle.flow_packet.specs.Held.{Held}
 use Rattle.flow_component.specs.declared.Answer.{Answer}
 use Rattle.flow_component.specs.declared.Answer.TheVariants as answers
-use Rattle.flow_component.specs.Laws.{Outcome, Obeys, StaysReady, IsSteady, IsAllowed, ReadyAfter}
+use Rattle.flow_component.specs.Laws.{Lawful, Wishes, Obeys, StaysReady, IsAllowed, ReadyAfter}
 use Rattle.flow_component.specs.Ports.{one_to_one, uses_first, first_port}
 use Rattle.flow_component.specs.Outcomes.{IsAtHand}
 use Rattle.flow_component.proofs.Comings.{comes_same}
 use Rattle.flow_component.proofs.Loopers.{at_hand_received, at_hand_sent, at_hand_idle}
-use Rattle.flow_streams.specs.Passthru.{passes, PassthruNext}
+use Rattle.flow_streams.specs.Passthru.{passes, passthru_rules}
 
 allowed : (held : Held) (answer : Answer) → IsAtHand held answer → IsAllowed one_to_one uses_first held (passes answer)
 allowed held answers.Start r = omega arith
@@ -24,14 +24,11 @@ after held answers.End = at_hand_idle held
 after held answers.Sent = at_hand_received held first_port
 after held (answers.Level n) = at_hand_idle held
 
--- What it does keeps what the hands ask of every component.
-pub passthru_obeys : {K : Type 0} (component : K) (held : Held) (answer : Answer) (outcome : Outcome K) → IsAtHand held answer → PassthruNext component held answer outcome → Obeys one_to_one uses_first held outcome
-passthru_obeys component held answer outcome r is = subst (Obeys one_to_one uses_first held) (sym is) (comes_same held, allowed held answer r)
-
--- Whatever it may be told next, it is ready for it.
-pub passthru_stays_ready : {K : Type 0} (component : K) (held : Held) (answer : Answer) (outcome : Outcome K) → IsAtHand held answer → PassthruNext component held answer outcome → StaysReady (λ (_ : K). IsAtHand) outcome
-passthru_stays_ready {K} component held answer outcome r is = subst (StaysReady (λ (_ : K). IsAtHand)) (sym is) (after held answer)
-
--- Its shape, and the ports that it uses, never change.
-pub passthru_steady : {K : Type 0} (component : K) (held : Held) (answer : Answer) (outcome : Outcome K) → PassthruNext component held answer outcome → IsSteady (λ _. one_to_one) (λ _. uses_first) component outcome
-passthru_steady component held answer outcome is = record { shape = refl; outputs = refl }
+-- It keeps the laws of components.
+pub passthru_lawful : {K : Type 0} → Lawful {K = K} passthru_rules
+passthru_lawful = record {
+  obeys = λ component held answer outcome r is. subst (Obeys one_to_one uses_first held) (sym is) (comes_same held, allowed held answer r);
+  stays_ready = λ component held answer outcome r is. subst (StaysReady passthru_rules) (sym is) (after held answer);
+  steady = λ component held answer outcome is. record { shape = refl; outputs = refl };
+  has_outcome = λ component held answer _. (Wishes component held (passes answer), refl);
+}

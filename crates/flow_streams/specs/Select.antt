@@ -11,7 +11,7 @@ use Rattle.flow_component.specs.declared.Fail.TheVariants.{BracketIn}
 use Rattle.flow_component.specs.declared.Port.{Port}
 use Rattle.flow_component.specs.declared.Shape.{Shape}
 use Rattle.flow_component.specs.declared.Wish.TheVariants.{Receive, Send, Deactivate}
-use Rattle.flow_component.specs.Laws.{Outcome, Wishes, Fails}
+use Rattle.flow_component.specs.Laws.{Rules, Outcome, Wishes, Fails}
 use Rattle.flow_component.specs.Alone.{HoldsOnly}
 use Rattle.flow_streams.specs.Bundle.{HoldsTwo}
 use Rattle.flow_streams.specs.declared.select.SelectPlace.{SelectPlace}
@@ -121,3 +121,7 @@ SelectReady state held (answers.Got id) = HasCome held id state.place
 SelectReady state held answers.End = IsBetween held state.place
 SelectReady state held answers.Sent = (state.place ≡ Passing) × (held.packets ≡ [])
 SelectReady state held (answers.Level level) = ⊥
+
+-- All that a network knows of it.
+abbrev pub select_rules : Rules SelectState
+select_rules = record { shape = λ _. select_shape; uses = select_uses; ready = SelectReady; next = SelectNext }

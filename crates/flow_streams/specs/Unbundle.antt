@@ -7,8 +7,8 @@ use Rattle.flow_packet.specs.Held.{Held, Sound, next_id, without_packet, with_ma
 use Rattle.flow_component.specs.declared.Answer.{Answer}
 use Rattle.flow_component.specs.declared.Answer.TheVariants as answers
 use Rattle.flow_component.specs.declared.Wish.TheVariants.{Deactivate}
-use Rattle.flow_component.specs.Laws.{Outcome, Wishes}
-use Rattle.flow_component.specs.Ports.{receive_first, send_first}
+use Rattle.flow_component.specs.Laws.{Rules, Outcome, Wishes}
+use Rattle.flow_component.specs.Ports.{one_to_one, uses_first, receive_first, send_first}
 use Rattle.flow_component.specs.Alone.{HoldsOnly}
 use Rattle.flow_streams.specs.Bundle.{items}
 use Rattle.flow_streams.specs.declared.unbundle.Unbundle.{Unbundle}
@@ -58,3 +58,7 @@ UnbundleReady component held (answers.Got id) = IsWaiting component × HoldsOnly
 UnbundleReady component held answers.End = IsWaiting component × (held.packets ≡ [])
 UnbundleReady component held answers.Sent = IsReadyOn held component
 UnbundleReady component held (answers.Level n) = ⊥
+
+-- All that a network knows of it.
+abbrev pub unbundle_rules : Rules Unbundle
+unbundle_rules = record { shape = λ _. one_to_one; uses = λ _. uses_first; ready = UnbundleReady; next = UnbundleNext }

@@ -11,7 +11,7 @@ use Rattle.flow_packet.proofs.Trees.{ids-to_chains}
 use Rattle.flow_packet.proofs.Edits.{with_chains-same}
 use Rattle.flow_component.specs.declared.Answer.{Answer}
 use Rattle.flow_component.specs.declared.Answer.TheVariants as answers
-use Rattle.flow_component.specs.Laws.{Outcome, Wishes, Obeys, StaysReady, IsSteady}
+use Rattle.flow_component.specs.Laws.{Lawful, Outcome, Wishes, Obeys, StaysReady}
 use Rattle.flow_component.specs.Ports.{one_to_one, uses_first, receive_first}
 use Rattle.flow_component.specs.Alone.{HoldsOnly}
 use Rattle.flow_component.proofs.Roots.{same_id, IsAtRoot-last, IsAtRoot-made}
@@ -22,7 +22,7 @@ use Rattle.flow_streams.specs.Bundle.{items}
 use Rattle.flow_streams.specs.BundleLaws.{second-gone, renewed}
 use Rattle.flow_streams.specs.declared.unbundle.Unbundle.{Unbundle}
 use Rattle.flow_streams.specs.declared.unbundle.Unbundle.TheVariants.{Waiting, Unpacking}
-use Rattle.flow_streams.specs.Unbundle.{opens_up, unpacks, goes_on, unbundle_next, UnbundleNext, UnbundleReady, IsReadyOn}
+use Rattle.flow_streams.specs.Unbundle.{opens_up, unpacks, goes_on, unbundle_next, UnbundleReady, IsReadyOn, unbundle_rules}
 
 times-first : (child : Tree) (children : List Tree) → 0 < times (id_of child) (all_ids (child ∷ children))
 times-first (node id kind text cs) children = let s = same_id id in rw s (omega arith)
@@ -62,13 +62,13 @@ chain-alone held id h = ap (λ o. chain_in o items) (HoldsOnly-packet_at held id
 pub detached-only : (held : Held) (id : ℕ) (h : HoldsOnly held id) → detached held.packets id items ≡ with_chains h.packet (detach_from (chains_of h.packet) items) ∷ []
 detached-only held id h = (λ i. detached (h.holds i) (sym h.named i) items) ∙ detached-alone h.packet
 
-abbrev Lawful : Held → Outcome Unbundle → Type 0
-Lawful held outcome = Obeys one_to_one uses_first held outcome × StaysReady UnbundleReady outcome
+abbrev IsLawful : Held → Outcome Unbundle → Type 0
+IsLawful held outcome = Obeys one_to_one uses_first held outcome × StaysReady unbundle_rules outcome
 
-idle : (held : Held) → held.packets ≡ [] → Lawful held (Wishes Waiting held receive_first)
+idle : (held : Held) → held.packets ≡ [] → IsLawful held (Wishes Waiting held receive_first)
 idle held e = ((comes_same held, omega arith), ((λ s. (tt, e)), (λ t s. (tt, HoldsOnly-came held t e s)), (λ text s. (tt, HoldsOnly-made_alone held Normal text e s))))
 
-opened : (held : Held) (id : ℕ) (chain : List Tree) → HoldsOnly held id → Lawful held (opens_up held id chain)
+opened : (held : Held) (id : ℕ) (chain : List Tree) → HoldsOnly held id → IsLawful held (opens_up held id chain)
 opened held id [] h = ((comes_same held, (refl, HoldsOnly-root held id h)), λ s. HoldsOnly-without held id h)
 opened held id (child ∷ children) h =
     let text = text_at held.packets id in
@@ -80,7 +80,7 @@ made-root n = let s = same_id n in rw s refl
 made-gone : (n : ℕ) → without (packet_of n Close [] [] ∷ []) n ≡ []
 made-gone n = let s = same_id n in rw s refl
 
-unpacked : (held : Held) (id : ℕ) (chain : List Tree) → chain_of_root held.packets id items ≡ chain → HoldsOnly held id → Sound held → Lawful held (unpacks held id chain)
+unpacked : (held : Held) (id : ℕ) (chain : List Tree) → chain_of_root held.packets id items ≡ chain → HoldsOnly held id → Sound held → IsLawful held (unpacks held id chain)
 unpacked held id [] is h sound =
     let e = renewed held id Close [] h in (
       (comes_renewed held Close [] id (omega (arith, ap length h.holds)) (HoldsOnly-root held id h), (refl, rw e (made-root (next_id held)))),
@@ -102,25 +102,22 @@ unpacked held id (child ∷ children) is h sound =
     let left = without_packet new (id_of child) in
     ((by, (refl, IsAtRoot-last (detached held.packets id items) child)), λ s. (record { packet = t; holds = gone; named = h.named; older = λ e. Sound-older left t s gone (h.named ∙ e) }, s))
 
-went_on : (held : Held) (component : Unbundle) → IsReadyOn held component → Lawful held (goes_on held component)
+went_on : (held : Held) (component : Unbundle) → IsReadyOn held component → IsLawful held (goes_on held component)
 went_on held Waiting r = idle held r
 went_on held (Unpacking id) r = unpacked held id (chain_of_root held.packets id items) refl r.0 r.1
 
-lawful : (component : Unbundle) (held : Held) (answer : Answer) → UnbundleReady component held answer → Lawful held (unbundle_next component held answer)
+lawful : (component : Unbundle) (held : Held) (answer : Answer) → UnbundleReady component held answer → IsLawful held (unbundle_next component held answer)
 lawful component held answers.Start r = idle held r.1
 lawful component held (answers.Got id) r = opened held id (chain_of_root held.packets id items) r.1
 lawful component held answers.End r = ((comes_same held, tt), λ s. (tt, r.1))
 lawful component held answers.Sent r = went_on held component r
 lawful component held (answers.Level n) r = absurd r
 
--- What it does keeps what the hands ask of every component.
-pub unbundle_obeys : (component : Unbundle) (held : Held) (answer : Answer) (outcome : Outcome Unbundle) → UnbundleReady component held answer → UnbundleNext component held answer outcome → Obeys one_to_one uses_first held outcome
-unbundle_obeys component held answer outcome r is = subst (Obeys one_to_one uses_first held) (sym is) (lawful component held answer r).0
-
--- Whatever it may be told next, it is ready for it.
-pub unbundle_stays_ready : (component : Unbundle) (held : Held) (answer : Answer) (outcome : Outcome Unbundle) → UnbundleReady component held answer → UnbundleNext component held answer outcome → StaysReady UnbundleReady outcome
-unbundle_stays_ready component held answer outcome r is = subst (StaysReady UnbundleReady) (sym is) (lawful component held answer r).1
-
--- Its shape, and the ports that it uses, never change.
-pub unbundle_steady : (component : Unbundle) (held : Held) (answer : Answer) (outcome : Outcome Unbundle) → UnbundleNext component held answer outcome → IsSteady (λ _. one_to_one) (λ _. uses_first) component outcome
-unbundle_steady component held answer outcome is = record { shape = refl; outputs = refl }
+-- It keeps the laws of components.
+pub unbundle_lawful : Lawful unbundle_rules
+unbundle_lawful = record {
+  obeys = λ component held answer outcome r is. subst (Obeys one_to_one uses_first held) (sym is) (lawful component held answer r).0;
+  stays_ready = λ component held answer outcome r is. subst (StaysReady unbundle_rules) (sym is) (lawful component held answer r).1;
+  steady = λ component held answer outcome is. record { shape = refl; outputs = refl };
+  has_outcome = λ component held answer _. (unbundle_next component held answer, refl);
+}

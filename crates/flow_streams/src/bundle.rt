@@ -79,26 +79,12 @@ impl Bundle {
 }
 
 impl Component for Bundle {
-    ghost use Rattle.std.specs.Prelude.{refl};
-    ghost use Rattle.flow_component.specs.Ports.{one_to_one, uses_first};
-    ghost use Rattle.flow_streams.specs.Bundle.{BundleReady, BundleNext, bundle_next};
-    ghost use Rattle.flow_streams.specs.BundleLaws.{bundle_obeys, bundle_stays_ready, bundle_steady};
+    ghost use Rattle.flow_streams.specs.Bundle.{bundle_rules};
+    ghost use Rattle.flow_streams.specs.BundleLaws.{bundle_lawful};
 
-    ghost shape_of = { λ _. one_to_one };
+    ghost rules = { bundle_rules };
 
-    ghost uses = { λ _. uses_first };
-
-    ghost ready = { BundleReady };
-
-    ghost next = { BundleNext };
-
-    ghost obeys = { bundle_obeys };
-
-    ghost stays_ready = { bundle_stays_ready };
-
-    ghost steady = { bundle_steady };
-
-    ghost has_outcome = { λ component held answer _. (bundle_next component held answer, refl) };
+    ghost lawful = { bundle_lawful };
 
     fn shape(&self) -> Shape {
         Shape {

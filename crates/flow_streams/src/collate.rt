@@ -422,26 +422,12 @@ impl Collate {
 }
 
 impl Component for Collate {
-    ghost use Rattle.std.specs.Prelude.{refl};
-    ghost use Rattle.flow_component.specs.Ports.{uses_first};
-    ghost use Rattle.flow_streams.specs.Collate.{CollateReady, CollateNext, collate_shape, collate_next};
-    ghost use Rattle.flow_streams.specs.CollateLaws.{collate_obeys, collate_stays_ready, collate_steady};
+    ghost use Rattle.flow_streams.specs.Collate.{collate_rules};
+    ghost use Rattle.flow_streams.specs.CollateLaws.{collate_lawful};
 
-    ghost shape_of = { collate_shape };
+    ghost rules = { collate_rules };
 
-    ghost uses = { λ _. uses_first };
-
-    ghost ready = { CollateReady };
-
-    ghost next = { CollateNext };
-
-    ghost obeys = { collate_obeys };
-
-    ghost stays_ready = { collate_stays_ready };
-
-    ghost steady = { collate_steady };
-
-    ghost has_outcome = { λ component held answer _. (collate_next component held answer, refl) };
+    ghost lawful = { collate_lawful };
 
     fn shape(&self) -> Shape {
         Shape {

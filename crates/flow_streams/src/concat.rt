@@ -38,26 +38,12 @@ impl Concat {
 }
 
 impl Component for Concat {
-    ghost use Rattle.std.specs.Prelude.{refl};
-    ghost use Rattle.flow_component.specs.Ports.{uses_first};
-    ghost use Rattle.flow_streams.specs.Concat.{ConcatReady, ConcatNext, concat_shape, concat_next};
-    ghost use Rattle.flow_streams.specs.ConcatLaws.{concat_obeys, concat_stays_ready, concat_steady};
+    ghost use Rattle.flow_streams.specs.Concat.{concat_rules};
+    ghost use Rattle.flow_streams.specs.ConcatLaws.{concat_lawful};
 
-    ghost shape_of = { concat_shape };
+    ghost rules = { concat_rules };
 
-    ghost uses = { λ _. uses_first };
-
-    ghost ready = { ConcatReady };
-
-    ghost next = { ConcatNext };
-
-    ghost obeys = { concat_obeys };
-
-    ghost stays_ready = { concat_stays_ready };
-
-    ghost steady = { concat_steady };
-
-    ghost has_outcome = { λ component held answer _. (concat_next component held answer, refl) };
+    ghost lawful = { concat_lawful };
 
     fn shape(&self) -> Shape {
         Shape {

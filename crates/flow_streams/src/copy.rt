@@ -89,25 +89,12 @@ impl Copy {
 }
 
 impl Component for Copy {
-    ghost use Rattle.std.specs.Prelude.{refl};
-    ghost use Rattle.flow_streams.specs.Copy.{CopyReady, CopyNext, copy_shape, copy_uses, copy_next};
-    ghost use Rattle.flow_streams.specs.CopyLaws.{copy_obeys, copy_stays_ready, copy_steady};
+    ghost use Rattle.flow_streams.specs.Copy.{copy_rules};
+    ghost use Rattle.flow_streams.specs.CopyLaws.{copy_lawful};
 
-    ghost shape_of = { copy_shape };
+    ghost rules = { copy_rules };
 
-    ghost uses = { copy_uses };
-
-    ghost ready = { CopyReady };
-
-    ghost next = { CopyNext };
-
-    ghost obeys = { copy_obeys };
-
-    ghost stays_ready = { copy_stays_ready };
-
-    ghost steady = { copy_steady };
-
-    ghost has_outcome = { λ component held answer _. (copy_next component held answer, refl) };
+    ghost lawful = { copy_lawful };
 
     fn shape(&self) -> Shape {
         Shape {

@@ -15,27 +15,12 @@ impl Discard {
 }
 
 impl Component for Discard {
-    ghost use Rattle.std.specs.Prelude.{refl};
-    ghost use Rattle.flow_component.specs.Ports.{one_to_none, uses_none};
-    ghost use Rattle.flow_component.specs.Outcomes.{IsAtHand};
-    ghost use Rattle.flow_streams.specs.Discard.{DiscardNext, discards};
-    ghost use Rattle.flow_streams.specs.DiscardLaws.{discard_obeys, discard_stays_ready, discard_steady};
+    ghost use Rattle.flow_streams.specs.Discard.{discard_rules};
+    ghost use Rattle.flow_streams.specs.DiscardLaws.{discard_lawful};
 
-    ghost shape_of = { λ _. one_to_none };
+    ghost rules = { discard_rules };
 
-    ghost uses = { λ _. uses_none };
-
-    ghost ready = { λ _. IsAtHand };
-
-    ghost next = { DiscardNext };
-
-    ghost obeys = { discard_obeys };
-
-    ghost stays_ready = { discard_stays_ready };
-
-    ghost steady = { discard_steady };
-
-    ghost has_outcome = { λ component held answer _. (discards component held answer, refl) };
+    ghost lawful = { discard_lawful };
 
     fn shape(&self) -> Shape {
         Shape {

@@ -15,28 +15,12 @@ impl Hoard {
 }
 
 impl Component for Hoard {
-    ghost use Rattle.std.specs.Prelude.{refl};
-    ghost use Rattle.flow_component.specs.Laws.{Wishes};
-    ghost use Rattle.flow_component.specs.Ports.{one_to_none, uses_none};
-    ghost use Rattle.flow_component.specs.Outcomes.{IsAtHand};
-    ghost use Rattle.flow_streams.specs.Hoard.{HoardNext, hoards};
-    ghost use Rattle.flow_streams.specs.HoardLaws.{hoard_obeys, hoard_stays_ready, hoard_steady};
+    ghost use Rattle.flow_streams.specs.Hoard.{hoard_rules};
+    ghost use Rattle.flow_streams.specs.HoardLaws.{hoard_lawful};
 
-    ghost shape_of = { λ _. one_to_none };
+    ghost rules = { hoard_rules };
 
-    ghost uses = { λ _. uses_none };
-
-    ghost ready = { λ _. IsAtHand };
-
-    ghost next = { HoardNext };
-
-    ghost obeys = { hoard_obeys };
-
-    ghost stays_ready = { hoard_stays_ready };
-
-    ghost steady = { hoard_steady };
-
-    ghost has_outcome = { λ component held answer _. (Wishes component held (hoards answer), refl) };
+    ghost lawful = { hoard_lawful };
 
     fn shape(&self) -> Shape {
         Shape {

@@ -129,25 +129,12 @@ impl LoadBalance {
 }
 
 impl Component for LoadBalance {
-    ghost use Rattle.std.specs.Prelude.{refl};
-    ghost use Rattle.flow_streams.specs.LoadBalance.{LoadReady, LoadNext, load_shape, load_uses, load_next};
-    ghost use Rattle.flow_streams.specs.LoadBalanceLaws.{load_obeys, load_stays_ready, load_steady};
+    ghost use Rattle.flow_streams.specs.LoadBalance.{load_rules};
+    ghost use Rattle.flow_streams.specs.LoadBalanceLaws.{load_lawful};
 
-    ghost shape_of = { load_shape };
+    ghost rules = { load_rules };
 
-    ghost uses = { load_uses };
-
-    ghost ready = { LoadReady };
-
-    ghost next = { LoadNext };
-
-    ghost obeys = { load_obeys };
-
-    ghost stays_ready = { load_stays_ready };
-
-    ghost steady = { load_steady };
-
-    ghost has_outcome = { λ component held answer _. (load_next component held answer, refl) };
+    ghost lawful = { load_lawful };
 
     fn shape(&self) -> Shape {
         Shape {

@@ -15,28 +15,12 @@ impl Passthru {
 }
 
 impl Component for Passthru {
-    ghost use Rattle.std.specs.Prelude.{refl};
-    ghost use Rattle.flow_component.specs.Laws.{Wishes};
-    ghost use Rattle.flow_component.specs.Ports.{one_to_one, uses_first};
-    ghost use Rattle.flow_component.specs.Outcomes.{IsAtHand};
-    ghost use Rattle.flow_streams.specs.Passthru.{PassthruNext, passes};
-    ghost use Rattle.flow_streams.specs.PassthruLaws.{passthru_obeys, passthru_stays_ready, passthru_steady};
+    ghost use Rattle.flow_streams.specs.Passthru.{passthru_rules};
+    ghost use Rattle.flow_streams.specs.PassthruLaws.{passthru_lawful};
 
-    ghost shape_of = { λ _. one_to_one };
+    ghost rules = { passthru_rules };
 
-    ghost uses = { λ _. uses_first };
-
-    ghost ready = { λ _. IsAtHand };
-
-    ghost next = { PassthruNext };
-
-    ghost obeys = { passthru_obeys };
-
-    ghost stays_ready = { passthru_stays_ready };
-
-    ghost steady = { passthru_steady };
-
-    ghost has_outcome = { λ component held answer _. (Wishes component held (passes answer), refl) };
+    ghost lawful = { passthru_lawful };
 
     fn shape(&self) -> Shape {
         Shape {

@@ -156,25 +156,12 @@ impl Select {
 }
 
 impl Component for Select {
-    ghost use Rattle.std.specs.Prelude.{refl};
-    ghost use Rattle.flow_streams.specs.Select.{SelectReady, SelectNext, select_shape, select_uses, select_next};
-    ghost use Rattle.flow_streams.specs.SelectLaws.{select_obeys, select_stays_ready, select_steady};
+    ghost use Rattle.flow_streams.specs.Select.{select_rules};
+    ghost use Rattle.flow_streams.specs.SelectLaws.{select_lawful};
 
-    ghost shape_of = { λ _. select_shape };
+    ghost rules = { select_rules };
 
-    ghost uses = { select_uses };
-
-    ghost ready = { SelectReady };
-
-    ghost next = { SelectNext };
-
-    ghost obeys = { select_obeys };
-
-    ghost stays_ready = { select_stays_ready };
-
-    ghost steady = { select_steady };
-
-    ghost has_outcome = { λ component held answer _. (select_next component held answer, refl) };
+    ghost lawful = { select_lawful };
 
     fn shape(&self) -> Shape {
         Shape {

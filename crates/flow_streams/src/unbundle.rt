@@ -88,26 +88,12 @@ impl Unbundle {
 }
 
 impl Component for Unbundle {
-    ghost use Rattle.std.specs.Prelude.{refl};
-    ghost use Rattle.flow_component.specs.Ports.{one_to_one, uses_first};
-    ghost use Rattle.flow_streams.specs.Unbundle.{UnbundleReady, UnbundleNext, unbundle_next};
-    ghost use Rattle.flow_streams.specs.UnbundleLaws.{unbundle_obeys, unbundle_stays_ready, unbundle_steady};
+    ghost use Rattle.flow_streams.specs.Unbundle.{unbundle_rules};
+    ghost use Rattle.flow_streams.specs.UnbundleLaws.{unbundle_lawful};
 
-    ghost shape_of = { λ _. one_to_one };
+    ghost rules = { unbundle_rules };
 
-    ghost uses = { λ _. uses_first };
-
-    ghost ready = { UnbundleReady };
-
-    ghost next = { UnbundleNext };
-
-    ghost obeys = { unbundle_obeys };
-
-    ghost stays_ready = { unbundle_stays_ready };
-
-    ghost steady = { unbundle_steady };
-
-    ghost has_outcome = { λ component held answer _. (unbundle_next component held answer, refl) };
+    ghost lawful = { unbundle_lawful };
 
     fn shape(&self) -> Shape {
         Shape {

@@ -1,9 +1,9 @@
 //! Two processes in a circle, each of which waits for the other.
-use crate::{plan_of_text, started};
 use flow_catalogue::Std;
 use flow_component::NoGate;
 use flow_cycle::{Waits, cycle};
 use flow_machine::{Block, Net, Thought, solo};
+use flow_rig::{plan_of_text, started};
 use std::process::Abort;
 use std::test::Fail;
 

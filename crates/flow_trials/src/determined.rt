@@ -1,6 +1,6 @@
 //! Which networks are determinate.
-use crate::plan_of_text;
 use flow_determinate::determinate;
+use flow_rig::plan_of_text;
 use std::test::Fail;
 
 const TELEGRAM: &[u8] =

@@ -1,9 +1,10 @@
 //! Runs, made again by their journals.
-use crate::started;
 use flow_catalogue::Std;
 use flow_component::Port;
-use flow_journal::{Journal, RUN_LIMIT, Refusal, ReplayStop, replay};
+use flow_journal::{Journal, Refusal, ReplayStop, replay};
+use flow_limits::RUN_LIMIT;
 use flow_machine::{Block, Net, Status, solo};
+use flow_rig::started;
 use std::alloc::{AllocError, Global};
 use std::process::Abort;
 use std::test::Fail;

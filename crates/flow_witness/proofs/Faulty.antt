@@ -12,7 +12,7 @@ use Rattle.flow_model.specs.Events.{event_of}
 use Rattle.flow_model.specs.Verdicts.{IsFailed}
 use Rattle.flow_model.specs.Plans.{start_of, process_at_start, FitsProcess, StartsWell}
 use Rattle.flow_model.proofs.Replay.{run, run-leads}
-use Rattle.flow_witness.specs.Ends.{Faulty, faulty_shape, faulty_uses, FaultyReady, faulty_next, alone, alone_components, IsFailure}
+use Rattle.flow_witness.specs.Ends.{Faulty, faulty_next, faulty_rules, alone, alone_components, IsFailure}
 use Rattle.flow_witness.proofs.Wired.{at_one, no_initial, none_there}
 
 abbrev q0 : Entry
@@ -36,11 +36,11 @@ wired = record {
 abbrev x0 : Process Faulty
 x0 = process_at_start alone 0 q0 tt
 
-fits0 : FitsProcess faulty_shape faulty_uses FaultyReady x0.component x0
+fits0 : FitsProcess faulty_rules x0.component x0
 fits0 = record { inputs = refl; outputs = refl; used = λ port uses. absurd (let bad : false ≡ true = uses in cc); can_start = λ held empty. tt }
 
-starts : StartsWell faulty_shape faulty_uses FaultyReady alone alone_components
-starts = record { wired = wired; one_each = refl; fit = λ p x there. at_one (λ k y. FitsProcess faulty_shape faulty_uses FaultyReady y.component y) x0 fits0 p x there }
+starts : StartsWell faulty_rules alone alone_components
+starts = record { wired = wired; one_each = refl; fit = λ p x there. at_one (λ k y. FitsProcess faulty_rules y.component y) x0 fits0 p x there }
 
 abbrev or_start : Option (State Faulty) → State Faulty
 or_start (Some s) = s
@@ -63,4 +63,4 @@ failed = (
 
 -- The run ends with a failed process.
 pub failure : IsFailure
-failure = record { starts = starts; last = s1; leads = run-leads faulty_next (start_of alone alone_components) (0 ∷ []) [] s1 refl; failed = failed }
+failure = record { starts = starts; last = s1; leads = run-leads faulty_rules faulty_next (λ _ _ _. refl) (start_of alone alone_components) (0 ∷ []) [] s1 refl; failed = failed }

@@ -1,7 +1,11 @@
 pub mod Starting
 pub mod Round
 pub mod Wired
+pub mod FileNames
 pub mod Planned
 pub mod Ring
 pub mod Faulty
 pub mod Merge
+pub mod TelegramPlanned
+pub mod TelegramComposed
+pub mod Nights

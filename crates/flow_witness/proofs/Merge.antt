@@ -13,7 +13,7 @@ use Rattle.flow_model.specs.Plans.{start_of, process_at_start, FitsProcess, Star
 use Rattle.flow_model.proofs.Replay.{run, run-leads}
 use Rattle.flow_catalogue.specs.declared.standard.Std.{Std}
 use Rattle.flow_catalogue.specs.declared.standard.Std.TheVariants as components
-use Rattle.flow_catalogue.specs.Std.{std_shape, std_uses, StdReady, std_next}
+use Rattle.flow_catalogue.specs.Std.{std_next, std_rules}
 use Rattle.flow_witness.specs.Chain.{reader_of, writer_of}
 use Rattle.flow_witness.specs.Ends.{merge, merge_components, first_then, MergesTo, IsMerge}
 use Rattle.flow_witness.proofs.Wired.{at_one, at_two, at_three, only_first, no_initial, the_one, same_place, s0, s1, senders_differ}
@@ -81,17 +81,17 @@ x1 = process_at_start merge 1 q1 (components.ReadLines ((98 ∷ []) ∷ []))
 abbrev x2 : Process Std
 x2 = process_at_start merge 2 q2 (components.WriteLines [])
 
-fits0 : FitsProcess std_shape std_uses StdReady x0.component x0
+fits0 : FitsProcess std_rules x0.component x0
 fits0 = record { inputs = refl; outputs = refl; used = sends_first x0 refl; can_start = λ held empty. empty }
 
-fits1 : FitsProcess std_shape std_uses StdReady x1.component x1
+fits1 : FitsProcess std_rules x1.component x1
 fits1 = record { inputs = refl; outputs = refl; used = sends_first x1 refl; can_start = λ held empty. empty }
 
-fits2 : FitsProcess std_shape std_uses StdReady x2.component x2
+fits2 : FitsProcess std_rules x2.component x2
 fits2 = record { inputs = refl; outputs = refl; used = λ port uses. absurd (let bad : false ≡ true = uses in cc); can_start = λ held empty. tt }
 
-starts : StartsWell std_shape std_uses StdReady merge merge_components
-starts = record { wired = wired; one_each = refl; fit = λ p x there. at_three (λ k y. FitsProcess std_shape std_uses StdReady y.component y) x0 x1 x2 fits0 fits1 fits2 p x there }
+starts : StartsWell std_rules merge merge_components
+starts = record { wired = wired; one_each = refl; fit = λ p x there. at_three (λ k y. FitsProcess std_rules y.component y) x0 x1 x2 fits0 fits1 fits2 p x there }
 
 abbrev or_start : Option (State Std) → State Std
 or_start (Some s) = s
@@ -106,7 +106,7 @@ other_end = or_start (run std_next start (first_then 1 0).turns [])
 one : MergesTo (first_then 0 1) (97 ∷ 10 ∷ 98 ∷ 10 ∷ [])
 one = record {
   last = one_end;
-  leads = run-leads std_next start (first_then 0 1).turns [] one_end refl;
+  leads = run-leads std_rules std_next (λ _ _ _. refl) start (first_then 0 1).turns [] one_end refl;
   finished = λ p x there. at_three (λ k y. y.stage ≡ stages.Ended) (at one_end 0) (at one_end 1) (at one_end 2) refl refl refl p x there;
   writer = at one_end 2;
   there = refl;
@@ -116,7 +116,7 @@ one = record {
 other : MergesTo (first_then 1 0) (98 ∷ 10 ∷ 97 ∷ 10 ∷ [])
 other = record {
   last = other_end;
-  leads = run-leads std_next start (first_then 1 0).turns [] other_end refl;
+  leads = run-leads std_rules std_next (λ _ _ _. refl) start (first_then 1 0).turns [] other_end refl;
   finished = λ p x there. at_three (λ k y. y.stage ≡ stages.Ended) (at other_end 0) (at other_end 1) (at other_end 2) refl refl refl p x there;
   writer = at other_end 2;
   there = refl;

@@ -1,7 +1,5 @@
 -- The first network is the plan of its text: what the calls of a builder make of it, one after another.
-use Rattle.std.proofs.Common.{◌≡◌, ℕ, zero, suc, ◌<◌, None, Ok, codes, get_or, refl, arith}
-use Rattle.std.specs.List.{slice_index}
-use Rattle.std.proofs.lemmas.Str.{IsUtf8-from_ascii}
+use Rattle.std.proofs.Common.{ℕ, zero, suc, None, Ok, codes, refl, arith}
 use Rattle.flow_net.specs.declared.draft.End.{End}
 use Rattle.flow_net.specs.Drafts.{Draft}
 use Rattle.flow_net.specs.Calls.{with_process, joined, given}
@@ -12,6 +10,7 @@ use Rattle.flow_flat.proofs.Outcomes.{told_is_said}
 use Rattle.flow_catalogue.specs.declared.table.StdKind.TheVariants as kinds
 use Rattle.flow_catalogue.specs.Kinds.{spec_of, std_kinds}
 use Rattle.flow_witness.specs.FirstRun.{first_network, first_component}
+use Rattle.flow_witness.proofs.FileNames.{plain-name}
 
 -- The draft with its three processes.
 abbrev named : Draft
@@ -37,49 +36,11 @@ with_second = joined with_first (at 6) (at 9) None
 abbrev with_output : Draft
 with_output = given with_second (at 8) (codes "out.txt")
 
-in_ascii : (i : ℕ) → slice_index (codes "in.txt") i < 128
-in_ascii zero = omega arith
-in_ascii (suc zero) = omega arith
-in_ascii (suc (suc zero)) = omega arith
-in_ascii (suc (suc (suc zero))) = omega arith
-in_ascii (suc (suc (suc (suc zero)))) = omega arith
-in_ascii (suc (suc (suc (suc (suc zero))))) = omega arith
-in_ascii (suc (suc (suc (suc (suc (suc i)))))) = omega arith
-
-in_bytes : (k d : ℕ) → k < 6 → get_or (codes "in.txt") k d ≡ 0 → ⊥
-in_bytes zero d below is = absurd (omega (arith, is))
-in_bytes (suc zero) d below is = absurd (omega (arith, is))
-in_bytes (suc (suc zero)) d below is = absurd (omega (arith, is))
-in_bytes (suc (suc (suc zero))) d below is = absurd (omega (arith, is))
-in_bytes (suc (suc (suc (suc zero)))) d below is = absurd (omega (arith, is))
-in_bytes (suc (suc (suc (suc (suc zero))))) d below is = absurd (omega (arith, is))
-in_bytes (suc (suc (suc (suc (suc (suc k)))))) d below is = absurd (omega (arith, below))
-
 in_name : IsFileName (codes "in.txt")
-in_name = (omega arith, omega arith, IsUtf8-from_ascii (codes "in.txt") in_ascii, in_bytes)
-
-out_ascii : (i : ℕ) → slice_index (codes "out.txt") i < 128
-out_ascii zero = omega arith
-out_ascii (suc zero) = omega arith
-out_ascii (suc (suc zero)) = omega arith
-out_ascii (suc (suc (suc zero))) = omega arith
-out_ascii (suc (suc (suc (suc zero)))) = omega arith
-out_ascii (suc (suc (suc (suc (suc zero))))) = omega arith
-out_ascii (suc (suc (suc (suc (suc (suc zero)))))) = omega arith
-out_ascii (suc (suc (suc (suc (suc (suc (suc i))))))) = omega arith
-
-out_bytes : (k d : ℕ) → k < 7 → get_or (codes "out.txt") k d ≡ 0 → ⊥
-out_bytes zero d below is = absurd (omega (arith, is))
-out_bytes (suc zero) d below is = absurd (omega (arith, is))
-out_bytes (suc (suc zero)) d below is = absurd (omega (arith, is))
-out_bytes (suc (suc (suc zero))) d below is = absurd (omega (arith, is))
-out_bytes (suc (suc (suc (suc zero)))) d below is = absurd (omega (arith, is))
-out_bytes (suc (suc (suc (suc (suc zero))))) d below is = absurd (omega (arith, is))
-out_bytes (suc (suc (suc (suc (suc (suc zero)))))) d below is = absurd (omega (arith, is))
-out_bytes (suc (suc (suc (suc (suc (suc (suc k))))))) d below is = absurd (omega (arith, below))
+in_name = plain-name (codes "in.txt") refl
 
 out_name : IsFileName (codes "out.txt")
-out_name = (omega arith, omega arith, IsUtf8-from_ascii (codes "out.txt") out_ascii, out_bytes)
+out_name = plain-name (codes "out.txt") refl
 
 drafted : IsDraft std_kinds first_component (Ok with_output)
 drafted = (Ok with_input, (at 0, refl, in_name, refl), (Ok with_first, refl, (Ok with_second, refl, (Ok with_output, (at 8, refl, out_name, refl), refl))))

@@ -16,7 +16,7 @@ use Rattle.flow_model.specs.Verdicts.{IsDeadlock}
 use Rattle.flow_model.specs.Plans.{start_of, process_at_start, FitsProcess, StartsWell}
 use Rattle.flow_catalogue.specs.declared.standard.Std.{Std}
 use Rattle.flow_catalogue.specs.declared.standard.Std.TheVariants as components
-use Rattle.flow_catalogue.specs.Std.{std_shape, std_uses, StdReady}
+use Rattle.flow_catalogue.specs.Std.{std_rules}
 use Rattle.flow_witness.specs.Chain.{pass_of, link_of}
 use Rattle.flow_witness.specs.FirstRun.{passing}
 use Rattle.flow_witness.specs.Ends.{ring, ring_components, IsStuck}
@@ -80,14 +80,14 @@ x0 = process_at_start ring 0 q0 (components.Passthru passing)
 abbrev x1 : Process Std
 x1 = process_at_start ring 1 q1 (components.Passthru passing)
 
-fits0 : FitsProcess std_shape std_uses StdReady x0.component x0
+fits0 : FitsProcess std_rules x0.component x0
 fits0 = record { inputs = refl; outputs = refl; used = sends_first x0 refl; can_start = λ held empty. tt }
 
-fits1 : FitsProcess std_shape std_uses StdReady x1.component x1
+fits1 : FitsProcess std_rules x1.component x1
 fits1 = record { inputs = refl; outputs = refl; used = sends_first x1 refl; can_start = λ held empty. tt }
 
-starts : StartsWell std_shape std_uses StdReady ring ring_components
-starts = record { wired = wired; one_each = refl; fit = λ p x there. at_two (λ k y. FitsProcess std_shape std_uses StdReady y.component y) x0 x1 fits0 fits1 p x there }
+starts : StartsWell std_rules ring ring_components
+starts = record { wired = wired; one_each = refl; fit = λ p x there. at_two (λ k y. FitsProcess std_rules y.component y) x0 x1 fits0 fits1 p x there }
 
 deadlock : IsDeadlock s
 deadlock = (

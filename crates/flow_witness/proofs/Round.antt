@@ -3,54 +3,38 @@ use Rattle.std.proofs.Common.{◌≡◌, ℕ, List, [], ◌∷◌, ◌++◌, Som
 use Rattle.std.specs.Prelude.{option_and_then}
 use Rattle.flow_packet.specs.Held.{Held}
 use Rattle.flow_component.specs.declared.Answer.{Answer}
-use Rattle.flow_component.specs.Laws.{Outcome}
+use Rattle.flow_component.specs.Laws.{Rules, Outcome}
 use Rattle.flow_model.specs.declared.Stage.TheVariants as stages
 use Rattle.flow_model.specs.States.{Process, Kept, State}
-use Rattle.flow_model.specs.Events.{Event, Starts, Finishes, Gets, Takes_text, Hears_end, Sends, Learns, Sleeps, Closes, Signals, looks, stage_event, seen_by}
+use Rattle.flow_model.specs.Events.{Event, Learns, looks, stage_event, seen_by}
 use Rattle.flow_model.specs.Schedules.{Journal, no_turns}
 use Rattle.flow_model.specs.Verdicts.{HasNoTurn, IsFinished}
 use Rattle.flow_model.specs.Robin.{IsExact, TurnsOf, Pass, RoundRobin}
-use Rattle.flow_model.proofs.Replay.{Graph, run, step, step-is}
+use Rattle.flow_model.proofs.Replay.{Computes, run, step, step-is}
 use Rattle.flow_catalogue.specs.declared.standard.Std.{Std}
 use Rattle.flow_catalogue.specs.declared.standard.Std.TheVariants as components
-use Rattle.flow_catalogue.specs.Std.{std_next}
+use Rattle.flow_catalogue.specs.Std.{std_next, std_rules}
 use Rattle.flow_witness.proofs.Wired.{at_three}
 use Rattle.flow_witness.specs.FirstRun.{first_start, first_journal, passing}
 
 no-number : (event : Event) (rest : List ℕ) → [] ≡ seen_by event ++ rest → (seen_by event ≡ []) × (rest ≡ [])
 no-number (Learns port level) rest is = absurd (cc)
-no-number Starts rest is = (refl, sym is)
-no-number Finishes rest is = (refl, sym is)
-no-number (Gets port c packet) rest is = (refl, sym is)
-no-number (Takes_text port text) rest is = (refl, sym is)
-no-number (Hears_end port) rest is = (refl, sym is)
-no-number (Sends port c packet) rest is = (refl, sym is)
-no-number Sleeps rest is = (refl, sym is)
-no-number (Closes output c) rest is = (refl, sym is)
-no-number (Signals c packet) rest is = (refl, sym is)
+no-number event rest is = (refl, sym is)
 
 exact-none : {K : Type 0} (kept : Kept K) (x : Process K) (event : Event) → seen_by event ≡ [] → IsExact kept x event
 exact-none kept x (Learns port level) is = absurd (cc)
-exact-none kept x Starts is = tt
-exact-none kept x Finishes is = tt
-exact-none kept x (Gets port c packet) is = tt
-exact-none kept x (Takes_text port text) is = tt
-exact-none kept x (Hears_end port) is = tt
-exact-none kept x (Sends port c packet) is = tt
-exact-none kept x Sleeps is = tt
-exact-none kept x (Closes output c) is = tt
-exact-none kept x (Signals c packet) is = tt
+exact-none kept x event is = tt
 
 -- turns of one process that ask for no level, computed
-pub run-turns : {K : Type 0} (next : K → Held → Answer → Outcome K) (p n : ℕ) (s s' : State K) → run next s (replicate n p) [] ≡ Some s' → TurnsOf (Graph next) p s (replicate n p) [] s'
-run-turns next p zero s s' is = (refl, (let h : s ≡ s' = cc in sym h))
-run-turns {K} next p (suc n) s s' is = go (step next s p []) refl is (λ r more. run-turns next p n r s' more)
+pub run-turns : {K : Type 0} (rules : Rules K) (next : K → Held → Answer → Outcome K) → Computes rules next → (p n : ℕ) (s s' : State K) → run next s (replicate n p) [] ≡ Some s' → TurnsOf rules p s (replicate n p) [] s'
+run-turns rules next computes p zero s s' is = (refl, (let h : s ≡ s' = cc in sym h))
+run-turns {K} rules next computes p (suc n) s s' is = go (step next s p []) refl is (λ r more. run-turns rules next computes p n r s' more)
   where
     go : (found : Option (State K × List ℕ)) → step next s p [] ≡ found → option_and_then (λ (r : State K × List ℕ). run next r.0 (replicate n p) r.1) found ≡ Some s'
-        → ((r : State K) → run next r (replicate n p) [] ≡ Some s' → TurnsOf (Graph next) p r (replicate n p) [] s') → TurnsOf (Graph next) p s (p ∷ replicate n p) [] s'
+        → ((r : State K) → run next r (replicate n p) [] ≡ Some s' → TurnsOf rules p r (replicate n p) [] s') → TurnsOf rules p s (p ∷ replicate n p) [] s'
     go None at more rest = absurd (cc)
     go (Some r) at more rest =
-        let one = step-is next s p [] r at in
+        let one = step-is rules next computes s p [] r at in
         let none = no-number one.event r.1 one.numbers in
         let more' : run next r.0 (replicate n p) [] ≡ Some s' = subst (λ (ns : List ℕ). run next r.0 (replicate n p) ns ≡ Some s') none.1 more in (
           refl,
@@ -101,7 +85,7 @@ abbrev pub at : State Std → ℕ → Process Std
 at s p = process_of (slice_get s.kept.processes p)
 
 -- the only pass
-pub one_pass : Pass (Graph std_next) s0 first_journal s3
+pub one_pass : Pass std_rules s0 first_journal s3
 one_pass = (
   turns_only (replicate 5 0 ++ replicate 7 1),
   turns_only (replicate 5 2),
@@ -112,14 +96,14 @@ one_pass = (
     turns_only (replicate 7 1),
     s1,
     refl,
-    (no_turns, turns_only (replicate 5 0), s0, refl, (refl, refl), (run-turns std_next 0 5 s0 s1 refl, ended s1.kept 0 (at s1 0) refl refl)),
-    (run-turns std_next 1 7 s1 s2 refl, ended s2.kept 1 (at s2 1) refl refl),
+    (no_turns, turns_only (replicate 5 0), s0, refl, (refl, refl), (run-turns std_rules std_next (λ _ _ _. refl) 0 5 s0 s1 refl, ended s1.kept 0 (at s1 0) refl refl)),
+    (run-turns std_rules std_next (λ _ _ _. refl) 1 7 s1 s2 refl, ended s2.kept 1 (at s2 1) refl refl),
   ),
-  (run-turns std_next 2 5 s2 s3 refl, ended s3.kept 2 (at s3 2) refl refl),
+  (run-turns std_rules std_next (λ _ _ _. refl) 2 5 s2 s3 refl, ended s3.kept 2 (at s3 2) refl refl),
 )
 
 -- and the pass after it, which is empty
-pub no_pass : Pass (Graph std_next) s3 no_turns s3
+pub no_pass : Pass std_rules s3 no_turns s3
 no_pass = (
   no_turns,
   no_turns,
@@ -130,7 +114,7 @@ no_pass = (
 )
 
 -- The journal is the round robin.
-pub is_round : RoundRobin (Graph std_next) s0 first_journal s3
+pub is_round : RoundRobin std_rules s0 first_journal s3
 is_round = record { passes = first_journal ∷ []; whole = refl; go = ((λ h. cc), (s3, one_pass, refl)); last = no_pass }
 
 -- every process has ended

@@ -7,7 +7,7 @@ use Rattle.flow_model.specs.States.{Process, output_at}
 use Rattle.flow_model.specs.Plans.{StartsWell, FitsProcess, process_at_start}
 use Rattle.flow_catalogue.specs.declared.standard.Std.{Std}
 use Rattle.flow_catalogue.specs.declared.standard.Std.TheVariants as components
-use Rattle.flow_catalogue.specs.Std.{std_shape, std_uses, StdReady}
+use Rattle.flow_catalogue.specs.Std.{std_rules}
 use Rattle.flow_witness.proofs.Wired.{chain-wired, at_three}
 use Rattle.flow_witness.specs.Chain.{reader_of, pass_of, writer_of}
 use Rattle.flow_witness.specs.FirstRun.{first_network, first_components, passing}
@@ -28,19 +28,19 @@ sends_first x is port uses =
     let first : 0 ≡ port = grind (arith, nat_tests) in
     subst (λ n. IsSome (output_at x n)) first is
 
-reader_fits : FitsProcess std_shape std_uses StdReady reader.component reader
+reader_fits : FitsProcess std_rules reader.component reader
 reader_fits = record { inputs = refl; outputs = refl; used = sends_first reader refl; can_start = λ held empty. empty }
 
-passer_fits : FitsProcess std_shape std_uses StdReady passer.component passer
+passer_fits : FitsProcess std_rules passer.component passer
 passer_fits = record { inputs = refl; outputs = refl; used = sends_first passer refl; can_start = λ held empty. tt }
 
-writer_fits : FitsProcess std_shape std_uses StdReady writer.component writer
+writer_fits : FitsProcess std_rules writer.component writer
 writer_fits = record { inputs = refl; outputs = refl; used = λ port uses. absurd (let bad : false ≡ true = uses in cc); can_start = λ held empty. tt }
 
 -- The network may start with these components.
-pub starts : StartsWell std_shape std_uses StdReady first_network first_components
+pub starts : StartsWell std_rules first_network first_components
 starts = record {
   wired = chain-wired (codes "Read") (codes "in.txt") (codes "Pass") (codes "Write") (codes "out.txt");
   one_each = refl;
-  fit = λ p x there. at_three (λ k y. FitsProcess std_shape std_uses StdReady y.component y) reader passer writer reader_fits passer_fits writer_fits p x there;
+  fit = λ p x there. at_three (λ k y. FitsProcess std_rules y.component y) reader passer writer reader_fits passer_fits writer_fits p x there;
 }

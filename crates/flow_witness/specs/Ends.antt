@@ -4,7 +4,7 @@ use Rattle.flow_packet.specs.Held.{Held}
 use Rattle.flow_component.specs.declared.Answer.{Answer}
 use Rattle.flow_component.specs.declared.Shape.{Shape}
 use Rattle.flow_component.specs.declared.Fail.TheVariants as fails
-use Rattle.flow_component.specs.Laws.{Outcome, Fails}
+use Rattle.flow_component.specs.Laws.{Rules, Outcome, Fails}
 use Rattle.flow_component.specs.Ports.{uses_none}
 use Rattle.flow_plan.specs.declared.kind.PortClass.TheVariants.{Stream, File}
 use Rattle.flow_plan.specs.declared.plan.PortTable.{PortTable}
@@ -15,7 +15,7 @@ use Rattle.flow_model.specs.Verdicts.{IsFinished, IsFailed, IsDeadlock}
 use Rattle.flow_model.specs.Plans.{start_of, StartsWell}
 use Rattle.flow_catalogue.specs.declared.standard.Std.{Std}
 use Rattle.flow_catalogue.specs.declared.standard.Std.TheVariants as components
-use Rattle.flow_catalogue.specs.Std.{std_shape, std_uses, StdReady, StdNext}
+use Rattle.flow_catalogue.specs.Std.{std_rules}
 use Rattle.flow_witness.specs.Chain.{plain_row, reader_of, pass_of, writer_of, link_of}
 use Rattle.flow_witness.specs.FirstRun.{passing}
 
@@ -43,7 +43,7 @@ ring_components = components.Passthru passing ∷ components.Passthru passing �
 
 -- The ring starts well, and is a deadlock from the first on: each of the two waits for the other.
 pub record IsStuck : Type 0 where
-  pub starts : StartsWell std_shape std_uses StdReady ring ring_components
+  pub starts : StartsWell std_rules ring ring_components
   pub deadlock : IsDeadlock (start_of ring ring_components)
 
 -- A component without ports that fails whatever it is told.
@@ -69,6 +69,10 @@ faulty_next component held answer = Fails component held fails.HandsLimit
 abbrev pub FaultyNext : Faulty → Held → Answer → Outcome Faulty → Type 0
 FaultyNext component held answer outcome = outcome ≡ faulty_next component held answer
 
+-- All that a network knows of it.
+abbrev pub faulty_rules : Rules Faulty
+faulty_rules = record { shape = faulty_shape; uses = faulty_uses; ready = FaultyReady; next = FaultyNext }
+
 -- A network of one such process.
 abbrev pub alone : Network
 alone = record {
@@ -83,9 +87,9 @@ alone_components = tt ∷ []
 
 -- It starts well, and its one turn leads to a state in which it has failed and nothing goes on.
 pub record IsFailure : Type 0 where
-  pub starts : StartsWell faulty_shape faulty_uses FaultyReady alone alone_components
+  pub starts : StartsWell faulty_rules alone alone_components
   pub last : State Faulty
-  pub leads : Leads FaultyNext (start_of alone alone_components) (record { turns = 0 ∷ []; seen = [] }) last
+  pub leads : Leads faulty_rules (start_of alone alone_components) (record { turns = 0 ∷ []; seen = [] }) last
   pub failed : IsFailed last
 
 -- Two readers that send to one connection, and a writer that receives from it.
@@ -107,7 +111,7 @@ first_then p q = record { turns = (replicate 5 p ++ replicate 5 q) ++ replicate 
 -- A schedule with this journal leads to an end in which every process has ended, and the writer has these bytes.
 pub record MergesTo (journal : Journal) (bytes : List ℕ) : Type 0 where
   pub last : State Std
-  pub leads : Leads StdNext (start_of merge merge_components) journal last
+  pub leads : Leads std_rules (start_of merge merge_components) journal last
   pub finished : IsFinished last
   pub writer : Process Std
   pub there : slice_get last.kept.processes 2 ≡ Some writer
@@ -115,6 +119,6 @@ pub record MergesTo (journal : Journal) (bytes : List ℕ) : Type 0 where
 
 -- The merge starts well, and finishes with either line first: which one is up to the schedule.
 pub record IsMerge : Type 0 where
-  pub starts : StartsWell std_shape std_uses StdReady merge merge_components
+  pub starts : StartsWell std_rules merge merge_components
   pub one : MergesTo (first_then 0 1) (97 ∷ 10 ∷ 98 ∷ 10 ∷ [])
   pub other : MergesTo (first_then 1 0) (98 ∷ 10 ∷ 97 ∷ 10 ∷ [])

@@ -10,7 +10,7 @@ use Rattle.flow_witness.specs.Chain.{chain_of}
 use Rattle.flow_streams.specs.declared.passthru.Passthru.{Passthru}
 use Rattle.flow_catalogue.specs.declared.standard.Std.{Std}
 use Rattle.flow_catalogue.specs.declared.standard.Std.TheVariants as components
-use Rattle.flow_catalogue.specs.Std.{std_shape, std_uses, StdReady, StdNext}
+use Rattle.flow_catalogue.specs.Std.{std_rules}
 use Rattle.flow_model.specs.States.{Process, State}
 use Rattle.flow_model.specs.Schedules.{Journal}
 use Rattle.flow_model.specs.Places.{places}
@@ -58,9 +58,9 @@ first_journal = record { turns = (replicate 5 0 ++ replicate 7 1) ++ replicate 5
 -- the line and a line feed.
 pub record IsFirstRun : Type 0 where
   pub planned : ComesTo std_kinds first_component (Ok first_network)
-  pub starts : StartsWell std_shape std_uses StdReady first_network first_components
+  pub starts : StartsWell std_rules first_network first_components
   pub last : State Std
-  pub round : RoundRobin StdNext first_start first_journal last
+  pub round : RoundRobin std_rules first_start first_journal last
   pub finished : IsFinished last
   pub empty : places last ≡ []
   pub writer : Process Std

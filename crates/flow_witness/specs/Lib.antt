@@ -3,3 +3,5 @@ pub mod FirstRun
 pub mod Twice
 pub mod Mute
 pub mod Ends
+pub mod Telegram
+pub mod Nightly

@@ -3,10 +3,16 @@
 //! The first run is that of a chain. Its network is written out in `specs/Chain.antt`, and is what a builder makes of a text.
 #![tactic(auto)]
 
+mod nightly;
+mod telegram;
+
 ghost use Rattle.flow_witness.specs.Ends.{IsStuck, IsFailure, IsMerge};
 ghost use Rattle.flow_witness.specs.FirstRun.{IsFirstRun};
 ghost use Rattle.flow_witness.specs.Mute.{MuteIsRefused};
 ghost use Rattle.flow_witness.specs.Twice.{TwiceIsRefused};
+
+pub use nightly::the_nightly_network_is_a_batch_update;
+pub use telegram::the_telegram_composes;
 
 /// The chain of a reader of the one line `x`, a process that passes it on and a writer is the plan of what a network file says of it,
 /// over the standard kinds; with their components it starts well; five turns of the reader, seven of the second process and five of the

@@ -1,496 +1,279 @@
 -- What the lines of a command ask for.
-use Rattle.std.proofs.Common.{◌≡◌, ◌≤◌, ◌+◌, ◌⊎◌, refl, true, false, ℕ, List, [], ◌∷◌, ◌++◌, Some, None, Option, codes, inl, inr, sym, ◌∙◌, ap, arith}
-use Rattle.std.specs.Fmt.{decimal}
-use Rattle.std.specs.Option.{option_and_then, option_map}
+use Rattle.std.proofs.Common.{◌≡◌, ◌∙◌, refl, sym, ap, ap₂, subst, inl, inr, Bool, true, false, ℕ, List, [], ◌∷◌, ◌++◌, Some, None, Option, codes}
+use Rattle.std.proofs.lemmas.List.{append-nil, append_assoc}
+use Rattle.std.proofs.lemmas.Slice.Eq.{bytes_eq-Decides}
+use Rattle.std.specs.Prelude.{find, fold, is_some, map, not, option_map, ◌&&◌, ◌||◌, if◌then◌else◌}
 use Rattle.std.specs.Str.{bytes_eq}
-use Rattle.clap.specs.Lexer.{long_of, short_of}
-use Rattle.clap.specs.Faults.{fault_of, is_simple_and_free, turn_fault}
-use Rattle.clap.specs.Simple.{App, built, filled, is_simple, matches_of}
-use Rattle.clap.specs.Walk.{Held, Row, Rule, Text, Walk, idle, option, nothing_held, reacted, settled, plain_word, walk_from, walked, word_met}
-use Rattle.clap.proofs.OnLiterals.{clap_on_literals}
-use Rattle.flow_limits.specs.declared.TheConstants.{NUMBER_LIMIT, WORKER_LIMIT}
-use Rattle.flow_words.specs.Words.{Asked, Run, Check, Judge, Replay, Make, Kinds, IsWithinBounds, asked_in, command_of, flag_rule, given_workers, line_app, make_by}
-use Rattle.flow_words.proofs.Numbers.{own-number}
-use Rattle.flow_words.specs.Lines.{AreBoth, AskFor, IsBesideName, IsName, IsOption, IsWord, is_flag, joined}
+use Rattle.std.specs.Option.{option_map_or}
+use Rattle.clap.specs.Faults.{default_fault, defaults_fault, entered_fault, fault_of, given_default_fault, is_simple_and_free, level_fault, option_fault, react_fault, settle_fault, use_fault, walk_fault}
+use Rattle.clap.specs.Kinds.{Kinds, or_else}
+use Rattle.clap.specs.Simple.{App, built, entered, is_simple, matches_of}
+use Rattle.clap.specs.Walk.{Row, Rule, Text, Walk, flag_met, has_row, is_empty, nothing_held, option_met, settled, settled_rows, used, used_by_id, walk_from, walked, with_default}
+use Rattle.clap.specs.declared.error.kind.ErrorKind.TheVariants.{ArgumentConflict, TooManyValues}
+use Rattle.flow_words.specs.declared.argument.Argument.{Argument}
+use Rattle.flow_words.specs.declared.argument.Argument.TheVariants.{NetFile}
+use Rattle.flow_words.specs.declared.argument.Shape.{Shape}
+use Rattle.flow_words.specs.declared.argument.Shape.TheVariants.{Name, Flag, Valued}
+use Rattle.flow_words.specs.Arguments.{arguments, name_of, shape_of}
+use Rattle.flow_words.specs.Lines.{AreOnce, AreWords, EndsLine, Given, IsLine, dashed, is_flag, values_of}
+use Rattle.flow_words.specs.Words.{Asked, command_of, form_of, line_app, value_in}
+use Rattle.flow_words.proofs.Facts.{built_rule, by_word, facts, is_name, is_net_file, is_valued, kept_values, only, raw_values, rules, top, value_count}
+use Rattle.flow_words.proofs.Rows.{AreBare, Free, defaults_kept, free_more, nothing_free, row_for, used_once, values_there}
+use Rattle.flow_words.proofs.Steps.{IsUse, Moves, at, behind, end_moves, held_at, name_moves, opened, option_moves, two_words, use_moves, value_moves}
 
-abbrev rules : List Rule
-rules = (built line_app).top.rules
+-- Once what is pending is used, there are these rows, and that is no fault.
+record Stands (rows : List Row) (pending : Option (Text × List Text)) (done : List Row) : Type 0 where
+  are : settled_rows rules pending rows ≡ done
+  free : settle_fault rules false (held_at rows pending) ≡ []
 
--- The flags that stand beside a name.
-data Mark : Type 0 where
-  checks : Mark
-  judges : Mark
+-- An argument that wasn't given is used, and that is no fault.
+uses : (a : Argument) (value : Text) (rows : List Row) → has_row (name_of a) rows ≡ false → used (built_rule a) (raw_values (shape_of a) value) rows ≡ rows ++ row_for (a, value) ∷ []
+uses a value rows none = (facts a).uses value rows ∙ used_once a (kept_values (shape_of a) value) rows none
 
--- The name of the flag.
-abbrev mark_name : Mark → Text
-mark_name checks = codes "check"
-mark_name judges = codes "determinate"
+use_free : (a : Argument) (value : Text) (rows : List Row) → has_row (name_of a) rows ≡ false → use_fault false (built_rule a) (raw_values (shape_of a) value) rows ≡ []
+use_free a value rows none = (facts a).faults value rows ∙ ap (λ (b : Bool). or_else (if b && not false then ArgumentConflict ∷ [] else []) []) none
 
--- The word of the flag.
-abbrev mark_word : Mark → Text
-mark_word checks = codes "--check"
-mark_word judges = codes "--determinate"
-
--- What a line with the flag asks for.
-abbrev with_mark : Mark → Text → Asked
-with_mark checks net = Check net
-with_mark judges net = Judge net
-
--- What is held after the flag.
-abbrev flagged : Mark → Held
-flagged mark = reacted rules (filled (flag_rule (mark_name mark))) [] nothing_held
-
-no-dashes : (word : Text) → is_flag word ≡ false → bytes_eq word (45 ∷ 45 ∷ []) ≡ false
-no-dashes [] plain = refl
-no-dashes (first ∷ rest) plain = rw plain refl
-
-no-long : (word : Text) → is_flag word ≡ false → long_of word ≡ None
-no-long [] plain = refl
-no-long (first ∷ rest) plain = rw plain refl
-
-no-short : (word : Text) → is_flag word ≡ false → short_of word ≡ None
-no-short [] plain = refl
-no-short (first ∷ rest) plain = rw plain refl
-
--- A plain word where nothing waits for a value.
-name-met : (held : Held) (word : Text) → is_flag word ≡ false → word_met rules [] false idle 1 word held ≡ plain_word rules idle word held
-unfolding clap_on_literals
-name-met held word plain = rw (no-dashes word plain, no-long word plain, no-short word plain) refl
-
--- A walk that stands before the first name, with this held.
-abbrev with_name : Text → List Row → Walk
-with_name name rows = record {
-  held = record { rows = rows; pending = Some (codes "NETFILE", name ∷ []); skip = 0 };
-  waiting = idle;
-  position = 2;
-  is_trailing = false;
-  stopped = None;
+-- So it is where it waits for the next word.
+pending_stands : (a : Argument) (value : Text) (rows done : List Row) → raw_values (shape_of a) value ≡ value ∷ [] → rows ≡ done → has_row (name_of a) done ≡ false
+    → Stands rows (Some (name_of a, value ∷ [])) (done ++ row_for (a, value) ∷ [])
+pending_stands a value rows done raw are none = record {
+  are = ap (λ (o : Option Rule). used_by_id o (value ∷ []) rows) (facts a).by_id ∙ ap₂ (used (built_rule a)) (sym raw) are ∙ uses a value done none;
+  free = ap (λ (o : Option Rule). option_map_or (λ (r : Rule). use_fault false r (value ∷ []) rows) o []) (facts a).by_id
+      ∙ ap₂ (use_fault false (built_rule a)) (sym raw) are ∙ use_free a value done none;
 }
 
-name-walk : (name : Text) → is_flag name ≡ false → walked rules [] (walk_from nothing_held) name ≡ with_name name []
-unfolding clap_on_literals
-name-walk name plain = rw (name-met nothing_held name plain) refl
+-- The words of an argument take the walk to a place with its row. Only a name changes where the next name goes.
+record Moved (rows : List Row) (pending : Option (Text × List Text)) (position : ℕ) (done : List Row) (g : Given) (words : List Text) : Type 0 where
+  new_rows : List Row
+  new_pending : Option (Text × List Text)
+  new_position : ℕ
+  moves : Moves (at rows pending position) (at new_rows new_pending new_position) words
+  stands : Stands new_rows new_pending (done ++ row_for g ∷ [])
+  place : is_name (shape_of g.0) ≡ false → new_position ≡ position
 
-flagged-walk : (mark : Mark) (name : Text) → is_flag name ≡ false → walked rules [] (walk_from (flagged mark)) name ≡ with_name name (flagged mark).rows
-unfolding clap_on_literals
-flagged-walk checks name plain = rw (name-met (flagged checks) name plain) refl
-flagged-walk judges name plain = rw (name-met (flagged judges) name plain) refl
+-- The word of a flag.
+flag_word : (a : Argument) → shape_of a ≡ Flag → IsUse (dashed (name_of a)) (name_of a) None (built_rule a) []
+flag_word a is =
+    let takes : is_valued (shape_of a) ≡ false = ap is_valued is in
+    record {
+      no_end = (facts a).no_end;
+      long = (facts a).long;
+      found = (facts a).by_long ∙ ap (λ (s : Shape). by_word s (built_rule a)) is;
+      met = λ h. ap (λ (b : Bool). if b then option_met rules (built_rule a) None h else flag_met rules (built_rule a) None h) ((facts a).takes ∙ takes);
+      faults = λ h. ap (λ (b : Bool). if b then option_fault rules false (built_rule a) None h else react_fault rules false (built_rule a) [] h) ((facts a).takes ∙ takes);
+    }
 
-name-turn : (name : Text) → is_flag name ≡ false → turn_fault (built line_app).top [] (walk_from nothing_held) name ≡ []
-unfolding clap_on_literals
-name-turn name plain = rw (name-met nothing_held name plain, no-dashes name plain, no-long name plain, no-short name plain) refl
+-- The word of an option that has its value.
+joined_word : (a : Argument) (value : Text) → shape_of a ≡ Valued → IsUse (dashed (name_of a) ++ codes "=" ++ value) (name_of a) (Some value) (built_rule a) (value ∷ [])
+joined_word a value is =
+    let takes : is_valued (shape_of a) ≡ true = ap is_valued is in
+    record {
+      no_end = (facts a).no_end_joined value;
+      long = (facts a).joined value;
+      found = (facts a).by_long ∙ ap (λ (s : Shape). by_word s (built_rule a)) is;
+      met = λ h. ap (λ (b : Bool). if b then option_met rules (built_rule a) (Some value) h else flag_met rules (built_rule a) (Some value) h) ((facts a).takes ∙ takes);
+      faults = λ h. ap (λ (b : Bool). if b then option_fault rules false (built_rule a) (Some value) h else TooManyValues ∷ []) ((facts a).takes ∙ takes);
+    }
 
-flagged-turn : (mark : Mark) (name : Text) → is_flag name ≡ false → turn_fault (built line_app).top [] (walk_from (flagged mark)) name ≡ []
-unfolding clap_on_literals
-flagged-turn checks name plain = rw (name-met (flagged checks) name plain, no-dashes name plain, no-long name plain, no-short name plain) refl
-flagged-turn judges name plain = rw (name-met (flagged judges) name plain, no-dashes name plain, no-long name plain, no-short name plain) refl
+module _ (rows : List Row) (pending : Option (Text × List Text)) (position : ℕ) (done : List Row) (stands : Stands rows pending done) where
+  use_moved : (a : Argument) (value word : Text) (given : Option Text) → IsUse word (name_of a) given (built_rule a) (raw_values (shape_of a) value) → has_row (name_of a) done ≡ false
+      → Moved rows pending position done (a, value) (word ∷ [])
+  use_moved a value word given is none =
+      let raw = raw_values (shape_of a) value in
+      let free : react_fault rules false (built_rule a) raw (held_at rows pending) ≡ [] = ap₂ or_else stands.free (ap (use_fault false (built_rule a) raw) stands.are ∙ use_free a value done none) in
+      record {
+        new_rows = used (built_rule a) raw (settled_rows rules pending rows);
+        new_pending = None;
+        new_position = position;
+        moves = use_moves word (name_of a) given (built_rule a) raw rows pending position is free;
+        stands = record { are = ap (used (built_rule a) raw) stands.are ∙ uses a value done none; free = refl };
+        place = λ _. refl;
+      }
 
-name-free : (name : Text) → is_flag name ≡ false → fault_of line_app (name ∷ []) ≡ []
-unfolding clap_on_literals
-name-free name plain = rw (name-walk name plain, name-turn name plain) refl
+  flag_moved : (a : Argument) (value : Text) → shape_of a ≡ Flag → has_row (name_of a) done ≡ false → Moved rows pending position done (a, value) (dashed (name_of a) ∷ [])
+  flag_moved a value is none = use_moved a value (dashed (name_of a)) None
+      (subst (IsUse (dashed (name_of a)) (name_of a) None (built_rule a)) (sym (ap (λ (s : Shape). raw_values s value) is)) (flag_word a is)) none
 
-name-rows : (name : Text) → is_flag name ≡ false → asked_in (matches_of line_app (name ∷ [])) ≡ Some (Run name None 0)
-unfolding clap_on_literals
-name-rows name plain = rw (name-walk name plain) refl
+  joined_moved : (a : Argument) (value : Text) → shape_of a ≡ Valued → has_row (name_of a) done ≡ false
+      → Moved rows pending position done (a, value) ((dashed (name_of a) ++ codes "=" ++ value) ∷ [])
+  joined_moved a value is none = use_moved a value (dashed (name_of a) ++ codes "=" ++ value) (Some value)
+      (subst (IsUse (dashed (name_of a) ++ codes "=" ++ value) (name_of a) (Some value) (built_rule a)) (sym (ap (λ (s : Shape). raw_values s value) is)) (joined_word a value is)) none
 
-before-free : (mark : Mark) (name : Text) → is_flag name ≡ false → fault_of line_app (mark_word mark ∷ name ∷ []) ≡ []
-unfolding clap_on_literals
-before-free checks name plain = rw (flagged-walk checks name plain, flagged-turn checks name plain) refl
-before-free judges name plain = rw (flagged-walk judges name plain, flagged-turn judges name plain) refl
+  parted_moved : (a : Argument) (value : Text) → shape_of a ≡ Valued → is_flag value ≡ false → has_row (name_of a) done ≡ false
+      → Moved rows pending position done (a, value) (dashed (name_of a) ∷ value ∷ [])
+  parted_moved a value is plain none =
+      let new = settled_rows rules pending rows in
+      let first : Moves (at rows pending position) (opened (name_of a) new position) (dashed (name_of a) ∷ []) =
+      subst (λ (id : Text). Moves (at rows pending position) (opened id new position) (dashed (name_of a) ∷ [])) (facts a).id
+      (option_moves (dashed (name_of a)) (name_of a) (built_rule a) rows pending position (facts a).no_end (facts a).long ((facts a).by_long ∙ ap (λ (s : Shape). by_word s (built_rule a)) is)
+      ((facts a).takes ∙ ap is_valued is) stands.free) in
+      let second = value_moves (name_of a) value (built_rule a) new position plain (facts a).by_id (ap (bytes_eq (name_of a)) (facts a).id ∙ (facts a).same) ((facts a).most ∙ ap value_count is) in
+      record {
+        new_rows = new;
+        new_pending = Some (name_of a, value ∷ []);
+        new_position = position;
+        moves = two_words _ (opened (name_of a) new position) _ (dashed (name_of a)) value first second;
+        stands = pending_stands a value new done (ap (λ (s : Shape). raw_values s value) is) stands.are none;
+        place = λ _. refl;
+      }
 
-before-rows : (mark : Mark) (name : Text) → is_flag name ≡ false → asked_in (matches_of line_app (mark_word mark ∷ name ∷ [])) ≡ Some (with_mark mark name)
-unfolding clap_on_literals
-before-rows checks name plain = rw (flagged-walk checks name plain) refl
-before-rows judges name plain = rw (flagged-walk judges name plain) refl
-
-after-free : (mark : Mark) (name : Text) → is_flag name ≡ false → fault_of line_app (name ∷ mark_word mark ∷ []) ≡ []
-unfolding clap_on_literals
-after-free checks name plain = rw (name-walk name plain, name-turn name plain) refl
-after-free judges name plain = rw (name-walk name plain, name-turn name plain) refl
-
-after-rows : (mark : Mark) (name : Text) → is_flag name ≡ false → asked_in (matches_of line_app (name ∷ mark_word mark ∷ [])) ≡ Some (with_mark mark name)
-unfolding clap_on_literals
-after-rows checks name plain = rw (name-walk name plain) refl
-after-rows judges name plain = rw (name-walk name plain) refl
-
--- With no fault the rows are read.
-given : (words : List Text) (asked : Option Asked) → fault_of line_app words ≡ [] → asked_in (matches_of line_app words) ≡ asked → command_of words ≡ asked
-given words asked free rows = rw (free, rows) refl
-
-taken : (words : List Text) (asked : Asked) → fault_of line_app words ≡ [] → asked_in (matches_of line_app words) ≡ Some asked → command_of words ≡ Some asked
-taken words asked free rows = rw (free, rows) refl
-
--- What is asked for with these workers, once the number is known that the word of the workers spells.
-run-by : (net : Text) (journal : Option Text) (workers : ℕ) → workers ≤ WORKER_LIMIT → option_map (Run net journal) (given_workers (Some (decimal workers))) ≡ Some (Run net journal workers)
-run-by net journal workers few = ap (option_map (Run net journal)) (own-number 0 (WORKER_LIMIT + 1) workers (omega arith) (omega arith) (omega (arith, few)))
-
-made-by : (number workers : ℕ) → 1 ≤ number → number ≤ NUMBER_LIMIT → make_by (decimal number) workers ≡ Some (Make number workers)
-made-by number workers least most = ap (option_map (λ (n : ℕ). Make n workers)) (own-number 1 NUMBER_LIMIT number (omega arith) least (omega (arith, most)))
-
-make-by : (number workers : ℕ) → 1 ≤ number → number ≤ NUMBER_LIMIT → workers ≤ WORKER_LIMIT
-    → option_and_then (make_by (decimal number)) (given_workers (Some (decimal workers))) ≡ Some (Make number workers)
-make-by number workers least most few =
-    ap (option_and_then (make_by (decimal number))) (own-number 0 (WORKER_LIMIT + 1) workers (omega arith) (omega arith) (omega (arith, few))) ∙ made-by number workers least most
-
--- A line for any names whatever, and for any number, where nothing is said of workers: the network file's name stands behind `--`, and a value behind `=`.
-abbrev full_line : Asked → List Text
-full_line (Run net None workers) = codes "--" ∷ net ∷ []
-full_line (Run net (Some journal) workers) = joined (codes "--journal") journal ∷ codes "--" ∷ net ∷ []
-full_line (Check net) = codes "--check" ∷ codes "--" ∷ net ∷ []
-full_line (Judge net) = codes "--determinate" ∷ codes "--" ∷ net ∷ []
-full_line (Replay net journal) = joined (codes "--replay") journal ∷ codes "--" ∷ net ∷ []
-full_line (Make number workers) = joined (codes "--make") (decimal number) ∷ []
-full_line Kinds = codes "--kinds" ∷ []
-
--- The same without its workers.
-abbrev alone : Asked → Asked
-alone (Run net journal workers) = Run net journal 0
-alone (Check net) = Check net
-alone (Judge net) = Judge net
-alone (Replay net journal) = Replay net journal
-alone (Make number workers) = Make number 0
-alone Kinds = Kinds
-
-full-free : (asked : Asked) → fault_of line_app (full_line asked) ≡ []
-unfolding clap_on_literals
-full-free (Run net None workers) = refl
-full-free (Run net (Some journal) workers) = refl
-full-free (Check net) = refl
-full-free (Judge net) = refl
-full-free (Replay net journal) = refl
-full-free (Make number workers) = refl
-full-free Kinds = refl
-
-full-rows : (asked : Asked) → IsWithinBounds asked → asked_in (matches_of line_app (full_line asked)) ≡ Some (alone asked)
-unfolding clap_on_literals
-full-rows (Run net None workers) within = refl
-full-rows (Run net (Some journal) workers) within = refl
-full-rows (Check net) within = refl
-full-rows (Judge net) within = refl
-full-rows (Replay net journal) within = refl
-full-rows (Make number workers) within = made-by number 0 within.0 within.1
-full-rows Kinds within = refl
-
-full : (asked : Asked) → IsWithinBounds asked → command_of (full_line asked) ≡ Some (alone asked)
-full asked within = taken _ _ (full-free asked) (full-rows asked within)
-
--- Lines with two options, each with its value behind `=`.
-both-free : (net journal : Text) (workers : ℕ) → fault_of line_app (joined (codes "--journal") journal ∷ joined (codes "--workers") (decimal workers) ∷ codes "--" ∷ net ∷ []) ≡ []
-unfolding clap_on_literals
-both-free net journal workers = refl
-
-both-rows : (net journal : Text) (workers : ℕ) → workers ≤ WORKER_LIMIT
-    → asked_in (matches_of line_app (joined (codes "--journal") journal ∷ joined (codes "--workers") (decimal workers) ∷ codes "--" ∷ net ∷ [])) ≡ Some (Run net (Some journal) workers)
-unfolding clap_on_literals
-both-rows net journal workers few = run-by net (Some journal) workers few
-
-other-free : (net journal : Text) (workers : ℕ) → fault_of line_app (joined (codes "--workers") (decimal workers) ∷ joined (codes "--journal") journal ∷ codes "--" ∷ net ∷ []) ≡ []
-unfolding clap_on_literals
-other-free net journal workers = refl
-
-other-rows : (net journal : Text) (workers : ℕ) → workers ≤ WORKER_LIMIT
-    → asked_in (matches_of line_app (joined (codes "--workers") (decimal workers) ∷ joined (codes "--journal") journal ∷ codes "--" ∷ net ∷ [])) ≡ Some (Run net (Some journal) workers)
-unfolding clap_on_literals
-other-rows net journal workers few = run-by net (Some journal) workers few
-
-make-both-free : (number workers : ℕ) → fault_of line_app (joined (codes "--make") (decimal number) ∷ joined (codes "--workers") (decimal workers) ∷ []) ≡ []
-unfolding clap_on_literals
-make-both-free number workers = refl
-
-make-both-rows : (number workers : ℕ) → 1 ≤ number → number ≤ NUMBER_LIMIT → workers ≤ WORKER_LIMIT
-    → asked_in (matches_of line_app (joined (codes "--make") (decimal number) ∷ joined (codes "--workers") (decimal workers) ∷ [])) ≡ Some (Make number workers)
-unfolding clap_on_literals
-make-both-rows number workers least most few = make-by number workers least most few
-
-make-other-free : (number workers : ℕ) → fault_of line_app (joined (codes "--workers") (decimal workers) ∷ joined (codes "--make") (decimal number) ∷ []) ≡ []
-unfolding clap_on_literals
-make-other-free number workers = refl
-
-make-other-rows : (number workers : ℕ) → 1 ≤ number → number ≤ NUMBER_LIMIT → workers ≤ WORKER_LIMIT
-    → asked_in (matches_of line_app (joined (codes "--workers") (decimal workers) ∷ joined (codes "--make") (decimal number) ∷ [])) ≡ Some (Make number workers)
-unfolding clap_on_literals
-make-other-rows number workers least most few = make-by number workers least most few
-
--- The options that stand beside a name: the journal's file of a run, that of a replay, and the workers of a run.
-data Beside : Type 0 where
-  keeps : Beside
-  again : Beside
-  shared : Beside
-
--- The name of the option.
-abbrev kept : Beside → Text
-kept keeps = codes "journal"
-kept again = codes "replay"
-kept shared = codes "workers"
-
--- The walk stands behind an option, whose value is still to come.
-abbrev waits : Text → List Row → ℕ → Walk
-waits name rows position = record {
-  held = record { rows = rows; pending = Some (name, []); skip = 0 };
-  waiting = option name;
-  position = position;
-  is_trailing = false;
-  stopped = None;
+name_moved : (rows : List Row) (pending : Option (Text × List Text)) (done : List Row) (stands : Stands rows pending done) (value : Text) → is_flag value ≡ false
+    → has_row (codes "NETFILE") done ≡ false → Moved rows pending 1 done (NetFile, value) (value ∷ [])
+name_moved rows pending done stands value plain none = record {
+  new_rows = settled_rows rules pending rows;
+  new_pending = Some (codes "NETFILE", value ∷ []);
+  new_position = 2;
+  moves = name_moves value rows pending stands.free plain;
+  stands = pending_stands NetFile value (settled_rows rules pending rows) done refl stands.are none;
+  place = λ no. cc;
 }
 
--- The walk stands behind an option and its value.
-abbrev has_value : Text → Text → List Row → ℕ → Walk
-has_value name value rows position = record {
-  held = record { rows = rows; pending = Some (name, value ∷ []); skip = 0 };
-  waiting = idle;
-  position = position;
-  is_trailing = false;
-  stopped = None;
-}
+-- The next name goes to the first place.
+abbrev IsFirst : List Given → ℕ → Type 0
+IsFirst given position = (value : Text) → values_of given NetFile ≡ Some value → position ≡ 1
 
-value-met : (name : Text) (position : ℕ) (held : Held) (word : Text) → is_flag word ≡ false → word_met rules [] false (option name) position word held ≡ plain_word rules (option name) word held
-unfolding clap_on_literals
-value-met name position held word plain = rw (no-dashes word plain, no-long word plain, no-short word plain) refl
+-- The words of one argument.
+moved : (rows : List Row) (pending : Option (Text × List Text)) (position : ℕ) (done : List Row) → Stands rows pending done → (g : Given) (words : List Text) → (is_name (shape_of g.0) ≡ true → position ≡ 1)
+    → has_row (name_of g.0) done ≡ false → (shape : Shape) → shape_of g.0 ≡ shape → AreWords shape (name_of g.0) g.1 words → Moved rows pending position done g words
+moved rows pending position done stands g words first none Flag is are = rw are.1 (flag_moved rows pending position done stands g.0 g.1 is none)
+moved rows pending position done stands g words first none Valued is (inl one) = rw one (joined_moved rows pending position done stands g.0 g.1 is none)
+moved rows pending position done stands g words first none Valued is (inr two) = rw two.1 (parted_moved rows pending position done stands g.0 g.1 is two.0 none)
+moved rows pending position done stands g words first none Name is are =
+    let net : g.0 ≡ NetFile = is_net_file g.0 is in
+    let place : position ≡ 1 = first (ap is_name is) in
+    let none_there : has_row (codes "NETFILE") done ≡ false = subst (λ (a : Argument). has_row (name_of a) done ≡ false) net none in
+    rw are.1 (subst (λ (n : ℕ). Moved rows pending n done g (g.1 ∷ [])) (sym place)
+    (subst (λ (a : Argument). Moved rows pending 1 done (a, g.1) (g.1 ∷ [])) (sym net) (name_moved rows pending done stands g.1 are.0 none_there)))
 
-value-walk : (o : Beside) (rows : List Row) (position : ℕ) (word : Text) → is_flag word ≡ false → walked rules [] (waits (kept o) rows position) word ≡ has_value (kept o) word rows position
-unfolding clap_on_literals
-value-walk keeps rows position word plain = rw (value-met (codes "journal") position (waits (codes "journal") rows position).held word plain) refl
-value-walk again rows position word plain = rw (value-met (codes "replay") position (waits (codes "replay") rows position).held word plain) refl
-value-walk shared rows position word plain = rw (value-met (codes "workers") position (waits (codes "workers") rows position).held word plain) refl
+-- Where a walk ends: with these rows, without fault, and at no subcommand.
+record Ends (w : Walk) (done : List Row) : Type 0 where
+  are : (settled rules w.held).rows ≡ done
+  free : settle_fault rules false w.held ≡ []
+  going : w.stopped ≡ None
 
-value-turn : (o : Beside) (rows : List Row) (position : ℕ) (word : Text) → is_flag word ≡ false → turn_fault (built line_app).top [] (waits (kept o) rows position) word ≡ []
-unfolding clap_on_literals
-value-turn keeps rows position word plain = rw (value-met (codes "journal") position (waits (codes "journal") rows position).held word plain, no-dashes word plain, no-long word plain, no-short word plain) refl
-value-turn again rows position word plain = rw (value-met (codes "replay") position (waits (codes "replay") rows position).held word plain, no-dashes word plain, no-long word plain, no-short word plain) refl
-value-turn shared rows position word plain = rw (value-met (codes "workers") position (waits (codes "workers") rows position).held word plain, no-dashes word plain, no-long word plain, no-short word plain) refl
+record Goes (w : Walk) (words : List Text) (done : List Row) : Type 0 where
+  free : walk_fault top [] w words ≡ []
+  ends : Ends (fold (walked rules []) w words) done
 
-valued-walk : (o : Beside) (value name : Text) → is_flag name ≡ false
-    → walked rules [] (has_value (kept o) value [] 1) name ≡ with_name name (settled rules (has_value (kept o) value [] 1).held).rows
-unfolding clap_on_literals
-valued-walk keeps value name plain = rw (name-met (has_value (codes "journal") value [] 1).held name plain) refl
-valued-walk again value name plain = rw (name-met (has_value (codes "replay") value [] 1).held name plain) refl
-valued-walk shared value name plain = rw (name-met (has_value (codes "workers") value [] 1).held name plain) refl
+-- A network file's name behind `--`.
+ends_line : (rows : List Row) (pending : Option (Text × List Text)) (position : ℕ) (done : List Row) → Stands rows pending done → (given : List Given) (words : List Text) → IsFirst given position
+    → Free done given → EndsLine given words → Goes (at rows pending position) words (done ++ map row_for given)
+unfolding walk_fault
+ends_line rows pending position done stands given words first free (net, is, are) = rw (is, are) goes
+  where
+    place : position ≡ 1
+    place = first net (ap (λ (l : List Given). values_of l NetFile) is)
 
-valued-turn : (o : Beside) (value name : Text) → is_flag name ≡ false → turn_fault (built line_app).top [] (has_value (kept o) value [] 1) name ≡ []
-unfolding clap_on_literals
-valued-turn keeps value name plain = rw (name-met (has_value (codes "journal") value [] 1).held name plain, no-dashes name plain, no-long name plain, no-short name plain) refl
-valued-turn again value name plain = rw (name-met (has_value (codes "replay") value [] 1).held name plain, no-dashes name plain, no-long name plain, no-short name plain) refl
-valued-turn shared value name plain = rw (name-met (has_value (codes "workers") value [] 1).held name plain, no-dashes name plain, no-long name plain, no-short name plain) refl
+    none : has_row (codes "NETFILE") done ≡ false
+    none = (subst (Free done) is free).0
 
--- What a line with such an option and its value asks for.
-abbrev with_option : Beside → Text → Text → Option Asked
-with_option keeps net value = Some (Run net (Some value) 0)
-with_option again net value = Some (Replay net value)
-with_option shared net value = option_map (Run net None) (given_workers (Some value))
+    moves : Moves (at rows pending 1) (behind (at (settled_rows rules pending rows) (Some (codes "NETFILE", net ∷ [])) 2)) (codes "--" ∷ net ∷ [])
+    moves = end_moves net rows pending stands.free
 
--- The word of the option.
-abbrev flag_of : Beside → Text
-flag_of keeps = codes "--journal"
-flag_of again = codes "--replay"
-flag_of shared = codes "--workers"
+    after : Stands (settled_rows rules pending rows) (Some (codes "NETFILE", net ∷ [])) (done ++ row_for (NetFile, net) ∷ [])
+    after = pending_stands NetFile net (settled_rows rules pending rows) done refl stands.are none
 
-before-journal-free : (o : Beside) (net journal : Text) → is_flag net ≡ false → is_flag journal ≡ false → fault_of line_app (flag_of o ∷ journal ∷ net ∷ []) ≡ []
-unfolding clap_on_literals
-before-journal-free keeps net journal plain kept_plain = rw (value-walk keeps [] 1 journal kept_plain, value-turn keeps [] 1 journal kept_plain, valued-walk keeps journal net plain, valued-turn keeps journal net plain) refl
-before-journal-free again net journal plain kept_plain = rw (value-walk again [] 1 journal kept_plain, value-turn again [] 1 journal kept_plain, valued-walk again journal net plain, valued-turn again journal net plain) refl
-before-journal-free shared net journal plain kept_plain = rw (value-walk shared [] 1 journal kept_plain, value-turn shared [] 1 journal kept_plain, valued-walk shared journal net plain, valued-turn shared journal net plain) refl
+    goes : Goes (at rows pending position) (codes "--" ∷ net ∷ []) (done ++ map row_for ((NetFile, net) ∷ []))
+    goes = rw place (record {
+      free = moves.faults [];
+      ends = subst (λ (w : Walk). Ends w (done ++ row_for (NetFile, net) ∷ [])) (sym (moves.walk [])) (record { are = after.are; free = after.free; going = refl });
+    })
 
-before-journal-rows : (o : Beside) (net journal : Text) → is_flag net ≡ false → is_flag journal ≡ false
-    → asked_in (matches_of line_app (flag_of o ∷ journal ∷ net ∷ [])) ≡ with_option o net journal
-unfolding clap_on_literals
-before-journal-rows keeps net journal plain kept_plain = rw (value-walk keeps [] 1 journal kept_plain, valued-walk keeps journal net plain) refl
-before-journal-rows again net journal plain kept_plain = rw (value-walk again [] 1 journal kept_plain, valued-walk again journal net plain) refl
-before-journal-rows shared net journal plain kept_plain = rw (value-walk shared [] 1 journal kept_plain, valued-walk shared journal net plain) refl
+-- The name of the network file among what is given.
+net_of : (g : Given) (given : List Given) (b : Bool) → bytes_eq (name_of g.0) (codes "NETFILE") ≡ b
+    → values_of (g ∷ given) NetFile ≡ option_map (λ (x : Given). x.1) (if b then Some g else find (λ (x : Given). bytes_eq (name_of x.0) (codes "NETFILE")) given)
+net_of g given b is = ap (λ (t : Bool). option_map (λ (x : Given). x.1) (if t then Some g else find (λ (x : Given). bytes_eq (name_of x.0) (codes "NETFILE")) given)) is
 
-journal-before : (o : Beside) (net journal : Text) → is_flag net ≡ false → is_flag journal ≡ false → command_of (flag_of o ∷ journal ∷ net ∷ []) ≡ with_option o net journal
-journal-before o net journal plain kept_plain = given _ _ (before-journal-free o net journal plain kept_plain) (before-journal-rows o net journal plain kept_plain)
+-- Behind an argument the next name still goes to the first place.
+next_first : (g : Given) (given : List Given) (position new_position : ℕ) → IsFirst (g ∷ given) position → values_of given g.0 ≡ None → (is_name (shape_of g.0) ≡ false → new_position ≡ position) → IsFirst given new_position
+next_first g given position new_position first once place value there = by (is_name (shape_of g.0)) refl
+  where
+    by : (b : Bool) → is_name (shape_of g.0) ≡ b → new_position ≡ 1
+    by false other = place other ∙ first value (net_of g given false ((facts g.0).apart ∙ other) ∙ there)
+    by true named =
+        let same : g.0 ≡ NetFile = only g.0 NetFile ((bytes_eq-Decides (name_of g.0) (codes "NETFILE")).0 ((facts g.0).apart ∙ named)) in
+        let none : values_of given NetFile ≡ None = subst (λ (a : Argument). values_of given a ≡ None) same once in
+        let both : None ≡ Some value = sym none ∙ there in cc
 
--- What is held of a name that was used.
-abbrev named : Text → List Row
-named net = (settled rules (with_name net []).held).rows
+-- One argument, and what follows it.
+step_on : (rows : List Row) (pending : Option (Text × List Text)) (position : ℕ) (done : List Row) (g : Given) (given : List Given) (one rest : List Text) → Stands rows pending done
+    → IsFirst (g ∷ given) position → Free done (g ∷ given) → AreOnce (g ∷ given) → AreWords (shape_of g.0) (name_of g.0) g.1 one
+    → ((new_rows : List Row) (new_pending : Option (Text × List Text)) (new_position : ℕ) → Stands new_rows new_pending (done ++ row_for g ∷ []) → IsFirst given new_position
+    → Goes (at new_rows new_pending new_position) rest ((done ++ row_for g ∷ []) ++ map row_for given))
+    → Goes (at rows pending position) (one ++ rest) (done ++ map row_for (g ∷ given))
+step_on rows pending position done g given one rest stands first free once are later =
+    let step = moved rows pending position done stands g one (λ named. first g.1 (net_of g given true ((facts g.0).apart ∙ named))) free.0 (shape_of g.0) refl are in
+    let goes = later step.new_rows step.new_pending step.new_position step.stands (next_first g given position step.new_position first once.0 step.place) in
+    subst (Goes (at rows pending position) (one ++ rest)) (append_assoc done (row_for g ∷ []) (map row_for given)) (record {
+      free = step.moves.faults rest ∙ goes.free;
+      ends = subst (λ (w : Walk). Ends w ((done ++ row_for g ∷ []) ++ map row_for given)) (sym (step.moves.walk rest)) goes.ends;
+    })
 
-after-journal-free : (o : Beside) (net journal : Text) → is_flag net ≡ false → is_flag journal ≡ false → fault_of line_app (net ∷ flag_of o ∷ journal ∷ []) ≡ []
-unfolding clap_on_literals
-after-journal-free keeps net journal plain kept_plain = rw (name-walk net plain, name-turn net plain, value-walk keeps (named net) 2 journal kept_plain, value-turn keeps (named net) 2 journal kept_plain) refl
-after-journal-free again net journal plain kept_plain = rw (name-walk net plain, name-turn net plain, value-walk again (named net) 2 journal kept_plain, value-turn again (named net) 2 journal kept_plain) refl
-after-journal-free shared net journal plain kept_plain = rw (name-walk net plain, name-turn net plain, value-walk shared (named net) 2 journal kept_plain, value-turn shared (named net) 2 journal kept_plain) refl
+-- The whole line, argument by argument.
+goes_on : (given : List Given) (words : List Text) (rows : List Row) (pending : Option (Text × List Text)) (position : ℕ) (done : List Row) → Stands rows pending done → IsFirst given position
+    → Free done given → AreOnce given → IsLine given words → Goes (at rows pending position) words (done ++ map row_for given)
+unfolding walk_fault
+goes_on [] words rows pending position done stands first free once line =
+    rw (line, append-nil) (record { free = refl; ends = record { are = stands.are; free = stands.free; going = refl } })
+goes_on (g ∷ given) words rows pending position done stands first free once (inl ends) = ends_line rows pending position done stands (g ∷ given) words first free ends
+goes_on (g ∷ given) words rows pending position done stands first free once (inr (one, rest, are, line, is)) =
+    rw is (step_on rows pending position done g given one rest stands first free once are
+    (λ new_rows new_pending new_position new_stands next_first. goes_on given rest new_rows new_pending new_position (done ++ row_for g ∷ []) new_stands next_first (free_more done g given free.1 once.0) once.1 line))
 
-after-journal-rows : (o : Beside) (net journal : Text) → is_flag net ≡ false → is_flag journal ≡ false
-    → asked_in (matches_of line_app (net ∷ flag_of o ∷ journal ∷ [])) ≡ with_option o net journal
-unfolding clap_on_literals
-after-journal-rows keeps net journal plain kept_plain = rw (name-walk net plain, value-walk keeps (named net) 2 journal kept_plain) refl
-after-journal-rows again net journal plain kept_plain = rw (name-walk net plain, value-walk again (named net) 2 journal kept_plain) refl
-after-journal-rows shared net journal plain kept_plain = rw (name-walk net plain, value-walk shared (named net) 2 journal kept_plain) refl
+bare_words : (shape : Shape) (name value : Text) (words : List Text) → AreWords shape name value words → shape ≡ Flag → value ≡ []
+bare_words Flag name value words are is = are.0
+bare_words Name name value words are is = cc
+bare_words Valued name value words are is = cc
 
-journal-after : (o : Beside) (net journal : Text) → is_flag net ≡ false → is_flag journal ≡ false → command_of (net ∷ flag_of o ∷ journal ∷ []) ≡ with_option o net journal
-journal-after o net journal plain kept_plain = given _ _ (after-journal-free o net journal plain kept_plain) (after-journal-rows o net journal plain kept_plain)
+-- In a line each flag is bare.
+are_bare : (given : List Given) (words : List Text) → IsLine given words → AreBare given
+are_bare [] words line = tt
+are_bare (g ∷ given) words (inl (net, is, are)) = subst AreBare (sym is) ((λ flag. cc), tt)
+are_bare (g ∷ given) words (inr (one, rest, are, line, is)) = (bare_words (shape_of g.0) (name_of g.0) g.1 one are, are_bare given rest line)
 
-full-option-free : (o : Beside) (net value : Text) → fault_of line_app (joined (flag_of o) value ∷ codes "--" ∷ net ∷ []) ≡ []
-unfolding clap_on_literals
-full-option-free keeps net value = refl
-full-option-free again net value = refl
-full-option-free shared net value = refl
+-- Defaults are no fault.
+default_free : (a : Argument) (rows : List Row) → default_fault rows (built_rule a) ≡ []
+default_free a rows = by (has_row (built_rule a).id rows)
+  where
+    by : (b : Bool) → (if b || is_empty (built_rule a).defaults then [] else given_default_fault (built_rule a) (built_rule a).defaults) ≡ []
+    by true = refl
+    by false = (facts a).sound_default
 
-full-option-rows : (o : Beside) (net value : Text) → asked_in (matches_of line_app (joined (flag_of o) value ∷ codes "--" ∷ net ∷ [])) ≡ with_option o net value
-unfolding clap_on_literals
-full-option-rows keeps net value = refl
-full-option-rows again net value = refl
-full-option-rows shared net value = refl
+defaults_free : (list : List Argument) (rows : List Row) → defaults_fault rows (map built_rule list) ≡ []
+unfolding defaults_fault
+defaults_free [] rows = refl
+defaults_free (a ∷ list) rows = ap₂ or_else (default_free a rows) (defaults_free list (with_default rows (built_rule a)))
 
-full-option : (o : Beside) (net value : Text) → command_of (joined (flag_of o) value ∷ codes "--" ∷ net ∷ []) ≡ with_option o net value
-full-option o net value = given _ _ (full-option-free o net value) (full-option-rows o net value)
+whole : (given : List Given) (words : List Text) → IsLine given words → AreOnce given → Goes (walk_from nothing_held) words (map row_for given)
+whole given words line once = goes_on given words [] None 1 [] (record { are = refl; free = refl }) (λ value there. refl) (nothing_free given) once line
 
--- The walk stands behind an option that has its value in the same word.
-abbrev has_joined : Text → Text → Walk
-has_joined name value = record (has_value name value [] 1) { held = settled rules (has_value name value [] 1).held }
+-- A line without an argument twice has no fault.
+free_line : (given : List Given) (words : List Text) → IsLine given words → AreOnce given → fault_of line_app words ≡ []
+free_line given words line once =
+    let goes = whole given words line once in
+    let end = fold (walked rules []) (walk_from nothing_held) words in
+    ap (λ (stop : Option (Text × List Text)). level_fault top [] nothing_held words (is_some (entered (built line_app) stop)) (entered_fault (built line_app) stop)) goes.ends.going
+    ∙ ap₂ or_else goes.free (ap₂ or_else goes.ends.free (ap₂ or_else (defaults_free arguments (settled rules end.held).rows) refl))
 
-joined-name : (o : Beside) (journal net : Text) → is_flag net ≡ false
-    → walked rules [] (has_joined (kept o) journal) net ≡ with_name net (has_joined (kept o) journal).held.rows
-unfolding clap_on_literals
-joined-name keeps journal net plain = rw (name-met (has_joined (codes "journal") journal).held net plain) refl
-joined-name again journal net plain = rw (name-met (has_joined (codes "replay") journal).held net plain) refl
-joined-name shared journal net plain = rw (name-met (has_joined (codes "workers") journal).held net plain) refl
+-- And its rows have the values that it gives.
+line_values : (given : List Given) (words : List Text) → IsLine given words → AreOnce given → (a : Argument) → value_in (matches_of line_app words) a ≡ values_of given a
+line_values given words line once a =
+    ap (λ (rows : List Row). value_in (fold with_default rows rules) a) (whole given words line once).ends.are
+    ∙ defaults_kept arguments (map row_for given) a ∙ values_there given a (are_bare given words line)
 
-joined-turn : (o : Beside) (journal net : Text) → is_flag net ≡ false → turn_fault (built line_app).top [] (has_joined (kept o) journal) net ≡ []
-unfolding clap_on_literals
-joined-turn keeps journal net plain = rw (name-met (has_joined (codes "journal") journal).held net plain, no-dashes net plain, no-long net plain, no-short net plain) refl
-joined-turn again journal net plain = rw (name-met (has_joined (codes "replay") journal).held net plain, no-dashes net plain, no-long net plain, no-short net plain) refl
-joined-turn shared journal net plain = rw (name-met (has_joined (codes "workers") journal).held net plain, no-dashes net plain, no-long net plain, no-short net plain) refl
-
-joined-before-free : (o : Beside) (net journal : Text) → is_flag net ≡ false → fault_of line_app ((flag_of o ++ codes "=" ++ journal) ∷ net ∷ []) ≡ []
-unfolding clap_on_literals
-joined-before-free keeps net journal plain = rw (joined-name keeps journal net plain, joined-turn keeps journal net plain) refl
-joined-before-free again net journal plain = rw (joined-name again journal net plain, joined-turn again journal net plain) refl
-joined-before-free shared net journal plain = rw (joined-name shared journal net plain, joined-turn shared journal net plain) refl
-
-joined-before-rows : (o : Beside) (net journal : Text) → is_flag net ≡ false
-    → asked_in (matches_of line_app ((flag_of o ++ codes "=" ++ journal) ∷ net ∷ [])) ≡ with_option o net journal
-unfolding clap_on_literals
-joined-before-rows keeps net journal plain = rw (joined-name keeps journal net plain) refl
-joined-before-rows again net journal plain = rw (joined-name again journal net plain) refl
-joined-before-rows shared net journal plain = rw (joined-name shared journal net plain) refl
-
-joined-before : (o : Beside) (net journal : Text) → is_flag net ≡ false → command_of ((flag_of o ++ codes "=" ++ journal) ∷ net ∷ []) ≡ with_option o net journal
-joined-before o net journal plain = given _ _ (joined-before-free o net journal plain) (joined-before-rows o net journal plain)
-
-joined-after-free : (o : Beside) (net journal : Text) → is_flag net ≡ false → fault_of line_app (net ∷ (flag_of o ++ codes "=" ++ journal) ∷ []) ≡ []
-unfolding clap_on_literals
-joined-after-free keeps net journal plain = rw (name-turn net plain, name-walk net plain) refl
-joined-after-free again net journal plain = rw (name-turn net plain, name-walk net plain) refl
-joined-after-free shared net journal plain = rw (name-turn net plain, name-walk net plain) refl
-
-joined-after-rows : (o : Beside) (net journal : Text) → is_flag net ≡ false
-    → asked_in (matches_of line_app (net ∷ (flag_of o ++ codes "=" ++ journal) ∷ [])) ≡ with_option o net journal
-unfolding clap_on_literals
-joined-after-rows keeps net journal plain = rw (name-walk net plain) refl
-joined-after-rows again net journal plain = rw (name-walk net plain) refl
-joined-after-rows shared net journal plain = rw (name-walk net plain) refl
-
-joined-after : (o : Beside) (net journal : Text) → is_flag net ≡ false → command_of (net ∷ (flag_of o ++ codes "=" ++ journal) ∷ []) ≡ with_option o net journal
-joined-after o net journal plain = given _ _ (joined-after-free o net journal plain) (joined-after-rows o net journal plain)
-
--- The value in a word of its own, and the name behind `--`.
-behind-free : (o : Beside) (net journal : Text) → is_flag journal ≡ false → fault_of line_app (flag_of o ∷ journal ∷ codes "--" ∷ net ∷ []) ≡ []
-unfolding clap_on_literals
-behind-free keeps net journal plain = rw (value-walk keeps [] 1 journal plain, value-turn keeps [] 1 journal plain) refl
-behind-free again net journal plain = rw (value-walk again [] 1 journal plain, value-turn again [] 1 journal plain) refl
-behind-free shared net journal plain = rw (value-walk shared [] 1 journal plain, value-turn shared [] 1 journal plain) refl
-
-behind-rows : (o : Beside) (net journal : Text) → is_flag journal ≡ false
-    → asked_in (matches_of line_app (flag_of o ∷ journal ∷ codes "--" ∷ net ∷ [])) ≡ with_option o net journal
-unfolding clap_on_literals
-behind-rows keeps net journal plain = rw (value-walk keeps [] 1 journal plain) refl
-behind-rows again net journal plain = rw (value-walk again [] 1 journal plain) refl
-behind-rows shared net journal plain = rw (value-walk shared [] 1 journal plain) refl
-
-behind : (o : Beside) (net journal : Text) → is_flag journal ≡ false → command_of (flag_of o ∷ journal ∷ codes "--" ∷ net ∷ []) ≡ with_option o net journal
-behind o net journal plain = given _ _ (behind-free o net journal plain) (behind-rows o net journal plain)
-
-make-walk : (word : Text) → is_flag word ≡ false → walked rules [] (waits (codes "make") [] 1) word ≡ has_value (codes "make") word [] 1
-unfolding clap_on_literals
-make-walk word plain = rw (value-met (codes "make") 1 (waits (codes "make") [] 1).held word plain) refl
-
-make-turn : (word : Text) → is_flag word ≡ false → turn_fault (built line_app).top [] (waits (codes "make") [] 1) word ≡ []
-unfolding clap_on_literals
-make-turn word plain = rw (value-met (codes "make") 1 (waits (codes "make") [] 1).held word plain, no-dashes word plain, no-long word plain, no-short word plain) refl
-
-make-free : (word : Text) → is_flag word ≡ false → fault_of line_app (codes "--make" ∷ word ∷ []) ≡ []
-unfolding clap_on_literals
-make-free word plain = rw (make-walk word plain, make-turn word plain) refl
-
-make-rows : (word : Text) → is_flag word ≡ false → asked_in (matches_of line_app (codes "--make" ∷ word ∷ [])) ≡ make_by word 0
-unfolding clap_on_literals
-make-rows word plain = rw (make-walk word plain) refl
-
-make-plain : (number : ℕ) → 1 ≤ number → number ≤ NUMBER_LIMIT → is_flag (decimal number) ≡ false → command_of (codes "--make" ∷ decimal number ∷ []) ≡ Some (Make number 0)
-make-plain number least most plain = taken _ _ (make-free (decimal number) plain) (make-rows (decimal number) plain ∙ made-by number 0 least most)
-
-name-line : (net : Text) (words : List Text) → IsName net words → command_of words ≡ Some (Run net None 0)
-name-line net words (inl is) = rw is (full (Run net None 0) (omega arith))
-name-line net words (inr (plain, is)) = rw is (taken _ _ (name-free net plain) (name-rows net plain))
-
--- A flag, and a name behind `--`.
-full-mark : (mark : Mark) (net : Text) → command_of (mark_word mark ∷ codes "--" ∷ net ∷ []) ≡ Some (with_mark mark net)
-full-mark checks net = full (Check net) tt
-full-mark judges net = full (Judge net) tt
-
-mark-line : (mark : Mark) (net : Text) (words : List Text) → IsBesideName (IsWord (mark_word mark)) net words → command_of words ≡ Some (with_mark mark net)
-mark-line mark net words (form, is_form, inl (name, inl is_name, is)) = rw (is, is_form, is_name) (full-mark mark net)
-mark-line mark net words (form, is_form, inl (name, inr (plain, is_name), is)) = rw (is, is_form, is_name) (taken _ _ (before-free mark net plain) (before-rows mark net plain))
-mark-line mark net words (form, is_form, inr (plain, is)) = rw (is, is_form) (taken _ _ (after-free mark net plain) (after-rows mark net plain))
-
-option-line : (o : Beside) (net value : Text) (words : List Text) → IsBesideName (IsOption (flag_of o) value) net words → command_of words ≡ with_option o net value
-option-line o net value words (form, inl is_form, inl (name, inl is_name, is)) = rw (is, is_form, is_name) (full-option o net value)
-option-line o net value words (form, inl is_form, inl (name, inr (plain, is_name), is)) = rw (is, is_form, is_name) (joined-before o net value plain)
-option-line o net value words (form, inr (kept_plain, is_form), inl (name, inl is_name, is)) = rw (is, is_form, is_name) (behind o net value kept_plain)
-option-line o net value words (form, inr (kept_plain, is_form), inl (name, inr (plain, is_name), is)) =
-    rw (is, is_form, is_name) (journal-before o net value plain kept_plain)
-option-line o net value words (form, inl is_form, inr (plain, is)) = rw (is, is_form) (joined-after o net value plain)
-option-line o net value words (form, inr (kept_plain, is_form), inr (plain, is)) = rw (is, is_form) (journal-after o net value plain kept_plain)
-
-both-line : (net journal : Text) (workers : ℕ) → workers ≤ WORKER_LIMIT → (form words : List Text) → AreBoth (joined (codes "--journal") journal) (joined (codes "--workers") (decimal workers)) form
-    → words ≡ form ++ codes "--" ∷ net ∷ [] → command_of words ≡ Some (Run net (Some journal) workers)
-both-line net journal workers few form words (inl is_form) is = rw (is, is_form) (taken _ _ (both-free net journal workers) (both-rows net journal workers few))
-both-line net journal workers few form words (inr is_form) is = rw (is, is_form) (taken _ _ (other-free net journal workers) (other-rows net journal workers few))
-
-make-line : (number : ℕ) (words : List Text) → 1 ≤ number → number ≤ NUMBER_LIMIT → IsOption (codes "--make") (decimal number) words → command_of words ≡ Some (Make number 0)
-make-line number words least most (inl is) = rw is (full (Make number 0) (least, most, omega arith))
-make-line number words least most (inr (plain, is)) = rw is (make-plain number least most plain)
-
-made-line : (number workers : ℕ) (words : List Text) → IsWithinBounds (Make number workers) → AreBoth (joined (codes "--make") (decimal number)) (joined (codes "--workers") (decimal workers)) words
-    → command_of words ≡ Some (Make number workers)
-made-line number workers words within (inl is) = rw is (taken _ _ (make-both-free number workers) (make-both-rows number workers within.0 within.1 within.2))
-made-line number workers words within (inr is) = rw is (taken _ _ (make-other-free number workers) (make-other-rows number workers within.0 within.1 within.2))
-
--- Nothing is said of workers, and there are none.
-run-line : (net : Text) (workers : ℕ) (words : List Text) → workers ≤ WORKER_LIMIT → (((workers ≡ 0) × IsName net words) ⊎ IsBesideName (IsOption (codes "--workers") (decimal workers)) net words)
-    → command_of words ≡ Some (Run net None workers)
-run-line net workers words few (inl (none, line)) = name-line net words line ∙ ap (λ w. Some (Run net None w)) (sym none)
-run-line net workers words few (inr line) = option-line shared net (decimal workers) words line ∙ run-by net None workers few
-
-kept-line : (net journal : Text) (workers : ℕ) (words : List Text) → workers ≤ WORKER_LIMIT → (((workers ≡ 0) × IsBesideName (IsOption (codes "--journal") journal) net words)
-    ⊎ ((form : List Text) × AreBoth (joined (codes "--journal") journal) (joined (codes "--workers") (decimal workers)) form × (words ≡ form ++ codes "--" ∷ net ∷ [])))
-    → command_of words ≡ Some (Run net (Some journal) workers)
-kept-line net journal workers words few (inl (none, line)) = option-line keeps net journal words line ∙ ap (λ w. Some (Run net (Some journal) w)) (sym none)
-kept-line net journal workers words few (inr (form, are, is)) = both-line net journal workers few form words are is
-
-make-lines : (number workers : ℕ) (words : List Text) → IsWithinBounds (Make number workers)
-    → (((workers ≡ 0) × IsOption (codes "--make") (decimal number) words) ⊎ AreBoth (joined (codes "--make") (decimal number)) (joined (codes "--workers") (decimal workers)) words)
-    → command_of words ≡ Some (Make number workers)
-make-lines number workers words within (inl (none, line)) = make-line number words within.0 within.1 line ∙ ap (λ w. Some (Make number w)) (sym none)
-make-lines number workers words within (inr are) = made-line number workers words within are
-
--- The words of a line ask for it.
-pub asks : (asked : Asked) (words : List Text) → AskFor asked words → command_of words ≡ Some asked
-asks (Run net None workers) words line = run-line net workers words line.0 line.1
-asks (Run net (Some journal) workers) words line = kept-line net journal workers words line.0 line.1
-asks (Check net) words line = mark-line checks net words line
-asks (Judge net) words line = mark-line judges net words line
-asks (Replay net journal) words line = option-line again net journal words line
-asks (Make number workers) words line = make-lines number workers words line.0 line.1
-asks Kinds words line = rw line (full Kinds tt)
+-- A line asks for what the values that it gives ask for.
+pub asks : (given : List Given) (words : List Text) → IsLine given words → AreOnce given → command_of words ≡ form_of (values_of given)
+asks given words line once =
+    ap (λ (kinds : Kinds). if is_empty kinds then form_of (value_in (matches_of line_app words)) else None) (free_line given words line once)
+    ∙ ap form_of (λ i. λ a. line_values given words line once a i)
 
 -- What the matches of a parse ask for is what its words do.
 pub read-as : (app : App) (words : List Text) (rows : List Row) (found : Option Asked) → app ≡ line_app → (is_simple app ≡ true → rows ≡ matches_of app words)
-    → (is_simple_and_free app ≡ true → fault_of app words ≡ []) → found ≡ asked_in rows → found ≡ command_of words
+    → (is_simple_and_free app ≡ true → fault_of app words ≡ []) → found ≡ form_of (value_in rows) → found ≡ command_of words
 read-as app words rows found is matched free asked =
     let simple : is_simple app ≡ true = ap is_simple is in
     let all_free : is_simple_and_free app ≡ true = ap is_simple_and_free is in
     let no_fault : fault_of line_app words ≡ [] = ap (λ (a : App). fault_of a words) (sym is) ∙ free all_free in
     let same : rows ≡ matches_of line_app words = matched simple ∙ ap (λ (a : App). matches_of a words) is in
-    asked ∙ ap asked_in same ∙ rw no_fault refl
+    asked ∙ ap (λ (r : List Row). form_of (value_in r)) same
+    ∙ sym (ap (λ (kinds : Kinds). if is_empty kinds then form_of (value_in (matches_of line_app words)) else None) no_fault)

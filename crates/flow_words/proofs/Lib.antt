@@ -1,3 +1,7 @@
 pub mod Numbers
-pub mod Lines
+pub mod Getters
+pub mod Tables
+pub mod Facts
+pub mod Rows
+pub mod Steps
 pub mod Laws

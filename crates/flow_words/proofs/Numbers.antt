@@ -11,7 +11,8 @@ use Rattle.std.proofs.lemmas.Str.Parse.{numerals_by_value, tells_digits}
 use Rattle.clap.specs.Walk.{Text}
 use Rattle.flow_text.specs.Text.{IsPlain, number_of}
 use Rattle.flow_text.proofs.Decimals.{decimal_plain, decimal_number}
-use Rattle.flow_words.specs.Numbers.{spelled_in}
+use Rattle.flow_limits.specs.declared.TheConstants.{NUMBER_LIMIT, WORKER_LIMIT}
+use Rattle.flow_words.specs.Numbers.{AreSpelled, spelled_in}
 
 found-first : (p : ℕ → Bool) (n first : ℕ) (rest : List ℕ) → p n ≡ true → (p first ≡ true → first ≡ n) → (first ≢ n → find p rest ≡ Some n) → (b : Bool) → p first ≡ b → find p (first ∷ rest) ≡ Some n
 found-first p n first rest here only later true is = rw is (ap Some (only is))
@@ -70,3 +71,10 @@ unfolding spelled_in
 not-spelled least count word few never =
     none-found (λ m. bytes_eq (decimal m) word) least count
     (λ m passes low high. never (subst (IsSpelled least count) ((bytes_eq-Decides (decimal m) word).0 passes) (own least count m few low high)))
+
+-- So it is with the numbers of a command line.
+pub are-spelled : AreSpelled
+are-spelled = (
+  λ n least most. own-number 1 NUMBER_LIMIT n (omega arith) least (omega (arith, most)),
+  λ n most. own-number 0 (WORKER_LIMIT + 1) n (omega arith) (omega arith) (omega (arith, most)),
+)

@@ -1,3 +1,5 @@
 pub mod Numbers
+pub mod Arguments
+pub mod Forms
 pub mod Words
 pub mod Lines

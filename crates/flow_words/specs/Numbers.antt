@@ -1,5 +1,5 @@
 -- The numbers of a command line: that from which a network and its input are made, and that of the workers.
-use Rattle.std.specs.Prelude.{ℕ, ◌+◌, Option, find}
+use Rattle.std.specs.Prelude.{◌≡◌, ℕ, ◌+◌, ◌≤◌, Option, Some, find}
 use Rattle.std.specs.Fmt.{decimal}
 use Rattle.std.specs.List.{range_with_len}
 use Rattle.std.specs.Str.{bytes_eq}
@@ -17,3 +17,7 @@ spelled_number word = spelled_in 1 NUMBER_LIMIT word
 -- The number of workers from 0 to WORKER_LIMIT that the word spells.
 abbrev pub spelled_workers : Text → Option ℕ
 spelled_workers word = spelled_in 0 (WORKER_LIMIT + 1) word
+
+-- Each of these numbers is spelled by its decimal spelling.
+abbrev pub AreSpelled : Type 0
+AreSpelled = ((n : ℕ) → 1 ≤ n → n ≤ NUMBER_LIMIT → spelled_number (decimal n) ≡ Some n) × ((n : ℕ) → n ≤ WORKER_LIMIT → spelled_workers (decimal n) ≡ Some n)

@@ -1,20 +1,26 @@
 -- Which words are a command line, and what each asks for.
-use Rattle.std.specs.Prelude.{◌≤◌, ⊤, ℕ, Bool, true, false, List, [], ◌∷◌, Some, None, find, codes, if◌then◌else◌}
+use Rattle.std.specs.Prelude.{◌≤◌, ⊤, ℕ, Bool, true, false, List, [], Some, None, find, map, slice_get, codes, if◌then◌else◌}
 use Rattle.std.specs.declared.option.Option.{Option}
 use Rattle.std.specs.Option.{option_map, option_and_then}
 use Rattle.std.specs.Str.{bytes_eq}
-use Rattle.clap.specs.Walk.{Text, Rule, Row, is_empty, first_of}
-use Rattle.clap.specs.Simple.{App, new_app, new_rule, on_top, matches_of}
+use Rattle.clap.specs.Walk.{Text, Row, is_empty}
+use Rattle.clap.specs.Simple.{App, new_app, on_top, matches_of}
 use Rattle.clap.specs.Faults.{fault_of}
-use Rattle.clap.specs.declared.builder.action.ArgAction.TheVariants.{SetTrue}
 use Rattle.clap.specs.declared.parser.matches.ValueSource.{ValueSource}
 use Rattle.clap.specs.declared.parser.matches.ValueSource.TheVariants.{CommandLine}
 use Rattle.flow_limits.specs.declared.TheConstants.{NUMBER_LIMIT, WORKER_LIMIT}
 use Rattle.flow_words.specs.Numbers.{spelled_number, spelled_workers}
 use Rattle.flow_words.specs.declared.asked.Command.{Command}
+use Rattle.flow_words.specs.declared.asked.RunCommand.{RunCommand}
 use Rattle.flow_words.specs.declared.asked.Command.TheVariants as commands
-use Rattle.flow_words.specs.declared.words.FlagGiven.{FlagGiven}
-use Rattle.flow_words.specs.declared.words.FlagGiven.TheVariants as flags
+use Rattle.flow_words.specs.declared.argument.Argument.{Argument}
+use Rattle.flow_words.specs.declared.argument.Argument.TheVariants as arguments
+use Rattle.flow_words.specs.declared.argument.Shape.{Shape}
+use Rattle.flow_words.specs.declared.argument.Shape.TheVariants.{Name, Flag, Valued}
+use Rattle.flow_words.specs.declared.form.Form.{Form}
+use Rattle.flow_words.specs.declared.form.Form.TheVariants as forms
+use Rattle.flow_words.specs.Arguments.{arguments as all_arguments, name_of, rule_for, shape_of}
+use Rattle.flow_words.specs.Forms.{fits, forms as all_forms}
 
 -- A run of the network file of this name, with the name of a file for its journal, where there is one, and with the number of its workers; a check of it;
 -- whether its plan is determinate; a replay of it, with the name of the file that has the journal; a make from a number, with the number of its workers; or
@@ -27,9 +33,23 @@ pub data Asked : Type 0 where
   Make : ℕ → ℕ → Asked
   Kinds : Asked
 
+-- A run that is asked for: the name of its network file, that of the file for its journal, where there is one, and the number of its workers.
+pub record AskedRun : Type 0 where
+  pub net : Text
+  pub journal : Option Text
+  pub workers : ℕ
+
+-- What is asked for then.
+abbrev pub run_of : AskedRun → Asked
+run_of run = Run run.net run.journal run.workers
+
+-- The run that a command asks for, with the texts of its names.
+abbrev pub run_by : RunCommand → AskedRun
+run_by run = record { net = run.net.now; journal = option_map (λ s. s.now) run.journal; workers = run.workers }
+
 -- What a command asks for, with the texts of its names.
 abbrev pub asked_by : Command → Asked
-asked_by (commands.Run net journal workers) = Run net.now (option_map (λ s. s.now) journal) workers
+asked_by (commands.Run run) = run_of (run_by run)
 asked_by (commands.Check net) = Check net.now
 asked_by (commands.Judge net) = Judge net.now
 asked_by (commands.Replay net journal) = Replay net.now journal.now
@@ -54,43 +74,36 @@ workers_asked (Judge net) = 0
 workers_asked (Replay net journal) = 0
 workers_asked Kinds = 0
 
--- The flag of this name takes no value.
-abbrev pub flag_rule : Text → Rule
-flag_rule name = record (new_rule name) { long = Some name; action = Some SetTrue }
+-- A command line that has these arguments and no others; its words begin after the program's name, and no flag asks for help.
+abbrev pub app_with : List Argument → App
+app_with given = on_top (λ top. record top { no_binary_name = true; disable_help_flag = true; rules = map rule_for given }) (new_app (codes "flow"))
 
--- The option of this name takes one value.
-abbrev pub option_rule : Text → Rule
-option_rule name = record (new_rule name) { long = Some name }
-
--- What may stand in a line, each once: the network file's name, the flags of a check, of a judge and of the kinds, and the options with the name of a run's journal
--- file, with that of a replay's, with the number of a make, and with the number of workers.
-abbrev pub line_rules : List Rule
-line_rules = new_rule (codes "NETFILE") ∷ flag_rule (codes "check") ∷ flag_rule (codes "determinate") ∷ flag_rule (codes "kinds") ∷ option_rule (codes "journal") ∷ option_rule (codes "replay") ∷ option_rule (codes "make") ∷ option_rule (codes "workers") ∷ []
-
--- A command line has these and no others; its words begin after the program's name, and no flag asks for help.
+-- The command line of this program.
 abbrev pub line_app : App
-line_app = on_top (λ top. record top { no_binary_name = true; disable_help_flag = true; rules = line_rules }) (new_app (codes "flow"))
+line_app = app_with all_arguments
 
 -- The value came from the words, and from no default.
 abbrev pub is_from_words : Option ValueSource → Bool
 is_from_words (Some CommandLine) = true
 is_from_words _ = false
 
--- The words gave the flag of this name.
-abbrev pub is_given : Text → List Row → Bool
-is_given name rows = is_from_words (option_and_then (λ row. row.source) (find (λ row. bytes_eq row.id name) rows))
+-- The row of this name.
+abbrev pub row_named : Text → List Row → Option Row
+row_named name rows = find (λ r. bytes_eq r.id name) rows
 
--- Which flag a line has, by whether it has `--check`, whether it has `--determinate`, and whether it has `--kinds`.
-abbrev pub flag_of : Bool → Bool → Bool → FlagGiven
-flag_of false false false = flags.None
-flag_of true false false = flags.Check
-flag_of false true false = flags.Determinate
-flag_of false false true = flags.Kinds
-flag_of _ _ _ = flags.Several
+-- The words gave the flag of this row.
+abbrev pub is_given : Option Row → Bool
+is_given row = is_from_words (option_and_then (λ r. r.source) row)
 
--- Which flag the words gave.
-abbrev pub flag_in : List Row → FlagGiven
-flag_in rows = flag_of (is_given (codes "check") rows) (is_given (codes "determinate") rows) (is_given (codes "kinds") rows)
+-- What a row gives an argument of this shape: a flag that the words gave has the empty text, and all else its first value.
+abbrev pub value_by : Shape → Option Row → Option Text
+value_by Name row = option_and_then (λ r. slice_get r.values 0) row
+value_by Flag row = if is_given row then Some [] else None
+value_by Valued row = option_and_then (λ r. slice_get r.values 0) row
+
+-- The value that the rows of a line give an argument, if they give it.
+abbrev pub value_in : List Row → Argument → Option Text
+value_in rows a = value_by (shape_of a) (row_named (name_of a) rows)
 
 -- The number of workers that is given, and 0 where none is.
 abbrev pub given_workers : Option Text → Option ℕ
@@ -101,22 +114,19 @@ given_workers (Some word) = spelled_workers word
 abbrev pub make_by : Text → ℕ → Option Asked
 make_by word workers = option_map (λ number. Make number workers) (spelled_number word)
 
--- What a line asks for by what is given in it: its flag, the network file's name, and the values of `--journal`, `--replay`, `--make` and `--workers`.
--- A line of any other form asks for nothing.
-abbrev pub form_of : FlagGiven → Option Text → Option Text → Option Text → Option Text → Option Text → Option Asked
-form_of flags.None (Some net) journal None None workers = option_map (Run net journal) (given_workers workers)
-form_of flags.Check (Some net) None None None None = Some (Check net)
-form_of flags.Determinate (Some net) None None None None = Some (Judge net)
-form_of flags.Kinds None None None None None = Some Kinds
-form_of flags.None (Some net) None (Some journal) None None = Some (Replay net journal)
-form_of flags.None None None None (Some word) workers = option_and_then (make_by word) (given_workers workers)
-form_of _ _ _ _ _ _ = None
+-- What a line of this form asks for by its values.
+abbrev pub asked_as : Form → (Argument → Option Text) → Option Asked
+asked_as forms.Run values = option_and_then (λ net. option_map (Run net (values arguments.Journal)) (given_workers (values arguments.Workers))) (values arguments.NetFile)
+asked_as forms.Check values = option_map Check (values arguments.NetFile)
+asked_as forms.Judge values = option_map Judge (values arguments.NetFile)
+asked_as forms.Kinds values = Some Kinds
+asked_as forms.Replay values = option_and_then (λ net. option_map (Replay net) (values arguments.Replay)) (values arguments.NetFile)
+asked_as forms.Make values = option_and_then (λ word. option_and_then (make_by word) (given_workers (values arguments.Workers))) (values arguments.Make)
 
--- What the rows of a line ask for.
-abbrev pub asked_in : List Row → Option Asked
-asked_in rows = form_of (flag_in rows) (first_of (codes "NETFILE") rows) (first_of (codes "journal") rows) (first_of (codes "replay") rows)
-    (first_of (codes "make") rows) (first_of (codes "workers") rows)
+-- What a line asks for that gives its arguments these values. A line of none of the forms asks for nothing.
+abbrev pub form_of : (Argument → Option Text) → Option Asked
+form_of values = option_and_then (λ form. asked_as form values) (find (λ form. fits form values) all_forms)
 
 -- Words in which clap finds a fault ask for nothing, and all others for what their rows do.
 abbrev pub command_of : List Text → Option Asked
-command_of words = if is_empty (fault_of line_app words) then asked_in (matches_of line_app words) else None
+command_of words = if is_empty (fault_of line_app words) then form_of (value_in (matches_of line_app words)) else None

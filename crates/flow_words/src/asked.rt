@@ -1,15 +1,21 @@
 //! What a command line may ask for.
 
+/// A run that is asked for. Files are named as they were given.
+#[derive(Clone, Copy, Debug, PartialEq, Eq)]
+pub struct RunCommand<'a> {
+    /// The file of the network.
+    pub net: &'a str,
+    /// The file in which the journal of the run is kept, where one is named.
+    pub journal: Option<&'a str>,
+    /// So many workers run it; without any one thread does.
+    pub workers: u32,
+}
+
 /// What a command line asks for. Files are named as they were given.
 #[derive(Clone, Copy, Debug, PartialEq, Eq)]
 pub enum Command<'a> {
-    /// Run the network of a file, and keep the journal of the run in a file, where one is named. So many workers run
-    /// it; without any one thread does.
-    Run {
-        net: &'a str,
-        journal: Option<&'a str>,
-        workers: u32,
-    },
+    /// Run the network of a file.
+    Run(RunCommand<'a>),
     /// Check the network of this file, and print its canonical spelling.
     Check(&'a str),
     /// Tell whether the plan of this network file is determinate.
@@ -17,14 +23,8 @@ pub enum Command<'a> {
     /// Print the page of the standard kinds.
     Kinds,
     /// Make the turns again that a journal's file tells of the network of a file.
-    Replay {
-        net: &'a str,
-        journal: &'a str,
-    },
+    Replay { net: &'a str, journal: &'a str },
     /// Run the network that is made from this number, on the input that is made from it. Workers run it as they do a
     /// file's.
-    Make {
-        number: u32,
-        workers: u32,
-    },
+    Make { number: u32, workers: u32 },
 }

@@ -1,6 +1,6 @@
 //! That the words of examples ask for what a reader of the rule expects.
 
-use crate::{Command, command};
+use crate::{Command, RunCommand, command};
 use std::alloc::Global;
 use std::test::Fail;
 
@@ -15,11 +15,11 @@ fn cut(alloc: Global, line: &str) -> Result<Vec<String>, Fail> {
 
 // A run of this network file.
 fn with<'a>(net: &'a str, journal: Option<&'a str>, workers: u32) -> Command<'a> {
-    Command::Run {
+    Command::Run(RunCommand {
         net,
         journal,
         workers,
-    }
+    })
 }
 
 // One on one thread that keeps no journal.

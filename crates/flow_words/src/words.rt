@@ -1,40 +1,33 @@
 //! How the words after the program's name are read.
-ghost use Rattle.std.specs.Prelude.{◌≡◌, ◌≤◌, IfOk, IfSome, Some, false, map, string_bytes};
+ghost use Rattle.std.specs.Prelude.{◌≡◌, ◌≤◌, IfOk, IfSome, List, find, map, string_bytes};
 ghost use Rattle.std.specs.Option.{option_and_then, option_map};
-ghost use Rattle.clap.specs.Words.{app_of, found_of, rows_of, rule_of};
-ghost use Rattle.flow_words.specs.Lines.{AskFor};
-ghost use Rattle.flow_words.specs.Numbers.{spelled_number, spelled_workers};
-ghost use Rattle.flow_words.specs.Words.{Asked, IsWithinBounds, Run, asked_by, asked_in, command_of, flag_in, flag_rule, form_of, given_workers, is_given, line_app, make_by, option_rule};
+ghost use Rattle.clap.specs.Words.{app_of, found_of, rows_of};
+ghost use Rattle.flow_words.specs.Forms.{fits, forms};
+ghost use Rattle.flow_words.specs.Lines.{AreOnce, Given, IsLine, values_of};
+ghost use Rattle.flow_words.specs.Numbers.{AreSpelled, spelled_number, spelled_workers};
+ghost use Rattle.flow_words.specs.Words.{IsWithinBounds, Run, asked_as, asked_by, command_of, form_of, given_workers, is_given, line_app, make_by, row_named, value_by, value_in};
 
-use crate::asked::Command;
+use crate::argument::{ARGUMENTS, Argument, Shape};
+use crate::asked::{Command, RunCommand};
+use crate::form::{FORMS, Form};
+use clap::ArgMatches;
 use clap::error::ErrorKind;
 use clap::parser::ValueSource;
-use clap::{Arg, ArgAction, ArgMatches};
 use flow_limits::{NUMBER_LIMIT, WORKER_LIMIT};
 use flow_text::decimal;
 use std::alloc::{AllocError, Global};
 
-// Which flag a line has.
-#[derive(Clone, Copy, Debug, PartialEq, Eq)]
-enum FlagGiven {
-    None,
-    Check,
-    Determinate,
-    Kinds,
-    // No form has two.
-    Several,
-}
-
 /// What the words after the program's name ask for, or `None` where they are no command line. Which
-/// names, flags and options make which form is this project's own rule. How the words are told apart
+/// names, flags and options make which form is this project's own rule; a line may give them in any order. How the words are told apart
 /// and which are refused is clap's: the word after `--` is a name, and the text behind an option's `=`
 /// its value, whatever they begin with, and a call for help or the version is refused like any other
 /// flag.
 pub fn command<'a>(alloc: Global, words: &'a [String]) -> Result<Option<Command<'a>>, AllocError>
     ensures words { IfOk result (λ command.
         option_map asked_by command ≡ command_of (map string_bytes words.entry.now)) }
-    ensures lines { (asked : Asked) → AskFor asked (map string_bytes words.entry.now)
-        → IfOk result (λ command. option_map asked_by command ≡ Some asked) }
+    ensures lines { (given : List Given) → IsLine given (map string_bytes words.entry.now) → AreOnce given
+        → IfOk result (λ command. option_map asked_by command ≡ form_of (values_of given)) }
+    ensures numbers { IfOk result (λ _. AreSpelled) }
     ensures bounds { IfOk result (λ found. IfSome found (λ command. IsWithinBounds (asked_by command))) }
 {
     match line(alloc)?.try_get_matches_from(words) {
@@ -50,73 +43,76 @@ pub fn command<'a>(alloc: Global, words: &'a [String]) -> Result<Option<Command<
 fn line<'a>(alloc: Global) -> Result<clap::Command<'a>, AllocError>
     ensures { IfOk result (λ line. app_of line ≡ line_app) }
 {
-    clap::Command::new(alloc, "flow")
+    let mut line = clap::Command::new(alloc, "flow")
         .no_binary_name(true)
-        .disable_help_flag(true)
-        .arg(Arg::new(alloc, "NETFILE"))?
-        .arg(flag(alloc, "check"))?
-        .arg(flag(alloc, "determinate"))?
-        .arg(flag(alloc, "kinds"))?
-        .arg(option(alloc, "journal"))?
-        .arg(option(alloc, "replay"))?
-        .arg(option(alloc, "make"))?
-        .arg(option(alloc, "workers"))
-}
-
-// A flag, which takes no value.
-fn flag<'a>(alloc: Global, name: &'a str) -> Arg<'a>
-    ensures rule { rule_of result ≡ flag_rule name.entry.now }
-    ensures local { result.global ≡ false }
-{
-    Arg::new(alloc, name).long(name).action(ArgAction::SetTrue)
-}
-
-// An option, which takes one value.
-fn option<'a>(alloc: Global, name: &'a str) -> Arg<'a>
-    ensures rule { rule_of result ≡ option_rule name.entry.now }
-    ensures local { result.global ≡ false }
-{
-    Arg::new(alloc, name).long(name)
+        .disable_help_flag(true);
+    for argument in ARGUMENTS {
+        line = line.arg(argument.for_clap(alloc))?;
+    }
+    Ok(line)
 }
 
 // What clap's matches ask for.
 fn asked_by_matches<'a>(matches: &ArgMatches<'a>) -> Option<Command<'a>>
-    ensures asks { option_map asked_by result ≡ asked_in (rows_of (found_of matches.now)) }
+    ensures asks { option_map asked_by result ≡ form_of (value_in (rows_of (found_of matches.now))) }
     ensures bounds { IfSome result (λ command. IsWithinBounds (asked_by command)) }
 {
-    form(
-        flag_in(matches),
-        matches.get_str("NETFILE"),
-        matches.get_str("journal"),
-        matches.get_str("replay"),
-        matches.get_str("make"),
-        matches.get_str("workers"),
-    )
+    asked_as(form_given(matches)?, matches)
 }
 
-// The form of a command line, by what is given in it.
-fn form<'a>(
-    flag: FlagGiven,
-    net: Option<&'a str>,
-    journal: Option<&'a str>,
-    replay: Option<&'a str>,
-    number: Option<&'a str>,
-    workers: Option<&'a str>,
-) -> Option<Command<'a>>
-    ensures asks { option_map asked_by result ≡ form_of flag (option_map (λ s. s.now) net.entry) (option_map (λ s. s.now) journal.entry)
-        (option_map (λ s. s.now) replay.entry) (option_map (λ s. s.now) number.entry) (option_map (λ s. s.now) workers.entry) }
+// What clap's matches ask for as a line of this form.
+fn asked_as<'a>(form: Form, matches: &ArgMatches<'a>) -> Option<Command<'a>>
+    ensures asks { option_map asked_by result ≡ asked_as form (value_in (rows_of (found_of matches.now))) }
     ensures bounds { IfSome result (λ command. IsWithinBounds (asked_by command)) }
 {
-    match (flag, net, journal, replay, number, workers) {
-        (FlagGiven::None, Some(net), journal, None, None, workers) => run_of(net, journal, workers),
-        (FlagGiven::Check, Some(net), None, None, None, None) => Some(Command::Check(net)),
-        (FlagGiven::Determinate, Some(net), None, None, None, None) => Some(Command::Judge(net)),
-        (FlagGiven::Kinds, None, None, None, None, None) => Some(Command::Kinds),
-        (FlagGiven::None, Some(net), None, Some(journal), None, None) => {
-            Some(Command::Replay { net, journal })
+    let net = value_of(matches, Argument::NetFile);
+    let workers = value_of(matches, Argument::Workers);
+    match form {
+        Form::Run => run_of(net?, value_of(matches, Argument::Journal), workers),
+        Form::Check => Some(Command::Check(net?)),
+        Form::Judge => Some(Command::Judge(net?)),
+        Form::Kinds => Some(Command::Kinds),
+        Form::Replay => {
+            let journal = value_of(matches, Argument::Replay)?;
+            Some(Command::Replay { net: net?, journal })
         }
-        (FlagGiven::None, None, None, None, Some(word), workers) => make_of(word, workers),
-        _ => None,
+        Form::Make => make_of(value_of(matches, Argument::Make)?, workers),
+    }
+}
+
+// The form of the line that gave these matches.
+fn form_given(matches: &ArgMatches<'_>) -> Option<Form>
+    ensures { result ≡ find (λ form. fits form (value_in (rows_of (found_of matches.now)))) forms }
+{
+    for form in FORMS {
+        if fits(form, matches) {
+            return Some(form);
+        }
+    }
+    None
+}
+
+// Whether the line gave all that the form needs, and nothing that it bars.
+fn fits(form: Form, matches: &ArgMatches<'_>) -> bool
+    ensures { result ≡ fits form (value_in (rows_of (found_of matches.now))) }
+{
+    for argument in ARGUMENTS {
+        let given = value_of(matches, argument).is_some();
+        if !form.place_of(argument).admits(given) {
+            return false;
+        }
+    }
+    true
+}
+
+// The value of an argument, where the line gave it.
+fn value_of<'a>(matches: &ArgMatches<'a>, argument: Argument) -> Option<&'a str>
+    ensures { option_map (λ s. s.now) result ≡ value_in (rows_of (found_of matches.now)) argument }
+{
+    match argument.shape() {
+        Shape::Name => matches.get_str(argument.name()),
+        Shape::Flag => flag_value(matches, argument.name()),
+        Shape::Valued => matches.get_str(argument.name()),
     }
 }
 
@@ -130,11 +126,11 @@ fn run_of<'a>(
     ensures bounds { IfSome result (λ command. IsWithinBounds (asked_by command)) }
 {
     let workers = workers_of(workers)?;
-    Some(Command::Run {
+    Some(Command::Run(RunCommand {
         net,
         journal,
         workers,
-    })
+    }))
 }
 
 // A make from the number that a word spells, with so many workers as are given.
@@ -180,24 +176,20 @@ fn spelled_workers(word: &str) -> Option<u32>
     }
 }
 
-// Which flag the words gave.
-fn flag_in(matches: &ArgMatches<'_>) -> FlagGiven
-    ensures { result ≡ flag_in (rows_of (found_of matches.now)) }
+// The value of the flag of this name, where the words gave it.
+fn flag_value<'a>(matches: &ArgMatches<'_>, name: &str) -> Option<&'a str>
+    ensures { option_map (λ s. s.now) result ≡ value_by Shape.Flag (row_named name.now (rows_of (found_of matches.now))) }
 {
-    let check = is_given(matches, "check");
-    let determinate = is_given(matches, "determinate");
-    match (check, determinate, is_given(matches, "kinds")) {
-        (false, false, false) => FlagGiven::None,
-        (true, false, false) => FlagGiven::Check,
-        (false, true, false) => FlagGiven::Determinate,
-        (false, false, true) => FlagGiven::Kinds,
-        _ => FlagGiven::Several,
+    if is_given(matches, name) {
+        Some("")
+    } else {
+        None
     }
 }
 
 // Whether the words gave the flag of this name, which clap otherwise sets by default.
 fn is_given(matches: &ArgMatches<'_>, name: &str) -> bool
-    ensures { result ≡ is_given name.now (rows_of (found_of matches.now)) }
+    ensures { result ≡ is_given (row_named name.now (rows_of (found_of matches.now))) }
 {
     match matches.value_source(name) {
         Some(ValueSource::CommandLine) => true,

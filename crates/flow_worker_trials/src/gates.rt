@@ -1,6 +1,6 @@
 //! Networks side by side, whose readers wait for one another at a gate: one thread alone can't bring them all there.
-use crate::called::{File, call};
 use flow_component::Gate;
+use flow_rig::{File, call_by_workers};
 use std::sync::atomic::{AtomicU64, Ordering};
 use std::test::Fail;
 use std::thread;
@@ -57,7 +57,7 @@ impl Meeting {
 }
 
 impl Gate for Meeting {
-    fn pass(&self, process: u32) {
+    fn pass(&self, process: u32, _turns: u64) {
         let reader = (process / 2) as usize;
         if process % 2 == 0 && reader < self.come.len() {
             let before = self.come[reader].fetch_add(1, Ordering::SeqCst);
@@ -68,7 +68,7 @@ impl Gate for Meeting {
     }
 }
 
-const TWO: &[File] = &[
+const TWO: &[File<'static>] = &[
     (
         "net",
         b"flow 1\n'i' -> FILE A(ReadLines)\nA OUT -> IN V(WriteLines)\n'v' -> FILE V\n'i' -> FILE B(ReadLines)\nB OUT -> IN W(WriteLines)\n'w' -> FILE W\n",
@@ -76,7 +76,7 @@ const TWO: &[File] = &[
     ("i", b"x\ny\n"),
 ];
 
-const FOUR: &[File] = &[
+const FOUR: &[File<'static>] = &[
     (
         "net",
         b"flow 1\n'i' -> FILE A(ReadLines)\nA OUT -> IN V(WriteLines)\n'v' -> FILE V\n'i' -> FILE B(ReadLines)\nB OUT -> IN W(WriteLines)\n'w' -> FILE W\n'i' -> FILE C(ReadLines)\nC OUT -> IN X(WriteLines)\n'x' -> FILE X\n'i' -> FILE D(ReadLines)\nD OUT -> IN Y(WriteLines)\n'y' -> FILE Y\n",
@@ -87,7 +87,7 @@ const FOUR: &[File] = &[
 #[test]
 fn gate_holds_two(rt: HostRuntime) -> Result<(), Fail> {
     let gate = Meeting::new(2);
-    let called = call(&rt, rt.alloc(), &["--workers", "2", "net"], TWO, &gate)?;
+    let called = call_by_workers(&rt, rt.alloc(), &["--workers", "2", "net"], TWO, &gate)?;
     assert_eq!(rt; called.status, 0);
     assert!(rt; gate.is_full());
     assert_eq!(rt; gate.alone.load(Ordering::SeqCst), 0);
@@ -100,7 +100,7 @@ fn gate_holds_two(rt: HostRuntime) -> Result<(), Fail> {
 #[test]
 fn gate_holds_four(rt: HostRuntime) -> Result<(), Fail> {
     let gate = Meeting::new(4);
-    let called = call(&rt, rt.alloc(), &["--workers", "4", "net"], FOUR, &gate)?;
+    let called = call_by_workers(&rt, rt.alloc(), &["--workers", "4", "net"], FOUR, &gate)?;
     assert_eq!(rt; called.status, 0);
     assert!(rt; gate.is_full());
     assert_eq!(rt; gate.alone.load(Ordering::SeqCst), 0);

@@ -1,13 +1,13 @@
 //! Networks whose files and printed lines are known from elsewhere, by one worker and by four.
-use crate::called::{File, call, call_alone};
 use flow_component::NoGate;
+use flow_rig::{File, call_alone, call_by_workers};
 use std::test::Fail;
 
 const ONE: &[&str] = &["--workers", "1", "net"];
 
 const FOUR: &[&str] = &["--workers", "4", "net"];
 
-const TELEGRAM: &[File] = &[
+const TELEGRAM: &[File<'static>] = &[
     (
         "net",
         b"flow 1\n# the telegram problem\n'in.txt' -> FILE Read(ReadLines)\nRead OUT -> IN Words(Words)\nWords OUT->(20) IN Fill(Fill)\n'12' -> SIZE Fill\nFill OUT -> IN Write(WriteLines)\n'out.txt' -> FILE Write\n",
@@ -21,7 +21,7 @@ const TELEGRAM_REPORT: &[u8] =
 #[test]
 fn the_telegram_problem_by_workers(rt: HostRuntime) -> Result<(), Fail> {
     for line in [ONE, FOUR] {
-        let called = call(&rt, rt.alloc(), line, TELEGRAM, &NoGate)?;
+        let called = call_by_workers(&rt, rt.alloc(), line, TELEGRAM, &NoGate)?;
         assert_eq!(rt; called.printed.as_slice(), TELEGRAM_REPORT);
         assert_eq!(rt; called.status, 0);
         assert_eq!(rt; called.turns, 50);
@@ -33,7 +33,7 @@ fn the_telegram_problem_by_workers(rt: HostRuntime) -> Result<(), Fail> {
     Ok(())
 }
 
-const MERGED: &[File] = &[
+const MERGED: &[File<'static>] = &[
     (
         "net",
         b"flow 1\n'a' -> FILE A(ReadLines)\n'b' -> FILE B(ReadLines)\nA OUT -> IN Write(WriteLines)\nB OUT -> IN Write\n'o' -> FILE Write\n",
@@ -55,7 +55,7 @@ const MERGES: [&[u8]; 6] = [
 #[test]
 fn two_readers_are_merged_by_workers(rt: HostRuntime) -> Result<(), Fail> {
     for line in [ONE, FOUR] {
-        let called = call(&rt, rt.alloc(), line, MERGED, &NoGate)?;
+        let called = call_by_workers(&rt, rt.alloc(), line, MERGED, &NoGate)?;
         assert_eq!(rt; called.status, 0);
         assert!(rt;
             called
@@ -70,7 +70,7 @@ fn two_readers_are_merged_by_workers(rt: HostRuntime) -> Result<(), Fail> {
 
 /// A network that gets stuck: its files, its report, and how many turns were made.
 struct Stuck {
-    files: &'static [File],
+    files: &'static [File<'static>],
     report: &'static [u8],
     turns: usize,
 }
@@ -101,9 +101,9 @@ const STUCK: [Stuck; 2] = [
 #[test]
 fn a_stuck_network_tells_its_cycle_by_any_workers(rt: HostRuntime) -> Result<(), Fail> {
     for stuck in &STUCK {
-        let alone = call_alone(&rt, rt.alloc(), &["net"], stuck.files)?;
-        let one = call(&rt, rt.alloc(), ONE, stuck.files, &NoGate)?;
-        let four = call(&rt, rt.alloc(), FOUR, stuck.files, &NoGate)?;
+        let alone = call_alone(rt.alloc(), &["net"], stuck.files)?;
+        let one = call_by_workers(&rt, rt.alloc(), ONE, stuck.files, &NoGate)?;
+        let four = call_by_workers(&rt, rt.alloc(), FOUR, stuck.files, &NoGate)?;
         for called in [&alone, &one, &four] {
             assert_eq!(rt; called.status, 4);
             assert_eq!(rt; called.turns, stuck.turns);
@@ -113,7 +113,7 @@ fn a_stuck_network_tells_its_cycle_by_any_workers(rt: HostRuntime) -> Result<(),
     Ok(())
 }
 
-const BATCH: &[File] = &[
+const BATCH: &[File<'static>] = &[
     (
         "net",
         b"flow 1\n'm' -> FILE Masters(ReadLines)\n'd' -> FILE Details(ReadLines)\nMasters OUT -> IN[0] Collate(Collate)\nDetails OUT -> IN[1] Collate\n'2' -> FIELDS Collate\nCollate OUT -> IN Update(Update)\n'2' -> KEYLEN Update\nUpdate OUT -> IN New(WriteLines)\nUpdate REP -> IN Rep(WriteLines)\n'n' -> FILE New\n'r' -> FILE Rep\n",
@@ -125,7 +125,7 @@ const BATCH: &[File] = &[
 #[test]
 fn masters_are_updated_by_workers(rt: HostRuntime) -> Result<(), Fail> {
     for line in [ONE, FOUR] {
-        let called = call(&rt, rt.alloc(), line, BATCH, &NoGate)?;
+        let called = call_by_workers(&rt, rt.alloc(), line, BATCH, &NoGate)?;
         assert_eq!(rt; called.status, 0);
         assert_eq!(rt; called.turns, 68);
         assert!(rt;
@@ -139,7 +139,7 @@ fn masters_are_updated_by_workers(rt: HostRuntime) -> Result<(), Fail> {
     Ok(())
 }
 
-const BALANCED: &[File] = &[
+const BALANCED: &[File<'static>] = &[
     (
         "net",
         b"flow 1\n'i' -> FILE Read(ReadLines)\nRead OUT -> IN Load(LoadBalance)\nLoad OUT[0] -> IN A(WriteLines)\nLoad OUT[1] -> IN B(WriteLines)\n'o' -> FILE A\n'p' -> FILE B\n",
@@ -166,7 +166,7 @@ fn is_split(lines: &[u8], one: &[u8], other: &[u8]) -> bool {
 #[test]
 fn a_load_is_balanced_by_workers(rt: HostRuntime) -> Result<(), Fail> {
     for line in [ONE, FOUR] {
-        let called = call(&rt, rt.alloc(), line, BALANCED, &NoGate)?;
+        let called = call_by_workers(&rt, rt.alloc(), line, BALANCED, &NoGate)?;
         assert_eq!(rt; called.status, 0);
         let one = called.shelf.file("o").unwrap_or(b"?");
         let other = called.shelf.file("p").unwrap_or(b"?");
@@ -177,9 +177,9 @@ fn a_load_is_balanced_by_workers(rt: HostRuntime) -> Result<(), Fail> {
 
 #[test]
 fn a_make_is_the_same_by_workers(rt: HostRuntime) -> Result<(), Fail> {
-    let alone = call_alone(&rt, rt.alloc(), &["--make", "7"], &[])?;
+    let alone = call_alone(rt.alloc(), &["--make", "7"], &[])?;
     assert!(rt; alone.printed.ends_with(b"output C 6\n"));
-    let called = call(
+    let called = call_by_workers(
         &rt,
         rt.alloc(),
         &["--make", "7", "--workers", "4"],

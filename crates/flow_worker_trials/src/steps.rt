@@ -1,6 +1,6 @@
 //! Networks of the second version, by one worker and by four: a process begins when another one has ended, or has sent.
-use crate::called::{File, call, call_alone};
 use flow_component::NoGate;
+use flow_rig::{File, call_alone, call_by_workers};
 use std::test::Fail;
 
 const ONE: &[&str] = &["--workers", "1", "--journal", "kept", "net"];
@@ -8,7 +8,7 @@ const ONE: &[&str] = &["--workers", "1", "--journal", "kept", "net"];
 const FOUR: &[&str] = &["--workers", "4", "--journal", "kept", "net"];
 
 /// A and W are the first step, B and V the second.
-const STEPS: &[File] = &[
+const STEPS: &[File<'static>] = &[
     (
         "net",
         b"flow 2\n'i' -> FILE A(ReadLines)\nA OUT -> IN W(WriteLines)\n'o' -> FILE W\nW *OUT -> *IN B(ReadLines)\n'j' -> FILE B\nB OUT -> IN V(WriteLines)\n'p' -> FILE V\n",
@@ -38,7 +38,7 @@ fn has_steps(journal: &[u8], turns: usize) -> bool {
 #[test]
 fn a_second_step_begins_behind_the_first_by_workers(rt: HostRuntime) -> Result<(), Fail> {
     for line in [ONE, FOUR] {
-        let called = call(&rt, rt.alloc(), line, STEPS, &NoGate)?;
+        let called = call_by_workers(&rt, rt.alloc(), line, STEPS, &NoGate)?;
         assert_eq!(rt; called.printed.as_slice(), STEPS_REPORT);
         assert_eq!(rt; called.status, 0);
         assert_eq!(rt; called.turns, 21);
@@ -50,7 +50,7 @@ fn a_second_step_begins_behind_the_first_by_workers(rt: HostRuntime) -> Result<(
 }
 
 /// B begins with the first line of A, and drops the lines.
-const SIGNALS: &[File] = &[
+const SIGNALS: &[File<'static>] = &[
     (
         "net",
         b"flow 2\n'i' -> FILE A(ReadLines)\nA OUT -> *IN B(ReadLines)\n'j' -> FILE B\nB OUT -> IN V(WriteLines)\n'p' -> FILE V\n",
@@ -65,7 +65,7 @@ const SIGNALS_REPORT: &[u8] =
 #[test]
 fn a_packet_lets_a_process_begin_by_workers(rt: HostRuntime) -> Result<(), Fail> {
     for line in [ONE, FOUR] {
-        let called = call(&rt, rt.alloc(), line, SIGNALS, &NoGate)?;
+        let called = call_by_workers(&rt, rt.alloc(), line, SIGNALS, &NoGate)?;
         assert_eq!(rt; called.printed.as_slice(), SIGNALS_REPORT);
         assert_eq!(rt; called.status, 0);
         assert_eq!(rt; called.turns, 18);
@@ -75,7 +75,7 @@ fn a_packet_lets_a_process_begin_by_workers(rt: HostRuntime) -> Result<(), Fail>
 }
 
 /// A waits for its own end.
-const ITSELF: &[File] = &[
+const ITSELF: &[File<'static>] = &[
     (
         "net",
         b"flow 2\n'i' -> FILE A(ReadLines)\nA *OUT -> *IN A\nA OUT -> IN W(WriteLines)\n'o' -> FILE W\n",
@@ -88,9 +88,9 @@ const ITSELF_REPORT: &[u8] =
 
 #[test]
 fn who_waits_for_its_own_end_is_stuck_by_any_workers(rt: HostRuntime) -> Result<(), Fail> {
-    let alone = call_alone(&rt, rt.alloc(), &["net"], ITSELF)?;
-    let one = call(&rt, rt.alloc(), ONE, ITSELF, &NoGate)?;
-    let four = call(&rt, rt.alloc(), FOUR, ITSELF, &NoGate)?;
+    let alone = call_alone(rt.alloc(), &["net"], ITSELF)?;
+    let one = call_by_workers(&rt, rt.alloc(), ONE, ITSELF, &NoGate)?;
+    let four = call_by_workers(&rt, rt.alloc(), FOUR, ITSELF, &NoGate)?;
     for called in [&alone, &one, &four] {
         assert_eq!(rt; called.status, 4);
         assert_eq!(rt; called.turns, 0);
@@ -114,7 +114,7 @@ fn other_versions_are_refused_by_workers(rt: HostRuntime) -> Result<(), Fail> {
     ];
     for (net, printed) in rows {
         for line in [ONE, FOUR] {
-            let called = call(&rt, rt.alloc(), line, &[("net", net)], &NoGate)?;
+            let called = call_by_workers(&rt, rt.alloc(), line, &[("net", net)], &NoGate)?;
             assert_eq!(rt; called.status, 3);
             assert_eq!(rt; called.printed.as_slice(), printed);
         }
@@ -123,7 +123,7 @@ fn other_versions_are_refused_by_workers(rt: HostRuntime) -> Result<(), Fail> {
 }
 
 /// A connection of 4,096 packets takes all lines of its reader at once.
-const LARGE: &[File] = &[
+const LARGE: &[File<'static>] = &[
     (
         "net",
         b"flow 2\n'i' -> FILE A(ReadLines)\nA OUT -> (4096) IN W(WriteLines)\nA *OUT -> *IN W\n'o' -> FILE W\n",
@@ -135,7 +135,7 @@ const LARGE: &[File] = &[
 #[test]
 fn a_larger_connection_holds_a_step_by_workers(rt: HostRuntime) -> Result<(), Fail> {
     for line in [ONE, FOUR] {
-        let called = call(&rt, rt.alloc(), line, LARGE, &NoGate)?;
+        let called = call_by_workers(&rt, rt.alloc(), line, LARGE, &NoGate)?;
         assert_eq!(rt; called.status, 0);
         assert!(rt;
             called.printed.ends_with(

@@ -12,8 +12,8 @@ use crate::outlets::connection_in;
 use crate::start::{fits, inlets_of, places};
 use flow_component::Component;
 use flow_model::Stage;
-use flow_net::Plan;
 use flow_packet::Hands;
+use flow_plan::Plan;
 use std::alloc::{AllocError, Global};
 
 impl<K: Component> Body<K> {
@@ -30,7 +30,7 @@ impl<K: Component> Body<K> {
         requires in_range { process < length plan.now.processes }
         requires receiving { IfSome (slice_get plan.now.processes process) (λ x. receiving.now ≡ map (receives_at plan.now process) (range_with_len 0 (x.inputs + 1))) }
         requires sending { IfSome (slice_get plan.now.processes process) (λ x. sending.now ≡ map (sends_at plan.now process) (range_with_len 0 (x.outputs + 1))) }
-        requires well { (x : NetProcess) → slice_get plan.now.processes process ≡ Some x → x.outputs + 1 < 2 ^ 32 → StandsWell K.shape_of K.uses K.ready (process_at_start plan.now process x (K.state_of component)) }
+        requires well { (x : NetProcess) → slice_get plan.now.processes process ≡ Some x → x.outputs + 1 < 2 ^ 32 → StandsWell K.rules (process_at_start plan.now process x (K.state_of component)) }
         ensures { IfOk result (λ body. (x : NetProcess) → slice_get plan.now.processes process ≡ Some x → StartsBody (process_at_start plan.now process x (K.state_of component)) body) }
     {
         let entry = &plan.processes()[process as usize];
@@ -44,7 +44,6 @@ impl<K: Component> Body<K> {
         let signal = connection_in(receiving, own);
         let outputs = Vec::from_slice(alloc, sending)?;
         let mut body = Body {
-            number: process,
             stage: Stage::Idle,
             has_run: false,
             component,

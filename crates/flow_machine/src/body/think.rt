@@ -3,9 +3,9 @@ ghost use Rattle.std.specs.Prelude.{◌≡◌, None, OnOk, OnErr};
 ghost use Rattle.std.specs.Bool.{OnTrue, OnFalse};
 ghost use Rattle.flow_packet.specs.Held.{held_of};
 ghost use Rattle.flow_model.specs.Works.{judged};
-ghost use Rattle.flow_model.specs.Schedules.{IsThoughtStage};
+ghost use Rattle.flow_model.specs.Stages.{IsThoughtStage, HasNotFailed};
 ghost use Rattle.flow_model.specs.declared.Stage.TheVariants.{Told};
-ghost use Rattle.flow_machine.specs.Thoughts.{Thinks, KeepsTurns, HasRoom, WorkedBody, SameBody, SendsHeld, HasNotFailed, Prepares};
+ghost use Rattle.flow_machine.specs.Thoughts.{Thinks, KeepsTurns, HasRoom, WorkedBody, SameBody, SendsHeld, PassesFirst, Prepares};
 
 use super::Body;
 use crate::answers::Thought;
@@ -67,14 +67,15 @@ impl<K: Component> Body<K> {
     #[inline(always)]
     pub fn think<G: Gate>(&mut self, gate: &G) -> Thought
         requires { self.old.leaving ≡ None }
-        ensures thinks { Thinks K.next self.old result self.new }
+        ensures thinks { Thinks K.rules self.old result self.new }
         ensures keeps { KeepsTurns self.old self.new }
+        ensures passed { PassesFirst (G.has_passed gate.now) self.old }
     {
         let stage = self.stage;
         let Stage::Told(answer) = stage else {
             return self.prepare();
         };
-        gate.pass(self.number);
+        gate.pass(self.hands.maker(), self.stamps.len() as u64);
         if self.work(answer) {
             self.prepare()
         } else {
@@ -111,7 +112,7 @@ impl<K: Component> Body<K> {
     fn work(&mut self, answer: Answer) -> bool
         requires whole { self.old.leaving ≡ None }
         requires told { self.old.process.stage ≡ Told answer }
-        ensures worked { OnTrue result (WorkedBody K.next self.old self.new × IsThoughtStage self.new.process.stage) }
+        ensures worked { OnTrue result (WorkedBody K.rules self.old self.new × IsThoughtStage self.new.process.stage) }
         ensures unchanged { OnFalse result (SameBody self.old self.new × HasNotFailed self.new.process.stage) }
         ensures keeps { KeepsTurns self.old self.new }
     {

@@ -11,7 +11,7 @@ use crate::wires::{receiving, sending};
 use flow_component::Component;
 use flow_items::Items;
 use flow_limits::{CONNECTION_LIMIT, SENDER_LIMIT};
-use flow_net::{Connection, Plan};
+use flow_plan::{Connection, Plan};
 use std::alloc::{AllocError, Global};
 
 /// Gives bodies up, and spends what they hold.
@@ -76,7 +76,7 @@ fn bodies_of<K: Component>(
     plan: &Plan,
     components: Vec<K>,
 ) -> Result<Vec<Body<K>>, AllocError>
-    requires well { StartsWell K.shape_of K.uses K.ready plan.now (map K.state_of components.items) }
+    requires well { StartsWell K.rules plan.now (map K.state_of components.items) }
     requires few { length plan.now.connections ≤ CONNECTION_LIMIT }
     ensures { IfOk result (λ bodies. StartsBodies plan.now (map K.state_of components.items) bodies.items) }
 {
@@ -105,7 +105,7 @@ impl<K: Component> Net<K> {
     /// A network of a plan with these components, one for each process. All processes are idle and set, nothing was made or put, each connection has
     /// the places of its capacity, and the net has a copy of the plan's connections.
     pub fn start(alloc: Global, plan: &Plan, components: Vec<K>) -> Result<Net<K>, AllocError>
-        requires well { StartsWell K.shape_of K.uses K.ready plan.now (map K.state_of components.items) }
+        requires well { StartsWell K.rules plan.now (map K.state_of components.items) }
         requires few { length plan.now.connections ≤ CONNECTION_LIMIT }
         ensures { IfOk result (λ net. StartsNet plan.now (map K.state_of components.items) net) }
     {

@@ -2,7 +2,7 @@
 ghost use Rattle.std.specs.Prelude.{◌≡◌, ◌<◌, if◌then◌else◌, length, map, is_some, None, Some};
 ghost use Rattle.flow_model.specs.declared.Block.TheVariants.{Empty, Full, Dormant};
 ghost use Rattle.flow_model.specs.Events.{received, idle_event};
-ghost use Rattle.flow_model.specs.Schedules.{IsThoughtStage};
+ghost use Rattle.flow_model.specs.Stages.{IsThoughtStage};
 ghost use Rattle.flow_model.specs.Stands.{look_shown};
 ghost use Rattle.flow_machine.specs.Values.{net_of};
 ghost use Rattle.flow_machine.specs.FitNets.{FitNet};
@@ -65,7 +65,7 @@ pub(crate) fn block_of<K: Component>(
 ) -> Option<Block>
     requires in_range { process < length bodies.now }
     requires thought { IsAt (net_of bodies.now channels.now) process IsThoughtStage }
-    requires fit { FitNet K.shape_of K.uses K.ready (net_of bodies.now channels.now) }
+    requires fit { FitNet K.rules (net_of bodies.now channels.now) }
     ensures { result ≡ block_at (net_of bodies.now channels.now) process }
 {
     let body = &bodies[process as usize];

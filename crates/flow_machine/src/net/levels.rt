@@ -27,7 +27,7 @@ pub(crate) fn seen_of<K: Component>(
 ) -> Option<Turn>
     requires in_range { process < length bodies.old }
     requires set { IsSetIn (net_of bodies.old channels.now) process }
-    requires fit { FitNet K.shape_of K.uses K.ready (net_of bodies.old channels.now) }
+    requires fit { FitNet K.rules (net_of bodies.old channels.now) }
     requires asks { IsAt (net_of bodies.old channels.now) process asks_level }
     ensures { SeesNet (net_of bodies.old channels.now) process level stamp result (net_of bodies.new channels.now) }
 {

@@ -8,7 +8,7 @@ use super::Net;
 use crate::body::Body;
 use crate::channel::Channel;
 use flow_component::Component;
-use flow_net::Connection;
+use flow_plan::Connection;
 
 /// A network in pieces: the connections of its plan, its processes, and a channel for each connection. A layer above makes turns with a body and a
 /// channel apart, and joins the pieces again.
@@ -24,8 +24,8 @@ impl<K: Component> Net<K> {
         ensures connections { result.connections.items ≡ self.connections }
         ensures bodies { result.bodies.items ≡ self.bodies }
         ensures channels { result.channels.items ≡ self.channels }
-        ensures joins { Joins K.shape_of K.uses K.ready (net_with result.connections.items result.bodies.items result.channels.items) }
-        ensures fit { FitNet K.shape_of K.uses K.ready self }
+        ensures joins { Joins K.rules (net_with result.connections.items result.bodies.items result.channels.items) }
+        ensures fit { FitNet K.rules self }
     {
         let Net {
             connections,
@@ -44,7 +44,7 @@ impl<K: Component> Parts<K> {
     /// The network of these pieces: connections of a valid plan, bodies that are its processes, and channels that are its connections', as `split` gives
     /// them. No state of the machine is asked for.
     pub fn join(self) -> Net<K>
-        requires { Joins K.shape_of K.uses K.ready (net_with self.connections.items self.bodies.items self.channels.items) }
+        requires { Joins K.rules (net_with self.connections.items self.bodies.items self.channels.items) }
         ensures { result ≡ net_with self.connections.items self.bodies.items self.channels.items }
     {
         let Parts {

@@ -1,5 +1,6 @@
 //! One thread runs a network: each process takes turns until it has none, round and round.
 ghost use Rattle.std.specs.Prelude.{◌≡◌, ◌<◌, ◌≤◌, ◌+◌, length, [], OnOk, IfOk, IfErr};
+ghost use Rattle.flow_limits.specs.declared.TheConstants.{RUN_LIMIT};
 ghost use Rattle.std.specs.Bool.{OnTrue, OnFalse};
 ghost use Rattle.flow_machine.specs.NetSteps.{IsSetIn};
 ghost use Rattle.flow_machine.specs.Starts.{AllSet};
@@ -40,9 +41,9 @@ impl<K: Component> Net<K> {
         requires set { IsSetIn self.old process }
         requires next { stamp ≡ turns_made self.old }
         ensures turn { MakesTurn self.old process stamp result self.new }
-        ensures reaches { ReachesNet K.shape_of K.uses K.ready K.next self.old self.new }
+        ensures reaches { ReachesNet K.rules self.old self.new }
         ensures next { OnTrue result (turns_made self.new ≡ stamp + 1) }
-        ensures few { turns_made self.new ≤ 1073741824 }
+        ensures few { turns_made self.new ≤ RUN_LIMIT }
     {
         match self.turn(process, stamp) {
             Turn::Made(_) => true,
@@ -55,9 +56,9 @@ impl<K: Component> Net<K> {
     #[inline(always)]
     fn settle(&mut self, process: u32) -> bool
         requires { process < length self.old.bodies }
-        ensures settles { OnTrue result (SettlesNet K.next self.old process self.new) }
+        ensures settles { OnTrue result (SettlesNet K.rules self.old process self.new) }
         ensures starves { OnFalse result (StarvesNet self.old process self.new) }
-        ensures reaches { ReachesNet K.shape_of K.uses K.ready K.next self.old self.new }
+        ensures reaches { ReachesNet K.rules self.old self.new }
         ensures len { length self.new.bodies ≡ length self.old.bodies }
         ensures turns { turns_made self.new ≡ turns_made self.old }
     {
@@ -71,8 +72,8 @@ impl<K: Component> Net<K> {
     /// Does all pending works. An error is the first process that found no memory.
     fn settle_all(&mut self) -> Result<(), u32>
         ensures set { OnOk result (AllSet self.new.bodies) }
-        ensures goes { OnOk result (Goes K.shape_of K.uses K.ready (all_settled K.next) self.old (turns_made self.old) self.new (turns_made self.old)) }
-        ensures reaches { ReachesNet K.shape_of K.uses K.ready K.next self.old self.new }
+        ensures goes { OnOk result (Goes K.rules (all_settled K.rules) self.old (turns_made self.old) self.new (turns_made self.old)) }
+        ensures reaches { ReachesNet K.rules self.old self.new }
         ensures starved { IfErr result (IsFirstUnset self.new.bodies) }
         ensures len { length self.new.bodies ≡ length self.old.bodies }
         ensures turns { turns_made self.new ≡ turns_made self.old }
@@ -90,13 +91,13 @@ impl<K: Component> Net<K> {
         requires in_range { process < length self.old.bodies }
         requires set { AllSet self.old.bodies }
         requires next { stamp.old ≡ turns_made self.old }
-        requires few { stamp.old ≤ 1073741824 }
+        requires few { stamp.old ≤ RUN_LIMIT }
         ensures set { OnOk result (AllSet self.new.bodies) }
         ensures next { OnOk result (stamp.new ≡ turns_made self.new) }
-        ensures few { OnOk result (stamp.new ≤ 1073741824) }
+        ensures few { OnOk result (stamp.new ≤ RUN_LIMIT) }
         ensures len { length self.new.bodies ≡ length self.old.bodies }
-        ensures goes { OnOk result (Goes K.shape_of K.uses K.ready (burst_of K.next process) self.old stamp.old self.new stamp.new) }
-        ensures reaches { ReachesNet K.shape_of K.uses K.ready K.next self.old self.new }
+        ensures goes { OnOk result (Goes K.rules (burst_of K.rules process) self.old stamp.old self.new stamp.new) }
+        ensures reaches { ReachesNet K.rules self.old self.new }
         ensures starved { IfErr result (IsFirstUnset self.new.bodies) }
     {
         while self.make_turn(process, *stamp) {
@@ -112,14 +113,14 @@ impl<K: Component> Net<K> {
     fn pass(&mut self, stamp: &mut u32) -> Result<bool, u32>
         requires set { AllSet self.old.bodies }
         requires next { stamp.old ≡ turns_made self.old }
-        requires few { stamp.old ≤ 1073741824 }
+        requires few { stamp.old ≤ RUN_LIMIT }
         ensures set { OnOk result (AllSet self.new.bodies) }
         ensures next { OnOk result (stamp.new ≡ turns_made self.new) }
-        ensures few { OnOk result (stamp.new ≤ 1073741824) }
+        ensures few { OnOk result (stamp.new ≤ RUN_LIMIT) }
         ensures len { length self.new.bodies ≡ length self.old.bodies }
-        ensures goes { OnOk result (Goes K.shape_of K.uses K.ready (pass_below K.next (length self.old.bodies)) self.old stamp.old self.new stamp.new) }
+        ensures goes { OnOk result (Goes K.rules (pass_below K.rules (length self.old.bodies)) self.old stamp.old self.new stamp.new) }
         ensures moved { IfOk result (λ moved. OnTrue moved (stamp.old < stamp.new) × OnFalse moved (stamp.new ≡ stamp.old)) }
-        ensures reaches { ReachesNet K.shape_of K.uses K.ready K.next self.old self.new }
+        ensures reaches { ReachesNet K.rules self.old self.new }
         ensures starved { IfErr result (IsFirstUnset self.new.bodies) }
     {
         let before = *stamp;
@@ -131,8 +132,8 @@ impl<K: Component> Net<K> {
 
     /// Passes, until one has no turn.
     fn go_round(&mut self) -> Result<(), u32>
-        ensures goes { OnOk result (Goes K.shape_of K.uses K.ready (round_robin K.next) self.old (turns_made self.old) self.new (turns_made self.new)) }
-        ensures reaches { ReachesNet K.shape_of K.uses K.ready K.next self.old self.new }
+        ensures goes { OnOk result (Goes K.rules (round_robin K.rules) self.old (turns_made self.old) self.new (turns_made self.new)) }
+        ensures reaches { ReachesNet K.rules self.old self.new }
         ensures starved { IfErr result (IsFirstUnset self.new.bodies) }
     {
         self.settle_all()?;
@@ -146,9 +147,9 @@ impl<K: Component> Net<K> {
 /// takes turns until it has none; after a pass without a turn the network is quiet. Without memory what stands is handed back, with the one process
 /// whose thought found none: the first one that isn't set. Where the room for its number wasn't found, before the first turn, none is named.
 pub fn solo<K: Component>(alloc: Global, net: Net<K>) -> Result<Closed<K>, Closed<K>>
-    ensures quiet { IfOk result (λ closed. Goes K.shape_of K.uses K.ready (round_robin K.next) net (turns_made net) closed.net (turns_made closed.net)) }
+    ensures quiet { IfOk result (λ closed. Goes K.rules (round_robin K.rules) net (turns_made net) closed.net (turns_made closed.net)) }
     ensures none { IfOk result (λ closed. closed.starved.items ≡ []) }
-    ensures reaches { IfErr result (λ closed. ReachesNet K.shape_of K.uses K.ready K.next net closed.net) }
+    ensures reaches { IfErr result (λ closed. ReachesNet K.rules net closed.net) }
     ensures stops { IfErr result (λ closed. StopsAt net closed.net closed.starved.items) }
 {
     let mut net = net;

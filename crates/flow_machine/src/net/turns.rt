@@ -21,7 +21,7 @@ pub(crate) fn turn_of<K: Component>(
 ) -> Turn
     requires in_range { process < length bodies.old }
     requires set { IsSetIn (net_of bodies.old channels.old) process }
-    requires fit { FitNet K.shape_of K.uses K.ready (net_of bodies.old channels.old) }
+    requires fit { FitNet K.rules (net_of bodies.old channels.old) }
     ensures { TurnsNet (net_of bodies.old channels.old) process (level_of (net_of bodies.old channels.old) process) stamp result (net_of bodies.new channels.new) }
 {
     let body = &mut bodies[process as usize];

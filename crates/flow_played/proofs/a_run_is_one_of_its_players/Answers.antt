@@ -1,10 +1,10 @@
 use Rattle.flow_model.proofs.Replacing.{replaced-leads}
-use Rattle.flow_own.specs.Mixed.{MixedNext}
+use Rattle.flow_own.specs.Mixed.{mixed_rules}
 use Rattle.flow_played.specs.Played.{played_by}
 use Rattle.flow_played.proofs.Mimicry.{IsBehind, mimics, behind}
 use Rattle.flow_played.proofs.a_run_is_one_of_its_players.Goals as goal
 
 pub returns : goal.returns
 returns g c = λ tapes journal s s' each leads.
-    let next = g.K.Component.next in
-    replaced-leads (MixedNext next) (MixedNext next) (IsBehind tapes) (played_by tapes) (mimics next tapes) journal s s' leads (λ p x there. behind next tapes p x.component (each p x there))
+    let rules = g.K.Component.rules in
+    replaced-leads (mixed_rules rules) (mixed_rules rules) (IsBehind tapes) (played_by tapes) (mimics rules tapes) journal s s' leads (λ p x there. behind rules tapes p x.component (each p x there))

@@ -1,4 +1,3 @@
-use Rattle.flow_cli.specs.declared.components.TheConstants.{FILE_LIMIT}
 use Rattle.flow_cli.proofs.Parting.{read-stopped}
 use Rattle.flow_cli.proofs.Befores.{file-stopped}
 use Rattle.flow_cli.proofs.before.load.Goals as goal
@@ -7,4 +6,4 @@ pub returns-in-Err : goal.returns-in-Err
 returns-in-Err g c =
     let o = g.F.Edge.outside c.args.shelf.now in
     let n = g.F.Edge.outside c.read_file.new.shelf in
-    file-stopped o n c.args.name.now c.read_stop.result FILE_LIMIT (read-stopped o n c.args.name.now c.in-Err.stop c.read_stop.result FILE_LIMIT c.in-Err.ensures c.read_stop.ensures)
+    file-stopped o n c.args.name.now c.read_stop.result (read-stopped o n c.args.name.now c.in-Err.stop c.read_stop.result c.in-Err.ensures c.read_stop.ensures)

@@ -1,5 +1,4 @@
 use Rattle.std.proofs.Common.{◌∙◌, Some, ap, refl}
-use Rattle.std.specs.Option.{option_map}
 use Rattle.flow_words.specs.Words.{Check, Judge}
 use Rattle.flow_words.specs.declared.asked.Command.TheVariants as commands
 use Rattle.flow_cli.proofs.Befores.{asks-as, on-file}
@@ -9,8 +8,7 @@ pub returns-in-Err-runnable : goal.returns-in-Err-runnable
 returns-in-Err-runnable g c = λ journal empty.
     let run = c.in-Run in
     let some = c.in-Ok-Some.field-0-is ∙ ap Some run.is in
-    c.in-Err-runnable.ensures c.args.words.now journal (option_map (λ s. s.now) run.journal) run.workers
-    (asks-as c.args.words.now _ (commands.Run run.net run.journal run.workers) c.in-Ok-Some.ensures.words some) empty
+    c.in-Err-runnable.ensures c.args.words.now journal (asks-as c.args.words.now _ (commands.Run run.asked) c.in-Ok-Some.ensures.words some) empty
 
 pub returns-in-Err-load : goal.returns-in-Err-load
 returns-in-Err-load g c = λ journal empty.

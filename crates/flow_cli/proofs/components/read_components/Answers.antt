@@ -1,24 +1,23 @@
 use Rattle.std.proofs.Common.{◌≡◌, ◌+◌, ◌∷◌, ◌++◌, [], List, subst, sym, arith}
 use Rattle.std.proofs.lemmas.Grind.{common_steps}
 use Rattle.flow_catalogue.specs.declared.standard.Std.{Std}
-use Rattle.flow_cli.specs.declared.components.TheConstants.{FILE_LIMIT}
 use Rattle.flow_cli.proofs.Parting.{SoFar, nothing-so-far, more-so-far, stop-so-far}
 use Rattle.flow_cli.proofs.components.read_components.Goals as goal
 
 pub loop-process-init : goal.loop-process-init
 loop-process-init g c =
     let o = g.F.Edge.outside c.args.shelf.now in
-    subst (λ (l : List Std). SoFar o o c.args.plan.now FILE_LIMIT 0 l) (sym c.new-components.ensures.items) (nothing-so-far o c.args.plan.now FILE_LIMIT)
+    subst (λ (l : List Std). SoFar o o c.args.plan.now 0 l) (sym c.new-components.ensures.items) (nothing-so-far o c.args.plan.now)
 
 pub returns-in-Err : goal.returns-in-Err
 returns-in-Err g c =
-    stop-so-far (g.F.Edge.outside c.args.shelf.now) (g.F.Edge.outside c.loop-process.shelf) (g.F.Edge.outside c.read_component.new.shelf) c.args.plan.now FILE_LIMIT c.loop-process.process
+    stop-so-far (g.F.Edge.outside c.args.shelf.now) (g.F.Edge.outside c.loop-process.shelf) (g.F.Edge.outside c.read_component.new.shelf) c.args.plan.now c.loop-process.process
     c.loop-process.components.items c.in-Err.stop c.loop-process.invariant c.in-Err.ensures
 
 pub loop-process-preserved : goal.loop-process-preserved
 loop-process-preserved g c =
     let o = g.F.Edge.outside c.args.shelf.now in
     let n = g.F.Edge.outside c.read_component.new.shelf in
-    let more = more-so-far o (g.F.Edge.outside c.loop-process.shelf) n c.args.plan.now FILE_LIMIT c.loop-process.process c.loop-process.components.items c.in-Ok.component c.loop-process.invariant c.in-Ok.ensures in
+    let more = more-so-far o (g.F.Edge.outside c.loop-process.shelf) n c.args.plan.now c.loop-process.process c.loop-process.components.items c.in-Ok.component c.loop-process.invariant c.in-Ok.ensures in
     let pushed : c.push.new.self.items ≡ c.loop-process.components.items ++ c.in-Ok.component ∷ [] = grind (arith, common_steps) in
-    subst (λ (l : List Std). SoFar o n c.args.plan.now FILE_LIMIT (c.loop-process.process + 1) l) (sym pushed) more
+    subst (λ (l : List Std). SoFar o n c.args.plan.now (c.loop-process.process + 1) l) (sym pushed) more

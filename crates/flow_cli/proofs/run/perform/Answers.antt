@@ -1,59 +1,64 @@
 use Rattle.std.proofs.Common.{Ok, subst}
-use Rattle.std.specs.Option.{option_map}
-use Rattle.flow_words.specs.Words.{Run, Make}
+use Rattle.flow_words.specs.Words.{Make, run_by, run_of}
 use Rattle.flow_cli.specs.Prepare.{Prepares}
 use Rattle.flow_cli.specs.declared.before.Task.{Task}
-use Rattle.flow_cli.specs.declared.components.TheConstants.{FILE_LIMIT}
-use Rattle.flow_cli.proofs.Performing.{says-again, again-stopped, says-judged, says-kinds, says-made}
+use Rattle.flow_cli.proofs.Performing.{has-run, says-again, again-stopped, says-judged, says-kinds, says-made}
 use Rattle.flow_cli.proofs.run.perform.Goals as goal
+
+pub returns-in-Ok-run_and_keep : goal.returns-in-Ok-run_and_keep
+returns-in-Ok-run_and_keep g c =
+    let o = g.F.Edge.outside c.args.shelf.now in
+    let a = g.F.Edge.outside c.prepare.new.shelf in
+    let asks = subst (λ (t : Task). Prepares o a c.args.words.now (Ok t)) c.in-Run.is c.in-Ok.ensures in
+    has-run o a c.args.words.now c.in-Run.job (run_by c.in-Run.asked) c.in-Ok-run_and_keep.run' asks c.in-Ok-run_and_keep.ensures
 
 pub returns-in-Ok-judgement : goal.returns-in-Ok-judgement
 returns-in-Ok-judgement g c =
     let o = g.F.Edge.outside c.args.shelf.now in
     let a = g.F.Edge.outside c.prepare.new.shelf in
-    let ready = subst (λ (t : Task). Prepares o a c.args.words.now (Ok t) FILE_LIMIT) c.in-Judge.is c.in-Ok.ensures in
+    let ready = subst (λ (t : Task). Prepares o a c.args.words.now (Ok t)) c.in-Judge.is c.in-Ok.ensures in
     let said = c.in-Ok-judgement.ensures in
-    says-judged o a c.args.words.now FILE_LIMIT ready.0 ready.2.0 ready.2.1 c.in-Judge.plan c.in-Ok-judgement.said ready.1 ready.2.2 ready.2.3 said.text said.status said.journal
+    says-judged o a c.args.words.now ready.0 ready.2.0 ready.2.1 c.in-Judge.plan c.in-Ok-judgement.said ready.1 ready.2.2 ready.2.3 said.text said.status said.journal
 
 pub returns-in-Ok-page : goal.returns-in-Ok-page
 returns-in-Ok-page g c =
     let o = g.F.Edge.outside c.args.shelf.now in
     let a = g.F.Edge.outside c.prepare.new.shelf in
-    let asks = subst (λ (t : Task). Prepares o a c.args.words.now (Ok t) FILE_LIMIT) c.in-Kinds.is c.in-Ok.ensures in
+    let asks = subst (λ (t : Task). Prepares o a c.args.words.now (Ok t)) c.in-Kinds.is c.in-Ok.ensures in
     let said = c.in-Ok-page.ensures in
-    says-kinds o a c.args.words.now FILE_LIMIT c.in-Ok-page.said asks.0 asks.1 said.text said.status said.journal
+    says-kinds o a c.args.words.now c.in-Ok-page.said asks.0 asks.1 said.text said.status said.journal
 
 pub returns-in-Ok-run_again : goal.returns-in-Ok-run_again
 returns-in-Ok-run_again g c =
     let o = g.F.Edge.outside c.args.shelf.now in
     let a = g.F.Edge.outside c.prepare.new.shelf in
-    let ready = subst (λ (t : Task). Prepares o a c.args.words.now (Ok t) FILE_LIMIT) c.in-Replay.is c.in-Ok.ensures in
-    says-again o a c.args.words.now FILE_LIMIT ready.0 ready.1 c.in-Replay.again ready.2 ready.3 c.in-Ok-run_again.said c.in-Ok-run_again.ensures
+    let ready = subst (λ (t : Task). Prepares o a c.args.words.now (Ok t)) c.in-Replay.is c.in-Ok.ensures in
+    says-again o a c.args.words.now ready.0 ready.1 c.in-Replay.again ready.2 ready.3 c.in-Ok-run_again.said c.in-Ok-run_again.ensures
 
 pub returns-in-Replay : goal.returns-in-Replay
 returns-in-Replay g c =
     let o = g.F.Edge.outside c.args.shelf.now in
     let a = g.F.Edge.outside c.prepare.new.shelf in
-    let ready = subst (λ (t : Task). Prepares o a c.args.words.now (Ok t) FILE_LIMIT) c.in-Replay.is c.in-Ok.ensures in
-    again-stopped o a c.args.words.now FILE_LIMIT ready.0 ready.1 c.in-Replay.again ready.2 ready.3 c.in-Err-run_again.stop c.in-Err-run_again.ensures
+    let ready = subst (λ (t : Task). Prepares o a c.args.words.now (Ok t)) c.in-Replay.is c.in-Ok.ensures in
+    again-stopped o a c.args.words.now ready.0 ready.1 c.in-Replay.again ready.2 ready.3 c.in-Err-run_again.stop c.in-Err-run_again.ensures
 
 pub returns-in-Ok-run_made : goal.returns-in-Ok-run_made
 returns-in-Ok-run_made g c =
     let o = g.F.Edge.outside c.args.shelf.now in
     let a = g.F.Edge.outside c.prepare.new.shelf in
-    let asks = subst (λ (t : Task). Prepares o a c.args.words.now (Ok t) FILE_LIMIT) c.in-Make.is c.in-Ok.ensures in
-    says-made o a c.args.words.now FILE_LIMIT c.in-Make.number c.in-Make.workers asks c.in-Ok-run_made.said c.in-Ok-run_made.ensures
+    let asks = subst (λ (t : Task). Prepares o a c.args.words.now (Ok t)) c.in-Make.is c.in-Ok.ensures in
+    says-made o a c.args.words.now c.in-Make.number c.in-Make.workers asks c.in-Ok-run_made.said c.in-Ok-run_made.ensures
 
 pub run_and_keep-requires-clause-engine : goal.run_and_keep-requires-clause-engine
 run_and_keep-requires-clause-engine g c =
     let o = g.F.Edge.outside c.args.shelf.now in
     let a = g.F.Edge.outside c.prepare.new.shelf in
-    let asks = subst (λ (t : Task). Prepares o a c.args.words.now (Ok t) FILE_LIMIT) c.in-Run.is c.in-Ok.ensures in
-    c.requires (Run asks.name (option_map (λ s. s.now) c.in-Run.journal) c.in-Run.workers) asks.asks asks.few
+    let asks = subst (λ (t : Task). Prepares o a c.args.words.now (Ok t)) c.in-Run.is c.in-Ok.ensures in
+    c.requires (run_of (run_by c.in-Run.asked)) asks.asks asks.few
 
 pub run_made-requires-clause-engine : goal.run_made-requires-clause-engine
 run_made-requires-clause-engine g c =
     let o = g.F.Edge.outside c.args.shelf.now in
     let a = g.F.Edge.outside c.prepare.new.shelf in
-    let asks = subst (λ (t : Task). Prepares o a c.args.words.now (Ok t) FILE_LIMIT) c.in-Make.is c.in-Ok.ensures in
+    let asks = subst (λ (t : Task). Prepares o a c.args.words.now (Ok t)) c.in-Make.is c.in-Ok.ensures in
     c.requires (Make c.in-Make.number c.in-Make.workers) asks.asks asks.few

@@ -1,5 +1,6 @@
 use Rattle.std.proofs.Common.{◌<◌, sym, ◌∙◌, ◌||◌, length, arith}
-use Rattle.flow_cycle.specs.Nets.{has_ended, is_blocked}
+use Rattle.flow_model.specs.Stages.{has_ended}
+use Rattle.flow_cycle.specs.Nets.{is_blocked}
 use Rattle.flow_cycle.proofs.Steps.{all-next, all-not}
 use Rattle.flow_cycle.proofs.find.is_stuck.Goals as goal
 

@@ -1,6 +1,7 @@
 use Rattle.std.proofs.Common.{◌≡◌, drop, ◌||◌}
 use Rattle.std.specs.List.{list_all}
-use Rattle.flow_cycle.specs.Nets.{has_ended, is_blocked, is_stuck}
+use Rattle.flow_model.specs.Stages.{has_ended}
+use Rattle.flow_cycle.specs.Nets.{is_blocked, is_stuck}
 use Rattle.flow_cycle.proofs.find.is_stuck.Given as goal
 
 abbrev pub invariant-loop-process : goal.invariant-loop-process

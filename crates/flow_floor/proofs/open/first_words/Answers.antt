@@ -1,11 +1,8 @@
-use Rattle.std.proofs.Common.{◌≡◌, ◌+◌, ◌*◌, ◌<◌, ◌≤◌, set, length, length-set, refl, ◌∙◌, arith}
+use Rattle.std.proofs.Common.{◌≡◌, ◌+◌, ◌<◌, ◌≤◌, set, length, length-set, refl, ◌∙◌, arith}
 use Rattle.flow_ring.specs.Places.{process_at, connection_at, clock_at, live_at}
 use Rattle.flow_ring.specs.Words.{free_word}
 use Rattle.flow_floor.proofs.Openings.{twos-more, twos-kept, frees-more, first-words}
 use Rattle.flow_floor.proofs.open.first_words.Goals as goal
-
-pub overflow_add-word : goal.overflow_add-word
-overflow_add-word g c = let few = c.requires.senders c.loop-connection.connection c.channel-channel.result.now c.channel-channel.ensures in omega (arith, few.0, few.1, c.level.ensures, c.open_senders.ensures)
 
 pub loop-process-preserved : goal.loop-process-preserved
 loop-process-preserved g c = let i = c.loop-process.invariant in let ws = c.loop-process.words.items in let p = c.loop-process.process in let place = c.process_word.result in
@@ -17,9 +14,9 @@ loop-process-preserved g c = let i = c.loop-process.invariant in let ws = c.loop
 
 pub loop-connection-preserved : goal.loop-connection-preserved
 loop-connection-preserved g c = let i = c.loop-connection.invariant in let ws = c.loop-connection.words.items in let n = length c.args.net.now.bodies in let d = c.loop-connection.connection in let k = c.channel-channel.result.now in
-    let place = c.connection_word.result in let word = c.level.result + c.open_senders.result * 65536 in
+    let place = c.connection_word.result in let word = c.pack-word.result in
     let at : place ≡ connection_at n d = omega (arith, c.connection_word.ensures, c.of-layout.ensures.processes, c.processes.ensures.count) in
-    let word_is : word ≡ free_word (length k.packets) k.open_senders = (λ j. free_word (c.level.ensures j) (c.open_senders.ensures j)) in
+    let word_is : word ≡ free_word (length k.packets) k.open_senders = c.pack-word.ensures ∙ (λ j. free_word (c.level.ensures j) (c.open_senders.ensures j)) in
     let low : d < length c.args.net.now.channels = omega (arith, c.loop-connection-test.true, c.connections-connection-end.ensures) in
     let below : connection_at n d < length ws = omega (arith, i.wide, low) in
     let behind : n ≤ n + d = omega arith in

@@ -1,15 +1,16 @@
-use Rattle.std.proofs.Common.{◌<◌, ◌∙◌, ◌++◌, ◌∷◌, [], ap, arith, map, length, length-append, length-drop}
+use Rattle.std.proofs.Common.{◌∙◌, ◌++◌, ◌∷◌, [], sym, ap, arith, map, length, length-append}
+use Rattle.std.specs.Vec.Iter.{into_iter_items}
 use Rattle.flow_floor.specs.declared.board.Slot.TheVariants as slot
-use Rattle.flow_floor.proofs.Rows.{put-more}
+use Rattle.flow_floor.proofs.Backs.{one-more}
 use Rattle.flow_floor.proofs.open.put_bodies.Goals as goal
 
 pub push_reserved-requires : goal.push_reserved-requires
-push_reserved-requires g c = let i = c.loop-p.invariant in omega (arith, i.long, i.room, c.requires, c.loop-p-test.true, c.len-p-end.ensures, c.args.bodies.ok.0, c.loop-p.slots.ok.0)
+push_reserved-requires g c = let i = c.loop-body.invariant in let e = c.in-Some.ensures.cases in omega (arith, i.long, i.room, c.requires, ap (λ ys. length ys) e.0, c.loop-body.slots.ok.0)
 
-pub loop-p-preserved : goal.loop-p-preserved
-loop-p-preserved g c = let i = c.loop-p.invariant in let r = c.remove-body.ensures in let some_one : 0 < length c.loop-p.bodies.items = omega (arith, i.left, c.loop-p-test.true, c.len-p-end.ensures, c.args.bodies.ok.0) in record {
-  items = (λ j. c.push_reserved.ensures.items j ++ map slot.Body (r.items j)) ∙ put-more slot.Body c.loop-p.slots.items c.loop-p.bodies.items c.remove-body.result some_one r.value ∙ i.items;
-  left = omega (arith, i.left, some_one, ap (λ ys. length ys) r.items, length-drop 1 c.loop-p.bodies.items);
-  long = omega (arith, i.long, ap (λ ys. length ys) c.push_reserved.ensures.items, length-append c.loop-p.slots.items (slot.Body c.remove-body.result ∷ []));
+pub loop-body-preserved : goal.loop-body-preserved
+loop-body-preserved g c = let i = c.loop-body.invariant in let e = c.in-Some.ensures.cases in let behind = map slot.Body (into_iter_items c.next.new.self) in record {
+  items = (λ j. c.push_reserved.ensures.items j ++ behind) ∙ one-more c.loop-body.slots.items (slot.Body c.in-Some.body) behind ∙ ap (λ xs. c.loop-body.slots.items ++ map slot.Body xs) (sym e.0) ∙ i.items;
+  long = omega (arith, i.long, ap (λ ys. length ys) e.0, ap (λ ys. length ys) c.push_reserved.ensures.items, length-append c.loop-body.slots.items (slot.Body c.in-Some.body ∷ []));
+  len = omega (arith, i.len, e.1, ap (λ ys. length ys) e.0);
   room = c.push_reserved.ensures.capacity ∙ i.room;
 }

@@ -1,11 +1,16 @@
 use Rattle.std.proofs.Common.{◌≡◌, ◌+◌, ◌++◌, length, map, vec_capacity}
+use Rattle.std.specs.Vec.Iter.{into_iter_items, into_iter_len}
 use Rattle.flow_floor.specs.declared.board.Slot.TheVariants as slot
 use Rattle.flow_floor.proofs.open.put_channels.Given as goal
 
-abbrev pub invariant-loop-c : goal.invariant-loop-c
-invariant-loop-c g l = record {
-  items : l.slots.items ++ map slot.Channel l.channels.items ≡ l.fn.slots.items ++ map slot.Channel l.fn.channels.items;
-  left : length l.channels.items + l._c ≡ length l.fn.channels.items;
-  long : length l.slots.items ≡ length l.fn.slots.items + l._c;
+-- those that are left go behind those that were put
+abbrev pub invariant-loop-channel : goal.invariant-loop-channel
+invariant-loop-channel g l = record {
+  items : l.slots.items ++ map slot.Channel (into_iter_items l.left) ≡ l.fn.slots.items ++ map slot.Channel l.fn.channels.items;
+  long : length l.slots.items + length (into_iter_items l.left) ≡ length l.fn.slots.items + length l.fn.channels.items;
+  len : into_iter_len l.left ≡ length (into_iter_items l.left);
   room : vec_capacity l.slots ≡ vec_capacity l.fn.slots;
 }
+
+abbrev pub decreases-loop-channel : goal.decreases-loop-channel
+decreases-loop-channel g l = into_iter_len l.left

@@ -8,7 +8,7 @@ use Rattle.flow_journal.proofs.again.make_again.Goals as goal
 
 pub returns-clause-goes : goal.returns-clause-goes
 returns-clause-goes g c = on-ok c.make_turns.result (length c.make_turns.new.net.bodies ≡ length c.settle_all.new.net.bodies)
-    (Goes g.K.Component.shape_of g.K.Component.uses g.K.Component.ready (LeadsOn g.K.Component.next c.args.journal.now) c.settle_all.new.net (turns_made c.settle_all.new.net) c.make_turns.new.net (turns_made c.make_turns.new.net))
-    (Goes g.K.Component.shape_of g.K.Component.uses g.K.Component.ready (replayed g.K.Component.next c.args.journal.now) c.args.net.now (turns_made c.args.net.now) c.make_turns.new.net (turns_made c.make_turns.new.net))
-    (λ len goes. replays g.K.Component.shape_of g.K.Component.uses g.K.Component.ready g.K.Component.next g.met.K.Component.obeys g.met.K.Component.stays_ready g.met.K.Component.steady c.args.journal.now c.args.net.now c.settle_all.new.net c.make_turns.new.net (sym len) c.in_ok-settle_all.ensures.turns c.in_ok-settle_all.ensures.goes goes)
+    (Goes g.K.Component.rules (LeadsOn g.K.Component.rules c.args.journal.now) c.settle_all.new.net (turns_made c.settle_all.new.net) c.make_turns.new.net (turns_made c.make_turns.new.net))
+    (Goes g.K.Component.rules (replayed g.K.Component.rules c.args.journal.now) c.args.net.now (turns_made c.args.net.now) c.make_turns.new.net (turns_made c.make_turns.new.net))
+    (λ len goes. replays g.K.Component.rules g.met.K.Component.lawful c.args.journal.now c.args.net.now c.settle_all.new.net c.make_turns.new.net (sym len) c.in_ok-settle_all.ensures.turns c.in_ok-settle_all.ensures.goes goes)
     c.make_turns.ensures.len c.make_turns.ensures.goes

@@ -10,5 +10,5 @@ invariant-loop-place g l = record {
   set : AllSet l.net.bodies;
   len : length l.net.bodies ≡ length l.fn.net.bodies;
   next : l.first + l.place ≡ turns_made l.net;
-  goes : Goes g.K.Component.shape_of g.K.Component.uses g.K.Component.ready (LeadsTo g.K.Component.next l.journal l.place l.left) l.fn.net (turns_made l.fn.net) l.net (l.first + l.place);
+  goes : Goes g.K.Component.rules (LeadsTo g.K.Component.rules l.journal l.place l.left) l.fn.net (turns_made l.fn.net) l.net (l.first + l.place);
 }

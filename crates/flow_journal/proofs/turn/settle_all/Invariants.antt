@@ -8,5 +8,5 @@ invariant-loop-process g l = record {
   set : SetBelow l.process l.net.bodies;
   len : length l.net.bodies ≡ length l.fn.net.bodies;
   turns : turns_made l.net ≡ turns_made l.fn.net;
-  goes : Goes g.K.Component.shape_of g.K.Component.uses g.K.Component.ready (some_works g.K.Component.next) l.fn.net (turns_made l.fn.net) l.net (turns_made l.fn.net);
+  goes : Goes g.K.Component.rules (some_works g.K.Component.rules) l.fn.net (turns_made l.fn.net) l.net (turns_made l.fn.net);
 }

@@ -5,5 +5,5 @@ use Rattle.flow_model.proofs.laws.every_schedule_ends_in_one_verdict.Goals as go
 
 pub returns : goal.returns
 returns g c = λ plan components journal s well leads.
-    one-verdict g.K.Component.shape_of g.K.Component.uses g.K.Component.ready s
-    (Fit-leads g.K.Component.shape_of g.K.Component.uses g.K.Component.ready g.K.Component.next g.met.K.Component.obeys g.met.K.Component.stays_ready g.met.K.Component.steady (start_of plan components) journal s (Fit-start g.K.Component.shape_of g.K.Component.uses g.K.Component.ready plan components well) leads)
+    one-verdict g.K.Component.rules s
+    (Fit-leads g.K.Component.rules g.met.K.Component.lawful (start_of plan components) journal s (Fit-start g.K.Component.rules plan components well) leads)

@@ -4,4 +4,4 @@ use Rattle.flow_model.proofs.laws.every_schedule_keeps_the_hands_limit.Goals as 
 
 pub returns : goal.returns
 returns g c = λ plan components journal s well leads.
-    (Fit-leads g.K.Component.shape_of g.K.Component.uses g.K.Component.ready g.K.Component.next g.met.K.Component.obeys g.met.K.Component.stays_ready g.met.K.Component.steady (start_of plan components) journal s (Fit-start g.K.Component.shape_of g.K.Component.uses g.K.Component.ready plan components well) leads).few
+    (Fit-leads g.K.Component.rules g.met.K.Component.lawful (start_of plan components) journal s (Fit-start g.K.Component.rules plan components well) leads).few

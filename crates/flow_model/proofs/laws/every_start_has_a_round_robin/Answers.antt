@@ -5,10 +5,10 @@ use Rattle.flow_model.proofs.laws.every_start_has_a_round_robin.Goals as goal
 
 pub returns-clause-some : goal.returns-clause-some
 returns-clause-some g c = λ plan components well.
-    some-robin g.K.Component.shape_of g.K.Component.uses g.K.Component.ready g.K.Component.next g.met.K.Component.obeys g.met.K.Component.stays_ready g.met.K.Component.steady g.met.K.Component.has_outcome
-    (start_of plan components) (Fit-start g.K.Component.shape_of g.K.Component.uses g.K.Component.ready plan components well)
+    some-robin g.K.Component.rules g.met.K.Component.lawful
+    (start_of plan components) (Fit-start g.K.Component.rules plan components well)
 
 pub returns-clause-one : goal.returns-clause-one
 returns-clause-one g c = λ one plan components well.
-    only-robin g.K.Component.shape_of g.K.Component.uses g.K.Component.ready g.K.Component.next g.met.K.Component.obeys g.met.K.Component.stays_ready g.met.K.Component.steady g.met.K.Component.has_outcome
-    one (start_of plan components) (Fit-start g.K.Component.shape_of g.K.Component.uses g.K.Component.ready plan components well)
+    only-robin g.K.Component.rules g.met.K.Component.lawful
+    one (start_of plan components) (Fit-start g.K.Component.rules plan components well)

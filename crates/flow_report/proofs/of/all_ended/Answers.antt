@@ -1,6 +1,6 @@
 use Rattle.std.proofs.Common.{◌≡◌, ◌+◌, true, sym, ◌∙◌, ap, take, add-one}
 use Rattle.std.specs.List.{list_all}
-use Rattle.flow_cycle.specs.Nets.{has_ended}
+use Rattle.flow_model.specs.Stages.{has_ended}
 use Rattle.flow_report.proofs.Tests.{all-not, all-more}
 use Rattle.flow_report.proofs.of.all_ended.Goals as goal
 

@@ -3,8 +3,7 @@ use Rattle.std.specs.Prelude.{◌||◌, Option}
 use Rattle.std.specs.Option.{is_none}
 use Rattle.flow_model.specs.declared.Stage.{Stage}
 use Rattle.flow_model.specs.declared.Block.{Block}
-use Rattle.flow_cycle.specs.Nets.{has_ended}
-use Rattle.flow_report.specs.Of.{has_failed}
+use Rattle.flow_model.specs.Stages.{has_ended, has_failed}
 use Rattle.flow_report.proofs.Going.{goes-of}
 use Rattle.flow_report.proofs.of.process_goes_on.Goals as goal
 

@@ -1,7 +1,8 @@
 use Rattle.std.proofs.Common.{◌≡◌, ◌+◌, false, sym, ◌∙◌, ap, take, add-one}
 use Rattle.std.specs.List.{list_any}
-use Rattle.flow_report.specs.Of.{has_failed}
-use Rattle.flow_report.proofs.Tests.{any-there, any-more}
+use Rattle.flow_model.specs.Stages.{has_failed}
+use Rattle.flow_model.proofs.Lookups.{any-there}
+use Rattle.flow_report.proofs.Tests.{any-more}
 use Rattle.flow_report.proofs.of.some_failed.Goals as goal
 
 pub returns-then-has_failed : goal.returns-then-has_failed

@@ -1,6 +1,6 @@
 use Rattle.std.proofs.Common.{◌≡◌, false, take}
 use Rattle.std.specs.List.{list_any}
-use Rattle.flow_report.specs.Of.{has_failed}
+use Rattle.flow_model.specs.Stages.{has_failed}
 use Rattle.flow_report.proofs.of.some_failed.Given as goal
 
 abbrev pub invariant-loop-process : goal.invariant-loop-process

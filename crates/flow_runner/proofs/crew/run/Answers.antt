@@ -17,5 +17,5 @@ close-requires-clause-zero g c =
 
 pub returns-clause-reaches : goal.returns-clause-reaches
 returns-clause-reaches g c =
-    subst (λ start. ReachesNet g.K.Component.shape_of g.K.Component.uses g.K.Component.ready g.K.Component.next start c.close.result.net) c.in-Ok.ensures.opened
-    (shut-reaches g.K.Component.shape_of g.K.Component.uses g.K.Component.ready g.K.Component.next _ c.close.result.net _ c.close.ensures.net)
+    subst (λ start. ReachesNet g.K.Component.rules start c.close.result.net) c.in-Ok.ensures.opened
+    (shut-reaches g.K.Component.rules _ c.close.result.net _ c.close.ensures.net)

@@ -4,6 +4,7 @@ use Rattle.std.specs.Option.{option_map}
 use Rattle.clap.specs.Words.{app_of, found_of, rows_of}
 use Rattle.flow_words.specs.Words.{asked_by, command_of}
 use Rattle.flow_words.proofs.Laws.{asks, read-as}
+use Rattle.flow_words.proofs.Numbers.{are-spelled}
 use Rattle.flow_words.proofs.words.command.Goals as goal
 
 pub returns-in-Ok-clause-words : goal.returns-in-Ok-clause-words
@@ -12,9 +13,12 @@ returns-in-Ok-clause-words c =
     c.in_ok-line.ensures (λ simple. (c.in-Ok.ensures.matches simple).0) c.in-Ok.ensures.kinds c.asked_by_matches.ensures.asks
 
 pub returns-in-Ok-clause-lines : goal.returns-in-Ok-clause-lines
-returns-in-Ok-clause-lines c = λ asked given. returns-in-Ok-clause-words c ∙ asks asked (map string_bytes c.args.words.now) given
+returns-in-Ok-clause-lines c = λ given line once. returns-in-Ok-clause-words c ∙ asks given (map string_bytes c.args.words.now) line once
+
+pub returns-in-Ok-clause-numbers : goal.returns-in-Ok-clause-numbers
+returns-in-Ok-clause-numbers c = are-spelled
 
 pub returns : goal.returns
 returns c =
     let none : None ≡ command_of (map string_bytes c.args.words.now) = grind (arith, common_steps) in
-    record { words = none; bounds = tt; lines = λ asked given. none ∙ asks asked (map string_bytes c.args.words.now) given }
+    record { words = none; numbers = are-spelled; bounds = tt; lines = λ given line once. none ∙ asks given (map string_bytes c.args.words.now) line once }

@@ -1,7 +1,7 @@
 use Rattle.std.proofs.Common.{◌∙◌, ap, sym, Some, None}
 use Rattle.clap.specs.Matches.{found_of}
 use Rattle.clap.specs.declared.parser.matches.ValueSource.TheVariants.{CommandLine, DefaultValue}
-use Rattle.flow_words.proofs.Lines.{flag-as}
+use Rattle.flow_words.proofs.Getters.{flag-as}
 use Rattle.flow_words.proofs.words.is_given.Goals as goal
 
 pub returns-in-Some-CommandLine : goal.returns-in-Some-CommandLine

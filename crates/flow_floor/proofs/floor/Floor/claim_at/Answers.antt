@@ -3,8 +3,9 @@ use mathlib.Core.Option.{none}
 use prog.Atomic.{either}
 use Rattle.atomic_table.specs.Table.{rest, step}
 use Rattle.flow_floor.specs.declared.board.Slot.TheVariants as slot
-use Rattle.flow_floor.specs.Plays.{claimed, claiming}
-use Rattle.flow_floor.specs.Law.{IsWiredIn}
+use Rattle.flow_floor.specs.Plays.{claimed}
+use Rattle.flow_floor.specs.Views.{claiming}
+use Rattle.flow_floor.specs.Wired.{IsWiredIn}
 use Rattle.flow_floor.proofs.Keeps.{claims}
 use Rattle.flow_floor.proofs.Spacing.{apart, took, told}
 use Rattle.flow_floor.proofs.Going.{rests-same}
@@ -16,8 +17,8 @@ pub compare_exchange-found-requires : goal.compare_exchange-found-requires
 compare_exchange-found-requires g c = let q = c.requires.worker in let f = c.args.self.now in let s = c.args.worker.now.seat in let place = c.process_word-place.ensures in (
   q.calm.table,
   omega (arith, f.words, place, c.requires.range),
-  apart g.K.Component.shape_of g.K.Component.uses g.K.Component.ready g.K.Component.next f.table.shared.key.value f.table.shared.table_id.slots s.id s.me c.args.process c.process_word-place.result (λ n. either (n == 2) 1 n) (λ i. claimed g.S.Spot.connection (step f.table.shared.table_id.slots i 2 1 none) s.me) place
-      (claims g.K.Component.shape_of g.K.Component.uses g.K.Component.ready g.K.Component.next g.met.K.Component.obeys g.met.K.Component.stays_ready g.met.K.Component.steady f.table.shared.key.value _ _ _ _ _ (c.requires.spot ∙ sym f.channels) (omega (arith, f.bodies, c.requires.range)) q.held q.calm.share),
+  apart g.K.Component.rules f.table.shared.key.value f.table.shared.table_id.slots s.id s.me c.args.process c.process_word-place.result (λ n. either (n == 2) 1 n) (λ i. claimed g.S.Spot.connection (step f.table.shared.table_id.slots i 2 1 none) s.me) place
+      (claims g.K.Component.rules g.met.K.Component.lawful f.table.shared.key.value _ _ _ _ _ (c.requires.spot ∙ sym f.channels) (omega (arith, f.bodies, c.requires.range)) q.held q.calm.share),
 )
 
 -- what the step told, of the process's number
@@ -46,7 +47,7 @@ returns g c = let q = c.requires.worker in let e = c.compare_exchange-found.ensu
       record {
         calm = record { table = x.0 ∙ e.0 ∙ q.calm.table; share = subst (λ n. 0 < n) (sym (ap (λ v. v.shares) me0)) q.calm.share; grab = ap (λ v. v.grab) me0 ∙ q.calm.grab; noted = ap (λ v. v.noted) me0 ∙ q.calm.noted; spare = ap (λ v. v.spare) me0 ∙ q.calm.spare };
         below = c.requires.range;
-        agrees = record { base = b; held = ap (λ v. v.held) me0; rests = rests-same g.K.Component.next b c.in-Body.body body_is; whole = subst (λ z. z.leaving ≡ None) body_is t.1 };
+        agrees = record { base = b; held = ap (λ v. v.held) me0; rests = rests-same g.K.Component.rules b c.in-Body.body body_is; whole = subst (λ z. z.leaving ≡ None) body_is t.1 };
         slots = me1;
       },
       subst (λ z. IsWiredIn c.args.self.now.connections z) body_is (subst (λ n. IsWiredIn n b) c.requires.spot t.2),

@@ -1,7 +1,8 @@
-use Rattle.std.proofs.Common.{refl}
-use Rattle.flow_floor.proofs.Turnings.{waking-after}
+use Rattle.flow_floor.proofs.Turnings.{nobody-notes, waking-none}
 use Rattle.flow_floor.proofs.floor.Floor.give_back.Goals as goal
 
+pub release-requires-clause-notes : goal.release-requires-clause-notes
+release-requires-clause-notes g c = let q = c.requires in nobody-notes _ _ _ c.args.channel _ q.held.level q.held.senders q.level q.senders
+
 pub returns-clause-held : goal.returns-clause-held
-returns-clause-held g c = let f = c.args.self.now in let e = c.release.ensures in
-    waking-after g.K.Component.next f.table.shared.table_id f.processes c.args.worker.now c.release.new.worker c.args.held.now c.args.connection c.args.channel _ _ c.requires.held e.table e.view e.slots refl
+returns-clause-held g c = waking-none _ _ _ _ _ c.release.ensures.waking

@@ -1,10 +1,12 @@
-use Rattle.std.proofs.Common.{◌≡◌, ℕ, ◌+◌, bit_or, ◌<◌, [], ◌∷◌, Some, length, arith, sym, ap, ◌∙◌, subst}
+use Rattle.std.proofs.Common.{◌≡◌, ℕ, ◌+◌, bit_or, ◌<◌, [], ◌∷◌, Some, length, arith, sym, ap, ◌∙◌, subst, ◌≤◌}
 use mathlib.Core.Option.{none}
+use Rattle.std.proofs.lemmas.Bool.Decides.{nat_tests}
 use Rattle.atomic_table.specs.Table.{rest, step}
 use Rattle.flow_model.specs.Stands.{ChannelShown}
 use Rattle.flow_floor.specs.declared.board.Slot.TheVariants as slot
 use Rattle.flow_ring.specs.Words.{senders_in, level_in, held_bit}
-use Rattle.flow_floor.specs.Plays.{WasSo, grabbed, grabbing}
+use Rattle.flow_floor.specs.Plays.{WasSo, grabbed}
+use Rattle.flow_floor.specs.Views.{grabbing}
 use Rattle.flow_floor.proofs.Keeps.{grabs}
 use Rattle.flow_floor.proofs.Spacing.{apart, took, told}
 use Rattle.flow_floor.proofs.Slots.{head-is, channel-is}
@@ -15,19 +17,19 @@ pub fetch_or-word-requires : goal.fetch_or-word-requires
 fetch_or-word-requires g c = let q = c.requires.held in let f = c.args.self.now in let a = q.agrees in let s = c.args.worker.now.seat in let place = c.connection_word-place.ensures in (
   q.calm.table,
   omega (arith, f.words, c.layout.ensures.processes, place, c.requires.range),
-  apart g.K.Component.shape_of g.K.Component.uses g.K.Component.ready g.K.Component.next f.table.shared.key.value f.table.shared.table_id.slots s.id s.me (f.processes + c.args.connection) c.connection_word-place.result (λ n. bit_or n held_bit) (λ i. grabbed g.K.Component.shape_of g.K.Component.uses g.K.Component.ready g.S.Spot.processes g.S.Spot.connection g.S.Spot.most (step f.table.shared.table_id.slots i held_bit 0 none) s.me) (omega (arith, place, c.layout.ensures.processes))
+  apart g.K.Component.rules f.table.shared.key.value f.table.shared.table_id.slots s.id s.me (f.processes + c.args.connection) c.connection_word-place.result (λ n. bit_or n held_bit) (λ i. grabbed g.K.Component.rules g.S.Spot.processes g.S.Spot.connection g.S.Spot.most (step f.table.shared.table_id.slots i held_bit 0 none) s.me) (omega (arith, place, c.layout.ensures.processes))
       (rw c.requires.spot
-      (grabs g.K.Component.shape_of g.K.Component.uses g.K.Component.ready g.K.Component.next g.met.K.Component.obeys g.met.K.Component.stays_ready g.met.K.Component.steady f.table.shared.key.value _ _ _ _ c.args.connection _ _ _ a.base (c.requires.processes ∙ sym f.bodies) (ap (λ n. n + c.args.connection) (sym f.bodies)) (omega (arith, f.channels, c.requires.range)) c.requires.most a.held q.calm.grab)),
+      (grabs g.K.Component.rules g.met.K.Component.lawful f.table.shared.key.value _ _ _ _ c.args.connection _ _ _ a.base (c.requires.processes ∙ sym f.bodies) (ap (λ n. n + c.args.connection) (sym f.bodies)) (omega (arith, f.channels, c.requires.range)) c.requires.most a.held q.calm.grab)),
 )
 
 -- what the step told, of the connection's number
-told-of : (g : _) (c : After-fetch_or-word g) → grabbed g.K.Component.shape_of g.K.Component.uses g.K.Component.ready g.S.Spot.processes g.S.Spot.connection g.S.Spot.most (step c.args.self.now.table.shared.table_id.slots (c.args.self.now.processes + c.args.connection) held_bit 0 none) c.args.worker.now.seat.me c.fetch_or-word.result c.fetch_or-word.new.seat.me
+told-of : (g : _) (c : After-fetch_or-word g) → grabbed g.K.Component.rules g.S.Spot.processes g.S.Spot.connection g.S.Spot.most (step c.args.self.now.table.shared.table_id.slots (c.args.self.now.processes + c.args.connection) held_bit 0 none) c.args.worker.now.seat.me c.fetch_or-word.result c.fetch_or-word.new.seat.me
 told-of g c = let f = c.args.self.now in let place = c.connection_word-place.ensures in
-    told (λ i. grabbed g.K.Component.shape_of g.K.Component.uses g.K.Component.ready g.S.Spot.processes g.S.Spot.connection g.S.Spot.most (step f.table.shared.table_id.slots i held_bit 0 none) c.args.worker.now.seat.me c.fetch_or-word.result c.fetch_or-word.new.seat.me)
+    told (λ i. grabbed g.K.Component.rules g.S.Spot.processes g.S.Spot.connection g.S.Spot.most (step f.table.shared.table_id.slots i held_bit 0 none) c.args.worker.now.seat.me c.fetch_or-word.result c.fetch_or-word.new.seat.me)
     (f.processes + c.args.connection) c.connection_word-place.result (omega (arith, place, c.layout.ensures.processes)) c.fetch_or-word.ensures.2
 
-pub returns-then-word-ge-HELD : goal.returns-then-word-ge-HELD
-returns-then-word-ge-HELD g c = let q = c.requires.held in let e = c.fetch_or-word.ensures in let high = c.if-word-ge-HELD.true in let m = (told-of g (goal.at.returns-then-word-ge-HELD g c).After-fetch_or-word).1 high in let v = ap (λ x. x.0) m in (
+pub returns-then-is_held : goal.returns-then-is_held
+returns-then-is_held g c = let q = c.requires.held in let e = c.fetch_or-word.ensures in let told = sym c.is_held.ensures ∙ c.if-is_held.true in let high : held_bit ≤ c.fetch_or-word.result = grind (arith, nat_tests) in let m = (told-of g (goal.at.returns-then-is_held g c).After-fetch_or-word).1 high in let v = ap (λ x. x.0) m in (
   high,
   record {
     calm = record { table = e.0 ∙ q.calm.table; share = subst (λ n. 0 < n) (sym (ap (λ x. x.shares) v)) q.calm.share; grab = ap (λ x. x.grab) v ∙ q.calm.grab; noted = ap (λ x. x.noted) v ∙ q.calm.noted; spare = ap (λ x. x.spare) v ∙ q.calm.spare };
@@ -39,12 +41,12 @@ returns-then-word-ge-HELD g c = let q = c.requires.held in let e = c.fetch_or-wo
 )
 
 pub exchange-old-requires : goal.exchange-old-requires
-exchange-old-requires g c = let e = c.fetch_or-word.ensures in let f = c.args.self.now in let k = (told-of g (goal.at.exchange-old-requires g c).After-fetch_or-word).0 c.if-word-ge-HELD.false in let i = c.args.self.now.processes + c.args.connection in let there = c.channel_slot-slot.ensures in
+exchange-old-requires g c = let told = sym c.is_held.ensures ∙ c.if-is_held.false in let low : c.fetch_or-word.result < held_bit = grind (arith, nat_tests) in let e = c.fetch_or-word.ensures in let f = c.args.self.now in let k = (told-of g (goal.at.exchange-old-requires g c).After-fetch_or-word).0 low in let i = c.args.self.now.processes + c.args.connection in let there = c.channel_slot-slot.ensures in
     (e.0 ∙ c.requires.held.calm.table, (slot.Channel k.0, took _ _ i c.channel_slot-slot.result (slot.Channel k.0) (omega (arith, there, c.layout-2.ensures.processes)) (ap (λ m. m.1) k.5)))
 
 pub returns : goal.returns
-returns g c = let q = c.requires.held in let e = c.fetch_or-word.ensures in let f = c.args.self.now in
-    let t = (told-of g (goal.at.returns g c).After-fetch_or-word).0 c.if-word-ge-HELD.false in let x = c.exchange-old.ensures in let i = c.args.self.now.processes + c.args.connection in let there = c.channel_slot-slot.ensures in
+returns g c = let told = sym c.is_held.ensures ∙ c.if-is_held.false in let low : c.fetch_or-word.result < held_bit = grind (arith, nat_tests) in let q = c.requires.held in let e = c.fetch_or-word.ensures in let f = c.args.self.now in
+    let t = (told-of g (goal.at.returns g c).After-fetch_or-word).0 low in let x = c.exchange-old.ensures in let i = c.args.self.now.processes + c.args.connection in let there = c.channel_slot-slot.ensures in
     let at : c.channel_slot-slot.result ≡ i = omega (arith, there, c.layout-2.ensures.processes) in
     let k = t.0 in
     let old = c.args.worker.now.seat.me in
@@ -68,5 +70,5 @@ returns g c = let q = c.requires.held in let e = c.fetch_or-word.ensures in let 
         level = omega (arith, level);
         senders = omega (arith, senders);
       },
-      record { level = level; senders = senders; capacity = ap (λ z. z.capacity) (sym k_is) ∙ t.3 ∙ c.requires.most; so = subst (λ (z : ℕ × ℕ × ChannelShown). WasSo g.K.Component.shape_of g.K.Component.uses g.K.Component.ready z.0 old.0.held old.0.seen z.1 z.2) (λ j. (c.requires.processes j, c.requires.spot j, k_is j)) t.4; view = me0 ∙ ap (λ z. grabbing old.0 i r c.args.connection z) k_is },
+      record { level = level; senders = senders; capacity = ap (λ z. z.capacity) (sym k_is) ∙ t.3 ∙ c.requires.most; so = subst (λ (z : ℕ × ℕ × ChannelShown). WasSo g.K.Component.rules z.0 old.0.held old.0.seen z.1 z.2) (λ j. (c.requires.processes j, c.requires.spot j, k_is j)) t.4; view = me0 ∙ ap (λ z. grabbing old.0 i r c.args.connection z) k_is },
     )

@@ -3,7 +3,7 @@ use mathlib.Core.Option.{none}
 use Rattle.atomic_table.specs.Table.{rest, step}
 use Rattle.flow_floor.specs.declared.board.Slot.TheVariants as slot
 use Rattle.flow_floor.specs.Plays.{left}
-use Rattle.flow_floor.proofs.Keeps.{leaves}
+use Rattle.flow_floor.proofs.Leaves.{leaves}
 use Rattle.flow_floor.proofs.Spacing.{apart}
 use Rattle.flow_floor.proofs.floor.Floor.hand_back.Goals as goal
 
@@ -12,6 +12,6 @@ swap-requires g c = let f = c.args.self.now in let q = c.requires in let s = c.e
     let carried = ap (λ m. m.1) now ∙ (λ j. (c.body_slot-slot.ensures j, slot.Body h.body) ∷ rest (q.slots j)) in (
       x.0 ∙ q.calm.table,
       omega (arith, f.words, place, q.below),
-      apart g.K.Component.shape_of g.K.Component.uses g.K.Component.ready g.K.Component.next f.table.shared.key.value f.table.shared.table_id.slots s.id s.me h.process c.process_word-place.result (λ _. 2) (λ i. left (step f.table.shared.table_id.slots i 2 0 none) s.me) place
-          (leaves g.K.Component.shape_of g.K.Component.uses g.K.Component.ready g.K.Component.next g.met.K.Component.obeys g.met.K.Component.stays_ready g.met.K.Component.steady f.table.shared.key.value _ h.process _ _ q.agrees.base h.body _ (ap (λ y. y.held) v ∙ q.agrees.held) q.agrees.rests (ap (λ y. y.grab) v ∙ q.calm.grab) (ap (λ y. y.noted) v ∙ q.calm.noted) carried),
+      apart g.K.Component.rules f.table.shared.key.value f.table.shared.table_id.slots s.id s.me h.process c.process_word-place.result (λ _. 2) (λ i. left (step f.table.shared.table_id.slots i 2 0 none) s.me) place
+          (leaves g.K.Component.rules g.met.K.Component.lawful f.table.shared.key.value _ h.process _ _ q.agrees.base h.body _ (ap (λ y. y.held) v ∙ q.agrees.held) q.agrees.rests (ap (λ y. y.grab) v ∙ q.calm.grab) (ap (λ y. y.noted) v ∙ q.calm.noted) carried),
     )

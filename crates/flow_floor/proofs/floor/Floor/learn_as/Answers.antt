@@ -11,4 +11,9 @@ stamp-stamp-requires-clause-happens g c = learn-happens _ _ _ _ c.args.connectio
 pub returns-clause-held : goal.returns-clause-held
 returns-clause-held g c = let f = c.args.self.now in let q = c.requires.held in let s = c.stamp-stamp.ensures in
     let t = learn-deed c.args.held.now.body c.effect.new.self c.args.port.0 c.level.result (length c.args.channel.now.packets) c.stamp-stamp.result c.args.channel.now g.D.Deed.event c.requires.event c.level.ensures c.effect.ensures in
-    grabbing-turned g.K.Component.next f.table.shared.table_id f.processes c.args.worker.now c.stamp-stamp.new.worker c.args.held.now _ c.args.connection c.args.channel.now c.args.channel.now _ _ _ q s.table s.view s.slots c.requires.after t.0 refl t.1 q.level q.senders
+    grabbing-turned g.K.Component.rules f.table.shared.table_id f.processes c.args.worker.now c.stamp-stamp.new.worker c.args.held.now _ c.args.connection c.args.channel.now c.args.channel.now _ _ _ q s.table s.view s.slots c.requires.deed.0 t.0 refl t.1 q.level q.senders
+
+pub returns-clause-turn : goal.returns-clause-turn
+returns-clause-turn g c = let s = c.stamp-stamp.ensures in
+    let t = learn-deed c.args.held.now.body c.effect.new.self c.args.port.0 c.level.result (length c.args.channel.now.packets) c.stamp-stamp.result c.args.channel.now g.D.Deed.event c.requires.event c.level.ensures c.effect.ensures in
+    record { process = refl; body = t.0; machine = s.machine; above = s.above; view = s.view }

@@ -3,4 +3,4 @@ use Rattle.flow_floor.proofs.floor.Floor.level_turn.Goals as goal
 
 pub learn_as-stamp-requires-clause-within : goal.learn_as-stamp-requires-clause-within
 learn_as-stamp-requires-clause-within g c = let q = c.requires.held.agrees in
-    within-grabbed g.K.Component.shape_of g.K.Component.uses g.K.Component.ready g.K.Component.next g.met.K.Component.obeys g.met.K.Component.stays_ready g.met.K.Component.steady _ _ _ c.args.held.now.process c.args.connection q.base c.args.held.now.body c.in-Got.channel c.in-Got.ensures.1.so q.held q.rests
+    within-grabbed g.K.Component.rules g.met.K.Component.lawful _ _ _ c.args.held.now.process c.args.connection q.base c.args.held.now.body c.in-Got.channel c.in-Got.ensures.1.so q.held q.rests

@@ -5,15 +5,16 @@ use mathlib.Core.Option.{none}
 use Rattle.atomic_table.specs.Table.{step}
 use Rattle.flow_ring.specs.declared.layout.TheConstants.{SPACING}
 use Rattle.flow_floor.specs.Workers.{view}
-use Rattle.flow_floor.specs.Plays.{saw, seeing}
+use Rattle.flow_floor.specs.Plays.{saw}
+use Rattle.flow_floor.specs.Views.{seeing}
 use Rattle.flow_floor.proofs.floor.Floor.look.Goals as goal
 
 pub load-requires : goal.load-requires
 load-requires g c = let f = c.args.self.now in let q = c.requires.held in let s = c.args.worker.now.seat in let place = c.connection_word-place.ensures in (
   q.calm.table,
   omega (arith, f.words, c.layout.ensures.processes, place, c.requires.range),
-  apart g.K.Component.shape_of g.K.Component.uses g.K.Component.ready g.K.Component.next f.table.shared.key.value f.table.shared.table_id.slots s.id s.me (f.processes + c.args.connection) c.connection_word-place.result (λ n. n) (λ i. saw (step f.table.shared.table_id.slots i 0 0 none) s.me) (omega (arith, place, c.layout.ensures.processes))
-      (looks g.K.Component.shape_of g.K.Component.uses g.K.Component.ready g.K.Component.next g.met.K.Component.obeys g.met.K.Component.stays_ready g.met.K.Component.steady f.table.shared.key.value _ _ _ c.args.held.now.process c.args.connection _ q.agrees.base (ap (λ n. n + c.args.connection) (sym f.bodies)) q.agrees.held q.calm.grab),
+  apart g.K.Component.rules f.table.shared.key.value f.table.shared.table_id.slots s.id s.me (f.processes + c.args.connection) c.connection_word-place.result (λ n. n) (λ i. saw (step f.table.shared.table_id.slots i 0 0 none) s.me) (omega (arith, place, c.layout.ensures.processes))
+      (looks g.K.Component.rules g.met.K.Component.lawful f.table.shared.key.value _ _ _ c.args.held.now.process c.args.connection _ q.agrees.base (ap (λ n. n + c.args.connection) (sym f.bodies)) q.agrees.held q.calm.grab),
 )
 
 pub returns-clause-held : goal.returns-clause-held

@@ -4,7 +4,7 @@ use Rattle.flow_floor.specs.declared.board.Look.{Look}
 use Rattle.flow_floor.specs.declared.floor.Worker.{Worker}
 use Rattle.flow_floor.specs.Looks.{Looked, first_open}
 use Rattle.flow_floor.specs.Workers.{view, IsHeldBy, IsSameSeat, LooksOn}
-use Rattle.flow_floor.specs.Plays.{look_at}
+use Rattle.flow_floor.specs.Views.{look_at}
 use Rattle.flow_floor.proofs.Looking.{looked-skip, looked-more, looks-one, looks-then}
 use Rattle.flow_floor.proofs.floor.Floor.look_over.Goals as goal
 use Rattle.flow_floor.proofs.floor.Floor.look_over.Goals.{in-Some+else-level-ne0, in_default}
@@ -18,7 +18,7 @@ loop-i-preserved g c =
     let n = f.processes in
     let inputs = h.body.process.inputs in
     let at = c.input.ensures in
-    let Goal : Worker g.row.K.Denot → Option ℕ → Type 0 = λ w o. IsHeldBy g.K.Component.next f.table.shared.table_id n w h × LooksOn old (view w) × IsSameSeat old (view w) × Looked n old.steps (c.loop-i.i + 1) inputs (view w).seen o in
+    let Goal : Worker g.row.K.Denot → Option ℕ → Type 0 = λ w o. IsHeldBy g.K.Component.rules f.table.shared.table_id n w h × LooksOn old (view w) × IsSameSeat old (view w) × Looked n old.steps (c.loop-i.i + 1) inputs (view w).seen o in
     elim c.match-input.branch [
       | in-Some+else-level-ne0 w ↦ (let e = w.look-word.ensures in let r = w.look-word.result in
           let look = look_at (view c.loop-i.worker) (n + w.in-Some.connection) r in

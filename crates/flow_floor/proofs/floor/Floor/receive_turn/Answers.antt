@@ -3,4 +3,4 @@ use Rattle.flow_floor.proofs.floor.Floor.receive_turn.Goals as goal
 
 pub receive_as-stamp-requires-clause-sound : goal.receive_as-stamp-requires-clause-sound
 receive_as-stamp-requires-clause-sound g c = let q = c.requires.held.agrees in
-    sound-grabbed g.K.Component.shape_of g.K.Component.uses g.K.Component.ready g.K.Component.next g.met.K.Component.obeys g.met.K.Component.stays_ready g.met.K.Component.steady _ _ _ c.args.held.now.process c.args.connection q.base c.args.held.now.body c.in-Got.channel c.args.port c.in-Got.ensures.1.so q.held q.rests c.requires.stage c.requires.input
+    sound-grabbed g.K.Component.rules g.met.K.Component.lawful _ _ _ c.args.held.now.process c.args.connection q.base c.args.held.now.body c.in-Got.channel c.args.port c.in-Got.ensures.1.so q.held q.rests c.requires.stage c.requires.input

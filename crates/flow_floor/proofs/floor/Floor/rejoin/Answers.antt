@@ -8,7 +8,7 @@ pub gather-all-requires : goal.gather-all-requires
 gather-all-requires g c = subst (IsCrew c.args.self.table.shared.table_id) c.in-Some.ensures.items c.requires.crew
 
 pub returns-clause-net : goal.returns-clause-net
-returns-clause-net g c = subst (λ turns. IsShut g.K.Component.shape_of g.K.Component.uses g.K.Component.ready g.K.Component.next c.args.self.table.shared.key.value turns c.shut.result.net) (c.gather-all.ensures.made ∙ ap made_by (sym c.in-Some.ensures.items)) c.shut.ensures.net
+returns-clause-net g c = subst (λ turns. IsShut g.K.Component.rules c.args.self.table.shared.key.value turns c.shut.result.net) (c.gather-all.ensures.made ∙ ap made_by (sym c.in-Some.ensures.items)) c.shut.ensures.net
 
 pub returns-clause-quiet : goal.returns-clause-quiet
 returns-clause-quiet g c = λ zero_read. c.shut.ensures.quiet (c.gather-all.ensures.zero (subst SomeReadZero c.in-Some.ensures.items zero_read))

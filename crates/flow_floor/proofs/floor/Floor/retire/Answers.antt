@@ -3,7 +3,7 @@ use mathlib.Core.Option.{none}
 use Rattle.atomic_table.specs.Table.{rest, step}
 use Rattle.flow_floor.specs.declared.board.Slot.TheVariants as slot
 use Rattle.flow_floor.specs.Plays.{retired}
-use Rattle.flow_floor.proofs.Keeps.{retires}
+use Rattle.flow_floor.proofs.Leaves.{retires}
 use Rattle.flow_floor.proofs.Spacing.{apart}
 use Rattle.flow_floor.proofs.Retires.{retires-as}
 use Rattle.flow_floor.proofs.floor.Floor.retire.Goals as goal
@@ -13,6 +13,6 @@ swap-requires g c = let f = c.args.self.now in let q = c.requires.held in let s 
     let carried = ap (λ m. m.1) now ∙ (λ j. (c.body_slot-slot.ensures j, slot.Body h.body) ∷ rest (q.slots j)) in (
       x.0 ∙ q.calm.table,
       omega (arith, f.words, place, q.below),
-      apart g.K.Component.shape_of g.K.Component.uses g.K.Component.ready g.K.Component.next f.table.shared.key.value f.table.shared.table_id.slots s.id s.me h.process c.process_word-place.result (λ _. 4) (λ i. retired (step f.table.shared.table_id.slots i 4 0 none) s.me) place
-          (retires g.K.Component.shape_of g.K.Component.uses g.K.Component.ready g.K.Component.next g.met.K.Component.obeys g.met.K.Component.stays_ready g.met.K.Component.steady f.table.shared.key.value _ h.process _ _ q.agrees.base h.body _ (retires-as c.args.over h.body c.requires.over) (ap (λ y. y.held) v ∙ q.agrees.held) q.agrees.rests (ap (λ y. y.grab) v ∙ q.calm.grab) (ap (λ y. y.noted) v ∙ q.calm.noted) (ap (λ y. y.spare) v ∙ q.calm.spare) (subst (λ n. 0 < n) (sym (ap (λ y. y.shares) v)) q.calm.share) carried),
+      apart g.K.Component.rules f.table.shared.key.value f.table.shared.table_id.slots s.id s.me h.process c.process_word-place.result (λ _. 4) (λ i. retired (step f.table.shared.table_id.slots i 4 0 none) s.me) place
+          (retires g.K.Component.rules g.met.K.Component.lawful f.table.shared.key.value _ h.process _ _ q.agrees.base h.body _ (retires-as c.args.over h.body c.requires.over) (ap (λ y. y.held) v ∙ q.agrees.held) q.agrees.rests (ap (λ y. y.grab) v ∙ q.calm.grab) (ap (λ y. y.noted) v ∙ q.calm.noted) (ap (λ y. y.spare) v ∙ q.calm.spare) (subst (λ n. 0 < n) (sym (ap (λ y. y.shares) v)) q.calm.share) carried),
     )

@@ -1,7 +1,4 @@
-use Rattle.std.proofs.Common.{refl, ap, ◌∙◌, subst, arith}
-use Rattle.flow_model.specs.Events.{Event}
-use Rattle.flow_model.specs.Stands.{shown_after}
-use Rattle.flow_machine.specs.Nets.{BodyTurn}
+use Rattle.std.proofs.Common.{refl, arith}
 use Rattle.flow_machine.proofs.Pairs.{may-finish}
 use Rattle.flow_floor.proofs.Turnings.{grabbing-turned, send-at, send-happens, send-deed}
 use Rattle.flow_floor.proofs.floor.Floor.send_as.Goals as goal
@@ -18,14 +15,14 @@ effect-requires-clause-effect g c = may-finish c.args.held.now.body c.outgoing-p
 pub returns-clause-held : goal.returns-clause-held
 returns-clause-held g c = let f = c.args.self.now in let q = c.requires.held in let s = c.stamp-stamp.ensures in let o = c.outgoing-packet.ensures in
     let t = send-deed c.args.held.now.body c.outgoing-packet.new.self c.effect.new.self c.args.port c.args.connection c.stamp-stamp.result c.requires.stage.0 c.args.channel.now c.put.new.self c.outgoing-packet.result g.D.Deed.event c.requires.event c.requires.stage.1 o.packet o.left c.requires.space c.put.ensures c.effect.ensures in
-    grabbing-turned g.K.Component.next f.table.shared.table_id f.processes c.args.worker.now c.stamp-stamp.new.worker c.args.held.now _ c.args.connection c.args.channel.now c.put.new.self _ _ _ q s.table s.view s.slots c.requires.after t.0 refl t.1 (omega (arith, t.2, c.requires.most)) (omega (arith, t.3, q.senders))
-
-pub returns-clause-body : goal.returns-clause-body
-returns-clause-body g c = let o = c.outgoing-packet.ensures in
-    let t = send-deed c.args.held.now.body c.outgoing-packet.new.self c.effect.new.self c.args.port c.args.connection c.stamp-stamp.result c.requires.stage.0 c.args.channel.now c.put.new.self c.outgoing-packet.result g.D.Deed.event c.requires.event c.requires.stage.1 o.packet o.left c.requires.space c.put.ensures c.effect.ensures in
-    subst (λ (e : Event). BodyTurn c.args.held.now.body e c.stamp-stamp.result c.effect.new.self) c.requires.event t.0
+    grabbing-turned g.K.Component.rules f.table.shared.table_id f.processes c.args.worker.now c.stamp-stamp.new.worker c.args.held.now _ c.args.connection c.args.channel.now c.put.new.self _ _ _ q s.table s.view s.slots c.requires.deed.0 t.0 refl t.1 (omega (arith, t.2, c.requires.most)) (omega (arith, t.3, q.senders))
 
 pub returns-clause-channel : goal.returns-clause-channel
 returns-clause-channel g c = let o = c.outgoing-packet.ensures in
     let t = send-deed c.args.held.now.body c.outgoing-packet.new.self c.effect.new.self c.args.port c.args.connection c.stamp-stamp.result c.requires.stage.0 c.args.channel.now c.put.new.self c.outgoing-packet.result g.D.Deed.event c.requires.event c.requires.stage.1 o.packet o.left c.requires.space c.put.ensures c.effect.ensures in
-    t.1 ∙ ap (λ (e : Event). shown_after e c.args.channel.now) c.requires.event
+    t.1
+
+pub returns-clause-turn : goal.returns-clause-turn
+returns-clause-turn g c = let s = c.stamp-stamp.ensures in let o = c.outgoing-packet.ensures in
+    let t = send-deed c.args.held.now.body c.outgoing-packet.new.self c.effect.new.self c.args.port c.args.connection c.stamp-stamp.result c.requires.stage.0 c.args.channel.now c.put.new.self c.outgoing-packet.result g.D.Deed.event c.requires.event c.requires.stage.1 o.packet o.left c.requires.space c.put.ensures c.effect.ensures in
+    record { process = refl; body = t.0; machine = s.machine; above = s.above; view = s.view }

@@ -1,12 +1,12 @@
 use Rattle.std.proofs.Common.{◌≡◌, ◌+◌, ◌≤◌, ◌∙◌, ◌∷◌, refl, ap, arith}
 use Rattle.flow_floor.specs.Workers.{view}
-use Rattle.flow_floor.specs.Plays.{look_at}
+use Rattle.flow_floor.specs.Views.{look_at}
 use Rattle.flow_floor.specs.Waking.{capacity_at}
 use Rattle.flow_ring.specs.Words.{level_in}
 use Rattle.flow_machine.specs.Nets.{packet_wished}
 use Rattle.flow_floor.proofs.Came.{kept-now, waits-full}
 use Rattle.flow_floor.proofs.Idles.{full-seen}
-use Rattle.flow_floor.proofs.Turnings.{send-notes}
+use Rattle.flow_floor.proofs.Turnings.{sent-longer}
 use Rattle.flow_floor.proofs.Sounds.{sent-grabbed}
 use Rattle.flow_floor.proofs.floor.Floor.send_turn.Goals as goal
 
@@ -26,18 +26,17 @@ returns-then-level-capacity-clause-turned g c = let f = c.args.self.now in let h
 
 pub send_as-stamp-requires-clause-most : goal.send_as-stamp-requires-clause-most
 send_as-stamp-requires-clause-most g c = let q = c.requires.held.agrees in
-    (sent-grabbed g.K.Component.shape_of g.K.Component.uses g.K.Component.ready g.K.Component.next g.met.K.Component.obeys g.met.K.Component.stays_ready g.met.K.Component.steady _ _ _ c.args.held.now.process c.args.connection q.base c.args.held.now.body c.in-Got.channel c.args.port c.in-Got.ensures.1.so q.held q.rests c.requires.stage).0
+    (sent-grabbed g.K.Component.rules g.met.K.Component.lawful _ _ _ c.args.held.now.process c.args.connection q.base c.args.held.now.body c.in-Got.channel c.args.port c.in-Got.ensures.1.so q.held q.rests c.requires.stage).0
 
 pub send_as-stamp-requires-clause-counted : goal.send_as-stamp-requires-clause-counted
 send_as-stamp-requires-clause-counted g c = let q = c.requires.held.agrees in
-    let r = (sent-grabbed g.K.Component.shape_of g.K.Component.uses g.K.Component.ready g.K.Component.next g.met.K.Component.obeys g.met.K.Component.stays_ready g.met.K.Component.steady _ _ _ c.args.held.now.process c.args.connection q.base c.args.held.now.body c.in-Got.channel c.args.port c.in-Got.ensures.1.so q.held q.rests c.requires.stage).1 in omega (arith, r)
+    let r = (sent-grabbed g.K.Component.rules g.met.K.Component.lawful _ _ _ c.args.held.now.process c.args.connection q.base c.args.held.now.body c.in-Got.channel c.args.port c.in-Got.ensures.1.so q.held q.rests c.requires.stage).1 in omega (arith, r)
 
 pub send_as-stamp-requires-clause-wished : goal.send_as-stamp-requires-clause-wished
 send_as-stamp-requires-clause-wished g c = let q = c.requires.held.agrees in
-    (sent-grabbed g.K.Component.shape_of g.K.Component.uses g.K.Component.ready g.K.Component.next g.met.K.Component.obeys g.met.K.Component.stays_ready g.met.K.Component.steady _ _ _ c.args.held.now.process c.args.connection q.base c.args.held.now.body c.in-Got.channel c.args.port c.in-Got.ensures.1.so q.held q.rests c.requires.stage).2
+    (sent-grabbed g.K.Component.rules g.met.K.Component.lawful _ _ _ c.args.held.now.process c.args.connection q.base c.args.held.now.body c.in-Got.channel c.args.port c.in-Got.ensures.1.so q.held q.rests c.requires.stage).2
 
-pub give_back-requires-in-Got-clause-notes : goal.give_back-requires-in-Got-clause-notes
-give_back-requires-in-Got-clause-notes g c = let f = c.args.self.now in let h = c.in-Got.ensures.1 in let s = c.send_as-stamp.ensures in
-    let word = ap (λ v. v.word) s.view ∙ ap (λ v. v.word) h.view in
-    send-notes f.table.shared.key.value c.args.connection (view c.send_as-stamp.new.worker).word c.args.port.0 (packet_wished c.args.held.now.body.process) c.in-Got.channel c.send_as-stamp.new.channel c.args.receivers.now (view c.send_as-stamp.new.worker).noted
-    s.channel (ap level_in word ∙ h.level) s.held.level s.held.senders c.requires.receivers
+pub give_back_waking_receiver-requires-clause-level : goal.give_back_waking_receiver-requires-clause-level
+give_back_waking_receiver-requires-clause-level g c = let h = c.in-Got.ensures.1 in let s = c.send_as-stamp.ensures in
+    let word = ap (λ v. v.word) s.turn.view ∙ ap (λ v. v.word) h.view in
+    omega (arith, ap level_in word, h.level, sent-longer c.args.port.0 c.args.connection (packet_wished c.args.held.now.body.process) c.in-Got.channel c.send_as-stamp.new.channel s.channel)

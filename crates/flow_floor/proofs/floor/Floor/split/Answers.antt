@@ -5,4 +5,4 @@ use Rattle.flow_floor.proofs.floor.Floor.split.Goals as goal
 
 pub split_seat-seat-requires : goal.split_seat-seat-requires
 split_seat-seat-requires g c = let f = c.args.self.now in let q = c.requires.idle in
-    (q.calm.table, omega (arith, f.words), λ s r at. splits g.K.Component.shape_of g.K.Component.uses g.K.Component.ready g.K.Component.next f.table.shared.key.value (in_order s) _ _ r at c.requires.shares q.calm.spare)
+    (q.calm.table, omega (arith, f.words), λ s r at. splits g.K.Component.rules f.table.shared.key.value (in_order s) _ _ r at c.requires.shares q.calm.spare)

@@ -11,12 +11,12 @@ pub fetch_add-found-requires : goal.fetch_add-found-requires
 fetch_add-found-requires g c = let f = c.args.self.now in let a = c.requires.body in let s = c.args.worker.now.seat in let place = c.clock-clock.ensures in (
   c.requires.table,
   omega (arith, f.words, c.layout.ensures.processes, c.layout.ensures.connections, place),
-  apart g.K.Component.shape_of g.K.Component.uses g.K.Component.ready g.K.Component.next f.table.shared.key.value f.table.shared.table_id.slots s.id s.me (f.processes + f.connections) c.clock-clock.result (λ x. (x + 1) % 2 ^ 64) (λ i. stamped g.K.Component.shape_of g.K.Component.uses g.K.Component.ready g.K.Component.next g.D.Deed.start g.D.Deed.event g.D.Deed.after (step f.table.shared.table_id.slots i 1 0 none) s.me) (omega (arith, place, c.layout.ensures.processes, c.layout.ensures.connections))
+  apart g.K.Component.rules f.table.shared.key.value f.table.shared.table_id.slots s.id s.me (f.processes + f.connections) c.clock-clock.result (λ x. (x + 1) % 2 ^ 64) (λ i. stamped g.K.Component.rules g.D.Deed.start g.D.Deed.event g.D.Deed.after (step f.table.shared.table_id.slots i 1 0 none) s.me) (omega (arith, place, c.layout.ensures.processes, c.layout.ensures.connections))
       (rw (← f.bodies, ← f.channels)
-      (stamps g.K.Component.shape_of g.K.Component.uses g.K.Component.ready g.K.Component.next g.met.K.Component.obeys g.met.K.Component.stays_ready g.met.K.Component.steady f.table.shared.key.value _ _ _ c.args.held.now.process _ a.base c.args.held.now.body g.D.Deed.event g.D.Deed.after g.D.Deed.start c.requires.start refl a.held a.rests (c.requires.after a.base) c.requires.at
+      (stamps g.K.Component.rules g.met.K.Component.lawful f.table.shared.key.value _ _ _ c.args.held.now.process _ a.base c.args.held.now.body g.D.Deed.event g.D.Deed.after g.D.Deed.start c.requires.deed.1 refl a.held a.rests (c.requires.deed.0 a.base) c.requires.at
       (rw (f.bodies, f.channels) c.requires.happens))),
 )
 
 pub returns-clause-machine : goal.returns-clause-machine
 returns-clause-machine g c = let a = c.requires.body in
-    machine-of g.K.Component.shape_of g.K.Component.uses g.K.Component.ready g.K.Component.next c.args.self.now.processes c.args.self.now.table.shared.key.value g.D.Deed.start g.D.Deed.after g.D.Deed.event c.fetch_add-found.result c.args.held.now.process a.base c.args.held.now.body _ c.requires.start a.held (c.requires.after a.base) c.fetch_add-found.ensures.2.3
+    machine-of g.K.Component.rules c.args.self.now.processes c.args.self.now.table.shared.key.value g.D.Deed.start g.D.Deed.after g.D.Deed.event c.fetch_add-found.result c.args.held.now.process a.base c.args.held.now.body _ c.requires.deed.1 a.held (c.requires.deed.0 a.base) c.fetch_add-found.ensures.2.3

@@ -15,4 +15,9 @@ stamp-stamp-requires-clause-happens g c = happens-as _ _ _ _ c.args.held.now.bod
 pub returns-clause-held : goal.returns-clause-held
 returns-clause-held g c = let f = c.args.self.now in let s = c.stamp-stamp.ensures in
     let turn = body-turn c.args.held.now.body c.effect.new.self effects.Start c.stamp-stamp.result Starts c.effect.ensures refl refl refl in
-    held-turned g.K.Component.next f.table.shared.table_id f.processes c.args.worker.now c.stamp-stamp.new.worker c.args.held.now _ _ _ _ c.requires.held s.table s.view s.slots c.requires.after (subst (λ (e : Event). BodyTurn c.args.held.now.body e c.stamp-stamp.result c.effect.new.self) (sym c.requires.event) turn) refl
+    held-turned g.K.Component.rules f.table.shared.table_id f.processes c.args.worker.now c.stamp-stamp.new.worker c.args.held.now _ _ _ _ c.requires.held s.table s.view s.slots c.requires.deed.0 (subst (λ (e : Event). BodyTurn c.args.held.now.body e c.stamp-stamp.result c.effect.new.self) (sym c.requires.event) turn) refl
+
+pub returns-clause-turn : goal.returns-clause-turn
+returns-clause-turn g c = let s = c.stamp-stamp.ensures in
+    let turn = body-turn c.args.held.now.body c.effect.new.self effects.Start c.stamp-stamp.result Starts c.effect.ensures refl refl refl in
+    record { process = refl; body = subst (λ (e : Event). BodyTurn c.args.held.now.body e c.stamp-stamp.result c.effect.new.self) (sym c.requires.event) turn; machine = s.machine; above = s.above; view = s.view }

@@ -12,8 +12,9 @@ stamp-stamp-requires-clause-happens g c = text-happens _ _ _ _ c.args.port c.req
 
 pub returns-clause-held : goal.returns-clause-held
 returns-clause-held g c = let f = c.args.self.now in let s = c.stamp-stamp.ensures in
-    held-turned g.K.Component.next f.table.shared.table_id f.processes c.args.worker.now c.stamp-stamp.new.worker c.args.held.now _ _ _ _ c.requires.held s.table s.view s.slots c.requires.after
+    held-turned g.K.Component.rules f.table.shared.table_id f.processes c.args.worker.now c.stamp-stamp.new.worker c.args.held.now _ _ _ _ c.requires.held s.table s.view s.slots c.requires.deed.0
     (text-deed c.args.held.now.body c.effect.new.self c.args.port c.stamp-stamp.result g.D.Deed.event c.requires.event c.requires.stage c.effect.ensures) refl
 
-pub returns-clause-body : goal.returns-clause-body
-returns-clause-body g c = text-deed c.args.held.now.body c.effect.new.self c.args.port c.stamp-stamp.result g.D.Deed.event c.requires.event c.requires.stage c.effect.ensures
+pub returns-clause-turn : goal.returns-clause-turn
+returns-clause-turn g c = let s = c.stamp-stamp.ensures in
+    record { process = refl; body = text-deed c.args.held.now.body c.effect.new.self c.args.port c.stamp-stamp.result g.D.Deed.event c.requires.event c.requires.stage c.effect.ensures; machine = s.machine; above = s.above; view = s.view }

@@ -1,7 +1,7 @@
 use Rattle.std.proofs.Common.{rules, ◌≡◌, ◌∙◌, ap, None, subst, refl}
 use Rattle.flow_model.specs.States.{Process}
 use Rattle.std.specs.Prelude.{◌+◌, ◌<◌, ◌^◌}
-use Rattle.flow_model.specs.Valid.{least_left}
+use Rattle.flow_model.specs.Stages.{least_left}
 use Rattle.flow_machine.specs.Values.{BodyValue}
 use Rattle.flow_machine.specs.Bodies.{StandsWell, IsBody}
 use Rattle.flow_machine.specs.Views.{process_shown}
@@ -12,14 +12,14 @@ pub overflow_add-place : goal.overflow_add-place
 overflow_add-place g c =
     let x : Process g.row.K.Denot = process_shown g.K.Component.state_of c.self.inside in
     let none : c.self.inside.leaving ≡ None = ap (λ (b : BodyValue g.row.K.Denot). b.leaving) c.self.view_is ∙ c.requires.effect.0 in
-    let well : StandsWell g.K.Component.shape_of g.K.Component.uses g.K.Component.ready x = subst (IsBody g.K.Component.shape_of g.K.Component.uses g.K.Component.ready x) none c.self.invariant in
-    let h : c.in-Closing.place + 1 < 2 ^ 32 = closing-fits g.K.Component.shape_of g.K.Component.uses g.K.Component.ready x c.in-Closing.place well c.in-Closing.is in
+    let well : StandsWell g.K.Component.rules x = subst (IsBody g.K.Component.rules x) none c.self.invariant in
+    let h : c.in-Closing.place + 1 < 2 ^ 32 = closing-fits g.K.Component.rules x c.in-Closing.place well c.in-Closing.is in
     search rules
 
 pub invariant_of-self : goal.invariant_of-self
 invariant_of-self g c =
     let x : Process g.row.K.Denot = process_shown g.K.Component.state_of c.self.inside in
     let none : c.self.inside.leaving ≡ None = ap (λ (b : BodyValue g.row.K.Denot). b.leaving) c.self.view_is ∙ c.requires.effect.0 in
-    let well : StandsWell g.K.Component.shape_of g.K.Component.uses g.K.Component.ready x = subst (IsBody g.K.Component.shape_of g.K.Component.uses g.K.Component.ready x) none c.self.invariant in
+    let well : StandsWell g.K.Component.rules x = subst (IsBody g.K.Component.rules x) none c.self.invariant in
     rw (none, c.enter.ensures, c.closing_stage-next.ensures, c.deref.ensures.value, c.len.ensures, c.add_stamp.ensures.len)
-    (stands-closing g.K.Component.shape_of g.K.Component.uses g.K.Component.ready x _ (c.in-Closing.place + 1) well (turn-left g.K.Component.shape_of g.K.Component.uses g.K.Component.ready x well (ap least_left c.in-Closing.is)) refl)
+    (stands-closing g.K.Component.rules x _ (c.in-Closing.place + 1) well (turn-left g.K.Component.rules x well (ap least_left c.in-Closing.is)) refl)

@@ -12,7 +12,7 @@ pub invariant_of-self : goal.invariant_of-self
 invariant_of-self g c =
     let x : Process g.row.K.Denot = process_shown g.K.Component.state_of c.self.inside in
     let none : c.self.inside.leaving ≡ None = ap (λ (b : BodyValue g.row.K.Denot). b.leaving) c.self.view_is ∙ c.requires.whole in
-    let well : StandsWell g.K.Component.shape_of g.K.Component.uses g.K.Component.ready x = subst (IsBody g.K.Component.shape_of g.K.Component.uses g.K.Component.ready x) none c.self.invariant in
+    let well : StandsWell g.K.Component.rules x = subst (IsBody g.K.Component.rules x) none c.self.invariant in
     let wished : x.stage ≡ stages.Wishing (Send c.requires.sends.0 c.requires.sends.1) = ap (λ (b : BodyValue g.row.K.Denot). b.process.stage) c.self.view_is ∙ c.requires.sends.2 in
     let id : Some c.in-Some.id ≡ Some c.requires.sends.1 = c.in-Some.ensures ∙ ap id_sent wished in
     let same : c.in-Some.id ≡ c.requires.sends.1 = cc in

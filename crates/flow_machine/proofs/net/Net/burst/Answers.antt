@@ -8,7 +8,7 @@ use Rattle.flow_machine.proofs.Reaching.{reach-none, reach-then}
 use Rattle.flow_machine.proofs.net.Net.burst.Goals as goal
 
 pub loop-stamp-init : goal.loop-stamp-init
-loop-stamp-init g c = record { set = c.requires.set; len = refl; next = c.requires.next; few = c.requires.few; reaches = reach-none g.K.Component.shape_of g.K.Component.uses g.K.Component.ready g.K.Component.next g.met.K.Component.obeys g.met.K.Component.stays_ready g.met.K.Component.steady c.args.self.now; goes = burst-none g.K.Component.shape_of g.K.Component.uses g.K.Component.ready g.K.Component.next g.met.K.Component.obeys g.met.K.Component.stays_ready g.met.K.Component.steady c.args.self.now c.args.process c.args.stamp.now }
+loop-stamp-init g c = record { set = c.requires.set; len = refl; next = c.requires.next; few = c.requires.few; reaches = reach-none g.K.Component.rules g.met.K.Component.lawful c.args.self.now; goes = burst-none g.K.Component.rules g.met.K.Component.lawful c.args.self.now c.args.process c.args.stamp.now }
 
 pub loop-stamp-preserved : goal.loop-stamp-preserved
 loop-stamp-preserved g c =
@@ -17,12 +17,12 @@ loop-stamp-preserved g c =
     let settle = rw c.if-not-settle.false at c.settle.ensures.settles in
     let inv = c.loop-stamp.invariant in
     record {
-      set = set-after g.K.Component.next c.loop-stamp.self c.make_turn.new.self c.settle.new.self c.args.process (level_of c.loop-stamp.self c.args.process) c.loop-stamp.stamp made.0 inv.set made.1 settle;
+      set = set-after g.K.Component.rules c.loop-stamp.self c.make_turn.new.self c.settle.new.self c.args.process (level_of c.loop-stamp.self c.args.process) c.loop-stamp.stamp made.0 inv.set made.1 settle;
       len = c.settle.ensures.len ∙ ap length made.1.bodies ∙ length-set c.loop-stamp.self.bodies c.args.process made.1.after ∙ inv.len;
       next = sym next ∙ sym c.settle.ensures.turns;
       few = omega (arith, next, c.make_turn.ensures.few);
-      reaches = reach-then g.K.Component.shape_of g.K.Component.uses g.K.Component.ready g.K.Component.next g.met.K.Component.obeys g.met.K.Component.stays_ready g.met.K.Component.steady c.args.self.now c.make_turn.new.self c.settle.new.self (reach-then g.K.Component.shape_of g.K.Component.uses g.K.Component.ready g.K.Component.next g.met.K.Component.obeys g.met.K.Component.stays_ready g.met.K.Component.steady c.args.self.now c.loop-stamp.self c.make_turn.new.self inv.reaches c.make_turn.ensures.reaches) c.settle.ensures.reaches;
-      goes = burst-more g.K.Component.shape_of g.K.Component.uses g.K.Component.ready g.K.Component.next g.met.K.Component.obeys g.met.K.Component.stays_ready g.met.K.Component.steady c.args.self.now c.loop-stamp.self c.make_turn.new.self c.settle.new.self c.args.process c.args.stamp.now c.loop-stamp.stamp inv.goes made settle;
+      reaches = reach-then g.K.Component.rules g.met.K.Component.lawful c.args.self.now c.make_turn.new.self c.settle.new.self (reach-then g.K.Component.rules g.met.K.Component.lawful c.args.self.now c.loop-stamp.self c.make_turn.new.self inv.reaches c.make_turn.ensures.reaches) c.settle.ensures.reaches;
+      goes = burst-more g.K.Component.rules g.met.K.Component.lawful c.args.self.now c.loop-stamp.self c.make_turn.new.self c.settle.new.self c.args.process c.args.stamp.now c.loop-stamp.stamp inv.goes made settle;
     }
 
 pub loop-stamp-smaller : goal.loop-stamp-smaller
@@ -40,13 +40,13 @@ returns g c =
       next = inv.next ∙ ap turns_made (sym none.1);
       few = inv.few;
       len = ap (λ (net : NetValue g.row.K.Denot). length net.bodies) none.1 ∙ inv.len;
-      reaches = reach-then g.K.Component.shape_of g.K.Component.uses g.K.Component.ready g.K.Component.next g.met.K.Component.obeys g.met.K.Component.stays_ready g.met.K.Component.steady c.args.self.now c.loop-stamp.self c.make_turn.new.self inv.reaches c.make_turn.ensures.reaches;
+      reaches = reach-then g.K.Component.rules g.met.K.Component.lawful c.args.self.now c.loop-stamp.self c.make_turn.new.self inv.reaches c.make_turn.ensures.reaches;
       starved = tt;
-      goes = burst-ends g.K.Component.shape_of g.K.Component.uses g.K.Component.ready g.K.Component.next g.met.K.Component.obeys g.met.K.Component.stays_ready g.met.K.Component.steady c.args.self.now c.loop-stamp.self c.make_turn.new.self c.args.process c.args.stamp.now c.loop-stamp.stamp inv.goes none;
+      goes = burst-ends g.K.Component.rules g.met.K.Component.lawful c.args.self.now c.loop-stamp.self c.make_turn.new.self c.args.process c.args.stamp.now c.loop-stamp.stamp inv.goes none;
     }
 
 pub returns-then-not-settle-clause-reaches : goal.returns-then-not-settle-clause-reaches
-returns-then-not-settle-clause-reaches g c = reach-then g.K.Component.shape_of g.K.Component.uses g.K.Component.ready g.K.Component.next g.met.K.Component.obeys g.met.K.Component.stays_ready g.met.K.Component.steady c.args.self.now c.make_turn.new.self c.settle.new.self (reach-then g.K.Component.shape_of g.K.Component.uses g.K.Component.ready g.K.Component.next g.met.K.Component.obeys g.met.K.Component.stays_ready g.met.K.Component.steady c.args.self.now c.loop-stamp.self c.make_turn.new.self c.loop-stamp.invariant.reaches c.make_turn.ensures.reaches) c.settle.ensures.reaches
+returns-then-not-settle-clause-reaches g c = reach-then g.K.Component.rules g.met.K.Component.lawful c.args.self.now c.make_turn.new.self c.settle.new.self (reach-then g.K.Component.rules g.met.K.Component.lawful c.args.self.now c.loop-stamp.self c.make_turn.new.self c.loop-stamp.invariant.reaches c.make_turn.ensures.reaches) c.settle.ensures.reaches
 
 pub returns-then-not-settle-clause-starved : goal.returns-then-not-settle-clause-starved
 returns-then-not-settle-clause-starved g c =

@@ -6,7 +6,7 @@ use Rattle.flow_machine.proofs.Reaching.{reach-none, reach-then, passed-on}
 use Rattle.flow_machine.proofs.net.Net.go_round.Goals as goal
 
 pub loop-init : goal.loop-init
-loop-init g c = record { set = c.in_ok-settle_all.ensures.set; len = refl; next = c.turns_made-stamp.ensures.turns; few = c.turns_made-stamp.ensures.few; reaches = reach-none g.K.Component.shape_of g.K.Component.uses g.K.Component.ready g.K.Component.next g.met.K.Component.obeys g.met.K.Component.stays_ready g.met.K.Component.steady c.settle_all.new.self; goes = passes-none g.K.Component.shape_of g.K.Component.uses g.K.Component.ready g.K.Component.next g.met.K.Component.obeys g.met.K.Component.stays_ready g.met.K.Component.steady c.settle_all.new.self c.turns_made-stamp.result }
+loop-init g c = record { set = c.in_ok-settle_all.ensures.set; len = refl; next = c.turns_made-stamp.ensures.turns; few = c.turns_made-stamp.ensures.few; reaches = reach-none g.K.Component.rules g.met.K.Component.lawful c.settle_all.new.self; goes = passes-none g.K.Component.rules g.met.K.Component.lawful c.settle_all.new.self c.turns_made-stamp.result }
 
 pub loop-preserved : goal.loop-preserved
 loop-preserved g c =
@@ -18,8 +18,8 @@ loop-preserved g c =
       len = e.len ∙ inv.len;
       next = e.next;
       few = e.few;
-      reaches = reach-then g.K.Component.shape_of g.K.Component.uses g.K.Component.ready g.K.Component.next g.met.K.Component.obeys g.met.K.Component.stays_ready g.met.K.Component.steady c.settle_all.new.self c.loop.self c.pass.new.self inv.reaches e.reaches;
-      goes = round-more g.K.Component.shape_of g.K.Component.uses g.K.Component.ready g.K.Component.next g.met.K.Component.obeys g.met.K.Component.stays_ready g.met.K.Component.steady c.settle_all.new.self c.loop.self c.pass.new.self c.turns_made-stamp.result c.loop.stamp c.pass.new.stamp (sym e.len) inv.goes e.goes moved.0;
+      reaches = reach-then g.K.Component.rules g.met.K.Component.lawful c.settle_all.new.self c.loop.self c.pass.new.self inv.reaches e.reaches;
+      goes = round-more g.K.Component.rules g.met.K.Component.lawful c.settle_all.new.self c.loop.self c.pass.new.self c.turns_made-stamp.result c.loop.stamp c.pass.new.stamp (sym e.len) inv.goes e.goes moved.0;
     }
 
 pub loop-smaller : goal.loop-smaller
@@ -34,18 +34,18 @@ returns-clause-goes g c =
     let s = c.in_ok-settle_all.ensures in
     let moved = rw c.if-branch.false at e.moved in
     let first : c.turns_made-stamp.result ≡ turns_made c.args.self.now = c.turns_made-stamp.ensures.turns ∙ s.turns in
-    let goes : Goes g.K.Component.shape_of g.K.Component.uses g.K.Component.ready (some_passes g.K.Component.next) c.settle_all.new.self (turns_made c.args.self.now) c.loop.self c.loop.stamp = subst (λ (n : ℕ). Goes g.K.Component.shape_of g.K.Component.uses g.K.Component.ready (some_passes g.K.Component.next) c.settle_all.new.self n c.loop.self c.loop.stamp) first inv.goes in
-    subst (λ (n : ℕ). Goes g.K.Component.shape_of g.K.Component.uses g.K.Component.ready (round_robin g.K.Component.next) c.args.self.now (turns_made c.args.self.now) c.pass.new.self n) e.next
-    (round-ends g.K.Component.shape_of g.K.Component.uses g.K.Component.ready g.K.Component.next g.met.K.Component.obeys g.met.K.Component.stays_ready g.met.K.Component.steady c.args.self.now c.settle_all.new.self c.loop.self c.pass.new.self (turns_made c.args.self.now) c.pass.new.stamp c.loop.stamp s.len inv.len e.len e.set s.goes goes e.goes moved.1)
+    let goes : Goes g.K.Component.rules (some_passes g.K.Component.rules) c.settle_all.new.self (turns_made c.args.self.now) c.loop.self c.loop.stamp = subst (λ (n : ℕ). Goes g.K.Component.rules (some_passes g.K.Component.rules) c.settle_all.new.self n c.loop.self c.loop.stamp) first inv.goes in
+    subst (λ (n : ℕ). Goes g.K.Component.rules (round_robin g.K.Component.rules) c.args.self.now (turns_made c.args.self.now) c.pass.new.self n) e.next
+    (round-ends g.K.Component.rules g.met.K.Component.lawful c.args.self.now c.settle_all.new.self c.loop.self c.pass.new.self (turns_made c.args.self.now) c.pass.new.stamp c.loop.stamp s.len inv.len e.len e.set s.goes goes e.goes moved.1)
 
 pub returns-clause-reaches : goal.returns-clause-reaches
-returns-clause-reaches g c = reach-then g.K.Component.shape_of g.K.Component.uses g.K.Component.ready g.K.Component.next g.met.K.Component.obeys g.met.K.Component.stays_ready g.met.K.Component.steady c.args.self.now c.settle_all.new.self c.pass.new.self c.settle_all.ensures.reaches (reach-then g.K.Component.shape_of g.K.Component.uses g.K.Component.ready g.K.Component.next g.met.K.Component.obeys g.met.K.Component.stays_ready g.met.K.Component.steady c.settle_all.new.self c.loop.self c.pass.new.self c.loop.invariant.reaches c.pass.ensures.reaches)
+returns-clause-reaches g c = reach-then g.K.Component.rules g.met.K.Component.lawful c.args.self.now c.settle_all.new.self c.pass.new.self c.settle_all.ensures.reaches (reach-then g.K.Component.rules g.met.K.Component.lawful c.settle_all.new.self c.loop.self c.pass.new.self c.loop.invariant.reaches c.pass.ensures.reaches)
 
 pub returns-in_err-settle_all-clause-reaches : goal.returns-in_err-settle_all-clause-reaches
 returns-in_err-settle_all-clause-reaches g c = c.settle_all.ensures.reaches
 
 pub returns-in_err-pass-clause-reaches : goal.returns-in_err-pass-clause-reaches
-returns-in_err-pass-clause-reaches g c = reach-then g.K.Component.shape_of g.K.Component.uses g.K.Component.ready g.K.Component.next g.met.K.Component.obeys g.met.K.Component.stays_ready g.met.K.Component.steady c.args.self.now c.settle_all.new.self c.pass.new.self c.settle_all.ensures.reaches (reach-then g.K.Component.shape_of g.K.Component.uses g.K.Component.ready g.K.Component.next g.met.K.Component.obeys g.met.K.Component.stays_ready g.met.K.Component.steady c.settle_all.new.self c.loop.self c.pass.new.self c.loop.invariant.reaches c.pass.ensures.reaches)
+returns-in_err-pass-clause-reaches g c = reach-then g.K.Component.rules g.met.K.Component.lawful c.args.self.now c.settle_all.new.self c.pass.new.self c.settle_all.ensures.reaches (reach-then g.K.Component.rules g.met.K.Component.lawful c.settle_all.new.self c.loop.self c.pass.new.self c.loop.invariant.reaches c.pass.ensures.reaches)
 
 pub returns-in_err-settle_all-clause-starved : goal.returns-in_err-settle_all-clause-starved
 returns-in_err-settle_all-clause-starved g c = passed-on c.from_residual.result c.in_err-settle_all.field-0.0 (IsFirstUnset c.settle_all.new.self.bodies) c.from_residual.ensures.1 c.in_err-settle_all.ensures.starved

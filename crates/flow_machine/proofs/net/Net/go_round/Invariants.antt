@@ -1,4 +1,5 @@
 use Rattle.std.proofs.Common.{◌≡◌, ◌≤◌, ◌-◌, length}
+use Rattle.flow_limits.specs.declared.TheConstants.{RUN_LIMIT}
 use Rattle.flow_machine.specs.Logs.{turns_made}
 use Rattle.flow_machine.specs.Starts.{AllSet}
 use Rattle.flow_machine.specs.Solo.{Goes, ReachesNet, some_passes}
@@ -9,10 +10,10 @@ invariant-loop g l = record {
   set : AllSet l.self.bodies;
   len : length l.self.bodies ≡ length l.initial.self.bodies;
   next : l.stamp ≡ turns_made l.self;
-  few : l.stamp ≤ 1073741824;
-  reaches : ReachesNet g.K.Component.shape_of g.K.Component.uses g.K.Component.ready g.K.Component.next l.initial.self l.self;
-  goes : Goes g.K.Component.shape_of g.K.Component.uses g.K.Component.ready (some_passes g.K.Component.next) l.initial.self l.initial.stamp l.self l.stamp;
+  few : l.stamp ≤ RUN_LIMIT;
+  reaches : ReachesNet g.K.Component.rules l.initial.self l.self;
+  goes : Goes g.K.Component.rules (some_passes g.K.Component.rules) l.initial.self l.initial.stamp l.self l.stamp;
 }
 
 abbrev pub decreases-loop : goal.decreases-loop
-decreases-loop g l = 1073741824 - l.stamp
+decreases-loop g l = RUN_LIMIT - l.stamp

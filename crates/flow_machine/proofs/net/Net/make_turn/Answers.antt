@@ -19,10 +19,10 @@ pub returns-in-Over-clause-turn : goal.returns-in-Over-clause-turn
 returns-in-Over-clause-turn g c = over-turn c.args.self.now c.args.process c.args.stamp c.in-Over.field-0 c.turn.new.self c.in-Over.ensures.turns
 
 pub returns-in-Made-clause-reaches : goal.returns-in-Made-clause-reaches
-returns-in-Made-clause-reaches g c = reach-turn g.K.Component.shape_of g.K.Component.uses g.K.Component.ready g.K.Component.next g.met.K.Component.obeys g.met.K.Component.stays_ready g.met.K.Component.steady c.args.self.now c.args.process c.args.stamp true c.turn.new.self c.requires.next c.in-Made.ensures.turns.1
+returns-in-Made-clause-reaches g c = reach-turn g.K.Component.rules g.met.K.Component.lawful c.args.self.now c.args.process c.args.stamp true c.turn.new.self c.requires.next c.in-Made.ensures.turns.1
 
 pub returns-in-Blocked-clause-reaches : goal.returns-in-Blocked-clause-reaches
-returns-in-Blocked-clause-reaches g c = reach-turn g.K.Component.shape_of g.K.Component.uses g.K.Component.ready g.K.Component.next g.met.K.Component.obeys g.met.K.Component.stays_ready g.met.K.Component.steady c.args.self.now c.args.process c.args.stamp false c.turn.new.self c.requires.next (blocked-turn c.args.self.now c.args.process c.args.stamp c.in-Blocked.field-0 c.turn.new.self c.in-Blocked.ensures.turns)
+returns-in-Blocked-clause-reaches g c = reach-turn g.K.Component.rules g.met.K.Component.lawful c.args.self.now c.args.process c.args.stamp false c.turn.new.self c.requires.next (blocked-turn c.args.self.now c.args.process c.args.stamp c.in-Blocked.field-0 c.turn.new.self c.in-Blocked.ensures.turns)
 
 pub returns-in-Over-clause-reaches : goal.returns-in-Over-clause-reaches
-returns-in-Over-clause-reaches g c = reach-turn g.K.Component.shape_of g.K.Component.uses g.K.Component.ready g.K.Component.next g.met.K.Component.obeys g.met.K.Component.stays_ready g.met.K.Component.steady c.args.self.now c.args.process c.args.stamp false c.turn.new.self c.requires.next (over-turn c.args.self.now c.args.process c.args.stamp c.in-Over.field-0 c.turn.new.self c.in-Over.ensures.turns)
+returns-in-Over-clause-reaches g c = reach-turn g.K.Component.rules g.met.K.Component.lawful c.args.self.now c.args.process c.args.stamp false c.turn.new.self c.requires.next (over-turn c.args.self.now c.args.process c.args.stamp c.in-Over.field-0 c.turn.new.self c.in-Over.ensures.turns)

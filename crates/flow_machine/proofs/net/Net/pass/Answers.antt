@@ -5,7 +5,7 @@ use Rattle.flow_machine.proofs.Reaching.{reach-none, reach-then, passed-on}
 use Rattle.flow_machine.proofs.net.Net.pass.Goals as goal
 
 pub loop-process-init : goal.loop-process-init
-loop-process-init g c = record { set = c.requires.set; len = refl; next = c.requires.next; few = c.requires.few; grown = omega arith; reaches = reach-none g.K.Component.shape_of g.K.Component.uses g.K.Component.ready g.K.Component.next g.met.K.Component.obeys g.met.K.Component.stays_ready g.met.K.Component.steady c.args.self.now; goes = pass-none g.K.Component.shape_of g.K.Component.uses g.K.Component.ready g.K.Component.next g.met.K.Component.obeys g.met.K.Component.stays_ready g.met.K.Component.steady c.args.self.now c.args.stamp.now }
+loop-process-init g c = record { set = c.requires.set; len = refl; next = c.requires.next; few = c.requires.few; grown = omega arith; reaches = reach-none g.K.Component.rules g.met.K.Component.lawful c.args.self.now; goes = pass-none g.K.Component.rules g.met.K.Component.lawful c.args.self.now c.args.stamp.now }
 
 pub loop-process-preserved : goal.loop-process-preserved
 loop-process-preserved g c =
@@ -17,20 +17,20 @@ loop-process-preserved g c =
       next = e.next;
       few = e.few;
       grown = omega (arith, inv.grown, e.goes.1);
-      reaches = reach-then g.K.Component.shape_of g.K.Component.uses g.K.Component.ready g.K.Component.next g.met.K.Component.obeys g.met.K.Component.stays_ready g.met.K.Component.steady c.args.self.now c.loop-process.self c.burst.new.self inv.reaches e.reaches;
-      goes = pass-more g.K.Component.shape_of g.K.Component.uses g.K.Component.ready g.K.Component.next g.met.K.Component.obeys g.met.K.Component.stays_ready g.met.K.Component.steady c.args.self.now c.loop-process.self c.burst.new.self c.loop-process.process c.args.stamp.now c.loop-process.stamp c.burst.new.stamp (sym e.len) inv.goes e.goes;
+      reaches = reach-then g.K.Component.rules g.met.K.Component.lawful c.args.self.now c.loop-process.self c.burst.new.self inv.reaches e.reaches;
+      goes = pass-more g.K.Component.rules g.met.K.Component.lawful c.args.self.now c.loop-process.self c.burst.new.self c.loop-process.process c.args.stamp.now c.loop-process.stamp c.burst.new.stamp (sym e.len) inv.goes e.goes;
     }
 
 pub returns-clause-goes : goal.returns-clause-goes
 returns-clause-goes g c =
     let all : c.loop-process.process ≡ length c.args.self.now.bodies = omega (arith, c.loop-process-test.false, c.loop-process.auto.process-end, c.processes-process-end.ensures.count) in
-    subst (λ (n : ℕ). Goes g.K.Component.shape_of g.K.Component.uses g.K.Component.ready (pass_below g.K.Component.next n) c.args.self.now c.args.stamp.now c.loop-process.self c.loop-process.stamp) all c.loop-process.invariant.goes
+    subst (λ (n : ℕ). Goes g.K.Component.rules (pass_below g.K.Component.rules n) c.args.self.now c.args.stamp.now c.loop-process.self c.loop-process.stamp) all c.loop-process.invariant.goes
 
 pub returns-clause-reaches : goal.returns-clause-reaches
 returns-clause-reaches g c = c.loop-process.invariant.reaches
 
 pub returns-in_err-burst-clause-reaches : goal.returns-in_err-burst-clause-reaches
-returns-in_err-burst-clause-reaches g c = reach-then g.K.Component.shape_of g.K.Component.uses g.K.Component.ready g.K.Component.next g.met.K.Component.obeys g.met.K.Component.stays_ready g.met.K.Component.steady c.args.self.now c.loop-process.self c.burst.new.self c.loop-process.invariant.reaches c.burst.ensures.reaches
+returns-in_err-burst-clause-reaches g c = reach-then g.K.Component.rules g.met.K.Component.lawful c.args.self.now c.loop-process.self c.burst.new.self c.loop-process.invariant.reaches c.burst.ensures.reaches
 
 pub returns-in_err-burst-clause-starved : goal.returns-in_err-burst-clause-starved
 returns-in_err-burst-clause-starved g c =

@@ -1,4 +1,5 @@
 use Rattle.std.proofs.Common.{◌≡◌, ◌≤◌, length}
+use Rattle.flow_limits.specs.declared.TheConstants.{RUN_LIMIT}
 use Rattle.flow_machine.specs.Logs.{turns_made}
 use Rattle.flow_machine.specs.Starts.{AllSet}
 use Rattle.flow_machine.specs.Solo.{Goes, ReachesNet, pass_below}
@@ -9,8 +10,8 @@ invariant-loop-process g l = record {
   set : AllSet l.self.bodies;
   len : length l.self.bodies ≡ length l.fn.self.bodies;
   next : l.stamp ≡ turns_made l.self;
-  few : l.stamp ≤ 1073741824;
+  few : l.stamp ≤ RUN_LIMIT;
   grown : l.fn.stamp ≤ l.stamp;
-  reaches : ReachesNet g.K.Component.shape_of g.K.Component.uses g.K.Component.ready g.K.Component.next l.fn.self l.self;
-  goes : Goes g.K.Component.shape_of g.K.Component.uses g.K.Component.ready (pass_below g.K.Component.next l.process) l.fn.self l.fn.stamp l.self l.stamp;
+  reaches : ReachesNet g.K.Component.rules l.fn.self l.self;
+  goes : Goes g.K.Component.rules (pass_below g.K.Component.rules l.process) l.fn.self l.fn.stamp l.self l.stamp;
 }

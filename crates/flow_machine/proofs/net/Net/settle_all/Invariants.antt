@@ -8,6 +8,6 @@ invariant-loop-process g l = record {
   set : SetBelow l.process l.self.bodies;
   len : length l.self.bodies ≡ length l.fn.self.bodies;
   turns : turns_made l.self ≡ turns_made l.fn.self;
-  reaches : ReachesNet g.K.Component.shape_of g.K.Component.uses g.K.Component.ready g.K.Component.next l.fn.self l.self;
-  goes : Goes g.K.Component.shape_of g.K.Component.uses g.K.Component.ready (some_works g.K.Component.next) l.fn.self (turns_made l.fn.self) l.self (turns_made l.fn.self);
+  reaches : ReachesNet g.K.Component.rules l.fn.self l.self;
+  goes : Goes g.K.Component.rules (some_works g.K.Component.rules) l.fn.self (turns_made l.fn.self) l.self (turns_made l.fn.self);
 }

@@ -13,10 +13,10 @@ pub invariant_of-result : goal.invariant_of-result
 invariant_of-result g c =
     let copy : c.in_ok-connections.connections.items ≡ c.args.plan.now.connections = c.in_ok-connections.ensures ∙ c.connections.ensures in
     let channels : c.in_ok-channels.channels.items ≡ map channel_begun c.args.plan.now.connections = c.in_ok-channels.ensures ∙ ap (map channel_begun) c.connections-2.ensures in
-    rw (copy, channels) (is-start g.K.Component.shape_of g.K.Component.uses g.K.Component.ready c.args.plan.now (map g.K.Component.state_of c.args.components.items) c.in-Ok.bodies.items c.requires.well c.in-Ok.ensures)
+    rw (copy, channels) (is-start g.K.Component.rules c.args.plan.now (map g.K.Component.state_of c.args.components.items) c.in-Ok.bodies.items c.requires.well c.in-Ok.ensures)
 
 pub returns-in-Ok : goal.returns-in-Ok
 returns-in-Ok g c =
     let copy : c.in_ok-connections.connections.items ≡ c.args.plan.now.connections = c.in_ok-connections.ensures ∙ c.connections.ensures in
     let channels : c.in_ok-channels.channels.items ≡ map channel_begun c.args.plan.now.connections = c.in_ok-channels.ensures ∙ ap (map channel_begun) c.connections-2.ensures in
-    rw (copy, channels) (starts-net g.K.Component.shape_of g.K.Component.uses g.K.Component.ready c.args.plan.now (map g.K.Component.state_of c.args.components.items) c.in-Ok.bodies.items c.requires.well c.in-Ok.ensures)
+    rw (copy, channels) (starts-net g.K.Component.rules c.args.plan.now (map g.K.Component.state_of c.args.components.items) c.in-Ok.bodies.items c.requires.well c.in-Ok.ensures)

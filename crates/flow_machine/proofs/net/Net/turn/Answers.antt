@@ -9,7 +9,7 @@ use Rattle.flow_machine.proofs.Wholes.{fit-with, turns-with}
 use Rattle.flow_machine.proofs.net.Net.turn.Goals as goal
 
 pub turn_of-requires-clause-fit : goal.turn_of-requires-clause-fit
-turn_of-requires-clause-fit g c = rw (c.deref_mut.ensures.value, c.deref_mut-2.ensures.value) (fit-with g.K.Component.shape_of g.K.Component.uses g.K.Component.ready c.self.inside.connections.items [] c.self.inside.bodies.items c.self.inside.channels.items c.self.invariant.fit)
+turn_of-requires-clause-fit g c = rw (c.deref_mut.ensures.value, c.deref_mut-2.ensures.value) (fit-with g.K.Component.rules c.self.inside.connections.items [] c.self.inside.bodies.items c.self.inside.channels.items c.self.invariant.fit)
 
 pub invariant_of-self : goal.invariant_of-self
 invariant_of-self g c =
@@ -21,7 +21,7 @@ invariant_of-self g c =
     turns-with c.self.inside.connections.items c.self.inside.bodies.items c.turn_of.new.bodies c.self.inside.channels.items c.turn_of.new.channels c.args.process (level_of old c.args.process) c.args.stamp c.turn_of.result (rw (c.deref_mut.ensures.value, c.deref_mut-2.ensures.value) at c.turn_of.ensures) in
     let next : c.args.stamp ≡ turns_made old = c.requires.next ∙ ap turns_made (sym c.self.view_is) in
     rw (bodies, channels) (record {
-      fit = fit-answer g.K.Component.shape_of g.K.Component.uses g.K.Component.ready old c.args.process (level_of old c.args.process) c.args.stamp c.turn_of.result new turns next c.self.invariant.fit;
+      fit = fit-answer g.K.Component.rules old c.args.process (level_of old c.args.process) c.args.stamp c.turn_of.result new turns next c.self.invariant.fit;
       planned = planned-answer old c.args.process (level_of old c.args.process) c.args.stamp c.turn_of.result new turns c.self.invariant.planned;
     })
 
@@ -34,4 +34,4 @@ returns g c =
     let turns : TurnsNet old c.args.process (level_of old c.args.process) c.args.stamp c.turn_of.result new =
     turns-with c.self.inside.connections.items c.self.inside.bodies.items c.turn_of.new.bodies c.self.inside.channels.items c.turn_of.new.channels c.args.process (level_of old c.args.process) c.args.stamp c.turn_of.result (rw (c.deref_mut.ensures.value, c.deref_mut-2.ensures.value) at c.turn_of.ensures) in
     let next : c.args.stamp ≡ turns_made old = c.requires.next ∙ ap turns_made (sym c.self.view_is) in
-    record { turns = rw (← c.self.view_is, bodies, channels) turns; goes = rw (← c.self.view_is, bodies, channels) (λ event turn. goes-by g.K.Component.shape_of g.K.Component.uses g.K.Component.ready old c.args.process (level_of old c.args.process) event c.args.stamp new turn); few = rw bodies (turns-most g.K.Component.shape_of g.K.Component.uses g.K.Component.ready new (fit-answer g.K.Component.shape_of g.K.Component.uses g.K.Component.ready old c.args.process (level_of old c.args.process) c.args.stamp c.turn_of.result new turns next c.self.invariant.fit)) }
+    record { turns = rw (← c.self.view_is, bodies, channels) turns; goes = rw (← c.self.view_is, bodies, channels) (λ event turn. goes-by g.K.Component.rules old c.args.process (level_of old c.args.process) event c.args.stamp new turn); few = rw bodies (turns-most g.K.Component.rules new (fit-answer g.K.Component.rules old c.args.process (level_of old c.args.process) c.args.stamp c.turn_of.result new turns next c.self.invariant.fit)) }

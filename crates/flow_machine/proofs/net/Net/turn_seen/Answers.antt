@@ -9,7 +9,7 @@ use Rattle.flow_machine.proofs.Wholes.{fit-with, sees-with}
 use Rattle.flow_machine.proofs.net.Net.turn_seen.Goals as goal
 
 pub seen_of-requires-clause-fit : goal.seen_of-requires-clause-fit
-seen_of-requires-clause-fit g c = rw (c.deref_mut.ensures.value, c.deref.ensures.value) (fit-with g.K.Component.shape_of g.K.Component.uses g.K.Component.ready c.self.inside.connections.items [] c.self.inside.bodies.items c.self.inside.channels.items c.self.invariant.fit)
+seen_of-requires-clause-fit g c = rw (c.deref_mut.ensures.value, c.deref.ensures.value) (fit-with g.K.Component.rules c.self.inside.connections.items [] c.self.inside.bodies.items c.self.inside.channels.items c.self.invariant.fit)
 
 pub invariant_of-self : goal.invariant_of-self
 invariant_of-self g c =
@@ -20,7 +20,7 @@ invariant_of-self g c =
     sees-with c.self.inside.connections.items c.self.inside.bodies.items c.seen_of.new.bodies c.self.inside.channels.items c.self.inside.channels.items c.args.process c.args.seen c.args.stamp c.seen_of.result (rw (c.deref_mut.ensures.value, c.deref.ensures.value) at c.seen_of.ensures) in
     let next : c.args.stamp ≡ turns_made old = c.requires.next ∙ ap turns_made (sym c.self.view_is) in
     rw bodies (record {
-      fit = fit-seen g.K.Component.shape_of g.K.Component.uses g.K.Component.ready old c.args.process c.args.seen c.args.stamp c.seen_of.result new sees next c.self.invariant.fit;
+      fit = fit-seen g.K.Component.rules old c.args.process c.args.seen c.args.stamp c.seen_of.result new sees next c.self.invariant.fit;
       planned = planned-seen old c.args.process c.args.seen c.args.stamp c.seen_of.result new sees c.self.invariant.planned;
     })
 
@@ -31,4 +31,4 @@ returns g c =
     let new : NetValue g.row.K.Denot = net_with c.self.inside.connections.items c.seen_of.new.bodies c.self.inside.channels.items in
     let sees : SeesNet old c.args.process c.args.seen c.args.stamp c.seen_of.result new =
     sees-with c.self.inside.connections.items c.self.inside.bodies.items c.seen_of.new.bodies c.self.inside.channels.items c.self.inside.channels.items c.args.process c.args.seen c.args.stamp c.seen_of.result (rw (c.deref_mut.ensures.value, c.deref.ensures.value) at c.seen_of.ensures) in
-    record { sees = rw (← c.self.view_is, bodies) sees; goes = rw (← c.self.view_is, bodies) (λ event turn. goes-by g.K.Component.shape_of g.K.Component.uses g.K.Component.ready old c.args.process c.args.seen event c.args.stamp new turn) }
+    record { sees = rw (← c.self.view_is, bodies) sees; goes = rw (← c.self.view_is, bodies) (λ event turn. goes-by g.K.Component.rules old c.args.process c.args.seen event c.args.stamp new turn) }

@@ -6,7 +6,8 @@ use Rattle.flow_model.specs.Plans.{receives_at, sends_at}
 use Rattle.flow_machine.proofs.WireLemmas.{row-within, row-read}
 use Rattle.std.proofs.lemmas.List.{length-map}
 use Rattle.flow_model.proofs.Lists.{map-found}
-use Rattle.flow_machine.proofs.Lists.{map-there, element-there, last-or, nothing-there, some-same}
+use Rattle.flow_model.proofs.Lookups.{map-there}
+use Rattle.flow_machine.proofs.Lists.{element-there, last-or, nothing-there, some-same}
 use Rattle.flow_machine.proofs.StartLemmas.{stands-start, rest-drops, first-of, starts-same}
 use Rattle.flow_machine.proofs.net.begin.bodies_of.Goals as goal
 
@@ -57,7 +58,7 @@ begin-requires-clause-well g c = λ x there small.
     let within : p < length c.args.components.items = omega (arith, c.loop-process-test.true, ap (λ (ps : List NetProcess). length ps) c.processes-2.ensures.processes, c.requires.well.one_each, length-map c.args.components.items g.K.Component.state_of) in
     let component = element-there c.args.components.items p within in
     let same : c.remove-component.result ≡ component.0 = first-of c.args.components.items c.loop-process.components.items p c.remove-component.result component.0 c.loop-process.invariant.rest component.1 c.remove-component.ensures.value in
-    stands-start g.K.Component.shape_of g.K.Component.uses g.K.Component.ready plan (map g.K.Component.state_of c.args.components.items) p x (g.K.Component.state_of c.remove-component.result) c.requires.well there
+    stands-start g.K.Component.rules plan (map g.K.Component.state_of c.args.components.items) p x (g.K.Component.state_of c.remove-component.result) c.requires.well there
     (map-there g.K.Component.state_of c.args.components.items p c.remove-component.result (component.1 ∙ ap (λ (z : g.row.K.Denot). Some z) (sym same))) small
 
 pub loop-process-init : goal.loop-process-init

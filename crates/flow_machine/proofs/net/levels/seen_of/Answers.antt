@@ -27,32 +27,32 @@ unreachable-requires g c =
 
 pub bounds-channels-connection : goal.bounds-channels-connection
 bounds-channels-connection g c =
-    let at = at-place g.K.Component.shape_of g.K.Component.uses g.K.Component.ready c.args.bodies.now c.args.channels.now c.args.process (cases.Level c.in-Level.connection c.in-Level.port) c.index-bodies-process.result c.requires.fit c.requires.in_range c.in-Level.ensures in
+    let at = at-place g.K.Component.rules c.args.bodies.now c.args.channels.now c.args.process (cases.Level c.in-Level.connection c.in-Level.port) c.index-bodies-process.result c.requires.fit c.requires.in_range c.in-Level.ensures in
     (c.requires.fit.wired c.args.process (get_or c.args.bodies.now c.args.process c.index-bodies-process.result) at.there).outputs c.in-Level.port.0 c.in-Level.connection at.is.1
 
 pub learn-requires-clause-room : goal.learn-requires-clause-room
 learn-requires-clause-room g c =
-    let at = at-place g.K.Component.shape_of g.K.Component.uses g.K.Component.ready c.args.bodies.now c.args.channels.now c.args.process (cases.Level c.in-Level.connection c.in-Level.port) c.index-bodies-process.result c.requires.fit c.requires.in_range c.in-Level.ensures in
+    let at = at-place g.K.Component.rules c.args.bodies.now c.args.channels.now c.args.process (cases.Level c.in-Level.connection c.in-Level.port) c.index-bodies-process.result c.requires.fit c.requires.in_range c.in-Level.ensures in
     room-at (net_of c.args.bodies.now c.args.channels.now) c.args.process (get_or c.args.bodies.now c.args.process c.index-bodies-process.result) _ at.there c.requires.set at.is.0
 
 pub learn-requires-clause-effect : goal.learn-requires-clause-effect
 learn-requires-clause-effect g c =
-    let at = at-place g.K.Component.shape_of g.K.Component.uses g.K.Component.ready c.args.bodies.now c.args.channels.now c.args.process (cases.Level c.in-Level.connection c.in-Level.port) c.index-bodies-process.result c.requires.fit c.requires.in_range c.in-Level.ensures in
+    let at = at-place g.K.Component.rules c.args.bodies.now c.args.channels.now c.args.process (cases.Level c.in-Level.connection c.in-Level.port) c.index-bodies-process.result c.requires.fit c.requires.in_range c.in-Level.ensures in
     let ch : ChannelShown = c.index-channels-connection.result in
     let at_c : slice_get c.args.channels.now c.in-Level.connection ≡ Some ch = read-there c.args.channels.now c.in-Level.connection ch ((c.requires.fit.wired c.args.process (get_or c.args.bodies.now c.args.process c.index-bodies-process.result) at.there).outputs c.in-Level.port.0 c.in-Level.connection at.is.1) c.index-channels-connection.is in
     let lies = within-both (length ch.packets) c.args.level ch.capacity (sym c.allows.ensures ∙ c.if-not-allows.false) in
-    (at.whole, (c.in-Level.port, at.is.0), omega (arith, lies.1, (level-fits g.K.Component.shape_of g.K.Component.uses g.K.Component.ready (net_of c.args.bodies.now c.args.channels.now) c.in-Level.connection ch c.requires.fit at_c).1))
+    (at.whole, (c.in-Level.port, at.is.0), omega (arith, lies.1, (level-fits g.K.Component.rules (net_of c.args.bodies.now c.args.channels.now) c.in-Level.connection ch c.requires.fit at_c).1))
 
 pub returns-then-not-allows : goal.returns-then-not-allows
 returns-then-not-allows g c =
-    let at = at-place g.K.Component.shape_of g.K.Component.uses g.K.Component.ready c.args.bodies.now c.args.channels.now c.args.process (cases.Level c.in-Level.connection c.in-Level.port) c.index-bodies-process.result c.requires.fit c.requires.in_range c.in-Level.ensures in
+    let at = at-place g.K.Component.rules c.args.bodies.now c.args.channels.now c.args.process (cases.Level c.in-Level.connection c.in-Level.port) c.index-bodies-process.result c.requires.fit c.requires.in_range c.in-Level.ensures in
     let ch : ChannelShown = c.index-channels-connection.result in
     let at_c : slice_get c.args.channels.now c.in-Level.connection ≡ Some ch = read-there c.args.channels.now c.in-Level.connection ch ((c.requires.fit.wired c.args.process (get_or c.args.bodies.now c.args.process c.index-bodies-process.result) at.there).outputs c.in-Level.port.0 c.in-Level.connection at.is.1) c.index-channels-connection.is in
     (record { body = (get_or c.args.bodies.now c.args.process c.index-bodies-process.result); port = c.in-Level.port; connection = c.in-Level.connection; channel = ch; there = at.there; asks = at.is.0; output = at.is.1; at = at_c; outside = sym c.allows.ensures ∙ c.if-not-allows.true }, ap (λ (bs : List (BodyValue g.row.K.Denot)). net_of bs c.args.channels.now) (set-same c.args.bodies.now c.args.process (get_or c.args.bodies.now c.args.process c.index-bodies-process.result) at.there))
 
 pub returns : goal.returns
 returns g c =
-    let at = at-place g.K.Component.shape_of g.K.Component.uses g.K.Component.ready c.args.bodies.now c.args.channels.now c.args.process (cases.Level c.in-Level.connection c.in-Level.port) c.index-bodies-process.result c.requires.fit c.requires.in_range c.in-Level.ensures in
+    let at = at-place g.K.Component.rules c.args.bodies.now c.args.channels.now c.args.process (cases.Level c.in-Level.connection c.in-Level.port) c.index-bodies-process.result c.requires.fit c.requires.in_range c.in-Level.ensures in
     let ch : ChannelShown = c.index-channels-connection.result in
     let at_c : slice_get c.args.channels.now c.in-Level.connection ≡ Some ch = read-there c.args.channels.now c.in-Level.connection ch ((c.requires.fit.wired c.args.process (get_or c.args.bodies.now c.args.process c.index-bodies-process.result) at.there).outputs c.in-Level.port.0 c.in-Level.connection at.is.1) c.index-channels-connection.is in
     let lies = within-both (length ch.packets) c.args.level ch.capacity (sym c.allows.ensures ∙ c.if-not-allows.false) in

@@ -13,4 +13,4 @@ returns-in-Err-clause-stops g c =
     subst (λ (ps : List ℕ). StopsAt c.args.net c.go_round.new.self ps) (sym items) c.in-Err.ensures.starved
 
 pub returns-in_default-clause-reaches : goal.returns-in_default-clause-reaches
-returns-in_default-clause-reaches g c = reach-none g.K.Component.shape_of g.K.Component.uses g.K.Component.ready g.K.Component.next g.met.K.Component.obeys g.met.K.Component.stays_ready g.met.K.Component.steady c.args.net
+returns-in_default-clause-reaches g c = reach-none g.K.Component.rules g.met.K.Component.lawful c.args.net

@@ -1,4 +1,4 @@
-use Rattle.std.proofs.Common.{◌≡◌, ◌+◌, ◌∙◌, ap, sum_by, sym}
+use Rattle.std.proofs.Common.{◌+◌, ◌∙◌, ap, sum_by, sym}
 use Rattle.flow_runner.specs.Fair.{times}
 use Rattle.flow_runner.specs.Lines.{pushes_of, pops_of}
 use Rattle.flow_runner.proofs.line.Line.close.Goals as goal

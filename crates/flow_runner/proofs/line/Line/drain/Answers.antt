@@ -1,4 +1,4 @@
-use Rattle.std.proofs.Common.{◌≡◌, ◌++◌, ◌∷◌, [], length, length-append, append-nil, append_assoc, cond, ◌==◌, arith, sym, ap, ◌∙◌, subst}
+use Rattle.std.proofs.Common.{◌++◌, ◌∷◌, [], length, length-append, append-nil, append_assoc, cond, ◌==◌, arith, sym, ap, ◌∙◌}
 use Rattle.flow_runner.specs.Fair.{times}
 use Rattle.flow_runner.specs.Lines.{pops_of}
 use Rattle.flow_runner.proofs.Fairs.{pops, learns, few-left, none-left, taken-alone}

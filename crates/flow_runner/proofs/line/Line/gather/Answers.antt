@@ -1,4 +1,4 @@
-use Rattle.std.proofs.Common.{◌≡◌, [], ◌∷◌, ◌++◌, ◌∙◌, ap, arith, sum_by, sym, subst}
+use Rattle.std.proofs.Common.{[], ◌∷◌, ◌++◌, ◌∙◌, ap, arith, sum_by, sym, subst}
 use Rattle.flow_runner.specs.declared.line.LinePass.{LinePass}
 use Rattle.flow_runner.specs.Fair.{times}
 use Rattle.flow_runner.specs.Lines.{IsPassAt, AreAllPasses, pushes_of, pops_of}

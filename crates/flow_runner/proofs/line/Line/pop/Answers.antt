@@ -1,4 +1,3 @@
-use Rattle.std.proofs.Common.{arith, sym, ap, ◌∙◌}
 use Rattle.flow_runner.proofs.Fairs.{pops, learns, popped-alone}
 use Rattle.flow_runner.proofs.line.Line.pop.Goals as goal
 

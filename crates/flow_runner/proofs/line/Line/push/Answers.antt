@@ -1,4 +1,4 @@
-use Rattle.std.proofs.Common.{◌≡◌, true, false, arith, sym, ap, ◌∙◌}
+use Rattle.std.proofs.Common.{arith, sym, ◌∙◌}
 use Rattle.flow_runner.proofs.Fairs.{puts, learns, put-alone, full-alone}
 use Rattle.flow_runner.proofs.line.Line.push.Goals as goal
 

@@ -1,0 +1,7 @@
+pub mod Asked
+pub mod ChainRuns
+pub mod ChainSizes
+pub mod Loaded
+pub mod LoadedLaws
+pub mod RaceRuns
+pub mod RaceSizes

@@ -1,0 +1,41 @@
+use Rattle.std.proofs.Common.{◌∙◌, get_or, sym, ap, subst, arith}
+use Rattle.std.proofs.lemmas.List.{drop_all}
+use Rattle.std.proofs.lemmas.Option.{slice_get-get_or}
+use Rattle.flow_plan.specs.declared.plan.Sender.{Sender}
+use Rattle.flow_floor.specs.Sending.{sending_processes}
+use Rattle.flow_floor.specs.Workers.{IsWaking}
+use Rattle.flow_floor.proofs.Planned.{sending-first, sending-skip}
+use Rattle.flow_floor.proofs.Turnings.{first-noted, rest-noted, waking-as, waking-none}
+use Rattle.flow_floor.proofs.floor.Floor.wake_senders.Goals as goal
+use Rattle.flow_floor.proofs.floor.Floor.wake_senders.Goals.{then-not-is_followed, else-not-is_followed}
+
+pub wake-requires-clause-waking : goal.wake-requires-clause-waking
+wake-requires-clause-waking g c = let senders = c.args.senders.now in let i = c.loop-i.i in let s : Sender = get_or senders i (record { process = 0; output = 0 }) in
+    let at = slice_get-get_or senders i (record { process = 0; output = 0 }) c.loop-i-test.true in
+    first-noted _ _ _ c.loop-i.worker c.args.held.now s.process _ _ (sending-first senders i s at (sym (c.is_followed.ensures s at) ∙ c.if-not-is_followed.true)) c.loop-i.invariant.0
+
+pub wake-requires-clause-below : goal.wake-requires-clause-below
+wake-requires-clause-below g c = c.requires.below c.loop-i.i (record { process = 0; output = 0 }) c.loop-i-test.true
+
+pub loop-i-preserved : goal.loop-i-preserved
+loop-i-preserved g c = let f = c.args.self.now in let senders = c.args.senders.now in let i = c.loop-i.i in let s : Sender = get_or senders i (record { process = 0; output = 0 }) in
+    let at = slice_get-get_or senders i (record { process = 0; output = 0 }) c.loop-i-test.true in let inv = c.loop-i.invariant in
+    elim c.if-not-is_followed.branch [
+      | then-not-is_followed w ↦ (let e = w.wake.ensures in (
+        waking-as _ _ _ c.if-not-is_followed.worker w.wake.new.worker c.args.held.now _ w.worker-is
+            (rest-noted _ _ _ c.loop-i.worker w.wake.new.worker c.args.held.now s.process _ _ (sending-first senders i s at (sym (c.is_followed.ensures s at) ∙ w.if-not-is_followed.true)) inv.0 e.waking),
+        ap (λ x. x.seat.me.0.made) w.worker-is ∙ e.made ∙ inv.1,
+        record { shares = ap (λ x. x.seat.me.0.shares) w.worker-is ∙ e.seat.shares ∙ inv.2.shares; zero = ap (λ x. x.seat.me.0.read_zero) w.worker-is ∙ e.seat.zero ∙ inv.2.zero },
+      ))
+      | else-not-is_followed w ↦ (
+        waking-as _ _ _ c.if-not-is_followed.worker c.loop-i.worker c.args.held.now _ w.worker-is
+            (subst (IsWaking g.K.Component.rules f.table.shared.table_id f.processes c.loop-i.worker c.args.held.now) (sending-skip senders i s at (sym (c.is_followed.ensures s at) ∙ w.if-not-is_followed.false)) inv.0),
+        ap (λ x. x.seat.me.0.made) w.worker-is ∙ inv.1,
+        record { shares = ap (λ x. x.seat.me.0.shares) w.worker-is ∙ inv.2.shares; zero = ap (λ x. x.seat.me.0.read_zero) w.worker-is ∙ inv.2.zero },
+      )
+    ]
+
+pub returns-clause-held : goal.returns-clause-held
+returns-clause-held g c = let f = c.args.self.now in let senders = c.args.senders.now in
+    waking-none _ _ _ c.loop-i.worker c.args.held.now
+    (subst (IsWaking g.K.Component.rules f.table.shared.table_id f.processes c.loop-i.worker c.args.held.now) (ap sending_processes (drop_all c.loop-i.i senders (omega (arith, c.loop-i-test.false)))) c.loop-i.invariant.0)

@@ -1,4 +1,0 @@
-pub mod Loaded
-pub mod LoadedLaws
-pub mod Sizes
-pub mod Runs

@@ -1,0 +1,4 @@
+pub mod Asker
+pub mod Askers
+pub mod Networks
+pub mod Turns

@@ -1,0 +1,14 @@
+//! What trials of whole networks stand on: the plan of a text, its network at the start, turns that are made by hand, and calls over files in memory.
+#![tactic(auto)]
+
+mod asker;
+mod call;
+mod network;
+mod starting;
+mod turns;
+
+pub use asker::Asker;
+pub use call::{CallStop, Called, File, Outside, call_alone, call_by_workers, call_on};
+pub use network::{TrialStop, plan_of_text};
+pub use starting::{askers, standard_components, started};
+pub use turns::{next_turn, seen_turn};

@@ -1,5 +1,0 @@
-use Rattle.flow_runs.proofs.Rounds.{round-is-run}
-use Rattle.flow_runs.proofs.a_round_of_a_net_is_a_run.Goals as goal
-
-pub returns : goal.returns
-returns g c = round-is-run g.K.Component.shape_of g.K.Component.uses g.K.Component.ready g.K.Component.next c.every_schedule_keeps_the_packets.ensures.prefixes c.round_robins_are_schedules.ensures

@@ -1,5 +1,0 @@
-use Rattle.flow_runs.proofs.Scheduled.{sees-no-more}
-use Rattle.flow_runs.proofs.a_schedule_sees_no_more_than_its_turns.Goals as goal
-
-pub returns : goal.returns
-returns g c = sees-no-more g.K.Component.next

@@ -1,4 +1,0 @@
-pub mod Fitting
-pub mod Named
-pub mod Composed
-pub mod Nights

@@ -1,5 +1,0 @@
-pub mod Asker
-pub mod Askers
-pub mod Networks
-pub mod Telegram
-pub mod Nightly

@@ -1,0 +1,99 @@
+//! What may stand in a command line.
+ghost use Rattle.std.specs.Prelude.{◌≡◌, false};
+ghost use Rattle.clap.specs.Words.{rule_of};
+ghost use Rattle.flow_words.specs.Arguments.{name_of, rule_by, rule_for, shape_of};
+
+use clap::{Arg, ArgAction};
+use std::alloc::Global;
+
+/// What may stand in a line, each at most once: the network file's name, flags, and options with a value.
+#[derive(Clone, Copy, Debug, PartialEq, Eq)]
+pub enum Argument {
+    NetFile,
+    Check,
+    Determinate,
+    Kinds,
+    Journal,
+    Replay,
+    Make,
+    Workers,
+}
+
+/// How an argument stands in a line: a name by itself, a flag without a value, or an option with one.
+#[derive(Clone, Copy, Debug, PartialEq, Eq)]
+pub enum Shape {
+    Name,
+    Flag,
+    Valued,
+}
+
+/// All arguments, in the order of the usage.
+pub const ARGUMENTS: [Argument; 8] = [
+    Argument::NetFile,
+    Argument::Check,
+    Argument::Determinate,
+    Argument::Kinds,
+    Argument::Journal,
+    Argument::Replay,
+    Argument::Make,
+    Argument::Workers,
+];
+
+impl Argument {
+    /// The name, which stands behind `--` where it is a flag or an option.
+    pub fn name<'a>(self) -> &'a str
+        ensures { result.now ≡ name_of self }
+    {
+        match self {
+            Argument::NetFile => "NETFILE",
+            Argument::Check => "check",
+            Argument::Determinate => "determinate",
+            Argument::Kinds => "kinds",
+            Argument::Journal => "journal",
+            Argument::Replay => "replay",
+            Argument::Make => "make",
+            Argument::Workers => "workers",
+        }
+    }
+
+    /// The shape.
+    pub fn shape(self) -> Shape
+        ensures { result ≡ shape_of self }
+    {
+        match self {
+            Argument::NetFile => Shape::Name,
+            Argument::Check | Argument::Determinate | Argument::Kinds => Shape::Flag,
+            Argument::Journal | Argument::Replay | Argument::Make | Argument::Workers => {
+                Shape::Valued
+            }
+        }
+    }
+
+    /// The argument, for clap.
+    pub fn for_clap<'a>(self, alloc: Global) -> Arg<'a>
+        ensures rule { rule_of result ≡ rule_for self }
+        ensures local { result.global ≡ false }
+    {
+        match self.shape() {
+            Shape::Name => Arg::new(alloc, self.name()),
+            Shape::Flag => flag(alloc, self.name()),
+            Shape::Valued => option(alloc, self.name()),
+        }
+    }
+}
+
+// A flag, which takes no value.
+fn flag<'a>(alloc: Global, name: &'a str) -> Arg<'a>
+    ensures rule { rule_of result ≡ rule_by Shape.Flag name.entry.now }
+    ensures local { result.global ≡ false }
+{
+    Arg::new(alloc, name).long(name).action(ArgAction::SetTrue)
+}
+
+// An option, which takes one value.
+fn option<'a>(alloc: Global, name: &'a str) -> Arg<'a>
+    ensures rule { rule_of result ≡ rule_by Shape.Valued name.entry.now }
+    ensures local { result.global ≡ false }
+{
+    Arg::new(alloc, name).long(name)
+}

@@ -1,0 +1,70 @@
+//! The forms of a command line.
+ghost use Rattle.std.specs.Prelude.{◌≡◌};
+ghost use Rattle.flow_words.specs.Forms.{admits, place_of};
+
+use crate::argument::Argument;
+
+/// What a line asks for, without its values.
+#[derive(Clone, Copy, Debug, PartialEq, Eq)]
+pub enum Form {
+    Run,
+    Check,
+    Judge,
+    Kinds,
+    Replay,
+    Make,
+}
+
+/// Whether an argument has to stand in a line of a form, may stand there, or doesn't.
+#[derive(Clone, Copy, Debug, PartialEq, Eq)]
+pub enum Place {
+    Needed,
+    Free,
+    Barred,
+}
+
+/// All forms. No line fits two of them.
+pub const FORMS: [Form; 6] = [
+    Form::Run,
+    Form::Check,
+    Form::Judge,
+    Form::Kinds,
+    Form::Replay,
+    Form::Make,
+];
+
+impl Form {
+    /// The place of an argument in lines of this form.
+    pub fn place_of(self, argument: Argument) -> Place
+        ensures { result ≡ place_of self argument }
+    {
+        match (self, argument) {
+            (Form::Run, Argument::NetFile) => Place::Needed,
+            (Form::Run, Argument::Journal) => Place::Free,
+            (Form::Run, Argument::Workers) => Place::Free,
+            (Form::Check, Argument::NetFile) => Place::Needed,
+            (Form::Check, Argument::Check) => Place::Needed,
+            (Form::Judge, Argument::NetFile) => Place::Needed,
+            (Form::Judge, Argument::Determinate) => Place::Needed,
+            (Form::Kinds, Argument::Kinds) => Place::Needed,
+            (Form::Replay, Argument::NetFile) => Place::Needed,
+            (Form::Replay, Argument::Replay) => Place::Needed,
+            (Form::Make, Argument::Make) => Place::Needed,
+            (Form::Make, Argument::Workers) => Place::Free,
+            _ => Place::Barred,
+        }
+    }
+}
+
+impl Place {
+    /// Whether an argument of this place may be given, or not given.
+    pub fn admits(self, given: bool) -> bool
+        ensures { result ≡ admits self given }
+    {
+        match self {
+            Place::Needed => given,
+            Place::Free => true,
+            Place::Barred => !given,
+        }
+    }
+}
