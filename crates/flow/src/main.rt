@@ -1,6 +1,8 @@
 //! The program `flow`, over real files: runs the network of a file, by workers where it is asked for them, and may keep
-//! the journal of the run; checks or judges a network file; prints the kinds of processes; makes the turns of a journal again; or runs the network that is made
-//! from a number; and prints what comes of it.
+//! the journal of the run; checks or judges a network file; prints the kinds of processes; makes the turns of a journal
+//! again; or runs the network that is made from a number; and prints what comes of it. Whoever sits at a shell uses it.
+//! What is promised is the contract of the top calls in `flow_cli`; here stand the shelf over real files, and the help
+//! on the standard error, of which no clause speaks.
 #![tactic(auto)]
 
 mod bytes;

@@ -1,4 +1,6 @@
-//! The batch update of a sorted master file by a sorted detail file.
+//! The batch update of a sorted master file by a sorted detail file. `flow_catalogue` offers `Update` to networks,
+//! behind a `Collate` of the two files. Its contract is that of the trait, and the laws in `meanings` say what the new
+//! master file is, in a bookkeeper's words.
 #![tactic(auto)]
 
 mod meanings;

@@ -1,4 +1,6 @@
-//! The program that the benchmarks and the stress test use, with a word for each of three things.
+//! The program that the benchmarks and the stress test use, with a word for each of three things. `bench/run`,
+//! `tests/stress` and `tests/bench` call it. Its contracts say of each word how many turns were made, and when it
+//! prints `other`.
 //!
 //! `flow_bench chain PASSERS LINES` runs a chain of a reader of lines in memory, of so many processes that pass them on, and of a writer, on one thread, and
 //! prints how many turns were made.

@@ -1,4 +1,6 @@
-//! The standard components as one type, and how a plan makes them.
+//! The standard components as one type, and how a plan makes them. `flow_cli` runs networks over it, and the table here
+//! is what network files are checked against. The contracts are those of `kinds`, the table, and of `make`, which gives
+//! each process of a plan its component.
 #![tactic(auto)]
 
 mod options;

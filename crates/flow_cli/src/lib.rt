@@ -1,4 +1,6 @@
-//! The top calls: words in, files read and written, a report printed.
+//! The top calls: words in, files read and written, a report printed. The program `flow` makes them over real files,
+//! and trials over files in memory. The contract is that of `plain_top` and `busy_top`, one record of promises for both
+//! (`specs/Promises.antt`): the sentence that the whole project carries.
 #![tactic(auto)]
 
 mod after;

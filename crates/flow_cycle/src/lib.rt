@@ -1,4 +1,6 @@
-//! Who waits for whom in a deadlock, and the cycle in which they wait.
+//! Who waits for whom in a deadlock, and the cycle in which they wait. The report of `flow_report` asks it. The
+//! contract is that of `cycle`: the cycle of a state in which nobody can take a turn, where there is one; a law says
+//! when there is exactly one.
 #![tactic(auto)]
 
 mod find;

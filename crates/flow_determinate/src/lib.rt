@@ -1,4 +1,6 @@
-//! Networks whose quiet schedules all end in one state.
+//! Networks whose quiet schedules all end in one state. `flow --determinate` asks its test, and the top call's contract
+//! says by its law that a network which passes it has one outcome. The contracts are those of the laws, and of
+//! `determinate`.
 #![tactic(auto)]
 
 ghost use Rattle.std.specs.Prelude.{◌≡◌, ◌≤◌, ◌↔◌, IsTrue, length};

@@ -1,4 +1,6 @@
-//! What stands outside a program over the real system: its files as a shelf, and the standard output as a sink.
+//! What stands outside a program over the real system: its files as a shelf, and the standard output as a sink. The
+//! program `flow` alone uses it. Its contracts are those of the traits in `flow_text`, and that the system does as they
+//! say is trusted.
 #![tactic(auto)]
 
 mod access;

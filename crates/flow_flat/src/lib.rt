@@ -1,4 +1,5 @@
-//! What network a text is, said of the text itself.
+//! What network a text is, said of the text itself. `flow_expand` makes that network's plan, and the top call's
+//! contract names it by the definitions here. There is no code but laws, in `laws`: a text has one plan or one fault.
 #![tactic(auto)]
 
 mod fault;

@@ -1,4 +1,6 @@
-//! The shared object on which workers run a network.
+//! The shared object on which workers run a network. `flow_runner` has its workers claim processes on it and make their
+//! turns. The contracts are those of the methods of `Floor`, and behind them stands the rule of `specs/Rule.antt`,
+//! which each step of each worker keeps: at each moment the floor is a net that a schedule leads to.
 #![tactic(auto)]
 
 mod alone;

@@ -1,4 +1,6 @@
-//! The journal of a run: which process made each turn; its file; and how a run is made again by it.
+//! The journal of a run: which process made each turn; its file; and how a run is made again by it. `flow_cli` keeps
+//! journals and replays by it. The contracts are those of `Journal`, of `replay`, and of the laws in `runs`, which say
+//! what a run and what a replay is.
 #![tactic(auto)]
 
 mod again;

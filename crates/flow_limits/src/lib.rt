@@ -1,4 +1,6 @@
-//! The limits of this project. They are its own, and stand nowhere else: code, contracts and definitions cite them.
+//! The limits of this project, which are its own. Code, contracts and definitions of every other crate cite them from
+//! here, so that each number stands once. No contract can refuse another number: `flow_networks` compares each with
+//! what the documents tell.
 #![tactic(auto)]
 
 /// The most processes of a plan.

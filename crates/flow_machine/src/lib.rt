@@ -1,4 +1,6 @@
-//! Networks on one thread: bodies, which are processes that run a component; channels, which are connections; and nets of them.
+//! Networks in running code: bodies, which are processes that run a component; channels, which are connections; and
+//! nets of them. One thread runs a net by it, and the floor lends its bodies and channels to workers. The contracts are
+//! those of `Net` and `Body`: each call says what the machine of `flow_model` did.
 #![tactic(auto)]
 
 mod answers;

@@ -1,4 +1,5 @@
-//! A network and an input for it, as large as a number says.
+//! A network and an input for it, as large as a number says. `flow --make`, the benchmarks and the trials run it, since
+//! whoever has the number has both. The contract of `make` says which bytes they are.
 #![tactic(auto)]
 
 ghost use Rattle.std.specs.Prelude.{◌≡◌, ◌≤◌, ◌+◌, ◌*◌, IfOk, length};

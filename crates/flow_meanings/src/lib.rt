@@ -1,4 +1,5 @@
-//! What networks of standard components mean.
+//! What networks of standard components mean. The top call's contract cites it: what stands in the files of a finished
+//! run is a composition of its kinds' meanings, whatever the schedule. The laws are in `outcomes`.
 #![tactic(auto)]
 
 mod outcomes;

@@ -1,4 +1,6 @@
-//! Builds plans of networks, call by call.
+//! Builds plans of networks, call by call. `flow_expand` tells it the statements of a file, and a program of the
+//! caller's own may tell it others. The contracts are those of `PlanBuilder`: each call says which fault there is, and
+//! `finish` gives a plan that is valid and is the one of the calls.
 #![tactic(auto)]
 
 mod begin;

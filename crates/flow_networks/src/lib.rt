@@ -1,4 +1,6 @@
-//! Worked networks of every kind, run through the program's top call over files in memory.
+//! Worked networks of every kind, run through the program's top call over files in memory. Nothing uses it: its tests
+//! show exact texts, limits and refusals, and that calls succeed with ample memory. Each test is proved like any
+//! function: it is safe, and it ends.
 #![tactic(auto)]
 
 #[cfg(test)]

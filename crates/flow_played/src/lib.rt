@@ -1,5 +1,6 @@
-//! A run of a network with components of the caller's own is also a run of the network in which each of them is replaced by the player of
-//! its tape.
+//! A run of a network with components of the caller's own is also a run of the network in which each of them is
+//! replaced by the player of its tape. It is what a replay without these components will rest on; no command uses it
+//! yet. The law is the contract of `a_run_is_one_of_its_players`.
 #![tactic(auto)]
 
 ghost use Rattle.flow_played.specs.Played.{PlaysRuns};

@@ -1,4 +1,6 @@
-//! What a run came to, and the lines in which that is printed.
+//! What a run came to, and the lines in which that is printed. `flow_cli` prints each run and each replay by it. The
+//! contracts are those of `Report::of`, and of the laws in `states`: a report tells of the machine's state, and a state
+//! has one report.
 #![tactic(auto)]
 
 mod left;

@@ -1,4 +1,6 @@
-//! What trials of whole networks stand on: the plan of a text, its network at the start, turns that are made by hand, and calls over files in memory.
+//! What trials of whole networks stand on: the plan of a text, its network at the start, turns that are made by hand,
+//! and calls over files in memory. The crates of trials and benchmarks use it. The contracts stand with its functions,
+//! and each says what a trial may rely on.
 #![tactic(auto)]
 
 mod asker;

@@ -1,4 +1,6 @@
-//! The floor's words and slots: where they lie, and how a word reads.
+//! The floor's words and slots: where they lie, and how a word reads. `flow_floor` alone uses it, so that no two words
+//! that two workers write share a line of the cache. The contracts are those of `Layout` and of the packing and
+//! unpacking of a word.
 #![tactic(auto)]
 
 ghost use Rattle.std.specs.Prelude.{◌≡◌, ◌<◌, nat_le};

@@ -1,4 +1,5 @@
-//! Workers in threads run a network.
+//! Workers in threads run a network. `flow_cli` runs by it where workers are asked for. The contract is that of `run`:
+//! the turns that all workers made together are a schedule, and at its end no process can take a turn.
 #![tactic(auto)]
 
 mod calls;

@@ -1,4 +1,6 @@
-//! Components on streams of packets.
+//! Components on streams of packets. `flow_catalogue` offers them to networks by their kinds' names. Each one's
+//! contract is that of the trait with its own rules in `specs/`, and `meanings` has a law of each: what leaves it as a
+//! whole stream, for what came.
 #![tactic(auto)]
 
 mod bundle;

@@ -1,4 +1,6 @@
-//! The file of tapes.
+//! The file of tapes. It is for programs with parts of their own (`flow_own`) whose runs are to be made again without
+//! them; no command uses it yet. The contracts are those of `to_bytes` and `from_bytes`, and a law says that a file has
+//! one list of tapes or one fault.
 #![tactic(auto)]
 
 mod fault;

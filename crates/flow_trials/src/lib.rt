@@ -1,4 +1,6 @@
-//! Trials of whole networks, one turn after another, on a net and on a floor.
+//! Trials of whole networks, one turn after another, on a net and on a floor. Nothing uses it: its tests show worked
+//! rows that no clause says, with values known from elsewhere. Each test is proved like any function: it is safe, and
+//! it ends.
 #![tactic(auto)]
 
 #[cfg(test)]

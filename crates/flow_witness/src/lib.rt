@@ -1,4 +1,6 @@
-//! That the definitions of the machine say something: the first run is one, and a part that sends a packet twice is no component.
+//! That the definitions of the machine say something: the first run is one, and a part that sends a packet twice is no
+//! component. It is for a reader who doubts that a definition can be met, or that it refuses anything; no code uses it.
+//! Each theorem is the contract of a function without a body.
 //!
 //! The first run is that of a chain. Its network is written out in `specs/Chain.antt`, and is what a builder makes of a text.
 #![tactic(auto)]

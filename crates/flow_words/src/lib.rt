@@ -1,4 +1,5 @@
-//! The words of the command line, read by the toolkit's `clap`.
+//! The words of the command line, read by the toolkit's `clap`. `flow_cli` asks it which call the words are. The
+//! contract is that of `command`: for every list of words the one call that they spell, or that they spell none.
 #![tactic(auto)]
 
 mod argument;
