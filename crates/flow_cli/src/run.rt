@@ -77,6 +77,7 @@ where
     requires { IsServed (Runs (E.pre engine.now) (E.post engine.now)) words.now }
     ensures { Performs (F.outside shelf.old) (F.outside shelf.new) words.entry.now result }
 {
+    // No `?` here, nor in the steps below: with it each way out would want an answer of its own in the proof files.
     let task = match prepare(alloc, words, shelf) {
         Ok(task) => task,
         Err(stop) => return Err(stop),

@@ -12,7 +12,8 @@ use Rattle.flow_machine.specs.Values.{BodyValue, NetValue}
 use Rattle.flow_machine.specs.Nets.{looks_of, block_at}
 use Rattle.flow_plan.specs.Network.{Network}
 use Rattle.flow_report.specs.declared.report.Blocked.{Blocked}
-use Rattle.flow_report.specs.Of.{capped, totals_in, with_process, told_from, processes_of, block_told, named_block}
+use Rattle.flow_machine.specs.Joins.{processes_of}
+use Rattle.flow_report.specs.Of.{capped, totals_in, with_process, told_from, block_told, named_block}
 
 -- one element more
 pub take-more : {X : Type 0} → (xs : List X) (k : ℕ) (x : X) → slice_get xs k ≡ Some x → take (suc k) xs ≡ take k xs ++ x ∷ []

@@ -18,7 +18,8 @@ use Rattle.flow_cycle.specs.Nets.{cycle_in, IsCycleOf, FindsCycles}
 use Rattle.flow_report.specs.declared.report.LeftPacket.{LeftPacket}
 use Rattle.flow_report.specs.declared.report.Place.TheVariants.{InHands, InConnection}
 use Rattle.flow_model.specs.Stages.{has_ended, has_failed}
-use Rattle.flow_report.specs.Of.{goes_on, totals_in, told_from, block_told, failure_told, hands_told, transit_told, connection_told, processes_of, left_of}
+use Rattle.flow_machine.specs.Joins.{processes_of}
+use Rattle.flow_report.specs.Of.{goes_on, totals_in, told_from, block_told, failure_told, hands_told, transit_told, connection_told, left_of}
 use Rattle.flow_report.specs.States.{connection_in, transit_in, TellsWaits, ReportsTell}
 use Rattle.flow_report.proofs.LeftLists.{ids_told, ids_told-append, ids-left_at, length-told}
 use Rattle.flow_report.proofs.Shown.{processes-shown, lines-shown, sum-processes, all-processes, any-processes, dropped_from, dropped-all, dropped-shown}

@@ -1,5 +1,5 @@
 -- What a report tells of a net.
-use Rattle.std.specs.Prelude.{◌==◌, ◌+◌, ◌-◌, ◌^◌, ◌++◌, ◌&&◌, ◌||◌, not, ℕ, min, Bool, List, [], ◌∷◌, map, length, sum_by, Option, Some, None, unwrap_or, if◌then◌else◌}
+use Rattle.std.specs.Prelude.{◌==◌, ◌+◌, ◌-◌, ◌^◌, ◌++◌, ◌&&◌, ◌||◌, not, ℕ, min, Bool, List, [], ◌∷◌, length, sum_by, Option, Some, None, unwrap_or, if◌then◌else◌}
 use Rattle.std.specs.List.{list_all, list_any}
 use Rattle.std.specs.Option.{is_none}
 use Rattle.flow_packet.specs.Tree.{Tree, all_ids}
@@ -17,6 +17,7 @@ use Rattle.flow_model.specs.Verdicts.{block_of}
 use Rattle.flow_model.specs.Stands.{ChannelShown}
 use Rattle.flow_machine.specs.Answers.{status_of}
 use Rattle.flow_machine.specs.Values.{BodyValue, NetValue}
+use Rattle.flow_machine.specs.Joins.{processes_of}
 use Rattle.flow_machine.specs.Nets.{looks_of}
 use Rattle.flow_plan.specs.Network.{Network}
 use Rattle.flow_cycle.specs.Nets.{cycle_in}
@@ -112,10 +113,6 @@ connection_told plan c channel = line_of_connection plan c channel.capacity chan
 -- What is told of the packets on a connection.
 abbrev pub transit_told : ℕ → ChannelShown → List LeftPacket
 transit_told c channel = left_at (InConnection c) channel.packets
-
--- The processes of a net.
-abbrev pub processes_of : {K : Type 0} → List (BodyValue K) → List (Process K)
-processes_of bodies = map (λ b. b.process) bodies
 
 -- The packets that are left in a net: first the hands of each process, then the connections.
 abbrev pub left_of : {K : Type 0} → NetValue K → List LeftPacket

@@ -5,7 +5,8 @@ ghost use Rattle.std.specs.Option.{is_none};
 ghost use Rattle.flow_machine.specs.Nets.{block_at, looks_of};
 ghost use Rattle.flow_model.specs.Stages.{has_ended, owes_work, has_failed};
 ghost use Rattle.flow_cycle.specs.Nets.{cycle_in};
-ghost use Rattle.flow_report.specs.Of.{totals_in, with_process, verdict_by, goes_on, cause_at, failed_at, named_block, block_told, failure_told, told_from, processes_of};
+ghost use Rattle.flow_machine.specs.Joins.{processes_of};
+ghost use Rattle.flow_report.specs.Of.{totals_in, with_process, verdict_by, goes_on, cause_at, failed_at, named_block, block_told, failure_told, told_from};
 
 use crate::names::{input_text, name_text, output_text};
 use crate::report::{Blocked, Cause, Failure, LeftPacket, Verdict, Wait};

@@ -1,6 +1,7 @@
 //! The lines of processes and of connections, and what is left there.
 ghost use Rattle.std.specs.Prelude.{◌≡◌, ◌++◌, OnOk, IfOk};
-ghost use Rattle.flow_report.specs.Of.{process_told, connection_told, hands_told, transit_told, told_from, processes_of};
+ghost use Rattle.flow_machine.specs.Joins.{processes_of};
+ghost use Rattle.flow_report.specs.Of.{process_told, connection_told, hands_told, transit_told, told_from};
 
 use crate::left::{push_hands, push_transit};
 use crate::names::{connection_text, kind_text, name_text};

@@ -1,6 +1,7 @@
 use Rattle.std.proofs.Common.{◌≡◌, take}
 use Rattle.flow_machine.specs.Nets.{looks_of}
-use Rattle.flow_report.specs.Of.{told_from, block_told, processes_of}
+use Rattle.flow_machine.specs.Joins.{processes_of}
+use Rattle.flow_report.specs.Of.{told_from, block_told}
 use Rattle.flow_report.proofs.of.all_blocked.Given as goal
 
 abbrev pub invariant-loop-process : goal.invariant-loop-process

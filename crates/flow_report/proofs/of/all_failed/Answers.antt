@@ -1,6 +1,7 @@
 use Rattle.std.proofs.Common.{◌++◌, ◌∙◌, [], ap, add-one}
 use Rattle.flow_model.specs.declared.Stage.{Stage}
-use Rattle.flow_report.specs.Of.{failure_told, failed_at, processes_of}
+use Rattle.flow_machine.specs.Joins.{processes_of}
+use Rattle.flow_report.specs.Of.{failure_told, failed_at}
 use Rattle.flow_report.proofs.Tellings.{told-step, process-there}
 use Rattle.flow_report.proofs.of.all_failed.Goals as goal
 

@@ -1,5 +1,6 @@
 use Rattle.std.proofs.Common.{◌≡◌, take}
-use Rattle.flow_report.specs.Of.{told_from, failure_told, processes_of}
+use Rattle.flow_machine.specs.Joins.{processes_of}
+use Rattle.flow_report.specs.Of.{told_from, failure_told}
 use Rattle.flow_report.proofs.of.all_failed.Given as goal
 
 abbrev pub invariant-loop-process : goal.invariant-loop-process

@@ -1,5 +1,6 @@
 use Rattle.std.proofs.Common.{[], add-one}
-use Rattle.flow_report.specs.Of.{process_told, hands_told, processes_of}
+use Rattle.flow_machine.specs.Joins.{processes_of}
+use Rattle.flow_report.specs.Of.{process_told, hands_told}
 use Rattle.flow_report.proofs.Tellings.{told-step, process-there}
 use Rattle.flow_report.proofs.rows.all_processes.Goals as goal
 
