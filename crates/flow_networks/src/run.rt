@@ -51,10 +51,11 @@ pub const ROW: Row = Row {
 
 /// The files of a row with a name, the network file first, and one more.
 fn files_of<'a>(alloc: Global, row: Row, more: File<'a>) -> Result<Vec<File<'a>>, AllocError> {
-    let mut files = vec![in alloc; ("net", row.net)]?;
-    for file in row.inputs {
-        if !file.0.is_empty() {
-            files.push(file)?;
+    let mut files: Vec<File<'a>> = Vec::new(alloc);
+    files.push(("net", row.net))?;
+    for (name, bytes) in row.inputs {
+        if !name.is_empty() {
+            files.push((name, bytes))?;
         }
     }
     if !more.0.is_empty() {
