@@ -1,6 +1,7 @@
 pub mod Lists
 pub mod OutletLemmas
 pub mod Standing
+mod Sending
 pub mod Thinking
 pub mod InletLemmas
 pub mod Pairs

@@ -1,5 +1,6 @@
 //! A process of a network that runs.
 ghost use Rattle.std.specs.Prelude.{◌≡◌, ℕ, ◌+◌, ◌-◌, ◌^◌, ◌<◌, ◌≤◌, ◌↔◌, [], ◌∷◌, ◌++◌, length, IsTrue, IfOk, IfSome, None, Some, slice_get};
+ghost use Rattle.flow_component.specs.declared.Wish.TheVariants.{Receive, Send};
 ghost use Rattle.flow_model.specs.Order.{connection_of};
 ghost use Rattle.flow_model.specs.Events.{is_connected};
 ghost use Rattle.std.specs.List.{list_any};
@@ -191,6 +192,22 @@ impl<K: Component> Body<K> {
         ensures { result ≡ list_any is_connected self.now.process.inputs }
     {
         idle::any_connected(&self.inlets)
+    }
+
+    /// It wishes to receive or to send.
+    #[inline(always)]
+    pub(crate) fn wishes_packet(&self) -> bool
+        ensures receives { (port : Port) → self.now.process.stage ≡ Wishing (Receive port) → IsTrue result }
+        ensures sends { (port : Port) (id : ℕ) → self.now.process.stage ≡ Wishing (Send port id) → IsTrue result }
+    {
+        match self.stage {
+            Stage::Wishing(wish) => match wish {
+                Wish::Receive(_) => true,
+                Wish::Send(_, _) => true,
+                _ => false,
+            },
+            _ => false,
+        }
     }
 
     /// The kind of turn that its status and wish ask for.

@@ -1,21 +1,25 @@
 //! The turns of a process, as far as it alone changes.
-ghost use Rattle.std.specs.Prelude.{◌≡◌, ◌+◌, ◌-◌, ◌^◌, ◌<◌, [], ◌∷◌, ◌++◌, None, Some, IsTrue, slice_set, false, vec_len, vec_capacity};
+ghost use Rattle.std.specs.Prelude.{◌≡◌, ◌+◌, ◌-◌, ◌^◌, ◌<◌, [], ◌∷◌, ◌++◌, None, Some, IsTrue, IfSome, length, option_map, slice_get, slice_set, false, vec_len, vec_capacity};
+ghost use Rattle.flow_limits.specs.declared.TheConstants.{HANDS_LIMIT};
+ghost use Rattle.flow_packet.specs.Tree.{id_of, kind_of};
+ghost use Rattle.flow_packet.specs.Held.{without_packet};
+ghost use Rattle.flow_packet.specs.Hands.{packet_at};
 ghost use Rattle.flow_model.specs.Turns.{limited, depth_after};
 ghost use Rattle.flow_model.specs.Works.{nests};
 ghost use Rattle.flow_model.specs.declared.Stage.TheVariants.{Wishing, Idle};
 ghost use Rattle.flow_component.specs.declared.Wish.TheVariants.{Receive, Send, Deactivate, Level};
 ghost use Rattle.flow_machine.specs.Outlets.{closing_in};
-ghost use Rattle.flow_machine.specs.Effects.{IsEffectFor, TakesTurn, port_at, depths_sent, CanDeepen};
+ghost use Rattle.flow_machine.specs.Effects.{IsEffectFor, TakesTurn, port_at, depths_sent, CanDeepen, WishesSend, id_sent};
 ghost use Rattle.flow_machine.specs.Thoughts.{HasRoom};
 
-use super::Body;
+use super::{Body, sent_id};
 use crate::answers::Effect;
 use crate::inlet::{Inlet, freshen};
 use crate::outlets::outlet_count;
 use flow_component::{Answer, Component, Fail, Port, Wish};
-use flow_limits::TURN_LIMIT;
+use flow_limits::{HANDS_LIMIT, TURN_LIMIT};
 use flow_model::Stage;
-use flow_packet::{Kind, Packet};
+use flow_packet::{Hands, Kind, Packet, PacketId};
 
 /// It has failed by its last turn.
 #[cold]
@@ -91,6 +95,25 @@ fn wished_port(stage: Stage) -> Port
         },
         _ => Port(0),
     }
+}
+
+/// The id of the last of these packets.
+fn last_id(packets: &[Packet]) -> PacketId
+    requires { 0 < length packets.now }
+    ensures { option_map id_of (slice_get packets.now (length packets.now - 1)) ≡ Some result }
+{
+    packets[packets.len() - 1].id()
+}
+
+/// Takes a packet into the hands, and answers its id, which is read where it then stands: so the packet is moved in one piece.
+fn take_in(hands: &mut Hands, packet: Packet) -> PacketId
+    requires room { 0 < hands.old.spare }
+    requires few { length hands.old.packets < HANDS_LIMIT }
+    ensures id { result ≡ id_of packet }
+    ensures put { hands.new ≡ record hands.old { packets = hands.old.packets ++ packet ∷ []; spare = hands.old.spare - 1 } }
+{
+    hands.put(packet);
+    last_id(hands.packets())
 }
 
 /// The text at a port isn't fresh any more.
@@ -170,8 +193,7 @@ impl<K: Component> Body<K> {
         requires effect { IsEffectFor self.old.process self.old.leaving (Effect.Got packet) }
         ensures { TakesTurn self.old (Effect.Got packet) stamp self.new }
     {
-        let id = packet.id();
-        self.hands.put(packet);
+        let id = take_in(&mut self.hands, packet);
         add_stamp(&mut self.stamps, stamp);
         enter(
             &mut self.stage,
@@ -215,7 +237,31 @@ impl<K: Component> Body<K> {
         }
     }
 
+    /// The packet of its wish leaves, and with that the turn that sends it is over.
     #[inline(always)]
+    pub(crate) fn send(&mut self, stamp: u32) -> Packet
+        requires whole { self.old.leaving ≡ None }
+        requires sends { WishesSend self.old.process.stage }
+        requires room { HasRoom self.old }
+        ensures packet { IfSome (id_sent self.old.process.stage) (λ id. packet_at self.old.process.held.packets id ≡ Some result) }
+        ensures turn { IfSome (id_sent self.old.process.stage) (λ id. TakesTurn (record self.old { process = record self.old.process { held = without_packet self.old.process.held id }; leaving = Some (kind_of result); places = self.old.places + 1 }) Effect.Sent stamp self.new) }
+    {
+        let stage = self.stage;
+        let Some(id) = sent_id(stage) else {
+            unreachable!()
+        };
+        let port = wished_port(self.stage);
+        let kind = self.hands.kind(id);
+        deepen(&mut self.depths, port, Some(kind));
+        add_stamp(&mut self.stamps, stamp);
+        enter(
+            &mut self.stage,
+            self.stamps.len(),
+            Stage::Told(Answer::Sent),
+        );
+        self.hands.take(id)
+    }
+
     pub(crate) fn finish_send(&mut self, stamp: u32)
         requires room { HasRoom self.old }
         requires effect { IsEffectFor self.old.process self.old.leaving Effect.Sent }

@@ -58,8 +58,7 @@ pub(crate) fn send<K: Component>(
     ensures { PairTurns (sent port.0 connection (packet_wished body.old.process) (Some (look_shown channel.old))) (Full connection port) stamp body.old channel.old result body.new channel.new }
 {
     if channel.has_room() {
-        let packet = body.outgoing();
-        body.finish_send(stamp);
+        let packet = body.send(stamp);
         channel.put(packet);
         return Turn::Made(stamp);
     }

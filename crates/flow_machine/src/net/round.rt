@@ -34,9 +34,42 @@ impl<K: Component> Closed<K> {
 }
 
 impl<K: Component> Net<K> {
-    /// Makes a turn of a process, if it has one. Takes no memory.
+    /// Makes a turn of a process, if it has one. Takes no memory. Nearly all turns receive or send, and have a way of their own.
     #[inline(always)]
     fn make_turn(&mut self, process: u32, stamp: u32) -> bool
+        requires in_range { process < length self.old.bodies }
+        requires set { IsSetIn self.old process }
+        requires next { stamp ≡ turns_made self.old }
+        ensures turn { MakesTurn self.old process stamp result self.new }
+        ensures reaches { ReachesNet K.rules self.old self.new }
+        ensures next { OnTrue result (turns_made self.new ≡ stamp + 1) }
+        ensures few { turns_made self.new ≤ RUN_LIMIT }
+    {
+        if self.body(process).wishes_packet() {
+            self.try_turn(process, stamp)
+        } else {
+            self.try_turn_apart(process, stamp)
+        }
+    }
+
+    /// The same, apart from the turns that receive or send.
+    #[cold]
+    #[inline(never)]
+    fn try_turn_apart(&mut self, process: u32, stamp: u32) -> bool
+        requires in_range { process < length self.old.bodies }
+        requires set { IsSetIn self.old process }
+        requires next { stamp ≡ turns_made self.old }
+        ensures turn { MakesTurn self.old process stamp result self.new }
+        ensures reaches { ReachesNet K.rules self.old self.new }
+        ensures next { OnTrue result (turns_made self.new ≡ stamp + 1) }
+        ensures few { turns_made self.new ≤ RUN_LIMIT }
+    {
+        self.try_turn(process, stamp)
+    }
+
+    /// Makes a turn of a process, if it has one.
+    #[inline(always)]
+    fn try_turn(&mut self, process: u32, stamp: u32) -> bool
         requires in_range { process < length self.old.bodies }
         requires set { IsSetIn self.old process }
         requires next { stamp ≡ turns_made self.old }

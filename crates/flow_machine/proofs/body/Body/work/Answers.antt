@@ -18,7 +18,7 @@ invariant_of-self g c =
     let well : StandsWell g.K.Component.rules x = subst (IsBody g.K.Component.rules x) none c.self.invariant in
     let told : x.stage ≡ stages.Told c.args.answer = ap (λ (b : BodyValue g.row.K.Denot). b.process.stage) c.self.view_is ∙ c.requires.told in
     let outcome : Outcome g.row.K.Denot = Wishes (g.K.Component.state_of c.resume.new.self) (held_of c.resume.new.hands) c.in-Ok.wish in
-    let stage : c.judge.new.stage ≡ judged c.self.inside.depths.items (held_of c.resume.new.hands) c.in-Ok.wish = c.judge.ensures ∙ ap (λ (ds : List ℕ). judged ds (held_of c.resume.new.hands) c.in-Ok.wish) c.deref.ensures.value in
+    let stage : c.judge.new.stage ≡ judged c.self.inside.depths.items (held_of c.resume.new.hands) c.in-Ok.wish = c.judge.ensures.judged ∙ ap (λ (ds : List ℕ). judged ds (held_of c.resume.new.hands) c.in-Ok.wish) c.deref.ensures.value in
     let after : StandsWell g.K.Component.rules (worked x outcome) = stands-worked g.K.Component.rules g.met.K.Component.lawful x c.args.answer outcome told c.in-Ok.ensures.0 well in
     rw (none, stage) after
 
@@ -40,7 +40,7 @@ returns-in-Ok-clause-worked g c =
     let well : StandsWell g.K.Component.rules x = subst (IsBody g.K.Component.rules x) none c.self.invariant in
     let told : x.stage ≡ stages.Told c.args.answer = ap (λ (b : BodyValue g.row.K.Denot). b.process.stage) c.self.view_is ∙ c.requires.told in
     let outcome : Outcome g.row.K.Denot = Wishes (g.K.Component.state_of c.resume.new.self) (held_of c.resume.new.hands) c.in-Ok.wish in
-    let stage : c.judge.new.stage ≡ judged c.self.inside.depths.items (held_of c.resume.new.hands) c.in-Ok.wish = c.judge.ensures ∙ ap (λ (ds : List ℕ). judged ds (held_of c.resume.new.hands) c.in-Ok.wish) c.deref.ensures.value in
+    let stage : c.judge.new.stage ≡ judged c.self.inside.depths.items (held_of c.resume.new.hands) c.in-Ok.wish = c.judge.ensures.judged ∙ ap (λ (ds : List ℕ). judged ds (held_of c.resume.new.hands) c.in-Ok.wish) c.deref.ensures.value in
     (rw (← c.self.view_is) (record { answer = c.args.answer; outcome = outcome; told = told; comes = c.in-Ok.ensures.0; process = rw stage refl; dropped = c.in-Ok.ensures.1 }), rw stage (thought-worked x outcome))
 
 pub returns-in-Err-Fail-clause-worked : goal.returns-in-Err-Fail-clause-worked

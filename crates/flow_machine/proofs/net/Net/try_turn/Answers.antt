@@ -2,7 +2,7 @@ use Rattle.std.proofs.Common.{◌+◌, ℕ, sym, ◌∙◌, ap, true, false}
 use Rattle.flow_machine.specs.Nets.{level_of}
 use Rattle.flow_machine.proofs.SoloLemmas.{blocked-turn, over-turn, turn-count}
 use Rattle.flow_machine.proofs.Reaching.{reach-turn}
-use Rattle.flow_machine.proofs.net.Net.make_turn.Goals as goal
+use Rattle.flow_machine.proofs.net.Net.try_turn.Goals as goal
 
 pub returns-in-Made-clause-turn : goal.returns-in-Made-clause-turn
 returns-in-Made-clause-turn g c = c.in-Made.ensures.turns.1
