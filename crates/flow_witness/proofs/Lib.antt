@@ -9,3 +9,9 @@ pub mod Merge
 pub mod TelegramPlanned
 pub mod TelegramComposed
 pub mod Nights
+pub mod BalanceFile
+pub mod BalancePlan
+pub mod BalanceRun
+pub mod BalanceEnds
+pub mod Premises
+pub mod Worked

@@ -49,7 +49,7 @@ run-turns {K} rules next computes p (suc n) s s' is = go (step next s p []) refl
         )
 
 -- an ended process has no turn
-ended : {K : Type 0} (kept : Kept K) (p : ℕ) (x : Process K) → slice_get kept.processes p ≡ Some x → x.stage ≡ stages.Ended → HasNoTurn kept p
+pub ended : {K : Type 0} (kept : Kept K) (p : ℕ) (x : Process K) → slice_get kept.processes p ≡ Some x → x.stage ≡ stages.Ended → HasNoTurn kept p
 ended {K} kept p x there at z n is =
     let h : Some x ≡ Some z = sym there ∙ is in
     let same : x ≡ z = cc in

@@ -5,3 +5,4 @@ pub mod Mute
 pub mod Ends
 pub mod Telegram
 pub mod Nightly
+pub mod Complete

@@ -5,6 +5,7 @@
 //! The first run is that of a chain. Its network is written out in `specs/Chain.antt`, and is what a builder makes of a text.
 #![tactic(auto)]
 
+mod complete;
 mod nightly;
 mod telegram;
 
@@ -13,6 +14,7 @@ ghost use Rattle.flow_witness.specs.FirstRun.{IsFirstRun};
 ghost use Rattle.flow_witness.specs.Mute.{MuteIsRefused};
 ghost use Rattle.flow_witness.specs.Twice.{TwiceIsRefused};
 
+pub use complete::the_premises_of_completeness_are_met;
 pub use nightly::the_nightly_network_is_a_batch_update;
 pub use telegram::the_telegram_composes;
 

@@ -1,0 +1,268 @@
+-- The worked calls: each meets the premises of completeness and comes to its end.
+use Rattle.flow_limits.specs.declared.TheConstants.{FILE_LIMIT}
+use Rattle.std.proofs.Common.{◌≡◌, ℕ, true, false, List, [], ◌∷◌, ◌++◌, ◌∙◌, map, Some, None, refl, sym, subst, inl, inr, arith, slice_get}
+use Rattle.std.specs.Prelude.{codes, IsTrue, Option, String}
+use Rattle.std.specs.declared.alloc.Global.{Global}
+use Rattle.flow_text.specs.Edge.{Outside, Name, after_write, begun}
+use Rattle.flow_plan.specs.declared.plan.Process.{Process}
+use Rattle.flow_words.specs.Words.{Run, Check, Judge, Replay, run_of}
+use Rattle.flow_parse.specs.Canonical.{canonical}
+use Rattle.flow_model.specs.Laws.{KeepsPrefixes}
+use Rattle.flow_model.specs.Ready.{StartsPlans, ComponentsFit}
+use Rattle.flow_catalogue.specs.declared.standard.Std.{Std}
+use Rattle.flow_catalogue.specs.declared.table.StdKind.TheVariants as kinds
+use Rattle.flow_catalogue.specs.Processes.{Fits}
+use Rattle.flow_catalogue.specs.Std.{std_rules}
+use Rattle.flow_determinate.specs.Standard.{IsDeterminate}
+use Rattle.flow_journal.specs.Replays.{schedule_of}
+use Rattle.flow_journal.specs.Runs.{IsScheduled}
+use Rattle.flow_journal.specs.declared.merge.Journal.{Journal}
+use Rattle.flow_report.specs.Text.{report_text}
+use Rattle.flow_cli.specs.Step.{Filled, whole, IsRead}
+use Rattle.flow_cli.specs.Components.{AreComponents, IsComponent}
+use Rattle.flow_cli.specs.Networks.{IsStandardPlan}
+use Rattle.flow_cli.specs.Many.{replaced_all}
+use Rattle.flow_cli.specs.Runs.{journal_file as kept_as}
+use Rattle.flow_cli.specs.Reads.{IsFile, IsJournalFile, IsReady}
+use Rattle.flow_cli.specs.Top.{Call, answer}
+use Rattle.flow_cli.specs.declared.status.Status.TheVariants.{Finished}
+use Rattle.flow_witness.specs.Complete.{balance, balance_journal, network_bytes, input_bytes, journal_bytes, network_file, input_file, journal_file, held_files, shelf_before, CanMeet, PremisesAreMet}
+use Rattle.flow_witness.proofs.Wired.{at_one}
+use Rattle.flow_witness.proofs.BalanceFile.{balance_value, holds}
+use Rattle.flow_witness.proofs.BalancePlan.{at_four, reader, balancer, dropper, other_dropper, valid, over, reader-sends, balancer-sends}
+use Rattle.flow_witness.proofs.BalanceRun.{reading, balancing, dropping, balance_components}
+use Rattle.flow_witness.proofs.BalanceEnds.{balance_last, balance_robin, balance_leads, balance_quiet, balance_report, balance_told}
+use Rattle.flow_witness.proofs.Premises.{is_file, has_schedule, replayed, ran, replay_valid, run_valid, check_valid, call_valid, replay_asked, run_asked, check_asked, judge_asked}
+
+standard : IsStandardPlan balance
+standard = record { valid = valid; over = over }
+
+-- The bytes for each process: the reader's file, and none for the others.
+abbrev given : List (List ℕ)
+given = input_bytes ∷ [] ∷ [] ∷ [] ∷ []
+
+abbrev Made : ℕ → Std → Type 0
+Made p component = (bytes : List ℕ) × (slice_get given p ≡ Some bytes) × IsComponent balance p bytes component
+
+made_reader : Made 0 reading
+made_reader = (
+  input_bytes,
+  refl,
+  record {
+    process = reader;
+    there = refl;
+    made = record { kind = kinds.ReadLines; named = refl; is = refl };
+    fits = record { inputs = refl; outputs = refl; uses = reader-sends; starts = λ held empty. empty };
+  },
+)
+
+made_balancer : Made 1 balancing
+made_balancer = (
+  [],
+  refl,
+  record {
+    process = balancer;
+    there = refl;
+    made = record { kind = kinds.LoadBalance; named = refl; is = refl };
+    fits = record { inputs = refl; outputs = refl; uses = balancer-sends; starts = λ held empty. (omega arith, refl, empty) };
+  },
+)
+
+no-uses : {X : Type 0} → IsTrue false → X
+no-uses uses = absurd (let bad : false ≡ true = uses in cc)
+
+made_dropper : Made 2 dropping
+made_dropper = (
+  [],
+  refl,
+  record {
+    process = dropper;
+    there = refl;
+    made = record { kind = kinds.Discard; named = refl; is = refl };
+    fits = record { inputs = refl; outputs = refl; uses = λ o uses. no-uses uses; starts = λ held empty. tt };
+  },
+)
+
+made_other : Made 3 dropping
+made_other = (
+  [],
+  refl,
+  record {
+    process = other_dropper;
+    there = refl;
+    made = record { kind = kinds.Discard; named = refl; is = refl };
+    fits = record { inputs = refl; outputs = refl; uses = λ o uses. no-uses uses; starts = λ held empty. tt };
+  },
+)
+
+-- The components are those of the processes.
+are : AreComponents balance given balance_components
+are = record { count = refl; each = λ p c h. at_four (λ k (x : Std). Made k x) reading balancing dropping dropping made_reader made_balancer made_dropper made_other p c h }
+
+fit : ComponentsFit std_rules balance balance_components
+fit = record {
+  one_each = refl;
+  fit = λ p process component there at.
+      let is = (are.each p component at).2 in
+      let same : is.process ≡ process = (let h : Some is.process ≡ Some process = sym is.there ∙ there in cc) in
+      let fits = subst (λ (x : Process). Fits balance p x component) same is.fits in
+      record { inputs = fits.inputs; outputs = fits.outputs; used = fits.uses; can_start = fits.starts };
+}
+
+-- Each file is held, and short.
+net_read : IsRead (Some held_files) FILE_LIMIT network_file
+net_read = record { short = omega arith; held = refl }
+
+input_read : IsRead (Some held_files) FILE_LIMIT input_file
+input_read = record { short = omega arith; held = refl }
+
+net_is : IsFile (Some held_files) (codes "net") network_bytes balance_value balance
+net_is = record { read = net_read; holds = holds; standard = standard }
+
+journal_is : IsJournalFile (Some held_files) (codes "j") journal_bytes balance_journal
+journal_is = record { read = record { short = omega arith; held = refl }; is = is_file }
+
+-- The shelf after these files were read whole, the last of which has this name.
+abbrev after : Name → List Filled → Outside
+after name read = record shelf_before { open_name = Some name; left = Some []; opened = map whole read }
+
+-- The output before and after this text was printed.
+abbrev blank : Outside
+blank = record shelf_before { taken = Some []; files = None; created = begun [] ∷ [] }
+
+abbrev call_of : List (String Global) → Outside → Journal → List ℕ → Call
+call_of words shelf journal text = record {
+  work = record { words = words; before = shelf_before; after = shelf; journal = journal };
+  out = blank;
+  out_after = after_write blank text;
+  status = Finished;
+}
+
+abbrev none_made : Journal
+none_made = record { turns = []; seen = [] }
+
+-- All was read that a network has to read, and between that this.
+ready : (between : List Filled) → IsReady shelf_before (after (codes "x") (network_file ∷ (between ++ input_file ∷ []))) (codes "net") between balance balance_components
+ready between = record {
+  net = network_bytes;
+  text = balance_value;
+  file = net_is;
+  given = given;
+  inputs = λ at file there. at_one (λ k (x : Filled). IsRead (Some held_files) FILE_LIMIT x) input_file input_read at file there;
+  reads = refl;
+  are_components = are;
+}
+
+-- The shelf after a run, whose journal is kept under this name where there is one.
+abbrev after_run : Option Name → Outside
+after_run kept = record (after (codes "x") ran) { files = Some (replaced_all (kept_as kept balance_journal) held_files); created = map whole (kept_as kept balance_journal) }
+
+-- The LoadBalance makes the plan one that isn't determinate.
+undetermined : IsDeterminate balance → ⊥
+undetermined is = is.no_balance 1 balancer refl refl
+
+checks : CanMeet (Check (codes "net")) (network_file ∷ [])
+checks words asks = record {
+  call = call_of words (after (codes "net") (network_file ∷ [])) none_made (canonical balance_value);
+  words_are = refl;
+  shelf = refl;
+  opened = refl;
+  faults = record { reads = λ rose. omega (arith, rose); writes = λ rose. omega (arith, rose); prints = λ rose. omega (arith, rose) };
+  valid = call_valid words (Check (codes "net")) (network_file ∷ []) (call_of words (after (codes "net") (network_file ∷ [])) none_made (canonical balance_value)).work refl refl refl asks refl (check_valid words (Check (codes "net")) asks refl);
+  ends = inr (record {
+    text = canonical balance_value;
+    says = inl (record { name = codes "net"; asks = asks; value = balance_value; checked = record { net = network_bytes; plan = balance; file = net_is; shelf = refl; journal = (refl, refl) }; text_is = refl; status_is = refl });
+    printed = refl;
+  });
+}
+
+judges : CanMeet (Judge (codes "net")) (network_file ∷ [])
+judges words asks = record {
+  call = call_of words (after (codes "net") (network_file ∷ [])) none_made (answer false);
+  words_are = refl;
+  shelf = refl;
+  opened = refl;
+  faults = record { reads = λ rose. omega (arith, rose); writes = λ rose. omega (arith, rose); prints = λ rose. omega (arith, rose) };
+  valid = call_valid words (Judge (codes "net")) (network_file ∷ []) (call_of words (after (codes "net") (network_file ∷ [])) none_made (answer false)).work refl refl refl asks refl (check_valid words (Judge (codes "net")) asks refl);
+  ends = inr (record {
+    text = answer false;
+    says = inr (inr (inr (inl (record { name = codes "net"; asks = asks; value = balance_value; checked = record { net = network_bytes; plan = balance; file = net_is; shelf = refl; journal = (refl, refl) }; text_is = inr (undetermined, refl); status_is = refl }))));
+    printed = refl;
+  });
+}
+
+module _ (starts : StartsPlans std_rules) (prefixes : KeepsPrefixes std_rules) where
+  -- The journal is a schedule, with all its prefixes.
+  scheduled : IsScheduled std_rules balance balance_components (schedule_of balance_journal) balance_last
+  scheduled = record {
+    leads = balance_leads;
+    prefixes = λ front mid first. prefixes balance balance_components (schedule_of balance_journal) front balance_last mid (starts balance balance_components valid fit) first;
+  }
+
+  replays : CanMeet (Replay (codes "net") (codes "j")) replayed
+  replays words asks = record {
+    call = call_of words (after (codes "x") replayed) balance_journal (report_text balance_report);
+    words_are = refl;
+    shelf = refl;
+    opened = refl;
+    faults = record { reads = λ rose. omega (arith, rose); writes = λ rose. omega (arith, rose); prints = λ rose. omega (arith, rose) };
+    valid = call_valid words (Replay (codes "net") (codes "j")) replayed (call_of words (after (codes "x") replayed) balance_journal (report_text balance_report)).work refl refl refl asks refl (replay_valid words);
+    ends = inr (record {
+      text = report_text balance_report;
+      says = inr (inl (record {
+        name = codes "net";
+        kept = codes "j";
+        asks = asks;
+        report = balance_report;
+        replayed = record {
+          bytes = journal_bytes;
+          is_journal = journal_is;
+          plan = balance;
+          components = balance_components;
+          ready = ready (journal_file ∷ []);
+          last = balance_last;
+          schedule = scheduled;
+          tells = balance_told;
+        };
+        text_is = refl;
+        status_is = refl;
+      }));
+      printed = refl;
+    });
+  }
+
+  runs : (kept : Option Name) (workers : ℕ) → CanMeet (run_of (record { net = codes "net"; journal = kept; workers = workers })) ran
+  runs kept workers words asks = record {
+    call = call_of words (after_run kept) balance_journal (report_text balance_report);
+    words_are = refl;
+    shelf = refl;
+    opened = refl;
+    faults = record { reads = λ rose. omega (arith, rose); writes = λ rose. omega (arith, rose); prints = λ rose. omega (arith, rose) };
+    valid = call_valid words (Run (codes "net") kept workers) ran (call_of words (after_run kept) balance_journal (report_text balance_report)).work refl refl refl asks refl (run_valid words (Run (codes "net") kept workers) asks refl);
+    ends = inl (
+      record { net = codes "net"; journal = kept; workers = workers },
+      asks,
+      record {
+        report = balance_report;
+        whole = record {
+          plan = balance;
+          last = balance_last;
+          middle = after (codes "x") ran;
+          run = record {
+            components = balance_components;
+            ready = ready [];
+            run = record { schedule = scheduled; quiet = balance_quiet; robin = λ none. balance_robin };
+            writable = is_file.writable;
+          };
+          writes = record { writes = refl; files = refl };
+          tells = balance_told;
+        };
+        printed = refl;
+        status = refl;
+      },
+    );
+  }
+
+  -- What the top calls ask before they promise to come to their end can be had.
+  pub met : PremisesAreMet
+  met = record { schedule = has_schedule; journal_is = refl; replay = replays; run = runs; check = checks; judge = judges; asks_replay = replay_asked; asks_run = run_asked; asks_check = check_asked; asks_judge = judge_asked }

@@ -1,0 +1,5 @@
+use Rattle.flow_witness.proofs.Worked.{met}
+use Rattle.flow_witness.proofs.complete.the_premises_of_completeness_are_met.Goals as goal
+
+pub returns : goal.returns
+returns c = met c.a_valid_plan_is_ready.ensures.starts c.every_schedule_keeps_the_packets.ensures.prefixes

@@ -1,0 +1,120 @@
+-- That what the top calls ask before they promise to come to their end can be had: calls over files that are told, of a network whose LoadBalance sees levels.
+use Rattle.std.specs.Prelude.{◌≡◌, ℕ, true, List, [], ◌∷◌, ◌++◌, replicate, map, codes, Option, Some, None, String, if◌then◌else◌}
+use Rattle.std.specs.Str.{bytes_eq}
+use Rattle.std.specs.declared.alloc.Global.{Global}
+use Rattle.flow_text.specs.Edge.{Outside, Name, Files}
+use Rattle.flow_plan.specs.declared.kind.PortClass.TheVariants.{Stream}
+use Rattle.flow_plan.specs.declared.plan.Connection.{Connection}
+use Rattle.flow_plan.specs.declared.plan.PortTable.{PortTable}
+use Rattle.flow_plan.specs.Network.{Network}
+use Rattle.flow_words.specs.Words.{Asked, run_of, Run, Check, Judge, Replay, command_of}
+use Rattle.flow_journal.specs.declared.merge.Journal.{Journal}
+use Rattle.flow_cli.specs.Step.{Filled, whole}
+use Rattle.flow_cli.specs.Reads.{Asks}
+use Rattle.flow_cli.specs.Top.{Call, ComesToEnd, HasSchedule, IsValid, NoFaults}
+use Rattle.flow_witness.specs.Chain.{plain_row, reader_of}
+use Rattle.flow_witness.specs.Ends.{reader_ports}
+
+-- The network file: a reader of the file x, a LoadBalance of two outputs, and two processes that drop what they get.
+abbrev pub network_bytes : List ℕ
+network_bytes = codes "flow 1\n'x' -> FILE R(ReadLines)\nR OUT -> IN L(LoadBalance)\nL OUT[0] -> IN A(Discard)\nL OUT[1] -> IN B(Discard)\n"
+
+-- The reader's file: one line.
+abbrev pub input_bytes : List ℕ
+input_bytes = codes "a\n"
+
+-- A connection of the capacity 10, from an output of a process to input 0 of another.
+abbrev pub balance_link : ℕ → ℕ → ℕ → Connection
+balance_link sender output receiver = record { receiver = receiver; input = 0; capacity = 10; senders = record { process = sender; output = output } ∷ [] }
+
+-- The ports of a process that drops what it gets.
+abbrev pub discard_ports : PortTable
+discard_ports = record { inputs = plain_row (codes "IN") Stream ∷ []; outputs = [] }
+
+-- The plan of the network file.
+abbrev pub balance : Network
+balance = record {
+  processes =
+      reader_of (codes "R") (codes "x")
+      ∷ record { name = codes "L"; kind = codes "LoadBalance"; options = []; initials = []; inputs = 1; outputs = 2 }
+      ∷ record { name = codes "A"; kind = codes "Discard"; options = []; initials = []; inputs = 1; outputs = 0 }
+      ∷ record { name = codes "B"; kind = codes "Discard"; options = []; initials = []; inputs = 1; outputs = 0 }
+      ∷ [];
+  connections = balance_link 0 0 1 ∷ balance_link 1 0 2 ∷ balance_link 1 1 3 ∷ [];
+  tables =
+      reader_ports
+      ∷ record { inputs = plain_row (codes "IN") Stream ∷ []; outputs = record { spec = record { name = codes "OUT"; class = Stream; array = true; needed = true }; elements = 2 } ∷ [] }
+      ∷ discard_ports
+      ∷ discard_ports
+      ∷ [];
+}
+
+-- A journal of it: five turns of the reader; ten of the LoadBalance, two of which see how full an output is; five of the process that gets the line; and one of the other.
+abbrev pub balance_journal : Journal
+balance_journal = record { turns = replicate 5 0 ++ (replicate 10 1 ++ (replicate 5 2 ++ 3 ∷ [])); seen = 0 ∷ 0 ∷ [] }
+
+-- The journal's file: its name, the numbers of turns and of seen numbers in four bytes each, the turns in a byte each, the seen numbers in two bytes each.
+abbrev pub journal_bytes : List ℕ
+journal_bytes = codes "FLOWJ001" ++ (21 ∷ 0 ∷ 0 ∷ 0 ∷ 2 ∷ 0 ∷ 0 ∷ 0 ∷ []) ++ ((replicate 5 0 ++ (replicate 10 1 ++ (replicate 5 2 ++ 3 ∷ []))) ++ (0 ∷ 0 ∷ 0 ∷ 0 ∷ []))
+
+-- The three files by their names.
+abbrev pub network_file : Filled
+network_file = (codes "net", network_bytes)
+
+-- The file of the reader.
+abbrev pub input_file : Filled
+input_file = (codes "x", input_bytes)
+
+-- The file of the journal.
+abbrev pub journal_file : Filled
+journal_file = (codes "j", journal_bytes)
+
+-- What the shelf holds: these files and no others.
+abbrev pub held_files : Files
+held_files name =
+    if bytes_eq name (codes "net") then Some network_bytes else (if bytes_eq name (codes "x") then Some input_bytes else (if bytes_eq name (codes "j") then Some journal_bytes else None))
+
+-- The shelf, which tells what it holds, before anything was read.
+abbrev pub shelf_before : Outside
+shelf_before = record {
+  open_name = None;
+  left = None;
+  read_faults = 0;
+  last_read_fault = None;
+  created_name = None;
+  taken = None;
+  write_faults = 0;
+  last_write_fault = None;
+  files = Some held_files;
+  opened = [];
+  created = [];
+}
+
+-- A call over this shelf with these words in which all premises hold: no count of faults rose, and what was read, these files, is valid. It came to its end.
+pub record MeetsPremises (words : List (String Global)) (read : List Filled) : Type 0 where
+  pub call : Call
+  pub words_are : call.work.words ≡ words
+  pub shelf : call.work.before ≡ shelf_before
+  pub opened : call.work.after.opened ≡ map whole read
+  pub faults : NoFaults call
+  pub valid : IsValid call.work
+  pub ends : ComesToEnd call
+
+-- Whatever the words are that ask for this, there is such a call with them.
+abbrev pub CanMeet : Asked → List Filled → Type 0
+CanMeet asked read = (words : List (String Global)) → Asks words asked → MeetsPremises words read
+
+-- What the top calls ask before they promise to come to their end can be had of each form that has a network file, on files that are told, and calls that have it come to their end. The
+-- journal's file, whose level turns saw numbers, holds a schedule of the network on what its reader's file gave, whatever components there are on that.
+pub record PremisesAreMet : Type 0 where
+  pub schedule : HasSchedule (map whole (network_file ∷ journal_file ∷ input_file ∷ [])) balance journal_bytes
+  pub journal_is : schedule.journal ≡ balance_journal
+  pub replay : CanMeet (Replay (codes "net") (codes "j")) (network_file ∷ journal_file ∷ input_file ∷ [])
+  pub run : (kept : Option Name) (workers : ℕ) → CanMeet (run_of (record { net = codes "net"; journal = kept; workers = workers })) (network_file ∷ input_file ∷ [])
+  pub check : CanMeet (Check (codes "net")) (network_file ∷ [])
+  pub judge : CanMeet (Judge (codes "net")) (network_file ∷ [])
+  -- Such words there are: of each form these texts.
+  pub asks_replay : command_of (codes "--replay" ∷ codes "j" ∷ codes "net" ∷ []) ≡ Some (Replay (codes "net") (codes "j"))
+  pub asks_run : command_of (codes "net" ∷ []) ≡ Some (Run (codes "net") None 0)
+  pub asks_check : command_of (codes "--check" ∷ codes "net" ∷ []) ≡ Some (Check (codes "net"))
+  pub asks_judge : command_of (codes "--determinate" ∷ codes "net" ∷ []) ≡ Some (Judge (codes "net"))

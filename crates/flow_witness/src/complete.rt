@@ -1,0 +1,15 @@
+//! That what the top calls ask before they promise to come to their end can be had.
+ghost use Rattle.flow_witness.specs.Complete.{PremisesAreMet};
+
+use flow_catalogue::Std;
+use flow_model::{a_valid_plan_is_ready, every_schedule_keeps_the_packets};
+
+/// For a run, a check, a judge and a replay of a network with a LoadBalance there are calls, over a shelf that tells what it holds, in which
+/// no count of faults rises and what is read is valid, and which come to their end. The replay's journal, whose level turns saw numbers, is a
+/// schedule of the network on its reader's one line.
+pub fn the_premises_of_completeness_are_met()
+    ensures { PremisesAreMet }
+{
+    a_valid_plan_is_ready::<Std>();
+    every_schedule_keeps_the_packets::<Std>();
+}
