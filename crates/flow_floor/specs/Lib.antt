@@ -1,6 +1,7 @@
 pub mod Seats
 pub mod Made
 pub mod Wired
+pub mod Ahead
 pub mod Law
 pub mod Turning
 pub mod Waking
