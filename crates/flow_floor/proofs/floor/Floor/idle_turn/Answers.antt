@@ -55,4 +55,4 @@ give_back_waking_senders-requires-clause-senders g c = let h = c.in-Got.ensures.
     omega (arith, ap senders_in word, h.senders, (signalled-left c.in-Some.connection c.in-Got.channel c.signal_as-stamp.new.channel s.channel).1)
 
 pub signal_as-stamp-requires-clause-first : goal.signal_as-stamp-requires-clause-first
-signal_as-stamp-requires-clause-first g c = unturned-grabbing _ _ _ _ _ _ c.in-Got.ensures.1.view
+signal_as-stamp-requires-clause-first g c = unturned-grabbing (view c.look_idle.new.worker) (view c.grab.new.worker) _ _ _ _ c.in-Got.ensures.1.view

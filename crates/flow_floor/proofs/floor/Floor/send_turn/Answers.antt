@@ -43,4 +43,4 @@ give_back_waking_receiver-requires-clause-level g c = let h = c.in-Got.ensures.1
     omega (arith, ap level_in word, h.level, sent-longer c.args.port.0 c.args.connection (packet_wished c.args.held.now.body.process) c.in-Got.channel c.send_as-stamp.new.channel s.channel)
 
 pub send_as-stamp-requires-clause-first : goal.send_as-stamp-requires-clause-first
-send_as-stamp-requires-clause-first g c = unturned-grabbing _ _ _ _ _ _ c.in-Got.ensures.1.view
+send_as-stamp-requires-clause-first g c = unturned-grabbing (view c.args.worker.now) (view c.grab.new.worker) _ _ _ _ c.in-Got.ensures.1.view
