@@ -7,6 +7,7 @@ pub mod Turning
 pub mod Waking
 pub mod Sending
 pub mod Rule
+pub mod Still
 pub mod Views
 pub mod Plays
 pub mod Workers
