@@ -67,13 +67,13 @@ module _ {K : Type 0} (rules : Rules K) (n : ℕ) (start : NetValue K) where
   wired-came m h h' w w' (turned.Over over) is wired = subst (λ (x : Held K). IsWiredIn m x.body) (sym is.0.0) wired
 
   -- The turn of a stamp that a seat made is that of the body that its process has become.
-  pub machine-of : (o : NetValue K) (f : BodyValue K → BodyValue K) (e : Event) (r p : ℕ) (b d : BodyValue K) (held : Option (ℕ × BodyValue K)) → o ≡ start → held ≡ Some (p, b) → f b ≡ d → MachineTurnOf rules o r f e held → MachineTurn rules start r p d e
-  machine-of o f e r p b d held opened is after turn =
-      subst (λ (z : NetValue K). MachineTurn rules z r p d e) opened (subst (λ (x : BodyValue K). MachineTurn rules o r p x e) after (subst (MachineTurnOf rules o r f e) is turn))
+  pub machine-of : (o : NetValue K) (made : List (ℕ × ℕ)) (f : BodyValue K → BodyValue K) (e : Event) (r p : ℕ) (b d : BodyValue K) (held : Option (ℕ × BodyValue K)) → o ≡ start → held ≡ Some (p, b) → f b ≡ d → MachineTurnOf rules o made r f e held → MachineTurn rules start made r p d e
+  machine-of o made f e r p b d held opened is after turn =
+      subst (λ (z : NetValue K). MachineTurn rules z made r p d e) opened (subst (λ (x : BodyValue K). MachineTurn rules o made r p x e) after (subst (MachineTurnOf rules o made r f e) is turn))
 
   -- A turn at a connection that was grabbed and given back.
   pub made-at : (z : TableId) (h h' : Held K) (w grabbed stamped given w' : Worker K) (c m most word r : ℕ) (k : ChannelShown) (notes : List ℕ) (e : Event) (f : BodyValue K → BodyValue K) → HasGrabbed rules w grabbed m c most word k → IsGrabbing rules z n grabbed h c k
-      → view stamped ≡ stamping (view grabbed) r e f → view given ≡ releasing (view stamped) notes → (view w').made ≡ (view given).made → h'.process ≡ h.process → BodyTurn h.body e r h'.body → MachineTurn rules start r h.process h.body e
+      → view stamped ≡ stamping (view grabbed) r e f → view given ≡ releasing (view stamped) notes → (view w').made ≡ (view given).made → h'.process ≡ h.process → BodyTurn h.body e r h'.body → MachineTurn rules start (view grabbed).made r h.process h.body e
       → Below r (view grabbed).made → ToldLevel n h.body (view w) (view w') e → IsMade rules n start h w h' w' r
   made-at z h h' w grabbed stamped given w' c m most word r k notes e f has q stamp give same process turn machine above told =
       let before : (view grabbed).made ≡ (view w).made = ap (λ (v : View K). v.made) has.view in
@@ -81,7 +81,7 @@ module _ {K : Type 0} (rules : Rules K) (n : ℕ) (start : NetValue K) where
         process = process;
         event = e;
         turn = turn;
-        machine = machine;
+        machine = subst (λ (xs : List (ℕ × ℕ)). MachineTurn rules start xs r h.process h.body e) before machine;
         made = same ∙ ap (λ (v : View K). v.made) give ∙ ap (λ (v : View K). v.made) stamp ∙ ap (λ (x : Option (ℕ × BodyValue K)). (view grabbed).made ++ turn_of r x) q.agrees.held ∙ ap (λ (xs : List (ℕ × ℕ)). xs ++ (r, h.process) ∷ []) before;
         above = subst (Below r) before above;
         level = told;
@@ -90,14 +90,14 @@ module _ {K : Type 0} (rules : Rules K) (n : ℕ) (start : NetValue K) where
   -- A turn that took a packet from the automatic input, after looks.
   pub made-signalled : (z : TableId) (h h' : Held K) (u w grabbed stamped given w' : Worker K) (c m most word r : ℕ) (k : ChannelShown) (notes : List ℕ) (f : BodyValue K → BodyValue K) → (view w).made ≡ (view u).made → HasGrabbed rules w grabbed m c most word k → IsGrabbing rules z n grabbed h c k
       → view stamped ≡ stamping (view grabbed) r (signalled_event c k.packets) f → view given ≡ releasing (view stamped) notes → (view w').made ≡ (view given).made → h'.process ≡ h.process → BodyTurn h.body (signalled_event c k.packets) r h'.body
-      → MachineTurn rules start r h.process h.body (signalled_event c k.packets) → Below r (view grabbed).made → IsMade rules n start h u h' w' r
+      → MachineTurn rules start (view grabbed).made r h.process h.body (signalled_event c k.packets) → Below r (view grabbed).made → IsMade rules n start h u h' w' r
   made-signalled z h h' u w grabbed stamped given w' c m most word r k notes f looked has q stamp give same process turn machine above =
       let before : (view grabbed).made ≡ (view u).made = ap (λ (v : View K). v.made) has.view ∙ looked in
       record {
         process = process;
         event = signalled_event c k.packets;
         turn = turn;
-        machine = machine;
+        machine = subst (λ (xs : List (ℕ × ℕ)). MachineTurn rules start xs r h.process h.body (signalled_event c k.packets)) before machine;
         made = same ∙ ap (λ (v : View K). v.made) give ∙ ap (λ (v : View K). v.made) stamp ∙ ap (λ (x : Option (ℕ × BodyValue K)). (view grabbed).made ++ turn_of r x) q.agrees.held ∙ ap (λ (xs : List (ℕ × ℕ)). xs ++ (r, h.process) ∷ []) before;
         above = subst (Below r) before above;
         level = told-signalled n h.body (view u) (view w') c k.packets;
@@ -105,12 +105,12 @@ module _ {K : Type 0} (rules : Rules K) (n : ℕ) (start : NetValue K) where
 
   -- A turn at no connection.
   pub made-alone : (z : TableId) (h h' : Held K) (w looked w' : Worker K) (r : ℕ) (e : Event) (f : BodyValue K → BodyValue K) → IsHeldBy rules z n looked h → (view looked).made ≡ (view w).made → view w' ≡ stamping (view looked) r e f → h'.process ≡ h.process
-      → BodyTurn h.body e r h'.body → MachineTurn rules start r h.process h.body e → Below r (view looked).made → ToldLevel n h.body (view w) (view w') e → IsMade rules n start h w h' w' r
+      → BodyTurn h.body e r h'.body → MachineTurn rules start (view looked).made r h.process h.body e → Below r (view looked).made → ToldLevel n h.body (view w) (view w') e → IsMade rules n start h w h' w' r
   made-alone z h h' w looked w' r e f q before stamp process turn machine above told = record {
     process = process;
     event = e;
     turn = turn;
-    machine = machine;
+    machine = subst (λ (xs : List (ℕ × ℕ)). MachineTurn rules start xs r h.process h.body e) before machine;
     made = ap (λ (v : View K). v.made) stamp ∙ ap (λ (x : Option (ℕ × BodyValue K)). (view looked).made ++ turn_of r x) q.agrees.held ∙ ap (λ (xs : List (ℕ × ℕ)). xs ++ (r, h.process) ∷ []) before;
     above = subst (Below r) before above;
     level = told;

@@ -40,7 +40,8 @@ use Rattle.flow_floor.proofs.Numbers.{contains-none}
 use Rattle.flow_floor.proofs.Shutting.{same-lists}
 use Rattle.flow_floor.proofs.Seats.{St, get-exists, get-within}
 use Rattle.flow_floor.proofs.Ends.{closes}
-use Rattle.flow_floor.proofs.Quiet.{quiet-at-zero, free-at-zero, parked-at-zero}
+use Rattle.flow_floor.specs.Still.{IsStill, IsAllStill}
+use Rattle.flow_floor.proofs.Quiet.{quiet-at-zero, free-at-zero, parked-at-zero, none-held-at-zero}
 
 over-still : {K : Type 0} (channels : List ChannelShown) (b : BodyValue K) (stage : Stage) → b.process.stage ≡ stage → IsOverStage stage → IsThoughtStage stage × ((m : ℕ) → event_from (looks_of channels) b.process m ≡ None)
 over-still channels b stages.Ended at over = (tt, λ m. ap (stage_event (looks_of channels) b.process m) at)
@@ -201,3 +202,18 @@ module _ {K : Type 0} (rules : Rules K) (start : NetValue K) where
       thought : (p : ℕ) (b : BodyValue K) → slice_get c.now.bodies p ≡ Some b → (get_or ws p 0 ≡ 0) ⊎ IsOverStage b.process.stage → IsThoughtStage b.process.stage
       thought p b there (inl parked) = c.thought zero_read p b there parked
       thought p b there (inr over) = (over-still c.now.channels b b.process.stage refl over).0
+
+  -- Where some seat has read 0, nobody has anything to do.
+  pub still-at-zero : (s : St K) (r : Law rules start s) (j : ℕ) (v : View K) → get_elem? s.views j ≡ some v → v.read_zero ≡ true → IsAllStill s.words s.views r.beside.now
+  still-at-zero s r j v at zero = record { idle = λ i u there. none-held-at-zero rules start s r live i u there; still = λ q b there. by q b there (free-at-zero rules start s r live q b there) }
+    where
+      live : get_or s.words (length start.bodies + length start.channels + 1) 0 ≡ 0
+      live = (r.wakes.each j v at).zero zero
+
+      done : (q : ℕ) (b : BodyValue K) → IsDoneWord (get_or s.words q 0) → IsRetired b → IsStill r.beside.now b ⊎ (IsDoneWord (get_or s.words q 0) × IsUnset b)
+      done q b is (inl over) = inl (over-still r.beside.now.channels b b.process.stage refl over)
+      done q b is (inr unset) = inr (is, unset)
+
+      by : (q : ℕ) (b : BodyValue K) → slice_get r.beside.now.bodies q ≡ Some b → (get_or s.words q 0 ≡ 0) ⊎ IsDoneWord (get_or s.words q 0) → IsStill r.beside.now b ⊎ (IsDoneWord (get_or s.words q 0) × IsUnset b)
+      by q b there (inl parked) = inl (parked-at-zero rules start s r live q b there parked)
+      by q b there (inr is) = done q b is (r.done q b there is)

@@ -27,8 +27,8 @@ use Rattle.flow_floor.specs.declared.board.Slot.{Slot}
 use Rattle.flow_floor.specs.declared.board.Slot.TheVariants as slot
 use Rattle.flow_floor.specs.declared.board.View.{View}
 use Rattle.flow_floor.specs.Seats.{newcomer}
-use Rattle.flow_floor.specs.Law.{IsOver, Stands, Lies, Knows, Beside}
-use Rattle.flow_floor.specs.Wired.{Receives}
+use Rattle.flow_floor.specs.Law.{Stands, Lies, Knows, Beside}
+use Rattle.flow_floor.proofs.Aheads.{ahead-same}
 use Rattle.flow_floor.specs.Made.{numbered, merge, renamed}
 use Rattle.flow_floor.specs.Waking.{counts, live_in, IsNoted, AllBlock, Keeps}
 use Rattle.flow_floor.specs.Rule.{Law}
@@ -170,13 +170,13 @@ module _ {K : Type 0} (rules : Rules K) (start : NetValue K) where
       at-home p b None k = k.1
       at-home p b (Some j) k = absurd (let z : None ≡ Some (p, b) = sym (none_of j k.1.0 k.1.1) ∙ k.1.2 in cc)
 
-      channel-home : (c : ℕ) (k : ChannelShown) (h : Option ℕ) → Lies s P c k h → get_elem? s.homes (P + c) ≡ some (some (slot.Channel k))
+      channel-home : (c : ℕ) (k : ChannelShown) (h : Option ℕ) → Lies rules s P c k h → get_elem? s.homes (P + c) ≡ some (some (slot.Channel k))
       channel-home c k None l = l.1
-      channel-home c k (Some j) (u, u_at, grab, is, small, differs, over) = absurd (let z : None ≡ Some (c, k) = sym ((seen.0.flow.each_seat j u u_at).idle (none_of j u u_at)) ∙ grab in cc)
+      channel-home c k (Some j) (u, u_at, grab, is, small, ahead) = absurd (let z : None ≡ Some (c, k) = sym ((seen.0.flow.each_seat j u u_at).idle (none_of j u u_at)) ∙ grab in cc)
 
   -- Each seat is still there, and holds, noted and grabbed what it did.
   abbrev Remap : St K → List (View K) → Type 0
-  Remap s vs = (j : ℕ) (u : View K) → get_elem? s.views j ≡ some u → (x : View K) × (get_elem? vs j ≡ some x) × (x.held ≡ u.held) × (x.grab ≡ u.grab) × ((y : ℕ × ChannelShown) → u.grab ≡ Some y → x.word ≡ u.word) × (x.noted ≡ u.noted)
+  Remap s vs = (j : ℕ) (u : View K) → get_elem? s.views j ≡ some u → (x : View K) × (get_elem? vs j ≡ some x) × (x.held ≡ u.held) × (x.grab ≡ u.grab) × ((y : ℕ × ChannelShown) → u.grab ≡ Some y → (x.word ≡ u.word) × (x.found ≡ u.found) × (x.made ≡ u.made)) × (x.noted ≡ u.noted)
 
   law-views : (s : St K) (r : Rule s) (vs : List (View K)) (by : List ℕ) → Remap s vs → length by ≡ length r.beside.log → All (λ (j : ℕ). j < length vs) by
       → ((j : ℕ) (u : View K) → get_elem? vs j ≡ some u → Knows r.beside.holder r.beside.grabber r.beside.now P (turns_made start) by r.beside.log j u)
@@ -227,21 +227,18 @@ module _ {K : Type 0} (rules : Rules K) (start : NetValue K) where
       stands p b None k = k
       stands p b (Some j) k = let x = remap j k.1.0 k.1.1 in (k.0, (x.0, x.1, x.2 ∙ k.1.2))
 
-      lies : (c : ℕ) (k : ChannelShown) (h : Option ℕ) → Lies s P c k h → Lies (state s.words s.homes vs) P c k h
+      lies : (c : ℕ) (k : ChannelShown) (h : Option ℕ) → Lies rules s P c k h → Lies rules (state s.words s.homes vs) P c k h
       lies c k None l = l
-      lies c k (Some j) (u, u_at, grab, is, small, differs, over) =
+      lies c k (Some j) (u, u_at, grab, is, small, ahead) =
           let x = remap j u u_at in
-          let word : x.0.word ≡ u.word = x.4 (c, k) grab in (
+          let same = x.4 (c, k) grab in
+          let word : x.0.word ≡ u.word = same.0 in (
             x.0,
             x.1,
             x.3 ∙ grab,
             is ∙ ap (λ m. m + held_bit) (sym word),
             subst (λ m. m < free_limit) (sym word) small,
-            elim differs [
-              | inl le ↦ inl (subst (λ m. level_in m ≤ length k.packets) (sym word) le)
-              | inr own ↦ inr (subst (λ (h : Option (ℕ × BodyValue K)). Receives h c) (sym x.2) own)
-            ],
-            subst (λ m. level_in m ≡ 0 → senders_in m ≡ 0 → IsOver k) (sym word) over,
+            ahead-same rules u x.0 c k x.2 word same.1 same.2 ahead,
           )
 
   -- a seat is cut in two
@@ -257,8 +254,8 @@ module _ {K : Type 0} (rules : Rules K) (start : NetValue K) where
       law-views s r vs r.beside.by
       (λ j u u_at. dite (ℕ_discrete j id)
       (λ e. (let same : v ≡ u = some-injective v u (sym at ∙ ap (get_elem? s.views) (sym e) ∙ u_at) in
-      (cut v, at_longer vs1 (newcomer 1 ∷ []) j (cut v) (ap (get_elem? vs1) e ∙ set_here s.views id (cut v) inside_id), ap (λ (x : View K). x.held) same, ap (λ (x : View K). x.grab) same, (λ y g. ap (λ (x : View K). x.word) same), ap (λ (x : View K). x.noted) same)))
-      (λ other. (u, at_longer vs1 (newcomer 1 ∷ []) j u (set_else s.views id j (cut v) other ∙ u_at), refl, refl, (λ y g. refl), refl)))
+      (cut v, at_longer vs1 (newcomer 1 ∷ []) j (cut v) (ap (get_elem? vs1) e ∙ set_here s.views id (cut v) inside_id), ap (λ (x : View K). x.held) same, ap (λ (x : View K). x.grab) same, (λ y g. (ap (λ (x : View K). x.word) same, ap (λ (x : View K). x.found) same, ap (λ (x : View K). x.made) same)), ap (λ (x : View K). x.noted) same)))
+      (λ other. (u, at_longer vs1 (newcomer 1 ∷ []) j u (set_else s.views id j (cut v) other ∙ u_at), refl, refl, (λ y g. (refl, refl, refl)), refl)))
       r.flow.seats (All-weaker (λ (j : ℕ). j < length s.views) (λ (j : ℕ). j < length vs) (λ j low. omega (arith, low, len1, len)) r.beside.by r.flow.inside)
       (λ j u u_at. elim (at_end vs1 (newcomer 1) u j u_at) [
         | inl here ↦ dite (ℕ_discrete j id)
@@ -311,7 +308,7 @@ module _ {K : Type 0} (rules : Rules K) (start : NetValue K) where
       law-views s r vs by
       (λ j u u_at. dite (ℕ_discrete j id)
       (λ e. (let same : v ≡ u = some-injective v u (sym at ∙ ap (get_elem? s.views) (sym e) ∙ u_at) in
-      (both, ap (get_elem? vs) e ∙ here, ap (λ (x : View K). x.held) same, ap (λ (x : View K). x.grab) same, (λ y gr. ap (λ (x : View K). x.word) same), ap (λ (x : View K). x.noted) same)))
+      (both, ap (get_elem? vs) e ∙ here, ap (λ (x : View K). x.held) same, ap (λ (x : View K). x.grab) same, (λ y gr. absurd (let z : None ≡ Some y = sym (k.idle idle) ∙ ap (λ (x : View K). x.grab) same ∙ gr in cc)), ap (λ (x : View K). x.noted) same)))
       (λ not_id. dite (ℕ_discrete j other)
       (λ e. (let same : w ≡ u = some-injective w u (sym w_at ∙ ap (get_elem? s.views) (sym e) ∙ u_at) in (
         bare,
@@ -321,7 +318,7 @@ module _ {K : Type 0} (rules : Rules K) (start : NetValue K) where
         (λ y gr. absurd (let z : None ≡ Some y = sym (kw.idle w_idle) ∙ ap (λ (x : View K). x.grab) same ∙ gr in cc)),
         sym (kws.noted w_idle) ∙ ap (λ (x : View K). x.noted) same,
       )))
-      (λ not_other. (u, else_at j not_id not_other ∙ u_at, refl, refl, (λ y gr. refl), refl))))
+      (λ not_other. (u, else_at j not_id not_other ∙ u_at, refl, refl, (λ y gr. (refl, refl, refl)), refl))))
       (length-renamed other id g.by ∙ r.flow.seats) (below-renamed other id (length vs) g.by (omega (arith, inside_id, len)) (All-weaker (λ (j : ℕ). j < length s.views) (λ (j : ℕ). j < length vs) (λ j low. omega (arith, low, len)) g.by r.flow.inside))
       (λ j u u_at. dite (ℕ_discrete j id)
       (λ e. (let same : both ≡ u = some-injective both u (sym here ∙ ap (get_elem? vs) (sym e) ∙ u_at) in

@@ -8,7 +8,6 @@ use Rattle.flow_component.specs.Laws.{Rules, Lawful}
 use Rattle.flow_model.specs.Events.{Event, event_from}
 use Rattle.flow_model.specs.Stands.{ChannelShown, shown_after, all_shown_after}
 use Rattle.flow_model.proofs.Lists.{slice_get-set_same, slice_get-set_other, same_or_not}
-use Rattle.flow_model.proofs.Order.{inputs-after, signal-after}
 use Rattle.flow_machine.specs.Values.{BodyValue, NetValue}
 use Rattle.flow_machine.specs.Nets.{looks_of}
 use Rattle.flow_machine.specs.Logs.{turns_made}
@@ -19,18 +18,16 @@ use Rattle.flow_ring.specs.Words.{free_word, held_bit, level_in, senders_in, fre
 use Rattle.flow_floor.specs.declared.board.Slot.TheVariants as slot
 use Rattle.flow_floor.specs.declared.board.View.{View}
 use Rattle.flow_floor.specs.declared.board.Look.{Look}
-use Rattle.flow_floor.specs.Law.{IsTaken, IsFree, IsOver, Rests, Stands, Lies, SeenTrue, AllSeen, Holds, Grabs, Knows, Beside, Flow}
+use Rattle.flow_floor.specs.Law.{IsTaken, IsFree, Rests, Stands, Lies, SeenTrue, AllSeen, Holds, Grabs, Knows, Beside, Flow}
 use Rattle.flow_floor.specs.Made.{turns_by}
-use Rattle.flow_floor.specs.Wired.{Receives}
-use Rattle.flow_floor.specs.Turning.{turned_body, with_body, turned_net, logged, grab_after, At}
+use Rattle.flow_floor.specs.Ahead.{turned_body, found_by, IsUnturned, IsAhead}
+use Rattle.flow_floor.specs.Turning.{with_body, turned_net, logged, grab_after, At}
 use Rattle.std.proofs.lemmas.List.Elements.{All-push}
 use Rattle.flow_ring.proofs.Words.{level-of, senders-of}
 use Rattle.flow_floor.proofs.Seats.{put, put_here, put_else, at_inside, some_Some, get-exists, get-within, turns_by-mine, turns_by-else, St, state, seats_stay, stands_keep, lies_keep, seen_keep, knows_keep}
+use Rattle.flow_floor.proofs.Aheads.{channel-turned, ahead-same, ahead-unturned, ahead-turned}
 use Rattle.flow_floor.proofs.Channels.{SameInputs, input-same, channel-moves, one-receiver}
 use Rattle.flow_floor.proofs.Going.{turned, rest-fit, rest-count, rest-goes, turn-goes}
-
-receives-same : {K : Type 0} (h h' : Option (ℕ × BodyValue K)) (p c : ℕ) (b d : BodyValue K) → h ≡ Some (p, b) → h' ≡ Some (p, d) → SameInputs b d → Receives h c → Receives h' c
-receives-same {K} h h' p c b d is is' same r = subst (λ (x : Option (ℕ × BodyValue K)). Receives x c) (sym is') (input-same c d b (sym same.0, sym same.1) (subst (λ (x : Option (ℕ × BodyValue K)). Receives x c) is r))
 
 module _ {K : Type 0} (rules : Rules K) (lawful : Lawful rules)
     (start : NetValue K) where
@@ -72,9 +69,9 @@ module _ {K : Type 0} (rules : Rules K) (lawful : Lawful rules)
   same-pair {A} h x y a b = ap (λ (z : ℕ × A). z.0) (some_Some x y (sym a ∙ b))
 
   -- the work that was to come is in the list
-  pub flow-commit : (s : St K) (g : Beside K) (id p : ℕ) (v w : View K) (b d : BodyValue K) → F s g → get_elem? s.views id ≡ some v → v.held ≡ Some (p, b) → Rests rules b d
-      → w.held ≡ Some (p, d) → w.grab ≡ v.grab → w.word ≡ v.word → w.made ≡ v.made → w.seen ≡ v.seen → F (state s.words s.homes (set s.views id w)) (record g { now = with_body g.now p d })
-  flow-commit s g id p v w b d f at holds r held grab word_is made seen =
+  pub flow-commit : (s : St K) (g : Beside K) (id p : ℕ) (v w : View K) (b d : BodyValue K) → F s g → get_elem? s.views id ≡ some v → v.held ≡ Some (p, b) → Rests rules b d → IsUnturned v
+      → w.held ≡ Some (p, d) → w.grab ≡ v.grab → w.word ≡ v.word → w.found ≡ v.found → w.made ≡ v.made → w.seen ≡ v.seen → F (state s.words s.homes (set s.views id w)) (record g { now = with_body g.now p d })
+  flow-commit s g id p v w b d f at holds r first held grab word_is found made seen =
       let k = f.each_seat id v at in
       let mine = mine-holds s g id p v b f at holds in
       let now' = with_body g.now p d in
@@ -101,7 +98,7 @@ module _ {K : Type 0} (rules : Rules K) (lawful : Lawful rules)
               subst (λ (y : ℕ × BodyValue K). Stands (state s.words s.homes vs') y.0 y.1 (g.holder y.0)) (λ i. (sym same i, some_Some d x h i)) here)
           | inr other ↦ stands_keep s s.words s.homes id v w q x (g.holder q) at (λ z. z) (λ z. z) refl (λ e. absurd (other (same-pair v.held (q, x) (p, b) e holds))) (f.each_process q x (sym (slice_get-set_other g.now.bodies p q d other) ∙ is))
         ];
-        each_channel = λ c x is. lies_keep s P s.words s.homes id v w c x (g.grabber c) at refl refl (λ e. (grab ∙ e, word_is)) (λ _ z. receives-same v.held w.held p c b d holds held inputs z) (f.each_channel c x is);
+        each_channel = λ c x is. lies_keep rules s P s.words s.homes id v w c x (g.grabber c) at refl refl (λ e. (grab ∙ e, word_is)) (λ e z. ahead-unturned rules v w c x e first word_is found made z) (f.each_channel c x is);
         each_seat = seats_stay (Knows g.holder g.grabber now' P (turns_made start) g.by g.log) s.views id w
             (record {
               holds = subst (Holds g.holder now' id) (sym held) (mine.0, slice_get-set_same g.now.bodies p b d mine.1);
@@ -118,8 +115,8 @@ module _ {K : Type 0} (rules : Rules K) (lawful : Lawful rules)
   -- only the seat's notes and words that the first half of the rule doesn't read change
   pub flow-view : (s : St K) (g : Beside K) (id : ℕ) (v w : View K) (ws' : List ℕ) → F s g → get_elem? s.views id ≡ some v → length ws' ≡ length s.words
       → ((q : ℕ) → q < P → (IsFree (get_or s.words q 0) → IsFree (get_or ws' q 0)) × (IsTaken (get_or s.words q 0) → IsTaken (get_or ws' q 0))) → ((q : ℕ) → P ≤ q → q ≤ P + C → get_or ws' q 0 ≡ get_or s.words q 0)
-      → w.held ≡ v.held → w.grab ≡ v.grab → w.word ≡ v.word → w.made ≡ v.made → AllSeen P g.now w.held w.seen → F (state ws' s.homes (set s.views id w)) g
-  flow-view s g id v w ws' f at len process others held grab word_is made seen =
+      → w.held ≡ v.held → w.grab ≡ v.grab → w.word ≡ v.word → w.found ≡ v.found → w.made ≡ v.made → AllSeen P g.now w.held w.seen → F (state ws' s.homes (set s.views id w)) g
+  flow-view s g id v w ws' f at len process others held grab word_is found made seen =
       let k = f.each_seat id v at in
       record {
         fit = f.fit;
@@ -133,7 +130,7 @@ module _ {K : Type 0} (rules : Rules K) (lawful : Lawful rules)
         deep = f.deep;
         senders = f.senders;
         each_process = λ q x is. let t = process q (process-below s g q x f is) in stands_keep s ws' s.homes id v w q x (g.holder q) at t.0 t.1 refl (λ e. held ∙ e) (f.each_process q x is);
-        each_channel = λ c x is. let l = channel-below s g c x f is in lies_keep s P ws' s.homes id v w c x (g.grabber c) at (others (P + c) (omega arith) (omega arith)) refl (λ e. (grab ∙ e, word_is)) (λ _ z. subst (λ (y : Option (ℕ × BodyValue K)). Receives y c) (sym held) z) (f.each_channel c x is);
+        each_channel = λ c x is. let l = channel-below s g c x f is in lies_keep rules s P ws' s.homes id v w c x (g.grabber c) at (others (P + c) (omega arith) (omega arith)) refl (λ e. (grab ∙ e, word_is)) (λ _ z. ahead-same rules v w c x held word_is found made z) (f.each_channel c x is);
         each_seat = seats_stay (Knows g.holder g.grabber g.now P (turns_made start) g.by g.log) s.views id w
             (record {
               holds = subst (Holds g.holder g.now id) (sym held) k.holds;
@@ -177,7 +174,7 @@ module _ {K : Type 0} (rules : Rules K) (lawful : Lawful rules)
               subst (Stands (state ws' hs' vs') q x) (sym (put_else g.holder p (Some id) q other))
               (stands_keep s ws' hs' id v w q x (g.holder q) at (subst IsFree (sym word)) (subst IsTaken (sym word)) (set_else s.homes p q none other) (λ e. no-hold v.held (q, x) _ idle e) (f.each_process q x is)))
         ];
-        each_channel = λ c x is. lies_keep s P ws' hs' id v w c x (g.grabber c) at (get_or-set_other s.words p (P + c) y 0 (λ e. omega arith)) (set_else s.homes p (P + c) none (λ e. omega arith)) (λ e. no-grab v.grab (c, x) _ no_grab e) (λ e z. no-grab v.grab (c, x) _ no_grab e) (f.each_channel c x is);
+        each_channel = λ c x is. lies_keep rules s P ws' hs' id v w c x (g.grabber c) at (get_or-set_other s.words p (P + c) y 0 (λ e. omega arith)) (set_else s.homes p (P + c) none (λ e. omega arith)) (λ e. no-grab v.grab (c, x) _ no_grab e) (λ e z. no-grab v.grab (c, x) _ no_grab e) (f.each_channel c x is);
         each_seat = seats_stay (Knows holder' g.grabber g.now P (turns_made start) g.by g.log) s.views id w
             (record {
               holds = subst (Holds holder' g.now id) (sym held) (put_here g.holder p (Some id), there);
@@ -224,7 +221,7 @@ module _ {K : Type 0} (rules : Rules K) (lawful : Lawful rules)
               subst (Stands (state ws' hs' vs') q x) (sym (put_else g.holder p None q other))
               (stands_keep s ws' hs' id v w q x (g.holder q) at (subst IsFree (sym word)) (subst IsTaken (sym word)) (set_else s.homes p q home other) (λ e. absurd (other (same-pair v.held (q, x) (p, b) e holds))) (f.each_process q x is)))
         ];
-        each_channel = λ c x is. lies_keep s P ws' hs' id v w c x (g.grabber c) at (get_or-set_other s.words p (P + c) y 0 (λ e. omega arith)) (set_else s.homes p (P + c) home (λ e. omega arith)) (λ e. no-grab v.grab (c, x) _ no_grab e) (λ e z. no-grab v.grab (c, x) _ no_grab e) (f.each_channel c x is);
+        each_channel = λ c x is. lies_keep rules s P ws' hs' id v w c x (g.grabber c) at (get_or-set_other s.words p (P + c) y 0 (λ e. omega arith)) (set_else s.homes p (P + c) home (λ e. omega arith)) (λ e. no-grab v.grab (c, x) _ no_grab e) (λ e z. no-grab v.grab (c, x) _ no_grab e) (f.each_channel c x is);
         each_seat = seats_stay (Knows holder' g.grabber g.now P (turns_made start) g.by g.log) s.views id w
             (record {
               holds = subst (Holds holder' g.now id) (sym held) tt;
@@ -239,9 +236,9 @@ module _ {K : Type 0} (rules : Rules K) (lawful : Lawful rules)
 
   -- a connection that no seat holds is taken
   pub flow-grab : (s : St K) (g : Beside K) (id p c y : ℕ) (v w : View K) (b : BodyValue K) (k : ChannelShown) → F s g → get_elem? s.views id ≡ some v → v.held ≡ Some (p, b) → v.grab ≡ None → slice_get g.now.channels c ≡ Some k → g.grabber c ≡ None
-      → length k.packets < FIELD → y ≡ w.word + held_bit → w.word ≡ free_word (length k.packets) k.open_senders → w.held ≡ v.held → w.grab ≡ Some (c, k) → w.made ≡ v.made → AllSeen P g.now w.held w.seen
+      → length k.packets < FIELD → y ≡ w.word + held_bit → w.word ≡ free_word (length k.packets) k.open_senders → w.held ≡ v.held → w.grab ≡ Some (c, k) → w.found ≡ Some (found_by k v.made) → w.made ≡ v.made → AllSeen P g.now w.held w.seen
       → F (state (set s.words (P + c) y) (set s.homes (P + c) none) (set s.views id w)) (record g { grabber = put g.grabber c (Some id) })
-  flow-grab s g id p c y v w b k f at holds no_grab there free low word word_is held grab made seen =
+  flow-grab s g id p c y v w b k f at holds no_grab there free low word word_is held grab found made seen =
       let ks = f.each_seat id v at in
       let below = channel-below s g c k f there in
       let i : ℕ = P + c in
@@ -271,11 +268,12 @@ module _ {K : Type 0} (rules : Rules K) (lawful : Lawful rules)
               let few = f.senders c k there in
               let level : level_in w.word ≡ length k.packets = ap level_in word_is ∙ level-of (length k.packets) k.open_senders low few in
               let opens : senders_in w.word ≡ k.open_senders = ap senders_in word_is ∙ senders-of (length k.packets) k.open_senders low few in
-              let here : Lies (state ws' hs' vs') P c k (grabber' c) = subst (Lies (state ws' hs' vs') P c k) (sym (put_here g.grabber c (Some id)))
-              (w, set_here s.views id w inside_id, grab, get_or-set_same s.words i y 0 (omega arith) ∙ word, omega (arith, word_is, low, few), inl (omega (arith, level)), λ a b. (sym level ∙ a, sym opens ∙ b)) in
-              subst (λ (z : ℕ × ChannelShown). Lies (state ws' hs' vs') P z.0 z.1 (grabber' z.0)) (λ j. (sym same j, some_Some k x h j)) here)
-          | inr other ↦ (subst (Lies (state ws' hs' vs') P d x) (sym (put_else g.grabber c (Some id) d other))
-              (lies_keep s P ws' hs' id v w d x (g.grabber d) at (get_or-set_other s.words i (P + d) y 0 (λ e. other (omega arith))) (set_else s.homes i (P + d) none (λ e. other (omega arith))) (λ e. no-grab v.grab (d, x) _ no_grab e)
+              let ahead : IsAhead rules w c k = record { found = found_by k v.made; kept = found; level = level; senders = opens; differs = inl (made, refl) } in
+              let here : Lies rules (state ws' hs' vs') P c k (grabber' c) = subst (Lies rules (state ws' hs' vs') P c k) (sym (put_here g.grabber c (Some id)))
+              (w, set_here s.views id w inside_id, grab, get_or-set_same s.words i y 0 (omega arith) ∙ word, omega (arith, word_is, low, few), ahead) in
+              subst (λ (z : ℕ × ChannelShown). Lies rules (state ws' hs' vs') P z.0 z.1 (grabber' z.0)) (λ j. (sym same j, some_Some k x h j)) here)
+          | inr other ↦ (subst (Lies rules (state ws' hs' vs') P d x) (sym (put_else g.grabber c (Some id) d other))
+              (lies_keep rules s P ws' hs' id v w d x (g.grabber d) at (get_or-set_other s.words i (P + d) y 0 (λ e. other (omega arith))) (set_else s.homes i (P + d) none (λ e. other (omega arith))) (λ e. no-grab v.grab (d, x) _ no_grab e)
               (λ e z. no-grab v.grab (d, x) _ no_grab e) (f.each_channel d x is)))
         ];
         each_seat = seats_stay (Knows g.holder grabber' g.now P (turns_made start) g.by g.log) s.views id w
@@ -324,10 +322,10 @@ module _ {K : Type 0} (rules : Rules K) (lawful : Lawful rules)
             stands_keep s ws' hs' id v w q x (g.holder q) at (subst IsFree (sym other_word)) (subst IsTaken (sym other_word)) (set_else s.homes i q home (λ e. omega arith)) (λ e. held ∙ e) (f.each_process q x is);
         each_channel = λ d x is. elim (same_or_not d c) [
           | inl same ↦ (let h : Some k ≡ Some x = sym there ∙ ap (slice_get g.now.channels) (sym same) ∙ is in
-              let here : Lies (state ws' hs' vs') P c k (grabber' c) = subst (Lies (state ws' hs' vs') P c k) (sym (put_here g.grabber c None)) (get_or-set_same s.words i y 0 (omega arith) ∙ word, set_here s.homes i home (omega arith)) in
-              subst (λ (z : ℕ × ChannelShown). Lies (state ws' hs' vs') P z.0 z.1 (grabber' z.0)) (λ j. (sym same j, some_Some k x h j)) here)
-          | inr other ↦ (subst (Lies (state ws' hs' vs') P d x) (sym (put_else g.grabber c None d other))
-              (lies_keep s P ws' hs' id v w d x (g.grabber d) at (get_or-set_other s.words i (P + d) y 0 (λ e. other (omega arith))) (set_else s.homes i (P + d) home (λ e. other (omega arith))) (λ e. absurd (other (same-pair v.grab (d, x) (c, k) e grabs)))
+              let here : Lies rules (state ws' hs' vs') P c k (grabber' c) = subst (Lies rules (state ws' hs' vs') P c k) (sym (put_here g.grabber c None)) (get_or-set_same s.words i y 0 (omega arith) ∙ word, set_here s.homes i home (omega arith)) in
+              subst (λ (z : ℕ × ChannelShown). Lies rules (state ws' hs' vs') P z.0 z.1 (grabber' z.0)) (λ j. (sym same j, some_Some k x h j)) here)
+          | inr other ↦ (subst (Lies rules (state ws' hs' vs') P d x) (sym (put_else g.grabber c None d other))
+              (lies_keep rules s P ws' hs' id v w d x (g.grabber d) at (get_or-set_other s.words i (P + d) y 0 (λ e. other (omega arith))) (set_else s.homes i (P + d) home (λ e. other (omega arith))) (λ e. absurd (other (same-pair v.grab (d, x) (c, k) e grabs)))
               (λ e z. absurd (other (same-pair v.grab (d, x) (c, k) e grabs))) (f.each_channel d x is)))
         ];
         each_seat = seats_stay (Knows g.holder grabber' g.now P (turns_made start) g.by g.log) s.views id w
@@ -348,15 +346,12 @@ module _ {K : Type 0} (rules : Rules K) (lawful : Lawful rules)
   channel-other e cs None on there d other = ap (λ (x : List ChannelShown). slice_get x d) (on cs)
   channel-other e cs (Some grab) on there d other = ap (λ (x : List ChannelShown). slice_get x d) (all-on grab.0 cs grab.1 e on (there grab refl)) ∙ slice_get-set_other cs grab.0 d (shown_after e grab.1) (other grab refl)
 
-  channel-mine : (e : Event) (cs : List ChannelShown) (c : ℕ) (k : ChannelShown) → IsOn c e → slice_get cs c ≡ Some k → slice_get (all_shown_after e cs) c ≡ Some (shown_after e k)
-  channel-mine e cs c k on there = ap (λ (x : List ChannelShown). slice_get x c) (all-on c cs k e on there) ∙ slice_get-set_same cs c k (shown_after e k) there
-
   old-channel : (e : Event) (cs : List ChannelShown) (c : ℕ) (k' : ChannelShown) → slice_get (all_shown_after e cs) c ≡ Some k' → (k : ChannelShown) × (slice_get cs c ≡ Some k)
   old-channel e cs c k' is = get-exists cs c (omega (arith, get-within (all_shown_after e cs) c k' is, channels-len e cs))
 
   grabs-after : (e : Event) (g : Beside K) (id : ℕ) (now' : NetValue K) (h : Option (ℕ × ChannelShown)) → now'.channels ≡ all_shown_after e g.now.channels → At e h → Grabs g.grabber g.now id h → Grabs g.grabber now' id (grab_after e h)
   grabs-after e g id now' None channels on all = tt
-  grabs-after e g id now' (Some grab) channels on all = (all.0, ap (λ (cs : List ChannelShown). slice_get cs grab.0) channels ∙ channel-mine e g.now.channels grab.0 grab.1 on all.1)
+  grabs-after e g id now' (Some grab) channels on all = (all.0, ap (λ (cs : List ChannelShown). slice_get cs grab.0) channels ∙ channel-turned e g.now.channels grab.0 grab.1 on all.1)
 
   -- what the turn of another process leaves of what a seat saw
   seen-turn : (s : St K) (g : Beside K) (p q n : ℕ) (b x : BodyValue K) (e : Event) (look : Look) → F s g → slice_get g.now.bodies p ≡ Some b → event_from (looks_of g.now.channels) b.process n ≡ Some e → slice_get g.now.bodies q ≡ Some x → q ≢ p
@@ -374,10 +369,10 @@ module _ {K : Type 0} (rules : Rules K) (lawful : Lawful rules)
       )
 
   -- The turn takes effect where the clock is counted.
-  pub flow-stamp : (s : St K) (g : Beside K) (id p n m y : ℕ) (v w : View K) (b : BodyValue K) (e : Event) → F s g → get_elem? s.views id ≡ some v → v.held ≡ Some (p, b) → event_from (looks_of g.now.channels) b.process n ≡ Some e → At e v.grab
-      → m ≡ get_or s.words (P + C) 0 → y ≡ m + 1 → w.held ≡ Some (p, turned_body e m b) → w.grab ≡ grab_after e v.grab → w.word ≡ v.word → w.made ≡ v.made ++ (m, p) ∷ [] → w.seen ≡ []
+  pub flow-stamp : (s : St K) (g : Beside K) (id p n m y : ℕ) (v w : View K) (b : BodyValue K) (e : Event) → F s g → get_elem? s.views id ≡ some v → v.held ≡ Some (p, b) → event_from (looks_of g.now.channels) b.process n ≡ Some e → At e v.grab → IsUnturned v
+      → m ≡ get_or s.words (P + C) 0 → y ≡ m + 1 → w.held ≡ Some (p, turned_body e m b) → w.grab ≡ grab_after e v.grab → w.word ≡ v.word → w.found ≡ v.found → w.made ≡ v.made ++ (m, p) ∷ [] → w.seen ≡ []
       → F (state (set s.words (P + C) y) s.homes (set s.views id w)) (record { now = turned_net g.now p b e m; log = g.log ++ logged p e ∷ []; by = g.by ++ id ∷ []; holder = g.holder; grabber = g.grabber })
-  flow-stamp s g id p n m y v w b e f at holds happens on m_is y_is held grab word_is made seen =
+  flow-stamp s g id p n m y v w b e f at holds happens on first m_is y_is held grab word_is found made seen =
       let ks = f.each_seat id v at in
       let mine = mine-holds s g id p v b f at holds in
       let there = mine.1 in
@@ -394,7 +389,6 @@ module _ {K : Type 0} (rules : Rules K) (lawful : Lawful rules)
       let stamp : m ≡ turns_made g.now = m_is ∙ f.clock in
       let turn = turned g.now p n b e m there happens in
       let count = turn-count g.now p n e m now' turn in
-      let inputs : SameInputs b b' = (inputs-after b.process e, signal-after b.process e) in
       let grabbed : (grab : ℕ × ChannelShown) → v.grab ≡ Some grab → (g.grabber grab.0 ≡ Some id) × (slice_get g.now.channels grab.0 ≡ Some grab.1) = λ x is. subst (Grabs g.grabber g.now id) is ks.grabs in
       let grabbed_at : (grab : ℕ × ChannelShown) → v.grab ≡ Some grab → slice_get g.now.channels grab.0 ≡ Some grab.1 = λ x is. (grabbed x is).1 in
       record {
@@ -423,7 +417,7 @@ module _ {K : Type 0} (rules : Rules K) (lawful : Lawful rules)
             let k = old-channel e g.now.channels d x is in
             let below = channel-below s g d k.0 f k.1 in
             let word = get_or-set_other s.words i (P + d) y 0 (λ e. omega arith) in
-            lies-turn s g id p n v w b b' e ws' d k.0 x (g.grabber d) f at holds held there happens inputs on grab word_is grabbed k.1 is word refl (f.each_channel d k.0 k.1);
+            lies-turn s g id p n m v w b e ws' d k.0 x (g.grabber d) f at held there happens stamp on first grab word_is found made grabbed k.1 is word refl (f.each_channel d k.0 k.1);
         each_seat = seats_stay (Knows g.holder g.grabber now' P (turns_made start) by' log') s.views id w
             (record {
               holds = subst (Holds g.holder now' id) (sym held) (mine.0, slice_get-set_same g.now.bodies p b b' there);
@@ -439,47 +433,39 @@ module _ {K : Type 0} (rules : Rules K) (lawful : Lawful rules)
             (turns_by-else j (turns_made start) id g.by g.log (logged p e) f.seats other) (f.each_seat j u e'));
       }
     where
-      lies-turn : (s : St K) (g : Beside K) (id p n : ℕ) (v w : View K) (b b' : BodyValue K) (e : Event) (ws' : List ℕ) (d : ℕ) (k x : ChannelShown) (h : Option ℕ) → F s g → get_elem? s.views id ≡ some v → v.held ≡ Some (p, b) → w.held ≡ Some (p, b')
-          → slice_get g.now.bodies p ≡ Some b → event_from (looks_of g.now.channels) b.process n ≡ Some e → SameInputs b b' → At e v.grab → w.grab ≡ grab_after e v.grab → w.word ≡ v.word
+      lies-turn : (s : St K) (g : Beside K) (id p n m : ℕ) (v w : View K) (b : BodyValue K) (e : Event) (ws' : List ℕ) (d : ℕ) (k x : ChannelShown) (h : Option ℕ) → F s g → get_elem? s.views id ≡ some v → w.held ≡ Some (p, turned_body e m b)
+          → slice_get g.now.bodies p ≡ Some b → event_from (looks_of g.now.channels) b.process n ≡ Some e → m ≡ turns_made g.now → At e v.grab → IsUnturned v → w.grab ≡ grab_after e v.grab → w.word ≡ v.word → w.found ≡ v.found → w.made ≡ v.made ++ (m, p) ∷ []
           → ((grab : ℕ × ChannelShown) → v.grab ≡ Some grab → (g.grabber grab.0 ≡ Some id) × (slice_get g.now.channels grab.0 ≡ Some grab.1))
           → slice_get g.now.channels d ≡ Some k → slice_get (all_shown_after e g.now.channels) d ≡ Some x → get_or ws' (P + d) 0 ≡ get_or s.words (P + d) 0 → g.grabber d ≡ h
-          → Lies s P d k h → Lies (state ws' s.homes (set s.views id w)) P d x h
-      lies-turn s g id p n v w b b' e ws' d k x h f at holds held there happens inputs on grab word_is grabbed at_d at_d' word h_is l = by v.grab refl
+          → Lies rules s P d k h → Lies rules (state ws' s.homes (set s.views id w)) P d x h
+      lies-turn s g id p n m v w b e ws' d k x h f at held there happens stamp on first grab word_is found made grabbed at_d at_d' word h_is l = by v.grab refl
         where
-          stay : ((grab : ℕ × ChannelShown) → v.grab ≡ Some grab → d ≢ grab.0) → Lies (state ws' s.homes (set s.views id w)) P d x h
+          stay : ((grab : ℕ × ChannelShown) → v.grab ≡ Some grab → d ≢ grab.0) → Lies rules (state ws' s.homes (set s.views id w)) P d x h
           stay other =
               let same' : Some k ≡ Some x = sym at_d ∙ sym (channel-other e g.now.channels v.grab on (λ gr is. (grabbed gr is).1) d other) ∙ at_d' in
-              subst (λ (z : ChannelShown). Lies (state ws' s.homes (set s.views id w)) P d z h) (some_Some k x same')
-              (lies_keep s P ws' s.homes id v w d k h at word refl (λ e. absurd (other (d, k) e refl)) (λ _ z. receives-same v.held w.held p d b b' holds held inputs z) l)
+              subst (λ (z : ChannelShown). Lies rules (state ws' s.homes (set s.views id w)) P d z h) (some_Some k x same')
+              (lies_keep rules s P ws' s.homes id v w d k h at word refl (λ e. absurd (other (d, k) e refl)) (λ e z. absurd (other (d, k) e refl)) l)
 
-          moved : (gr : ℕ × ChannelShown) → v.grab ≡ Some gr → d ≡ gr.0 → Lies s P d k (Some id) → Lies (state ws' s.homes (set s.views id w)) P d x (Some id)
-          moved gr is same (u, u_at, u_grab, w_is, small, differs, over) =
-              let mv = channel-moves rules g.now p n b e d k x f.fit there happens at_d at_d' in
+          moved : Lies rules s P d k (Some id) → Lies rules (state ws' s.homes (set s.views id w)) P d x (Some id)
+          moved (u, u_at, u_grab, w_is, small, ahead) =
               let u_is : u ≡ v = some-injective u v (sym u_at ∙ at) in
               let u_word : u.word ≡ w.word = ap (λ (z : View K). z.word) u_is ∙ sym word_is in
-              let on' : IsOn gr.0 e = subst (At e) is on in
-              let x_is : Some (shown_after e gr.1) ≡ Some x = sym (channel-mine e g.now.channels gr.0 gr.1 on' (grabbed gr is).1) ∙ ap (slice_get (all_shown_after e g.now.channels)) (sym same) ∙ at_d' in
-              let grab' : w.grab ≡ Some (d, x) = grab ∙ ap (grab_after e) is ∙ (λ j. let t : Option (ℕ × ChannelShown) = Some (sym same j, some_Some (shown_after e gr.1) x x_is j) in t) in
-              let differs' : (level_in u.word ≤ length x.packets) ⊎ Receives w.held d = elim differs [
-                | inl le ↦ (elim mv.level [
-                  | inl more ↦ inl (let h : level_in u.word ≤ length x.packets = omega (arith, le, more) in h)
-                  | inr own ↦ inr (subst (λ (z : Option (ℕ × BodyValue K)). Receives z d) (sym held) (input-same d b' b (sym inputs.0, sym inputs.1) own))
-                ])
-                | inr r ↦ inr (receives-same v.held w.held p d b b' holds held inputs (subst (λ (z : View K). Receives z.held d) u_is r))
-              ] in (
+              let v_grab : v.grab ≡ Some (d, k) = ap (λ (z : View K). z.grab) (sym u_is) ∙ u_grab in
+              let on' : IsOn d e = subst (At e) v_grab on in
+              let after : x ≡ shown_after e k = some_Some x (shown_after e k) (sym at_d' ∙ channel-turned e g.now.channels d k on' at_d) in
+              let grab' : w.grab ≡ Some (d, x) = grab ∙ ap (grab_after e) v_grab ∙ ap (λ (z : ChannelShown). let t : Option (ℕ × ChannelShown) = Some (d, z) in t) (sym after) in (
                 w,
                 set_here s.views id w (at_inside s.views id v at),
                 grab',
                 word ∙ w_is ∙ ap (λ (m : ℕ). m + held_bit) u_word,
                 subst (λ (m : ℕ). m < free_limit) u_word small,
-                subst (λ (m : ℕ). (level_in m ≤ length x.packets) ⊎ Receives w.held d) u_word differs',
-                subst (λ (m : ℕ). level_in m ≡ 0 → senders_in m ≡ 0 → IsOver x) u_word (λ no_level no_senders. mv.over (over no_level no_senders)),
+                ahead-turned rules v w d k x e g.now p n m b v_grab first f.fit there at_d happens on' stamp held word_is found made after (subst (λ (z : View K). IsAhead rules z d k) u_is ahead),
               )
 
-          by : (gr : Option (ℕ × ChannelShown)) → v.grab ≡ gr → Lies (state ws' s.homes (set s.views id w)) P d x h
+          by : (gr : Option (ℕ × ChannelShown)) → v.grab ≡ gr → Lies rules (state ws' s.homes (set s.views id w)) P d x h
           by None is = stay (λ gr e. no-grab v.grab gr _ is e)
           by (Some gr) is = elim (same_or_not d gr.0) [
             | inl same ↦ (let own : h ≡ Some id = sym h_is ∙ ap g.grabber same ∙ (grabbed gr is).0 in
-                subst (Lies (state ws' s.homes (set s.views id w)) P d x) (sym own) (moved gr is same (subst (Lies s P d k) own l)))
+                subst (Lies rules (state ws' s.homes (set s.views id w)) P d x) (sym own) (moved (subst (Lies rules s P d k) own l)))
             | inr other ↦ stay (λ gr' e same. other (same ∙ same-pair v.grab gr' gr e is))
           ]

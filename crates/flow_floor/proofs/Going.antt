@@ -17,7 +17,8 @@ use Rattle.flow_machine.proofs.FitLemmas.{goes-by, goes-same, goes-work, fit-res
 use Rattle.flow_machine.proofs.SoloLemmas.{journal_of-append, remember-then, count-rest}
 use Rattle.flow_machine.proofs.Reaching.{reaches-append, steps-append, remember-one, remember-kept}
 use Rattle.flow_floor.specs.Law.{Rests}
-use Rattle.flow_floor.specs.Turning.{turned_body, with_body, turned_net, logged}
+use Rattle.flow_floor.specs.Turning.{with_body, turned_net, logged}
+use Rattle.flow_floor.specs.Ahead.{turned_body}
 
 -- a body that hasn't changed rests
 pub rests-same : {K : Type 0} (rules : Rules K) (b d : BodyValue K) → b ≡ d → Rests rules b d

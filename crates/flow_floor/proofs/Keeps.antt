@@ -27,7 +27,8 @@ use Rattle.flow_floor.specs.declared.board.Look.{Look}
 use Rattle.flow_floor.specs.Law.{IsTaken, IsFree, IsOver, Rests, Stands, Lies, SeenTrue, AllSeen, Grabs, Beside}
 use Rattle.flow_floor.specs.Wired.{IsWiredIn, Receives}
 use Rattle.flow_floor.specs.Made.{turns_by, Below}
-use Rattle.flow_floor.specs.Turning.{turned_body, with_body, turned_net, logged, GrabIn, Happens, At, MachineTurn, MachineTurnOf}
+use Rattle.flow_floor.specs.Ahead.{turned_body, IsUnturned}
+use Rattle.flow_floor.specs.Turning.{with_body, turned_net, logged, GrabIn, Happens, At, MachineTurn, MachineTurnOf}
 use Rattle.flow_floor.specs.Waking.{AllBlock, Notes, Wakes, IsWiredAs, capacity_at}
 use Rattle.std.specs.Option.{option_map}
 use Rattle.std.specs.Prelude.{unwrap_or}
@@ -36,6 +37,7 @@ use Rattle.flow_floor.specs.Plays.{Sat, HeldIn, claimed, grabbed, saw, stamped, 
 use Rattle.flow_floor.specs.Views.{turn_of, look_at, looked, seeing, claiming, refusing, grabbing, held_after, stamping, releasing}
 use Rattle.std.proofs.lemmas.List.Elements.{Contains-append_right}
 use Rattle.flow_floor.proofs.Seats.{put, at_inside, some_Some, get-exists, St, Homes, state}
+use Rattle.flow_floor.proofs.Aheads.{ahead-level, ahead-over}
 use Rattle.flow_floor.proofs.Channels.{one-receiver}
 use Rattle.flow_floor.proofs.Flows.{mine-holds, mine-grabs, flow-commit, flow-view, flow-claim, flow-grab, flow-release, flow-stamp}
 use Rattle.flow_ring.proofs.Words.{level-of, senders-of, level-held, senders-held}
@@ -85,7 +87,7 @@ module _ {K : Type 0} (rules : Rules K) (lawful : Lawful rules)
       both w (inr (inr (inr a))) (inl b) = omega (arith, a, b)
       both w (inr (inr (inr a))) (inr b) = omega (arith, a, b)
 
-  grabber-free : (s : St K) (c : ℕ) (k : ChannelShown) (h : Option ℕ) → get_or s.words (P + c) 0 < held_bit → Lies s P c k h → (h ≡ None) × (get_or s.words (P + c) 0 ≡ free_word (length k.packets) k.open_senders) × (get_elem? s.homes (P + c) ≡ some (some (slot.Channel k)))
+  grabber-free : (s : St K) (c : ℕ) (k : ChannelShown) (h : Option ℕ) → get_or s.words (P + c) 0 < held_bit → Lies rules s P c k h → (h ≡ None) × (get_or s.words (P + c) 0 ≡ free_word (length k.packets) k.open_senders) × (get_elem? s.homes (P + c) ≡ some (some (slot.Channel k)))
   grabber-free s c k None low l = (refl, l.0, l.1)
   grabber-free s c k (Some j) low l = absurd (omega (arith, l.3, low))
 
@@ -98,22 +100,22 @@ module _ {K : Type 0} (rules : Rules K) (lawful : Lawful rules)
       let low = level-fits rules r.beside.now d k f.fit there in
       by (r.beside.grabber d) read' (omega (arith, low.0, low.1)) (f.each_channel d k there)
     where
-      by : (h : Option ℕ) → look.read ≡ get_or s.words (P + d) 0 → length k.packets < FIELD → Lies s P d k h → (0 < level_in look.read → 0 < length k.packets) × (level_in look.read ≡ 0 → senders_in look.read ≡ 0 → IsOver k)
+      by : (h : Option ℕ) → look.read ≡ get_or s.words (P + d) 0 → length k.packets < FIELD → Lies rules s P d k h → (0 < level_in look.read → 0 < length k.packets) × (level_in look.read ≡ 0 → senders_in look.read ≡ 0 → IsOver k)
       by None read' low l =
           let few = r.flow.senders d k there in
           let word_is = read' ∙ l.0 in
           let level : level_in look.read ≡ length k.packets = ap level_in word_is ∙ level-of (length k.packets) k.open_senders low few in
           let opens : senders_in look.read ≡ k.open_senders = ap senders_in word_is ∙ senders-of (length k.packets) k.open_senders low few in
           (λ some_level. subst (λ n. 0 < n) level some_level, λ no_level no_senders. (sym level ∙ no_level, sym opens ∙ no_senders))
-      by (Some j) read' low (u, u_at, u_grab, u_word, small, differs, over) =
+      by (Some j) read' low (u, u_at, u_grab, u_word, small, ahead) =
           let word_is = read' ∙ u_word in
           let level : level_in look.read ≡ level_in u.word = ap level_in word_is ∙ level-held u.word in
           let opens : senders_in look.read ≡ senders_in u.word = ap senders_in word_is ∙ senders-held u.word in (
-            λ some_level. elim differs [
+            λ some_level. elim (ahead-level rules u d k ahead) [
               | inl le ↦ (let h : 0 < length k.packets = omega (arith, le, level, some_level) in h)
               | inr own ↦ absurd (other j u u_at u_grab u.held refl own)
             ],
-            λ no_level no_senders. over (sym level ∙ no_level) (sym opens ∙ no_senders),
+            λ no_level no_senders. ahead-over rules u d k ahead (sym level ∙ no_level) (sym opens ∙ no_senders),
           )
         where
           other : (j : ℕ) (u : View K) → get_elem? s.views j ≡ some u → u.grab ≡ Some (d, k) → (h : Option (ℕ × BodyValue K)) → u.held ≡ h → Receives h d → ⊥
@@ -131,16 +133,16 @@ module _ {K : Type 0} (rules : Rules K) (lawful : Lawful rules)
   same-words ws i = set-get_or ws i 0
 
   -- A step that changes no word, and of the view nothing but looks.
-  pub law-look : (s : St K) (id : ℕ) (v w : View K) (r : Rule s) → get_elem? s.views id ≡ some v → w.shares ≡ v.shares → w.held ≡ v.held → w.grab ≡ v.grab → w.word ≡ v.word → w.made ≡ v.made → w.spare ≡ v.spare → w.noted ≡ v.noted → w.read_zero ≡ v.read_zero
+  pub law-look : (s : St K) (id : ℕ) (v w : View K) (r : Rule s) → get_elem? s.views id ≡ some v → w.shares ≡ v.shares → w.held ≡ v.held → w.grab ≡ v.grab → w.word ≡ v.word → w.found ≡ v.found → w.made ≡ v.made → w.spare ≡ v.spare → w.noted ≡ v.noted → w.read_zero ≡ v.read_zero
       → AllSeen P r.beside.now w.held w.seen → ((q : ℕ) (b : BodyValue K) → v.held ≡ Some (q, b) → AllBlock P start.channels s.words b v.seen → AllBlock P start.channels s.words b w.seen)
       → Rule (state s.words s.homes (set s.views id w))
-  law-look s id v w r at shares held grab word made spare noted zeros seen blocks =
+  law-look s id v w r at shares held grab word found made spare noted zeros seen blocks =
       let f = r.flow in
       let g = r.beside in
       let ks = r.wakes.each id v at in
       record {
         beside = g;
-        flow = flow-view rules lawful start s g id v w s.words f at refl (λ q below. (λ z. z, λ z. z)) (λ q a b. refl) held grab word made seen;
+        flow = flow-view rules lawful start s g id v w s.words f at refl (λ q below. (λ z. z, λ z. z)) (λ q a b. refl) held grab word found made seen;
         planned = r.planned;
         wakes = wakes-view rules lawful start s g g s.words s.homes id v w f r.wakes at refl (λ q below. refl) refl (λ c below. (refl, refl)) (omega (arith, spare)) (λ z. z) held shares
             (record { spare = omega (arith, ks.spare, spare, shares); noted = λ e. noted ∙ ks.noted (sym held ∙ e); zero = λ z. ks.zero (sym zeros ∙ z); bare = λ e. (let n = ks.bare (sym shares ∙ e) in (held ∙ n.0, made ∙ n.1)) }) (λ q there. subst (λ (xs : List ℕ). Contains xs q) (sym noted) there) blocks;
@@ -149,23 +151,23 @@ module _ {K : Type 0} (rules : Rules K) (lawful : Lawful rules)
 
   -- a look that isn't kept
   pub law-looked : (s : St K) (id i x : ℕ) (v : View K) → Rule s → get_elem? s.views id ≡ some v → Rule (state s.words s.homes (set s.views id (looked v i x)))
-  law-looked s id i x v r at = law-look s id v (looked v i x) r at refl refl refl refl refl refl refl refl (r.flow.each_seat id v at).seen (λ q b h all. all)
+  law-looked s id i x v r at = law-look s id v (looked v i x) r at refl refl refl refl refl refl refl refl refl (r.flow.each_seat id v at).seen (λ q b h all. all)
 
   -- a look at a connection for a held process
   law-seeing : (s : St K) (id p c : ℕ) (v : View K) (b : BodyValue K) → Rule s → get_elem? s.views id ≡ some v → v.held ≡ Some (p, b) → v.grab ≡ None → Rule (state s.words s.homes (set s.views id (seeing v (P + c) (get_or s.words (P + c) 0))))
   law-seeing s id p c v b r at holds no_grab =
       let x = get_or s.words (P + c) 0 in
       let look = look_at v (P + c) x in
-      law-look s id v (seeing v (P + c) x) r at refl refl refl refl refl refl refl refl
+      law-look s id v (seeing v (P + c) x) r at refl refl refl refl refl refl refl refl refl
       (subst (λ (h : Option (ℕ × BodyValue K)). AllSeen P r.beside.now h (look ∷ v.seen)) (sym holds)
       (seen-true s r id p c v b look at holds no_grab refl refl, subst (λ (h : Option (ℕ × BodyValue K)). AllSeen P r.beside.now h v.seen) holds (r.flow.each_seat id v at).seen))
       (λ q z h all. (look-blocks rules lawful start s.words z look c refl refl refl, all))
 
   -- the work of a held body is in the list
-  pub law-commit : (s : St K) (id p : ℕ) (v w : View K) (b d : BodyValue K) → Rule s → get_elem? s.views id ≡ some v → v.held ≡ Some (p, b) → Rests rules b d → w ≡ record v { held = Some (p, d) } → Rule (state s.words s.homes (set s.views id w))
-  law-commit s id p v w b d r at holds rests is = record {
+  pub law-commit : (s : St K) (id p : ℕ) (v w : View K) (b d : BodyValue K) → Rule s → get_elem? s.views id ≡ some v → v.held ≡ Some (p, b) → Rests rules b d → IsUnturned v → w ≡ record v { held = Some (p, d) } → Rule (state s.words s.homes (set s.views id w))
+  law-commit s id p v w b d r at holds rests first is = record {
     beside = record r.beside { now = with_body r.beside.now p d };
-    flow = flow-commit rules lawful start s r.beside id p v w b d r.flow at holds rests (ap (λ (y : View K). y.held) is) (ap (λ (y : View K). y.grab) is) (ap (λ (y : View K). y.word) is) (ap (λ (y : View K). y.made) is) (ap (λ (y : View K). y.seen) is);
+    flow = flow-commit rules lawful start s r.beside id p v w b d r.flow at holds rests first (ap (λ (y : View K). y.held) is) (ap (λ (y : View K). y.grab) is) (ap (λ (y : View K). y.word) is) (ap (λ (y : View K). y.found) is) (ap (λ (y : View K). y.made) is) (ap (λ (y : View K). y.seen) is);
     planned = r.planned;
     wakes = wakes-commit rules lawful start s r.beside id p v w b d r.flow r.wakes at holds rests (ap (λ (y : View K). y.held) is) (ap (λ (y : View K). y.shares) is) (ap (λ (y : View K). y.spare) is) (ap (λ (y : View K). y.noted) is) (ap (λ (y : View K). y.read_zero) is)
         (ap (λ (y : View K). y.seen) is);
@@ -209,7 +211,7 @@ module _ {K : Type 0} (rules : Rules K) (lawful : Lawful rules)
         keeps,
         tt,
         subst (λ (ws : List ℕ). Rule (state ws s.homes (set s.views id (refusing v i x)))) (sym (ap (set s.words i) (miss x 2 1 other) ∙ same-words s.words i))
-            (law-look s id v (refusing v i x) r at refl refl refl refl refl refl refl refl (r.flow.each_seat id v at).seen (λ q b h all. all)),
+            (law-look s id v (refusing v i x) r at refl refl refl refl refl refl refl refl refl (r.flow.each_seat id v at).seen (λ q b h all. all)),
         (λ e. absurd (other e), λ _. refl),
       ))
 
@@ -259,7 +261,7 @@ module _ {K : Type 0} (rules : Rules K) (lawful : Lawful rules)
       let vs' = set s.views id w in
       let law : Rule (state (set s.words (P + c) y) (set s.homes (P + c) none) vs') = record {
         beside = record g { grabber = put g.grabber c (Some id) };
-        flow = flow-grab rules lawful start s g id p c y v w b k f at holds no_grab there.1 free.0 small refl word refl refl refl
+        flow = flow-grab rules lawful start s g id p c y v w b k f at holds no_grab there.1 free.0 small refl word refl refl refl refl
             (subst (λ (h : Option (ℕ × BodyValue K)). AllSeen P g.now h (look ∷ v.seen)) (sym holds)
             (seen-true s r id p c v b look at holds no_grab place x_is, subst (λ (h : Option (ℕ × BodyValue K)). AllSeen P g.now h v.seen) holds (f.each_seat id v at).seen));
         planned = r.planned;
@@ -314,14 +316,14 @@ module _ {K : Type 0} (rules : Rules K) (lawful : Lawful rules)
       at-head false rest = rest
 
   -- The clock is counted: the work that the held body did, and its turn, which the machine has.
-  pub stamps : (slots i id p : ℕ) (me : Sat K) (b d : BodyValue K) (e : Event) (h : BodyValue K → BodyValue K) (o : NetValue K) → o ≡ start → i ≡ P + C → me.0.held ≡ Some (p, b) → Rests rules b d → h b ≡ d → At e me.0.grab
+  pub stamps : (slots i id p : ℕ) (me : Sat K) (b d : BodyValue K) (e : Event) (h : BodyValue K → BodyValue K) (o : NetValue K) → o ≡ start → i ≡ P + C → me.0.held ≡ Some (p, b) → Rests rules b d → h b ≡ d → At e me.0.grab → IsUnturned me.0
       → Happens (FitNet rules) P C p d me.0.grab me.0.seen e
       → Allows Rule slots id me i (λ x. (x + 1) % 2 ^ 64) (stamped rules o e h (step slots i 1 0 none) me)
-  stamps slots i id p me b d e h o opened place holds rests h_is on happens s r deep at fits =
+  stamps slots i id p me b d e h o opened place holds rests h_is on first happens s r deep at fits =
       let v = me.0 in
       let v1 : View K = record v { held = Some (p, d) } in
       let s1 = state s.words s.homes (set s.views id v1) in
-      let r1 : Rule s1 = law-commit s id p v v1 b d r at holds rests refl in
+      let r1 : Rule s1 = law-commit s id p v v1 b d r at holds rests first refl in
       let at1 : get_elem? s1.views id ≡ some v1 = set_here s.views id v1 (at_inside s.views id v at) in
       let f = r1.flow in
       let g = r1.beside in
@@ -340,7 +342,7 @@ module _ {K : Type 0} (rules : Rules K) (lawful : Lawful rules)
       let g' : Beside K = record { now = turned_net g.now p d e x; log = g.log ++ logged p e ∷ []; by = g.by ++ id ∷ []; holder = g.holder; grabber = g.grabber } in
       let law : Rule (state (set s.words (P + C) y) s.homes (set s1.views id w)) = record {
         beside = g';
-        flow = flow-stamp rules lawful start s1 g id p happened.0 x y v1 w d e f at1 refl happened.1 on x_is refl held refl refl made refl;
+        flow = flow-stamp rules lawful start s1 g id p happened.0 x y v1 w d e f at1 refl happened.1 on first x_is refl held refl refl refl made refl;
         planned = r1.planned;
         wakes = wakes-stamp rules lawful start s1 g g' id p x y v1 w d e f r1.wakes at1 refl refl held refl refl refl refl refl;
         done = done-beyond s.words (P + C) y g'.now.bodies (omega (arith, length-set g.now.bodies p (turned_body e x d), f.same.0)) (done-body s.words p (turned_body e x d) g.now.bodies (word-taken rules lawful start s1 g id p v1 d f at1 refl) r1.done);
@@ -353,12 +355,16 @@ module _ {K : Type 0} (rules : Rules K) (lawful : Lawful rules)
           refl,
           subst (Below x) (sym ks.made) (below-turns id (turns_made start) g.by g.log f.seats x (omega (arith, x_is, clock, f.total))),
           omega (arith, x_is, clock, most),
-          subst (MachineTurnOf rules o x h e) (sym holds) (subst (λ (z : NetValue K). MachineTurn rules z x p (h b) e) (sym opened) (record {
+          subst (MachineTurnOf rules o v.made x h e) (sym holds) (subst (λ (z : NetValue K). MachineTurn rules z v.made x p (h b) e) (sym opened) (record {
             now = g.now;
             log = g.log;
+            by = g.by;
+            seat = id;
             goes = f.goes;
             total = f.total;
             clock = sym (x_is ∙ clock);
+            seats = f.seats;
+            own = ks.made;
             there = mine.1 ∙ ap (λ (z : BodyValue K). let t : Option (BodyValue K) = Some z in t) (sym h_is);
             level = happened.0;
             happens = subst (λ (z : BodyValue K). event_from (looks_of g.now.channels) z.process happened.0 ≡ Some e) (sym h_is) happened.1;
@@ -381,7 +387,7 @@ module _ {K : Type 0} (rules : Rules K) (lawful : Lawful rules)
       let w = releasing v notes in
       let home = some (slot.Channel k) in
       let mine = mine-grabs rules lawful start s g id c v k f at grab in
-      let lies = subst (Lies s P c k) mine.0 (f.each_channel c k mine.1) in
+      let lies = subst (Lies rules s P c k) mine.0 (f.each_channel c k mine.1) in
       let was : lies.0 ≡ v = some-injective lies.0 v (sym lies.1 ∙ at) in
       let old : get_or s.words (P + c) 0 ≡ v.word + held_bit = lies.3 ∙ ap (λ (z : View K). z.word + held_bit) was in
       let level : level_in (get_or s.words (P + c) 0) ≡ level_in v.word = ap level_in old ∙ level-held v.word in

@@ -21,6 +21,7 @@ use Rattle.flow_floor.specs.Rule.{Law}
 use Rattle.flow_floor.specs.Plays.{Sat, left, parked, retired}
 use Rattle.flow_floor.specs.Views.{looked, leaving, parking}
 use Rattle.flow_floor.proofs.Seats.{put, at_inside, some_Some, St, Homes, state}
+use Rattle.flow_floor.proofs.Aheads.{unturned-none}
 use Rattle.flow_floor.proofs.Flows.{mine-holds, flow-leave}
 use Rattle.flow_floor.proofs.Retires.{low-undone, done-set}
 use Rattle.flow_floor.proofs.Wakes.{total_one}
@@ -52,7 +53,7 @@ module _ {K : Type 0} (rules : Rules K) (lawful : Lawful rules)
   law-leave s id p y v w b d r at holds rests no_grab no_notes free held grab made shares spare few noted zeros parks retired =
       let v1 : View K = record v { held = Some (p, d) } in
       let s1 = state s.words s.homes (set s.views id v1) in
-      let r1 : Rule s1 = law-commit rules lawful start s id p v v1 b d r at holds rests refl in
+      let r1 : Rule s1 = law-commit rules lawful start s id p v v1 b d r at holds rests (unturned-none v no_grab) refl in
       let at1 : get_elem? s1.views id ≡ some v1 = set_here s.views id v1 (at_inside s.views id v at) in
       let hs' = set s.homes p (some (slot.Body d)) in
       let law : Rule (state (set s.words p y) hs' (set s1.views id w)) = record {

@@ -1,4 +1,5 @@
 pub mod Channels
+pub mod Aheads
 pub mod Going
 pub mod Seats
 pub mod Flows

@@ -207,13 +207,13 @@ module _ {K : Type 0} (rules : Rules K) (start : NetValue K) where
   words-tell : (s : St K) (r : Rule s) → get_or s.words L 0 ≡ 0 → WordsTell P r.beside.now.channels s.words
   words-tell s r z c k there = by (r.beside.grabber c) (r.flow.each_channel c k there)
     where
-      by : (h : Option ℕ) → Lies s P c k h → (level_in (get_or s.words (P + c) 0) ≡ length k.packets) × (senders_in (get_or s.words (P + c) 0) ≡ k.open_senders)
+      by : (h : Option ℕ) → Lies rules s P c k h → (level_in (get_or s.words (P + c) 0) ≡ length k.packets) × (senders_in (get_or s.words (P + c) 0) ≡ k.open_senders)
       by None l =
           let low = level-fits rules r.beside.now c k r.flow.fit there in
           let few = r.flow.senders c k there in
           let small : length k.packets < FIELD = omega (arith, low.0, low.1) in
           (ap level_in l.0 ∙ level-of (length k.packets) k.open_senders small few, ap senders_in l.0 ∙ senders-of (length k.packets) k.open_senders small few)
-      by (Some j) (u, u_at, u_grab, is, small, differs, over) =
+      by (Some j) (u, u_at, u_grab, is, small, ahead) =
           let none = (r.flow.each_seat j u u_at).idle (none-held-at-zero s r z j u u_at) in
           absurd (let e : None ≡ Some (c, k) = sym none ∙ u_grab in cc)
 

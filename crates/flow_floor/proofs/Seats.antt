@@ -1,5 +1,5 @@
 -- What stays where one seat steps.
-use Rattle.std.proofs.Common.{◌≡◌, ◌≢◌, ℕ, zero, suc, ◌+◌, ◌<◌, ◌≤◌, true, false, Bool, List, [], ◌∷◌, ◌++◌, length, get_or, set, sym, refl, ap, ◌∙◌, subst, arith, Option, Some, None, slice_get, append-nil, eq-eqb, ne_eqb, if◌then◌else◌, ◌==◌, ◌⊎◌, inl, inr, ⊎_elim}
+use Rattle.std.proofs.Common.{◌≡◌, ◌≢◌, ℕ, zero, suc, ◌+◌, ◌<◌, ◌≤◌, true, false, Bool, List, [], ◌∷◌, ◌++◌, length, get_or, set, sym, refl, ap, ◌∙◌, subst, arith, Option, Some, None, slice_get, append-nil, eq-eqb, ne_eqb, if◌then◌else◌, ◌==◌, ⊎_elim}
 use mathlib.Core.Logic.{dite}
 use mathlib.Core.Option.{none, some, some-ne-none, some-injective}
 use mathlib.Core.Option as maybe
@@ -7,16 +7,17 @@ use native.Mathlib.Decide.{ℕ_discrete}
 use lib.ListN.{get_elem?}
 use Rattle.atomic_table.specs.Table.{State}
 use Rattle.atomic_table.proofs.Lists.{at_set, set_here, set_else}
+use Rattle.flow_component.specs.Laws.{Rules}
 use Rattle.flow_model.specs.Stands.{ChannelShown}
 use Rattle.flow_machine.specs.Values.{BodyValue, NetValue}
 use Rattle.flow_machine.specs.Logs.{Logged}
-use Rattle.flow_ring.specs.Words.{held_bit, level_in, senders_in, free_limit}
+use Rattle.flow_ring.specs.Words.{held_bit, free_limit}
 use Rattle.flow_floor.specs.declared.board.Slot.{Slot}
 use Rattle.flow_floor.specs.declared.board.View.{View}
 use Rattle.flow_floor.specs.declared.board.Look.{Look}
-use Rattle.flow_floor.specs.Law.{IsTaken, IsFree, IsOver, Stands, Lies, SeenTrue, AllSeen, Holds, Grabs, Knows}
+use Rattle.flow_floor.specs.Ahead.{IsAhead}
+use Rattle.flow_floor.specs.Law.{IsTaken, IsFree, Stands, Lies, SeenTrue, AllSeen, Holds, Grabs, Knows}
 use Rattle.flow_floor.specs.Made.{turns_by}
-use Rattle.flow_floor.specs.Wired.{Receives}
 
 abbrev pick : {P A : Type 0} → Dec P → A → A → A
 pick (yes _) a b = a
@@ -113,24 +114,22 @@ module _ {K : Type 0} where
       (taken k.0, (w, ap (get_elem? (set s.views id w)) e ∙ set_here s.views id w (at_inside s.views id v at), keep (ap (λ (u : View K). u.held) was ∙ k.1.2))))
       (λ other. (taken k.0, (k.1.0, set_else s.views id j w other ∙ k.1.1, k.1.2)))
 
-  pub lies_keep : (s : St K) (n : ℕ) (ws' : List ℕ) (hs' : Homes K) (id : ℕ) (v w : View K) (c : ℕ) (k : ChannelShown) (h : Option ℕ) → get_elem? s.views id ≡ some v
-      → get_or ws' (n + c) 0 ≡ get_or s.words (n + c) 0 → get_elem? hs' (n + c) ≡ get_elem? s.homes (n + c) → (v.grab ≡ Some (c, k) → (w.grab ≡ Some (c, k)) × (w.word ≡ v.word)) → (v.grab ≡ Some (c, k) → Receives v.held c → Receives w.held c)
-      → Lies s n c k h → Lies (state ws' hs' (set s.views id w)) n c k h
-  lies_keep s n ws' hs' id v w c k None at word home keep gets l = (word ∙ l.0, home ∙ l.1)
-  lies_keep s n ws' hs' id v w c k (Some j) at word home keep gets (u, u_at, grab, is, small, differs, over) = dite (ℕ_discrete j id)
+  pub lies_keep : (rules : Rules K) (s : St K) (n : ℕ) (ws' : List ℕ) (hs' : Homes K) (id : ℕ) (v w : View K) (c : ℕ) (k : ChannelShown) (h : Option ℕ) → get_elem? s.views id ≡ some v
+      → get_or ws' (n + c) 0 ≡ get_or s.words (n + c) 0 → get_elem? hs' (n + c) ≡ get_elem? s.homes (n + c) → (v.grab ≡ Some (c, k) → (w.grab ≡ Some (c, k)) × (w.word ≡ v.word)) → (v.grab ≡ Some (c, k) → IsAhead rules v c k → IsAhead rules w c k)
+      → Lies rules s n c k h → Lies rules (state ws' hs' (set s.views id w)) n c k h
+  lies_keep rules s n ws' hs' id v w c k None at word home keep gets l = (word ∙ l.0, home ∙ l.1)
+  lies_keep rules s n ws' hs' id v w c k (Some j) at word home keep gets (u, u_at, grab, is, small, ahead) = dite (ℕ_discrete j id)
       (λ e. let was : v ≡ u = some-injective v u (sym at ∙ (ap (get_elem? s.views) (sym e) ∙ u_at)) in
       let grab' : v.grab ≡ Some (c, k) = ap (λ (x : View K). x.grab) was ∙ grab in
-      let word_is : w.word ≡ u.word = (keep grab').1 ∙ ap (λ (x : View K). x.word) was in
-      let differs' : (level_in w.word ≤ length k.packets) ⊎ Receives w.held c = ⊎_elim (λ l. inl (subst (λ (m : ℕ). level_in m ≤ length k.packets) (sym word_is) l)) (λ r. inr (gets grab' (subst (λ (x : View K). Receives x.held c) (sym was) r))) differs in (
+      let word_is : w.word ≡ u.word = (keep grab').1 ∙ ap (λ (x : View K). x.word) was in (
         w,
         ap (get_elem? (set s.views id w)) e ∙ set_here s.views id w (at_inside s.views id v at),
         (keep grab').0,
         word ∙ is ∙ ap (λ (m : ℕ). m + held_bit) (sym word_is),
         subst (λ (m : ℕ). m < free_limit) (sym word_is) small,
-        differs',
-        subst (λ (m : ℕ). level_in m ≡ 0 → senders_in m ≡ 0 → IsOver k) (sym word_is) over,
+        gets grab' (subst (λ (x : View K). IsAhead rules x c k) (sym was) ahead),
       ))
-      (λ other. (u, set_else s.views id j w other ∙ u_at, grab, word ∙ is, small, differs, over))
+      (λ other. (u, set_else s.views id j w other ∙ u_at, grab, word ∙ is, small, ahead))
 
   pub seen_keep : (n : ℕ) (now now' : NetValue K) (held held' : ℕ × BodyValue K) (seen : List Look) → ((look : Look) → SeenTrue n now held.1 look → SeenTrue n now' held'.1 look) → AllSeen n now (Some held) seen → AllSeen n now' (Some held') seen
   seen_keep n now now' held held' [] keep all = tt

@@ -67,7 +67,7 @@ module _ {K : Type 0} (rules : Rules K) (lawful : Lawful rules)
               λ t. subst IsTaken (sym (ap (λ n. get_or ws' n 0) e ∙ here)) (k.taken (subst (λ n. IsTaken (get_or s.words n 0)) e t)),
             ))
             (λ other. (let e = get_or-set_other s.words q x y 0 other in (subst IsFree (sym e), subst IsTaken (sym e)))))
-            (λ x a b. get_or-set_other s.words q x y 0 (λ e. omega (arith, e, below, a))) refl refl refl refl (f.each_seat id v at).seen;
+            (λ x a b. get_or-set_other s.words q x y 0 (λ e. omega (arith, e, below, a))) refl refl refl refl refl (f.each_seat id v at).seen;
         planned = r.planned;
         wakes = wakes-poke rules lawful start s g g id p q y s.homes v w b f r.wakes at holds refl below k.high (notes ∙ ap (λ (l : List ℕ). q ∷ l) (sym (ap (drop 1) notes))) (omega (arith, k.counted)) (r.wakes.each id v at).spare refl refl refl refl;
         done = done-set s.words q y g.now.bodies (omega (arith, below, wide)) (λ z at_q is. r.done q z at_q (k.done is)) r.done;
@@ -75,7 +75,7 @@ module _ {K : Type 0} (rules : Rules K) (lawful : Lawful rules)
 
   -- a step that only counts
   law-counting : (s : St K) (id : ℕ) (v : View K) → Rule s → get_elem? s.views id ≡ some v → Rule (state s.words s.homes (set s.views id (counting v)))
-  law-counting s id v r at = law-look rules lawful start s id v (counting v) r at refl refl refl refl refl refl refl refl (r.flow.each_seat id v at).seen (λ q b h all. all)
+  law-counting s id v r at = law-look rules lawful start s id v (counting v) r at refl refl refl refl refl refl refl refl refl (r.flow.each_seat id v at).seen (λ q b h all. all)
 
   -- The word of the first noted process is read.
   pub glances : (slots i id p : ℕ) (me : Sat K) (b : BodyValue K) (more : List ℕ) → i < P → me.0.held ≡ Some (p, b) → me.0.noted ≡ i ∷ more → Allows Rule slots id me i (λ n. n) (glanced (step slots i 0 0 none) me)

@@ -31,7 +31,8 @@ use Rattle.flow_floor.specs.declared.board.Slot.TheVariants as slot
 use Rattle.flow_floor.specs.declared.floor.Worker.{Worker}
 use Rattle.flow_floor.specs.declared.floor.Held.{Held}
 use Rattle.flow_floor.specs.Law.{Rests}
-use Rattle.flow_floor.specs.Turning.{turned_body, grab_after, GrabIn, Happens, At, received_event, signalled_event, sent_event, closed_event}
+use Rattle.flow_floor.specs.Ahead.{turned_body}
+use Rattle.flow_floor.specs.Turning.{grab_after, GrabIn, Happens, At, received_event, signalled_event, sent_event, closed_event}
 use Rattle.flow_floor.specs.Sending.{receiver_at, senders_at}
 use Rattle.flow_floor.specs.Waking.{Notes}
 use Rattle.flow_ring.proofs.Words.{level-of, senders-of}

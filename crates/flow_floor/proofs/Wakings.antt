@@ -19,7 +19,8 @@ use Rattle.flow_floor.specs.declared.board.View.{View}
 use Rattle.flow_floor.specs.declared.board.Look.{Look}
 use Rattle.flow_floor.specs.Law.{IsTaken, IsFree, Rests, Stands, Holds, Beside, Flow}
 use Rattle.flow_floor.specs.Wired.{IsInput, IsOutput}
-use Rattle.flow_floor.specs.Turning.{turned_body, with_body, turned_net}
+use Rattle.flow_floor.specs.Ahead.{turned_body}
+use Rattle.flow_floor.specs.Turning.{with_body, turned_net}
 use Rattle.flow_floor.specs.Waking.{counts, live_in, IsNoted, WordsBlock, StillBlocks, AllBlock, IsWiredAs, Keeps, Notes, Wakes}
 use Rattle.flow_floor.proofs.Numbers.{contains-none, contains-cases}
 use Rattle.flow_floor.proofs.Seats.{at_inside, some_Some, get-exists, get-within, St, Homes, state}

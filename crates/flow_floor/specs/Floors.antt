@@ -112,11 +112,11 @@ module _ {K : Type 0} where
   abbrev pub IsDeedOf : Floor K → Held K → (BodyValue K → BodyValue K) → NetValue K → Type 0
   IsDeedOf f h after start = ((b : BodyValue K) → after b ≡ h.body) × (start ≡ opened_net f)
 
-  -- A turn was stamped: the held body made it, and it is the machine's turn of this stamp, which is above all stamps of its worker; and the worker knows
-  -- of it, and of nothing else that is new.
+  -- A turn was stamped: the held body made it, and it is the machine's turn of this stamp, after the turns that its worker had made, whose stamps are
+  -- below; and the worker knows of it, and of nothing else that is new.
   pub record StampsTurn (rules : Rules K) (f : Floor K) (h : Held K) (w : Worker K) (h' : Held K) (w' : Worker K) (event : Event) (after : BodyValue K → BodyValue K) (stamp : ℕ) : Type 0 where
     pub process : h'.process ≡ h.process
     pub body : BodyTurn h.body event stamp h'.body
-    pub machine : MachineTurn rules (opened_net f) stamp h.process h.body event
+    pub machine : MachineTurn rules (opened_net f) (turns_of w) stamp h.process h.body event
     pub above : Below stamp (turns_of w)
     pub view : view w' ≡ stamping (view w) stamp event after

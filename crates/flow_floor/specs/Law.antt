@@ -16,8 +16,9 @@ use Rattle.flow_floor.specs.declared.board.Slot.{Slot}
 use Rattle.flow_floor.specs.declared.board.Slot.TheVariants as slot
 use Rattle.flow_floor.specs.declared.board.View.{View}
 use Rattle.flow_floor.specs.declared.board.Look.{Look}
+use Rattle.flow_floor.specs.Ahead.{IsAhead}
 use Rattle.flow_floor.specs.Made.{turns_by}
-use Rattle.flow_floor.specs.Wired.{IsInput, Receives}
+use Rattle.flow_floor.specs.Wired.{IsInput}
 
 -- A process word that says that some seat holds the process, and one that says that none does.
 abbrev pub IsTaken : ℕ → Type 0
@@ -42,13 +43,11 @@ module _ {K : Type 0} where
   Stands s p b (Some j) = IsTaken (slice_index s.words p) × ((v : View K) × (get_elem? s.views j ≡ some v) × (v.held ≡ Some (p, b)))
 
   -- Channels. The word of a connection that no seat holds has the machine's level and open senders, and its channel is at home. That of a held one has
-  -- the held bit beside what the seat found, which its stamped turn may have left behind: the machine's level isn't below, unless the seat's process
-  -- receives there; and where the word says that the connection is over, it is.
-  abbrev pub Lies : State (Slot K) (View K) → ℕ → ℕ → ChannelShown → Option ℕ → Type 0
-  Lies s n c k None = (slice_index s.words (n + c) ≡ free_word (length k.packets) k.open_senders) × (get_elem? s.homes (n + c) ≡ some (some (slot.Channel k)))
-  Lies s n c k (Some j) =
-      (v : View K) × (get_elem? s.views j ≡ some v) × (v.grab ≡ Some (c, k)) × (slice_index s.words (n + c) ≡ v.word + held_bit) × (v.word < free_limit)
-      × ((level_in v.word ≤ length k.packets) ⊎ Receives v.held c) × (level_in v.word ≡ 0 → senders_in v.word ≡ 0 → IsOver k)
+  -- the held bit beside the word that the seat found: the machine has the channel that the seat found with it, or what the seat's one turn since then has
+  -- made of that.
+  abbrev pub Lies : Rules K → State (Slot K) (View K) → ℕ → ℕ → ChannelShown → Option ℕ → Type 0
+  Lies rules s n c k None = (slice_index s.words (n + c) ≡ free_word (length k.packets) k.open_senders) × (get_elem? s.homes (n + c) ≡ some (some (slot.Channel k)))
+  Lies rules s n c k (Some j) = (v : View K) × (get_elem? s.views j ≡ some v) × (v.grab ≡ Some (c, k)) × (slice_index s.words (n + c) ≡ v.word + held_bit) × (v.word < free_limit) × IsAhead rules v c k
 
   -- Looks. What was looked at for the present wish of a held process is still so: an input that was seen non-empty isn't empty, and one that was seen
   -- empty without open sender is so.
@@ -102,5 +101,5 @@ pub record Flow {K : Type 0} (rules : Rules K) (start : NetValue K) (s : State (
   pub senders : (c : ℕ) (k : ChannelShown) → slice_get g.now.channels c ≡ Some k → k.open_senders < FIELD
   -- bodies, channels, and what seats know
   pub each_process : (p : ℕ) (b : BodyValue K) → slice_get g.now.bodies p ≡ Some b → Stands s p b (g.holder p)
-  pub each_channel : (c : ℕ) (k : ChannelShown) → slice_get g.now.channels c ≡ Some k → Lies s (length start.bodies) c k (g.grabber c)
+  pub each_channel : (c : ℕ) (k : ChannelShown) → slice_get g.now.channels c ≡ Some k → Lies rules s (length start.bodies) c k (g.grabber c)
   pub each_seat : (j : ℕ) (v : View K) → get_elem? s.views j ≡ some v → Knows g.holder g.grabber g.now (length start.bodies) (turns_made start) g.by g.log j v

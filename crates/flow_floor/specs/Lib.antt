@@ -1,11 +1,13 @@
 pub mod Seats
 pub mod Made
 pub mod Wired
+pub mod Ahead
 pub mod Law
 pub mod Turning
 pub mod Waking
 pub mod Sending
 pub mod Rule
+pub mod Still
 pub mod Views
 pub mod Plays
 pub mod Workers

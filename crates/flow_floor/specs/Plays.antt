@@ -49,7 +49,7 @@ module _ {K : Type 0} where
   saw st m r m' = m' ≡ (seeing m.0 st.word r, m.1)
 
   abbrev pub stamped : Rules K → NetValue K → Event → (BodyValue K → BodyValue K) → Step (Slot K) → Sat K → ℕ → Sat K → Type 0
-  stamped rules start e f st m r m' = (m' ≡ (stamping m.0 r e f, m.1)) × Below r m.0.made × (r ≤ RUN_LIMIT) × MachineTurnOf rules start r f e m.0.held
+  stamped rules start e f st m r m' = (m' ≡ (stamping m.0 r e f, m.1)) × Below r m.0.made × (r ≤ RUN_LIMIT) × MachineTurnOf rules start m.0.made r f e m.0.held
 
   abbrev pub released : List ℕ → Step (Slot K) → Sat K → ℕ → Sat K → Type 0
   released notes st m r m' = m' ≡ (releasing m.0 notes, rest m.1)

@@ -4,19 +4,16 @@ use Rattle.flow_packet.specs.Tree.{Tree}
 use Rattle.flow_component.specs.Laws.{Rules}
 use Rattle.flow_model.specs.Events.{Event, Gets, Hears_end, Sends, Sleeps, Closes, Signals, seen_by, event_from}
 use Rattle.flow_model.specs.States.{Outlet}
-use Rattle.flow_model.specs.Turns.{process_after}
-use Rattle.flow_model.specs.Stands.{ChannelShown, dropped_after, shown_after, all_shown_after}
+use Rattle.flow_model.specs.Stands.{ChannelShown, shown_after, all_shown_after}
 use Rattle.flow_machine.specs.Values.{BodyValue, NetValue}
-use Rattle.flow_machine.specs.Nets.{levels_told, looks_of}
+use Rattle.flow_machine.specs.Nets.{looks_of}
 use Rattle.flow_machine.proofs.NetTurns.{IsOn}
 use Rattle.flow_floor.specs.declared.board.Look.{Look}
+use Rattle.flow_floor.specs.Ahead.{turned_body}
 use Rattle.flow_floor.specs.Law.{AllSeen}
+use Rattle.flow_floor.specs.Made.{turns_by}
 use Rattle.flow_machine.specs.Logs.{Logged, turns_made}
 use Rattle.flow_machine.specs.Solo.{GoesBy, reached}
-
--- A body after a turn with this stamp.
-abbrev pub turned_body : {K : Type 0} → Event → ℕ → BodyValue K → BodyValue K
-turned_body e stamp b = record b { process = process_after b.process e; dropped = dropped_after e b.dropped; leaving = None; stamps = b.stamps ++ stamp ∷ []; levels = b.levels ++ levels_told e stamp }
 
 -- A net with another body at one place.
 abbrev pub with_body : {K : Type 0} → NetValue K → ℕ → BodyValue K → NetValue K
@@ -45,21 +42,25 @@ abbrev pub Happens : {K : Type 0} → (NetValue K → Type 0) → ℕ → ℕ �
 Happens {K} fits n m p d grab seen e = (now : NetValue K) → fits now → slice_get now.bodies p ≡ Some d → GrabIn now grab → AllSeen n now (Some (p, d)) seen → length now.channels ≡ m → (level : ℕ) × (event_from (looks_of now.channels) d.process level ≡ Some e)
 
 -- The machine's turn of this stamp: when so many turns had been made, the net to which the opened one, `start`, had gone on had this body for
--- process p, whose turn was this event.
-pub record MachineTurn {K : Type 0} (rules : Rules K) (start : NetValue K) (stamp p : ℕ) (b : BodyValue K) (e : Event) : Type 0 where
+-- process p, whose turn was this event. Each turn that led there is that of some seat, and those of the seat that makes this one are the turns `made`.
+pub record MachineTurn {K : Type 0} (rules : Rules K) (start : NetValue K) (made : List (ℕ × ℕ)) (stamp p : ℕ) (b : BodyValue K) (e : Event) : Type 0 where
   pub now : NetValue K
   pub log : List Logged
+  pub by : List ℕ
+  pub seat : ℕ
   pub goes : GoesBy rules (reached rules) start (turns_made start) log now
   pub total : turns_made now ≡ turns_made start + length log
   pub clock : turns_made now ≡ stamp
+  pub seats : length by ≡ length log
+  pub own : made ≡ turns_by seat (turns_made start) by log
   pub there : slice_get now.bodies p ≡ Some b
   pub level : ℕ
   pub happens : event_from (looks_of now.channels) b.process level ≡ Some e
 
 -- The same of the process that a seat holds, whose body has become f of what the machine has.
-abbrev pub MachineTurnOf : {K : Type 0} → Rules K → NetValue K → ℕ → (BodyValue K → BodyValue K) → Event → Option (ℕ × BodyValue K) → Type 0
-MachineTurnOf rules start stamp f e (Some held) = MachineTurn rules start stamp held.0 (f held.1) e
-MachineTurnOf rules start stamp f e None = Unit {0}
+abbrev pub MachineTurnOf : {K : Type 0} → Rules K → NetValue K → List (ℕ × ℕ) → ℕ → (BodyValue K → BodyValue K) → Event → Option (ℕ × BodyValue K) → Type 0
+MachineTurnOf rules start made stamp f e (Some held) = MachineTurn rules start made stamp held.0 (f held.1) e
+MachineTurnOf rules start made stamp f e None = Unit {0}
 
 -- The turn fits what the seat holds: it is at the connection that the seat holds, or at none where it holds none.
 abbrev pub At : Event → Option (ℕ × ChannelShown) → Type 0

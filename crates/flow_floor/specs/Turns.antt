@@ -69,12 +69,12 @@ module _ {K : Type 0} where
   ToldLevel n b old new (Learns port level) = (c : ℕ) × (w : ℕ) × (output_at b.process port ≡ Some c) × IsLook n old.steps c w new.look × (level ≡ level_in w)
   ToldLevel n b old new event = Unit {0}
 
-  -- The held body made the machine's turn of this stamp, which is above all stamps of its worker.
+  -- The held body made the machine's turn of this stamp, in the history in which the turns that its worker had made stand; it is above all their stamps.
   pub record IsMade (rules : Rules K) (n : ℕ) (start : NetValue K) (h : Held K) (w : Worker K) (h' : Held K) (w' : Worker K) (stamp : ℕ) : Type 0 where
     pub process : h'.process ≡ h.process
     pub event : Event
     pub turn : BodyTurn h.body event stamp h'.body
-    pub machine : MachineTurn rules start stamp h.process h.body event
+    pub machine : MachineTurn rules start (view w).made stamp h.process h.body event
     pub made : (view w').made ≡ (view w).made ++ (stamp, h.process) ∷ []
     pub above : Below stamp (view w).made
     pub level : ToldLevel n h.body (view w) (view w') event

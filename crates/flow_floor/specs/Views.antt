@@ -6,7 +6,8 @@ use Rattle.flow_machine.specs.Values.{BodyValue}
 use Rattle.flow_floor.specs.declared.board.View.{View}
 use Rattle.flow_floor.specs.declared.board.Look.{Look}
 use Rattle.flow_floor.specs.Made.{merge}
-use Rattle.flow_floor.specs.Turning.{turned_body, grab_after}
+use Rattle.flow_floor.specs.Ahead.{turned_body, found_by}
+use Rattle.flow_floor.specs.Turning.{grab_after}
 
 module _ {K : Type 0} where
   -- What a step records that read r at word i, made by a seat with this view.
@@ -33,7 +34,7 @@ module _ {K : Type 0} where
   refusing v p r = record (looked v p r) { asked = v.asked ++ p ∷ [] }
 
   abbrev pub grabbing : View K → ℕ → ℕ → ℕ → ChannelShown → View K
-  grabbing v i r c k = record (seeing v i r) { grab = Some (c, k); word = r }
+  grabbing v i r c k = record (seeing v i r) { grab = Some (c, k); word = r; found = Some (found_by k v.made) }
 
   abbrev pub held_after : Event → (BodyValue K → BodyValue K) → ℕ → Option (ℕ × BodyValue K) → Option (ℕ × BodyValue K)
   held_after e f r (Some held) = Some (held.0, turned_body e r (f held.1))

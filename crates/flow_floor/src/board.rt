@@ -22,6 +22,12 @@ pub struct Look {
     pub at: u64,
 }
 
+/// What a seat found where it took a connection: the channel as the machine had it, and the turns that the seat had made until then.
+pub struct Found {
+    pub channel: Channel,
+    pub made: LinkedList<(u64, u64)>,
+}
+
 /// What a seat knows. No value of it is made.
 pub struct View<K: Component> {
     /// Its shares of the right to be a seat: all seats together have `WORKER_LIMIT`.
@@ -32,6 +38,8 @@ pub struct View<K: Component> {
     pub grab: Option<(u64, Channel)>,
     /// The word of that connection as it was found, without the held bit.
     pub word: u64,
+    /// What it found there.
+    pub found: Option<Found>,
     /// Its turns: stamp and process.
     pub made: LinkedList<(u64, u64)>,
     /// The connections that it looked at for the present wish of its process, each with the word, and its number of steps after it.

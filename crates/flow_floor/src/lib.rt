@@ -10,6 +10,7 @@ mod claims;
 mod crew;
 mod floor;
 mod idle;
+mod laws;
 mod open;
 mod plays;
 mod receive;
@@ -23,5 +24,6 @@ mod wake;
 
 pub use board::{Lawful, Slot, View};
 pub use floor::{Claim, Floor, Held, Turned, Worker};
+pub use laws::no_process_moves_once_a_worker_has_read_zero;
 pub use open::{OpenStop, Opened};
 pub use rooms::Rooms;

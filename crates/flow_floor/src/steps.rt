@@ -5,6 +5,7 @@ ghost use Rattle.flow_ring.specs.Words.{held_bit, free_word, level_in, senders_i
 ghost use Rattle.flow_floor.specs.Floors.{capacity_of, connection_count, opened_net, IsDeedOf, IsGrabbingAt, IsHeldAt, IsSameWorker, IsWakingAt};
 ghost use Rattle.flow_floor.specs.Workers.{view, Agrees, HasGrabbed, MatchGrabbed};
 ghost use Rattle.flow_floor.specs.Views.{seeing, stamping, releasing};
+ghost use Rattle.flow_floor.specs.Ahead.{IsUnturned};
 ghost use Rattle.flow_floor.specs.Made.{Below};
 ghost use Rattle.flow_floor.specs.Turning.{At, Happens, MachineTurn};
 ghost use Rattle.flow_floor.specs.Waking.{Notes};
@@ -52,12 +53,13 @@ impl<K: Component> Floor<K> {
         requires body { Agrees K.rules worker.old held.now }
         requires deed { IsDeedOf self.now held.now D.after D.start }
         requires at { At D.event (view worker.old).grab }
+        requires first { IsUnturned (view worker.old) }
         requires happens { Happens (FitNet K.rules) self.now.processes self.now.connections held.now.process held.now.body (view worker.old).grab (view worker.old).seen D.event }
         ensures table { worker.new.seat.table_id ≡ worker.old.seat.table_id }
         ensures view { view worker.new ≡ stamping (view worker.old) result D.event D.after }
         ensures slots { worker.new.seat.me.1 ≡ worker.old.seat.me.1 }
         ensures above { Below result (view worker.old).made }
-        ensures machine { MachineTurn K.rules (opened_net self.now) result held.now.process held.now.body D.event }
+        ensures machine { MachineTurn K.rules (opened_net self.now) (view worker.old).made result held.now.process held.now.body D.event }
     {
         let _ = held;
         let clock = self.layout().clock();

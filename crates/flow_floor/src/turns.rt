@@ -11,6 +11,7 @@ ghost use Rattle.flow_machine.specs.Nets.{GetsSound, SendsAt, packet_wished};
 ghost use Rattle.flow_machine.specs.Outlets.{connection_at};
 ghost use Rattle.flow_machine.specs.FitNets.{FitNet};
 ghost use Rattle.flow_floor.specs.Floors.{IsDeedOf, IsGrabbingAt, StampsTurn};
+ghost use Rattle.flow_floor.specs.Ahead.{IsUnturned};
 ghost use Rattle.flow_floor.specs.Workers.{view};
 ghost use Rattle.flow_floor.specs.Turning.{Happens, received_event, signalled_event, sent_event, closed_event};
 
@@ -32,6 +33,7 @@ impl<K: Component> Floor<K> {
         requires event { D.event ≡ received_event port.0 connection channel.old.packets }
         requires deed { IsDeedOf self.now held.old D.after D.start }
         requires held { IsGrabbingAt K.rules self.now worker.old held.old connection channel.old }
+        requires first { IsUnturned (view worker.old) }
         requires stage { held.old.body.process.stage ≡ Wishing (Receive port) }
         requires input { slice_get held.old.body.process.inputs port.0 ≡ Some (From connection) }
         requires room { HasRoom held.old.body }
@@ -62,6 +64,7 @@ impl<K: Component> Floor<K> {
         requires event { D.event ≡ signalled_event connection channel.old.packets }
         requires deed { IsDeedOf self.now held.old D.after D.start }
         requires held { IsGrabbingAt K.rules self.now worker.old held.old connection channel.old }
+        requires first { IsUnturned (view worker.old) }
         requires stage { held.old.body.process.stage ≡ Idle }
         requires room { HasRoom held.old.body }
         requires there { 0 < length channel.old.packets }
@@ -89,6 +92,7 @@ impl<K: Component> Floor<K> {
         requires event { D.event ≡ sent_event port.0 connection (packet_wished held.old.body.process) }
         requires deed { IsDeedOf self.now held.old D.after D.start }
         requires held { IsGrabbingAt K.rules self.now worker.old held.old connection channel.old }
+        requires first { IsUnturned (view worker.old) }
         requires stage { SendsAt held.old.body.process.stage port }
         requires output { output_at held.old.body.process port.0 ≡ Some connection }
         requires room { HasRoom held.old.body }
@@ -119,6 +123,7 @@ impl<K: Component> Floor<K> {
         requires event { D.event ≡ Learns port.0 (length channel.now.packets) }
         requires deed { IsDeedOf self.now held.old D.after D.start }
         requires held { IsGrabbingAt K.rules self.now worker.old held.old connection channel.now }
+        requires first { IsUnturned (view worker.old) }
         requires stage { held.old.body.process.stage ≡ Wishing (Level port) }
         requires output { output_at held.old.body.process port.0 ≡ Some connection }
         requires room { HasRoom held.old.body }
@@ -146,6 +151,7 @@ impl<K: Component> Floor<K> {
         requires event { D.event ≡ closed_event (slice_get (outlets held.old.body.process) place) }
         requires deed { IsDeedOf self.now held.old D.after D.start }
         requires held { IsGrabbingAt K.rules self.now worker.old held.old connection channel.old }
+        requires first { IsUnturned (view worker.old) }
         requires stage { held.old.body.process.stage ≡ Closing place }
         requires outlet { connection_at (outlets held.old.body.process) place ≡ Some connection }
         requires room { HasRoom held.old.body }

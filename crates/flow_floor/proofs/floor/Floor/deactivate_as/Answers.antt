@@ -4,10 +4,15 @@ use Rattle.flow_machine.specs.Nets.{BodyTurn}
 use Rattle.flow_machine.specs.declared.answers.Effect.TheVariants as effects
 use Rattle.flow_machine.proofs.Pairs.{body-turn}
 use Rattle.flow_floor.proofs.Turnings.{held-turned, alone-at, happens-as, sleeps-happens}
+use Rattle.flow_floor.specs.Workers.{view}
+use Rattle.flow_floor.proofs.Aheads.{unturned-none}
 use Rattle.flow_floor.proofs.floor.Floor.deactivate_as.Goals as goal
 
 pub stamp-stamp-requires-clause-at : goal.stamp-stamp-requires-clause-at
 stamp-stamp-requires-clause-at g c = alone-at _ g.D.Deed.event Sleeps c.requires.held.calm.grab c.requires.event (λ cs. refl)
+
+pub stamp-stamp-requires-clause-first : goal.stamp-stamp-requires-clause-first
+stamp-stamp-requires-clause-first g c = unturned-none (view c.args.worker.now) c.requires.held.calm.grab
 
 pub stamp-stamp-requires-clause-happens : goal.stamp-stamp-requires-clause-happens
 stamp-stamp-requires-clause-happens g c = happens-as _ _ _ _ c.args.held.now.body _ _ g.D.Deed.event Sleeps c.requires.held.calm.grab c.requires.event (sleeps-happens _ _ _ _ c.args.held.now.body _ c.requires.stage)

@@ -10,6 +10,7 @@ use Rattle.flow_floor.proofs.Looking.{alone-on}
 use Rattle.flow_floor.proofs.Sounds.{signal-grabbed}
 use Rattle.flow_floor.proofs.Turnings.{signalled-left}
 use Rattle.flow_ring.specs.Words.{level_in, senders_in}
+use Rattle.flow_floor.proofs.Aheads.{unturned-grabbing}
 use Rattle.flow_floor.proofs.floor.Floor.idle_turn.Goals as goal
 
 pub start_as-requires-clause-happens : goal.start_as-requires-clause-happens
@@ -52,3 +53,6 @@ pub give_back_waking_senders-requires-clause-senders : goal.give_back_waking_sen
 give_back_waking_senders-requires-clause-senders g c = let h = c.in-Got.ensures.1 in let s = c.signal_as-stamp.ensures in
     let word = ap (λ v. v.word) s.turn.view ∙ ap (λ v. v.word) h.view in
     omega (arith, ap senders_in word, h.senders, (signalled-left c.in-Some.connection c.in-Got.channel c.signal_as-stamp.new.channel s.channel).1)
+
+pub signal_as-stamp-requires-clause-first : goal.signal_as-stamp-requires-clause-first
+signal_as-stamp-requires-clause-first g c = unturned-grabbing (view c.look_idle.new.worker) (view c.grab.new.worker) _ _ _ _ c.in-Got.ensures.1.view

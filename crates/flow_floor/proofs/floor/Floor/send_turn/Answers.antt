@@ -8,6 +8,7 @@ use Rattle.flow_floor.proofs.Came.{kept-now, waits-full}
 use Rattle.flow_floor.proofs.Idles.{full-seen}
 use Rattle.flow_floor.proofs.Turnings.{sent-longer}
 use Rattle.flow_floor.proofs.Sounds.{sent-grabbed}
+use Rattle.flow_floor.proofs.Aheads.{unturned-grabbing}
 use Rattle.flow_floor.proofs.floor.Floor.send_turn.Goals as goal
 
 pub returns-then-level-capacity-clause-turned : goal.returns-then-level-capacity-clause-turned
@@ -40,3 +41,6 @@ pub give_back_waking_receiver-requires-clause-level : goal.give_back_waking_rece
 give_back_waking_receiver-requires-clause-level g c = let h = c.in-Got.ensures.1 in let s = c.send_as-stamp.ensures in
     let word = ap (λ v. v.word) s.turn.view ∙ ap (λ v. v.word) h.view in
     omega (arith, ap level_in word, h.level, sent-longer c.args.port.0 c.args.connection (packet_wished c.args.held.now.body.process) c.in-Got.channel c.send_as-stamp.new.channel s.channel)
+
+pub send_as-stamp-requires-clause-first : goal.send_as-stamp-requires-clause-first
+send_as-stamp-requires-clause-first g c = unturned-grabbing (view c.args.worker.now) (view c.grab.new.worker) _ _ _ _ c.in-Got.ensures.1.view
