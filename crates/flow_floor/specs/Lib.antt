@@ -16,3 +16,4 @@ pub mod Opening
 pub mod Rooms
 pub mod Crew
 pub mod Floors
+pub mod Crews
