@@ -7,7 +7,7 @@ use Rattle.flow_component.specs.Laws.{AtMostOneOutcome}
 use Rattle.flow_words.specs.Words.{run_of}
 use Rattle.flow_catalogue.specs.declared.standard.Std.{Std}
 use Rattle.flow_catalogue.specs.Std.{std_rules}
-use Rattle.flow_floor.specs.declared.worked.Crew.{Crew}
+use Rattle.flow_runner.specs.declared.worked.Crew.{Crew}
 use Rattle.flow_journal.specs.Files.{HasJournalOrFault, HasOneJournal}
 use Rattle.flow_journal.specs.Replays.{StopsAreNoSchedules}
 use Rattle.flow_journal.specs.declared.merge.Journal.{Journal}

@@ -14,7 +14,7 @@ use Rattle.flow_model.specs.Fit.{Fit}
 use Rattle.flow_machine.specs.Starts.{StartsNet}
 use Rattle.flow_machine.specs.Values.{BodyValue, NetValue}
 use Rattle.flow_cycle.specs.Nets.{IsReached}
-use Rattle.flow_floor.specs.declared.worked.Worked.{Worked}
+use Rattle.flow_runner.specs.declared.worked.Worked.{Worked}
 use Rattle.flow_journal.specs.Files.{IsWritable}
 use Rattle.flow_model.specs.Plans.{start_of, StartsWell}
 use Rattle.flow_journal.specs.Replays.{schedule_of, StopsFrom, StopsAtTurn}

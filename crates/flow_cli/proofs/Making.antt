@@ -1,7 +1,7 @@
 -- What is said of the run of a made network.
 use Rattle.std.proofs.Common.{◌≡◌, ℕ, Ok, sym, ap, ◌∙◌, subst}
 use Rattle.flow_catalogue.specs.declared.standard.Std.{Std}
-use Rattle.flow_floor.specs.declared.worked.Crew.{Crew}
+use Rattle.flow_runner.specs.declared.worked.Crew.{Crew}
 use Rattle.flow_journal.specs.declared.merge.Journal.{Journal}
 use Rattle.flow_cli.specs.Makes.{IsMadeJob, SaysMadeRun, make_text}
 use Rattle.flow_cli.specs.Runs.{RunsTo, Leaves, bytes_at}

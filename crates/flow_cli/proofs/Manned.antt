@@ -13,9 +13,9 @@ use Rattle.flow_machine.specs.Logs.{Logged, IsLogOf, turns_made}
 use Rattle.flow_machine.specs.Starts.{StartsNet}
 use Rattle.flow_machine.specs.Values.{NetValue}
 use Rattle.flow_floor.specs.Made.{numbered}
-use Rattle.flow_floor.specs.Crews.{HasWorkers, stamped}
-use Rattle.flow_floor.specs.declared.worked.Crew.{Crew}
-use Rattle.flow_floor.specs.declared.worked.Worked.{Worked}
+use Rattle.flow_runner.specs.Crews.{HasWorkers, stamped}
+use Rattle.flow_runner.specs.declared.worked.Crew.{Crew}
+use Rattle.flow_runner.specs.declared.worked.Worked.{Worked}
 use Rattle.flow_journal.specs.Replays.{schedule_of}
 use Rattle.flow_journal.specs.Runs.{ComesOfRun}
 use Rattle.flow_journal.specs.declared.merge.Journal.{Journal}

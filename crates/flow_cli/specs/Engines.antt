@@ -4,9 +4,9 @@ use Rattle.std.specs.declared.alloc.AllocError.{AllocError}
 use Rattle.std.specs.declared.result.Result.{Result}
 use Rattle.flow_catalogue.specs.declared.standard.Std.{Std}
 use Rattle.flow_catalogue.specs.Std.{std_rules}
-use Rattle.flow_floor.specs.declared.worked.Worked.{Worked}
+use Rattle.flow_runner.specs.declared.worked.Worked.{Worked}
 use Rattle.flow_floor.specs.Crew.{made_by}
-use Rattle.flow_floor.specs.Crews.{HasWorkers, workers_in}
+use Rattle.flow_runner.specs.Crews.{HasWorkers, workers_in}
 use Rattle.flow_floor.specs.Shut.{IsShut}
 use Rattle.flow_machine.specs.Values.{NetValue}
 use Rattle.flow_machine.specs.Solo.{Goes, ReachesNet, round_robin}

@@ -15,7 +15,7 @@ use Rattle.flow_model.specs.Plans.{start_of}
 use Rattle.flow_catalogue.specs.declared.standard.Std.{Std}
 use Rattle.flow_catalogue.specs.Std.{std_rules}
 use Rattle.flow_determinate.specs.Standard.{IsDeterminate}
-use Rattle.flow_floor.specs.Crews.{HasWorkers}
+use Rattle.flow_runner.specs.Crews.{HasWorkers}
 use Rattle.flow_kinds.specs.Page.{kinds_page}
 use Rattle.flow_journal.specs.Files.{IsFileOf}
 use Rattle.flow_journal.specs.Replays.{schedule_of}

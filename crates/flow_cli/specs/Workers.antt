@@ -3,9 +3,9 @@ use Rattle.std.specs.Prelude.{◌≡◌, ◌≤◌, ℕ, List, String}
 use Rattle.std.specs.declared.alloc.Global.{Global}
 use Rattle.flow_words.specs.Words.{Asked, workers_asked}
 use Rattle.flow_catalogue.specs.declared.standard.Std.{Std}
-use Rattle.flow_floor.specs.declared.worked.Crew.{Crew}
+use Rattle.flow_runner.specs.declared.worked.Crew.{Crew}
 use Rattle.flow_floor.specs.Crew.{made_by}
-use Rattle.flow_floor.specs.Crews.{HasWorkers, stamped, workers_in}
+use Rattle.flow_runner.specs.Crews.{HasWorkers, stamped, workers_in}
 use Rattle.flow_journal.specs.declared.merge.Journal.{Journal}
 use Rattle.flow_cli.specs.Reads.{Asks, IsEmptyJournal}
 

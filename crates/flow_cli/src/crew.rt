@@ -4,10 +4,9 @@ ghost use Rattle.flow_cli.specs.Engines.{RanBy};
 
 use flow_catalogue::Std;
 use flow_component::Gate;
-use flow_floor::{Crew, Worked};
 use flow_limits::WORKER_LIMIT;
 use flow_machine::{Net, solo};
-use flow_runner::{RunStop, run};
+use flow_runner::{Crew, RunStop, Worked, run};
 use std::alloc::{AllocError, Global};
 use std::sync::Wait;
 use std::thread::Threads;

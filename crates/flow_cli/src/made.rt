@@ -17,7 +17,7 @@ use crate::ran::{Ran, run_net};
 use crate::run::Said;
 use crate::stop::Stop;
 use flow_catalogue::{Std, a_plan_over_the_table_is_standard};
-use flow_floor::Worked;
+use flow_runner::Worked;
 use flow_limits::NUMBER_LIMIT;
 use flow_machine::Net;
 use flow_make::make;

@@ -8,7 +8,7 @@ ghost use Rattle.flow_cli.specs.Workers.{IsMadeBy};
 
 use crate::before::Job;
 use flow_catalogue::{Std, a_plan_over_the_table_is_standard};
-use flow_floor::{Crew, Worked};
+use flow_runner::{Crew, Worked};
 use flow_journal::{
     Journal, a_round_of_a_net_is_a_run, a_schedule_sees_no_more_than_its_turns,
     what_workers_reach_is_a_run,

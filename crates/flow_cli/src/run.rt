@@ -3,7 +3,7 @@
 ghost use Rattle.std.specs.Prelude.{◌≡◌, IfOk};
 ghost use Rattle.std.specs.Option.{option_map};
 ghost use Rattle.flow_journal.specs.Files.{IsWritable};
-ghost use Rattle.flow_floor.specs.Crews.{HasWorkers};
+ghost use Rattle.flow_runner.specs.Crews.{HasWorkers};
 ghost use Rattle.flow_kinds.specs.Page.{kinds_page};
 ghost use Rattle.flow_parse.specs.Canonical.{canonical};
 ghost use Rattle.flow_words.specs.Words.{run_by};
@@ -24,7 +24,7 @@ use crate::status::Status;
 use crate::stop::Stop;
 use flow_catalogue::Std;
 use flow_determinate::determinate;
-use flow_floor::{Crew, Worked};
+use flow_runner::{Crew, Worked};
 use flow_items::Items;
 use flow_journal::Journal;
 use flow_kinds::kinds_page;

@@ -16,7 +16,7 @@ use flow_catalogue::{
 };
 use flow_component::Gate;
 use flow_determinate::a_determinate_plan_ends_as_on_one_thread;
-use flow_floor::{Crew, Worked};
+use flow_runner::{Crew, Worked};
 use flow_journal::{
     Journal, a_file_has_one_journal_or_one_fault, a_journal_that_stops_is_no_schedule,
 };

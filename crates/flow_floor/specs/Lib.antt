@@ -16,4 +16,3 @@ pub mod Opening
 pub mod Rooms
 pub mod Crew
 pub mod Floors
-pub mod Crews

@@ -1,8 +1,7 @@
-//! How workers are made, made one again, and told of when they are gone.
+//! How workers are made, and made one again.
 ghost use Rattle.std.specs.Prelude.{◌≡◌, ◌≢◌, ◌+◌, ◌++◌, ◌-◌, ◌<◌, ◌≤◌, ◌||◌, [], ◌∷◌, All, length, sum_by, true, vec_capacity};
 ghost use Rattle.flow_limits.specs.declared.TheConstants.{WORKER_LIMIT};
 ghost use Rattle.flow_floor.specs.Crew.{made_by};
-ghost use Rattle.flow_floor.specs.Crews.{HasWorkers, workers_in};
 ghost use Rattle.flow_floor.specs.Floors.{IsCrewOf, IsIdleAt, IsNewWorker, HasReadZero, SomeReadZero};
 ghost use Rattle.flow_floor.specs.Workers.{view};
 ghost use Rattle.flow_floor.specs.Views.{cut, merged};
@@ -10,41 +9,7 @@ ghost use Rattle.flow_floor.specs.Seats.{newcomer};
 
 use crate::floor::{Floor, Worker};
 use crate::plays::{Cut, Glue};
-use crate::worked::{Crew, Worked};
 use flow_component::Component;
-use flow_machine::Closed;
-use std::alloc::Global;
-use std::snapshot::Snapshot;
-
-impl<K: Component> Crew<K> {
-    /// Nobody. Takes no memory.
-    pub fn nobody(alloc: Global) -> Crew<K>
-        ensures { HasWorkers 0 result }
-    {
-        Crew::of(&Vec::new(alloc))
-    }
-
-    /// These workers.
-    pub(crate) fn of(workers: &Vec<Worker<K>>) -> Crew<K>
-        ensures workers { workers_in result ≡ workers.now.items }
-        ensures count { HasWorkers (length workers.now.items) result }
-    {
-        Crew {
-            count: workers.len(),
-            workers: Snapshot::of(workers),
-        }
-    }
-}
-
-impl<K: Component> Worked<K> {
-    /// The network, with the processes that found no memory.
-    pub fn into_closed(self) -> Closed<K>
-        ensures { result ≡ self.closed }
-    {
-        let Worked { closed, crew: _ } = self;
-        closed
-    }
-}
 
 impl<K: Component> Floor<K> {
     /// One worker more.

@@ -18,10 +18,8 @@ mod steps;
 mod turn;
 mod turns;
 mod wake;
-mod worked;
 
 pub use board::{Lawful, Slot, View};
 pub use floor::{Claim, Floor, Held, Turned, Worker};
 pub use open::{OpenStop, Opened};
 pub use rooms::Rooms;
-pub use worked::{Crew, Worked};

@@ -5,7 +5,6 @@ ghost use Rattle.flow_ring.specs.Places.{word_count};
 ghost use Rattle.flow_ring.specs.Spaced.{ranked};
 ghost use Rattle.flow_limits.specs.declared.TheConstants.{PROCESS_LIMIT, WORKER_LIMIT};
 ghost use Rattle.flow_floor.specs.Crew.{made_by};
-ghost use Rattle.flow_floor.specs.Crews.{HasWorkers, workers_in};
 ghost use Rattle.flow_floor.specs.Floors.{opened_net, HasReadZero, SomeReadZero, HasRoomsFor, IsCrewOf, IsIdleAt, turns_of};
 ghost use Rattle.flow_machine.specs.Quiet.{AllUnset, IsQuietNet};
 ghost use Rattle.flow_model.specs.Stages.{is_over_stage};
@@ -15,7 +14,6 @@ ghost use Rattle.flow_floor.specs.Workers.{view};
 use crate::board::Slot;
 use crate::floor::{Floor, Worker};
 use crate::rooms::Rooms;
-use crate::worked::{Crew, Worked};
 use atomic_table::Closed;
 use flow_component::Component;
 use flow_machine::{Body, Channel, Closed as Shut, Parts, Stage};
@@ -177,21 +175,17 @@ impl<K: Component> Floor<K> {
         self.shut(all, rooms)
     }
 
-    /// Puts the net together again, from all workers, each of which read 0, and tells who they were. The opened net goes on to it by their turns. It is
-    /// quiet where no process found no memory. Takes no memory: the room for this was taken when the floor was opened.
-    pub fn close(self, workers: Vec<Worker<K>>, rooms: Rooms<K>) -> Worked<K>
+    /// Puts the net together again, from all workers, each of which read 0. The opened net goes on to it by their turns. It is quiet where no process
+    /// found no memory. Takes no memory: the room for this was taken when the floor was opened.
+    pub fn close(self, workers: Vec<Worker<K>>, rooms: Rooms<K>) -> Shut<K>
         requires crew { IsCrewOf self workers.items }
         requires rooms { HasRoomsFor self rooms }
         requires zero { All HasReadZero workers.items }
-        ensures net { IsShut K.rules (opened_net self) (made_by workers.items) result.closed.net }
-        ensures crew { workers_in result.crew ≡ workers.items }
-        ensures count { HasWorkers (length workers.items) result.crew }
-        ensures starved { AllUnset result.closed.net result.closed.starved.items }
-        ensures quiet { result.closed.starved.items ≡ [] → IsQuietNet result.closed.net }
+        ensures net { IsShut K.rules (opened_net self) (made_by workers.items) result.net }
+        ensures starved { AllUnset result.net result.starved.items }
+        ensures quiet { result.starved.items ≡ [] → IsQuietNet result.net }
     {
-        let crew = Crew::of(&workers);
-        let closed = self.rejoin(workers, rooms);
-        Worked { closed, crew }
+        self.rejoin(workers, rooms)
     }
 
     /// Puts the net together again, from all workers, whether or not they read 0. The opened net goes on to it by their turns, and it may be opened again.

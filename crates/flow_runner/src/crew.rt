@@ -1,20 +1,22 @@
 //! The workers together.
 ghost use Rattle.flow_floor.specs.Crew.{made_by};
-ghost use Rattle.flow_floor.specs.Crews.{HasWorkers, workers_in};
 ghost use Rattle.flow_floor.specs.Floors.{HasReadZero, HasSameShare, IsCrewOf, IsIdleAt};
 ghost use Rattle.flow_floor.specs.Shut.{IsShut};
 ghost use Rattle.flow_limits.specs.declared.TheConstants.{WORKER_LIMIT};
 ghost use Rattle.flow_machine.specs.Quiet.{AllUnset, IsQuietNet};
 ghost use Rattle.flow_machine.specs.Solo.{ReachesNet};
+ghost use Rattle.flow_runner.specs.Crews.{HasWorkers, workers_in};
 ghost use Rattle.std.specs.Prelude.{◌≡◌, ◌≤◌, All, IfOk, [], length};
 
 use crate::rest::Bell;
 use crate::serve::serve;
+use crate::worked::{Crew, Worked};
 use flow_component::{Component, Gate};
-use flow_floor::{Floor, OpenStop, Opened, Worked, Worker};
+use flow_floor::{Floor, OpenStop, Opened, Worker};
 use flow_limits::WORKER_LIMIT;
-use flow_machine::Net;
+use flow_machine::{Closed, Net};
 use std::alloc::Global;
+use std::snapshot::Snapshot;
 use std::sync::Wait;
 use std::thread;
 use std::thread::Threads;
@@ -23,6 +25,36 @@ use std::thread::Threads;
 #[derive(Clone, Copy, Debug, PartialEq, Eq)]
 pub enum RunStop {
     NoMemory,
+}
+
+impl<K: Component> Crew<K> {
+    /// Nobody. Takes no memory.
+    pub fn nobody(alloc: Global) -> Crew<K>
+        ensures { HasWorkers 0 result }
+    {
+        Crew::of(&Vec::new(alloc))
+    }
+
+    /// These workers.
+    pub(crate) fn of(workers: &Vec<Worker<K>>) -> Crew<K>
+        ensures workers { workers_in result ≡ workers.now.items }
+        ensures count { HasWorkers (length workers.now.items) result }
+    {
+        Crew {
+            count: workers.len(),
+            workers: Snapshot::of(workers),
+        }
+    }
+}
+
+impl<K: Component> Worked<K> {
+    /// The network, with the processes that found no memory.
+    pub fn into_closed(self) -> Closed<K>
+        ensures { result ≡ self.closed }
+    {
+        let Worked { closed, crew: _ } = self;
+        closed
+    }
 }
 
 /// Has each worker make turns in a thread of its own.
@@ -82,5 +114,7 @@ pub fn run<K: Component + Send, G: Gate + Sync, R: Threads + Wait + Sync>(
         rooms,
     } = opened;
     serve_all(rt, &floor, crew.as_mut_slice(), workers, gate);
-    Ok(floor.close(crew, rooms))
+    let by = Crew::of(&crew);
+    let closed = floor.close(crew, rooms);
+    Ok(Worked { closed, crew: by })
 }

@@ -1,6 +1,6 @@
 use Rattle.std.proofs.Common.{ap, ◌∙◌}
 use Rattle.flow_catalogue.specs.declared.standard.Std.{Std}
-use Rattle.flow_floor.specs.declared.worked.Crew.{Crew}
+use Rattle.flow_runner.specs.declared.worked.Crew.{Crew}
 use Rattle.flow_journal.specs.declared.merge.Journal.{Journal}
 use Rattle.flow_cli.specs.After.{verdict_status}
 use Rattle.flow_cli.specs.declared.ran.PrintedReport.{PrintedReport}

@@ -2,4 +2,4 @@ use Rattle.flow_floor.proofs.Crews.{zero-each}
 use Rattle.flow_floor.proofs.floor.Floor.close.Goals as goal
 
 pub returns-clause-quiet : goal.returns-clause-quiet
-returns-clause-quiet g c = c.rejoin-closed.ensures.quiet (zero-each c.args.self.table.shared.table_id c.args.workers.items c.requires.crew c.requires.zero)
+returns-clause-quiet g c = c.rejoin.ensures.quiet (zero-each c.args.self.table.shared.table_id c.args.workers.items c.requires.crew c.requires.zero)

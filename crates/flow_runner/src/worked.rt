@@ -1,12 +1,12 @@
-//! The workers of a floor that was closed.
+//! A run by workers that is over.
 
-use crate::floor::Worker;
 use flow_component::Component;
+use flow_floor::Worker;
 use flow_machine::Closed;
 use std::snapshot::Snapshot;
 
-/// All workers of a floor that was closed, as they were then; or nobody, where one thread made the turns. Only the closing of a floor makes a crew that has
-/// workers. Of the workers themselves nothing is left but how many they were.
+/// The workers that made the turns of a run, as they were when its floor was closed; or nobody, where one thread made the turns. Only a run makes a crew
+/// that has workers. Of the workers themselves nothing is left but how many they were.
 #[derive(Drop)]
 pub struct Crew<K: Component> {
     pub(crate) count: usize,

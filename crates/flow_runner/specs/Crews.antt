@@ -1,9 +1,9 @@
--- The workers of a floor that was closed, and the turns that each of them made.
+-- The workers of a run that is over, and the turns that each of them made.
 use Rattle.std.specs.Prelude.{◌≡◌, ℕ, ◌+◌, List, [], ◌∷◌, length}
-use Rattle.flow_floor.specs.declared.worked.Crew.{Crew}
 use Rattle.flow_floor.specs.declared.floor.Worker.{Worker}
+use Rattle.flow_runner.specs.declared.worked.Crew.{Crew}
 
--- The workers of a crew, each with what it knew when its floor was closed.
+-- The workers of a crew, each with what it knew when the floor was closed.
 abbrev pub workers_in : {K : Type 0} → Crew K → List (Worker K)
 workers_in crew = crew.workers.value.items
 
