@@ -17,10 +17,10 @@ use crate::ran::{Ran, run_net};
 use crate::run::Said;
 use crate::stop::Stop;
 use flow_catalogue::{Std, a_plan_over_the_table_is_standard};
-use flow_runner::Worked;
 use flow_limits::NUMBER_LIMIT;
 use flow_machine::Net;
 use flow_make::make;
+use flow_runner::Worked;
 use flow_text::put_decimal;
 use std::alloc::{AllocError, Global};
 

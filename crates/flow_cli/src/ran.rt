@@ -8,7 +8,6 @@ ghost use Rattle.flow_cli.specs.Workers.{IsMadeBy};
 
 use crate::before::Job;
 use flow_catalogue::{Std, a_plan_over_the_table_is_standard};
-use flow_runner::{Crew, Worked};
 use flow_journal::{
     Journal, a_round_of_a_net_is_a_run, a_schedule_sees_no_more_than_its_turns,
     what_workers_reach_is_a_run,
@@ -17,6 +16,7 @@ use flow_machine::{Closed, Net};
 use flow_model::a_valid_plan_is_ready;
 use flow_plan::Plan;
 use flow_report::{Report, Verdict, a_report_tells_of_its_state};
+use flow_runner::{Crew, Worked};
 use std::alloc::{AllocError, Global};
 
 /// A run that is over: its plan, its network, the journal of its turns, who made them, and the report of what it came to.

@@ -16,7 +16,6 @@ use flow_catalogue::{
 };
 use flow_component::Gate;
 use flow_determinate::a_determinate_plan_ends_as_on_one_thread;
-use flow_runner::{Crew, Worked};
 use flow_journal::{
     Journal, a_file_has_one_journal_or_one_fault, a_journal_that_stops_is_no_schedule,
 };
@@ -28,6 +27,7 @@ use flow_meanings::{
 };
 use flow_model::{a_finished_network_leads_on, a_valid_plan_is_ready};
 use flow_report::a_state_has_one_report;
+use flow_runner::{Crew, Worked};
 use flow_text::{Shelf, Sink};
 use flow_words::{Command, command};
 use std::alloc::{AllocError, Global};
