@@ -152,7 +152,8 @@ pub fn is_same<R: Threads + Wait + Sync>(
 {
     let net = started(alloc, text, bytes)?;
     match run(rt, alloc, net, workers, &NoGate) {
-        Ok(ran) => {
+        Ok(worked) => {
+            let ran = worked.into_closed();
             let same = is_right(alloc, text, bytes, &ran);
             ran.discard();
             same

@@ -55,9 +55,10 @@ fn together<R: Threads + Wait + Sync>(
     requires most { workers ≤ WORKER_LIMIT }
     ensures { IfSome result (λ closed. GoesToItsEnd net closed.net) }
 {
-    let Ok(closed) = run(rt, alloc, net, workers, &NoGate) else {
+    let Ok(worked) = run(rt, alloc, net, workers, &NoGate) else {
         return None;
     };
+    let closed = worked.into_closed();
     if closed.starved.is_empty() {
         Some(closed)
     } else {

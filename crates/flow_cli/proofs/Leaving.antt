@@ -14,6 +14,7 @@ use Rattle.flow_model.specs.Fit.{Fit}
 use Rattle.flow_machine.specs.Starts.{StartsNet}
 use Rattle.flow_machine.specs.Values.{BodyValue, NetValue}
 use Rattle.flow_cycle.specs.Nets.{IsReached}
+use Rattle.flow_runner.specs.declared.worked.Worked.{Worked}
 use Rattle.flow_journal.specs.Files.{IsWritable}
 use Rattle.flow_model.specs.Plans.{start_of, StartsWell}
 use Rattle.flow_journal.specs.Replays.{schedule_of, StopsFrom, StopsAtTurn}
@@ -105,15 +106,15 @@ leaves workers plan components net (Ok ran) standard tell sees well comes same t
 leaves workers plan components net (Err e) standard tell sees well comes same told names = tt
 
 -- A net that was run on from the start of a plan comes of a run, by one thread or by workers.
-pub comes-of-run : (workers : ℕ) (plan : Network) (components : List Std) (start net : NetValue Std) (journal : Journal)
+pub comes-of-run : (workers : ℕ) (plan : Network) (components : List Std) (start : NetValue Std) (worked : Worked Std) (journal : Journal)
     → RoundsAreRuns std_rules → ReachesAreRuns std_rules
-    → StartsWell std_rules plan components → StartsNet plan components start → RanBy workers start net → IsJournalOfNet net journal
-    → ComesOfRun std_rules workers plan components (schedule_of journal) net
-comes-of-run zero plan components start net journal rounds reaches well starts ran is = rounds plan components start net journal.turns journal.seen well starts (ran.alone refl) is.turns is.seen
-comes-of-run (suc more) plan components start net journal rounds reaches well starts ran is =
+    → StartsWell std_rules plan components → StartsNet plan components start → RanBy workers start worked → IsJournalOfNet worked.closed.net journal
+    → ComesOfRun std_rules workers plan components (schedule_of journal) worked.closed.net
+comes-of-run zero plan components start worked journal rounds reaches well starts ran is = rounds plan components start worked.closed.net journal.turns journal.seen well starts (ran.alone refl) is.turns is.seen
+comes-of-run (suc more) plan components start worked journal rounds reaches well starts ran is =
     let some : 0 < suc more = omega arith in
     let one : 1 ≤ suc more = omega arith in
-    reaches (suc more) plan components start net journal.turns journal.seen some well starts (ran.reaches one) (ran.quiet one) is.turns is.seen
+    reaches (suc more) plan components start worked.closed.net journal.turns journal.seen some well starts (ran.reaches one) (ran.quiet one) is.turns is.seen
 
 -- What making a journal again tells of the net to which it led.
 pub told-again : (plan : Network) (components : List Std) (net : NetValue Std) (journal : Journal) (told : PrintedReport) → IsStandardPlan plan → ReportsTell std_rules

@@ -14,6 +14,7 @@ pub mod MadeOnce
 pub mod MadePlan
 pub mod MadeValue
 pub mod Making
+pub mod Manned
 pub mod Meaning
 pub mod Networks
 pub mod Parting

@@ -4,7 +4,8 @@ use Rattle.std.specs.Prelude.{String}
 use Rattle.std.specs.declared.alloc.Global.{Global}
 use Rattle.flow_text.specs.Edge.{Outside, Name}
 use Rattle.flow_plan.specs.Network.{Network}
-use Rattle.flow_words.specs.Words.{AskedRun, Judge, Kinds, Replay}
+use Rattle.flow_words.specs.Words.{AskedRun, Check, Judge, Kinds, Replay}
+use Rattle.flow_parse.specs.Canonical.{canonical}
 use Rattle.flow_parse.specs.declared.value.NetText.{NetText}
 use Rattle.flow_catalogue.specs.Std.{std_rules}
 use Rattle.flow_determinate.specs.Standard.{IsDeterminate}
@@ -44,6 +45,7 @@ has-run o a words job asked run asks keeps = record {
   components = job.components.items;
   ready = subst (λ (plan : Network). IsReady o a asked.net [] plan job.components.items) (sym keeps.plan_is) asks.ready;
   leaves = subst (λ (plan : Network). Leaves asked.workers plan job.components.items run.ran.net run.ran.journal run.ran.report) (sym keeps.plan_is) keeps.leaves;
+  made = keeps.made;
   kept = keeps.kept;
 }
 
@@ -116,6 +118,19 @@ module _ (o a : Outside) (words : List (String Global)) (number workers : ℕ) (
 pub tells : (plan : Network) (yes : Bool) (text : List ℕ) → (IsTrue yes ↔ IsDeterminate plan) → text ≡ answer yes → TellsWhether plan text
 tells plan true text exact is = inl (exact.0 refl, is)
 tells plan false text exact is = inr (λ determinate. let h : false ≡ true = exact.1 determinate in cc, is)
+
+-- a check
+pub says-checked : (o a : Outside) (words : List (String Global)) (name net : Name) (text : NetText) (plan : Network) (said : Said) → Asks words (Check name)
+    → OnlyReads o a (whole (name, net) ∷ []) → IsFile o.files name net text plan → said.text.items ≡ canonical text → said.status ≡ Finished → IsEmptyJournal said.journal
+    → Says (so_far words o a said.journal) said.text.items said.status
+says-checked o a words name net text plan said asks only file spelt status empty = inl (record {
+  name = name;
+  asks = asks;
+  value = text;
+  checked = record { net = net; plan = plan; file = file; shelf = only; journal = empty };
+  text_is = spelt;
+  status_is = status;
+})
 
 -- a judge
 pub says-judged : (o a : Outside) (words : List (String Global)) (name net : Name) (text : NetText) (plan : Network) (said : Said) → Asks words (Judge name)

@@ -18,3 +18,4 @@ pub mod Step
 pub mod Stops
 pub mod Top
 pub mod Updates
+pub mod Workers

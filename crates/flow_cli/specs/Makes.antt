@@ -18,6 +18,7 @@ use Rattle.flow_cli.specs.Components.{GivesComponents, written_by}
 use Rattle.flow_cli.specs.Networks.{Holds, IsStandardPlan}
 use Rattle.flow_cli.specs.Runs.{RunsTo, bytes_at, bytes_in}
 use Rattle.flow_cli.specs.After.{verdict_status}
+use Rattle.flow_cli.specs.Workers.{IsMadeBy}
 use Rattle.flow_cli.specs.declared.ran.Ran.{Ran}
 use Rattle.flow_cli.specs.declared.made.MadeJob.{MadeJob}
 use Rattle.flow_cli.specs.declared.run.Said.{Said}
@@ -61,7 +62,7 @@ IsMadeJob number (Err stop) = stop ≡ NoMemory
 -- What is said of the run of a made network by so many workers. Nothing else stops it than want of memory.
 abbrev pub SaysMadeRun : ℕ → ℕ → Result Said Stop → Type 0
 SaysMadeRun number workers (Ok said) = (report : Report) × (plan : Network) × (last : State Std) × IsRunOfMade number workers plan said.journal last × TellsOf plan last report
-    × (said.text.items ≡ make_text number (report_text report) (bytes_in last) plan) × (said.status ≡ verdict_status report.verdict)
+    × (said.text.items ≡ make_text number (report_text report) (bytes_in last) plan) × (said.status ≡ verdict_status report.verdict) × IsMadeBy workers said.crew said.journal
 SaysMadeRun number workers (Err stop) = stop ≡ NoMemory
 
 -- The line of process p of a run was appended, if it writes a file.

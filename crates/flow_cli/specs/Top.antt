@@ -15,6 +15,7 @@ use Rattle.flow_model.specs.Plans.{start_of}
 use Rattle.flow_catalogue.specs.declared.standard.Std.{Std}
 use Rattle.flow_catalogue.specs.Std.{std_rules}
 use Rattle.flow_determinate.specs.Standard.{IsDeterminate}
+use Rattle.flow_runner.specs.Crews.{HasWorkers}
 use Rattle.flow_kinds.specs.Page.{kinds_page}
 use Rattle.flow_journal.specs.Files.{IsFileOf}
 use Rattle.flow_journal.specs.Replays.{schedule_of}
@@ -33,6 +34,7 @@ use Rattle.flow_cli.specs.Statuses.{IsOver}
 use Rattle.flow_cli.specs.Stops.{status_of, text_of}
 use Rattle.flow_cli.specs.Causes.{Work, IsRunOf, HasCause}
 use Rattle.flow_cli.specs.Makes.{make_text, IsRunOfMade}
+use Rattle.flow_cli.specs.Workers.{IsMadeBy, IsMadeAsAsked, IsMadeByNobody}
 use Rattle.flow_cli.specs.declared.ran.PrintedReport.{PrintedReport}
 use Rattle.flow_cli.specs.declared.run.Kept.{Kept}
 use Rattle.flow_cli.specs.declared.run.Said.{Said}
@@ -156,24 +158,27 @@ pub record HasRun (old new : Outside) (words : List (String Global)) (run : Unwr
   pub components : List Std
   pub ready : IsReady old new asked.net [] run.ran.plan components
   pub leaves : Leaves asked.workers run.ran.plan components run.ran.net run.ran.journal run.ran.report
+  pub made : IsMadeBy asked.workers run.ran.crew run.ran.journal
   pub kept : kept_file run.kept ≡ journal_file asked.journal run.ran.journal
 
 -- The run that was asked for, of this plan with these components, has left this, with the file of its journal where one was named.
 pub record KeepsRun (asked : AskedRun) (plan : Network) (components : List Std) (run : Unwritten) : Type 0 where
   pub plan_is : run.ran.plan ≡ plan
   pub leaves : Leaves asked.workers plan components run.ran.net run.ran.journal run.ran.report
+  pub made : IsMadeBy asked.workers run.ran.crew run.ran.journal
   pub kept : kept_file run.kept ≡ journal_file asked.journal run.ran.journal
 
 -- What is said of the turns of a journal that were made again, or why they couldn't be made.
 abbrev pub SaysTurnsAgain : Network → List Std → Journal → Result Said Stop → Type 0
 SaysTurnsAgain plan components journal (Ok said) = (told : PrintedReport) × TellsAgain plan components journal told
-    × (said.text.items ≡ told.text.items) × (said.status ≡ verdict_status told.verdict) × (said.journal ≡ journal)
+    × (said.text.items ≡ told.text.items) × (said.status ≡ verdict_status told.verdict) × (said.journal ≡ journal) × HasWorkers 0 said.crew
 SaysTurnsAgain plan components journal (Err stop) = MakesAgain plan components journal (Err stop)
 
 -- What a call does before something is written or printed.
 abbrev pub Performs : Outside → Outside → List (String Global) → Result Done Stop → Type 0
 Performs old new words (Ok (dones.Ran run)) = HasRun old new words run
 Performs old new words (Ok (dones.Said said)) = Says (record { words = words; before = old; after = new; journal = said.journal }) said.text.items said.status
+    × IsMadeAsAsked words said.crew said.journal
 Performs old new words (Err stop) = (journal : Journal) → IsEmptyJournal journal → HasCause (record { words = words; before = old; after = new; journal = journal }) stop
 
 -- The text of the stop was printed, or, where there was no memory for it, that of want of memory.
@@ -194,7 +199,9 @@ IsRunnable (dones.Said said) = ⊤
 -- What is done of what there is to write and to print.
 abbrev pub Concludes : Outside → Outside → Outside → Outside → Done → Outcome → Type 0
 Concludes shelf shelf_after out out_after (dones.Ran run) outcome = Finishes shelf shelf_after out out_after run outcome.status × (outcome.journal ≡ run.ran.journal)
+    × (outcome.crew ≡ run.ran.crew)
 Concludes shelf shelf_after out out_after (dones.Said said) outcome = (shelf_after ≡ shelf) × Prints out out_after said.text.items said.status outcome.status × (outcome.journal ≡ said.journal)
+    × (outcome.crew ≡ said.crew)
 
 -- The words ask for a replay.
 abbrev pub IsReplay : List (String Global) → Type 0
@@ -240,6 +247,10 @@ pub record TellsStop (c : Call) : Type 0 where
 -- Whatever its status is, a call has run a network, or done what writes no file, or stopped for a cause; and has told what came of it.
 abbrev pub IsCaused : Call → Type 0
 IsCaused c = TellsRun c ⊎ TellsSaid c ⊎ TellsStop c
+
+-- The turns of the outcome's journal were made by its crew, which are as many workers as the words ask for; or the call was stopped before any was made.
+abbrev pub IsManned : List (String Global) → Outcome → Type 0
+IsManned words outcome = IsMadeAsAsked words outcome.crew outcome.journal ⊎ (IsMadeByNobody outcome.crew outcome.journal × (IsOver outcome.status → ⊥))
 
 -- The headline. The network of the file that was asked for was run by so many workers as were asked for: its plan is a valid one over the standard kinds; the journal of the outcome is a
 -- schedule of the machine from the plan's start, after each of whose prefixes each packet is in one place and each connection is in order, and no process can

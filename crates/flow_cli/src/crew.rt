@@ -5,18 +5,21 @@ ghost use Rattle.flow_cli.specs.Engines.{RanBy};
 use flow_catalogue::Std;
 use flow_component::Gate;
 use flow_limits::WORKER_LIMIT;
-use flow_machine::{Closed, Net, solo};
-use flow_runner::{RunStop, run};
+use flow_machine::{Net, solo};
+use flow_runner::{Crew, RunStop, Worked, run};
 use std::alloc::{AllocError, Global};
 use std::sync::Wait;
 use std::thread::Threads;
 
 /// Runs a network on one thread, round and round, until no process can go on. Without memory it is given up.
-pub fn run_alone(alloc: Global, net: Net<Std>) -> Result<Closed<Std>, AllocError>
-    ensures { IfOk result (λ closed. RanBy 0 net closed.net) }
+pub fn run_alone(alloc: Global, net: Net<Std>) -> Result<Worked<Std>, AllocError>
+    ensures { IfOk result (RanBy 0 net) }
 {
     match solo(alloc, net) {
-        Ok(closed) => Ok(closed),
+        Ok(closed) => Ok(Worked {
+            closed,
+            crew: Crew::nobody(alloc),
+        }),
         Err(closed) => {
             closed.discard();
             Err(AllocError)
@@ -24,25 +27,25 @@ pub fn run_alone(alloc: Global, net: Net<Std>) -> Result<Closed<Std>, AllocError
     }
 }
 
-/// Runs a network by so many workers, each in a thread of its own, until no process can go on. Without memory it is given up, and so it is where the
-/// work of a process found none.
+/// Runs a network by so many workers, each in a thread of its own, until no process can go on, and tells who they were. Without memory it is given up,
+/// and so it is where the work of a process found none.
 pub fn run_by_workers<R: Threads + Wait + Sync, G: Gate + Sync>(
     rt: &R,
     alloc: Global,
     net: Net<Std>,
     workers: u32,
     gate: &G,
-) -> Result<Closed<Std>, AllocError>
+) -> Result<Worked<Std>, AllocError>
     requires least { 1 ≤ workers }
     requires most { workers ≤ WORKER_LIMIT }
-    ensures { IfOk result (λ closed. RanBy workers net closed.net) }
+    ensures { IfOk result (RanBy workers net) }
 {
     match run(rt, alloc, net, workers, gate) {
-        Ok(closed) => {
-            if closed.starved.is_empty() {
-                return Ok(closed);
+        Ok(worked) => {
+            if worked.closed.starved.is_empty() {
+                return Ok(worked);
             }
-            closed.discard();
+            worked.into_closed().discard();
             Err(AllocError)
         }
         Err(RunStop::NoMemory) => Err(AllocError),

@@ -18,8 +18,9 @@ use crate::run::Said;
 use crate::stop::Stop;
 use flow_catalogue::{Std, a_plan_over_the_table_is_standard};
 use flow_limits::NUMBER_LIMIT;
-use flow_machine::{Closed, Net};
+use flow_machine::Net;
 use flow_make::make;
+use flow_runner::Worked;
 use flow_text::put_decimal;
 use std::alloc::{AllocError, Global};
 
@@ -33,7 +34,7 @@ struct MadeJob {
 /// Runs the network that is made from this number on the input that is made from it, and makes what is said of it. No file is read or written.
 pub fn run_made<E>(alloc: Global, engine: &E, number: u32, workers: u32) -> Result<Said, Stop>
 where
-    E: Fn(Net<Std>, u32) -> Result<Closed<Std>, AllocError>,
+    E: Fn(Net<Std>, u32) -> Result<Worked<Std>, AllocError>,
     requires least { 1 ≤ number }
     requires most { number ≤ NUMBER_LIMIT }
     requires engine { Runs (E.pre engine.now) (E.post engine.now) workers }
@@ -45,12 +46,13 @@ where
     };
     let ran = run_net(alloc, engine, made.job, workers)?;
     let text = text_of(alloc, number, made.bytes, &ran);
-    let (report, journal) = ran.into_report();
+    let (report, journal, crew) = ran.into_report();
     match text {
         Ok(text) => Ok(Said {
             text,
             status: verdict_status(report.verdict),
             journal,
+            crew,
         }),
         Err(AllocError) => Err(Stop::NoMemory),
     }

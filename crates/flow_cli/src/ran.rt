@@ -4,6 +4,7 @@ ghost use Rattle.flow_cli.specs.Components.{HasComponents};
 ghost use Rattle.flow_cli.specs.Engines.{Runs};
 ghost use Rattle.flow_cli.specs.Networks.{IsStandardPlan};
 ghost use Rattle.flow_cli.specs.Runs.{IsJournalOfNet, IsToldOfNet, Leaves};
+ghost use Rattle.flow_cli.specs.Workers.{IsMadeBy};
 
 use crate::before::Job;
 use flow_catalogue::{Std, a_plan_over_the_table_is_standard};
@@ -15,13 +16,15 @@ use flow_machine::{Closed, Net};
 use flow_model::a_valid_plan_is_ready;
 use flow_plan::Plan;
 use flow_report::{Report, Verdict, a_report_tells_of_its_state};
+use flow_runner::{Crew, Worked};
 use std::alloc::{AllocError, Global};
 
-/// A run that is over: its plan, its network, the journal of its turns, and the report of what it came to.
+/// A run that is over: its plan, its network, the journal of its turns, who made them, and the report of what it came to.
 pub struct Ran {
     pub plan: Plan,
     pub net: Net<Std>,
     pub journal: Journal,
+    pub crew: Crew<Std>,
     pub report: PrintedReport,
 }
 
@@ -40,18 +43,19 @@ struct Account {
 }
 
 impl Ran {
-    /// The report of the run, and its journal. What else it holds is given up.
-    pub fn into_report(self) -> (PrintedReport, Journal)
-        ensures { result ≡ (self.report, self.journal) }
+    /// The report of the run, its journal, and who made its turns. What else it holds is given up.
+    pub fn into_report(self) -> (PrintedReport, Journal, Crew<Std>)
+        ensures { result ≡ (self.report, self.journal, self.crew) }
     {
         let Ran {
             plan: _,
             net,
             journal,
+            crew,
             report,
         } = self;
         net.discard();
-        (report, journal)
+        (report, journal, crew)
     }
 
     /// Gives up all that the run holds.
@@ -63,12 +67,13 @@ impl Ran {
 /// Runs a network by an engine until no process can go on, and makes its report.
 pub fn run_net<E>(alloc: Global, engine: &E, job: Job, workers: u32) -> Result<Ran, AllocError>
 where
-    E: Fn(Net<Std>, u32) -> Result<Closed<Std>, AllocError>,
+    E: Fn(Net<Std>, u32) -> Result<Worked<Std>, AllocError>,
     requires standard { IsStandardPlan job.plan }
     requires components { HasComponents job.plan job.components.items }
     requires engine { Runs (E.pre engine.now) (E.post engine.now) workers }
     ensures plan { IfOk result (λ ran. ran.plan ≡ job.plan) }
     ensures leaves { IfOk result (λ ran. Leaves workers job.plan job.components.items ran.net ran.journal ran.report) }
+    ensures made { IfOk result (λ ran. IsMadeBy workers ran.crew ran.journal) }
 {
     a_plan_over_the_table_is_standard();
     a_valid_plan_is_ready::<Std>();
@@ -78,22 +83,25 @@ where
     a_report_tells_of_its_state::<Std>();
     let Job { plan, components } = job;
     let net = Net::start(alloc, &plan, components)?;
-    let closed = engine(net, workers)?;
-    tell(alloc, plan, closed)
+    let worked = engine(net, workers)?;
+    tell(alloc, plan, worked)
 }
 
 // The run with its report and its journal. Without memory it is given up.
-fn tell(alloc: Global, plan: Plan, closed: Closed<Std>) -> Result<Ran, AllocError>
+fn tell(alloc: Global, plan: Plan, worked: Worked<Std>) -> Result<Ran, AllocError>
     ensures plan { IfOk result (λ ran. ran.plan ≡ plan) }
-    ensures net { IfOk result (λ ran. ran.net ≡ closed.net) }
-    ensures report { IfOk result (λ ran. IsToldOfNet plan closed.net ran.report) }
-    ensures journal { IfOk result (λ ran. IsJournalOfNet closed.net ran.journal) }
+    ensures net { IfOk result (λ ran. ran.net ≡ worked.closed.net) }
+    ensures crew { IfOk result (λ ran. ran.crew ≡ worked.crew) }
+    ensures report { IfOk result (λ ran. IsToldOfNet plan worked.closed.net ran.report) }
+    ensures journal { IfOk result (λ ran. IsJournalOfNet worked.closed.net ran.journal) }
 {
+    let Worked { closed, crew } = worked;
     match account_of(alloc, &plan, &closed) {
         Ok(Account { report, journal }) => Ok(Ran {
             plan,
             net: closed.into_net(),
             journal,
+            crew,
             report,
         }),
         Err(AllocError) => {

@@ -3,6 +3,7 @@
 ghost use Rattle.std.specs.Prelude.{◌≡◌, IfOk};
 ghost use Rattle.std.specs.Option.{option_map};
 ghost use Rattle.flow_journal.specs.Files.{IsWritable};
+ghost use Rattle.flow_runner.specs.Crews.{HasWorkers};
 ghost use Rattle.flow_kinds.specs.Page.{kinds_page};
 ghost use Rattle.flow_parse.specs.Canonical.{canonical};
 ghost use Rattle.flow_words.specs.Words.{run_by};
@@ -26,9 +27,10 @@ use flow_determinate::determinate;
 use flow_items::Items;
 use flow_journal::Journal;
 use flow_kinds::kinds_page;
-use flow_machine::{Closed, Net};
+use flow_machine::Net;
 use flow_parse::{NetText, print};
 use flow_plan::Plan;
+use flow_runner::{Crew, Worked};
 use flow_text::Shelf;
 use flow_words::RunCommand;
 use std::alloc::{AllocError, Global};
@@ -49,6 +51,8 @@ pub struct Said {
     pub status: Status,
     /// The journal of the turns that were made, and empty where none was.
     pub journal: Journal,
+    /// Who made them: the workers of a make, and else nobody.
+    pub crew: Crew<Std>,
 }
 
 /// A run that is over, and the file of its journal where one was named. Nothing of it is written yet.
@@ -73,7 +77,7 @@ pub fn perform<'a, E, F: Shelf>(
     shelf: &mut F,
 ) -> Result<Done<'a>, Stop>
 where
-    E: Fn(Net<Std>, u32) -> Result<Closed<Std>, AllocError>,
+    E: Fn(Net<Std>, u32) -> Result<Worked<Std>, AllocError>,
     requires { IsServed (Runs (E.pre engine.now) (E.post engine.now)) words.now }
     ensures { Performs (F.outside shelf.old) (F.outside shelf.new) words.entry.now result }
 {
@@ -118,7 +122,7 @@ fn run_and_keep<'a, E>(
     asked: RunCommand<'a>,
 ) -> Result<Unwritten<'a>, AllocError>
 where
-    E: Fn(Net<Std>, u32) -> Result<Closed<Std>, AllocError>,
+    E: Fn(Net<Std>, u32) -> Result<Worked<Std>, AllocError>,
     requires standard { IsStandardPlan job.plan }
     requires components { HasComponents job.plan job.components.items }
     requires engine { Runs (E.pre engine.now) (E.post engine.now) asked.workers }
@@ -157,11 +161,13 @@ fn spelling(alloc: Global, text: &NetText) -> Result<Said, AllocError>
     ensures text { IfOk result (λ said. said.text.items ≡ canonical text.now) }
     ensures status { IfOk result (λ said. said.status ≡ Finished) }
     ensures journal { IfOk result (λ said. IsEmptyJournal said.journal) }
+    ensures crew { IfOk result (λ said. HasWorkers 0 said.crew) }
 {
     Ok(Said {
         text: print(alloc, text)?,
         status: Status::Finished,
         journal: no_journal(alloc),
+        crew: Crew::nobody(alloc),
     })
 }
 
@@ -170,12 +176,14 @@ fn judgement(alloc: Global, plan: &Plan) -> Result<Said, AllocError>
     ensures text { IfOk result (λ said. TellsWhether plan.now said.text.items) }
     ensures status { IfOk result (λ said. said.status ≡ Finished) }
     ensures journal { IfOk result (λ said. IsEmptyJournal said.journal) }
+    ensures crew { IfOk result (λ said. HasWorkers 0 said.crew) }
 {
     let text = answer(determinate(plan)).to_vec(alloc)?;
     Ok(Said {
         text,
         status: Status::Finished,
         journal: no_journal(alloc),
+        crew: Crew::nobody(alloc),
     })
 }
 
@@ -195,11 +203,13 @@ fn page(alloc: Global) -> Result<Said, AllocError>
     ensures text { IfOk result (λ said. said.text.items ≡ kinds_page) }
     ensures status { IfOk result (λ said. said.status ≡ Finished) }
     ensures journal { IfOk result (λ said. IsEmptyJournal said.journal) }
+    ensures crew { IfOk result (λ said. HasWorkers 0 said.crew) }
 {
     Ok(Said {
         text: kinds_page(alloc)?,
         status: Status::Finished,
         journal: no_journal(alloc),
+        crew: Crew::nobody(alloc),
     })
 }
 
@@ -216,6 +226,7 @@ fn run_again(alloc: Global, again: Again) -> Result<Said, Stop>
             text: report.text,
             status: verdict_status(report.verdict),
             journal,
+            crew: Crew::nobody(alloc),
         }),
         Err(stop) => Err(stop),
     }

@@ -4,7 +4,7 @@ ghost use Rattle.flow_cli.specs.Engines.{RanBy, Runs};
 ghost use Rattle.flow_cli.specs.Networks.{IsStandardPlan};
 ghost use Rattle.flow_cli.specs.Promises.{KeepsPromises};
 ghost use Rattle.flow_cli.specs.Reads.{AsksWorkers, IsServed};
-ghost use Rattle.flow_cli.specs.Top.{Concludes, Finishes, IsRunnable, PrintsStop, call_of};
+ghost use Rattle.flow_cli.specs.Top.{Concludes, Finishes, IsManned, IsRunnable, PrintsStop, call_of};
 
 use crate::after::{print_text, verdict_status, write_outputs};
 use crate::crew::{run_alone, run_by_workers};
@@ -20,13 +20,14 @@ use flow_journal::{
     Journal, a_file_has_one_journal_or_one_fault, a_journal_that_stops_is_no_schedule,
 };
 use flow_limits::WORKER_LIMIT;
-use flow_machine::{Closed, Net};
+use flow_machine::Net;
 use flow_meanings::{
     a_batch_update_writes_its_book, a_finished_network_composes_its_meanings,
     an_ended_collate_has_sent_the_collation,
 };
 use flow_model::{a_finished_network_leads_on, a_valid_plan_is_ready};
 use flow_report::a_state_has_one_report;
+use flow_runner::{Crew, Worked};
 use flow_text::{Shelf, Sink};
 use flow_words::{Command, command};
 use std::alloc::{AllocError, Global};
@@ -40,6 +41,8 @@ pub struct Outcome {
     pub status: Status,
     /// The journal of the run, and empty where none was made.
     pub journal: Journal,
+    /// The workers that made its turns, and nobody where one thread did, or none were made.
+    pub crew: Crew<Std>,
 }
 
 /// Whether the words ask for workers: then `busy_top` does what they ask for, and otherwise `plain_top`.
@@ -67,11 +70,12 @@ pub fn plain_top<F: Shelf, O: Sink>(
     out: &mut O,
 ) -> Outcome
     requires { AsksWorkers words.now → ⊥ }
-    ensures { KeepsPromises (call_of words.now (F.outside shelf.old) (F.outside shelf.new) (O.outside out.old) (O.outside out.new) result.journal result.status) }
+    ensures promises { KeepsPromises (call_of words.now (F.outside shelf.old) (F.outside shelf.new) (O.outside out.old) (O.outside out.new) result.journal result.status) }
+    ensures crew { IsManned words.now result }
 {
-    let engine = |net: Net<Std>, workers: u32| -> Result<Closed<Std>, AllocError>
+    let engine = |net: Net<Std>, workers: u32| -> Result<Worked<Std>, AllocError>
         requires { workers ≡ 0 }
-        ensures { IfOk result (λ closed. RanBy workers net closed.net) }
+        ensures { IfOk result (RanBy workers net) }
     { run_alone(alloc, net) };
     carry_out(alloc, &engine, words, shelf, out)
 }
@@ -87,11 +91,12 @@ pub fn busy_top<R: Threads + Wait + Sync, F: Shelf, O: Sink, G: Gate + Sync>(
     gate: &G,
 ) -> Outcome
     requires { AsksWorkers words.now }
-    ensures { KeepsPromises (call_of words.now (F.outside shelf.old) (F.outside shelf.new) (O.outside out.old) (O.outside out.new) result.journal result.status) }
+    ensures promises { KeepsPromises (call_of words.now (F.outside shelf.old) (F.outside shelf.new) (O.outside out.old) (O.outside out.new) result.journal result.status) }
+    ensures crew { IsManned words.now result }
 {
-    let engine = |net: Net<Std>, workers: u32| -> Result<Closed<Std>, AllocError>
+    let engine = |net: Net<Std>, workers: u32| -> Result<Worked<Std>, AllocError>
         requires { (1 ≤ workers) × (workers ≤ WORKER_LIMIT) }
-        ensures { IfOk result (λ closed. RanBy workers net closed.net) }
+        ensures { IfOk result (RanBy workers net) }
     { run_by_workers(rt, alloc, net, workers, gate) };
     carry_out(alloc, &engine, words, shelf, out)
 }
@@ -105,9 +110,10 @@ fn carry_out<E, F: Shelf, O: Sink>(
     out: &mut O,
 ) -> Outcome
 where
-    E: Fn(Net<Std>, u32) -> Result<Closed<Std>, AllocError>,
+    E: Fn(Net<Std>, u32) -> Result<Worked<Std>, AllocError>,
     requires { IsServed (Runs (E.pre engine.now) (E.post engine.now)) words.now }
-    ensures { KeepsPromises (call_of words.now (F.outside shelf.old) (F.outside shelf.new) (O.outside out.old) (O.outside out.new) result.journal result.status) }
+    ensures promises { KeepsPromises (call_of words.now (F.outside shelf.old) (F.outside shelf.new) (O.outside out.old) (O.outside out.new) result.journal result.status) }
+    ensures crew { IsManned words.now result }
 {
     a_plan_over_the_table_is_standard();
     a_valid_plan_is_ready::<Std>();
@@ -125,6 +131,7 @@ where
         Err(stop) => Outcome {
             status: print_stop(alloc, out, &stop),
             journal: no_journal(alloc),
+            crew: Crew::nobody(alloc),
         },
     }
 }
@@ -139,6 +146,7 @@ fn conclude<F: Shelf, O: Sink>(alloc: Global, shelf: &mut F, out: &mut O, done: 
         Done::Said(said) => Outcome {
             status: print_text(out, &said.text, said.status),
             journal: said.journal,
+            crew: said.crew,
         },
     }
 }
@@ -153,18 +161,21 @@ fn finish<F: Shelf, O: Sink>(
     requires { IsStandardPlan run.ran.plan }
     ensures files { Finishes (F.outside shelf.old) (F.outside shelf.new) (O.outside out.old) (O.outside out.new) run.entry result.status }
     ensures journal { result.journal ≡ run.entry.ran.journal }
+    ensures crew { result.crew ≡ run.entry.ran.crew }
 {
     let written = write_outputs(alloc, shelf, &run);
     let Unwritten { ran, kept: _ } = run;
-    let (report, journal) = ran.into_report();
+    let (report, journal, crew) = ran.into_report();
     match written {
         Ok(()) => Outcome {
             status: print_text(out, &report.text, verdict_status(report.verdict)),
             journal,
+            crew,
         },
         Err(fault) => Outcome {
             status: print_stop(alloc, out, &fault),
             journal,
+            crew,
         },
     }
 }

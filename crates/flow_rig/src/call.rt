@@ -102,7 +102,11 @@ fn told(
     shelf: MemShelf,
     out: &MemSink,
 ) -> Result<Called, AllocError> {
-    let Outcome { status, journal } = outcome;
+    let Outcome {
+        status,
+        journal,
+        crew: _,
+    } = outcome;
     let turns = journal.turns.len();
     let seen = journal.seen;
     Ok(Called {

@@ -1,3 +1,4 @@
 pub mod Attempts
+pub mod Crews
 pub mod Fair
 pub mod Lines
