@@ -8,8 +8,9 @@ use Rattle.flow_floor.specs.Law.{IsTaken}
 use Rattle.flow_machine.specs.declared.answers.Over.{Over}
 use Rattle.flow_machine.specs.declared.answers.Over.TheVariants as overs
 use Rattle.flow_model.specs.Stages.{IsOverStage}
+use Rattle.flow_floor.specs.declared.floor.Held.{Held}
 use Rattle.flow_floor.specs.Waking.{IsDoneWord, IsRetired, AllRetired}
-use Rattle.flow_floor.specs.Workers.{RetiresAs}
+use Rattle.flow_floor.specs.Floors.{IsOverAs}
 use Rattle.flow_floor.proofs.Seats.{get-within}
 
 -- A process that a seat holds isn't done.
@@ -25,10 +26,10 @@ low-undone w low (inl e) = omega (arith, low, e)
 low-undone w low (inr e) = omega (arith, low, e)
 
 -- Who may be retired is.
-pub retires-as : {K : Type 0} (over : Over) (b : BodyValue K) → RetiresAs over b → IsRetired b
-retires-as overs.Ended b is = inl (subst IsOverStage (sym is) tt)
-retires-as overs.Failed b is = inl (subst IsOverStage (sym is.1) tt)
-retires-as overs.Starved b is = inr is
+pub retires-as : {K : Type 0} (over : Over) (h : Held K) → IsOverAs over h → IsRetired h.body
+retires-as overs.Ended h is = inl (subst IsOverStage (sym is) tt)
+retires-as overs.Failed h is = inl (subst IsOverStage (sym is.1) tt)
+retires-as overs.Starved h is = inr is.1
 
 module _ {K : Type 0} where
   -- The word of one process changes.

@@ -4,9 +4,12 @@ use Rattle.std.specs.List.{list_any}
 use Rattle.flow_component.specs.Laws.{Rules}
 use Rattle.flow_model.specs.Events.{Event}
 use Rattle.flow_model.specs.Stands.{ChannelShown}
-use Rattle.flow_machine.specs.Nets.{BodyTurn}
+use Rattle.flow_model.specs.declared.Stage.TheVariants as stages
+use Rattle.flow_machine.specs.Nets.{BodyTurn, HasFailed}
+use Rattle.flow_machine.specs.Thoughts.{IsUnset}
 use Rattle.flow_machine.specs.Values.{BodyValue, NetValue}
 use Rattle.flow_machine.specs.declared.answers.Over.{Over}
+use Rattle.flow_machine.specs.declared.answers.Over.TheVariants as overs
 use Rattle.flow_floor.specs.declared.floor.Floor.{Floor}
 use Rattle.flow_floor.specs.declared.floor.Held.{Held}
 use Rattle.flow_floor.specs.declared.floor.Turned.{Turned}
@@ -20,7 +23,7 @@ use Rattle.flow_floor.specs.Views.{stamping}
 use Rattle.flow_floor.specs.Turning.{MachineTurn}
 use Rattle.flow_floor.specs.Turns.{Turns}
 use Rattle.flow_floor.specs.Waking.{capacity_at}
-use Rattle.flow_floor.specs.Workers.{view, IsDone, IsGrabbing, IsHeldBy, IsIdle, IsSameSeat, IsWaking, RetiresAs, SeenBlocks}
+use Rattle.flow_floor.specs.Workers.{view, IsDone, IsGrabbing, IsHeldBy, IsIdle, IsSameSeat, IsWaking, SeenBlocks}
 
 module _ {K : Type 0} where
   -- The net with which the floor was opened.
@@ -96,9 +99,11 @@ module _ {K : Type 0} where
   abbrev pub TurnsAt : Rules K → Floor K → Held K → Worker K → Held K → Worker K → Turned → Type 0
   TurnsAt rules f h w h' w' turned = Turns rules (process_count f) (opened_net f) h w h' w' turned
 
-  -- The held body may be retired so: its process has ended, or has failed, or its last thought found no memory.
+  -- The held body may be retired so: its process has ended, or has failed, or its last thought found no memory, and it isn't set.
   abbrev pub IsOverAs : Over → Held K → Type 0
-  IsOverAs over h = RetiresAs over h.body
+  IsOverAs overs.Ended h = h.body.process.stage ≡ stages.Ended
+  IsOverAs overs.Failed h = HasFailed h.body.process.stage
+  IsOverAs overs.Starved h = (h.starved ≡ true) × IsUnset h.body
 
   -- The worker has the same share of its floor.
   abbrev pub HasSameShare : Worker K → Worker K → Type 0

@@ -5,11 +5,6 @@ use Rattle.atomic_table.specs.Seated.{TableId}
 use Rattle.flow_component.specs.Laws.{Rules}
 use Rattle.flow_model.specs.Stands.{ChannelShown}
 use Rattle.flow_machine.specs.Values.{BodyValue, NetValue}
-use Rattle.flow_machine.specs.Thoughts.{IsUnset}
-use Rattle.flow_machine.specs.Nets.{HasFailed}
-use Rattle.flow_machine.specs.declared.answers.Over.{Over}
-use Rattle.flow_machine.specs.declared.answers.Over.TheVariants as overs
-use Rattle.flow_model.specs.declared.Stage.TheVariants as stages
 use Rattle.flow_floor.specs.declared.board.Slot.TheVariants as slot
 use Rattle.flow_floor.specs.declared.board.View.{View}
 use Rattle.flow_floor.specs.declared.floor.Worker.{Worker}
@@ -116,12 +111,6 @@ module _ {K : Type 0} where
   -- What was looked at blocks the process, as long as the words still do; and it owes no work.
   abbrev pub SeenBlocks : NetValue K → BodyValue K → List Look → Type 0
   SeenBlocks start d seen = IsThoughtStage d.process.stage × ((words : List ℕ) → AllBlock (length start.bodies) start.channels words d seen → WordsBlock (length start.bodies) start.channels words d d.process.stage)
-
-  -- The body may be retired so: its process has ended, or has failed, or it isn't set, since its thought found no memory.
-  abbrev pub RetiresAs : Over → BodyValue K → Type 0
-  RetiresAs overs.Ended b = b.process.stage ≡ stages.Ended
-  RetiresAs overs.Failed b = HasFailed b.process.stage
-  RetiresAs overs.Starved b = IsUnset b
 
   abbrev pub MatchClaim : Claim K → (Held K → Type 0) → (ℕ → Type 0) → Type 0
   MatchClaim (claim.Held h) P Q = P h

@@ -1,9 +1,10 @@
 //! How a worker takes a process, and gives it back.
-ghost use Rattle.std.specs.Prelude.{◌≡◌, ◌≢◌, ◌+◌, ◌<◌, ◌⊎◌, None};
+ghost use Rattle.std.specs.Prelude.{◌≡◌, ◌≢◌, ◌+◌, ◌<◌, ◌⊎◌, ◌↔◌, None, true};
 ghost use Rattle.flow_floor.specs.Looks.{IsLook};
 ghost use Rattle.flow_floor.specs.declared.floor.Floor.{Floor};
 ghost use Rattle.flow_floor.specs.declared.floor.Worker.{Worker};
 ghost use Rattle.flow_machine.specs.Thoughts.{Thinks, KeepsTurns, PassesFirst};
+ghost use Rattle.flow_machine.specs.declared.answers.Thought.TheVariants.{NoMemory};
 ghost use Rattle.flow_floor.specs.Floors.{process_count, connection_count, turns_of, HasReadZero, IsDoneAt, IsHeldAt, IsIdleAt, IsOverAs, IsSameWorker, IsStuckAt, IsWiredAt};
 ghost use Rattle.flow_floor.specs.Workers.{view, MatchClaim};
 ghost use Rattle.flow_floor.specs.Views.{looked, refusing, claiming, leaving, lowering, parking, reading};
@@ -41,7 +42,11 @@ impl<K: Component> Floor<K> {
         let Slot::Body(body) = old else {
             unreachable!()
         };
-        Claim::Held(Held { body, process })
+        Claim::Held(Held {
+            body,
+            process,
+            starved: false,
+        })
     }
 
     /// Claims the process if it is ready. `NotReady` has what this call's exchange read.
@@ -59,7 +64,11 @@ impl<K: Component> Floor<K> {
         ensures idle { IsIdleAt self.now worker.new }
         ensures view { view worker.new ≡ leaving (view worker.old) }
     {
-        let Held { body, process } = held;
+        let Held {
+            body,
+            process,
+            starved: _,
+        } = held;
         let shared = &self.table.shared;
         let slot = self.layout().body_slot(process);
         let old = shared.exchange(&mut worker.seat, slot, Slot::Body(body));
@@ -78,7 +87,11 @@ impl<K: Component> Floor<K> {
         ensures seat { IsSameWorker worker.old worker.new }
     {
         let _ = over;
-        let Held { body, process } = held;
+        let Held {
+            body,
+            process,
+            starved: _,
+        } = held;
         let shared = &self.table.shared;
         let slot = self.layout().body_slot(process);
         let old = shared.exchange(&mut worker.seat, slot, Slot::Body(body));
@@ -98,7 +111,11 @@ impl<K: Component> Floor<K> {
         ensures made { turns_of worker.new ≡ turns_of worker.old }
         ensures seat { IsSameWorker worker.old worker.new }
     {
-        let Held { body, process } = held;
+        let Held {
+            body,
+            process,
+            starved: _,
+        } = held;
         let shared = &self.table.shared;
         let slot = self.layout().body_slot(process);
         let old = shared.exchange(&mut worker.seat, slot, Slot::Body(body));
@@ -147,12 +164,15 @@ impl<K: Component> Held<K> {
     pub fn think<G: Gate>(&mut self, gate: &G) -> Thought
         requires { self.old.body.leaving ≡ None }
         ensures thinks { Thinks K.rules self.old.body result self.new.body }
+        ensures starved { (self.new.starved ≡ true) ↔ (result ≡ NoMemory) }
         ensures keeps { KeepsTurns self.old.body self.new.body }
         ensures process { self.new.process ≡ self.old.process }
         ensures wired { (f : Floor _) → IsWiredAt f self.old → IsWiredAt f self.new }
         ensures held { (f : Floor _) (w : Worker _) → IsHeldAt K.rules f w self.old → IsHeldAt K.rules f w self.new }
         ensures passed { PassesFirst (G.has_passed gate.now) self.old.body }
     {
-        self.body.think(gate)
+        let thought = self.body.think(gate);
+        self.starved = matches!(&thought, Thought::NoMemory);
+        thought
     }
 }

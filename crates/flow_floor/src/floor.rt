@@ -38,6 +38,8 @@ pub struct Worker<K: Component> {
 pub struct Held<K: Component> {
     pub(crate) body: Body<K>,
     pub(crate) process: usize,
+    /// Whether its last thought since the claim found no memory.
+    pub(crate) starved: bool,
 }
 
 pub enum Claim<K: Component> {

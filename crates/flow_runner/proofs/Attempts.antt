@@ -1,6 +1,5 @@
 -- What an attempt at a turn says of the process.
 use Rattle.std.proofs.Common.{◌≡◌, ap, sym, subst, ◌∙◌, Some}
-use Rattle.flow_machine.specs.Values.{BodyValue}
 use Rattle.flow_machine.specs.Answers.{case_of}
 use Rattle.flow_machine.specs.declared.answers.Over.{Over}
 use Rattle.flow_machine.specs.declared.answers.Over.TheVariants as overs
@@ -10,14 +9,14 @@ use Rattle.flow_floor.specs.declared.board.View.{View}
 use Rattle.flow_floor.specs.declared.floor.Floor.{Floor}
 use Rattle.flow_floor.specs.declared.floor.Worker.{Worker}
 use Rattle.flow_floor.specs.declared.floor.Held.{Held}
-use Rattle.flow_floor.specs.Floors.{IsStuckAt}
-use Rattle.flow_floor.specs.Workers.{RetiresAs, IsSameSeat}
+use Rattle.flow_floor.specs.Floors.{IsOverAs, IsStuckAt}
+use Rattle.flow_floor.specs.Workers.{IsSameSeat}
 
 -- A process that has no further turn is over, and may be retired as such.
-pub over-as : {K : Type 0} (over : Over) (b : BodyValue K) → case_of b.process ≡ Some (cases.Over over) → RetiresAs over b
-over-as overs.Ended b is = case-is b.process (cases.Over overs.Ended) is
-over-as overs.Failed b is = case-is b.process (cases.Over overs.Failed) is
-over-as overs.Starved b is = absurd (case-is b.process (cases.Over overs.Starved) is)
+pub over-as : {K : Type 0} (over : Over) (h : Held K) → case_of h.body.process ≡ Some (cases.Over over) → IsOverAs over h
+over-as overs.Ended h is = case-is h.body.process (cases.Over overs.Ended) is
+over-as overs.Failed h is = case-is h.body.process (cases.Over overs.Failed) is
+over-as overs.Starved h is = absurd (case-is h.body.process (cases.Over overs.Starved) is)
 
 module _ {K : Type 0} where
   -- What blocked a body still does after a call that left the body as it was.
