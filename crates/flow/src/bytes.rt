@@ -2,6 +2,7 @@
 use crate::kinds::{Side, automatic};
 use crate::pieces::{after_blanks, behind, first, is_word_byte, word};
 use crate::shown::put_word;
+use flow_parse::FIRST_VERSION;
 use std::alloc::AllocError;
 
 /// The mark with which some editors begin a file.
@@ -39,8 +40,10 @@ fn meant_star(rest: &[u8], version: u32) -> Option<&'static str> {
     let (name, _) = word(behind(rest, 1));
     let is_nearly = is_nearly(name, Side::Input) || is_nearly(name, Side::Output);
     match (version, is_nearly) {
-        (1, true) => Some("The automatic ports *IN and *OUT need a file that begins with flow 2."),
-        (1, false) => None,
+        (FIRST_VERSION, true) => Some(
+            "The automatic ports *IN and *OUT need a file that begins with flow 2.",
+        ),
+        (FIRST_VERSION, false) => None,
         (_, true) => Some("Upper and lower case differ: the automatic ports are *IN and *OUT."),
         (_, false) => Some(
             "The automatic ports are *IN and *OUT, with nothing within them; no other word begins with *.",

@@ -2,6 +2,7 @@
 use crate::found::Found;
 use crate::kinds::Side;
 use crate::pieces::Piece;
+use flow_parse::FIRST_VERSION;
 use std::alloc::AllocError;
 
 // The forms of a line: processes and connections, and the others.
@@ -22,7 +23,7 @@ A remark stands in a line of its own, which begins with #.
 /// The forms of a line in a file of this version.
 pub fn put_forms(page: &mut String, version: u32) -> Result<(), AllocError> {
     page.push_str(FIRST_FORMS)?;
-    if version != 1 {
+    if version != FIRST_VERSION {
         page.push_str(AUTOMATIC_FORM)?;
     }
     page.push_str(OTHER_FORMS)

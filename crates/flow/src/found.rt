@@ -3,6 +3,7 @@ use crate::kinds::Side;
 use crate::pieces::is_remark;
 use crate::said::{Mention, Said, Tag, said_by};
 use flow_limits::LAST_ELEMENT;
+use flow_parse::{FIRST_VERSION, SECOND_VERSION};
 use flow_text::decimal;
 use std::alloc::{AllocError, Global};
 
@@ -140,9 +141,9 @@ fn is_wanted(found: &Found<'_>, wanted: &Wanted<'_>) -> bool {
 // The version of a file whose first line that is no remark says this. Where that is no header the file is refused for it.
 fn version_of(said: &Said<'_>) -> u32 {
     if said.tag == Tag::Header && said.name == b"2".as_slice() {
-        2
+        SECOND_VERSION
     } else {
-        1
+        FIRST_VERSION
     }
 }
 
@@ -167,7 +168,7 @@ impl<'a> Walk<'a> {
     pub fn next_line(&mut self, alloc: Global, line: &'a [u8]) -> Result<Found<'a>, AllocError> {
         self.number = self.number.saturating_add(1);
         let line = bare(line);
-        let said = said_by(alloc, self.version.unwrap_or(1), line)?;
+        let said = said_by(alloc, self.version.unwrap_or(FIRST_VERSION), line)?;
         if self.version.is_none() && !is_remark(line) {
             self.version = Some(version_of(&said));
         }
@@ -180,7 +181,7 @@ impl<'a> Walk<'a> {
         }
         Ok(Found {
             number: self.number,
-            version: self.version.unwrap_or(1),
+            version: self.version.unwrap_or(FIRST_VERSION),
             part,
             line,
             said,

@@ -6,6 +6,7 @@ use crate::said::Tag;
 use crate::shown::put_word;
 use flow_items::Text;
 use flow_limits::{FILE_NAME_LIMIT, LAST_ELEMENT};
+use flow_parse::FIRST_VERSION;
 use flow_plan::{KindSpec, PortClass, PortSpec};
 use std::alloc::{AllocError, Global};
 
@@ -105,7 +106,7 @@ pub fn nearest_port<'a>(
     for port in ports(kind, side) {
         names.push(port.name.as_slice())?;
     }
-    if version != 1 {
+    if version != FIRST_VERSION {
         names.push(automatic(side))?;
     }
     nearest(alloc, wrong, &names)
@@ -171,7 +172,7 @@ pub fn put_ports(page: &mut String, kind: &KindSpec, version: u32) -> Result<(),
     page.push_str("; ")?;
     put_side(page, kind, Side::Output)?;
     page.push_str(".\n")?;
-    if version == 1 {
+    if version == FIRST_VERSION {
         return Ok(());
     }
     page.push_str(

@@ -11,7 +11,7 @@ use flow_catalogue::kinds;
 use flow_limits::{
     CAPACITY_LIMIT, FIRST_CAPACITY_LIMIT, LAST_ELEMENT, NAME_LIMIT, STATEMENT_LIMIT, TEXT_LIMIT,
 };
-use flow_parse::{NetFault, Reason};
+use flow_parse::{FIRST_VERSION, NetFault, RESERVED, Reason, SECOND_VERSION, is_reserved};
 use flow_text::decimal;
 use std::alloc::{AllocError, Global};
 
@@ -70,13 +70,6 @@ fn put_reason<'a>(
     }
 }
 
-/// The words of the language, which are no names.
-const RESERVED: [&[u8]; 5] = [b"flow", b"subnet", b"end", b"inport", b"outport"];
-
-fn is_reserved(word: &[u8]) -> bool {
-    RESERVED.iter().any(|reserved| *reserved == word)
-}
-
 fn is_name(word: &[u8]) -> bool {
     let begins = match word.first() {
         Some(first) => first.is_ascii_alphabetic(),
@@ -105,7 +98,7 @@ fn role_of(before: &[Piece<'_>]) -> Role {
 
 // The greatest capacity in a file of this version.
 fn most_capacity(version: u32) -> u32 {
-    if version == 1 {
+    if version == FIRST_VERSION {
         FIRST_CAPACITY_LIMIT
     } else {
         CAPACITY_LIMIT
@@ -177,7 +170,7 @@ fn put_number(net: Net<'_>, page: &mut String, found: &Found<'_>) -> Result<(), 
         write!(page, "a capacity is a number from 1 to {most}")?;
     }
     page.push_str(", in digits without zeros in front.\n")?;
-    if role == Role::Capacity && is_fine(word, role, 2) {
+    if role == Role::Capacity && is_fine(word, role, SECOND_VERSION) {
         write!(
             page,
             "In a file that begins with flow 2 it may be up to {CAPACITY_LIMIT}.\n"

@@ -1,5 +1,6 @@
 //! The pieces of a line, for whoever looks for a fault in it. Any bytes have pieces.
 use crate::kinds::{Side, automatic};
+use flow_parse::SECOND_VERSION;
 use std::alloc::{AllocError, Global};
 
 /// A line that is none of the forms is looked at no further: the longest form has fewer pieces.
@@ -123,7 +124,7 @@ fn cut(version: u32, line: &[u8]) -> Option<(Piece<'_>, &[u8])> {
             Some((b'>', after)) => (Piece::Arrow, after),
             _ => (Piece::Other(byte), more),
         }),
-        b'*' if version == 2 => match starred(more) {
+        b'*' if version == SECOND_VERSION => match starred(more) {
             Some(cut) => Some(cut),
             None => Some((Piece::Other(byte), more)),
         },

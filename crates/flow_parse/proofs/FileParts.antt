@@ -14,7 +14,7 @@ use Rattle.flow_parse.specs.declared.form.EndMention.{EndMention}
 use Rattle.flow_parse.specs.declared.form.EndMention.TheVariants.{Port, Automatic}
 use Rattle.flow_parse.specs.declared.form.Form.{Form}
 use Rattle.flow_parse.specs.declared.form.Form.TheVariants.{Header, Process, Connection, Initial, Subnet, End, InPort, OutPort}
-use Rattle.flow_parse.specs.declared.part.MentionedProcess.{MentionedProcess}
+use Rattle.flow_parse.specs.declared.table.MentionedProcess.{MentionedProcess}
 use Rattle.flow_parse.specs.declared.value.Statement.{Statement}
 use Rattle.flow_parse.specs.Names.{is_name, is_decimal, number_in, capacity_limit, capacity_of, or_none, mention_is_named, port_is_named, end_is_named, is_named, end_is_numbered, is_numbered}
 use Rattle.flow_parse.specs.Files.{Lines, mentions_of, mentions_in, first_mentions, kind_in, processes_in, kindless_line, port_ref, output_ref, input_ref, statements_of, statements_in, text_fits, value_of}

@@ -5,7 +5,7 @@ use Rattle.std.proofs.lemmas.Bool.{lt-ltb, le-ltb, ltb-true, ltb-false, eqb-true
 use Rattle.std.proofs.lemmas.List.{length-map}
 use Rattle.std.proofs.lemmas.List.Folds.{position_or_len_push, list_any-append}
 use Rattle.std.proofs.lemmas.List.Sums.{prefix_len-le-length}
-use Rattle.flow_parse.specs.declared.part.MentionedProcess.{MentionedProcess}
+use Rattle.flow_parse.specs.declared.table.MentionedProcess.{MentionedProcess}
 use Rattle.flow_parse.specs.declared.value.NetPart.{NetPart}
 use Rattle.std.specs.Global.{Vec}
 use Rattle.std.specs.Ordering.{is_eq, nat_cmp, eq_by_cmp}

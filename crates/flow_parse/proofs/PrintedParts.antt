@@ -12,7 +12,7 @@ use Rattle.flow_parse.specs.declared.token.Token.TheVariants.{Word, Open as open
 use Rattle.flow_parse.specs.declared.form.Mention.{Mention}
 use Rattle.flow_parse.specs.declared.form.Form.{Form}
 use Rattle.flow_parse.specs.declared.form.Form.TheVariants as forms
-use Rattle.flow_parse.specs.declared.part.MentionedProcess.{MentionedProcess}
+use Rattle.flow_parse.specs.declared.table.MentionedProcess.{MentionedProcess}
 use Rattle.flow_parse.specs.declared.fault.Reason.TheVariants as reasons
 use Rattle.flow_parse.specs.declared.fault.NetFault.{NetFault}
 use Rattle.flow_parse.specs.declared.value.Statement.{Statement}

@@ -4,6 +4,7 @@ use Rattle.std.specs.Prelude.{◌≡◌, ℕ, ◌+◌, List, [], ◌∷◌, ◌+
 use Rattle.std.specs.Str.{bytes_eq}
 use Rattle.std.specs.Str.Lines.{lines}
 use Rattle.std.specs.List.{flat_map, list_any, sum_by}
+use Rattle.flow_parse.specs.declared.value.TheConstants.{FIRST_VERSION}
 use Rattle.flow_parse.specs.declared.token.Token.{Token}
 use Rattle.flow_parse.specs.declared.form.Mention.{Mention}
 use Rattle.flow_parse.specs.declared.form.PortMention.{PortMention}
@@ -11,7 +12,7 @@ use Rattle.flow_parse.specs.declared.form.EndMention.{EndMention}
 use Rattle.flow_parse.specs.declared.form.EndMention.TheVariants.{Port, Automatic}
 use Rattle.flow_parse.specs.declared.form.Form.{Form}
 use Rattle.flow_parse.specs.declared.form.Form.TheVariants.{Header, Process, Connection, Initial, Subnet, End, InPort, OutPort}
-use Rattle.flow_parse.specs.declared.part.MentionedProcess.{MentionedProcess}
+use Rattle.flow_parse.specs.declared.table.MentionedProcess.{MentionedProcess}
 use Rattle.flow_parse.specs.declared.stop.LineStop.{LineStop}
 use Rattle.flow_parse.specs.declared.stop.LineStop.TheVariants as stops
 use Rattle.flow_parse.specs.declared.fault.Reason.{Reason}
@@ -259,7 +260,7 @@ at_end n (Some parts) = of_open parts.open_part where
 
 -- The version by which the next line is read: before the header it is the first.
 abbrev pub version_of : Option Parts → ℕ
-version_of None = 1
+version_of None = FIRST_VERSION
 version_of (Some parts) = parts.version
 
 -- The lines from number n on lead to this outcome: the value, or the fault of the first line that has one.

@@ -5,6 +5,7 @@ use Rattle.std.specs.Str.{bytes_eq}
 use Rattle.std.specs.List.{AllByRecursion, list_any, sum_by}
 use Rattle.flow_plan.specs.declared.kind.PortRef.{PortRef}
 use Rattle.flow_plan.specs.Network.{automatic_input, automatic_output}
+use Rattle.flow_parse.specs.declared.value.TheConstants.{FIRST_VERSION, SECOND_VERSION}
 use Rattle.flow_parse.specs.declared.value.Statement.{Statement}
 use Rattle.flow_parse.specs.declared.value.Statement.TheVariants.{Connect, Initial, InPort, OutPort}
 use Rattle.flow_parse.specs.declared.value.NetPart.{NetPart}
@@ -27,7 +28,7 @@ IsPort port = IsName port.name × IsWithin 0 LAST_ELEMENT port.element
 
 -- What a connection names in a file of this version: a port, or in version 2 the automatic one.
 abbrev pub IsOneEnd : ℕ → PortRef → PortRef → Type 0
-IsOneEnd version automatic port = IsPort port ⊎ ((version ≡ 2) × (port ≡ automatic))
+IsOneEnd version automatic port = IsPort port ⊎ ((version ≡ SECOND_VERSION) × (port ≡ automatic))
 
 -- An output that a connection names.
 abbrev pub IsOutput : ℕ → PortRef → Type 0
@@ -80,7 +81,7 @@ pub record IsNetPart (version : ℕ) (part : NetPart) : Type 0 where
 
 -- A value has version 1 or 2, subnets under different names, no outer port in its main part, and at most STATEMENT_LIMIT statements in all.
 pub record IsNetText (value : NetText) : Type 0 where
-  pub version : (value.version ≡ 1) ⊎ (value.version ≡ 2)
+  pub version : (value.version ≡ FIRST_VERSION) ⊎ (value.version ≡ SECOND_VERSION)
   pub subnets : AllByRecursion (λ (s : List ℕ × NetPart). IsName s.0 × IsNetPart value.version s.1) value.subnets
   pub differ : Differ (map (λ s. s.0) value.subnets)
   pub main : IsNetPart value.version value.main

@@ -11,7 +11,6 @@ mod line;
 mod mentions;
 mod name;
 mod names;
-mod part;
 mod printed;
 mod reader;
 mod row;
@@ -26,9 +25,10 @@ mod value;
 pub use fault::{NetFault, ParseStop, Reason};
 pub use file::parse;
 pub use law::a_file_has_one_outcome;
+pub use name::{RESERVED, is_reserved};
 pub use names::Names;
 pub use printed::print;
-pub use value::{NetPart, NetText, Statement};
+pub use value::{FIRST_VERSION, NetPart, NetText, SECOND_VERSION, Statement};
 
 #[cfg(test)]
 mod tests;

@@ -8,6 +8,7 @@ use crate::row::Row;
 use crate::same::are;
 use crate::stop::LineStop;
 use crate::token::Token;
+use crate::value::SECOND_VERSION;
 use flow_items::Text;
 use std::alloc::{AllocError, Global};
 use std::marker::Model;
@@ -112,7 +113,7 @@ fn cut<'a>(alloc: Global, version: u32, bytes: &'a [u8]) -> Result<(Token, &'a [
             None => Err(LineStop::Quote),
         };
     }
-    if first == b'*' && version == 2 {
+    if first == b'*' && version == SECOND_VERSION {
         return match automatic(more) {
             Some(cut) => Ok(cut),
             None => Err(LineStop::Byte),

@@ -5,19 +5,19 @@ ghost use Rattle.flow_parse.specs.Names.{is_name, begins_with_letter, number_in,
 ghost use Rattle.std.specs.Prelude.{is_some};
 
 use crate::form::{EndMention, Form, Mention, PortMention};
-use crate::same::is;
+use crate::value::SECOND_VERSION;
 use flow_items::Text;
 use flow_limits::{CAPACITY_LIMIT, FIRST_CAPACITY_LIMIT, LAST_ELEMENT, NAME_LIMIT};
 use flow_text::decimal;
 
-fn is_reserved_word(word: &Text) -> bool
+/// The words that begin a form, and so are no names.
+pub const RESERVED: [&[u8]; 5] = [b"flow", b"subnet", b"end", b"inport", b"outport"];
+
+/// Whether a word is reserved.
+pub fn is_reserved(word: &[u8]) -> bool
     ensures { result ≡ is_reserved word.now }
 {
-    is(word, b"flow")
-        || is(word, b"subnet")
-        || is(word, b"end")
-        || is(word, b"inport")
-        || is(word, b"outport")
+    RESERVED.iter().any(|reserved| word == *reserved)
 }
 
 fn letter_first(word: &[u8]) -> bool
@@ -32,7 +32,7 @@ fn letter_first(word: &[u8]) -> bool
 fn is_a_name(word: &Text) -> bool
     ensures { result ≡ is_name word.now }
 {
-    letter_first(word.as_slice()) && word.len() <= NAME_LIMIT && !is_reserved_word(word)
+    letter_first(word.as_slice()) && word.len() <= NAME_LIMIT && !is_reserved(word.as_slice())
 }
 
 fn mention_named(mention: &Mention) -> bool
@@ -106,7 +106,7 @@ pub fn element(word: &Text) -> Option<u32>
 fn most_capacity(version: u32) -> u32
     ensures { result ≡ capacity_limit version }
 {
-    if version == 2 {
+    if version == SECOND_VERSION {
         CAPACITY_LIMIT
     } else {
         FIRST_CAPACITY_LIMIT

@@ -8,12 +8,11 @@ use crate::form::Form;
 use crate::line::read_line;
 use crate::mentions::add_mentions;
 use crate::name::{named, numbered};
-use crate::part::MentionedProcess;
 use crate::statements::add_statement;
 use crate::stop::LineStop;
 use crate::subnets::Subnets;
-use crate::table::{Processes, kindless};
-use crate::value::{NetPart, NetText, Statement};
+use crate::table::{MentionedProcess, Processes, kindless};
+use crate::value::{FIRST_VERSION, NetPart, NetText, Statement};
 use flow_items::{Items, Text};
 use flow_limits::{STATEMENT_LIMIT, TEXT_LIMIT};
 use std::alloc::{AllocError, Global};
@@ -139,7 +138,7 @@ impl Reader {
     {
         Reader {
             headed: false,
-            version: 1,
+            version: FIRST_VERSION,
             main: Part::new(alloc),
             subnets: Subnets::new(alloc),
             open_part: None,

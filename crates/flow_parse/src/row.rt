@@ -7,6 +7,7 @@ ghost use Rattle.flow_parse.specs.Reading.{Gives, word_at, arrow_at, close_at, c
 use crate::form::{EndMention, Form, Mention, PortMention};
 use crate::same::is;
 use crate::token::Token;
+use crate::value::{FIRST_VERSION, SECOND_VERSION};
 use flow_items::Text;
 use std::alloc::{AllocError, Global};
 use std::collections::VecDeque;
@@ -196,10 +197,14 @@ impl Row {
     {
         let version = self.word()?;
         if is(&version, b"1") {
-            return Some(Form::Header { version: 1 });
+            return Some(Form::Header {
+                version: FIRST_VERSION,
+            });
         }
         if is(&version, b"2") {
-            Some(Form::Header { version: 2 })
+            Some(Form::Header {
+                version: SECOND_VERSION,
+            })
         } else {
             None
         }

@@ -7,11 +7,18 @@ ghost use Rattle.flow_parse.specs.Files.{kindless_line};
 
 use crate::form::Mention;
 use crate::names::Names;
-use crate::part::MentionedProcess;
 use crate::same::is;
 use flow_items::Text;
 use std::alloc::{AllocError, Global};
 use std::marker::Model;
+
+/// A process of a part as far as it is known.
+#[derive(Drop)]
+pub struct MentionedProcess {
+    pub line: u64,
+    pub name: Text,
+    pub kind: Option<Text>,
+}
 
 /// A part's processes in the order of their first mention, and the place of each under its name.
 #[derive(Drop)]
@@ -24,7 +31,7 @@ impl Model for Processes {
     ghost use Rattle.std.specs.Prelude.{◌≡◌, ℕ, List};
     ghost use Rattle.std.specs.Str.{bytes_eq};
     ghost use Rattle.std.specs.List.{position};
-    ghost use Rattle.flow_parse.specs.declared.part.MentionedProcess.{MentionedProcess};
+    ghost use Rattle.flow_parse.specs.declared.table.MentionedProcess.{MentionedProcess};
     ghost use Rattle.flow_parse.specs.Places.{place_in};
 
     ghost Value = { List MentionedProcess };

@@ -2,6 +2,12 @@
 use flow_items::{Items, Text};
 use flow_plan::PortRef;
 
+/// The first version of the language.
+pub const FIRST_VERSION: u32 = 1;
+
+/// The second version, with automatic ports and greater capacities.
+pub const SECOND_VERSION: u32 = 2;
+
 /// What a line of a network file adds to its part. A process is named as its part names it; a port may
 /// be given with an element, and a connection with a capacity: from 1 to FIRST_CAPACITY_LIMIT packets in
 /// version 1, and to CAPACITY_LIMIT in version 2. There a connection may go from the automatic output,

@@ -1,5 +1,5 @@
 use Rattle.std.proofs.Common.{subst, Option, List}
-use Rattle.flow_parse.specs.declared.part.MentionedProcess.{MentionedProcess}
+use Rattle.flow_parse.specs.declared.table.MentionedProcess.{MentionedProcess}
 use Rattle.flow_parse.specs.Table.{Adds}
 use Rattle.flow_parse.proofs.TableLaws.{new_mention, unkinded_mention, kinded_mention}
 use Rattle.flow_parse.proofs.table.Processes.mention.Goals as goal

@@ -1,7 +1,7 @@
 use Rattle.std.proofs.Common.{rules}
 use Rattle.flow_parse.proofs.PlaceLaws.{one_place_more}
 use Rattle.flow_parse.specs.Places.{place_in}
-use Rattle.flow_parse.specs.declared.part.MentionedProcess.{MentionedProcess}
+use Rattle.flow_parse.specs.declared.table.MentionedProcess.{MentionedProcess}
 use Rattle.flow_parse.proofs.table.Processes.push.Goals as goal
 
 pub invariant_of-self-2 : goal.invariant_of-self-2
