@@ -2,7 +2,7 @@
 use Rattle.std.proofs.Common.{◌≡◌, ◌≢◌, ℕ, ◌+◌, ◌-◌, ◌<◌, ◌≤◌, zero, suc, Bool, List, [], ◌∷◌, ◌++◌, length, take, Option, Some, None, Ok, Err, refl, ap, sym, subst, ◌∙◌, ◌⊎◌, inl, inr, slice_get, arith, add-one, replicate, get_or}
 use Rattle.std.specs.Prelude.{slice_set, IsSome}
 use Rattle.std.specs.List.{AllByRecursion, cons_option}
-use Rattle.std.proofs.lemmas.List.{length-set, take_more as more}
+use Rattle.std.proofs.lemmas.List.{length-set, take_all, take_more as more}
 use Rattle.std.proofs.lemmas.Option.{slice_get_within, get_or_from_slice_get, slice_get-get_or}
 use Rattle.std.specs.Option.{option_map_or}
 use Rattle.flow_net.proofs.Places.{slice_get-set_other, slice_get-set_is, same_or_not}
@@ -59,12 +59,6 @@ all_new (suc n) (suc t) m is = all_new n t m is
 
 take_at : {X : Type 0} (xs : List X) (i : ℕ) (x : X) → slice_get xs i ≡ Some x → take (i + 1) xs ≡ take i xs ++ x ∷ []
 take_at {X} xs i x is = more xs i x (slice_get_within xs i x is) ∙ ap (λ (y : X). take i xs ++ y ∷ []) (get_or_from_slice_get xs i x x is)
-
-take_all : {X : Type 0} (xs : List X) (i : ℕ) → length xs ≤ i → take i xs ≡ xs
-take_all [] zero over = refl
-take_all [] (suc i) over = refl
-take_all (x ∷ xs) zero over = absurd (omega arith)
-take_all (x ∷ xs) (suc i) over = ap (λ l. x ∷ l) (take_all xs i (omega arith))
 
 module _ (text : NetText) where
   linked_open : (marks : List Mark) (fs : List Spot) → Linked text marks fs → AllByRecursion (λ a. slice_get marks a ≡ Some Open) (opened text fs)
@@ -135,7 +129,7 @@ module _ (text : NetText) where
     -- Main is done.
     main_ends : (fs : List Spot) → fs ≡ fs → f.subnet ≡ None → length (part_at text f.subnet).processes ≤ f.next → Linked text marks (f ∷ fs) → Walk marks fs
     main_ends [] same none over linked = part_passes text marks w.clean (suc (length text.subnets)) [] [] tt text.main
-        (subst (λ (o : Option ℕ). AllByRecursion (LeadsOn text marks) (part_at text o).processes) none (subst (λ (l : List (List ℕ × List ℕ)). AllByRecursion (LeadsOn text marks) l) (take_all (part_at text f.subnet).processes f.next over) w.lead.0))
+        (subst (λ (o : Option ℕ). AllByRecursion (LeadsOn text marks) (part_at text o).processes) none (subst (λ (l : List (List ℕ × List ℕ)). AllByRecursion (LeadsOn text marks) l) (take_all f.next (part_at text f.subnet).processes over) w.lead.0))
     main_ends (g ∷ gs) same none over linked = absurd (cc (none, linked.1))
 
     pub ends_main : f.subnet ≡ None → length (part_at text f.subnet).processes ≤ f.next → Walk marks fs
@@ -201,7 +195,7 @@ module _ (text : NetText) where
           let apart : AllByRecursion (λ a. a ≢ s) (opened text (g ∷ gs)) = subst (λ (k : ℕ). AllByRecursion (λ a. a ≢ k) (opened text (g ∷ gs))) same linked.3 in
           let keeps = set_keeps s Done (λ done. absurd (cc (done, opens))) in
           let whole : AllByRecursion (LeadsOn text marks) (part_at text (Some s)).processes =
-          subst (λ (o : Option ℕ). AllByRecursion (LeadsOn text marks) (part_at text o).processes) is (subst (λ (l : List (List ℕ × List ℕ)). AllByRecursion (LeadsOn text marks) l) (take_all (part_at text f.subnet).processes f.next over) lead.0) in
+          subst (λ (o : Option ℕ). AllByRecursion (LeadsOn text marks) (part_at text o).processes) is (subst (λ (l : List (List ℕ × List ℕ)). AllByRecursion (LeadsOn text marks) l) (take_all f.next (part_at text f.subnet).processes over) lead.0) in
           let fewer = news_done marks s opens in
           let count : length (opened text (f ∷ g ∷ gs)) ≡ suc (length (opened text (g ∷ gs))) = ap (λ (o : Option ℕ). length (cons_option o (opened text (g ∷ gs)))) is in
           record {

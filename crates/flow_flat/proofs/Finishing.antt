@@ -30,7 +30,7 @@ use Rattle.flow_flat.proofs.Links.{link_to}
 use Rattle.flow_flat.proofs.Lookups.{bare, called, position_map}
 use Rattle.flow_flat.proofs.Agrees.{Agrees}
 use Rattle.flow_flat.proofs.Sizing.{named_if_bound, bound_if_named, binding_is, size_is}
-use Rattle.flow_flat.proofs.Planning.{sum_map}
+use Rattle.flow_net.proofs.Needs.{sum_by_map}
 
 flags : (f : ℕ → Bool) (xs : List Binding) (n a : ℕ) → n ≤ length xs → ((k : ℕ) (b : Binding) → slice_get xs k ≡ Some b → is_free b ≡ f (a + k)) → map is_free (take n xs) ≡ map f (range_with_len a n)
 flags f xs zero a few each = refl
@@ -163,7 +163,7 @@ module _ (table : List KindSpec) (ps : List (List ℕ × List ℕ)) (at : List P
   pub sum_alike : (ports : List Sized) → sum_fault draft.links ≡ sum_test (map (connection_of ports joins) (receivers joins))
   sum_alike ports =
       ap sum_fault agrees.links
-      ∙ ap (λ (n : ℕ). refused_if (if nat_le n CAPACITY_SUM_LIMIT then false else true) (TooMany many.CapacitySum)) (sum_map capacity_of (link_to joins) (receivers joins) ∙ sym (sum_map (λ (c : Connection). c.capacity) (connection_of ports joins) (receivers joins)))
+      ∙ ap (λ (n : ℕ). refused_if (if nat_le n CAPACITY_SUM_LIMIT then false else true) (TooMany many.CapacitySum)) (sum_by_map capacity_of (link_to joins) (receivers joins) ∙ sym (sum_by_map (λ (c : Connection). c.capacity) (connection_of ports joins) (receivers joins)))
       ∙ ap (λ (b : Bool). refused_if b (TooMany many.CapacitySum)) (negated (nat_le (sum_by (λ (c : Connection). c.capacity) (map (connection_of ports joins) (receivers joins))) CAPACITY_SUM_LIMIT))
     where
       negated : (b : Bool) → (if b then false else true) ≡ not b

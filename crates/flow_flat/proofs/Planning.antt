@@ -3,7 +3,6 @@ use Rattle.std.proofs.Common.{◌≡◌, ℕ, ◌+◌, ◌-◌, Bool, true, fals
 use Rattle.std.specs.Prelude.{◌==◌, ◌&&◌, not, if◌then◌else◌, unwrap_or}
 use Rattle.std.specs.List.{filter, filter_map, cons_option, sum_by}
 use Rattle.std.specs.Option.{option_map, option_map_or}
-use Rattle.std.proofs.lemmas.List.Sums.{sum_by-cons}
 use Rattle.std.proofs.lemmas.Option.{slice_get-map}
 use Rattle.std.proofs.lemmas.List.{take-map}
 use Rattle.flow_net.specs.declared.draft.End.{End}
@@ -24,13 +23,9 @@ use Rattle.flow_flat.specs.Names.{PortAt, Join, is_on}
 use Rattle.flow_flat.specs.Plans.{Sized, joins_into, receivers, capacity_given, numbers, process_at, is_input, place_at, carries_at, number_of, sender_of, connection_of, option_of, initial_of, process_of, processes_from, rows_of, tables_from, network_of}
 use Rattle.flow_flat.proofs.Links.{link_to, links_of, map_same}
 use Rattle.flow_flat.proofs.Lookups.{bare, called}
+use Rattle.flow_net.proofs.Needs.{sum_by_map}
 use Rattle.flow_flat.proofs.Agrees.{Agrees, owner, texts_at}
 use Rattle.flow_flat.proofs.Sizing.{view}
-
--- A sum over a mapped list is the sum of what is mapped.
-pub sum_map : {X Y : Type 0} (f : Y → ℕ) (g : X → Y) (xs : List X) → sum_by f (map g xs) ≡ sum_by (λ x. f (g x)) xs
-sum_map f g [] = refl
-sum_map f g (x ∷ xs) = sum_by-cons f (g x) (map g xs) ∙ ap (λ n. f (g x) + n) (sum_map f g xs) ∙ sym (sum_by-cons (λ y. f (g y)) x xs)
 
 map_map : {X Y Z : Type 0} (f : Y → Z) (g : X → Y) (xs : List X) → map f (map g xs) ≡ map (λ x. f (g x)) xs
 map_map f g [] = refl
@@ -63,11 +58,11 @@ module _ (ports : List DraftPort) where
       ap (λ (n : ℕ). n + end.element)
       (ap (λ (p : ℕ). sum_by (finishes.counted p (finishes.side_at ports end)) (take end.port ports)) (process_view end)
       ∙ ap (λ (b : Bool). sum_by (finishes.counted (process_at (map view ports) end) b) (take end.port ports)) (side_view end)
-      ∙ sym (sum_map (numbers (process_at (map view ports) end) (is_input (map view ports) end)) view (take end.port ports))
+      ∙ sym (sum_by_map (numbers (process_at (map view ports) end) (is_input (map view ports) end)) view (take end.port ports))
       ∙ ap (sum_by (numbers (process_at (map view ports) end) (is_input (map view ports) end))) (sym (take-map view end.port ports)))
 
   total_view : (p : ℕ) (input : Bool) → finishes.total_of ports p input ≡ sum_by (numbers p input) (map view ports)
-  total_view p input = sym (sum_map (numbers p input) view ports)
+  total_view p input = sym (sum_by_map (numbers p input) view ports)
 
   sender_view : (j : Join) → finishes.sender_of ports j.out ≡ sender_of (map view ports) j
   sender_view j = ap (λ (p : ℕ). let s : Sender = record { process = p; output = finishes.number_of ports j.out } in s) (process_view j.out)

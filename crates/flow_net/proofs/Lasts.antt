@@ -1,5 +1,5 @@
 -- The automatic port is the last of its side of its process: what that says of entries, rows and numbers.
-use Rattle.std.proofs.Common.{◌≡◌, ℕ, ◌+◌, ◌-◌, ◌<◌, ◌≤◌, List, [], ◌∷◌, ◌++◌, Some, Bool, true, false, map, refl, ap, sym, ◌∙◌, subst, zero, suc, inl, inr, ◌⊎◌, slice_get, length, take, arith, length-append}
+use Rattle.std.proofs.Common.{◌≡◌, ℕ, ◌+◌, ◌-◌, ◌≤◌, List, [], ◌∷◌, ◌++◌, Some, Bool, true, false, map, refl, ap, sym, ◌∙◌, zero, suc, inl, inr, ◌⊎◌, slice_get, length, take, arith, length-append}
 use Rattle.std.specs.Prelude.{if◌then◌else◌, codes}
 use Rattle.std.specs.List.{sum_by, flat_map}
 use Rattle.std.proofs.lemmas.Bool.{false≢true}
@@ -12,7 +12,7 @@ use Rattle.flow_plan.specs.declared.plan.PortRow.{PortRow}
 use Rattle.flow_plan.specs.Network.{is_stream, elements_of, ports_of}
 use Rattle.flow_net.specs.Drafts.{is_side}
 use Rattle.flow_net.specs.Finishes.{size_of, count_of, counted, front}
-use Rattle.flow_net.specs.Kinds.{automatic, all_inputs, all_outputs}
+use Rattle.flow_net.specs.Kinds.{automatic}
 use Rattle.flow_net.specs.Over.{carries, entries}
 use Rattle.flow_net.specs.Sound.{HasKindPorts, entries_of}
 use Rattle.flow_plan.proofs.PortNames.{length_elements_of}

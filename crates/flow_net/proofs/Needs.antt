@@ -16,6 +16,7 @@ use Rattle.flow_net.proofs.Laying.{row-count}
 use Rattle.flow_net.proofs.Numbers.{Numbered}
 use Rattle.flow_net.proofs.Rows.{mapped}
 
+-- A sum over a mapped list is the sum of what is mapped.
 pub sum_by_map : {A B : Type 0} (g : B → ℕ) (f : A → B) (xs : List A) → sum_by g (map f xs) ≡ sum_by (λ x. g (f x)) xs
 sum_by_map g f [] = refl
 sum_by_map g f (x ∷ xs) = omega (arith, sum_by_map g f xs, sum_by-cons g (f x) (map f xs), sum_by-cons (λ x. g (f x)) x xs)

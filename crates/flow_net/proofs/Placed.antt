@@ -1,5 +1,5 @@
 -- The elements of a draft stand in its ports, which have few.
-use Rattle.flow_limits.specs.declared.TheConstants.{CAPACITY_LIMIT, ELEMENT_LIMIT}
+use Rattle.flow_limits.specs.declared.TheConstants.{CAPACITY_LIMIT, DEFAULT_CAPACITY, ELEMENT_LIMIT}
 use Rattle.std.proofs.Common.{◌≡◌, ℕ, ◌+◌, ◌<◌, ◌≤◌, List, [], ◌∷◌, Option, Some, None, Bool, true, false, map, refl, ap, sym, ◌∙◌, subst, slice_get, length, arith}
 use Rattle.std.specs.Prelude.{◌==◌, if◌then◌else◌, unwrap_or}
 use Rattle.std.proofs.lemmas.Bool.Decides.{nat_tests}
@@ -59,7 +59,7 @@ IsPlaced-bound n ports end b all is =
 pub capacity_of-small : (link : Link) → IsLink link → (1 ≤ capacity_of link) × (capacity_of link ≤ CAPACITY_LIMIT)
 capacity_of-small link is = by link.capacity is.capacity
   where
-    by : (o : Option ℕ) → ((n : ℕ) → o ≡ Some n → (1 ≤ n) × (n ≤ CAPACITY_LIMIT)) → (1 ≤ unwrap_or o 10) × (unwrap_or o 10 ≤ CAPACITY_LIMIT)
+    by : (o : Option ℕ) → ((n : ℕ) → o ≡ Some n → (1 ≤ n) × (n ≤ CAPACITY_LIMIT)) → (1 ≤ unwrap_or o DEFAULT_CAPACITY) × (unwrap_or o DEFAULT_CAPACITY ≤ CAPACITY_LIMIT)
     by None bounds = (omega arith, omega arith)
     by (Some n) bounds = bounds n refl
 

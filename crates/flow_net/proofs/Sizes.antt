@@ -1,5 +1,5 @@
--- Laws of the number of elements of a port, and of loops over what is left of a list.
-use Rattle.std.proofs.Common.{◌≡◌, ℕ, ◌+◌, ◌<◌, List, [], ◌∷◌, ◌++◌, Bool, true, false, refl, ap, ◌∙◌, get_or, length, take, drop, arith, add-one, drop-cons}
+-- Laws of the number of elements of a port.
+use Rattle.std.proofs.Common.{◌≡◌, ℕ, ◌+◌, ◌<◌, List, [], ◌∷◌, ◌++◌, Bool, true, false, refl, ap, ◌∙◌, get_or, length, take, arith}
 use Rattle.std.specs.Prelude.{◌==◌, if◌then◌else◌}
 use Rattle.std.proofs.lemmas.List.{take_more, length-take-le}
 use Rattle.std.proofs.lemmas.Bool.Decides.{nat_tests}
@@ -23,7 +23,3 @@ size_of-push (x ∷ xs) b = by (is_free b) (size_of (xs ++ b ∷ [])) (size_of-p
 pub size_of-more : (xs : List Binding) (i : ℕ) (d : Binding) → i < length xs → size_of (take (i + 1) xs) ≡ (if is_free (get_or xs i d) then size_of (take i xs) else i + 1)
 size_of-more xs i d within =
     ap size_of (take_more xs i d within) ∙ size_of-push (take i xs) (get_or xs i d) ∙ ap (λ n. if is_free (get_or xs i d) then size_of (take i xs) else n + 1) (length-take-le i xs (omega arith))
-
--- what is left of a list, the first of it off
-pub drop-more : {X : Type 0} (xs : List X) (i : ℕ) (d : X) → i < length xs → drop i xs ≡ get_or xs i d ∷ drop (i + 1) xs
-drop-more xs i d within = rw (add-one, drop-cons xs i d)

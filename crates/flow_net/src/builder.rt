@@ -8,6 +8,7 @@ ghost use Rattle.flow_net.specs.Kinds.{is_table};
 ghost use Rattle.flow_plan.specs.Valid.{IsValid};
 ghost use Rattle.flow_net.specs.Over.{IsOver};
 
+use crate::counted::Counted;
 use crate::draft::{DraftPort, DraftProcess, Link};
 use crate::fault::{PlanFault, PlanStop};
 use crate::{begin, check, find, finish, give, join, lay, options};
@@ -154,10 +155,10 @@ impl PlanBuilder {
         check::check_ports(alloc, begun.as_slice(), ports)?;
         check::check_sum(links)?;
         let counts = finish::counts(alloc, ports)?;
-        let counts = counts.as_slice();
-        let connections = finish::connections(alloc, ports, counts, links)?;
+        let draft = Counted::of(ports, counts.as_slice());
+        let connections = finish::connections(alloc, draft, links)?;
         let tables = lay::tables(alloc, ports, begun.as_slice())?;
-        let processes = lay::processes(alloc, ports, counts, begun)?;
+        let processes = lay::processes(alloc, draft, begun)?;
         Ok(Plan::new(processes, connections, tables))
     }
 }

@@ -1,18 +1,19 @@
 //! The plan that a whole draft is.
-ghost use Rattle.std.specs.Prelude.{◌≡◌, ◌≤◌, ◌<◌, ◌+◌, ◌*◌, ◌^◌, length, map, take, IfOk, Some, slice_get, ℕ};
+ghost use Rattle.std.specs.Prelude.{◌≡◌, ◌≤◌, ◌<◌, ◌+◌, ◌*◌, length, map, take, IfOk, Some, slice_get, ℕ};
 ghost use Rattle.std.specs.List.{sum_by};
 ghost use Rattle.flow_net.specs.Drafts.{is_side, is_stream_at};
-ghost use Rattle.flow_net.specs.Finishes.{elements_in, count_of, counted, side_at, number_of, total_of, sender_of, connection_of, place_at, options_of, initials_of, process_of, row_of, rows_of, table_of};
+ghost use Rattle.flow_net.specs.Finishes.{elements_in, count_of, counted, side_at, number_of, sender_of, connection_of};
 ghost use Rattle.flow_net.specs.Calls.{process_at};
 ghost use Rattle.flow_net.specs.Sound.{IsPlaced, into_of, sender_at};
 
 use crate::check::size_of;
-use crate::draft::{DraftPort, DraftProcess, End, Link};
+use crate::counted::Counted;
+use crate::draft::{DraftPort, End, Link};
 use crate::find::{is_side, is_stream_at};
 use crate::give::process_at;
-use flow_items::{Items, Text};
+use flow_items::Items;
 use flow_limits::{DEFAULT_CAPACITY, ELEMENT_LIMIT};
-use flow_plan::{Connection, PortClass, PortRow, PortSpec, PortTable, Process, Sender};
+use flow_plan::{Connection, PortClass, Sender};
 use std::alloc::{AllocError, Global};
 
 /// The number of elements of a port.
@@ -52,7 +53,7 @@ pub fn counts(alloc: Global, ports: &[DraftPort]) -> Result<Vec<u32>, AllocError
 }
 
 // The numbered elements of a port, if it is on this side of this process.
-fn counted(port: &DraftPort, count: u32, process: u32, input: bool) -> u32
+fn counted_on(port: &DraftPort, count: u32, process: u32, input: bool) -> u32
     requires { count ≡ count_of port.now }
     ensures counted { result ≡ counted process input port.now }
     ensures few { result ≤ count }
@@ -65,17 +66,14 @@ fn counted(port: &DraftPort, count: u32, process: u32, input: bool) -> u32
 }
 
 /// The elements that the first ports have on one side of a process.
-pub fn total(ports: &[DraftPort], counts: &[u32], place: usize, process: u32, input: bool) -> u32
-    requires few_ports { length ports.now ≤ 2 ^ 21 }
-    requires counts { counts.now ≡ map count_of ports.now }
-    requires few { (g n : ℕ) → slice_get counts.now g ≡ Some n → n ≤ ELEMENT_LIMIT }
-    requires within { place ≤ length ports.now }
-    ensures total { result ≡ sum_by (counted process input) (take place ports.now) }
+pub fn total(draft: Counted<'_>, place: usize, process: u32, input: bool) -> u32
+    requires within { place ≤ length draft.ports.now }
+    ensures total { result ≡ sum_by (counted process input) (take place draft.entry.ports.now) }
     ensures fits { result ≤ ELEMENT_LIMIT * place }
 {
     let mut sum = 0u32;
     for g in 0..place {
-        sum += counted(&ports[g], counts[g], process, input);
+        sum += counted_on(&draft.ports[g], draft.counts[g], process, input);
     }
     sum
 }
@@ -90,69 +88,47 @@ fn side_at(ports: &[DraftPort], end: End) -> bool
 }
 
 /// The number of an element.
-pub fn number(ports: &[DraftPort], counts: &[u32], end: End) -> u32
-    requires few_ports { length ports.now ≤ 2 ^ 21 }
-    requires counts { counts.now ≡ map count_of ports.now }
-    requires few { (g n : ℕ) → slice_get counts.now g ≡ Some n → n ≤ ELEMENT_LIMIT }
-    requires there { end.port < length ports.now }
+pub fn number(draft: Counted<'_>, end: End) -> u32
+    requires there { end.port < length draft.ports.now }
     requires element { end.element ≤ ELEMENT_LIMIT }
-    ensures { result ≡ number_of ports.now end }
+    ensures { result ≡ number_of draft.entry.ports.now end }
 {
-    let process = process_at(ports, end);
-    let input = side_at(ports, end);
-    total(ports, counts, end.port as usize, process, input) + end.element
+    let process = process_at(draft.ports, end);
+    let input = side_at(draft.ports, end);
+    total(draft, end.port as usize, process, input) + end.element
 }
 
-fn sender(ports: &[DraftPort], counts: &[u32], end: End) -> Sender
-    requires few_ports { length ports.now ≤ 2 ^ 21 }
-    requires counts { counts.now ≡ map count_of ports.now }
-    requires few { (g n : ℕ) → slice_get counts.now g ≡ Some n → n ≤ ELEMENT_LIMIT }
-    requires there { end.port < length ports.now }
+fn sender(draft: Counted<'_>, end: End) -> Sender
+    requires there { end.port < length draft.ports.now }
     requires element { end.element ≤ ELEMENT_LIMIT }
-    ensures { result ≡ sender_of ports.now end }
+    ensures { result ≡ sender_of draft.entry.ports.now end }
 {
     Sender {
-        process: process_at(ports, end),
-        output: number(ports, counts, end),
+        process: process_at(draft.ports, end),
+        output: number(draft, end),
     }
 }
 
-fn senders(
-    alloc: Global,
-    ports: &[DraftPort],
-    counts: &[u32],
-    ends: &[End],
-) -> Result<Items<Sender>, AllocError>
-    requires few_ports { length ports.now ≤ 2 ^ 21 }
-    requires counts { counts.now ≡ map count_of ports.now }
-    requires few { (g n : ℕ) → slice_get counts.now g ≡ Some n → n ≤ ELEMENT_LIMIT }
-    requires there { (k : ℕ) (end : End) → slice_get ends.now k ≡ Some end → IsPlaced ports.now end }
-    ensures { IfOk result (λ senders. senders ≡ map (sender_of ports.now) ends.now) }
+fn senders(alloc: Global, draft: Counted<'_>, ends: &[End]) -> Result<Items<Sender>, AllocError>
+    requires there { (k : ℕ) (end : End) → slice_get ends.now k ≡ Some end → IsPlaced draft.ports.now end }
+    ensures { IfOk result (λ senders. senders ≡ map (sender_of draft.entry.ports.now) ends.now) }
 {
     let mut senders = Vec::new(alloc);
     for end in ends {
-        senders.push(sender(ports, counts, *end))?;
+        senders.push(sender(draft, *end))?;
     }
     Ok(Items::of(senders))
 }
 
-fn connection(
-    alloc: Global,
-    ports: &[DraftPort],
-    counts: &[u32],
-    link: &Link,
-) -> Result<Connection, AllocError>
-    requires few_ports { length ports.now ≤ 2 ^ 21 }
-    requires counts { counts.now ≡ map count_of ports.now }
-    requires few { (g n : ℕ) → slice_get counts.now g ≡ Some n → n ≤ ELEMENT_LIMIT }
-    requires into { IsPlaced ports.now link.now.into }
-    requires senders { (k : ℕ) (end : End) → slice_get link.now.senders k ≡ Some end → IsPlaced ports.now end }
-    ensures { IfOk result (λ connection. connection ≡ connection_of ports.now link.now) }
+fn connection(alloc: Global, draft: Counted<'_>, link: &Link) -> Result<Connection, AllocError>
+    requires into { IsPlaced draft.ports.now link.now.into }
+    requires senders { (k : ℕ) (end : End) → slice_get link.now.senders k ≡ Some end → IsPlaced draft.ports.now end }
+    ensures { IfOk result (λ connection. connection ≡ connection_of draft.entry.ports.now link.now) }
 {
-    let senders = senders(alloc, ports, counts, link.senders.as_slice())?;
+    let senders = senders(alloc, draft, link.senders.as_slice())?;
     Ok(Connection {
-        receiver: process_at(ports, link.into),
-        input: number(ports, counts, link.into),
+        receiver: process_at(draft.ports, link.into),
+        input: number(draft, link.into),
         capacity: link.capacity.unwrap_or(DEFAULT_CAPACITY),
         senders,
     })
@@ -161,20 +137,16 @@ fn connection(
 /// The connections of a plan.
 pub fn connections(
     alloc: Global,
-    ports: &[DraftPort],
-    counts: &[u32],
+    draft: Counted<'_>,
     links: &[Link],
 ) -> Result<Vec<Connection>, AllocError>
-    requires few_ports { length ports.now ≤ 2 ^ 21 }
-    requires counts { counts.now ≡ map count_of ports.now }
-    requires few { (g n : ℕ) → slice_get counts.now g ≡ Some n → n ≤ ELEMENT_LIMIT }
-    requires into { (c : ℕ) (end : End) → into_of links.now c ≡ Some end → IsPlaced ports.now end }
-    requires senders { (c k : ℕ) (end : End) → sender_at links.now c k ≡ Some end → IsPlaced ports.now end }
-    ensures { IfOk result (λ v. v.items ≡ map (connection_of ports.now) links.now) }
+    requires into { (c : ℕ) (end : End) → into_of links.now c ≡ Some end → IsPlaced draft.ports.now end }
+    requires senders { (c k : ℕ) (end : End) → sender_at links.now c k ≡ Some end → IsPlaced draft.ports.now end }
+    ensures { IfOk result (λ v. v.items ≡ map (connection_of draft.entry.ports.now) links.now) }
 {
     let mut connections = Vec::new(alloc);
     for link in links {
-        connections.push(connection(alloc, ports, counts, link)?)?;
+        connections.push(connection(alloc, draft, link)?)?;
     }
     Ok(connections)
 }

@@ -1,9 +1,10 @@
 //! The processes of a plan, with the tables of their ports.
-ghost use Rattle.std.specs.Prelude.{◌≡◌, ◌≤◌, ◌<◌, ◌*◌, ◌^◌, length, map, take, IfOk, Some, slice_get, ℕ, List, true, false};
+ghost use Rattle.std.specs.Prelude.{◌≡◌, ◌≤◌, ◌<◌, length, map, IfOk, Some, slice_get, ℕ, List, true, false};
 ghost use Rattle.flow_net.specs.Drafts.{is_stream_at};
 ghost use Rattle.flow_net.specs.Sound.{IsPlaced, text_at};
-ghost use Rattle.flow_net.specs.Finishes.{count_of, total_of, place_at, options_of, initials_of, process_of, row_of, rows_of, front, table_of};
+ghost use Rattle.flow_net.specs.Finishes.{place_at, options_of, initials_of, process_of, row_of, rows_of, front, table_of};
 
+use crate::counted::Counted;
 use crate::draft::{DraftPort, DraftProcess, End};
 use crate::find::{is_side, is_stream_at};
 use crate::finish::{elements_in, number, total};
@@ -99,40 +100,28 @@ fn place_at(ports: &[DraftPort], end: End) -> u32
 // The texts of a process: those at option ports, and those at stream ports.
 fn given(
     alloc: Global,
-    ports: &[DraftPort],
-    counts: &[u32],
+    draft: Counted<'_>,
     texts: Vec<(End, Text)>,
 ) -> Result<(Vec<(u32, Text)>, Vec<(u32, Text)>), AllocError>
-    requires few_ports { length ports.now ≤ 2 ^ 21 }
-    requires counts { counts.now ≡ map count_of ports.now }
-    requires few { (g n : ℕ) → slice_get counts.now g ≡ Some n → n ≤ ELEMENT_LIMIT }
-    requires there { (k : ℕ) (end : End) (text : List ℕ) → slice_get texts.items k ≡ Some (end, text) → IsPlaced ports.now end }
-    ensures options { IfOk result (λ given. given.0.items ≡ options_of ports.now texts.items) }
-    ensures initials { IfOk result (λ given. given.1.items ≡ initials_of ports.now texts.items) }
+    requires there { (k : ℕ) (end : End) (text : List ℕ) → slice_get texts.items k ≡ Some (end, text) → IsPlaced draft.ports.now end }
+    ensures options { IfOk result (λ given. given.0.items ≡ options_of draft.entry.ports.now texts.items) }
+    ensures initials { IfOk result (λ given. given.1.items ≡ initials_of draft.entry.ports.now texts.items) }
 {
     let mut options = Vec::new(alloc);
     let mut initials = Vec::new(alloc);
     'texts: for (end, text) in texts {
-        if is_stream_at(ports, end) {
-            initials.push((number(ports, counts, end), text))?;
+        if is_stream_at(draft.ports, end) {
+            initials.push((number(draft, end), text))?;
         } else {
-            options.push((place_at(ports, end), text))?;
+            options.push((place_at(draft.ports, end), text))?;
         }
     }
     Ok((options, initials))
 }
 
-fn process(
-    alloc: Global,
-    ports: &[DraftPort],
-    counts: &[u32],
-    begun: DraftProcess,
-) -> Result<Process, AllocError>
-    requires few_ports { length ports.now ≤ 2 ^ 21 }
-    requires counts { counts.now ≡ map count_of ports.now }
-    requires few { (g n : ℕ) → slice_get counts.now g ≡ Some n → n ≤ ELEMENT_LIMIT }
-    requires there { (k : ℕ) (end : End) (text : List ℕ) → slice_get begun.texts k ≡ Some (end, text) → IsPlaced ports.now end }
-    ensures { IfOk result (λ process. process ≡ process_of ports.now begun) }
+fn process(alloc: Global, draft: Counted<'_>, begun: DraftProcess) -> Result<Process, AllocError>
+    requires there { (k : ℕ) (end : End) (text : List ℕ) → slice_get begun.texts k ≡ Some (end, text) → IsPlaced draft.ports.now end }
+    ensures { IfOk result (λ process. process ≡ process_of draft.entry.ports.now begun) }
 {
     let DraftProcess {
         number,
@@ -140,33 +129,29 @@ fn process(
         kind,
         texts,
     } = begun;
-    let (options, initials) = given(alloc, ports, counts, texts.into_vec())?;
+    let (options, initials) = given(alloc, draft, texts.into_vec())?;
     Ok(Process {
         name,
         kind,
         options: Items::of(options),
         initials: Items::of(initials),
-        inputs: total(ports, counts, ports.len(), number, true).saturating_sub(1),
-        outputs: total(ports, counts, ports.len(), number, false).saturating_sub(1),
+        inputs: total(draft, draft.ports.len(), number, true).saturating_sub(1),
+        outputs: total(draft, draft.ports.len(), number, false).saturating_sub(1),
     })
 }
 
 /// The processes of a plan. Names and texts stay where they are.
 pub fn processes(
     alloc: Global,
-    ports: &[DraftPort],
-    counts: &[u32],
+    draft: Counted<'_>,
     begun: Vec<DraftProcess>,
 ) -> Result<Vec<Process>, AllocError>
-    requires few_ports { length ports.now ≤ 2 ^ 21 }
-    requires counts { counts.now ≡ map count_of ports.now }
-    requires few { (g n : ℕ) → slice_get counts.now g ≡ Some n → n ≤ ELEMENT_LIMIT }
-    requires there { (p k : ℕ) (end : End) (text : List ℕ) → text_at begun.items p k ≡ Some (end, text) → IsPlaced ports.now end }
-    ensures { IfOk result (λ v. v.items ≡ map (process_of ports.now) begun.items) }
+    requires there { (p k : ℕ) (end : End) (text : List ℕ) → text_at begun.items p k ≡ Some (end, text) → IsPlaced draft.ports.now end }
+    ensures { IfOk result (λ v. v.items ≡ map (process_of draft.entry.ports.now) begun.items) }
 {
     let mut processes = Vec::new(alloc);
     'begun: for each in begun {
-        processes.push(process(alloc, ports, counts, each)?)?;
+        processes.push(process(alloc, draft, each)?)?;
     }
     Ok(processes)
 }

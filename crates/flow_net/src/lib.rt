@@ -6,6 +6,7 @@
 mod begin;
 mod builder;
 mod check;
+mod counted;
 mod draft;
 mod fault;
 mod find;

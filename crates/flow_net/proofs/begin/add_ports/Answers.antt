@@ -1,4 +1,4 @@
-use Rattle.std.proofs.Common.{◌≡◌, List, ◌∷◌, [], ◌++◌, ap, sym, ◌∙◌, length, take, get_or, append_assoc, arith}
+use Rattle.std.proofs.Common.{◌≡◌, List, ◌∷◌, [], ◌++◌, ap, ◌∙◌, length, take, get_or, append_assoc, arith}
 use Rattle.std.proofs.lemmas.List.{take_all}
 use Rattle.flow_net.specs.declared.draft.DraftPort.{DraftPort}
 use Rattle.flow_plan.specs.declared.kind.PortSpec.{PortSpec}

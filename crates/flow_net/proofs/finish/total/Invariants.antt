@@ -5,4 +5,4 @@ use Rattle.flow_net.specs.Finishes.{counted}
 use Rattle.flow_net.proofs.finish.total.Given as goal
 
 abbrev pub invariant-loop-g : goal.invariant-loop-g
-invariant-loop-g l = (l.sum ≡ sum_by (counted l.process l.input) (take l.g l.ports)) × (l.sum ≤ ELEMENT_LIMIT * l.g)
+invariant-loop-g l = (l.sum ≡ sum_by (counted l.process l.input) (take l.g l.draft.ports.now)) × (l.sum ≤ ELEMENT_LIMIT * l.g)

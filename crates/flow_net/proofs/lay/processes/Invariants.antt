@@ -3,4 +3,4 @@ use Rattle.flow_net.specs.Finishes.{process_of}
 use Rattle.flow_net.proofs.lay.processes.Given as goal
 
 abbrev pub invariant-begun : goal.invariant-begun
-invariant-begun l = l.processes.items ≡ map (process_of l.ports) l.yielded
+invariant-begun l = l.processes.items ≡ map (process_of l.draft.ports.now) l.yielded
