@@ -143,43 +143,74 @@ fn each_shorter_file_ends_too_early(rt: HostRuntime) -> Result<(), Fail> {
     Ok(())
 }
 
+/// Four lines for the network that balances them.
+const LINES: &[u8] = b"a\nb\nc\nd\n";
+
+/// The journal that a call has left in its file, if it has.
+fn journal_left(alloc: Global, called: &Called) -> Result<Vec<u8>, AllocError> {
+    match called.shelf.file("j") {
+        Some(bytes) => bytes.to_vec(alloc),
+        None => Ok(Vec::new(alloc)),
+    }
+}
+
 #[test]
-fn seen_numbers_are_seen_again(rt: HostRuntime) -> Result<(), Fail> {
+fn a_run_keeps_the_numbers_that_were_seen(rt: HostRuntime) -> Result<(), Fail> {
     let alloc = rt.alloc();
-    let lines: &[u8] = b"a\nb\nc\nd\n";
-    let ran = call(alloc, RUN, BALANCING, lines, b"")?;
+    let ran = call(alloc, RUN, BALANCING, LINES, b"")?;
     assert_eq!(rt; ran.status, 0);
     assert!(rt; ran.shelf.file("a") == Some(b"a\nc\n".as_slice()));
     assert!(rt; ran.shelf.file("b") == Some(b"b\nd\n".as_slice()));
-    let journal = match ran.shelf.file("j") {
-        Some(bytes) => bytes.to_vec(alloc)?,
-        None => Vec::new(alloc),
-    };
+    let journal = journal_left(alloc, &ran)?;
     let seen: &[u8] = b"\0\0\0\0\x01\0\0\0\x01\0\x01\0\x02\0\x01\0";
     assert_eq!(rt; journal.len(), 16 + 42 + 16);
     assert!(rt; journal.ends_with(seen));
-    let again = call(alloc, REPLAY, BALANCING, lines, &journal)?;
+    Ok(())
+}
+
+#[test]
+fn seen_numbers_are_seen_again(rt: HostRuntime) -> Result<(), Fail> {
+    let alloc = rt.alloc();
+    let ran = call(alloc, RUN, BALANCING, LINES, b"")?;
+    let journal = journal_left(alloc, &ran)?;
+    let again = call(alloc, REPLAY, BALANCING, LINES, &journal)?;
     assert_eq!(rt; again.status, 0);
     assert_eq!(rt; again.printed.as_slice(), ran.printed.as_slice());
-    // The first number seen is more than the connection can hold; and one number more than are asked for.
-    let mut other = journal.to_vec(alloc)?;
-    let mut more = journal.to_vec(alloc)?;
-    if journal.len() == 74 {
-        other[58] = 11;
-        more[12] = 9;
+    Ok(())
+}
+
+/// The journal of that run with another byte at a place, or with bytes behind it, made again.
+fn made_again(alloc: Global, place: usize, byte: u8, behind: &[u8]) -> Result<Called, CallStop> {
+    let ran = call(alloc, RUN, BALANCING, LINES, b"")?;
+    let mut journal = journal_left(alloc, &ran)?;
+    if place < journal.len() {
+        journal[place] = byte;
     }
-    more.extend_from_slice(b"\0\0")?;
-    let again = call(alloc, REPLAY, BALANCING, lines, &other)?;
+    journal.extend_from_slice(behind)?;
+    call(alloc, REPLAY, BALANCING, LINES, &journal)
+}
+
+/// The first number that was seen is more than the connection can hold.
+#[test]
+fn a_number_above_the_capacity_is_refused(rt: HostRuntime) -> Result<(), Fail> {
+    let again = made_again(rt.alloc(), 58, 11, b"")?;
     assert_eq!(rt;
         again.printed.as_slice(),
         b"journal refused: entry 10: process 1 seen\n".as_slice()
     );
     assert_eq!(rt; again.status, 10);
-    let again = call(alloc, REPLAY, BALANCING, lines, &more)?;
+    Ok(())
+}
+
+/// One number more than are asked for: the header counts it, and it stands at the end.
+#[test]
+fn a_number_that_nobody_asks_for_is_refused(rt: HostRuntime) -> Result<(), Fail> {
+    let again = made_again(rt.alloc(), 12, 9, b"\0\0")?;
     assert_eq!(rt;
         again.printed.as_slice(),
         b"journal refused: entry 42: process 0 seen\n".as_slice()
     );
+    assert_eq!(rt; again.status, 10);
     Ok(())
 }
 
