@@ -221,24 +221,33 @@ fn judges_tell_what_is_determinate(rt: HostRuntime) -> Result<(), Fail> {
     Ok(())
 }
 
-#[test]
-fn the_page_of_kinds_touches_no_file(rt: HostRuntime) -> Result<(), Fail> {
-    let alloc = rt.alloc();
+/// The page of kinds over a shelf that gives nothing, where these writes fail: the status, and whether what was printed begins with the first kind.
+fn kinds_printed(rt: &impl Abort, alloc: Global, fails: Vec<u64>) -> Result<(u8, bool), Fail> {
     let words = vec![in alloc; String::from_str(alloc, "--kinds")?]?;
     let none = Vec::new(alloc);
-    let fails = vec![in alloc; 1]?;
-    let mut shelf = MemShelf::new(alloc, none, 64, ROOM, fails, Vec::new(alloc));
-    let mut out = MemSink::new(alloc, 64, ROOM, Vec::new(alloc))?;
-    let outcome = call(&rt, alloc, &words, &mut shelf, &mut out)?;
-    assert_eq!(rt; outcome.status.code(), 0);
-    assert!(rt;
-        out.bytes()
-            .starts_with(b"ReadLines: sends the lines of a file\n")
-    );
-    let fails = vec![in alloc; 1]?;
-    let mut full = MemSink::new(alloc, 64, ROOM, fails)?;
-    let outcome = call(&rt, alloc, &words, &mut shelf, &mut full)?;
-    assert_eq!(rt; outcome.status.code(), 7);
+    let read_fails = vec![in alloc; 1]?;
+    let mut shelf = MemShelf::new(alloc, none, 64, ROOM, read_fails, Vec::new(alloc));
+    let mut out = MemSink::new(alloc, 64, ROOM, fails)?;
+    let outcome = call(rt, alloc, &words, &mut shelf, &mut out)?;
+    let begins = out
+        .bytes()
+        .starts_with(b"ReadLines: sends the lines of a file\n");
+    Ok((outcome.status.code(), begins))
+}
+
+#[test]
+fn the_page_of_kinds_touches_no_file(rt: HostRuntime) -> Result<(), Fail> {
+    let (status, begins) = kinds_printed(&rt, rt.alloc(), Vec::new(rt.alloc()))?;
+    assert_eq!(rt; status, 0);
+    assert!(rt; begins);
+    Ok(())
+}
+
+#[test]
+fn a_page_of_kinds_that_is_not_printed_is_a_write_fault(rt: HostRuntime) -> Result<(), Fail> {
+    let fails = vec![in rt.alloc(); 1]?;
+    let (status, _) = kinds_printed(&rt, rt.alloc(), fails)?;
+    assert_eq!(rt; status, 7);
     Ok(())
 }
 
