@@ -1,5 +1,5 @@
 //! A process of a network that runs.
-ghost use Rattle.std.specs.Prelude.{◌≡◌, ℕ, ◌+◌, ◌-◌, ◌^◌, ◌<◌, ◌≤◌, ◌↔◌, [], ◌∷◌, ◌++◌, length, IsTrue, IfOk, IfSome, None, Some, slice_get};
+ghost use Rattle.std.specs.Prelude.{◌≡◌, ℕ, ◌+◌, ◌-◌, ◌^◌, ◌<◌, ◌≤◌, ◌↔◌, ◌⊎◌, [], ◌∷◌, ◌++◌, length, IsTrue, IfOk, IfSome, None, Some, slice_get};
 ghost use Rattle.flow_component.specs.declared.Wish.TheVariants.{Receive, Send};
 ghost use Rattle.flow_model.specs.Order.{connection_of};
 ghost use Rattle.flow_model.specs.Events.{is_connected};
@@ -199,6 +199,7 @@ impl<K: Component> Body<K> {
     pub(crate) fn wishes_packet(&self) -> bool
         ensures receives { (port : Port) → self.now.process.stage ≡ Wishing (Receive port) → IsTrue result }
         ensures sends { (port : Port) (id : ℕ) → self.now.process.stage ≡ Wishing (Send port id) → IsTrue result }
+        ensures only { IsTrue result → ((port : Port) × (self.now.process.stage ≡ Wishing (Receive port))) ⊎ ((port : Port) × (id : ℕ) × (self.now.process.stage ≡ Wishing (Send port id))) }
     {
         match self.stage {
             Stage::Wishing(wish) => match wish {

@@ -145,3 +145,17 @@ fn the_second_version_has_automatic_ports(rt: HostRuntime) -> Result<(), Fail> {
     check_spelling(&rt, alloc, file, spelled)?;
     check_spelling(&rt, alloc, spelled, spelled)
 }
+
+/// Code and definitions both cite these constants, so no contract refuses a word more or another version.
+#[test]
+fn five_words_are_no_names(rt: HostRuntime) -> Result<(), Fail> {
+    let words: [&[u8]; 5] = RESERVED;
+    assert!(rt; words[0] == b"flow".as_slice());
+    assert!(rt; words[1] == b"subnet".as_slice());
+    assert!(rt; words[2] == b"end".as_slice());
+    assert!(rt; words[3] == b"inport".as_slice());
+    assert!(rt; words[4] == b"outport".as_slice());
+    assert_eq!(rt; FIRST_VERSION, 1);
+    assert_eq!(rt; SECOND_VERSION, 2);
+    Ok(())
+}
