@@ -1,7 +1,7 @@
 -- The sorted list of packets is a stable sort of them, and the only one.
-use Rattle.std.proofs.Common.{◌≡◌, ℕ, zero, suc, ◌+◌, ◌<◌, ◌≤◌, Bool, true, false, not, ◌&&◌, cond, List, [], ◌∷◌, length, get_or, refl, sym, ap, ◌∙◌, subst, arith, add-one, Option, if◌then◌else◌}
+use Rattle.std.proofs.Common.{◌≡◌, ℕ, zero, suc, ◌<◌, ◌≤◌, Bool, true, false, not, ◌&&◌, cond, List, [], ◌∷◌, length, get_or, refl, sym, ap, ◌∙◌, arith, add-one, Option, if◌then◌else◌}
 use Rattle.std.specs.List.{filter}
-use Rattle.std.specs.List.Sorted.{IsSortedBy, IsStableBy, ties}
+use Rattle.std.specs.List.Sorted.{IsSortedBy, ties}
 use Rattle.std.specs.Cmp.{IsStrictWeakOrder}
 use Rattle.std.proofs.lemmas.Cmp.{nat_list_cmp_total}
 use Rattle.std.proofs.lemmas.List.Sorted.{ranks_by, sorted_far}
@@ -169,8 +169,11 @@ module _ (bytes : Option ℕ) where
 
 -- It is a stable sort, and the only one.
 pub the-stable-sort : IsTheStableSort
-the-stable-sort bytes before = (record {
+the-stable-sort bytes before = (
+  record {
     same = sort-same bytes before;
     ascending = sorted-of (is_less bytes) (less-order bytes) (stable_sort bytes before) (up-sort bytes before);
     stable = stable-sort bytes before;
-  }, only-sort bytes before)
+  },
+  only-sort bytes before,
+)

@@ -9,7 +9,7 @@ use Rattle.flow_component.specs.declared.Answer.{Answer}
 use Rattle.flow_component.specs.declared.Wish.{Wish}
 use Rattle.flow_component.specs.declared.Stop.{Stop}
 use Rattle.flow_component.specs.declared.Stop.TheVariants as stops
-use Rattle.flow_component.specs.Laws.{Outcome, Wishes, Fails}
+use Rattle.flow_component.specs.Laws.{Wishes}
 use Rattle.flow_component.specs.Ports.{send_first}
 use Rattle.flow_component.specs.Resumes.{Resumes, dropped_count, drops_between}
 use Rattle.flow_component.proofs.Dropping.{dropped_after, length-push}

@@ -1,5 +1,5 @@
 -- Sort keeps the laws of components.
-use Rattle.std.proofs.Common.{◌≡◌, ◌≢◌, ℕ, ◌+◌, ◌<◌, ◌≤◌, ◌==◌, true, false, List, [], ◌∷◌, ◌++◌, length, take, refl, sym, ap, ◌∙◌, subst, arith, Bool, nat_eq, Option, Some, None, if◌then◌else◌, eq-eqb}
+use Rattle.std.proofs.Common.{◌≡◌, ℕ, ◌+◌, ◌<◌, ◌≤◌, ◌==◌, true, false, List, [], ◌∷◌, ◌++◌, length, take, refl, sym, ap, ◌∙◌, subst, arith, Bool, Option, Some, None, if◌then◌else◌}
 use Rattle.std.specs.List.Sorted.{IsPermutation}
 use Rattle.std.proofs.lemmas.List.Sorted.{IsPermutation-refl, IsPermutation-sym, IsPermutation-cons, IsPermutation-trans, IsPermutation-middle}
 use Rattle.flow_limits.specs.declared.TheConstants.{HANDS_LIMIT}
@@ -18,7 +18,7 @@ use Rattle.flow_component.specs.declared.Fail.TheVariants.{TreeDepth}
 use Rattle.flow_component.specs.Laws.{Lawful, Outcome, Wishes, Fails, Obeys, StaysReady}
 use Rattle.flow_component.specs.Ports.{one_to_one, uses_first, receive_first, send_first}
 use Rattle.flow_component.specs.Alone.{HoldsOnly}
-use Rattle.flow_component.proofs.Roots.{same_id, other_id, IsAtRoot-last, IsAtRoot-push}
+use Rattle.flow_component.proofs.Roots.{same_id, IsAtRoot-last, IsAtRoot-push}
 use Rattle.flow_component.proofs.Comings.{comes_same}
 use Rattle.flow_component.proofs.Several.{times-append, times-own, times-root, without-last}
 use Rattle.flow_component.proofs.Lone.{HoldsOnly-without, HoldsOnly-packet_at, HoldsOnly-root, HoldsOnly-came, HoldsOnly-made_alone}
@@ -48,16 +48,18 @@ sort-same bytes (t ∷ ts) = IsPermutation-trans (t ∷ ts) (t ∷ stable_sort b
 
 -- The carrier, which stands first
 
-first-found : (x : Tree) (xs : List Tree) → packet_at (x ∷ xs) (id_of x) ≡ Some x
+-- The first packet is found, and leaves the others when it goes.
+pub first-found : (x : Tree) (xs : List Tree) → packet_at (x ∷ xs) (id_of x) ≡ Some x
 first-found x xs = let s = same_id (id_of x) in rw s refl
 
-first-gone : (x : Tree) (xs : List Tree) → without (x ∷ xs) (id_of x) ≡ xs
+pub first-gone : (x : Tree) (xs : List Tree) → without (x ∷ xs) (id_of x) ≡ xs
 first-gone x xs = let s = same_id (id_of x) in rw s refl
 
-first-detached : (x : Tree) (xs : List Tree) → detached (x ∷ xs) (id_of x) items ≡ with_chains x (detach_from (chains_of x) items) ∷ xs
+-- Detaching from it, or a new order in it, changes it alone.
+pub first-detached : (x : Tree) (xs : List Tree) → detached (x ∷ xs) (id_of x) items ≡ with_chains x (detach_from (chains_of x) items) ∷ xs
 first-detached x xs = let s = same_id (id_of x) in rw s refl
 
-first-reordered : (x : Tree) (xs order : List Tree) → reordered (x ∷ xs) (id_of x) items order ≡ with_chains x (refill (chains_of x) items order) ∷ xs
+pub first-reordered : (x : Tree) (xs order : List Tree) → reordered (x ∷ xs) (id_of x) items order ≡ with_chains x (refill (chains_of x) items order) ∷ xs
 first-reordered x xs order = let s = same_id (id_of x) in rw s refl
 
 module _ (held : Held) (carrier : ℕ) (bracket : Option ℕ) (h : Carries held carrier bracket) where
@@ -115,14 +117,19 @@ absent ts child once at =
     all_times [] = omega arith
     all_times (u ∷ us) = omega (arith, all_times us, times-append (id_of child) (ids u) (all_ids (us ++ child ∷ [])), times-append (id_of child) (ids u) (all_ids us))
 
--- a packet that was taken out of a chain leaves the others when it goes
-pub child-gone : (held : Held) (root : ℕ) (child : Tree) (children : List Tree) → Sound held → chain_of_root held.packets root items ≡ child ∷ children
-    → without (detached held.packets root items ++ child ∷ []) (id_of child) ≡ detached held.packets root items
-child-gone held root child children s is =
+-- a packet that was taken out of a chain has an id of its own
+pub child-new : (held : Held) (root : ℕ) (child : Tree) (children : List Tree) → Sound held → chain_of_root held.packets root items ≡ child ∷ children
+    → IsAtRoot (detached held.packets root items) (id_of child) → ⊥
+child-new held root child children s is =
     let taken : detached held.packets root items ++ take 1 (chain_of_root held.packets root items) ≡ detached held.packets root items ++ child ∷ [] = ap (λ (ts : List Tree). detached held.packets root items ++ take 1 ts) is in
     let once : times (id_of child) (all_ids (detached held.packets root items ++ child ∷ [])) ≤ 1 =
     omega (arith, ap (λ (ts : List Tree). times (id_of child) (all_ids ts)) taken, times-detached (id_of child) held.packets root items, s.once (id_of child)) in
-    without-last (detached held.packets root items) child (absent (detached held.packets root items) child once)
+    absent (detached held.packets root items) child once
+
+-- and leaves the others when it goes
+pub child-gone : (held : Held) (root : ℕ) (child : Tree) (children : List Tree) → Sound held → chain_of_root held.packets root items ≡ child ∷ children
+    → without (detached held.packets root items ++ child ∷ []) (id_of child) ≡ detached held.packets root items
+child-gone held root child children s is = without-last (detached held.packets root items) child (child-new held root child children s is)
 
 -- The laws
 
@@ -210,15 +217,17 @@ empties-lawful old held state carrier bracket (child ∷ children) lead h is =
     let taken : detached held.packets carrier items ++ take 1 (chain_of_root held.packets carrier items) ≡ detached held.packets carrier items ++ child ∷ [] = ap (λ (ts : List Tree). detached held.packets carrier items ++ take 1 ts) is in
     let by : ComesBy old new =
     lead new (Detaches carrier items ∷ []) ((carrier-root held carrier bracket h, few held carrier bracket h), (λ i. record held { packets = sym taken i })) (omega arith) in
-    let gone = child-gone held carrier child children h.sound is in
-    ((by, (refl, IsAtRoot-last (detached held.packets carrier items) child)), λ s. record {
-      packet = with_chains h.packet (detach_from (chains_of h.packet) items);
-      behind = h.behind;
-      holds = gone ∙ carrier-detached held carrier bracket h;
-      named = h.named;
-      rest = h.rest;
-      sound = s;
-    })
+    let gone = child-gone held carrier child children h.sound is in (
+      (by, (refl, IsAtRoot-last (detached held.packets carrier items) child)),
+      λ s. record {
+        packet = with_chains h.packet (detach_from (chains_of h.packet) items);
+        behind = h.behind;
+        holds = gone ∙ carrier-detached held carrier bracket h;
+        named = h.named;
+        rest = h.rest;
+        sound = s;
+      },
+    )
 
 unloads-lawful : (held : Held) (state : SortState) (carrier : ℕ) (bracket : Option ℕ) → Carries held carrier bracket → IsLawful held (unloads state held carrier bracket)
 unloads-lawful held state carrier bracket h =

@@ -5,5 +5,7 @@
 mod meanings;
 mod sort;
 
-pub use meanings::{sort_comes_to_one_outcome, sort_keeps_its_meaning, stable_sort_is_the_only_one};
+pub use meanings::{
+    sort_comes_to_one_outcome, sort_keeps_its_meaning, stable_sort_is_the_only_one,
+};
 pub use sort::{Sort, SortPlace};

@@ -1,4 +1,4 @@
-use Rattle.std.proofs.Common.{◌≡◌, ◌<◌, subst, sym, ap, arith}
+use Rattle.std.proofs.Common.{◌<◌, subst, sym, ap, arith}
 use Rattle.flow_packet.specs.Hands.{Holding}
 use Rattle.flow_packet.specs.Held.{Held, held_of}
 use Rattle.flow_component.specs.declared.Answer.TheVariants.{Sent}
