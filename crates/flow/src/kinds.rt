@@ -142,7 +142,7 @@ fn put_port(page: &mut String, port: &PortSpec) -> Result<(), AllocError> {
     }
     match (is_option(port), port.needed) {
         (true, true) => page.push_str(" (a text)"),
-        (true, false) => page.push_str(" (a text, may be left out)"),
+        (true, false) => page.push_str(" (a text, which may be left out)"),
         (false, true) => Ok(()),
         (false, false) => page.push_str(" (may be left open)"),
     }
