@@ -11,7 +11,7 @@ use Rattle.flow_plan.specs.Valid.{HasSender}
 use Rattle.flow_text.specs.Text.{number_of}
 use Rattle.flow_component.specs.Laws.{CanStart}
 use Rattle.flow_parts.specs.declared.words.Words.TheVariants as words_parts
-use Rattle.flow_parts.specs.Meanings.{fresh_fill, fresh_count}
+use Rattle.flow_parts.specs.Meanings.{fresh_fill, fresh_count, fresh_tally}
 use Rattle.flow_streams.specs.declared.copy.CopyPlace.TheVariants as copy_places
 use Rattle.flow_streams.specs.declared.bundle.Bundle.TheVariants as bundle_parts
 use Rattle.flow_streams.specs.declared.unbundle.Unbundle.TheVariants as unbundle_parts
@@ -90,6 +90,7 @@ first_component kinds.Count given file = components.Count (fresh_count (given.co
 first_component kinds.LoadBalance given file = components.LoadBalance (record { count = given.outputs; depth = 0; chosen = 0; place = load_places.Waiting })
 first_component kinds.Select given file = components.Select (record { rejects = given.connected 1; place = select_places.Waiting })
 first_component kinds.Update given file = components.Update (fresh_update (number_of (given.option 0)) (given.connected 1))
+first_component kinds.Tally given file = components.Tally fresh_tally
 
 -- The component is that of process p, in its first state on this file.
 pub record IsMade (network : Network) (p : ℕ) (process : Process) (file : List ℕ) (component : Std) : Type 0 where

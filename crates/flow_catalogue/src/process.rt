@@ -14,7 +14,7 @@ use crate::standard::Std;
 use crate::table::StdKind;
 use flow_batch::Update;
 use flow_limits::TEXT_LIMIT;
-use flow_parts::{Brackets, Count, Fill, ReadLines, Words, WriteLines};
+use flow_parts::{Brackets, Count, Fill, ReadLines, Tally, Words, WriteLines};
 use flow_plan::{Plan, Process};
 use flow_streams::{
     Bundle, Collate, Concat, Copy as CopyEach, Discard, Hoard, LoadBalance, Passthru, Select,
@@ -125,6 +125,7 @@ fn first_component(
             key_length(process),
             is_connected(plan, number, 1),
         ))),
+        StdKind::Tally => Ok(Std::Tally(Tally::new(alloc))),
     }
 }
 

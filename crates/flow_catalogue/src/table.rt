@@ -29,10 +29,11 @@ pub enum StdKind {
     LoadBalance,
     Select,
     Update,
+    Tally,
 }
 
 // All kinds, in the order of the table.
-const ALL: [StdKind; 17] = [
+const ALL: [StdKind; 18] = [
     StdKind::ReadLines,
     StdKind::WriteLines,
     StdKind::Passthru,
@@ -50,6 +51,7 @@ const ALL: [StdKind; 17] = [
     StdKind::LoadBalance,
     StdKind::Select,
     StdKind::Update,
+    StdKind::Tally,
 ];
 
 impl StdKind {
@@ -75,6 +77,7 @@ impl StdKind {
             StdKind::LoadBalance => b"LoadBalance",
             StdKind::Select => b"Select",
             StdKind::Update => b"Update",
+            StdKind::Tally => b"Tally",
         }
     }
 
@@ -300,6 +303,7 @@ fn spec(alloc: Global, kind: StdKind) -> Result<KindSpec, AllocError>
         StdKind::LoadBalance => spreading(alloc, b"LoadBalance"),
         StdKind::Select => select(alloc),
         StdKind::Update => update(alloc),
+        StdKind::Tally => passing(alloc, b"Tally"),
     }
 }
 
