@@ -142,10 +142,11 @@ impl Sort {
         requires carries { Carries (held_of hands.old) carrier bracket }
         ensures sends { Resumes (λ state held _ outcome. outcome ≡ ends_stretch state held carrier bracket) self.old hands.old Answer.Sent result self.new hands.new }
     {
+        let bytes = self.bytes;
         let Ok(()) = hands.reserve(1) else {
             return Err(Stop::NoMemory);
         };
-        let Ok(()) = hands.sort_chain(carrier, ITEMS, self.bytes) else {
+        let Ok(()) = hands.sort_chain(carrier, ITEMS, bytes) else {
             return Err(Stop::NoMemory);
         };
         self.unload(hands, carrier, bracket)
