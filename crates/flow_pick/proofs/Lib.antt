@@ -1,0 +1,3 @@
+pub mod PickingStream
+pub mod UniqueStream
+pub mod HeadStream
