@@ -1,11 +1,11 @@
 -- What Head makes of its stream.
-use Rattle.std.proofs.Common.{◌≡◌, ℕ, ◌+◌, Bool, true, false, List, [], ◌∷◌, min, refl, sym, ap, ◌∙◌, arith, nat_lt, if◌then◌else◌}
+use Rattle.std.proofs.Common.{◌≡◌, ℕ, ◌+◌, Bool, true, false, List, ◌∷◌, min, refl, ◌∙◌, arith, nat_lt, if◌then◌else◌}
 use Rattle.std.specs.Prelude.{◌||◌}
 use Rattle.std.proofs.lemmas.Bool.Decides.{nat_tests}
 use Rattle.flow_packet.specs.declared.packet.Kind.{Kind}
 use Rattle.flow_packet.specs.declared.packet.Kind.TheVariants.{Normal, Open, Close}
 use Rattle.flow_packet.specs.Tree.{Tree, kind_of, text_of}
-use Rattle.flow_pick.specs.Places.{Place, is_bracket, one_longer, stretch}
+use Rattle.flow_pick.specs.Places.{is_bracket, one_longer, stretch}
 use Rattle.flow_pick.specs.Head.{HeadState, head_picks, head_after, head_picker, is_among_first, fresh_head}
 use Rattle.flow_pick.specs.HeadLaws.{after-rest}
 use Rattle.flow_pick.specs.Meanings.{HeadMeaning}

@@ -1,21 +1,20 @@
 -- What components that pick make of their streams.
-use Rattle.std.proofs.Common.{◌≡◌, ℕ, ◌<◌, ◌==◌, Bool, true, false, List, [], ◌∷◌, ◌++◌, map, Option, Some, None, refl, sym, ap, ◌∙◌, subst, nat_eq, if◌then◌else◌}
+use Rattle.std.proofs.Common.{◌≡◌, ℕ, ◌<◌, ◌==◌, Bool, true, false, List, [], ◌∷◌, ◌++◌, map, Option, Some, refl, sym, ap, ◌∙◌, subst, nat_eq, if◌then◌else◌}
 use Rattle.std.specs.Prelude.{not, filter}
-use Rattle.flow_packet.specs.declared.packet.Kind.{Kind}
 use Rattle.flow_packet.specs.Tree.{Tree, content, id_of, kind_of, text_of}
 use Rattle.flow_packet.specs.Hands.{packet_at, kind_at, text_at}
 use Rattle.flow_packet.specs.Held.{Held}
 use Rattle.flow_component.specs.declared.Wish.{Wish}
 use Rattle.flow_component.specs.declared.Wish.TheVariants as wishes
-use Rattle.flow_component.specs.Laws.{Outcome, Wishes, Fails, IsAllowed}
+use Rattle.flow_component.specs.Laws.{Outcome, Wishes, IsAllowed}
 use Rattle.flow_component.specs.Alone.{HoldsOnly}
 use Rattle.flow_component.specs.Ports.{receive_first}
 use Rattle.flow_component.specs.Happenings.{Happening, Started, Received, Ended, Sent, Learned, answer_of}
-use Rattle.flow_component.specs.Runs.{Poise, fresh, Steps, Runs, EndedRun, content_got, content_sent, got, sent}
+use Rattle.flow_component.specs.Runs.{Poise, fresh, Steps, Runs, EndedRun, content_sent, got, sent}
 use Rattle.flow_component.proofs.Lone.{HoldsOnly-packet_at, HoldsOnly-text, HoldsOnly-kind, HoldsOnly-end}
 use Rattle.flow_component.proofs.Streams.{Comes-packets, contents_in, content-kind, content-text, port_below_one}
 use Rattle.flow_pick.specs.Places.{Place, places, picked_behind, IsParted}
-use Rattle.flow_pick.specs.Picking.{Picker, leaves, parts, meets, parting_shape, parting_uses, picker_rules}
+use Rattle.flow_pick.specs.Picking.{Picker, parts, meets, parting_shape, parting_uses, picker_rules}
 use Rattle.flow_pick.specs.PickingLaws.{StaysConnected, picker_lawful}
 
 -- The packet that is on its way to an output.
@@ -50,9 +49,8 @@ if_connected false x = []
 -- What a component that picks has sent, where its state says of what came before whether the next packet is picked.
 module _ {K : Type 0} (picker : Picker K) (stays : StaysConnected picker) (picks : Place → Bool) (Recalls : K → List Tree → Type 0)
     (picks-so : (component : K) (earlier : List Tree) (packet : Tree) (later : List Tree) → Recalls component earlier
-        → picker.picks component (kind_of packet) (text_of packet) ≡ picks (record { earlier = earlier; packet = packet; later = later }))
+    → picker.picks component (kind_of packet) (text_of packet) ≡ picks (record { earlier = earlier; packet = packet; later = later }))
     (recalls-on : (component : K) (earlier : List Tree) (packet : Tree) → Recalls component earlier → Recalls (picker.after component (kind_of packet) (text_of packet)) (packet ∷ earlier)) where
-
   abbrev others : Place → Bool
   others place = not (picks place)
 
@@ -123,7 +121,7 @@ module _ {K : Type 0} (picker : Picker K) (stays : StaysConnected picker) (picks
       let found : packet_at held.packets (id_of t) ≡ Some t = HoldsOnly-packet_at held (id_of t) h ∙ ap Some (sym e) in
       let after = picker.after p.component (kind_of (content t)) (text_of (content t)) in
       let so : outcome_of m ≡ parts (picks place) (picker.connected p.component) after held (id_of t) =
-          is ∙ (λ i. meets picker p.component held (id_of t) (kind i) (text i)) ∙ ap (λ (b : Bool). parts b (picker.connected p.component) after held (id_of t)) (picks-so p.component earlier (content t) zs r) in
+      is ∙ (λ i. meets picker p.component held (id_of t) (kind i) (text i)) ∙ ap (λ (b : Bool). parts b (picker.connected p.component) after held (id_of t)) (picks-so p.component earlier (content t) zs r) in
       let l = leaving (picks place) (picker.connected p.component) after held t found m so in
       let stay : picker.connected m.component ≡ picker.connected p.component = ap picker.connected l.0 ∙ stays p.component (kind_of (content t)) (text_of (content t)) in
       let rest = picked_behind others (content t ∷ earlier) zs in (
@@ -131,7 +129,7 @@ module _ {K : Type 0} (picker : Picker K) (stays : StaysConnected picker) (picks
         (
           ap (λ (us : List Tree). us ++ picked_behind picks (content t ∷ earlier) zs) l.1 ∙ sym (picked-first picks earlier (content t) zs),
           (λ i. l.2 i ++ if_connected (stay i) rest) ∙ joined (picker.connected p.component) (one_of (others place) (content t)) rest
-          ∙ ap (if_connected (picker.connected p.component)) (sym (picked-first others earlier (content t) zs)),
+              ∙ ap (if_connected (picker.connected p.component)) (sym (picked-first others earlier (content t) zs)),
         ),
       )
 

@@ -1,6 +1,6 @@
 -- The component that passes the first packets of each stretch on: its state, its rule, and what it makes of a stream. (The command head,
 -- told of streams with substreams; the rule is this project's own.)
-use Rattle.std.specs.Prelude.{ℕ, ◌+◌, Bool, true, false, ◌||◌, List, nat_lt, if◌then◌else◌}
+use Rattle.std.specs.Prelude.{ℕ, ◌+◌, Bool, true, ◌||◌, List, nat_lt, if◌then◌else◌}
 use Rattle.flow_packet.specs.declared.packet.Kind.{Kind}
 use Rattle.flow_packet.specs.declared.packet.Kind.TheVariants.{Normal, Open, Close}
 use Rattle.flow_packet.specs.Tree.{kind_of}

@@ -5,4 +5,8 @@ pub mod Unique
 pub mod UniqueLaws
 pub mod Head
 pub mod HeadLaws
+pub mod TailState
+pub mod Tail
+pub mod Carriers
+pub mod TailLaws
 pub mod Meanings

@@ -12,7 +12,7 @@ use Rattle.flow_component.specs.Alone.{HoldsOnly}
 use Rattle.flow_component.specs.Ports.{receive_first}
 use Rattle.flow_component.proofs.Comings.{comes_same, comes_dropped}
 use Rattle.flow_component.proofs.Lone.{HoldsOnly-without, HoldsOnly-root, HoldsOnly-came, HoldsOnly-made_alone}
-use Rattle.flow_pick.specs.Picking.{Picker, leaves, parts, meets, picker_next, parting_shape, parting_uses, IsPicking, picker_rules}
+use Rattle.flow_pick.specs.Picking.{Picker, leaves, parts, picker_next, parting_shape, parting_uses, IsPicking, picker_rules}
 
 -- No packet changes whether the second output is connected.
 abbrev pub StaysConnected : {K : Type 0} → Picker K → Type 0

@@ -7,9 +7,13 @@ mod head;
 mod meanings;
 mod outcomes;
 mod parting;
+mod tail;
+#[cfg(test)]
+mod tests;
 mod unique;
 
 pub use head::Head;
-pub use meanings::{head_keeps_its_meaning, unique_keeps_its_meaning};
+pub use meanings::{head_keeps_its_meaning, tail_keeps_its_meaning, unique_keeps_its_meaning};
 pub use outcomes::each_comes_to_one_outcome;
+pub use tail::{Tail, TailPlace};
 pub use unique::Unique;
