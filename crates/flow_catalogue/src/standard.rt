@@ -8,7 +8,7 @@ ghost use Rattle.flow_catalogue.specs.Std.{std_rules};
 use flow_batch::Update;
 use flow_component::{Answer, Component, Shape, Stop, Wish};
 use flow_packet::Hands;
-use flow_parts::{Brackets, Count, Fill, ReadLines, Words, WriteLines};
+use flow_parts::{Brackets, Count, Fill, ReadLines, Tally, Words, WriteLines};
 use flow_streams::{
     Bundle, Collate, Concat, Copy as CopyEach, Discard, Hoard, LoadBalance, Passthru, Select,
     Unbundle,
@@ -34,6 +34,7 @@ pub enum Std {
     LoadBalance(LoadBalance),
     Select(Select),
     Update(Update),
+    Tally(Tally),
 }
 
 impl Std {
@@ -77,6 +78,7 @@ impl Component for Std {
             Std::LoadBalance(component) => component.shape(),
             Std::Select(component) => component.shape(),
             Std::Update(component) => component.shape(),
+            Std::Tally(component) => component.shape(),
         }
     }
 
@@ -100,6 +102,7 @@ impl Component for Std {
             Std::LoadBalance(component) => component.resume(hands, answer),
             Std::Select(component) => component.resume(hands, answer),
             Std::Update(component) => component.resume(hands, answer),
+            Std::Tally(component) => component.resume(hands, answer),
         }
     }
 

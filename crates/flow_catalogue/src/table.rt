@@ -2,7 +2,7 @@
 
 ghost use Rattle.std.specs.Prelude.{◌≡◌, ◌≢◌, ◌∷◌, [], IfOk, MatchOption, codes};
 ghost use Rattle.flow_catalogue.specs.Kinds.{name_of, row, spec_of, std_kinds};
-ghost use Rattle.flow_catalogue.specs.Rows.{option_port, stream_port, array_port, optional_port};
+ghost use Rattle.flow_catalogue.specs.Rows.{option_port, optional_option_port, stream_port, array_port, optional_port};
 
 use flow_items::{Items, Text};
 use flow_limits::TEXT_LIMIT;
@@ -29,10 +29,11 @@ pub enum StdKind {
     LoadBalance,
     Select,
     Update,
+    Tally,
 }
 
 // All kinds, in the order of the table.
-const ALL: [StdKind; 17] = [
+const ALL: [StdKind; 18] = [
     StdKind::ReadLines,
     StdKind::WriteLines,
     StdKind::Passthru,
@@ -50,6 +51,7 @@ const ALL: [StdKind; 17] = [
     StdKind::LoadBalance,
     StdKind::Select,
     StdKind::Update,
+    StdKind::Tally,
 ];
 
 impl StdKind {
@@ -75,6 +77,7 @@ impl StdKind {
             StdKind::LoadBalance => b"LoadBalance",
             StdKind::Select => b"Select",
             StdKind::Update => b"Update",
+            StdKind::Tally => b"Tally",
         }
     }
 
@@ -103,6 +106,18 @@ fn option(alloc: Global, name: &[u8], class: PortClass) -> Result<PortSpec, Allo
     })
 }
 
+// A port that takes one text before the network runs, or none.
+fn optional_option(alloc: Global, name: &[u8], class: PortClass) -> Result<PortSpec, AllocError>
+    ensures { IfOk result (λ port. port ≡ optional_option_port name.now class) }
+{
+    Ok(PortSpec {
+        name: Text::from_slice(alloc, name)?,
+        class,
+        array: false,
+        needed: false,
+    })
+}
+
 // A port for packets that has to be connected.
 fn stream(alloc: Global, name: &[u8]) -> Result<PortSpec, AllocError>
     ensures { IfOk result (λ port. port ≡ stream_port name.now) }
@@ -126,12 +141,7 @@ fn array(alloc: Global, name: &[u8]) -> Result<PortSpec, AllocError>
 fn optional(alloc: Global, name: &[u8]) -> Result<PortSpec, AllocError>
     ensures { IfOk result (λ port. port ≡ optional_port name.now) }
 {
-    Ok(PortSpec {
-        name: Text::from_slice(alloc, name)?,
-        class: PortClass::Stream,
-        array: false,
-        needed: false,
-    })
+    optional_option(alloc, name, PortClass::Stream)
 }
 
 // A row of the table.
@@ -293,6 +303,7 @@ fn spec(alloc: Global, kind: StdKind) -> Result<KindSpec, AllocError>
         StdKind::LoadBalance => spreading(alloc, b"LoadBalance"),
         StdKind::Select => select(alloc),
         StdKind::Update => update(alloc),
+        StdKind::Tally => passing(alloc, b"Tally"),
     }
 }
 

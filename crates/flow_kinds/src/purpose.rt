@@ -29,5 +29,6 @@ pub fn purpose(kind: StdKind) -> &'static [u8]
         }
         StdKind::Select => b"accepts what begins with the text at KEY, and rejects the rest",
         StdKind::Update => b"updates masters by details, which a Collate of KEYLEN has merged",
+        StdKind::Tally => b"tells how often each text came in a row",
     }
 }
