@@ -135,10 +135,7 @@ fn first_component(
             is_connected(plan, number, 1),
         ))),
         StdKind::Tally => Ok(Std::Tally(Tally::new(alloc))),
-        StdKind::Unique => Ok(Std::Unique(Unique::new(
-            alloc,
-            is_connected(plan, number, 1),
-        ))),
+        StdKind::Unique => Ok(Std::Unique(Unique::new(alloc, is_connected(plan, number, 1)))),
         StdKind::Head => Ok(Std::Head(Head::new(
             packet_count(process),
             is_connected(plan, number, 1),
