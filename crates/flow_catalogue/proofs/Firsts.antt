@@ -101,3 +101,4 @@ first-fits n p x kinds.Tally file is = record { inputs = sym is.inputs; outputs 
 first-fits n p x kinds.Unique file is = record { inputs = sym is.inputs; outputs = sym is.outputs; uses = parting-used n p (is.needed 0 refl); starts = λ held none. none }
 first-fits n p x kinds.Head file is = record { inputs = sym is.inputs; outputs = sym is.outputs; uses = parting-used n p (is.needed 0 refl); starts = λ held none. none }
 first-fits n p x kinds.Tail file is = record { inputs = sym is.inputs; outputs = sym is.outputs; uses = parting-used n p (is.needed 0 refl); starts = λ held none. none }
+first-fits n p x kinds.Sort file is = record { inputs = sym is.inputs; outputs = sym is.outputs; uses = first-used n p (is.needed 0 refl); starts = λ held none. (tt, none) }

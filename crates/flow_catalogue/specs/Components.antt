@@ -52,6 +52,8 @@ use Rattle.flow_pick.specs.HeadLaws.{head_lawful}
 use Rattle.flow_pick.specs.TailState.{TailState}
 use Rattle.flow_pick.specs.Tail.{tail_next, tail_rules}
 use Rattle.flow_pick.specs.TailLaws.{tail_lawful}
+use Rattle.flow_sort.specs.Sort.{SortState, sort_next, sort_rules}
+use Rattle.flow_sort.specs.SortLaws.{sort_lawful}
 use Rattle.flow_batch.specs.Around.{UpdateState}
 use Rattle.flow_batch.specs.Update.{update_next, update_rules}
 use Rattle.flow_batch.specs.UpdateLaws.{update_lawful}
@@ -140,3 +142,7 @@ head_kind = record { rules = head_rules; lawful = head_lawful; next = head_next;
 -- Passes on the last packets of each stretch.
 abbrev pub tail_kind : Kinded TailState
 tail_kind = record { rules = tail_rules; lawful = tail_lawful; next = tail_next; comes = λ _ _ _. refl; alone = λ _ _ _ _ is. is; written = λ _. None }
+
+-- Sorts the stretches of its stream.
+abbrev pub sort_kind : Kinded SortState
+sort_kind = record { rules = sort_rules; lawful = sort_lawful; next = sort_next; comes = λ _ _ _. refl; alone = λ _ _ _ _ is. is; written = λ _. None }

@@ -5,8 +5,8 @@ use Rattle.flow_plan.specs.declared.kind.PortClass.TheVariants.{Number, Fields, 
 use Rattle.flow_plan.specs.declared.kind.PortSpec.{PortSpec}
 use Rattle.flow_plan.specs.declared.kind.KindSpec.{KindSpec}
 use Rattle.flow_catalogue.specs.declared.table.StdKind.{StdKind}
-use Rattle.flow_catalogue.specs.declared.table.StdKind.TheVariants.{ReadLines, WriteLines, Passthru, Words, Fill, Brackets, Copy, Concat, Collate, Discard, Bundle, Unbundle, Hoard, Count, LoadBalance, Select, Update, Tally, Unique, Head, Tail}
-use Rattle.flow_catalogue.specs.Rows.{option_port, stream_port, array_port, optional_port}
+use Rattle.flow_catalogue.specs.declared.table.StdKind.TheVariants.{ReadLines, WriteLines, Passthru, Words, Fill, Brackets, Copy, Concat, Collate, Discard, Bundle, Unbundle, Hoard, Count, LoadBalance, Select, Update, Tally, Unique, Head, Tail, Sort}
+use Rattle.flow_catalogue.specs.Rows.{option_port, optional_option_port, stream_port, array_port, optional_port}
 
 -- A kind of this name, with these ports.
 abbrev pub row : List ℕ → List PortSpec → List PortSpec → KindSpec
@@ -35,6 +35,7 @@ spec_of Tally = row (codes "Tally") (stream_port (codes "IN") ∷ []) (stream_po
 spec_of Unique = row (codes "Unique") (stream_port (codes "IN") ∷ []) (stream_port (codes "OUT") ∷ optional_port (codes "REP") ∷ [])
 spec_of Head = row (codes "Head") (option_port (codes "COUNT") (Number 0 4294967295) ∷ stream_port (codes "IN") ∷ []) (stream_port (codes "OUT") ∷ optional_port (codes "REST") ∷ [])
 spec_of Tail = row (codes "Tail") (option_port (codes "COUNT") (Number 0 4294967295) ∷ stream_port (codes "IN") ∷ []) (stream_port (codes "OUT") ∷ optional_port (codes "REST") ∷ [])
+spec_of Sort = row (codes "Sort") (optional_option_port (codes "FIELDS") Fields ∷ stream_port (codes "IN") ∷ []) (stream_port (codes "OUT") ∷ [])
 
 -- A kind's name in a network file.
 abbrev pub name_of : StdKind → List ℕ
@@ -42,7 +43,7 @@ name_of kind = (spec_of kind).name
 
 -- All standard kinds, in the order of the table.
 abbrev pub all_kinds : List StdKind
-all_kinds = ReadLines ∷ WriteLines ∷ Passthru ∷ Words ∷ Fill ∷ Brackets ∷ Copy ∷ Concat ∷ Collate ∷ Discard ∷ Bundle ∷ Unbundle ∷ Hoard ∷ Count ∷ LoadBalance ∷ Select ∷ Update ∷ Tally ∷ Unique ∷ Head ∷ Tail ∷ []
+all_kinds = ReadLines ∷ WriteLines ∷ Passthru ∷ Words ∷ Fill ∷ Brackets ∷ Copy ∷ Concat ∷ Collate ∷ Discard ∷ Bundle ∷ Unbundle ∷ Hoard ∷ Count ∷ LoadBalance ∷ Select ∷ Update ∷ Tally ∷ Unique ∷ Head ∷ Tail ∷ Sort ∷ []
 
 -- The table.
 abbrev pub std_kinds : List KindSpec

@@ -1,5 +1,5 @@
 -- What a plan says of a process of a standard kind.
-use Rattle.std.specs.Prelude.{◌≡◌, ℕ, ◌==◌, ◌&&◌, Bool, true, List, [], map, Some, slice_get, unwrap_or, IsTrue}
+use Rattle.std.specs.Prelude.{◌≡◌, ℕ, ◌==◌, ◌&&◌, Bool, true, List, [], ◌∷◌, map, sum, Option, Some, None, slice_get, unwrap_or, IsTrue}
 use Rattle.std.specs.List.{list_any, slice_split}
 use Rattle.std.specs.Str.Lines.{lines}
 use Rattle.flow_plan.specs.declared.plan.Process.{Process}
@@ -21,6 +21,7 @@ use Rattle.flow_streams.specs.Meanings.{fresh_collate}
 use Rattle.flow_pick.specs.Unique.{fresh_unique}
 use Rattle.flow_pick.specs.Head.{fresh_head}
 use Rattle.flow_pick.specs.Tail.{fresh_tail}
+use Rattle.flow_sort.specs.Meanings.{fresh_sort}
 use Rattle.flow_batch.specs.Updated.{fresh_update}
 use Rattle.flow_catalogue.specs.declared.table.StdKind.{StdKind}
 use Rattle.flow_catalogue.specs.declared.table.StdKind.TheVariants as kinds
@@ -53,6 +54,11 @@ option_text place options = unwrap_or (option_at place options) []
 -- The lengths that a text of fields spells.
 abbrev pub fields_of : List ℕ → List ℕ
 fields_of text = map number_of (slice_split (λ b. b == 32) text)
+
+-- How many bytes the keys have that a text of fields spells: all fields together. Without a text the keys are whole texts.
+abbrev pub length_of_keys : List ℕ → Option ℕ
+length_of_keys [] = None
+length_of_keys (c ∷ cs) = Some (sum (fields_of (c ∷ cs)))
 
 -- Whether output o of process p is among the senders of a connection.
 abbrev pub has_sender : ℕ → ℕ → Connection → Bool
@@ -97,6 +103,7 @@ first_component kinds.Tally given file = components.Tally fresh_tally
 first_component kinds.Unique given file = components.Unique (fresh_unique (given.connected 1))
 first_component kinds.Head given file = components.Head (fresh_head (number_of (given.option 0)) (given.connected 1))
 first_component kinds.Tail given file = components.Tail (fresh_tail (number_of (given.option 0)) (given.connected 1))
+first_component kinds.Sort given file = components.Sort (fresh_sort (length_of_keys (given.option 0)))
 
 -- The component is that of process p, in its first state on this file.
 pub record IsMade (network : Network) (p : ℕ) (process : Process) (file : List ℕ) (component : Std) : Type 0 where

@@ -1,11 +1,12 @@
 //! What a plan says of a process of a standard kind: its file, and the component that it runs.
 
-ghost use Rattle.std.specs.Prelude.{◌≡◌, ◌≤◌, ◌∷◌, [], Some, IfOk, IfSome, slice_get};
+ghost use Rattle.std.specs.Prelude.{◌≡◌, ◌≤◌, ◌∷◌, [], Some, IfOk, IfSome, slice_get, sum, length};
 ghost use Rattle.flow_text.specs.Text.{number_of};
 ghost use Rattle.flow_streams.specs.Meanings.{fresh_collate};
+ghost use Rattle.flow_sort.specs.Meanings.{fresh_sort};
 ghost use Rattle.flow_catalogue.specs.Kinds.{spec_of};
 ghost use Rattle.flow_catalogue.specs.Rows.{IsCount, Elements, HasOptions};
-ghost use Rattle.flow_catalogue.specs.Processes.{IsStandard, IsOfKind, IsMade, Fits, first_component, given, fields_of, option_text};
+ghost use Rattle.flow_catalogue.specs.Processes.{IsStandard, IsOfKind, IsMade, Fits, first_component, given, fields_of, length_of_keys, option_text};
 ghost use Rattle.flow_catalogue.specs.Files.{UsesFile, NamesFile};
 
 use crate::options::{fields, is_connected, number as number_in, option_text};
@@ -17,6 +18,7 @@ use flow_limits::TEXT_LIMIT;
 use flow_parts::{Brackets, Count, Fill, ReadLines, Tally, Words, WriteLines};
 use flow_pick::{Head, Tail, Unique};
 use flow_plan::{Plan, Process};
+use flow_sort::Sort;
 use flow_streams::{
     Bundle, Collate, Concat, Copy as CopyEach, Discard, Hoard, LoadBalance, Passthru, Select,
     Unbundle,
@@ -100,6 +102,26 @@ fn collate(alloc: Global, process: &Process) -> Result<Collate, AllocError>
     Ok(Collate::new(fields, process.inputs))
 }
 
+fn total(fields: &[u8]) -> usize
+    requires { length fields.now ≤ 8 }
+    ensures { result ≡ sum fields.now }
+{
+    fields.iter().map(|field| *field as usize).sum()
+}
+
+fn sort(alloc: Global, process: &Process) -> Result<Sort, AllocError>
+    requires { HasOptions (spec_of StdKind.Sort).inputs process.now.options }
+    ensures { IfOk result (λ component. component ≡ fresh_sort (length_of_keys (option_text 0 process.now.options))) }
+{
+    let text = option_text(process, 0);
+    if text.is_empty() {
+        return Ok(Sort::new(None));
+    }
+    let lengths = fields(alloc, text)?;
+    let bytes = total(&lengths);
+    Ok(Sort::new(Some(bytes)))
+}
+
 // The component of a process of this kind, in its first state.
 fn first_component(
     alloc: Global,
@@ -144,6 +166,7 @@ fn first_component(
             packet_count(process),
             is_connected(plan, number, 1),
         ))),
+        StdKind::Sort => Ok(Std::Sort(sort(alloc, process)?)),
     }
 }
 

@@ -10,6 +10,7 @@ use flow_component::{Answer, Component, Shape, Stop, Wish};
 use flow_packet::Hands;
 use flow_parts::{Brackets, Count, Fill, ReadLines, Tally, Words, WriteLines};
 use flow_pick::{Head, Tail, Unique};
+use flow_sort::Sort;
 use flow_streams::{
     Bundle, Collate, Concat, Copy as CopyEach, Discard, Hoard, LoadBalance, Passthru, Select,
     Unbundle,
@@ -39,6 +40,7 @@ pub enum Std {
     Unique(Unique),
     Head(Head),
     Tail(Tail),
+    Sort(Sort),
 }
 
 impl Std {
@@ -86,6 +88,7 @@ impl Component for Std {
             Std::Unique(component) => component.shape(),
             Std::Head(component) => component.shape(),
             Std::Tail(component) => component.shape(),
+            Std::Sort(component) => component.shape(),
         }
     }
 
@@ -113,6 +116,7 @@ impl Component for Std {
             Std::Unique(component) => component.resume(hands, answer),
             Std::Head(component) => component.resume(hands, answer),
             Std::Tail(component) => component.resume(hands, answer),
+            Std::Sort(component) => component.resume(hands, answer),
         }
     }
 

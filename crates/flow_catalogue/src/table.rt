@@ -33,10 +33,11 @@ pub enum StdKind {
     Unique,
     Head,
     Tail,
+    Sort,
 }
 
 // All kinds, in the order of the table.
-const ALL: [StdKind; 21] = [
+const ALL: [StdKind; 22] = [
     StdKind::ReadLines,
     StdKind::WriteLines,
     StdKind::Passthru,
@@ -58,6 +59,7 @@ const ALL: [StdKind; 21] = [
     StdKind::Unique,
     StdKind::Head,
     StdKind::Tail,
+    StdKind::Sort,
 ];
 
 impl StdKind {
@@ -87,6 +89,7 @@ impl StdKind {
             StdKind::Unique => b"Unique",
             StdKind::Head => b"Head",
             StdKind::Tail => b"Tail",
+            StdKind::Sort => b"Sort",
         }
     }
 
@@ -316,6 +319,16 @@ fn counting(alloc: Global, name: &[u8]) -> Result<KindSpec, AllocError>
     kind(alloc, name, inputs, vec![in alloc; output, rest]?)
 }
 
+fn sort(alloc: Global) -> Result<KindSpec, AllocError>
+    ensures { IfOk result (λ kind. kind ≡ spec_of StdKind.Sort) }
+{
+    let fields = optional_option(alloc, b"FIELDS", PortClass::Fields)?;
+    let input = stream(alloc, b"IN")?;
+    let output = stream(alloc, b"OUT")?;
+    let inputs = vec![in alloc; fields, input]?;
+    kind(alloc, b"Sort", inputs, vec![in alloc; output]?)
+}
+
 // The row of a kind.
 fn spec(alloc: Global, kind: StdKind) -> Result<KindSpec, AllocError>
     ensures { IfOk result (λ spec. spec ≡ spec_of kind) }
@@ -342,6 +355,7 @@ fn spec(alloc: Global, kind: StdKind) -> Result<KindSpec, AllocError>
         StdKind::Unique => unique(alloc),
         StdKind::Head => counting(alloc, b"Head"),
         StdKind::Tail => counting(alloc, b"Tail"),
+        StdKind::Sort => sort(alloc),
     }
 }
 

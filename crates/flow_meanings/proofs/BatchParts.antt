@@ -1,22 +1,24 @@
 -- The components of a batch update, as its plan says them.
-use Rattle.std.proofs.Common.{◌≡◌, ℕ, zero, suc, ◌<◌, ◌≤◌, Bool, true, false, List, [], ◌∷◌, map, length, Some, refl, sym, ap, ◌∙◌, arith, nat_eq, slice_get, get_or, ◌||◌, ◌==◌}
-use Rattle.std.specs.Prelude.{◌&&◌}
+use Rattle.std.proofs.Common.{◌≡◌, ℕ, zero, suc, ◌<◌, ◌≤◌, Bool, true, false, List, [], ◌∷◌, map, length, Option, Some, refl, sym, ap, ◌∙◌, arith, nat_eq, slice_get, get_or, ◌||◌, ◌==◌}
+use Rattle.std.specs.Prelude.{◌&&◌, sum, ◌+◌}
 use Rattle.std.specs.Fmt.{decimal}
 use Rattle.std.specs.List.{list_any, slice_split, onto_first}
 use Rattle.std.specs.Str.Parse.{AllDigits}
 use Rattle.std.proofs.lemmas.Bool.Decides.{nat_tests}
 use Rattle.std.proofs.lemmas.Fmt.{decimal_is_IsNumeral}
 use Rattle.std.proofs.lemmas.List.Quantifiers.{position-Some}
+use Rattle.std.proofs.lemmas.List.Sums.{sum_by-cons}
 use Rattle.std.proofs.lemmas.Option.{slice_get_within}
 use Rattle.std.proofs.lemmas.Str.Parse.{digit_from_value}
 use Rattle.flow_text.specs.Text.{number_of}
 use Rattle.flow_streams.specs.Meanings.{fresh_collate}
+use Rattle.flow_sort.specs.Meanings.{fresh_sort}
 use Rattle.flow_batch.specs.Updated.{fresh_update}
 use Rattle.flow_catalogue.specs.declared.standard.Std.{Std}
 use Rattle.flow_catalogue.specs.declared.standard.Std.TheVariants as components
 use Rattle.flow_catalogue.specs.declared.table.StdKind.{StdKind}
 use Rattle.flow_catalogue.specs.declared.table.StdKind.TheVariants as kinds
-use Rattle.flow_catalogue.specs.Processes.{first_component, given, fields_of, option_text, has_sender, is_connected}
+use Rattle.flow_catalogue.specs.Processes.{first_component, given, fields_of, length_of_keys, option_text, has_sender, is_connected}
 use Rattle.flow_catalogue.proofs.Names.{IsMade-kind}
 use Rattle.flow_model.specs.States.{is_sender}
 use Rattle.flow_model.specs.Plans.{sends_at}
@@ -43,6 +45,17 @@ fields-one : (k : ℕ) → k ≤ 255 → fields_of (decimal k) ≡ k ∷ []
 fields-one k small =
     let numeral = decimal_is_IsNumeral k (omega arith) in
     ap (map number_of) (split-digits (decimal k) numeral.0.1) ∙ ap (λ (n : ℕ). n ∷ []) numeral.1
+
+-- the keys of one field have as many bytes
+key-one : (k : ℕ) → k ≤ 255 → length_of_keys (decimal k) ≡ Some k
+key-one k small = by (decimal k) (fields-one k small) (decimal_is_IsNumeral k (omega arith)).0.0
+  where
+    by : (text : List ℕ) → fields_of text ≡ k ∷ [] → 0 < length text → length_of_keys text ≡ Some k
+    by [] fields some = absurd (omega (arith, some))
+    by (c ∷ cs) fields some = ap Some (ap sum fields ∙ one)
+
+    one : sum (k ∷ []) ≡ k
+    one = let e = sum_by-cons (λ (x : ℕ). x) k [] in omega (arith, e)
 
 -- what is there passes the test for any
 any-of : {A : Type 0} (test : A → Bool) (xs : List A) (k : ℕ) (x : A) → slice_get xs k ≡ Some x → test x ≡ true → list_any test xs ≡ true
@@ -94,6 +107,13 @@ module _ (plan : Plan) (ks : List Std) (are : AreFirstOf plan ks) (each : length
       let c = made-as p kinds.Collate h.of_kind in
       let fields : fields_of (option_text 0 h.of_kind.process.options) ≡ keylen ∷ [] = ap (λ (options : List (ℕ × List ℕ)). fields_of (option_text 0 options)) h.spelled ∙ fields-one keylen small in
       c.2 ∙ ap (λ (k : Std). Some k) (c.3 ∙ (λ i. components.Collate (fresh_collate (fields i) (two i))))
+
+  -- a Sort's
+  pub sort-there : (p keylen : ℕ) → keylen ≤ 255 → (h : HasNumber plan p kinds.Sort keylen) → slice_get ks p ≡ Some (components.Sort (fresh_sort (Some keylen)))
+  sort-there p keylen small h =
+      let c = made-as p kinds.Sort h.of_kind in
+      let bytes : length_of_keys (option_text 0 h.of_kind.process.options) ≡ Some keylen = ap (λ (options : List (ℕ × List ℕ)). length_of_keys (option_text 0 options)) h.spelled ∙ key-one keylen small in
+      c.2 ∙ ap (λ (k : Std). Some k) (c.3 ∙ ap (λ (n : Option ℕ). components.Sort (fresh_sort n)) bytes)
 
   -- an Update's
   pub update-there : (p keylen : ℕ) → keylen ≤ 255 → (h : HasNumber plan p kinds.Update keylen) → (c : ℕ) → sends_at plan p 1 ≡ Some c → slice_get ks p ≡ Some (components.Update (fresh_update keylen true))

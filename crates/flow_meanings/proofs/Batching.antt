@@ -24,15 +24,17 @@ use Rattle.flow_meanings.proofs.Composing.{keeps-meanings}
 pub ended-collates : EndedCollates
 ended-collates plan ks journal s well first leads p state x here there ended = keeps-meanings plan ks journal s well leads p (components.Collate state) x here (first p (components.Collate state) here) there ended
 
--- what leaves an output arrives at the input that it feeds
-fed : (plan : Plan) (ks : List Std) (wrote : ℕ → List ℕ) (m : Composes plan ks wrote) (p o q i n : ℕ) (x : PlanProcess) → Feeds plan p o q i → arriving m.on n (input_at plan q x i) ≡ leaving m.on (record { process = p; output = o }) (sends_at plan p o)
+-- What leaves an output arrives at the input that it feeds.
+pub fed : (plan : Plan) (ks : List Std) (wrote : ℕ → List ℕ) (m : Composes plan ks wrote) (p o q i n : ℕ) (x : PlanProcess) → Feeds plan p o q i → arriving m.on n (input_at plan q x i) ≡ leaving m.on (record { process = p; output = o }) (sends_at plan p o)
 fed plan ks wrote m p o q i n x f = ap (λ (found : Option ℕ). arriving m.on n (connected_or (text_at x.initials i) found)) f.receives ∙ sym (own-stream plan ks wrote m p o f.connection f.sends f.alone)
 
-file-texts : (texts : List (List ℕ)) → rendered_all (stream_of texts) ≡ file_of texts
+-- A file of texts is what a writer renders of them.
+pub file-texts : (texts : List (List ℕ)) → rendered_all (stream_of texts) ≡ file_of texts
 file-texts [] = refl
 file-texts (t ∷ ts) = ap (λ (bytes : List ℕ). (t ++ 10 ∷ []) ++ bytes) (file-texts ts)
 
-file-entries : (entries : List Entry) → rendered_all (map (λ (entry : Entry). text_packet (line_of entry)) entries) ≡ file_of (map line_of entries)
+-- So is a file of entries.
+pub file-entries : (entries : List Entry) → rendered_all (map (λ (entry : Entry). text_packet (line_of entry)) entries) ≡ file_of (map line_of entries)
 file-entries [] = refl
 file-entries (e ∷ es) = ap (λ (bytes : List ℕ). (line_of e ++ 10 ∷ []) ++ bytes) (file-entries es)
 

@@ -20,6 +20,7 @@ use Rattle.flow_meanings.proofs.StreamKinds.{passthru-facts, copy-facts, concat-
 use Rattle.flow_meanings.proofs.SelectKind.{select-facts}
 use Rattle.flow_meanings.proofs.UpdateKind.{update-facts}
 use Rattle.flow_meanings.proofs.PickKinds.{unique-facts, head-facts, tail-facts}
+use Rattle.flow_meanings.proofs.SortKind.{sort-facts}
 
 -- The facts of each standard component.
 pub facts-of : (component : Std) → Facts component
@@ -44,6 +45,7 @@ facts-of (components.Tally state) = tally-facts state
 facts-of (components.Unique state) = unique-facts state
 facts-of (components.Head state) = head-facts state
 facts-of (components.Tail state) = tail-facts state
+facts-of (components.Sort state) = sort-facts state
 
 -- a text of fields has one at least
 some-fields : (text : List ℕ) → 1 ≤ length (fields_of text)

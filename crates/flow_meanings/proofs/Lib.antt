@@ -7,6 +7,7 @@ pub mod StreamKinds
 pub mod SelectKind
 pub mod UpdateKind
 pub mod PickKinds
+pub mod SortKind
 pub mod Every
 pub mod Contents
 pub mod Owns
@@ -14,3 +15,5 @@ pub mod Composing
 pub mod Chaining
 pub mod BatchParts
 pub mod Batching
+pub mod SortedTexts
+pub mod SortingBatches

@@ -30,6 +30,9 @@ use Rattle.flow_streams.specs.Selected.{IsSelected}
 use Rattle.flow_pick.specs.Places.{IsParted}
 use Rattle.flow_pick.specs.Unique.{UniqueState, is_new, fresh_unique}
 use Rattle.flow_pick.specs.Head.{HeadState, is_among_first, fresh_head}
+use Rattle.flow_sort.specs.Sort.{SortState}
+use Rattle.flow_sort.specs.Sorted.{sorted_stretches}
+use Rattle.flow_sort.specs.Meanings.{fresh_sort}
 use Rattle.flow_pick.specs.TailState.{TailState}
 use Rattle.flow_pick.specs.Tail.{is_among_last, fresh_tail}
 use Rattle.flow_batch.specs.Around.{UpdateState}
@@ -128,6 +131,10 @@ head_meaning state = record { first = state ≡ fresh_head state.count state.res
 abbrev pub tail_meaning : TailState → Meaning
 tail_meaning state = record { first = state ≡ fresh_tail state.count state.rest; loops = true; settled = true; makes = λ wrote x y. IsParted (is_among_last state.count) state.rest (x 0) (y 0) (y 1) }
 
+-- A Sort sends its input with each stretch sorted.
+abbrev pub sort_meaning : SortState → Meaning
+sort_meaning state = record { first = state ≡ fresh_sort state.bytes; loops = true; settled = true; makes = λ wrote x y. y 0 ≡ sorted_stretches state.bytes (x 0) }
+
 -- What a standard component means.
 abbrev pub meaning_of : Std → Meaning
 meaning_of (components.ReadLines left) = read_lines_meaning left
@@ -151,3 +158,4 @@ meaning_of (components.Tally state) = tally_meaning state
 meaning_of (components.Unique state) = unique_meaning state
 meaning_of (components.Head state) = head_meaning state
 meaning_of (components.Tail state) = tail_meaning state
+meaning_of (components.Sort state) = sort_meaning state

@@ -5,3 +5,4 @@ pub mod Composition
 pub mod Chains
 pub mod Outcomes
 pub mod Batches
+pub mod SortingBatches

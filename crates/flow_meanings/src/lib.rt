@@ -7,6 +7,7 @@ mod outcomes;
 ghost use Rattle.flow_meanings.specs.Means.{KeepsMeanings};
 ghost use Rattle.flow_meanings.specs.Composition.{FinishedComposes};
 ghost use Rattle.flow_meanings.specs.Batches.{BatchMeans, EndedCollates};
+ghost use Rattle.flow_meanings.specs.SortingBatches.{SortingBatchMeans};
 ghost use Rattle.flow_meanings.specs.Chains.{TelegramMeans};
 
 pub use outcomes::{a_network_without_merges_means_one_outcome, components_of_a_plan_are_first};
@@ -35,4 +36,10 @@ pub fn an_ended_collate_has_sent_the_collation()
 /// masters followed by the details.
 pub fn a_batch_update_writes_its_book()
     ensures { BatchMeans }
+{}
+
+/// Where a network has a batch update of a master file by a detail file, both of which it sorts, its two writers have written the book
+/// of the masters followed by the details, as they came.
+pub fn a_batch_update_that_sorts_writes_its_book()
+    ensures { SortingBatchMeans }
 {}
