@@ -14,6 +14,7 @@ use Rattle.flow_parts.specs.Count.{count_uses}
 use Rattle.flow_parts.specs.Meanings.{fresh_count}
 use Rattle.flow_streams.specs.declared.select.SelectPlace.TheVariants.{Waiting}
 use Rattle.flow_streams.specs.Select.{select_uses}
+use Rattle.flow_pick.specs.Picking.{parting_uses}
 use Rattle.flow_batch.specs.Update.{update_uses}
 use Rattle.flow_batch.specs.Updated.{fresh_update}
 use Rattle.flow_text.specs.Text.{number_of}
@@ -66,6 +67,12 @@ update-used network p keylen has zero used = has
 update-used network p keylen has (suc zero) used = connected-sends network p 1 used
 update-used network p keylen has (suc (suc o)) used = absurd (other-than o 0 1 (omega arith) (omega arith) (is_connected network p 1) used)
 
+-- and one that parts its stream
+parting-used : (network : Network) (p : ℕ) → HasSender network p 0 → (o : ℕ) → IsTrue (parting_uses (is_connected network p 1) o) → HasSender network p o
+parting-used network p has zero used = has
+parting-used network p has (suc zero) used = connected-sends network p 1 used
+parting-used network p has (suc (suc o)) used = absurd (other-than o 0 1 (omega arith) (omega arith) (is_connected network p 1) used)
+
 -- The components that a plan begins with fit its processes.
 pub first-fits : FirstFits
 first-fits n p x kinds.ReadLines file is = record { inputs = sym is.inputs; outputs = sym is.outputs; uses = first-used n p (is.needed 0 refl); starts = λ held none. none }
@@ -91,3 +98,6 @@ first-fits n p x kinds.LoadBalance file is = record { inputs = sym is.inputs; ou
 first-fits n p x kinds.Select file is = record { inputs = sym is.inputs; outputs = sym is.outputs; uses = select-used n p (is.needed 0 refl); starts = λ held none. (refl, none) }
 first-fits n p x kinds.Update file is = record { inputs = sym is.inputs; outputs = sym is.outputs; uses = update-used n p (number_of (option_text 0 x.options)) (is.needed 0 refl); starts = λ held none. none }
 first-fits n p x kinds.Tally file is = record { inputs = sym is.inputs; outputs = sym is.outputs; uses = first-used n p (is.needed 0 refl); starts = λ held none. (refl, none) }
+first-fits n p x kinds.Unique file is = record { inputs = sym is.inputs; outputs = sym is.outputs; uses = parting-used n p (is.needed 0 refl); starts = λ held none. none }
+first-fits n p x kinds.Head file is = record { inputs = sym is.inputs; outputs = sym is.outputs; uses = parting-used n p (is.needed 0 refl); starts = λ held none. none }
+first-fits n p x kinds.Tail file is = record { inputs = sym is.inputs; outputs = sym is.outputs; uses = parting-used n p (is.needed 0 refl); starts = λ held none. none }

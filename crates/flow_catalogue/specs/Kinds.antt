@@ -5,7 +5,7 @@ use Rattle.flow_plan.specs.declared.kind.PortClass.TheVariants.{Number, Fields, 
 use Rattle.flow_plan.specs.declared.kind.PortSpec.{PortSpec}
 use Rattle.flow_plan.specs.declared.kind.KindSpec.{KindSpec}
 use Rattle.flow_catalogue.specs.declared.table.StdKind.{StdKind}
-use Rattle.flow_catalogue.specs.declared.table.StdKind.TheVariants.{ReadLines, WriteLines, Passthru, Words, Fill, Brackets, Copy, Concat, Collate, Discard, Bundle, Unbundle, Hoard, Count, LoadBalance, Select, Update, Tally}
+use Rattle.flow_catalogue.specs.declared.table.StdKind.TheVariants.{ReadLines, WriteLines, Passthru, Words, Fill, Brackets, Copy, Concat, Collate, Discard, Bundle, Unbundle, Hoard, Count, LoadBalance, Select, Update, Tally, Unique, Head, Tail}
 use Rattle.flow_catalogue.specs.Rows.{option_port, stream_port, array_port, optional_port}
 
 -- A kind of this name, with these ports.
@@ -32,6 +32,9 @@ spec_of LoadBalance = row (codes "LoadBalance") (stream_port (codes "IN") ∷ []
 spec_of Select = row (codes "Select") (stream_port (codes "KEY") ∷ stream_port (codes "IN") ∷ []) (stream_port (codes "ACC") ∷ optional_port (codes "REJ") ∷ [])
 spec_of Update = row (codes "Update") (option_port (codes "KEYLEN") (Number 1 255) ∷ stream_port (codes "IN") ∷ []) (stream_port (codes "OUT") ∷ optional_port (codes "REP") ∷ [])
 spec_of Tally = row (codes "Tally") (stream_port (codes "IN") ∷ []) (stream_port (codes "OUT") ∷ [])
+spec_of Unique = row (codes "Unique") (stream_port (codes "IN") ∷ []) (stream_port (codes "OUT") ∷ optional_port (codes "REP") ∷ [])
+spec_of Head = row (codes "Head") (option_port (codes "COUNT") (Number 0 4294967295) ∷ stream_port (codes "IN") ∷ []) (stream_port (codes "OUT") ∷ optional_port (codes "REST") ∷ [])
+spec_of Tail = row (codes "Tail") (option_port (codes "COUNT") (Number 0 4294967295) ∷ stream_port (codes "IN") ∷ []) (stream_port (codes "OUT") ∷ optional_port (codes "REST") ∷ [])
 
 -- A kind's name in a network file.
 abbrev pub name_of : StdKind → List ℕ
@@ -39,7 +42,7 @@ name_of kind = (spec_of kind).name
 
 -- All standard kinds, in the order of the table.
 abbrev pub all_kinds : List StdKind
-all_kinds = ReadLines ∷ WriteLines ∷ Passthru ∷ Words ∷ Fill ∷ Brackets ∷ Copy ∷ Concat ∷ Collate ∷ Discard ∷ Bundle ∷ Unbundle ∷ Hoard ∷ Count ∷ LoadBalance ∷ Select ∷ Update ∷ Tally ∷ []
+all_kinds = ReadLines ∷ WriteLines ∷ Passthru ∷ Words ∷ Fill ∷ Brackets ∷ Copy ∷ Concat ∷ Collate ∷ Discard ∷ Bundle ∷ Unbundle ∷ Hoard ∷ Count ∷ LoadBalance ∷ Select ∷ Update ∷ Tally ∷ Unique ∷ Head ∷ Tail ∷ []
 
 -- The table.
 abbrev pub std_kinds : List KindSpec

@@ -9,6 +9,7 @@ use flow_batch::Update;
 use flow_component::{Answer, Component, Shape, Stop, Wish};
 use flow_packet::Hands;
 use flow_parts::{Brackets, Count, Fill, ReadLines, Tally, Words, WriteLines};
+use flow_pick::{Head, Tail, Unique};
 use flow_streams::{
     Bundle, Collate, Concat, Copy as CopyEach, Discard, Hoard, LoadBalance, Passthru, Select,
     Unbundle,
@@ -35,6 +36,9 @@ pub enum Std {
     Select(Select),
     Update(Update),
     Tally(Tally),
+    Unique(Unique),
+    Head(Head),
+    Tail(Tail),
 }
 
 impl Std {
@@ -79,6 +83,9 @@ impl Component for Std {
             Std::Select(component) => component.shape(),
             Std::Update(component) => component.shape(),
             Std::Tally(component) => component.shape(),
+            Std::Unique(component) => component.shape(),
+            Std::Head(component) => component.shape(),
+            Std::Tail(component) => component.shape(),
         }
     }
 
@@ -103,6 +110,9 @@ impl Component for Std {
             Std::Select(component) => component.resume(hands, answer),
             Std::Update(component) => component.resume(hands, answer),
             Std::Tally(component) => component.resume(hands, answer),
+            Std::Unique(component) => component.resume(hands, answer),
+            Std::Head(component) => component.resume(hands, answer),
+            Std::Tail(component) => component.resume(hands, answer),
         }
     }
 

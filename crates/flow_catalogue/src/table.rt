@@ -30,10 +30,13 @@ pub enum StdKind {
     Select,
     Update,
     Tally,
+    Unique,
+    Head,
+    Tail,
 }
 
 // All kinds, in the order of the table.
-const ALL: [StdKind; 18] = [
+const ALL: [StdKind; 21] = [
     StdKind::ReadLines,
     StdKind::WriteLines,
     StdKind::Passthru,
@@ -52,6 +55,9 @@ const ALL: [StdKind; 18] = [
     StdKind::Select,
     StdKind::Update,
     StdKind::Tally,
+    StdKind::Unique,
+    StdKind::Head,
+    StdKind::Tail,
 ];
 
 impl StdKind {
@@ -78,6 +84,9 @@ impl StdKind {
             StdKind::Select => b"Select",
             StdKind::Update => b"Update",
             StdKind::Tally => b"Tally",
+            StdKind::Unique => b"Unique",
+            StdKind::Head => b"Head",
+            StdKind::Tail => b"Tail",
         }
     }
 
@@ -281,6 +290,32 @@ fn update(alloc: Global) -> Result<KindSpec, AllocError>
     kind(alloc, b"Update", inputs, vec![in alloc; output, refused]?)
 }
 
+fn unique(alloc: Global) -> Result<KindSpec, AllocError>
+    ensures { IfOk result (λ kind. kind ≡ spec_of StdKind.Unique) }
+{
+    let input = stream(alloc, b"IN")?;
+    let output = stream(alloc, b"OUT")?;
+    let repeats = optional(alloc, b"REP")?;
+    let inputs = vec![in alloc; input]?;
+    kind(alloc, b"Unique", inputs, vec![in alloc; output, repeats]?)
+}
+
+// A row with a number of packets, one input for packets, an output for so many of them, and one for the rest.
+fn counting(alloc: Global, name: &[u8]) -> Result<KindSpec, AllocError>
+    ensures { IfOk result (λ kind. kind ≡ row name.now (option_port (codes "COUNT") (PortClass.Number 0 4294967295) ∷ stream_port (codes "IN") ∷ []) (stream_port (codes "OUT") ∷ optional_port (codes "REST") ∷ [])) }
+{
+    let numbers = PortClass::Number {
+        least: 0,
+        most: u32::MAX as u64,
+    };
+    let count = option(alloc, b"COUNT", numbers)?;
+    let input = stream(alloc, b"IN")?;
+    let output = stream(alloc, b"OUT")?;
+    let rest = optional(alloc, b"REST")?;
+    let inputs = vec![in alloc; count, input]?;
+    kind(alloc, name, inputs, vec![in alloc; output, rest]?)
+}
+
 // The row of a kind.
 fn spec(alloc: Global, kind: StdKind) -> Result<KindSpec, AllocError>
     ensures { IfOk result (λ spec. spec ≡ spec_of kind) }
@@ -304,6 +339,9 @@ fn spec(alloc: Global, kind: StdKind) -> Result<KindSpec, AllocError>
         StdKind::Select => select(alloc),
         StdKind::Update => update(alloc),
         StdKind::Tally => passing(alloc, b"Tally"),
+        StdKind::Unique => unique(alloc),
+        StdKind::Head => counting(alloc, b"Head"),
+        StdKind::Tail => counting(alloc, b"Tail"),
     }
 }
 

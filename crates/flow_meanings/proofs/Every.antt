@@ -19,6 +19,7 @@ use Rattle.flow_meanings.proofs.LineKinds.{read_lines-facts, write_lines-facts, 
 use Rattle.flow_meanings.proofs.StreamKinds.{passthru-facts, copy-facts, concat-facts, collate-facts, discard-facts, bundle-facts, unbundle-facts, hoard-facts, load-facts}
 use Rattle.flow_meanings.proofs.SelectKind.{select-facts}
 use Rattle.flow_meanings.proofs.UpdateKind.{update-facts}
+use Rattle.flow_meanings.proofs.PickKinds.{unique-facts, head-facts, tail-facts}
 
 -- The facts of each standard component.
 pub facts-of : (component : Std) → Facts component
@@ -40,6 +41,9 @@ facts-of (components.LoadBalance state) = load-facts state
 facts-of (components.Select state) = select-facts state
 facts-of (components.Update state) = update-facts state
 facts-of (components.Tally state) = tally-facts state
+facts-of (components.Unique state) = unique-facts state
+facts-of (components.Head state) = head-facts state
+facts-of (components.Tail state) = tail-facts state
 
 -- a text of fields has one at least
 some-fields : (text : List ℕ) → 1 ≤ length (fields_of text)
