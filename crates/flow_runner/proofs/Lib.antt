@@ -2,5 +2,6 @@ pub mod Attempts
 pub mod Crews
 pub mod Fairs
 pub mod Lined
+pub mod Serves
 pub mod Budgets
 pub mod Crossing

@@ -6,12 +6,15 @@ mod calls;
 mod crew;
 mod line;
 mod paused;
+mod readied;
 mod rest;
 mod serve;
+mod server;
 mod work;
 mod worked;
 
 pub use crew::{RunStop, run};
 pub use line::{Line, LinePass};
 pub use paused::run_for;
+pub use serve::serve;
 pub use worked::{Crew, Worked};
