@@ -1,5 +1,5 @@
 -- What a worker that serves a line has done: what it asked for is what it popped, and what it made ready is what it pushed.
-use Rattle.std.specs.Prelude.{◌≡◌, ℕ, List, ◌++◌, Option, Some, None}
+use Rattle.std.specs.Prelude.{◌≡◌, ℕ, List, ◌++◌, map, Option, Some, None}
 use Rattle.flow_floor.specs.declared.floor.Floor.{Floor}
 use Rattle.flow_floor.specs.declared.floor.Worker.{Worker}
 use Rattle.flow_floor.specs.Floors.{asked_of, readied_of, process_count, HasReadZero, IsIdleAt}
@@ -49,3 +49,7 @@ module _ {K : Type 0} where
   -- The worker holds nothing of this floor, and its pass is this line's.
   abbrev pub IsAtLine : Floor K → Line → Server K → Type 0
   IsAtLine floor line s = IsIdleAt floor s.worker × IsPassAt line s.pass
+
+  -- The workers of these servers.
+  abbrev pub workers_at : List (Server K) → List (Worker K)
+  workers_at servers = map (λ (s : Server K). s.worker) servers

@@ -8,13 +8,14 @@ mod line;
 mod paused;
 mod readied;
 mod rest;
-mod serve;
+mod service;
 mod server;
+mod together;
 mod work;
 mod worked;
 
 pub use crew::{RunStop, run};
 pub use line::{Line, LinePass};
 pub use paused::run_for;
-pub use serve::serve;
+pub use service::serve;
 pub use worked::{Crew, Worked};

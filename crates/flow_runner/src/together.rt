@@ -3,11 +3,11 @@ ghost use Rattle.flow_floor.specs.Floors.{HasReadZero, HasSameShare, IsCrewOf, I
 ghost use Rattle.flow_limits.specs.declared.TheConstants.{PROCESS_LIMIT, WORKER_LIMIT};
 ghost use Rattle.flow_runner.specs.Lines.{IsPassAt, line_room};
 ghost use Rattle.flow_runner.specs.Serving.{HasDone, HasServed, IsAtLine, IsLineFor, workers_at};
-ghost use Rattle.std.specs.Prelude.{◌≡◌, ◌+◌, ◌≤◌, All, IfErr, IfOk, IfSome, [], length, vec_capacity};
+ghost use Rattle.std.specs.Prelude.{◌≡◌, ◌≤◌, ℕ, All, IfErr, IfOk, IfSome, Option, [], length, vec_capacity};
 
 use crate::line::{Line, LinePass};
 use crate::readied::push_surely;
-use crate::serve::serve;
+use crate::service::serve;
 use crate::server::Server;
 use flow_component::{Component, Gate};
 use flow_floor::{Floor, Worker};
@@ -122,7 +122,7 @@ fn serve_all<K: Component + Send, G: Gate + Sync, R: Threads + Wait + Sync>(
     requires line { IsLineFor floor.now line.now }
     requires budget { IfSome budget (λ turns. 1 ≤ turns) }
     requires crew { IsCrewOf floor.now (workers_at servers.old) }
-    requires passes { All (λ s. IsPassAt line.now s.pass) servers.old }
+    requires each { All (IsAtLine floor.now line.now) servers.old }
     requires new { All IsNewWorker (workers_at servers.old) }
     ensures crew { IsCrewOf floor.now (workers_at servers.new) × (length servers.new ≡ length servers.old) }
     ensures done { All (HasDone budget) (workers_at servers.new) }
@@ -132,7 +132,9 @@ fn serve_all<K: Component + Send, G: Gate + Sync, R: Threads + Wait + Sync>(
         servers,
         workers as usize,
         &|number: usize, server: &mut Server<K>|
-            requires { IsAtLine floor.now line.now server.old }
+            requires at { IsAtLine floor.now line.now server.old }
+            requires line { IsLineFor floor.now line.now }
+            requires budget { IfSome budget (λ turns. 1 ≤ turns) }
             ensures idle { IsIdleAt floor.entry.now server.new.worker }
             ensures share { HasSameShare server.old.worker server.new.worker }
             ensures served { HasServed budget server.old.worker server.new.worker }
@@ -156,15 +158,99 @@ fn await_end<K: Component, R: Wait>(rt: &R, floor: &Floor<K>, worker: &mut Worke
     unreachable!()
 }
 
-/// Has each worker wait for the end, one after another.
-fn await_all<K: Component, R: Wait>(
+/// Has each worker wait for the end in a thread of its own.
+fn await_all<K: Component + Send, R: Threads + Wait + Sync>(
     rt: &R,
     floor: &Floor<K>,
-    mut crew: Vec<Worker<K>>,
-    mut back: Vec<Worker<K>>,
-) -> Vec<Worker<K>>
-    requires { IsCrewOf floor.now crew.items }
-    ensures { IsCrewOf floor.now result.items }
+    crew: &mut [Worker<K>],
+    workers: u32,
+)
+    requires least { 1 ≤ workers }
+    requires crew { IsCrewOf floor.now crew.old }
+    requires new { All IsNewWorker crew.old }
+    ensures crew { IsCrewOf floor.now crew.new × (length crew.new ≡ length crew.old) }
+    ensures done { (budget : Option ℕ) → All (HasDone budget) crew.new }
 {
-    back
+    thread::for_each_mut(
+        rt,
+        crew,
+        workers as usize,
+        &|number: usize, worker: &mut Worker<K>|
+            requires { IsIdleAt floor.now worker.old }
+            ensures idle { IsIdleAt floor.entry.now worker.new }
+            ensures share { HasSameShare worker.old worker.new }
+            ensures zero { HasReadZero worker.new }
+            ensures made { turns_of worker.new ≡ turns_of worker.old }
+        { await_end(rt, floor, worker) },
+    );
+}
+
+/// Has these new workers serve a line at which all processes stand. Without memory for it they come back as they were.
+fn serve_line<K: Component + Send, G: Gate + Sync, R: Threads + Wait + Sync>(
+    rt: &R,
+    alloc: Global,
+    floor: &Floor<K>,
+    crew: Vec<Worker<K>>,
+    workers: u32,
+    gate: &G,
+    budget: Option<u64>,
+) -> Result<Vec<Worker<K>>, Vec<Worker<K>>>
+    requires least { 1 ≤ workers }
+    requires most { workers ≤ WORKER_LIMIT }
+    requires some { 1 ≤ process_count floor.now }
+    requires crew { IsCrewOf floor.now crew.items × (length crew.items ≡ workers) }
+    requires new { All IsNewWorker crew.items }
+    requires budget { IfSome budget (λ turns. 1 ≤ turns) }
+    ensures crew { IfOk result (λ ws. IsCrewOf floor.now ws.items × (length ws.items ≡ workers)) }
+    ensures done { IfOk result (λ ws. All (HasDone budget) ws.items) }
+    ensures refused { IfErr result (λ ws. IsCrewOf floor.now ws.items) }
+{
+    let Ok(laid) = lay(alloc, floor.processes() as u32, workers) else {
+        return Err(crew);
+    };
+    let Laid {
+        line,
+        passes,
+        servers,
+        back,
+    } = laid;
+    let passes = filled(rt, &line, passes);
+    let mut servers = with_passes(&line, crew, passes, servers);
+    serve_all(
+        rt,
+        floor,
+        &line,
+        servers.as_mut_slice(),
+        workers,
+        gate,
+        budget,
+    );
+    Ok(without_passes(servers, back))
+}
+
+/// Has these new workers make turns, each in a thread of its own, until each has made as many as the budget says, or has read 0. Where there is no
+/// process there is no line. Without memory for it they come back as they were.
+pub(crate) fn make_turns<K: Component + Send, G: Gate + Sync, R: Threads + Wait + Sync>(
+    rt: &R,
+    alloc: Global,
+    floor: &Floor<K>,
+    mut crew: Vec<Worker<K>>,
+    workers: u32,
+    gate: &G,
+    budget: Option<u64>,
+) -> Result<Vec<Worker<K>>, Vec<Worker<K>>>
+    requires least { 1 ≤ workers }
+    requires most { workers ≤ WORKER_LIMIT }
+    requires crew { IsCrewOf floor.now crew.items × (length crew.items ≡ workers) }
+    requires new { All IsNewWorker crew.items }
+    requires budget { IfSome budget (λ turns. 1 ≤ turns) }
+    ensures crew { IfOk result (λ ws. IsCrewOf floor.now ws.items × (length ws.items ≡ workers)) }
+    ensures done { IfOk result (λ ws. All (HasDone budget) ws.items) }
+    ensures refused { IfErr result (λ ws. IsCrewOf floor.now ws.items) }
+{
+    if floor.processes() == 0 {
+        await_all(rt, floor, crew.as_mut_slice(), workers);
+        return Ok(crew);
+    }
+    serve_line(rt, alloc, floor, crew, workers, gate, budget)
 }

@@ -1,7 +1,7 @@
 use Rattle.flow_floor.specs.Floors.{IsIdleAt, HasSameShare, turns_of}
 use Rattle.flow_runner.specs.Attempts.{Spends}
 use Rattle.flow_runner.specs.Serving.{Follows}
-use Rattle.flow_runner.proofs.serve.serve_for.Given as goal
+use Rattle.flow_runner.proofs.service.serve_for.Given as goal
 
 -- the worker holds nothing, has its share, follows the line, and spends
 abbrev pub invariant-loop : goal.invariant-loop

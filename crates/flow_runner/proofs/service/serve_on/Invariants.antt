@@ -1,6 +1,6 @@
 use Rattle.flow_floor.specs.Floors.{IsIdleAt, HasSameShare}
 use Rattle.flow_runner.specs.Serving.{Follows}
-use Rattle.flow_runner.proofs.serve.serve_on.Given as goal
+use Rattle.flow_runner.proofs.service.serve_on.Given as goal
 
 -- the worker holds nothing, has its share, and follows the line
 abbrev pub invariant-loop : goal.invariant-loop
