@@ -1,8 +1,7 @@
-use Rattle.std.proofs.Common.{◌≡◌, ℕ, ◌==◌, Bool, false, List, [], ◌∷◌, length, Some, refl, sym, ap, ◌∙◌, subst, ◌⊎◌, inl, inr}
+use Rattle.std.proofs.Common.{◌≡◌, ℕ, ◌==◌, true, false, List, [], ◌∷◌, length, Some, refl, sym, ap, ◌∙◌, subst, ◌⊎◌, inl, inr}
 use Rattle.std.specs.Prelude.{codes, sum}
 use Rattle.flow_plan.specs.declared.kind.PortClass.TheVariants.{Fields}
 use Rattle.flow_plan.specs.Texts.{IsFields}
-use Rattle.flow_sort.specs.Sort.{SortState}
 use Rattle.flow_sort.specs.Meanings.{fresh_sort}
 use Rattle.flow_catalogue.specs.Rows.{optional_option_port}
 use Rattle.flow_catalogue.specs.Processes.{fields_of, length_of_keys, option_text}
