@@ -1,6 +1,6 @@
 -- The components of a batch update, as its plan says them.
 use Rattle.std.proofs.Common.{◌≡◌, ℕ, zero, suc, ◌<◌, ◌≤◌, Bool, true, false, List, [], ◌∷◌, map, length, Option, Some, refl, sym, ap, ◌∙◌, arith, nat_eq, slice_get, get_or, ◌||◌, ◌==◌}
-use Rattle.std.specs.Prelude.{◌&&◌, sum, ◌+◌}
+use Rattle.std.specs.Prelude.{◌&&◌, sum}
 use Rattle.std.specs.Fmt.{decimal}
 use Rattle.std.specs.List.{list_any, slice_split, onto_first}
 use Rattle.std.specs.Str.Parse.{AllDigits}
@@ -50,12 +50,12 @@ fields-one k small =
 key-one : (k : ℕ) → k ≤ 255 → length_of_keys (decimal k) ≡ Some k
 key-one k small = by (decimal k) (fields-one k small) (decimal_is_IsNumeral k (omega arith)).0.0
   where
+    alone : sum (k ∷ []) ≡ k
+    alone = let e = sum_by-cons (λ (x : ℕ). x) k [] in omega (arith, e)
+
     by : (text : List ℕ) → fields_of text ≡ k ∷ [] → 0 < length text → length_of_keys text ≡ Some k
     by [] fields some = absurd (omega (arith, some))
-    by (c ∷ cs) fields some = ap Some (ap sum fields ∙ one)
-
-    one : sum (k ∷ []) ≡ k
-    one = let e = sum_by-cons (λ (x : ℕ). x) k [] in omega (arith, e)
+    by (c ∷ cs) fields some = ap (λ (n : ℕ). Some n) (ap sum fields ∙ alone)
 
 -- what is there passes the test for any
 any-of : {A : Type 0} (test : A → Bool) (xs : List A) (k : ℕ) (x : A) → slice_get xs k ≡ Some x → test x ≡ true → list_any test xs ≡ true

@@ -14,14 +14,14 @@ use Rattle.flow_component.specs.Runs.{EndedRun, HeardEnd}
 use Rattle.flow_pick.specs.Places.{Place, picked, left_over, IsParted}
 use Rattle.flow_pick.specs.Picking.{Picker, leaves, parts, meets, picker_rules}
 use Rattle.flow_pick.specs.PickingLaws.{StaysConnected, picker_lawful}
-use Rattle.flow_pick.specs.Unique.{UniqueState, unique_picker, unique_rules, is_new, fresh_unique}
+use Rattle.flow_pick.specs.Unique.{UniqueState, unique_picker, unique_rules, is_new}
 use Rattle.flow_pick.specs.UniqueLaws.{after-rep}
-use Rattle.flow_pick.specs.Head.{HeadState, head_picker, head_rules, is_among_first, fresh_head}
+use Rattle.flow_pick.specs.Head.{HeadState, head_picker, head_rules, is_among_first}
 use Rattle.flow_pick.specs.HeadLaws.{after-rest}
 use Rattle.flow_pick.specs.declared.tail.TailPlace.{TailPlace}
 use Rattle.flow_pick.specs.declared.tail.TailPlace.TheVariants as places
 use Rattle.flow_pick.specs.TailState.{TailState}
-use Rattle.flow_pick.specs.Tail.{at, held_by, carried, added, taken, trims, begins, holds, passes, ends, takes, brackets, comes, end_comes, goes_on, IsBetween, HasCome, tail_rules, is_among_last, fresh_tail}
+use Rattle.flow_pick.specs.Tail.{at, held_by, carried, added, taken, trims, begins, passes, ends, takes, brackets, comes, goes_on, IsBetween, HasCome, tail_rules, is_among_last}
 use Rattle.flow_pick.specs.TailLaws.{tail_lawful}
 use Rattle.flow_pick.proofs.UniqueStream.{unique_meaning}
 use Rattle.flow_pick.proofs.HeadStream.{head_meaning}

@@ -1,5 +1,5 @@
 -- What is known of a Sort.
-use Rattle.std.proofs.Common.{◌≡◌, ◌≢◌, ℕ, ◌+◌, ◌==◌, Bool, true, false, List, [], ◌∷◌, Option, Some, None, if◌then◌else◌, refl, sym, ap, ◌∙◌, subst, inl, inr, ◌⊎◌, arith}
+use Rattle.std.proofs.Common.{◌≡◌, ◌≢◌, ℕ, ◌+◌, ◌==◌, Bool, true, false, List, [], ◌∷◌, Some, None, if◌then◌else◌, refl, sym, ap, ◌∙◌, subst, inl, inr, ◌⊎◌, arith}
 use Rattle.flow_packet.specs.Tree.{Tree, id_of}
 use Rattle.flow_packet.specs.Held.{Held, next_id}
 use Rattle.flow_packet.specs.Hands.{kind_at, height_at, chain_of_root, attached, wrapped}
@@ -17,7 +17,6 @@ use Rattle.flow_sort.specs.declared.sort.SortPlace.TheVariants as places
 use Rattle.flow_sort.specs.Sorted.{sorted_stretches}
 use Rattle.flow_sort.specs.Sort.{SortState, begins, empties, sorts, comes, goes_on, IsIdle, HasCome, HasSent, sort_rules}
 use Rattle.flow_sort.specs.SortLaws.{sort_lawful}
-use Rattle.flow_sort.specs.Meanings.{fresh_sort}
 use Rattle.flow_sort.proofs.SortStream.{sort_meaning}
 use Rattle.flow_catalogue.specs.declared.standard.Std.{Std}
 use Rattle.flow_catalogue.specs.declared.standard.Std.TheVariants as components

@@ -1,5 +1,5 @@
 -- Texts that a Sort has sorted: they are sorted, and their book is the one of the texts as they came.
-use Rattle.std.proofs.Common.{◌≡◌, ℕ, Bool, true, false, cond, List, [], ◌∷◌, ◌++◌, refl, sym, ap, ◌∙◌, subst, append_assoc, append-nil, Some, None, if◌then◌else◌}
+use Rattle.std.proofs.Common.{◌≡◌, ℕ, Bool, true, false, cond, List, [], ◌∷◌, ◌++◌, refl, sym, ap, ◌∙◌, append_assoc, append-nil, Some, None, if◌then◌else◌}
 use Rattle.std.specs.List.{AllByRecursion, filter}
 use Rattle.std.specs.Str.{bytes_eq}
 use Rattle.std.specs.Ordering.{nat_cmp, is_lt}
@@ -9,7 +9,7 @@ use Rattle.flow_packet.specs.Tree.{Tree}
 use Rattle.flow_component.specs.Runs.{text_packet}
 use Rattle.flow_sort.specs.Sorted.{put_in, stable_sort, sorted_from, sorted_stretches}
 use Rattle.flow_batch.specs.Records.{key_in}
-use Rattle.flow_batch.specs.Book.{Book, book_of, empty_book}
+use Rattle.flow_batch.specs.Book.{book_of, empty_book}
 use Rattle.flow_batch.specs.Ledger.{Entry, is_greater, has_key, AreAmounts, IsSorted, IsStablySorted}
 use Rattle.flow_batch.specs.Batch.{stream_of}
 use Rattle.flow_batch.proofs.Keys.{equal-bytes, same_bytes, up, less-up, less-other, not-less, tested-less}

@@ -1,5 +1,5 @@
 -- The files of a batch update that sorts.
-use Rattle.std.proofs.Common.{◌≡◌, ℕ, true, List, [], ◌∷◌, ◌++◌, map, Some, refl, sym, ap, ◌∙◌}
+use Rattle.std.proofs.Common.{◌≡◌, true, [], ◌∷◌, Some, refl, ap, ◌∙◌}
 use Rattle.flow_parts.specs.Meanings.{rendered_all}
 use Rattle.flow_streams.specs.Collated.{collation}
 use Rattle.flow_streams.specs.Meanings.{fresh_collate}
@@ -9,7 +9,6 @@ use Rattle.flow_batch.specs.Around.{Outside}
 use Rattle.flow_batch.specs.Updated.{fresh_update, new_masters, refused_packets}
 use Rattle.flow_batch.specs.Batch.{stream_of}
 use Rattle.flow_batch.proofs.Collating.{batch-is-book}
-use Rattle.flow_packet.specs.Tree.{Tree}
 use Rattle.flow_catalogue.specs.declared.standard.Std.TheVariants as components
 use Rattle.flow_model.specs.Plans.{sends_at}
 use Rattle.flow_meanings.specs.Composition.{leaving}

@@ -145,6 +145,21 @@ fn kinds_that_pick_have_their_ports(rt: HostRuntime) -> Result<(), Fail> {
             b"flow 1\n'i' -> FILE R(ReadLines)\nR OUT -> IN T(Tail)\n'1' -> COUNT T\nT REST -> IN A\n'a' -> FILE A(WriteLines)\n",
             b"network refused: port missing T.OUT\n",
         ),
+        // A Sort may be without fields, but not with fields that are none;
+        refused(
+            b"flow 1\n'i' -> FILE R(ReadLines)\nR OUT -> IN S(Sort)\n'2 0' -> FIELDS S\nS OUT -> IN A\n'a' -> FILE A(WriteLines)\n",
+            b"network refused: bad option S.FIELDS\n",
+        ),
+        // its IN has to be connected,
+        refused(
+            b"flow 1\n'2' -> FIELDS S(Sort)\nS OUT -> IN A\n'a' -> FILE A(WriteLines)\n",
+            b"network refused: port missing S.IN\n",
+        ),
+        // and so has its OUT.
+        refused(
+            b"flow 1\n'i' -> FILE R(ReadLines)\nR OUT -> IN S(Sort)\n",
+            b"network refused: port missing S.OUT\n",
+        ),
     ];
     for row in rows {
         run_row(&rt, rt.alloc(), row)?;

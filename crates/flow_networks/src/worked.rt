@@ -288,6 +288,23 @@ fn packets_are_picked(rt: HostRuntime) -> Result<(), Fail> {
             outputs: [("o", b"(x\n)\n"), NONE],
             ..ROW
         },
+        // A bracket ends a stretch, and packets of one key keep their order.
+        Row {
+            net: b"flow 1\n'i' -> FILE R(ReadLines)\nR OUT -> IN B(Brackets)\nB OUT -> IN S(Sort)\n'1 1' -> FIELDS S\nS OUT -> IN Write(WriteLines)\n'o' -> FILE Write\n",
+            inputs: [("i", b"b2x\na1\nb2w\n(s\nz\nb\n)\na0\n"), NONE, NONE],
+            outputs: [("o", b"a1\nb2x\nb2w\n(s\nb\nz\n)\na0\n"), NONE],
+            ..ROW
+        },
+        // Without FIELDS whole texts are compared; the carrier of all packets is made and dropped.
+        Row {
+            net: b"flow 1\n'i' -> FILE R(ReadLines)\nR OUT -> IN S(Sort)\nS OUT -> IN A(WriteLines)\n'o' -> FILE A\n",
+            inputs: [("i", b"b2\nab\nb1\na\n"), NONE, NONE],
+            printed: Some(
+                b"verdict finished\nprocess R ReadLines ended turns 9 made 4 dropped 0 left 0\nprocess S Sort ended turns 15 made 1 dropped 1 left 0\nprocess A WriteLines ended turns 10 made 0 dropped 4 left 0\nconnection S.IN capacity 10 puts 4 takes 4 left 0\nconnection A.IN capacity 10 puts 4 takes 4 left 0\ntotal turns 34 made 5 dropped 5 left 0\n",
+            ),
+            outputs: [("o", b"a\nab\nb1\nb2\n"), NONE],
+            ..ROW
+        },
         // The carrier of the three packets is made and dropped.
         Row {
             net: b"flow 1\n'i' -> FILE R(ReadLines)\nR OUT -> IN T(Tail)\n'2' -> COUNT T\nT OUT -> IN A(WriteLines)\nT REST -> IN B(WriteLines)\n'o' -> FILE A\n'r' -> FILE B\n",
