@@ -6,6 +6,8 @@ use Rattle.regex.specs.Patterns.{Re, SameCaptures, Reads, Refuses, find}
 use Rattle.regex.proofs.ForCallers.{is_match_alike}
 use Rattle.regex_hir.specs.Meaning.{meaning}
 use Rattle.regex_hir.specs.declared.hir.Hir.{Hir}
+use Rattle.regex.proofs.OnLiterals.{IsReadAs, same_refl}
+use Rattle.regex_syntax.specs.Same.{SameTree}
 use Rattle.regex_syntax.specs.Brackets.{Nested}
 use Rattle.regex_syntax.specs.Grammar.{Names, group_count, read}
 use Rattle.regex_syntax.specs.declared.error.ErrorKind.{ErrorKind}
@@ -36,6 +38,14 @@ is_pattern text hir names utf8 reads = (utf8, shallow (reading text) pattern_opt
 pub alike : (text : List ℕ) (hir : Hir) (names : Names) → Reads pattern_options text hir names → SameCaptures (meaning hir) (expression text)
 unfolding Reads
 alike text hir names reads = same_in (reading text) pattern_options.nest_limit (meaning hir) names reads
+
+read_as : (o : Option Found) (most : ℕ) → IsSomeAnd o (λ found. found.0.depth ≤ most) → IsSomeAnd o (λ (found, _). SameTree found.value (expression_in o))
+read_as None most p = absurd p
+read_as (Some found) most p = same_refl _
+
+-- A pattern is read as its expression.
+pub IsPattern-read_as : (text : List ℕ) → IsPattern text → IsReadAs pattern_options text (expression text)
+IsPattern-read_as text p = read_as (reading text) pattern_options.nest_limit p.1
 
 deep : (o : Option Found) (most : ℕ) → IfSome o (λ (re, _). most < re.depth) → IsSomeAnd o (λ found. found.0.depth ≤ most) → ⊥
 deep None most d p = p

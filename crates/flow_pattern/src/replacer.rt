@@ -87,6 +87,7 @@ impl Replacer {
         ensures { IfOk result (λ v. v.items ≡ replaced self.now.pattern self.now.with text.now) }
     {
         let mut matcher = self.regex.matcher(alloc)?;
-        matcher.replace_all(alloc, text, &self.template)
+        let new = matcher.replace_all(alloc, text, &self.template)?;
+        Ok(new)
     }
 }
