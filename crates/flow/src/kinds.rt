@@ -140,12 +140,12 @@ fn put_port(page: &mut String, port: &PortSpec) -> Result<(), AllocError> {
     if port.array {
         write!(page, "[0] to [{LAST_ELEMENT}]")?;
     }
-    if is_option(port) {
-        page.push_str(" (a text)")?;
-    } else if !port.needed {
-        page.push_str(" (may be left open)")?;
+    match (is_option(port), port.needed) {
+        (true, true) => page.push_str(" (a text)"),
+        (true, false) => page.push_str(" (a text, which may be left out)"),
+        (false, true) => Ok(()),
+        (false, false) => page.push_str(" (may be left open)"),
     }
-    Ok(())
 }
 
 fn put_side(page: &mut String, kind: &KindSpec, side: Side) -> Result<(), AllocError> {
@@ -200,6 +200,7 @@ pub fn put_option(page: &mut String, name: &Text, class: PortClass) -> Result<()
                 " is the name of a file: 1 to {FILE_NAME_LIMIT} bytes that are UTF-8, and no byte 0 among them.\n"
             )
         }
+        PortClass::Text => page.push_str(" is any text.\n"),
     }
 }
 
@@ -213,5 +214,6 @@ pub fn put_example(page: &mut String, class: PortClass) -> Result<(), AllocError
         }
         PortClass::Fields => page.push_str("3 5"),
         PortClass::File => page.push_str("in.txt"),
+        PortClass::Text => page.push_str("TEXT"),
     }
 }

@@ -89,4 +89,4 @@ first-fits n p x kinds.Hoard file is = record { inputs = sym is.inputs; outputs 
 first-fits n p x kinds.Count file is = record { inputs = sym is.inputs; outputs = sym is.outputs; uses = count-used n p (is.needed 1 refl); starts = λ held none. (refl, none) }
 first-fits n p x kinds.LoadBalance file is = record { inputs = sym is.inputs; outputs = refl; uses = λ o used. is.needed o (range-at 0 x.outputs o (below o x.outputs used)); starts = λ held none. (is.outputs.0, refl, none) }
 first-fits n p x kinds.Select file is = record { inputs = sym is.inputs; outputs = sym is.outputs; uses = select-used n p (is.needed 0 refl); starts = λ held none. (refl, none) }
-first-fits n p x kinds.Update file is = record { inputs = sym is.inputs; outputs = sym is.outputs; uses = update-used n p (number_of (option_text x.options)) (is.needed 0 refl); starts = λ held none. none }
+first-fits n p x kinds.Update file is = record { inputs = sym is.inputs; outputs = sym is.outputs; uses = update-used n p (number_of (option_text 0 x.options)) (is.needed 0 refl); starts = λ held none. none }

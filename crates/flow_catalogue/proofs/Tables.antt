@@ -49,8 +49,3 @@ only-option (a ∷ b ∷ more) k text there zeros one =
     let at_second : slice_get (a ∷ b ∷ more) 1 ≡ Some (0, b.1) = ap (λ (i : ℕ). Some (i, b.1)) second in
     let bad = one 0 1 a.1 b.1 at_first at_second in
     absurd (omega (arith, bad))
-
--- Options of which none stands at any place are none.
-pub no-option : (options : List (ℕ × List ℕ)) → ((j i : ℕ) (t : List ℕ) → slice_get options j ≡ Some (i, t) → ⊥) → options ≡ []
-no-option [] none = refl
-no-option (a ∷ more) none = absurd (none 0 a.0 a.1 refl)

@@ -1,5 +1,5 @@
 -- What a plan says of a process of a standard kind.
-use Rattle.std.specs.Prelude.{◌≡◌, ℕ, ◌==◌, ◌&&◌, Bool, true, List, [], ◌∷◌, map, Some, slice_get, IsTrue}
+use Rattle.std.specs.Prelude.{◌≡◌, ℕ, ◌==◌, ◌&&◌, Bool, true, List, [], map, Some, slice_get, unwrap_or, IsTrue}
 use Rattle.std.specs.List.{list_any, slice_split}
 use Rattle.std.specs.Str.Lines.{lines}
 use Rattle.flow_plan.specs.declared.plan.Process.{Process}
@@ -23,15 +23,15 @@ use Rattle.flow_catalogue.specs.declared.table.StdKind.{StdKind}
 use Rattle.flow_catalogue.specs.declared.table.StdKind.TheVariants as kinds
 use Rattle.flow_catalogue.specs.declared.standard.Std.{Std}
 use Rattle.flow_catalogue.specs.declared.standard.Std.TheVariants as components
-use Rattle.flow_catalogue.specs.Rows.{IsCount, count_on, option_of, HasOption, needs}
+use Rattle.flow_catalogue.specs.Rows.{IsCount, count_on, HasOptions, option_at, needs}
 use Rattle.flow_catalogue.specs.Kinds.{name_of, spec_of}
 use Rattle.flow_catalogue.specs.Std.{std_shape, std_uses, StdReady}
 
--- Process p of the network is of this kind: it has the kind's name, an option where the kind has an option port, as many inputs and outputs as the kind's row
--- says, and a connection at each output that needs one.
+-- Process p of the network is of this kind: it has the kind's name, the options that the kind's row asks for, as many inputs and outputs as the row says, and a
+-- connection at each output that needs one.
 pub record IsOfKind (network : Network) (p : ℕ) (process : Process) (kind : StdKind) : Type 0 where
   pub named : process.kind ≡ name_of kind
-  pub option : HasOption (option_of (spec_of kind).inputs) process.options
+  pub options : HasOptions (spec_of kind).inputs process.options
   pub inputs : IsCount (count_on (spec_of kind).inputs) process.inputs
   pub outputs : IsCount (count_on (map carries (spec_of kind).outputs)) process.outputs
   pub needed : (o : ℕ) → slice_get (needs (map carries (spec_of kind).outputs) process.outputs) o ≡ Some true → HasSender network p o
@@ -43,10 +43,9 @@ pub record IsStandard (network : Network) (number : ℕ) : Type 0 where
   pub kind : StdKind
   pub is_of_kind : IsOfKind network number process kind
 
--- The text of the first option.
-abbrev pub option_text : List (ℕ × List ℕ) → List ℕ
-option_text [] = []
-option_text (option ∷ more) = option.1
+-- The text of the option port at this place of the kind's row; empty where none was given.
+abbrev pub option_text : ℕ → List (ℕ × List ℕ) → List ℕ
+option_text place options = unwrap_or (option_at place options) []
 
 -- The lengths that a text of fields spells.
 abbrev pub fields_of : List ℕ → List ℕ
@@ -60,16 +59,17 @@ has_sender p o connection = list_any (λ (s : Sender). (s.process == p) && (s.ou
 abbrev pub is_connected : Network → ℕ → ℕ → Bool
 is_connected network p o = list_any (has_sender p o) network.connections
 
--- All that a component is made of, as the plan says it: its numbers of inputs and outputs, the text of its option, and which of its outputs are connected.
+-- All that a component is made of, as the plan says it: its numbers of inputs and outputs, the text of each option port by its place in the row, and which of its
+-- outputs are connected.
 pub record Given : Type 0 where
   pub inputs : ℕ
   pub outputs : ℕ
-  pub option : List ℕ
+  pub option : ℕ → List ℕ
   pub connected : ℕ → Bool
 
 -- All that a component is made of, read off the plan.
 abbrev pub given : Network → ℕ → Process → Given
-given network p process = record { inputs = process.inputs; outputs = process.outputs; option = option_text process.options; connected = is_connected network p }
+given network p process = record { inputs = process.inputs; outputs = process.outputs; option = λ place. option_text place process.options; connected = is_connected network p }
 
 -- The component of a process of this kind in its first state, on this file where it reads one.
 abbrev pub first_component : StdKind → Given → List ℕ → Std
@@ -77,11 +77,11 @@ first_component kinds.ReadLines given file = components.ReadLines (lines file)
 first_component kinds.WriteLines given file = components.WriteLines []
 first_component kinds.Passthru given file = components.Passthru (record {})
 first_component kinds.Words given file = components.Words words_parts.Waiting
-first_component kinds.Fill given file = components.Fill (fresh_fill (number_of given.option))
+first_component kinds.Fill given file = components.Fill (fresh_fill (number_of (given.option 0)))
 first_component kinds.Brackets given file = components.Brackets (record {})
 first_component kinds.Copy given file = components.Copy (record { count = given.outputs; place = copy_places.Waiting })
 first_component kinds.Concat given file = components.Concat (record { count = given.inputs; at = 0 })
-first_component kinds.Collate given file = components.Collate (fresh_collate (fields_of given.option) given.inputs)
+first_component kinds.Collate given file = components.Collate (fresh_collate (fields_of (given.option 0)) given.inputs)
 first_component kinds.Discard given file = components.Discard (record {})
 first_component kinds.Bundle given file = components.Bundle bundle_parts.Outside
 first_component kinds.Unbundle given file = components.Unbundle unbundle_parts.Waiting
@@ -89,7 +89,7 @@ first_component kinds.Hoard given file = components.Hoard (record {})
 first_component kinds.Count given file = components.Count (fresh_count (given.connected 0))
 first_component kinds.LoadBalance given file = components.LoadBalance (record { count = given.outputs; depth = 0; chosen = 0; place = load_places.Waiting })
 first_component kinds.Select given file = components.Select (record { rejects = given.connected 1; place = select_places.Waiting })
-first_component kinds.Update given file = components.Update (fresh_update (number_of given.option) (given.connected 1))
+first_component kinds.Update given file = components.Update (fresh_update (number_of (given.option 0)) (given.connected 1))
 
 -- The component is that of process p, in its first state on this file.
 pub record IsMade (network : Network) (p : ℕ) (process : Process) (file : List ℕ) (component : Std) : Type 0 where

@@ -1,6 +1,6 @@
 -- The rows of the table of kinds: their ports as they are spelled in Morrison's diagrams, and what a process of a row has.
 use Rattle.flow_limits.specs.declared.TheConstants.{ELEMENT_LIMIT}
-use Rattle.std.specs.Prelude.{◌≡◌, ℕ, zero, suc, ◌+◌, ◌≤◌, ◌&&◌, if◌then◌else◌, not, nat_le, Bool, true, false, List, [], ◌∷◌, map, length, Option, Some, None}
+use Rattle.std.specs.Prelude.{◌≡◌, ◌==◌, ℕ, zero, suc, ◌+◌, ◌≤◌, ◌&&◌, if◌then◌else◌, nat_le, Bool, true, false, List, [], ◌∷◌, map, length, Option, Some, None, find, option_map, slice_get}
 use Rattle.std.specs.List.{list_all, list_any, range_with_len}
 use Rattle.flow_plan.specs.declared.kind.PortClass.{PortClass}
 use Rattle.flow_plan.specs.declared.kind.PortClass.TheVariants.{Stream}
@@ -13,6 +13,10 @@ use Rattle.flow_plan.specs.Texts.{IsOfClass}
 -- A port that takes one text before the network runs.
 abbrev pub option_port : List ℕ → PortClass → PortSpec
 option_port name class = record { name = name; class = class; array = false; needed = true }
+
+-- A port that takes one text before the network runs, or none.
+abbrev pub optional_option_port : List ℕ → PortClass → PortSpec
+optional_option_port name class = record { name = name; class = class; array = false; needed = false }
 
 -- A port for packets that has to be connected.
 abbrev pub stream_port : List ℕ → PortSpec
@@ -59,24 +63,28 @@ abbrev pub count_on : List PortSpec → Count
 count_on [] = Exactly 0
 count_on (spec ∷ specs) = together (count_of spec) (count_on specs)
 
--- The class of a row's option port, if it has one; an option port stands first.
-abbrev pub option_of : List PortSpec → Option PortClass
-option_of [] = None
-option_of (spec ∷ specs) = if is_stream spec.class then None else Some spec.class
+-- The text that the option port at this place of the row is given, if it is given one.
+abbrev pub option_at : ℕ → List (ℕ × List ℕ) → Option (List ℕ)
+option_at place options = option_map (λ (option : ℕ × List ℕ). option.1) (find (λ (option : ℕ × List ℕ). option.0 == place) options)
 
--- A process has a text of this class for its only option, and no option where its row has none.
-abbrev pub HasOption : Option PortClass → List (ℕ × List ℕ) → Type 0
-HasOption None options = options ≡ []
-HasOption (Some class) options = (text : List ℕ) × (options ≡ (0, text) ∷ []) × IsOfClass class text
+-- What an option port may be given: a text of its class, or none where it isn't needed.
+abbrev pub IsGiven : PortSpec → Option (List ℕ) → Type 0
+IsGiven spec None = spec.needed ≡ false
+IsGiven spec (Some text) = IsOfClass spec.class text
+
+-- An option port stands at this place of a row.
+abbrev pub IsOptionPlace : List PortSpec → ℕ → Type 0
+IsOptionPlace specs place = (spec : PortSpec) × (slice_get specs place ≡ Some spec) × (is_stream spec.class ≡ false)
+
+-- The options of a process whose row has these inputs: each option port is given what it may be, only option ports are given texts, and none is given two.
+pub record HasOptions (specs : List PortSpec) (options : List (ℕ × List ℕ)) : Type 0 where
+  pub each : (place : ℕ) (spec : PortSpec) → slice_get specs place ≡ Some spec → is_stream spec.class ≡ false → IsGiven spec (option_at place options)
+  pub only : (k place : ℕ) (text : List ℕ) → slice_get options k ≡ Some (place, text) → IsOptionPlace specs place
+  pub once : (k l place : ℕ) (text other : List ℕ) → slice_get options k ≡ Some (place, text) → slice_get options l ≡ Some (place, other) → k ≡ l
 
 -- Which of a process's outputs have to be connected: those of an array all, of other ports those that are needed.
 abbrev pub needs : List PortSpec → ℕ → List Bool
 needs specs n = if list_any (λ spec. spec.array) specs then map (λ (_ : ℕ). true) (range_with_len 0 n) else map (λ spec. spec.needed) specs
-
--- No port but the first is an option port, and that isn't an array.
-abbrev pub has_plain_inputs : List PortSpec → Bool
-has_plain_inputs [] = true
-has_plain_inputs (spec ∷ specs) = (if is_stream spec.class then true else not spec.array) && list_all (λ (other : PortSpec). is_stream other.class) specs
 
 -- An array is the only port on its side, and needed; each output is one for packets.
 abbrev pub has_plain_outputs : List PortSpec → Bool
@@ -84,4 +92,4 @@ has_plain_outputs specs = if list_any (λ spec. spec.array) specs then (nat_le (
 
 -- What holds of each row of the table.
 abbrev pub is_plain : KindSpec → Bool
-is_plain kind = has_plain_inputs kind.inputs && has_plain_outputs (map carries kind.outputs)
+is_plain kind = has_plain_outputs (map carries kind.outputs)

@@ -1,5 +1,5 @@
-//! What a plan says of a process for its component, read in one place: the text of its option and what
-//! that spells, and whether an output is connected. Its numbers of inputs and outputs are fields of the
+//! What a plan says of a process for its component, read in one place: the texts of its options and what
+//! they spell, and whether an output is connected. Its numbers of inputs and outputs are fields of the
 //! process.
 
 ghost use Rattle.std.specs.Prelude.{◌≡◌, ◌≤◌, ◌<◌, ◌==◌, ◌∷◌, [], IfOk, IfSome, IfNone, length, position};
@@ -13,13 +13,18 @@ use flow_plan::{Connection, Plan, Process};
 use flow_text::decimal;
 use std::alloc::{AllocError, Global};
 
-/// The text of the only option; empty where there is none.
-pub(crate) fn option_text(process: &Process) -> &[u8]
-    ensures { result.now ≡ option_text process.now.options }
+/// The text of the option port at this place of its kind's row; empty where none was given.
+pub(crate) fn option_text(process: &Process, place: u32) -> &[u8]
+    ensures { result.now ≡ option_text place process.now.options }
 {
-    match process.options.as_slice() {
-        [] => &[],
-        [option, ..] => option.1.as_slice(),
+    let given = process
+        .options
+        .as_slice()
+        .iter()
+        .find(|option| option.0 == place);
+    match given {
+        Some(option) => option.1.as_slice(),
+        None => &[],
     }
 }
 

@@ -3,7 +3,8 @@
 ghost use Rattle.std.specs.Prelude.{◌≡◌, ◌≤◌, ◌∷◌, [], Some, IfOk, IfSome, slice_get};
 ghost use Rattle.flow_text.specs.Text.{number_of};
 ghost use Rattle.flow_streams.specs.Meanings.{fresh_collate};
-ghost use Rattle.flow_catalogue.specs.Rows.{IsCount, Elements, HasOption};
+ghost use Rattle.flow_catalogue.specs.Kinds.{spec_of};
+ghost use Rattle.flow_catalogue.specs.Rows.{IsCount, Elements, HasOptions};
 ghost use Rattle.flow_catalogue.specs.Processes.{IsStandard, IsOfKind, IsMade, Fits, first_component, given, fields_of, option_text};
 ghost use Rattle.flow_catalogue.specs.Files.{UsesFile, NamesFile};
 
@@ -14,7 +15,7 @@ use crate::table::StdKind;
 use flow_batch::Update;
 use flow_limits::TEXT_LIMIT;
 use flow_parts::{Brackets, Count, Fill, ReadLines, Words, WriteLines};
-use flow_plan::{Plan, PortClass, Process};
+use flow_plan::{Plan, Process};
 use flow_streams::{
     Bundle, Collate, Concat, Copy as CopyEach, Discard, Hoard, LoadBalance, Passthru, Select,
     Unbundle,
@@ -50,21 +51,21 @@ fn file_name(process: &Process) -> &str
 }
 
 fn line_size(process: &Process) -> u32
-    requires { HasOption (Some (PortClass.Number 1 TEXT_LIMIT)) process.now.options }
-    ensures size { result ≡ number_of (option_text process.now.options) }
+    requires { HasOptions (spec_of StdKind.Fill).inputs process.now.options }
+    ensures size { result ≡ number_of (option_text 0 process.now.options) }
     ensures least { 1 ≤ result }
     ensures most { result ≤ TEXT_LIMIT }
 {
-    number_in(option_text(process), 1, TEXT_LIMIT as u64) as u32
+    number_in(option_text(process, 0), 1, TEXT_LIMIT as u64) as u32
 }
 
 fn key_length(process: &Process) -> u32
-    requires { HasOption (Some (PortClass.Number 1 255)) process.now.options }
-    ensures length { result ≡ number_of (option_text process.now.options) }
+    requires { HasOptions (spec_of StdKind.Update).inputs process.now.options }
+    ensures length { result ≡ number_of (option_text 0 process.now.options) }
     ensures least { 1 ≤ result }
     ensures most { result ≤ 255 }
 {
-    number_in(option_text(process), 1, 255) as u32
+    number_in(option_text(process, 0), 1, 255) as u32
 }
 
 /// The file that a process reads or writes; none where its kind has none. Takes no memory.
@@ -82,11 +83,11 @@ pub fn file_of(plan: &Plan, process: u32) -> Option<FileUse<'_>>
 }
 
 fn collate(alloc: Global, process: &Process) -> Result<Collate, AllocError>
-    requires fields { HasOption (Some PortClass.Fields) process.now.options }
+    requires fields { HasOptions (spec_of StdKind.Collate).inputs process.now.options }
     requires inputs { IsCount Elements process.now.inputs }
-    ensures { IfOk result (λ component. component ≡ fresh_collate (fields_of (option_text process.now.options)) process.now.inputs) }
+    ensures { IfOk result (λ component. component ≡ fresh_collate (fields_of (option_text 0 process.now.options)) process.now.inputs) }
 {
-    let fields = fields(alloc, option_text(process))?;
+    let fields = fields(alloc, option_text(process, 0))?;
     Ok(Collate::new(fields, process.inputs))
 }
 

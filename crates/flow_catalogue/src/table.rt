@@ -2,7 +2,7 @@
 
 ghost use Rattle.std.specs.Prelude.{◌≡◌, ◌≢◌, ◌∷◌, [], IfOk, MatchOption, codes};
 ghost use Rattle.flow_catalogue.specs.Kinds.{name_of, row, spec_of, std_kinds};
-ghost use Rattle.flow_catalogue.specs.Rows.{option_port, stream_port, array_port, optional_port};
+ghost use Rattle.flow_catalogue.specs.Rows.{option_port, optional_option_port, stream_port, array_port, optional_port};
 
 use flow_items::{Items, Text};
 use flow_limits::TEXT_LIMIT;
@@ -103,6 +103,18 @@ fn option(alloc: Global, name: &[u8], class: PortClass) -> Result<PortSpec, Allo
     })
 }
 
+// A port that takes one text before the network runs, or none.
+fn optional_option(alloc: Global, name: &[u8], class: PortClass) -> Result<PortSpec, AllocError>
+    ensures { IfOk result (λ port. port ≡ optional_option_port name.now class) }
+{
+    Ok(PortSpec {
+        name: Text::from_slice(alloc, name)?,
+        class,
+        array: false,
+        needed: false,
+    })
+}
+
 // A port for packets that has to be connected.
 fn stream(alloc: Global, name: &[u8]) -> Result<PortSpec, AllocError>
     ensures { IfOk result (λ port. port ≡ stream_port name.now) }
@@ -126,12 +138,7 @@ fn array(alloc: Global, name: &[u8]) -> Result<PortSpec, AllocError>
 fn optional(alloc: Global, name: &[u8]) -> Result<PortSpec, AllocError>
     ensures { IfOk result (λ port. port ≡ optional_port name.now) }
 {
-    Ok(PortSpec {
-        name: Text::from_slice(alloc, name)?,
-        class: PortClass::Stream,
-        array: false,
-        needed: false,
-    })
+    optional_option(alloc, name, PortClass::Stream)
 }
 
 // A row of the table.

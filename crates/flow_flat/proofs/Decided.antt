@@ -13,7 +13,7 @@ use Rattle.flow_net.specs.declared.fault.PlanFault.{PlanFault}
 use Rattle.flow_net.specs.declared.fault.PlanFault.TheVariants.{BadOption}
 use Rattle.flow_plan.specs.declared.kind.KindSpec.{KindSpec}
 use Rattle.flow_plan.specs.declared.kind.PortClass.{PortClass}
-use Rattle.flow_plan.specs.declared.kind.PortClass.TheVariants.{Stream, Number, Fields, File}
+use Rattle.flow_plan.specs.declared.kind.PortClass.TheVariants.{Stream, Number, Fields, File, Text}
 use Rattle.flow_plan.specs.declared.kind.PortRef.{PortRef}
 use Rattle.flow_plan.specs.Network.{Network}
 use Rattle.flow_plan.specs.Texts.{IsNumberWithin, IsOfClass}
@@ -100,6 +100,7 @@ dec_class Stream text = inl tt
 dec_class (Number least most) text = dec_number least most text
 dec_class Fields text = dec_and (dec_le (length (slice_split (λ b. b == 32) text)) 8) (dec_all (IsNumberWithin 1 255) (dec_number 1 255) (slice_split (λ b. b == 32) text))
 dec_class File text = dec_and4 (dec_le 1 (length text)) (dec_le (length text) 255) (dec_utf8 text) (dec_all (λ b. b ≢ 0) (λ b. dec_not (same_or_not b 0)) text)
+dec_class Text text = inl tt
 
 dec_fits : (o : Option PortAt) (text : List ℕ) → Dec (FitsAt o text)
 dec_fits None text = inr (λ none. none)

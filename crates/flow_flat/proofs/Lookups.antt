@@ -16,6 +16,7 @@ use Rattle.flow_plan.specs.declared.kind.PortRef.{PortRef}
 use Rattle.flow_net.specs.Drafts.{◌>>=◌, process_named, port_named, element_named, is_stream_at, is_stream_port}
 use Rattle.flow_plan.specs.Network.{is_stream}
 use Rattle.flow_net.specs.Calls.{end_at, end_named, end_of_port, process_of_name, ends_of, takes_text}
+use Rattle.flow_net.specs.Kinds.{takes_texts}
 use Rattle.flow_flat.specs.Names.{PortAt, process_called, is_on, port_called, element_at, end_called, join_ends, text_end}
 use Rattle.flow_flat.specs.Faults.{is_stream_end, is_textual}
 
@@ -96,8 +97,8 @@ stream_is ports end = by (slice_get ports end.port) ∙ ap (λ (o : Option PortA
 
 -- An element takes texts with its bindings and without.
 pub textual_is : (ports : List DraftPort) (end : End) → takes_text ports end ≡ is_textual (map bare ports) end
-textual_is ports end = by (slice_get ports end.port) ∙ ap (λ (o : Option PortAt). option_map_or (λ (port : PortAt). port.spec.needed) o false) (sym (slice_get-map bare ports end.port))
+textual_is ports end = by (slice_get ports end.port) ∙ ap (λ (o : Option PortAt). option_map_or (λ (port : PortAt). takes_texts port.spec) o false) (sym (slice_get-map bare ports end.port))
   where
-    by : (o : Option DraftPort) → option_map_or (λ (port : DraftPort). port.spec.needed) o false ≡ option_map_or (λ (port : PortAt). port.spec.needed) (option_map bare o) false
+    by : (o : Option DraftPort) → option_map_or (λ (port : DraftPort). takes_texts port.spec) o false ≡ option_map_or (λ (port : PortAt). takes_texts port.spec) (option_map bare o) false
     by None = refl
     by (Some port) = refl

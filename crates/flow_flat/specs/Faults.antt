@@ -14,6 +14,7 @@ use Rattle.flow_plan.specs.declared.plan.Connection.{Connection}
 use Rattle.flow_plan.specs.Network.{Network, is_stream}
 use Rattle.flow_net.specs.Drafts.{◌>>=◌, refused_if}
 use Rattle.flow_net.specs.Calls.{kind_named, allowed_capacity, same_capacity}
+use Rattle.flow_net.specs.Kinds.{takes_texts}
 use Rattle.flow_plan.specs.Texts.{IsOfClass}
 use Rattle.flow_parse.specs.declared.value.Statement.{Statement}
 use Rattle.flow_parse.specs.declared.value.Statement.TheVariants.{Connect, Initial, InPort, OutPort}
@@ -59,9 +60,9 @@ join_test ports joins texts from out capacity to into ends = do
   agreed ← same_capacity (capacity_given (joins_into joins ends.1)) capacity
   refused_if (is_full joins ends.1) (TooMany many.Connections)
 
--- An input takes texts where it is needed: the automatic one isn't, and takes none.
+-- The input takes texts.
 abbrev pub is_textual : List PortAt → End → Bool
-is_textual ports end = option_map_or (λ (port : PortAt). port.spec.needed) (slice_get ports end.port) false
+is_textual ports end = option_map_or (λ (port : PortAt). takes_texts port.spec) (slice_get ports end.port) false
 
 -- The input that a text is for: it is there, takes texts, and takes nothing yet.
 abbrev pub text_test : List (List ℕ × List ℕ) → List PortAt → List Join → List (End × List ℕ) → List ℕ → PortRef → Result End PlanFault

@@ -4,7 +4,7 @@ use Rattle.std.specs.Fmt.{decimal}
 use Rattle.std.specs.List.{flat_map}
 use Rattle.flow_limits.specs.declared.TheConstants.{ELEMENT_LIMIT}
 use Rattle.flow_plan.specs.declared.kind.PortClass.{PortClass}
-use Rattle.flow_plan.specs.declared.kind.PortClass.TheVariants.{Stream, Number, Fields, File}
+use Rattle.flow_plan.specs.declared.kind.PortClass.TheVariants.{Stream, Number, Fields, File, Text}
 use Rattle.flow_plan.specs.declared.kind.PortSpec.{PortSpec}
 use Rattle.flow_plan.specs.declared.kind.KindSpec.{KindSpec}
 use Rattle.flow_catalogue.specs.declared.table.StdKind.{StdKind}
@@ -25,20 +25,22 @@ range_text Stream = []
 range_text (Number least most) = codes ": a number from " ++ decimal least ++ codes " to " ++ decimal most
 range_text Fields = codes ": one to eight numbers from 1 to 255 with one space between two"
 range_text File = codes ": the name of a file"
+range_text Text = codes ": any text"
 
 -- How many elements a port has, where it is an array.
 abbrev pub elements_text : Bool → List ℕ
 elements_text true = codes "[]: 1 to " ++ decimal ELEMENT_LIMIT ++ codes " elements"
 elements_text false = []
 
--- That a port may be left open, where it isn't needed.
-abbrev pub open_text : Bool → List ℕ
-open_text true = []
-open_text false = codes ": may be left open"
+-- That a port for packets may be left open, and an option left out, where it isn't needed.
+abbrev pub open_text : PortClass → Bool → List ℕ
+open_text class true = []
+open_text Stream false = codes ": may be left open"
+open_text class false = codes "; may be left out"
 
 -- The line of a port on this side.
 abbrev pub port_line : Side → PortSpec → List ℕ
-port_line side port = codes "  " ++ role side port.class ++ 32 ∷ port.name ++ elements_text port.array ++ open_text port.needed ++ range_text port.class ++ 10 ∷ []
+port_line side port = codes "  " ++ role side port.class ++ 32 ∷ port.name ++ elements_text port.array ++ range_text port.class ++ open_text port.class port.needed ++ 10 ∷ []
 
 -- The lines of a kind with these ports: its name and what it does, then each of its inputs, and then each of its outputs.
 abbrev pub kind_lines : StdKind → KindSpec → List ℕ

@@ -33,8 +33,8 @@ fn put_port(page: &mut Vec<u8>, side: Side, port: &PortSpec) -> Result<(), Alloc
     page.push(32)?;
     page.extend_from_slice(port.name.as_slice())?;
     put_elements(page, port.array)?;
-    put_open(page, port.needed)?;
     put_range(page, port.class)?;
+    put_open(page, port.class, port.needed)?;
     page.push(10)?;
     Ok(())
 }
@@ -62,14 +62,17 @@ fn put_elements(page: &mut Vec<u8>, array: bool) -> Result<(), AllocError>
     page.extend_from_slice(b" elements")
 }
 
-// That a port that isn't needed may be left open.
-fn put_open(page: &mut Vec<u8>, needed: bool) -> Result<(), AllocError>
-    ensures { OnOk result (page.new.items ≡ page.old.items ++ open_text needed) }
+// That a port that isn't needed may be left open, and an option left out.
+fn put_open(page: &mut Vec<u8>, class: PortClass, needed: bool) -> Result<(), AllocError>
+    ensures { OnOk result (page.new.items ≡ page.old.items ++ open_text class needed) }
 {
     if needed {
         return Ok(());
     }
-    page.extend_from_slice(b": may be left open")
+    match class {
+        PortClass::Stream => page.extend_from_slice(b": may be left open"),
+        _ => page.extend_from_slice(b"; may be left out"),
+    }
 }
 
 // What the text of an option may be.
@@ -88,5 +91,6 @@ fn put_range(page: &mut Vec<u8>, class: PortClass) -> Result<(), AllocError>
             b": one to eight numbers from 1 to 255 with one space between two",
         ),
         PortClass::File => page.extend_from_slice(b": the name of a file"),
+        PortClass::Text => page.extend_from_slice(b": any text"),
     }
 }

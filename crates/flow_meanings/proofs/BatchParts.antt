@@ -92,13 +92,13 @@ module _ (plan : Plan) (ks : List Std) (are : AreFirstOf plan ks) (each : length
   pub collate-there : (p keylen : ℕ) → keylen ≤ 255 → (h : HasNumber plan p kinds.Collate keylen) → h.of_kind.process.inputs ≡ 2 → slice_get ks p ≡ Some (components.Collate (fresh_collate (keylen ∷ []) 2))
   collate-there p keylen small h two =
       let c = made-as p kinds.Collate h.of_kind in
-      let fields : fields_of (option_text h.of_kind.process.options) ≡ keylen ∷ [] = ap (λ (options : List (ℕ × List ℕ)). fields_of (option_text options)) h.spelled ∙ fields-one keylen small in
+      let fields : fields_of (option_text 0 h.of_kind.process.options) ≡ keylen ∷ [] = ap (λ (options : List (ℕ × List ℕ)). fields_of (option_text 0 options)) h.spelled ∙ fields-one keylen small in
       c.2 ∙ ap (λ (k : Std). Some k) (c.3 ∙ (λ i. components.Collate (fresh_collate (fields i) (two i))))
 
   -- an Update's
   pub update-there : (p keylen : ℕ) → keylen ≤ 255 → (h : HasNumber plan p kinds.Update keylen) → (c : ℕ) → sends_at plan p 1 ≡ Some c → slice_get ks p ≡ Some (components.Update (fresh_update keylen true))
   update-there p keylen small h c sends =
       let made = made-as p kinds.Update h.of_kind in
-      let length : number_of (option_text h.of_kind.process.options) ≡ keylen = ap (λ (options : List (ℕ × List ℕ)). number_of (option_text options)) h.spelled ∙ (decimal_is_IsNumeral keylen (omega arith)).1 in
+      let length : number_of (option_text 0 h.of_kind.process.options) ≡ keylen = ap (λ (options : List (ℕ × List ℕ)). number_of (option_text 0 options)) h.spelled ∙ (decimal_is_IsNumeral keylen (omega arith)).1 in
       let rep = connected-at plan p 1 c sends in
       made.2 ∙ ap (λ (k : Std). Some k) (made.3 ∙ (λ i. components.Update (fresh_update (length i) (rep i))))

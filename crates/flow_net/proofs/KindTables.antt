@@ -7,7 +7,7 @@ use Rattle.std.proofs.lemmas.Bool.Decides.{nat_tests}
 use Rattle.std.proofs.lemmas.Bool.{false≢true}
 use Rattle.flow_plan.specs.declared.kind.KindSpec.{KindSpec}
 use Rattle.flow_plan.specs.declared.kind.PortSpec.{PortSpec}
-use Rattle.flow_net.specs.Kinds.{is_kind, is_table, is_input, is_needed_array}
+use Rattle.flow_net.specs.Kinds.{is_kind, is_table, is_input, takes_texts, is_needed_array}
 use Rattle.flow_plan.specs.Network.{is_stream}
 use Rattle.flow_net.specs.Sound.{IsKind, IsSound}
 use Rattle.flow_net.proofs.Ends.{and_true}
@@ -20,11 +20,18 @@ all_pass p (y ∷ xs) all (suc i) x is = all_pass p xs (and_true (p y) (list_all
 array_needed : (spec : PortSpec) → is_needed_array spec ≡ true → spec.array ≡ true → spec.needed ≡ true
 array_needed spec is array = ap (λ b. if b then spec.needed else true) (sym array) ∙ is
 
-single-option : (spec : PortSpec) → (if is_stream spec.class then true else not spec.array) ≡ true → is_stream spec.class ≡ false → spec.array ≡ false
-single-option spec is option = by spec.array (subst (λ (b : Bool). (if b then true else not spec.array) ≡ true) option is)
+single-option : (spec : PortSpec) → is_input spec ≡ true → is_stream spec.class ≡ false → spec.array ≡ false
+single-option spec is option = by spec.array (subst (λ (b : Bool). (if b then spec.needed else not spec.array) ≡ true) option is)
   where
     by : (b : Bool) → not b ≡ true → b ≡ false
     by true e = absurd (false≢true e)
+    by false e = refl
+
+takes-texts : (spec : PortSpec) → is_input spec ≡ true → takes_texts spec ≡ true
+takes-texts spec is = by (is_stream spec.class) is
+  where
+    by : (b : Bool) → (if b then spec.needed else not spec.array) ≡ true → (if b then spec.needed else true) ≡ true
+    by true e = e
     by false e = refl
 
 IsKind-passed : (kind : KindSpec) → is_kind kind ≡ true → IsKind kind
@@ -34,8 +41,8 @@ IsKind-passed kind is =
     let rest = and_true _ _ parts.1 in
     let few = and_true (nat_le (length kind.inputs) PORT_LIMIT) (nat_le (length kind.outputs) PORT_LIMIT) rest.0 in
     record {
-      inputs_needed = λ i spec here. (and_true _ _ (all_pass is_input kind.inputs needed.0 i spec here)).0;
-      single_options = λ i spec here option. single-option spec (and_true _ _ (all_pass is_input kind.inputs needed.0 i spec here)).1 option;
+      take_texts = λ i spec here. takes-texts spec (all_pass is_input kind.inputs needed.0 i spec here);
+      single_options = λ i spec here option. single-option spec (all_pass is_input kind.inputs needed.0 i spec here) option;
       arrays_needed = λ i spec here array. array_needed spec (all_pass is_needed_array kind.outputs needed.1 i spec here) array;
       few_inputs = grind (arith, nat_tests, few.0);
       few_outputs = grind (arith, nat_tests, few.1);

@@ -12,7 +12,7 @@ use Rattle.flow_plan.specs.declared.plan.PortRow.{PortRow}
 use Rattle.flow_plan.specs.Network.{is_stream, elements_of, ports_of}
 use Rattle.flow_net.specs.Drafts.{is_side}
 use Rattle.flow_net.specs.Finishes.{size_of, count_of, counted, front}
-use Rattle.flow_net.specs.Kinds.{automatic}
+use Rattle.flow_net.specs.Kinds.{automatic, takes_texts}
 use Rattle.flow_net.specs.Over.{carries, entries}
 use Rattle.flow_net.specs.Sound.{HasKindPorts, entries_of}
 use Rattle.flow_plan.proofs.PortNames.{length_elements_of}
@@ -164,9 +164,9 @@ module _ (p : ℕ) (s : Bool) where
       by true test rest = let h : q.spec ∷ entries_of ports p s ≡ [] = sym (on q ports test) ∙ is in cc
       by false test rest = rest (sym (off q ports test) ∙ is)
 
-  -- A port that isn't needed, behind needed ones, is the last of its side.
-  pub last-number : (ports : List DraftPort) (specs : List PortSpec) (last : PortSpec) (g : ℕ) (port : DraftPort) → entries_of ports p s ≡ specs ++ last ∷ [] → ((i : ℕ) (x : PortSpec) → slice_get specs i ≡ Some x → x.needed ≡ true)
-      → slice_get ports g ≡ Some port → is_side p s port ≡ true → port.spec.needed ≡ false → sum_by (counted p s) (take g ports) + count_of port ≡ sum_by (counted p s) ports
+  -- A port that takes no texts, behind others that do, is the last of its side.
+  pub last-number : (ports : List DraftPort) (specs : List PortSpec) (last : PortSpec) (g : ℕ) (port : DraftPort) → entries_of ports p s ≡ specs ++ last ∷ [] → ((i : ℕ) (x : PortSpec) → slice_get specs i ≡ Some x → takes_texts x ≡ true)
+      → slice_get ports g ≡ Some port → is_side p s port ≡ true → takes_texts port.spec ≡ false → sum_by (counted p s) (take g ports) + count_of port ≡ sum_by (counted p s) ports
   last-number [] specs last g port is all here side unneeded = absurd (cc)
   last-number (q ∷ ports) [] last zero port is all here side unneeded =
       let same : q ≡ port = cc in
@@ -180,11 +180,11 @@ module _ (p : ℕ) (s : Bool) where
       let test : is_side p s q ≡ true = ap (is_side p s) same ∙ side in
       let whole : q.spec ∷ entries_of ports p s ≡ x ∷ (specs ++ last ∷ []) = sym (on q ports test) ∙ is in
       let first : q.spec ≡ x = cc in
-      absurd (false≢true (sym unneeded ∙ ap (λ (r : DraftPort). r.spec.needed) (sym same) ∙ ap (λ (y : PortSpec). y.needed) first ∙ all 0 x refl))
+      absurd (false≢true (sym unneeded ∙ ap (λ (r : DraftPort). takes_texts r.spec) (sym same) ∙ ap takes_texts first ∙ all 0 x refl))
   last-number (q ∷ ports) specs last (suc g) port is all here side unneeded = by (is_side p s q) refl specs is all (λ more h each. last-number ports more last g port h each here side unneeded)
     where
-      by : (b : Bool) → is_side p s q ≡ b → (specs : List PortSpec) → entries_of (q ∷ ports) p s ≡ specs ++ last ∷ [] → ((i : ℕ) (x : PortSpec) → slice_get specs i ≡ Some x → x.needed ≡ true)
-          → ((more : List PortSpec) → entries_of ports p s ≡ more ++ last ∷ [] → ((i : ℕ) (x : PortSpec) → slice_get more i ≡ Some x → x.needed ≡ true) → sum_by (counted p s) (take g ports) + count_of port ≡ sum_by (counted p s) ports)
+      by : (b : Bool) → is_side p s q ≡ b → (specs : List PortSpec) → entries_of (q ∷ ports) p s ≡ specs ++ last ∷ [] → ((i : ℕ) (x : PortSpec) → slice_get specs i ≡ Some x → takes_texts x ≡ true)
+          → ((more : List PortSpec) → entries_of ports p s ≡ more ++ last ∷ [] → ((i : ℕ) (x : PortSpec) → slice_get more i ≡ Some x → takes_texts x ≡ true) → sum_by (counted p s) (take g ports) + count_of port ≡ sum_by (counted p s) ports)
           → sum_by (counted p s) (take (suc g) (q ∷ ports)) + count_of port ≡ sum_by (counted p s) (q ∷ ports)
       by true test [] is all rest =
           let whole : q.spec ∷ entries_of ports p s ≡ last ∷ [] = sym (on q ports test) ∙ is in
@@ -212,8 +212,8 @@ module _ (p : ℕ) (s : Bool) where
           omega (arith, sum_by-cons (counted p s) q ports, rest specs later)
       by false test specs is rest = omega (arith, sum_by-cons (counted p s) q ports, rest specs (sym (off q ports test) ∙ is))
 
-  -- A port that is needed isn't the last of its side.
-  pub not-last : (ports : List DraftPort) (specs : List PortSpec) (name : List ℕ) (g : ℕ) (port : DraftPort) → entries_of ports p s ≡ specs ++ automatic name ∷ [] → slice_get ports g ≡ Some port → is_side p s port ≡ true → port.spec.needed ≡ true
+  -- A port that takes texts isn't the last of its side.
+  pub not-last : (ports : List DraftPort) (specs : List PortSpec) (name : List ℕ) (g : ℕ) (port : DraftPort) → entries_of ports p s ≡ specs ++ automatic name ∷ [] → slice_get ports g ≡ Some port → is_side p s port ≡ true → takes_texts port.spec ≡ true
       → sum_by (counted p s) (take g ports) + count_of port + 1 ≤ sum_by (counted p s) ports
   not-last [] specs name g port is here side needed = absurd (cc)
   not-last (q ∷ ports) [] name zero port is here side needed =
@@ -221,7 +221,7 @@ module _ (p : ℕ) (s : Bool) where
       let test : is_side p s q ≡ true = ap (is_side p s) same ∙ side in
       let whole : q.spec ∷ entries_of ports p s ≡ automatic name ∷ [] = sym (on q ports test) ∙ is in
       let first : q.spec ≡ automatic name = cc in
-      absurd (false≢true (sym (ap (λ (y : PortSpec). y.needed) first) ∙ ap (λ (r : DraftPort). r.spec.needed) same ∙ needed))
+      absurd (false≢true (sym (ap takes_texts first) ∙ ap (λ (r : DraftPort). takes_texts r.spec) same ∙ needed))
   not-last (q ∷ ports) (x ∷ specs) name zero port is here side needed =
       let same : q ≡ port = cc in
       let test : is_side p s q ≡ true = ap (is_side p s) same ∙ side in

@@ -21,7 +21,7 @@ use Rattle.flow_plan.specs.Texts.{IsOfClass}
 use Rattle.flow_net.specs.Options.{FitsPort}
 use Rattle.flow_net.specs.Sound.{IsSound, on_side, text_at, is_input_at}
 use Rattle.flow_net.specs.Finishes.{first_fault, name_of, place_at, process_of, plan_of, row_of, rows_of, front, table_of}
-use Rattle.flow_plan.specs.Valid.{HasOptionPort, HasOption, FitsOption, HasOptions, IsRow, HasRows}
+use Rattle.flow_plan.specs.Valid.{HasOptionPort, NeedsOption, HasOption, FitsOption, HasOptions, IsRow, HasRows}
 use Rattle.flow_net.proofs.Wiring.{same_end}
 use Rattle.flow_net.proofs.Steps.{map_some, then_some}
 use Rattle.flow_net.proofs.Ends.{and_true, same_true, eqb_true}
@@ -177,9 +177,12 @@ module _ (draft : Draft) (sound : IsSound draft) (u : Unit {0}) (whole : first_f
           let both : Some (Given m) ≡ Some (Given o) = sym first.bound ∙ ap (binding_at draft.ports) ends ∙ second.bound in
           cc
 
-  each_option : (p i : ℕ) → HasOptionPort (plan_of draft) p i → HasOption (plan_of draft) p i
-  each_option p i port = by bound.binding binding bound.taken
+  each_option : (p i : ℕ) → NeedsOption (plan_of draft) p i → HasOption (plan_of draft) p i
+  each_option p i needs = by bound.binding binding bound.taken
     where
+      port : HasOptionPort (plan_of draft) p i
+      port = needs.port
+
       from : FromPort draft.ports p true i port.row
       from = row_from draft.ports p true i port.row (table_row p i port.table port.row port.here port.at)
 
@@ -192,15 +195,14 @@ module _ (draft : Draft) (sound : IsSound draft) (u : Unit {0}) (whole : first_f
       input : from.port.input ≡ true
       input = same_true from.port.input true side.1
 
-      needed : (from.port.spec.needed ≡ true) ⊎ (from.port.spec ≡ automatic (codes "*IN")) → from.port.spec.needed ≡ true
-      needed (inl is) = is
-      needed (inr same) = absurd (streams from.port same (ap (λ (r : PortRow). is_stream r.spec.class) from.is ∙ port.option))
+      needed : from.port.spec.needed ≡ true
+      needed = ap (λ (r : PortRow). r.spec.needed) from.is ∙ needs.needed
 
       some : 1 ≤ (row_of from.port).elements
       some = IsRow-some (row_of from.port) (subst IsRow (sym from.is) (row_sized p true i port.row from))
 
       bound : IsBound from.port.elements 0
-      bound = each_bound (name_of draft.processes from.port.process) from.port 0 (needed ((sound.ports from.number from.port from.here).input input)) (no_fault draft.processes draft.ports u whole from.number from.port from.here) (omega (arith, some))
+      bound = each_bound (name_of draft.processes from.port.process) from.port 0 needed (no_fault draft.processes draft.ports u whole from.number from.port from.here) (omega (arith, some))
 
       binding : binding_at draft.ports (record { port = from.number; element = 0 }) ≡ Some bound.binding
       binding = ap (option_and_then (λ (q : DraftPort). slice_get q.elements 0)) from.here ∙ bound.here

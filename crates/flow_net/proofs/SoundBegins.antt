@@ -1,6 +1,6 @@
 -- A draft stays sound when a process begins.
 use Rattle.std.proofs.Common.{◌≡◌, ◌≢◌, ℕ, ◌+◌, ◌<◌, ◌≤◌, List, [], ◌∷◌, ◌++◌, Option, Some, None, Ok, Bool, true, false, not, cond, ltb, refl, ap, sym, ◌∙◌, subst, zero, suc, inl, inr, ◌⊎◌, slice_get, length, arith, length-append}
-use Rattle.std.specs.Prelude.{nat_le, position, is_some, replicate, codes}
+use Rattle.std.specs.Prelude.{if◌then◌else◌, nat_le, position, is_some, replicate, codes}
 use Rattle.std.specs.List.{find, position_or_len}
 use Rattle.std.specs.Str.{bytes_eq}
 use Rattle.std.specs.Option.{option_map, option_and_then, option_map_or, ok_or}
@@ -20,7 +20,7 @@ use Rattle.flow_plan.specs.Network.{is_stream}
 use Rattle.flow_net.specs.Drafts.{Draft, refused_if, binding_at, process_named, is_stream_port}
 use Rattle.flow_net.specs.Calls.{process_at, room_of, fresh_port, fresh_ports, begun_as, with_process, kind_named, kind_for}
 use Rattle.flow_net.specs.Options.{FitsPort}
-use Rattle.flow_net.specs.Kinds.{automatic, all_inputs, all_outputs}
+use Rattle.flow_net.specs.Kinds.{automatic, all_inputs, all_outputs, takes_texts}
 use Rattle.flow_net.specs.Sound.{IsSound, IsKind, IsPort, IsListed, IsSided, text_at}
 use Rattle.flow_net.proofs.Wiring.{slice_get-append_keeps, slice_get-push_cases}
 use Rattle.flow_net.proofs.Steps.{map_some, then_some}
@@ -68,7 +68,7 @@ replicated zero x y i is = absurd (cc)
 replicated (suc n) x y zero is = cc
 replicated (suc n) x y (suc i) is = replicated n x y i is
 
-fresh_input : (n place : ℕ) (spec : PortSpec) → (spec.needed ≡ true) ⊎ (spec ≡ automatic (codes "*IN")) → (spec.array ≡ true → spec.needed ≡ true) → (is_stream spec.class ≡ false → spec.array ≡ false) → IsPort (n + 1) (fresh_port n true place spec)
+fresh_input : (n place : ℕ) (spec : PortSpec) → (takes_texts spec ≡ true) ⊎ (spec ≡ automatic (codes "*IN")) → (spec.array ≡ true → spec.needed ≡ true) → (is_stream spec.class ≡ false → spec.array ≡ false) → IsPort (n + 1) (fresh_port n true place spec)
 fresh_input n place spec needed arrays single = record {
   process = omega arith;
   room = length-replicate (room_of spec.array) Free;
@@ -88,13 +88,21 @@ fresh_output n place spec needed = record {
   output = λ side. refl;
 }
 
+-- an array that takes texts is one for packets, and so needed
+array-needed : (spec : PortSpec) → takes_texts spec ≡ true → (is_stream spec.class ≡ false → spec.array ≡ false) → spec.array ≡ true → spec.needed ≡ true
+array-needed spec takes single array = by (is_stream spec.class) takes single
+  where
+    by : (b : Bool) → (if b then spec.needed else true) ≡ true → (b ≡ false → spec.array ≡ false) → spec.needed ≡ true
+    by true takes single = takes
+    by false takes single = absurd (false≢true (sym (single refl) ∙ array))
+
 -- an entry of the inputs is one of the kind, or the automatic input
 input_entry : (kind : KindSpec) → IsKind kind → (i : ℕ) (spec : PortSpec) → slice_get (all_inputs kind.inputs) i ≡ Some spec
-    → ((spec.needed ≡ true) ⊎ (spec ≡ automatic (codes "*IN"))) × (spec.array ≡ true → spec.needed ≡ true) × (is_stream spec.class ≡ false → spec.array ≡ false)
+    → ((takes_texts spec ≡ true) ⊎ (spec ≡ automatic (codes "*IN"))) × (spec.array ≡ true → spec.needed ≡ true) × (is_stream spec.class ≡ false → spec.array ≡ false)
 input_entry kind is_kind i spec here = by (slice_get-push_cases kind.inputs (automatic (codes "*IN")) spec i here)
   where
-    by : (slice_get kind.inputs i ≡ Some spec) ⊎ ((i ≡ length kind.inputs) × (automatic (codes "*IN") ≡ spec)) → ((spec.needed ≡ true) ⊎ (spec ≡ automatic (codes "*IN"))) × (spec.array ≡ true → spec.needed ≡ true) × (is_stream spec.class ≡ false → spec.array ≡ false)
-    by (inl old) = (inl (is_kind.inputs_needed i spec old), (λ array. is_kind.inputs_needed i spec old), is_kind.single_options i spec old)
+    by : (slice_get kind.inputs i ≡ Some spec) ⊎ ((i ≡ length kind.inputs) × (automatic (codes "*IN") ≡ spec)) → ((takes_texts spec ≡ true) ⊎ (spec ≡ automatic (codes "*IN"))) × (spec.array ≡ true → spec.needed ≡ true) × (is_stream spec.class ≡ false → spec.array ≡ false)
+    by (inl old) = (inl (is_kind.take_texts i spec old), array-needed spec (is_kind.take_texts i spec old) (is_kind.single_options i spec old), is_kind.single_options i spec old)
     by (inr last) = (inr (sym last.1), (λ array. absurd (false≢true (ap (λ (s : PortSpec). s.array) last.1 ∙ array))), (λ option. sym (ap (λ (s : PortSpec). s.array) last.1)))
 
 output_entry : (kind : KindSpec) → IsKind kind → (i : ℕ) (spec : PortSpec) → slice_get (all_outputs kind.outputs) i ≡ Some spec → spec.array ≡ true → spec.needed ≡ true
@@ -203,7 +211,7 @@ module _ (ports more : List DraftPort) (processes : List DraftProcess) (links : 
         let there = text_was p k (end, text) h in
         let old = sided.text p k end text there in
         let port = port_kept end (Given k) (listed.given p k end text there).0 in
-        (ap (option_map (λ (q : DraftPort). q.input)) port ∙ old.0, subst (λ (o : Option DraftPort). FitsPort o text) (sym port) old.1, old.2, ap (λ (o : Option DraftPort). option_map_or (λ (q : DraftPort). q.spec.needed) o false) port ∙ old.3);
+        (ap (option_map (λ (q : DraftPort). q.input)) port ∙ old.0, subst (λ (o : Option DraftPort). FitsPort o text) (sym port) old.1, old.2, ap (λ (o : Option DraftPort). option_map_or (λ (q : DraftPort). takes_texts q.spec) o false) port ∙ old.3);
   }
 
 more_processes : (n : ℕ) (port : DraftPort) → IsPort n port → IsPort (n + 1) port

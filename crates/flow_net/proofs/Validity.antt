@@ -1,7 +1,7 @@
 -- The plan of a sound draft without a fault is valid.
 use Rattle.flow_limits.specs.declared.TheConstants.{CAPACITY_LIMIT, CAPACITY_SUM_LIMIT, SENDER_LIMIT, TEXT_LIMIT}
 use Rattle.std.proofs.Common.{◌≡◌, ℕ, ◌-◌, ◌<◌, ◌≤◌, List, Option, Some, Ok, Bool, true, false, map, refl, ap, sym, ◌∙◌, subst, inl, inr, ◌⊎◌, slice_get, length, arith}
-use Rattle.std.specs.Prelude.{◌==◌, nat_le, codes}
+use Rattle.std.specs.Prelude.{◌==◌, nat_le, if◌then◌else◌, codes}
 use Rattle.std.specs.declared.result.Result.{Result}
 use Rattle.std.specs.Option.{option_map, option_map_or, option_and_then}
 use Rattle.std.specs.List.{sum_by}
@@ -34,7 +34,7 @@ use Rattle.flow_net.proofs.SoundGives.{some_at}
 use Rattle.flow_net.proofs.Placed.{capacity_of-small}
 use Rattle.flow_net.proofs.Laying.{LaidOut-plan}
 use Rattle.flow_net.proofs.Lasts.{get-flat-front, Closes, closes-kind, count-automatic, last-number, not-last}
-use Rattle.flow_net.specs.Kinds.{automatic}
+use Rattle.flow_net.specs.Kinds.{automatic, takes_texts}
 use Rattle.flow_plan.specs.declared.kind.PortSpec.{PortSpec}
 use Rattle.flow_plan.specs.declared.plan.PortRow.{PortRow}
 use Rattle.flow_net.proofs.Numbers.{number_at, number-within, number-same, Numbered, number-each}
@@ -262,11 +262,11 @@ module _ (draft : Draft) (sound : IsSound draft) (u : Unit {0}) (whole : draft_f
           let side = and_true (at.port.process == p) (same at.port.input true) sided.0 in
           own_needed sided.0 sided.1 ((sound.ports at.place at.port at.here).input (same_true at.port.input true side.1))
         where
-          own_needed : is_side p true at.port ≡ true → at.element < count_of at.port → (at.port.spec.needed ≡ true) ⊎ (at.port.spec ≡ automatic (codes "*IN")) → at.port.spec.needed ≡ true
-          own_needed side below (inl is) = is
+          own_needed : is_side p true at.port ≡ true → at.element < count_of at.port → (takes_texts at.port.spec ≡ true) ⊎ (at.port.spec ≡ automatic (codes "*IN")) → at.port.spec.needed ≡ true
+          own_needed side below (inl takes) = subst (λ (b : Bool). (if b then at.port.spec.needed else true) ≡ true) (count_stream at.port at.element below).0 takes
           own_needed side below (inr auto) =
               let kind = sound.shaped.each p begun.0 begun.1 in
-              let last = last-number p true draft.ports kind.kind.inputs (automatic (codes "*IN")) at.place at.port kind.inputs (sound.kinds kind.place kind.kind kind.here).inputs_needed at.here side (ap (λ (spec : PortSpec). spec.needed) auto) in
+              let last = last-number p true draft.ports kind.kind.inputs (automatic (codes "*IN")) at.place at.port kind.inputs (sound.kinds kind.place kind.kind kind.here).take_texts at.here side (ap takes_texts auto) in
               let one = count-automatic at.port (codes "*IN") auto in
               absurd (omega (arith, own, at.number, last, one, below))
 
@@ -359,9 +359,9 @@ module _ (draft : Draft) (sound : IsSound draft) (u : Unit {0}) (whole : draft_f
       let owner = (sound.listed.given p from.2.place end texted.text text).1 in
       let located = subst (λ (q : ℕ). Located draft.ports end q true) owner (text_located p from.2.place end texted.text text from.2.stream) in
       let sided = counted_side p true located.port end.element located.within in
-      let needed : located.port.spec.needed ≡ true = sym (ap (λ (o : Option DraftPort). option_map_or (λ (q : DraftPort). q.spec.needed) o false) located.here) ∙ (sound.sided.text p from.2.place end texted.text text).3 in
+      let takes : takes_texts located.port.spec ≡ true = sym (ap (λ (o : Option DraftPort). option_map_or (λ (q : DraftPort). takes_texts q.spec) o false) located.here) ∙ (sound.sided.text p from.2.place end texted.text text).3 in
       let kind = sound.shaped.each p from.0 from.1 in
-      let below = not-last p true draft.ports kind.kind.inputs (codes "*IN") end.port located.port kind.inputs located.here sided.0 needed in
+      let below = not-last p true draft.ports kind.kind.inputs (codes "*IN") end.port located.port kind.inputs located.here sided.0 takes in
       let process = process_at_plan p texted.process texted.here in
       let same : from.0 ≡ process.0 = (let h : Some from.0 ≡ Some process.0 = sym from.1 ∙ process.1 in cc) in (
         texted.process,

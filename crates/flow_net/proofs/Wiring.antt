@@ -6,6 +6,7 @@ use Rattle.flow_net.specs.declared.draft.DraftPort.{DraftPort}
 use Rattle.flow_net.specs.declared.draft.Binding.{Binding}
 use Rattle.flow_net.specs.Drafts.{binding_at, bound, is_stream_at, is_stream_port}
 use Rattle.flow_net.specs.Calls.{process_at, takes_text}
+use Rattle.flow_net.specs.Kinds.{takes_texts}
 use Rattle.flow_net.specs.Options.{FitsPort}
 use Rattle.flow_net.specs.Sound.{is_input_at}
 use Rattle.flow_net.proofs.Places.{same_or_not}
@@ -85,9 +86,9 @@ is_stream_at-same ports after end = same_by_outline is_stream_port by ports afte
 
 -- Ports of one outline take texts alike.
 pub takes_text-same : (ports after : List DraftPort) (end : End) → SameOutline ports after → takes_text after end ≡ takes_text ports end
-takes_text-same ports after end = same_by_outline (λ o. option_map_or (λ (port : DraftPort). port.spec.needed) o false) by ports after end.port
+takes_text-same ports after end = same_by_outline (λ o. option_map_or (λ (port : DraftPort). takes_texts port.spec) o false) by ports after end.port
   where
-    by : (o : Option DraftPort) → option_map_or (λ (port : DraftPort). port.spec.needed) (option_map outline o) false ≡ option_map_or (λ (port : DraftPort). port.spec.needed) o false
+    by : (o : Option DraftPort) → option_map_or (λ (port : DraftPort). takes_texts port.spec) (option_map outline o) false ≡ option_map_or (λ (port : DraftPort). takes_texts port.spec) o false
     by None = refl
     by (Some port) = refl
 

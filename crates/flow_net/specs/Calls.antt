@@ -19,7 +19,7 @@ use Rattle.flow_plan.specs.declared.kind.PortSpec.{PortSpec}
 use Rattle.flow_plan.specs.declared.kind.PortRef.{PortRef}
 use Rattle.flow_plan.specs.declared.kind.PortClass.TheVariants.{Stream}
 use Rattle.flow_net.specs.Drafts.{Draft, ◌>>=◌, refused_if, updated, binding_at, bound, is_free, is_given, receives, process_named, port_named, element_named, is_stream_at}
-use Rattle.flow_net.specs.Kinds.{all_inputs, all_outputs}
+use Rattle.flow_net.specs.Kinds.{all_inputs, all_outputs, takes_texts}
 
 -- The kind of this name.
 abbrev pub kind_named : List KindSpec → List ℕ → Option KindSpec
@@ -181,9 +181,9 @@ after_connect draft from out capacity to into = do
   allowed ← may_join draft.ports draft.links from out to into capacity ends.0 ends.1
   Ok (joined draft ends.0 ends.1 capacity)
 
--- An input takes texts where it is needed: the automatic one isn't, and takes none.
+-- The input takes texts.
 abbrev pub takes_text : List DraftPort → End → Bool
-takes_text ports end = option_map_or (λ (port : DraftPort). port.spec.needed) (slice_get ports end.port) false
+takes_text ports end = option_map_or (λ (port : DraftPort). takes_texts port.spec) (slice_get ports end.port) false
 
 -- The input that a text is for: it is there, it takes texts, and nothing is bound to it.
 abbrev pub input_for : List DraftProcess → List DraftPort → List ℕ → PortRef → Result End PlanFault

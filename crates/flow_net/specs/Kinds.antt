@@ -29,11 +29,15 @@ all_differ (name ∷ names) = not (list_any (bytes_eq name) names) && all_differ
 abbrev pub is_needed_array : PortSpec → Bool
 is_needed_array spec = if spec.array then spec.needed else true
 
--- An input is needed, and is no array where it is an option port.
+-- An input for packets is needed, and an option port is no array. (An option port that isn't needed may be left without its text.)
 abbrev pub is_input : PortSpec → Bool
-is_input spec = spec.needed && (if is_stream spec.class then true else not spec.array)
+is_input spec = if is_stream spec.class then spec.needed else not spec.array
 
--- A kind: its inputs and its arrays are needed, its option ports are no arrays, its ports have different names on each side, and there are at most PORT_LIMIT on each.
+-- An input takes texts where it is an option port or needed. The automatic one is neither, and takes none.
+abbrev pub takes_texts : PortSpec → Bool
+takes_texts spec = if is_stream spec.class then spec.needed else true
+
+-- A kind: its inputs for packets and its arrays are needed, its option ports are no arrays, its ports have different names on each side, and there are at most PORT_LIMIT on each.
 abbrev pub is_kind : KindSpec → Bool
 is_kind kind =
     (list_all is_input kind.inputs && list_all is_needed_array kind.outputs)

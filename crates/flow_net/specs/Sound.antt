@@ -14,23 +14,23 @@ use Rattle.flow_plan.specs.declared.kind.PortClass.TheVariants.{Stream}
 use Rattle.flow_plan.specs.Network.{is_stream}
 use Rattle.flow_net.specs.Drafts.{Draft, binding_at, is_side, is_stream_at}
 use Rattle.flow_net.specs.Calls.{process_at, room_of, takes_text}
-use Rattle.flow_net.specs.Kinds.{automatic, all_inputs, all_outputs}
+use Rattle.flow_net.specs.Kinds.{automatic, all_inputs, all_outputs, takes_texts}
 use Rattle.flow_net.specs.Options.{FitsPort}
 use Rattle.flow_net.specs.Over.{carries}
 
--- What a builder rests on of a kind: an input port is needed, and so is an array, an option port is no array, and there are few of them.
+-- What a builder rests on of a kind: an input takes texts, an array is needed, an option port is no array, and there are few of them.
 pub record IsKind (kind : KindSpec) : Type 0 where
-  pub inputs_needed : (i : ℕ) (spec : PortSpec) → slice_get kind.inputs i ≡ Some spec → spec.needed ≡ true
+  pub take_texts : (i : ℕ) (spec : PortSpec) → slice_get kind.inputs i ≡ Some spec → takes_texts spec ≡ true
   pub single_options : (i : ℕ) (spec : PortSpec) → slice_get kind.inputs i ≡ Some spec → is_stream spec.class ≡ false → spec.array ≡ false
   pub arrays_needed : (i : ℕ) (spec : PortSpec) → slice_get kind.outputs i ≡ Some spec → spec.array ≡ true → spec.needed ≡ true
   pub few_inputs : length kind.inputs ≤ PORT_LIMIT
   pub few_outputs : length kind.outputs ≤ PORT_LIMIT
 
--- A port of one of this many processes: an input is needed or is the automatic one, an array is needed, an option port is no array, and an output carries packets.
+-- A port of one of this many processes: an input takes texts or is the automatic one, an array is needed, an option port is no array, and an output carries packets.
 pub record IsPort (processes : ℕ) (port : DraftPort) : Type 0 where
   pub process : port.process < processes
   pub room : length port.elements ≡ room_of port.spec.array
-  pub input : port.input ≡ true → (port.spec.needed ≡ true) ⊎ (port.spec ≡ automatic (codes "*IN"))
+  pub input : port.input ≡ true → (takes_texts port.spec ≡ true) ⊎ (port.spec ≡ automatic (codes "*IN"))
   pub array : port.spec.array ≡ true → port.spec.needed ≡ true
   pub single : is_stream port.spec.class ≡ false → port.spec.array ≡ false
   pub output : port.input ≡ false → port.spec.class ≡ Stream

@@ -8,16 +8,19 @@ use crate::fault::{PlanFault, PlanStop};
 use crate::{find, join};
 use flow_items::Text;
 use flow_limits::PROCESS_LIMIT;
-use flow_plan::PortRef;
+use flow_plan::{PortClass, PortRef};
 use std::alloc::{AllocError, Global};
 
-/// Whether an input takes a text: the automatic one takes none.
+// Whether an input takes a text: the automatic one takes none.
 fn takes_text(ports: &[DraftPort], end: End) -> bool
     ensures { result ≡ takes_text ports.now end }
 {
     match ports.get(end.port as usize) {
         None => false,
-        Some(port) => port.spec.needed,
+        Some(port) => match port.spec.class {
+            PortClass::Stream => port.spec.needed,
+            _ => true,
+        },
     }
 }
 

@@ -82,6 +82,7 @@ fn is_of_class(class: PortClass, text: &[u8]) -> bool
         PortClass::Number { least, most } => is_number(text, least, most),
         PortClass::Fields => is_fields(text),
         PortClass::File => is_file_name(text),
+        PortClass::Text => true,
     }
 }
 

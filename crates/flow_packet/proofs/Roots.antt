@@ -1,10 +1,10 @@
 -- How many packets edits of hands leave at the root.
 use Rattle.flow_limits.specs.declared.TheConstants.{HANDS_LIMIT}
 use Rattle.std.proofs.Common.{◌≡◌, ℕ, ◌≤◌, List, [], ◌∷◌, length, take, true, false, cond, ap, arith, length-append, Option, Some, None}
-use Rattle.flow_packet.specs.Tree.{Tree, packet_of, chains_of, with_chains, detach_from}
+use Rattle.flow_packet.specs.Tree.{Tree, packet_of, chains_of, with_chains, detach_from, refill}
 use Rattle.flow_packet.specs.Hands.{has_id, packet_at, without, update, put_into, detached, chain_of_root}
 use Rattle.flow_packet.specs.Held.{Held, next_id}
-use Rattle.flow_packet.specs.Edits.{IsOpen, Edit, Makes, Drops, Attaches, Detaches, edited, Edits, ComesBy}
+use Rattle.flow_packet.specs.Edits.{IsOpen, Edit, Makes, Drops, Attaches, Detaches, Reorders, edited, Edits, ComesBy}
 
 -- without a packet there are no more than before
 pub length-without : (ts : List Tree) (id : ℕ) → length (without ts id) ≤ length ts
@@ -38,6 +38,7 @@ few-edited held (Detaches root chain) opens few =
       length-update held.packets root (λ r. with_chains r (detach_from (chains_of r) chain)),
       length-take_one (chain_of_root held.packets root chain),
     )
+few-edited held (Reorders root chain order) opens few = omega (arith, few, length-update held.packets root (λ r. with_chains r (refill (chains_of r) chain order)))
 
 few-edits : (edits : List Edit) (old new : Held) → Edits old edits new → length old.packets ≤ HANDS_LIMIT → length new.packets ≤ HANDS_LIMIT
 few-edits [] old new follow few = omega (arith, few, ap (λ (h : Held). length h.packets) follow)

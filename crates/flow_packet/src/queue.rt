@@ -3,6 +3,7 @@
 ghost use Rattle.std.specs.Prelude.{◌≡◌, ◌+◌, ◌-◌, ◌^◌, ◌<◌, ◌≤◌, ◌++◌, length, min, OnOk, OnErr, IfErr, ◌∷◌, Some, [], ◌↔◌, drop, slice_get, take, ◌≢◌, IsTrue, All};
 ghost use Rattle.flow_packet.specs.Tree.{all_ids, greatest};
 ghost use Rattle.flow_packet.specs.Bare.{IsBare, LeavesBare};
+ghost use Rattle.flow_packet.specs.Sorting.{sort_key, IsStableSort};
 
 use crate::id::PacketId;
 use crate::packet::{Kind, Packet};
@@ -89,6 +90,16 @@ impl Queue {
         first
     }
 
+    // Sorts stably, by the keys of so many bytes. Without memory all stay in place.
+    pub(crate) fn sort(&mut self, bytes: Option<usize>) -> Result<(), AllocError>
+        ensures ok { OnOk result (IsStableSort bytes self.old self.new) }
+        ensures err { OnErr result (self.new ≡ self.old) }
+    {
+        drop_taken(&mut self.packets, self.taken);
+        self.taken = 0;
+        sort_packets(&mut self.packets, bytes)
+    }
+
     // Once half of the places are taken, and enough of them, the rest moves to the front at once.
     fn give_back(&mut self)
         ensures { self.new ≡ self.old }
@@ -115,6 +126,24 @@ impl Queue {
         drop_taken(&mut packets, taken);
         spend_packets(packets, count)
     }
+}
+
+// The key of a packet.
+fn sort_key(packet: &Packet, bytes: Option<usize>) -> &[u8]
+    ensures { result.now ≡ sort_key bytes packet.now }
+{
+    let text = packet.text();
+    match bytes {
+        Some(bytes) => &text[..bytes.min(text.len())],
+        None => text,
+    }
+}
+
+fn sort_packets(packets: &mut Vec<Packet>, bytes: Option<usize>) -> Result<(), AllocError>
+    ensures ok { OnOk result (IsStableSort bytes packets.old.items packets.new.items) }
+    ensures err { OnErr result (packets.new.items ≡ packets.old.items) }
+{
+    packets.sort_by(|one, other| sort_key(one, bytes).cmp(sort_key(other, bytes)))
 }
 
 // Takes a packet out of its place, where it leaves a bare one. Takes no memory.

@@ -5,7 +5,7 @@ use Rattle.std.specs.List.{All, slice_split}
 use Rattle.std.specs.Str.{IsUtf8}
 use Rattle.flow_text.specs.Text.{IsPlain, number_of}
 use Rattle.flow_plan.specs.declared.kind.PortClass.{PortClass}
-use Rattle.flow_plan.specs.declared.kind.PortClass.TheVariants.{Stream, Number, Fields, File}
+use Rattle.flow_plan.specs.declared.kind.PortClass.TheVariants.{Stream, Number, Fields, File, Text}
 
 -- Decimal digits without a superfluous leading zero, for a number within these bounds.
 abbrev pub IsNumberWithin : ℕ → ℕ → List ℕ → Type 0
@@ -19,9 +19,10 @@ IsFields text = (length (slice_split (λ b. b == 32) text) ≤ 8) × All (IsNumb
 abbrev pub IsFileName : List ℕ → Type 0
 IsFileName text = (1 ≤ length text) × (length text ≤ FILE_NAME_LIMIT) × IsUtf8 text × All (λ b. b ≢ 0) text
 
--- A text of a port's class. A stream port takes every text.
+-- A text of a port's class. A stream port takes every text, and so does an option port for any text.
 abbrev pub IsOfClass : PortClass → List ℕ → Type 0
 IsOfClass Stream text = Unit {0}
 IsOfClass (Number least most) text = IsNumberWithin least most text
 IsOfClass Fields text = IsFields text
 IsOfClass File text = IsFileName text
+IsOfClass Text text = Unit {0}

@@ -53,6 +53,11 @@ pub record HasOptionPort (n : Network) (p i : ℕ) : Type 0 where
   pub at : slice_get table.inputs i ≡ Some row
   pub option : is_stream row.spec.class ≡ false
 
+-- An option port stands at place i in the table of process p, and needs its text.
+pub record NeedsOption (n : Network) (p i : ℕ) : Type 0 where
+  pub port : HasOptionPort n p i
+  pub needed : port.row.spec.needed ≡ true
+
 -- Process p has an option for the port at place i.
 pub record HasOption (n : Network) (p i : ℕ) : Type 0 where
   pub process : Process
@@ -67,10 +72,10 @@ pub record FitsOption (n : Network) (p i : ℕ) (text : List ℕ) : Type 0 where
   pub class : IsOfClass port.row.spec.class text
   pub short : length text ≤ TEXT_LIMIT
 
--- Each option fits an option port, and each option port has just one option.
+-- Each option fits an option port, an option port that is needed has an option, and none has two.
 pub record HasOptions (n : Network) : Type 0 where
   pub fits : (p k i : ℕ) (x : Process) (text : List ℕ) → slice_get n.processes p ≡ Some x → slice_get x.options k ≡ Some (i, text) → FitsOption n p i text
-  pub each_option : (p i : ℕ) → HasOptionPort n p i → HasOption n p i
+  pub each_option : (p i : ℕ) → NeedsOption n p i → HasOption n p i
   pub one_option : (p k l i : ℕ) (x : Process) (text other : List ℕ) → slice_get n.processes p ≡ Some x → slice_get x.options k ≡ Some (i, text) → slice_get x.options l ≡ Some (i, other) → k ≡ l
 
 -- An array has from 1 to ELEMENT_LIMIT elements, and every other port has 1.
@@ -99,7 +104,7 @@ pub record IsWired (n : Network) : Type 0 where
   pub capacities : (c : ℕ) (x : Connection) → slice_get n.connections c ≡ Some x → (1 ≤ x.capacity) × (x.capacity ≤ CAPACITY_LIMIT)
   pub few_senders : (c : ℕ) (x : Connection) → slice_get n.connections c ≡ Some x → length x.senders ≤ SENDER_LIMIT
 
--- A valid plan: it is wired; names differ; only stream inputs have texts, and none has two; each output that is needed sends to a connection; each option port has its option, and
+-- A valid plan: it is wired; names differ; only stream inputs have texts, and none has two; each output that is needed sends to a connection; each option port that is needed has its option, and
 -- each port its elements; and the capacities together are within their limit.
 pub record IsValid (n : Network) : Type 0 where
   pub wired : IsWired n

@@ -165,7 +165,7 @@ first-option p k q option h given = at_four (λ j (x : Process). slice_get x.opt
 options : HasOptions balance
 options = record {
   fits = λ p k i q text h given. options-fit p k i q text h given;
-  each_option = λ p i port. each-option p i port;
+  each_option = λ p i needs. each-option p i needs.port;
   one_option = λ p k l i q text other h a b. first-option p k q (i, text) h a ∙ sym (first-option p l q (i, other) h b);
 }
 

@@ -1,5 +1,4 @@
-use Rattle.std.proofs.Common.{◌≡◌, ◌<◌, ◌≤◌, length, ◌∙◌, arith}
-use Rattle.flow_catalogue.specs.Kinds.{std_kinds}
+use Rattle.std.proofs.Common.{◌<◌, ◌≤◌, length, ◌∙◌, arith}
 use Rattle.flow_kinds.proofs.Rows.{is-row, page-more, page-whole}
 use Rattle.flow_kinds.proofs.page.kinds_page.Goals as goal
 

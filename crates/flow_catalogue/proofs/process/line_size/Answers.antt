@@ -1,0 +1,11 @@
+use Rattle.std.proofs.Common.{refl, sym, subst}
+use Rattle.std.specs.Prelude.{codes}
+use Rattle.flow_limits.specs.declared.TheConstants.{TEXT_LIMIT}
+use Rattle.flow_plan.specs.declared.kind.PortClass.TheVariants.{Number}
+use Rattle.flow_plan.specs.Texts.{IsNumberWithin}
+use Rattle.flow_catalogue.specs.Rows.{option_port}
+use Rattle.flow_catalogue.proofs.OptionTexts.{needed-text}
+use Rattle.flow_catalogue.proofs.process.line_size.Goals as goal
+
+pub number-requires : goal.number-requires
+number-requires c = subst (IsNumberWithin 1 TEXT_LIMIT) (sym c.option_text.ensures) (needed-text _ c.args.process.now.options 0 (option_port (codes "SIZE") (Number 1 TEXT_LIMIT)) c.requires refl refl refl)
