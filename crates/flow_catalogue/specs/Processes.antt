@@ -90,6 +90,8 @@ first_component kinds.Count given file = components.Count (fresh_count (given.co
 first_component kinds.LoadBalance given file = components.LoadBalance (record { count = given.outputs; depth = 0; chosen = 0; place = load_places.Waiting })
 first_component kinds.Select given file = components.Select (record { rejects = given.connected 1; place = select_places.Waiting })
 first_component kinds.Update given file = components.Update (fresh_update (number_of (given.option 0)) (given.connected 1))
+first_component kinds.Match given file = components.Match (record { pattern = given.option 0; rejects = given.connected 1 })
+first_component kinds.Replace given file = components.Replace (record { pattern = given.option 0; with = given.option 1 })
 
 -- The component is that of process p, in its first state on this file.
 pub record IsMade (network : Network) (p : ℕ) (process : Process) (file : List ℕ) (component : Std) : Type 0 where

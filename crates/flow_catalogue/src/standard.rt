@@ -7,6 +7,7 @@ ghost use Rattle.flow_catalogue.specs.Std.{std_rules};
 
 use flow_batch::Update;
 use flow_component::{Answer, Component, Shape, Stop, Wish};
+use flow_match::{Match, Replace};
 use flow_packet::Hands;
 use flow_parts::{Brackets, Count, Fill, ReadLines, Words, WriteLines};
 use flow_streams::{
@@ -34,6 +35,8 @@ pub enum Std {
     LoadBalance(LoadBalance),
     Select(Select),
     Update(Update),
+    Match(Match),
+    Replace(Replace),
 }
 
 impl Std {
@@ -77,6 +80,8 @@ impl Component for Std {
             Std::LoadBalance(component) => component.shape(),
             Std::Select(component) => component.shape(),
             Std::Update(component) => component.shape(),
+            Std::Match(component) => component.shape(),
+            Std::Replace(component) => component.shape(),
         }
     }
 
@@ -100,6 +105,8 @@ impl Component for Std {
             Std::LoadBalance(component) => component.resume(hands, answer),
             Std::Select(component) => component.resume(hands, answer),
             Std::Update(component) => component.resume(hands, answer),
+            Std::Match(component) => component.resume(hands, answer),
+            Std::Replace(component) => component.resume(hands, answer),
         }
     }
 

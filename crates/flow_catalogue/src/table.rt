@@ -29,10 +29,12 @@ pub enum StdKind {
     LoadBalance,
     Select,
     Update,
+    Match,
+    Replace,
 }
 
 // All kinds, in the order of the table.
-const ALL: [StdKind; 17] = [
+const ALL: [StdKind; 19] = [
     StdKind::ReadLines,
     StdKind::WriteLines,
     StdKind::Passthru,
@@ -50,6 +52,8 @@ const ALL: [StdKind; 17] = [
     StdKind::LoadBalance,
     StdKind::Select,
     StdKind::Update,
+    StdKind::Match,
+    StdKind::Replace,
 ];
 
 impl StdKind {
@@ -75,6 +79,8 @@ impl StdKind {
             StdKind::LoadBalance => b"LoadBalance",
             StdKind::Select => b"Select",
             StdKind::Update => b"Update",
+            StdKind::Match => b"Match",
+            StdKind::Replace => b"Replace",
         }
     }
 
@@ -278,6 +284,33 @@ fn update(alloc: Global) -> Result<KindSpec, AllocError>
     kind(alloc, b"Update", inputs, vec![in alloc; output, refused]?)
 }
 
+fn matching(alloc: Global) -> Result<KindSpec, AllocError>
+    ensures { IfOk result (λ kind. kind ≡ spec_of StdKind.Match) }
+{
+    let pattern = option(alloc, b"PATTERN", PortClass::Pattern)?;
+    let input = stream(alloc, b"IN")?;
+    let accepted = stream(alloc, b"ACC")?;
+    let rejected = optional(alloc, b"REJ")?;
+    let inputs = vec![in alloc; pattern, input]?;
+    kind(
+        alloc,
+        b"Match",
+        inputs,
+        vec![in alloc; accepted, rejected]?,
+    )
+}
+
+fn replacing(alloc: Global) -> Result<KindSpec, AllocError>
+    ensures { IfOk result (λ kind. kind ≡ spec_of StdKind.Replace) }
+{
+    let pattern = option(alloc, b"PATTERN", PortClass::Pattern)?;
+    let with = option(alloc, b"WITH", PortClass::Text)?;
+    let input = stream(alloc, b"IN")?;
+    let output = stream(alloc, b"OUT")?;
+    let inputs = vec![in alloc; pattern, with, input]?;
+    kind(alloc, b"Replace", inputs, vec![in alloc; output]?)
+}
+
 // The row of a kind.
 fn spec(alloc: Global, kind: StdKind) -> Result<KindSpec, AllocError>
     ensures { IfOk result (λ spec. spec ≡ spec_of kind) }
@@ -300,6 +333,8 @@ fn spec(alloc: Global, kind: StdKind) -> Result<KindSpec, AllocError>
         StdKind::LoadBalance => spreading(alloc, b"LoadBalance"),
         StdKind::Select => select(alloc),
         StdKind::Update => update(alloc),
+        StdKind::Match => matching(alloc),
+        StdKind::Replace => replacing(alloc),
     }
 }
 

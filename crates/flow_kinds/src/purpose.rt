@@ -29,5 +29,7 @@ pub fn purpose(kind: StdKind) -> &'static [u8]
         }
         StdKind::Select => b"accepts what begins with the text at KEY, and rejects the rest",
         StdKind::Update => b"updates masters by details, which a Collate of KEYLEN has merged",
+        StdKind::Match => b"accepts what PATTERN matches somewhere, and rejects the rest",
+        StdKind::Replace => b"replaces each match of PATTERN by the text WITH",
     }
 }

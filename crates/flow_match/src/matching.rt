@@ -1,15 +1,16 @@
 //! The component that accepts packets in whose text a pattern matches.
 
-ghost use Rattle.std.specs.Prelude.{◌≡◌};
+ghost use Rattle.std.specs.Prelude.{◌≡◌, IfOk};
 ghost use Rattle.flow_packet.specs.Held.{held_of};
 ghost use Rattle.flow_component.specs.Alone.{HoldsOnly};
 ghost use Rattle.flow_component.specs.Resumes.{Resumes};
+ghost use Rattle.flow_pattern.specs.Pattern.{IsPattern};
 ghost use Rattle.flow_match.specs.Match.{MatchState};
 
 use flow_component::{Answer, Component, Port, Shape, Stop, Wish};
 use flow_packet::{Hands, Kind, PacketId};
 use flow_pattern::Finder;
-use std::alloc::Global;
+use std::alloc::{AllocError, Global};
 use std::marker::Model;
 
 const IN: Port = Port(0);
@@ -22,10 +23,11 @@ const REJECTED: Port = Port(1);
 ///
 /// What is accepted goes to the first output. What is rejected goes to the second one, or is dropped where that isn't
 /// connected.
+// What searches lies in a box: it is large, and a component is moved at each turn.
 #[derive(Drop)]
 pub struct Match {
     alloc: Global,
-    finder: Finder,
+    finder: Box<Finder>,
     rejects: bool,
 }
 
@@ -34,21 +36,24 @@ impl Model for Match {
 
     ghost Value = { MatchState };
 
-    ghost view = { λ m. record { pattern = m.finder; rejects = m.rejects } };
+    ghost view = { λ m. record { pattern = m.finder.value; rejects = m.rejects } };
 }
 
 impl Match {
     ghost use Rattle.flow_match.specs.Match.{rejects_packet, comes};
 
-    /// The component before its first packet; `rejects` says whether its second output is connected. Takes no memory.
-    pub fn new(alloc: Global, finder: Finder, rejects: bool) -> Match
-        ensures { result ≡ record { pattern = finder; rejects = rejects } }
+    /// The component before its first packet; `rejects` says whether its second output is connected.
+    pub fn new(alloc: Global, pattern: &[u8], rejects: bool) -> Result<Match, AllocError>
+        requires pattern { IsPattern pattern.now }
+        ensures { IfOk result (λ m. m ≡ record { pattern = pattern.now; rejects = rejects }) }
     {
-        Match {
+        let finder = Finder::new(alloc, pattern)?;
+        let finder = Box::new(alloc, finder)?;
+        Ok(Match {
             alloc,
             finder,
             rejects,
-        }
+        })
     }
 
     // Passes a packet on to the second output, or drops it where that isn't connected.

@@ -1,16 +1,16 @@
 //! The component that replaces the matches of a pattern.
 
-ghost use Rattle.std.specs.Prelude.{◌≡◌, ◌<◌};
+ghost use Rattle.std.specs.Prelude.{◌≡◌, ◌<◌, IfOk};
 ghost use Rattle.flow_packet.specs.Held.{held_of};
 ghost use Rattle.flow_component.specs.Alone.{HoldsOnly};
 ghost use Rattle.flow_component.specs.Resumes.{Resumes};
-ghost use Rattle.flow_pattern.specs.Pattern.{Replacement};
+ghost use Rattle.flow_pattern.specs.Pattern.{IsPattern, Replacement};
 
 use flow_component::{Answer, Component, Fail, Port, Shape, Stop, Wish};
 use flow_limits::TEXT_LIMIT;
 use flow_packet::{Hands, Kind, PacketId};
 use flow_pattern::Replacer;
-use std::alloc::Global;
+use std::alloc::{AllocError, Global};
 use std::marker::Model;
 
 const IN: Port = Port(0);
@@ -21,10 +21,11 @@ const OUT: Port = Port(0);
 ///
 /// A packet with the new text takes the place of the old one, which is dropped with what hangs on it. A packet in which
 /// nothing matches is passed on itself.
+// What searches lies in a box: it is large, and a component is moved at each turn.
 #[derive(Drop)]
 pub struct Replace {
     alloc: Global,
-    replacer: Replacer,
+    replacer: Box<Replacer>,
 }
 
 impl Model for Replace {
@@ -32,17 +33,20 @@ impl Model for Replace {
 
     ghost Value = { Replacement };
 
-    ghost view = { λ r. r.replacer };
+    ghost view = { λ r. r.replacer.value };
 }
 
 impl Replace {
     ghost use Rattle.flow_match.specs.Replace.{renews, comes};
 
-    /// The component before its first packet. Takes no memory.
-    pub fn new(alloc: Global, replacer: Replacer) -> Replace
-        ensures { result ≡ replacer }
+    /// The component before its first packet, which puts these bytes in the place of each match.
+    pub fn new(alloc: Global, pattern: &[u8], with: &[u8]) -> Result<Replace, AllocError>
+        requires pattern { IsPattern pattern.now }
+        ensures { IfOk result (λ r. r ≡ record { pattern = pattern.now; with = with.now }) }
     {
-        Replace { alloc, replacer }
+        let replacer = Replacer::new(alloc, pattern, with)?;
+        let replacer = Box::new(alloc, replacer)?;
+        Ok(Replace { alloc, replacer })
     }
 
     // Puts a packet with this text in the place of another.

@@ -27,6 +27,9 @@ use Rattle.flow_streams.specs.Split.{IsSplit}
 use Rattle.flow_streams.specs.Selected.{IsSelected}
 use Rattle.flow_batch.specs.Around.{UpdateState}
 use Rattle.flow_batch.specs.Updated.{fresh_update, IsUpdated}
+use Rattle.flow_pattern.specs.Pattern.{Replacement}
+use Rattle.flow_match.specs.Match.{MatchState}
+use Rattle.flow_match.specs.Meanings.{IsMatched, rewritten}
 use Rattle.flow_catalogue.specs.declared.standard.Std.{Std}
 use Rattle.flow_catalogue.specs.declared.standard.Std.TheVariants as components
 use Rattle.flow_meanings.specs.Meaning.{Meaning}
@@ -105,6 +108,14 @@ select_meaning state = record { first = state ≡ fresh_select state.rejects; lo
 abbrev pub update_meaning : UpdateState → Meaning
 update_meaning state = record { first = state ≡ fresh_update state.keylen state.rep; loops = true; settled = true; makes = λ wrote x y. IsUpdated state.keylen state.rep (x 0) (y 0) (y 1) }
 
+-- A Match sends the packets that it accepts, and to its second output, where that is connected, the others.
+abbrev pub match_meaning : MatchState → Meaning
+match_meaning state = record { first = Unit {0}; loops = true; settled = true; makes = λ wrote x y. IsMatched state.pattern state.rejects (x 0) (y 0) (y 1) }
+
+-- A Replace sends its input with the matches in each Normal packet replaced.
+abbrev pub replace_meaning : Replacement → Meaning
+replace_meaning with = record { first = Unit {0}; loops = true; settled = true; makes = λ wrote x y. y 0 ≡ map (rewritten with) (x 0) }
+
 -- What a standard component means.
 abbrev pub meaning_of : Std → Meaning
 meaning_of (components.ReadLines left) = read_lines_meaning left
@@ -124,3 +135,5 @@ meaning_of (components.Count state) = count_meaning state
 meaning_of (components.LoadBalance state) = load_balance_meaning state
 meaning_of (components.Select state) = select_meaning state
 meaning_of (components.Update state) = update_meaning state
+meaning_of (components.Match state) = match_meaning state
+meaning_of (components.Replace with) = replace_meaning with
