@@ -22,7 +22,6 @@ const SIZE_LIMIT: usize = 10 << 20;
 /// The crate's own `Matcher` is borrowed from its `Regex`, so that a component can't keep one, and to make one takes
 /// some thirty times as long as to search a line. So this keeps the automaton by which a `Matcher` finds the end of a
 /// match, and makes the rest where that gives up.
-#[derive(Drop)]
 pub struct Finder {
     text: Vec<u8>,
     program: Program,
@@ -42,6 +41,17 @@ impl Model for Finder {
     ghost view = { λ f. f.text.items };
 
     ghost invariant = { λ f. IsForwardFor f.forward f.program.dfa × (stops_when_idle f.forward ≡ false) × SameCaptures (pattern_of f.program) (expression f.text.items) };
+}
+
+// Written out, so that a proof above sees one call here and not what all the fields let go.
+impl Drop for Finder {
+    fn drop(self) {
+        let Finder {
+            text: _text,
+            program: _program,
+            forward: _forward,
+        } = self;
+    }
 }
 
 // Compiles a pattern.

@@ -6,6 +6,8 @@
 mod finder;
 mod reading;
 mod replacer;
+#[cfg(test)]
+mod tests;
 
 pub use finder::Finder;
 pub use reading::is_pattern;

@@ -13,7 +13,6 @@ use std::marker::Model;
 use std::str;
 
 /// A pattern with the bytes that take the place of its matches. It is seen as the two texts.
-#[derive(Drop)]
 pub struct Replacer {
     finder: Finder,
     regex: Regex,
@@ -31,6 +30,18 @@ impl Model for Replacer {
     ghost view = { λ r. record { pattern = r.finder; with = r.with.items } };
 
     ghost invariant = { λ r. SameCaptures (regex_pattern r.regex) (expression r.finder) × IsLiteral r.template r.with.items };
+}
+
+// Written out, so that a proof above sees one call here and not what all the fields let go.
+impl Drop for Replacer {
+    fn drop(self) {
+        let Replacer {
+            finder: _finder,
+            regex: _regex,
+            with: _with,
+            template: _template,
+        } = self;
+    }
 }
 
 // Compiles a pattern.
