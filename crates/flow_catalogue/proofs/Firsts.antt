@@ -98,3 +98,4 @@ first-fits n p x kinds.Select file is = record { inputs = sym is.inputs; outputs
 first-fits n p x kinds.Update file is = record { inputs = sym is.inputs; outputs = sym is.outputs; uses = update-used n p (number_of (option_text 0 x.options)) (is.needed 0 refl); starts = λ held none. none }
 first-fits n p x kinds.Match file is = record { inputs = sym is.inputs; outputs = sym is.outputs; uses = match-used n p (option_text 0 x.options) (is.needed 0 refl); starts = λ held none. none }
 first-fits n p x kinds.Replace file is = record { inputs = sym is.inputs; outputs = sym is.outputs; uses = first-used n p (is.needed 0 refl); starts = λ held none. none }
+first-fits n p x kinds.Tally file is = record { inputs = sym is.inputs; outputs = sym is.outputs; uses = first-used n p (is.needed 0 refl); starts = λ held none. (refl, none) }

@@ -38,6 +38,7 @@ place-of kinds.Select = (15, refl)
 place-of kinds.Update = (16, refl)
 place-of kinds.Match = (17, refl)
 place-of kinds.Replace = (18, refl)
+place-of kinds.Tally = (19, refl)
 
 -- a name is among the names that have it at a place
 among : (name : List ℕ) (names : List (List ℕ)) (i : ℕ) → slice_get names i ≡ Some name → list_any (bytes_eq name) names ≡ true

@@ -40,6 +40,9 @@ use Rattle.flow_parts.specs.Count.{CountState, count_next, count_rules}
 use Rattle.flow_parts.specs.CountLaws.{count_lawful}
 use Rattle.flow_streams.specs.LoadBalance.{LoadState, load_next, load_rules}
 use Rattle.flow_streams.specs.LoadBalanceLaws.{load_lawful}
+use Rattle.flow_parts.specs.TallyState.{TallyState}
+use Rattle.flow_parts.specs.Tally.{tally_next, tally_rules}
+use Rattle.flow_parts.specs.TallyLaws.{tally_lawful}
 use Rattle.flow_streams.specs.Select.{SelectState, select_next, select_rules}
 use Rattle.flow_streams.specs.SelectLaws.{select_lawful}
 use Rattle.flow_batch.specs.Around.{UpdateState}
@@ -127,3 +130,7 @@ match_kind = record { rules = match_rules; lawful = match_lawful; next = match_n
 -- Replaces the matches of a pattern.
 abbrev pub replace_kind : Kinded Replacement
 replace_kind = record { rules = replace_rules; lawful = replace_lawful; next = replace_next; comes = λ _ _ _. refl; alone = λ _ _ _ _ is. is; written = λ _. None }
+
+-- Tells how often a text came in a row.
+abbrev pub tally_kind : Kinded TallyState
+tally_kind = record { rules = tally_rules; lawful = tally_lawful; next = tally_next; comes = λ _ _ _. refl; alone = λ _ _ _ _ is. is; written = λ _. None }

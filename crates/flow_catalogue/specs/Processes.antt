@@ -11,7 +11,7 @@ use Rattle.flow_plan.specs.Valid.{HasSender}
 use Rattle.flow_text.specs.Text.{number_of}
 use Rattle.flow_component.specs.Laws.{CanStart}
 use Rattle.flow_parts.specs.declared.words.Words.TheVariants as words_parts
-use Rattle.flow_parts.specs.Meanings.{fresh_fill, fresh_count}
+use Rattle.flow_parts.specs.Meanings.{fresh_fill, fresh_count, fresh_tally}
 use Rattle.flow_streams.specs.declared.copy.CopyPlace.TheVariants as copy_places
 use Rattle.flow_streams.specs.declared.bundle.Bundle.TheVariants as bundle_parts
 use Rattle.flow_streams.specs.declared.unbundle.Unbundle.TheVariants as unbundle_parts
@@ -92,6 +92,7 @@ first_component kinds.Select given file = components.Select (record { rejects = 
 first_component kinds.Update given file = components.Update (fresh_update (number_of (given.option 0)) (given.connected 1))
 first_component kinds.Match given file = components.Match (record { pattern = given.option 0; rejects = given.connected 1 })
 first_component kinds.Replace given file = components.Replace (record { pattern = given.option 0; with = given.option 1 })
+first_component kinds.Tally given file = components.Tally fresh_tally
 
 -- The component is that of process p, in its first state on this file.
 pub record IsMade (network : Network) (p : ℕ) (process : Process) (file : List ℕ) (component : Std) : Type 0 where

@@ -15,7 +15,7 @@ use crate::table::StdKind;
 use flow_batch::Update;
 use flow_limits::TEXT_LIMIT;
 use flow_match::{Match, Replace};
-use flow_parts::{Brackets, Count, Fill, ReadLines, Words, WriteLines};
+use flow_parts::{Brackets, Count, Fill, ReadLines, Tally, Words, WriteLines};
 use flow_plan::{Plan, Process};
 use flow_streams::{
     Bundle, Collate, Concat, Copy as CopyEach, Discard, Hoard, LoadBalance, Passthru, Select,
@@ -146,6 +146,7 @@ fn first_component(
             is_connected(plan, number, 1),
         )?)),
         StdKind::Replace => Ok(Std::Replace(replacing(alloc, process)?)),
+        StdKind::Tally => Ok(Std::Tally(Tally::new(alloc))),
     }
 }
 

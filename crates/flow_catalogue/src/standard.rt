@@ -9,7 +9,7 @@ use flow_batch::Update;
 use flow_component::{Answer, Component, Shape, Stop, Wish};
 use flow_match::{Match, Replace};
 use flow_packet::Hands;
-use flow_parts::{Brackets, Count, Fill, ReadLines, Words, WriteLines};
+use flow_parts::{Brackets, Count, Fill, ReadLines, Tally, Words, WriteLines};
 use flow_streams::{
     Bundle, Collate, Concat, Copy as CopyEach, Discard, Hoard, LoadBalance, Passthru, Select,
     Unbundle,
@@ -37,6 +37,7 @@ pub enum Std {
     Update(Update),
     Match(Match),
     Replace(Replace),
+    Tally(Tally),
 }
 
 impl Std {
@@ -82,6 +83,7 @@ impl Component for Std {
             Std::Update(component) => component.shape(),
             Std::Match(component) => component.shape(),
             Std::Replace(component) => component.shape(),
+            Std::Tally(component) => component.shape(),
         }
     }
 
@@ -107,6 +109,7 @@ impl Component for Std {
             Std::Update(component) => component.resume(hands, answer),
             Std::Match(component) => component.resume(hands, answer),
             Std::Replace(component) => component.resume(hands, answer),
+            Std::Tally(component) => component.resume(hands, answer),
         }
     }
 

@@ -31,10 +31,11 @@ pub enum StdKind {
     Update,
     Match,
     Replace,
+    Tally,
 }
 
 // All kinds, in the order of the table.
-const ALL: [StdKind; 19] = [
+const ALL: [StdKind; 20] = [
     StdKind::ReadLines,
     StdKind::WriteLines,
     StdKind::Passthru,
@@ -54,6 +55,7 @@ const ALL: [StdKind; 19] = [
     StdKind::Update,
     StdKind::Match,
     StdKind::Replace,
+    StdKind::Tally,
 ];
 
 impl StdKind {
@@ -81,6 +83,7 @@ impl StdKind {
             StdKind::Update => b"Update",
             StdKind::Match => b"Match",
             StdKind::Replace => b"Replace",
+            StdKind::Tally => b"Tally",
         }
     }
 
@@ -335,6 +338,7 @@ fn spec(alloc: Global, kind: StdKind) -> Result<KindSpec, AllocError>
         StdKind::Update => update(alloc),
         StdKind::Match => matching(alloc),
         StdKind::Replace => replacing(alloc),
+        StdKind::Tally => passing(alloc, b"Tally"),
     }
 }
 

@@ -26,6 +26,7 @@ fn the_table_has_the_standard_kinds(rt: HostRuntime) -> Result<(), Fail> {
         b"LoadBalance".as_slice(),
         b"Select".as_slice(),
         b"Update".as_slice(),
+        b"Tally".as_slice(),
     ]) {
         assert_eq!(rt; spec.name.as_slice(), name);
         assert!(rt; StdKind::named(name).is_some());

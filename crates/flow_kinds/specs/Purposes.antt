@@ -1,7 +1,7 @@
 -- What the standard kinds do, each in a line.
 use Rattle.std.specs.Prelude.{ℕ, List, codes}
 use Rattle.flow_catalogue.specs.declared.table.StdKind.{StdKind}
-use Rattle.flow_catalogue.specs.declared.table.StdKind.TheVariants.{ReadLines, WriteLines, Passthru, Words, Fill, Brackets, Copy, Concat, Collate, Discard, Bundle, Unbundle, Hoard, Count, LoadBalance, Select, Update, Match, Replace}
+use Rattle.flow_catalogue.specs.declared.table.StdKind.TheVariants.{ReadLines, WriteLines, Passthru, Words, Fill, Brackets, Copy, Concat, Collate, Discard, Bundle, Unbundle, Hoard, Count, LoadBalance, Select, Update, Match, Replace, Tally}
 
 -- What a kind does.
 abbrev pub purpose_of : StdKind → List ℕ
@@ -24,3 +24,4 @@ purpose_of Select = codes "accepts what begins with the text at KEY, and rejects
 purpose_of Update = codes "updates masters by details, which a Collate of KEYLEN has merged"
 purpose_of Match = codes "accepts what PATTERN matches somewhere, and rejects the rest"
 purpose_of Replace = codes "replaces each match of PATTERN by the text WITH"
+purpose_of Tally = codes "tells how often each text came in a row"

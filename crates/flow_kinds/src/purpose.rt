@@ -31,5 +31,6 @@ pub fn purpose(kind: StdKind) -> &'static [u8]
         StdKind::Update => b"updates masters by details, which a Collate of KEYLEN has merged",
         StdKind::Match => b"accepts what PATTERN matches somewhere, and rejects the rest",
         StdKind::Replace => b"replaces each match of PATTERN by the text WITH",
+        StdKind::Tally => b"tells how often each text came in a row",
     }
 }

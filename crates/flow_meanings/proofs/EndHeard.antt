@@ -32,6 +32,16 @@ use Rattle.flow_parts.specs.Count as count
 use Rattle.flow_parts.specs.Count.{CountState, count_rules}
 use Rattle.flow_parts.specs.CountLaws.{count_lawful}
 use Rattle.flow_parts.specs.Meanings.{fresh_count}
+use Rattle.flow_limits.specs.declared.TheConstants.{TEXT_LIMIT}
+use Rattle.flow_component.specs.declared.Fail.TheVariants.{TextLimit}
+use Rattle.std.specs.Str.{bytes_eq}
+use Rattle.flow_parts.specs.declared.tally.TallyPlace.{TallyPlace}
+use Rattle.flow_parts.specs.declared.tally.TallyPlace.TheVariants as tally_places
+use Rattle.flow_parts.specs.TallyState.{TallyState}
+use Rattle.flow_parts.specs.Tally as tally
+use Rattle.flow_parts.specs.Tally.{tally_rules}
+use Rattle.flow_parts.specs.TallyLaws.{tally_lawful}
+use Rattle.flow_parts.specs.Meanings.{fresh_tally}
 use Rattle.flow_packet.specs.Tree.{Tree, id_of}
 use Rattle.flow_packet.specs.Hands.{chain_of_root, height_at}
 use Rattle.flow_streams.specs.declared.copy.CopyPlace.{CopyPlace}
@@ -296,6 +306,60 @@ count-hears connected told run some =
     (λ p port t q s l. not-telling p.component s.is_ready.0 (subst (Counts p.component) (sym s.comes_to) (count-goes p.component.connected (record p.component { number = count.one_more (kind_at s.held.packets (id_of t)) p.component.number }) s.held (id_of t)) l))
     (λ p port t q s l. subst (Counts p.component) (sym s.comes_to) (count-on p.component.leaving p.component s.held refl) l)
     (λ p port level q s l. s.is_ready) (fresh_count connected) told run (λ l. let h : false ≡ true = l in cc) some
+
+-- Tally, which leaves once its last row was told
+
+abbrev IsTallied : TallyState → Type 0
+IsTallied state = state.place ≡ tally_places.Leaving
+
+abbrev Tallies : Outcome TallyState → Type 0
+Tallies (Wishes state held wish) = (wish ≡ wishes.Deactivate) ⊎ IsTallied state → ⊥
+Tallies (Fails state held cause) = Unit {0}
+
+tally-waiting : (state : TallyState) (wish : Wish) → state.place ≡ tally_places.Waiting → (wish ≡ wishes.Deactivate → ⊥) → (wish ≡ wishes.Deactivate) ⊎ IsTallied state → ⊥
+tally-waiting state wish w n (inl d) = n d
+tally-waiting state wish w n (inr l) = let h : tally_places.Waiting ≡ tally_places.Leaving = sym w ∙ l in cc
+
+-- a row is told, and it doesn't leave then
+tally-told : (state next : TallyState) (held left : Held) (line : List ℕ) (fits : Bool) → (IsTallied next → ⊥) → Tallies (cond fits (Wishes next (with_made left Normal line) (send_first (next_id left))) (Fails state held (TextLimit (length line))))
+tally-told state next held left line true n = λ h. elim h [ inl d ↦ absurd (cc) | inr l ↦ n l ]
+tally-told state next held left line false n = tt
+
+tally-text : (state : TallyState) (held : Held) (id times : ℕ) (text : List ℕ) → state.place ≡ tally_places.Waiting → Tallies (tally.text_comes state held id times text)
+tally-text state held id zero text w = tally-waiting (record state { times = 1; text = text }) receive_first w (λ d. cc)
+tally-text state held id (suc n) text w = by (bytes_eq text state.text)
+  where
+    by : (b : Bool) → Tallies (cond b (Wishes (record state { times = tally.one_more_time (suc n) }) (without_packet held id) receive_first) (tally.row_told state held (without_packet held id) (tally.tally_line (suc n) state.text) 1 text tally_places.Waiting))
+    by true = tally-waiting (record state { times = tally.one_more_time (suc n) }) receive_first w (λ d. cc)
+    by false = tally-told state (record { times = 1; text = text; place = tally_places.Waiting }) held (without_packet held id) (tally.tally_line (suc n) state.text) (nat_le (length (tally.tally_line (suc n) state.text)) TEXT_LIMIT) (λ l. let h : tally_places.Waiting ≡ tally_places.Leaving = l in cc)
+
+tally-mark : (state : TallyState) (held : Held) (id times : ℕ) → state.place ≡ tally_places.Waiting → Tallies (tally.mark_comes state held id times)
+tally-mark state held id zero w = tally-waiting state (send_first id) w (λ d. cc)
+tally-mark state held id (suc n) w =
+    tally-told state (record { times = 0; text = []; place = tally_places.Passing id }) held held (tally.tally_line (suc n) state.text) (nat_le (length (tally.tally_line (suc n) state.text)) TEXT_LIMIT) (λ l. let h : tally_places.Passing id ≡ tally_places.Leaving = l in cc)
+
+tally-packet : (state : TallyState) (held : Held) (id : ℕ) (kind : Kind) → state.place ≡ tally_places.Waiting → Tallies (tally.one_comes state held id kind)
+tally-packet state held id Normal w = tally-text state held id state.times (text_at held.packets id) w
+tally-packet state held id Open w = tally-mark state held id state.times w
+tally-packet state held id Close w = tally-mark state held id state.times w
+
+abbrev TallyLeft : TallyState → Outcome TallyState → Type 0
+TallyLeft old (Wishes state held wish) = (wish ≡ wishes.Deactivate) ⊎ IsTallied state → IsTallied old
+TallyLeft old (Fails state held cause) = Unit {0}
+
+tally-goes : (state : TallyState) (held : Held) (place : TallyPlace) → state.place ≡ place → TallyLeft state (tally.goes_on state held place)
+tally-goes state held tally_places.Waiting w = λ h. elim h [ inl d ↦ absurd (cc) | inr l ↦ l ]
+tally-goes state held (tally_places.Passing id) w = λ h. elim h [ inl d ↦ absurd (cc) | inr l ↦ absurd (let k : tally_places.Waiting ≡ tally_places.Leaving = l in cc) ]
+tally-goes state held tally_places.Leaving w = λ h. w
+
+-- So has a Tally.
+pub tally-hears : (told : List Happening) → EndedRun tally_rules fresh_tally told → told ≢ [] → HeardEnd 0 told
+tally-hears told run some =
+    end-heard tally_rules (λ _. refl) tally_lawful IsTallied
+    (λ p q s l. subst Tallies (sym s.comes_to) (tally-waiting p.component receive_first s.is_ready.0 (λ d. cc)) l)
+    (λ p port t q s l. subst Tallies (sym s.comes_to) (tally-packet p.component s.held (id_of t) (kind_at s.held.packets (id_of t)) s.is_ready.0) l)
+    (λ p port t q s l. subst (TallyLeft p.component) (sym s.comes_to) (tally-goes p.component s.held p.component.place refl) l)
+    (λ p port level q s l. s.is_ready) fresh_tally told run (λ l. let h : tally_places.Waiting ≡ tally_places.Leaving = l in cc) some
 
 -- LoadBalance
 

@@ -15,7 +15,7 @@ use Rattle.flow_catalogue.specs.Processes.{IsMade, Given, fields_of, first_compo
 use Rattle.flow_meanings.specs.Means.{IsFirst, is_settled}
 use Rattle.flow_meanings.specs.Outcomes.{ComponentsAreFirst}
 use Rattle.flow_meanings.proofs.Facts.{Facts}
-use Rattle.flow_meanings.proofs.LineKinds.{read_lines-facts, write_lines-facts, words-facts, fill-facts, brackets-facts, count-facts}
+use Rattle.flow_meanings.proofs.LineKinds.{read_lines-facts, write_lines-facts, words-facts, fill-facts, brackets-facts, count-facts, tally-facts}
 use Rattle.flow_meanings.proofs.StreamKinds.{passthru-facts, copy-facts, concat-facts, collate-facts, discard-facts, bundle-facts, unbundle-facts, hoard-facts, load-facts}
 use Rattle.flow_meanings.proofs.SelectKind.{select-facts}
 use Rattle.flow_meanings.proofs.UpdateKind.{update-facts}
@@ -42,6 +42,7 @@ facts-of (components.Select state) = select-facts state
 facts-of (components.Update state) = update-facts state
 facts-of (components.Match state) = match-facts state
 facts-of (components.Replace with) = replace-facts with
+facts-of (components.Tally state) = tally-facts state
 
 -- a text of fields has one at least
 some-fields : (text : List ℕ) → 1 ≤ length (fields_of text)

@@ -16,23 +16,27 @@ use Rattle.flow_parts.specs.Filling.{Filling}
 use Rattle.flow_parts.specs.declared.brackets.Brackets.{Brackets}
 use Rattle.flow_parts.specs.Brackets.{brackets_rules}
 use Rattle.flow_parts.specs.Count.{CountState, count_rules}
-use Rattle.flow_parts.specs.Meanings.{fresh_fill, fresh_count, rendered_all, words_of, bracketed, IsCounted, normals}
+use Rattle.flow_parts.specs.Meanings.{fresh_fill, fresh_count, fresh_tally, rendered_all, words_of, bracketed, IsCounted, normals}
 use Rattle.flow_parts.proofs.ReadLinesStream.{read_lines_meaning}
 use Rattle.flow_parts.proofs.WriteLinesStream.{write_lines_meaning}
 use Rattle.flow_parts.proofs.WordsStream.{words_meaning}
 use Rattle.flow_parts.proofs.FillStream.{fill_meaning}
 use Rattle.flow_parts.proofs.OneFilling.{one_filling}
+use Rattle.flow_parts.specs.TallyState.{TallyState}
+use Rattle.flow_parts.specs.Tally.{tally_rules}
+use Rattle.flow_parts.specs.Tallied.{tallied}
+use Rattle.flow_parts.proofs.TallyStream.{tally_meaning}
 use Rattle.flow_parts.proofs.BracketsStream.{brackets_meaning}
 use Rattle.flow_parts.proofs.CountStream.{count_meaning}
 use Rattle.flow_catalogue.specs.declared.standard.Std.{Std}
 use Rattle.flow_catalogue.specs.declared.standard.Std.TheVariants as components
-use Rattle.flow_catalogue.specs.Components.{brackets_kind, count_kind, fill_kind, read_lines_kind, words_kind, write_lines_kind}
+use Rattle.flow_catalogue.specs.Components.{brackets_kind, count_kind, tally_kind, fill_kind, read_lines_kind, words_kind, write_lines_kind}
 use Rattle.flow_model.specs.States.{Input, From, Text, Process}
 use Rattle.flow_model.specs.Events.{is_connected}
 use Rattle.flow_model.specs.Runs.{IsConnectedAt}
 use Rattle.flow_meanings.specs.Means.{bytes_of}
 use Rattle.flow_meanings.proofs.Over.{Over, Own, own, none-alone, single-ends, single-texts, no-texts}
-use Rattle.flow_meanings.proofs.EndHeard.{write_lines-hears, words-hears, fill-hears, brackets-hears, count-hears}
+use Rattle.flow_meanings.proofs.EndHeard.{write_lines-hears, words-hears, fill-hears, brackets-hears, count-hears, tally-hears}
 use Rattle.flow_meanings.proofs.Facts.{Facts}
 
 read_lines-own : (left : List (List ℕ)) (p : ℕ) (told : List Happening) (x : Process Std) → Over (components.ReadLines left) p told x → Own components.ReadLines read_lines_rules left told x
@@ -172,3 +176,19 @@ count-facts state = record {
     one x x' y y' ins m n zero l = passed-same state.connected (x 0) (x' 0) (y 0) (y' 0) (y 1) (y' 1) m n (ins 0)
     one x x' y y' ins m n (suc zero) l = counted-same state.connected (x 0) (x' 0) (y 0) (y' 0) (y 1) (y' 1) m n (ins 0)
     one x x' y y' ins m n (suc (suc o)) l = absurd (omega arith)
+
+tally-own : (state : TallyState) (p : ℕ) (told : List Happening) (x : Process Std) → Over (components.Tally state) p told x → Own components.Tally tally_rules state told x
+tally-own state p told x over = own components.Tally tally_kind (λ k. refl) state p told x over
+
+tally-run : (state : TallyState) (p : ℕ) (told : List Happening) (x : Process Std) → state ≡ fresh_tally → Over (components.Tally state) p told x → EndedRun tally_rules fresh_tally told
+tally-run state p told x first over = subst (λ (w : TallyState). EndedRun tally_rules w told) first (tally-own state p told x over).run
+
+-- The facts of Tally.
+pub tally-facts : (state : TallyState) → Facts (components.Tally state)
+tally-facts state = record {
+  means = λ p told x first over. tally_meaning told (tally-run state p told x first over) (over.run.end_is_last 0 (single-ends x told over.run.once over.fits)) over.run.few;
+  texts = λ p told x first over some. single-texts (components.Tally state) p told x over refl some (tally-hears told (tally-run state p told x first over) some);
+  change = λ w w' x x' y y' same m. sym (same.outputs 0 refl) ∙ m ∙ ap tallied (same.inputs 0 (omega arith));
+  wrote_none = λ p told x over none. ap bytes_of (tally-own state p told x over).is;
+  settles = λ s w w' x x' y y' ins m n. by-one tallied x x' y y' ins m n;
+}

@@ -7,8 +7,10 @@ use Rattle.flow_parts.specs.declared.words.Words.{Words}
 use Rattle.flow_parts.specs.declared.words.Words.TheVariants as words_parts
 use Rattle.flow_parts.specs.FillState.{FillState}
 use Rattle.flow_parts.specs.Filling.{Filling}
+use Rattle.flow_parts.specs.TallyState.{TallyState}
+use Rattle.flow_parts.specs.Tallied.{tallied}
 use Rattle.flow_parts.specs.Count.{CountState}
-use Rattle.flow_parts.specs.Meanings.{rendered_all, words_of, bracketed, fresh_fill, fresh_count, IsCounted}
+use Rattle.flow_parts.specs.Meanings.{rendered_all, words_of, bracketed, fresh_fill, fresh_count, fresh_tally, IsCounted}
 use Rattle.flow_streams.specs.Copy.{CopyState}
 use Rattle.flow_streams.specs.Concat.{ConcatState}
 use Rattle.flow_streams.specs.CollateState.{CollateState}
@@ -116,6 +118,10 @@ match_meaning state = record { first = Unit {0}; loops = true; settled = true; m
 abbrev pub replace_meaning : Replacement → Meaning
 replace_meaning with = record { first = Unit {0}; loops = true; settled = true; makes = λ wrote x y. y 0 ≡ map (rewritten with) (x 0) }
 
+-- A Tally sends its input with each row of Normal packets with one text replaced by what is told of it.
+abbrev pub tally_meaning : TallyState → Meaning
+tally_meaning state = record { first = state ≡ fresh_tally; loops = true; settled = true; makes = λ wrote x y. y 0 ≡ tallied (x 0) }
+
 -- What a standard component means.
 abbrev pub meaning_of : Std → Meaning
 meaning_of (components.ReadLines left) = read_lines_meaning left
@@ -137,3 +143,4 @@ meaning_of (components.Select state) = select_meaning state
 meaning_of (components.Update state) = update_meaning state
 meaning_of (components.Match state) = match_meaning state
 meaning_of (components.Replace with) = replace_meaning with
+meaning_of (components.Tally state) = tally_meaning state

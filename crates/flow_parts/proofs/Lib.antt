@@ -7,4 +7,5 @@ pub mod OneFilling
 pub mod FillStream
 pub mod WordsStream
 pub mod CountStream
+pub mod TallyStream
 pub mod BracketsStream

@@ -8,6 +8,10 @@ pub mod FillState
 pub mod Fill
 pub mod FillLaws
 pub mod Filling
+pub mod TallyState
+pub mod Tally
+pub mod TallyLaws
+pub mod Tallied
 pub mod Words
 pub mod WordsLaws
 pub mod Count

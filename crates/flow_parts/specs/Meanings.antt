@@ -20,6 +20,10 @@ use Rattle.flow_parts.specs.Count.{CountState, count_rules}
 use Rattle.flow_parts.specs.FillState.{FillState}
 use Rattle.flow_parts.specs.Fill.{fill_rules}
 use Rattle.flow_parts.specs.Filling.{Filling}
+use Rattle.flow_parts.specs.declared.tally.TallyPlace.TheVariants as tally_places
+use Rattle.flow_parts.specs.TallyState.{TallyState}
+use Rattle.flow_parts.specs.Tally.{tally_rules}
+use Rattle.flow_parts.specs.Tallied.{tallied}
 
 -- A stream as the bytes of a file: each packet as a line.
 abbrev pub rendered_all : List Tree → List ℕ
@@ -105,3 +109,11 @@ bracketed packet = bracketed_by (kind_of packet) packet
 -- A Brackets sends what it gets, each Normal packet that names a bracket replaced by that.
 abbrev pub BracketsMeaning : Type 0 → Type 0
 BracketsMeaning K = (component : K) (told : List Happening) → EndedRun brackets_rules component told → sent 0 told ≡ map bracketed (got 0 told)
+
+-- A Tally at its start: it has no row in hand.
+abbrev pub fresh_tally : TallyState
+fresh_tally = record { times = 0; text = []; place = tally_places.Waiting }
+
+-- A Tally sends what it gets, each row of Normal packets with one text replaced by what is told of it.
+abbrev pub TallyMeaning : Type 0
+TallyMeaning = (told : List Happening) → EndedRun tally_rules fresh_tally told → EndIsLast 0 told → length told ≤ TURN_LIMIT → sent 0 told ≡ tallied (got 0 told)

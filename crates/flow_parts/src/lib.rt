@@ -9,6 +9,7 @@ mod fill;
 mod meanings;
 mod outcomes;
 mod read_lines;
+mod tally;
 #[cfg(test)]
 mod tests;
 mod words;
@@ -19,9 +20,11 @@ pub use count::Count;
 pub use fill::{Fill, FillPlace};
 pub use meanings::{
     brackets_keeps_its_meaning, count_keeps_its_meaning, fill_keeps_its_meaning,
-    read_lines_keeps_its_meaning, words_keeps_its_meaning, write_lines_keeps_its_meaning,
+    read_lines_keeps_its_meaning, tally_keeps_its_meaning, words_keeps_its_meaning,
+    write_lines_keeps_its_meaning,
 };
 pub use outcomes::each_comes_to_one_outcome;
 pub use read_lines::ReadLines;
+pub use tally::{Tally, TallyPlace};
 pub use words::Words;
 pub use write_lines::WriteLines;

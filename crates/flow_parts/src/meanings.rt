@@ -1,5 +1,5 @@
 //! What the components make of their streams: each law is the contract of a function that does nothing.
-ghost use Rattle.flow_parts.specs.Meanings.{BracketsMeaning, CountMeaning, FillMeaning, OneFilling, ReadLinesMeaning, WordsMeaning, WriteLinesMeaning};
+ghost use Rattle.flow_parts.specs.Meanings.{BracketsMeaning, CountMeaning, FillMeaning, OneFilling, ReadLinesMeaning, TallyMeaning, WordsMeaning, WriteLinesMeaning};
 ghost use Rattle.flow_parts.specs.declared.brackets.Brackets.{Brackets};
 
 /// What a ReadLines that has run to its end has sent is a Normal packet for each of its lines.
@@ -32,4 +32,9 @@ pub fn count_keeps_its_meaning()
 /// What a Brackets has sent is what it got, with each Normal packet that names a bracket replaced by that.
 pub fn brackets_keeps_its_meaning()
     ensures { BracketsMeaning Brackets }
+{}
+
+/// What a Tally has sent is what it got, with each row of Normal packets with one text replaced by a packet that tells how many they were.
+pub fn tally_keeps_its_meaning()
+    ensures { TallyMeaning }
 {}
