@@ -293,13 +293,13 @@ fn matching(alloc: Global) -> Result<KindSpec, AllocError>
     let pattern = option(alloc, b"PATTERN", PortClass::Pattern)?;
     let input = stream(alloc, b"IN")?;
     let accepted = stream(alloc, b"ACC")?;
-    let rejected = optional(alloc, b"REJ")?;
+    let others = optional(alloc, b"REJ")?;
     let inputs = vec![in alloc; pattern, input]?;
     kind(
         alloc,
         b"Match",
         inputs,
-        vec![in alloc; accepted, rejected]?,
+        vec![in alloc; accepted, others]?,
     )
 }
 
