@@ -7,4 +7,4 @@ use Rattle.flow_catalogue.proofs.OptionTexts.{needed-text}
 use Rattle.flow_catalogue.proofs.process.replacing.Goals as goal
 
 pub new-requires : goal.new-requires
-new-requires c = subst IsPattern (sym c.option_text.ensures) (needed-text _ c.args.process.now.options 0 (option_port (codes "PATTERN") Pattern) c.requires.options refl refl refl)
+new-requires c = record { pattern = subst IsPattern (sym c.option_text.ensures) (needed-text _ c.args.process.now.options 0 (option_port (codes "PATTERN") Pattern) c.requires.options refl refl refl) }
