@@ -23,8 +23,8 @@ pub enum Wanted<'a> {
     Other(u64, Mention<'a>, Side),
     /// One that mentions an element of an array that is behind this one.
     Behind(&'a [u8], &'a [u8], u32),
-    /// One that gives a text to a port of this process.
-    Text(&'a [u8]),
+    /// One that gives a text to this port of this process.
+    Text(&'a [u8], &'a [u8]),
     /// One that gives a connection to this input a capacity.
     Capacity(Mention<'a>),
     /// The beginning of a subnet of this name.
@@ -132,7 +132,9 @@ fn is_wanted(found: &Found<'_>, wanted: &Wanted<'_>) -> bool {
             is_behind(said.from, process, port, *element)
                 || is_behind(said.to, process, port, *element)
         }
-        Wanted::Text(process) => said.tag == Tag::Initial && is_process(said.to, process),
+        Wanted::Text(process, port) => {
+            said.tag == Tag::Initial && is_port(said.to, process, port)
+        }
         Wanted::Capacity(input) => gives_capacity(said, input),
         Wanted::Subnet(name) => said.tag == Tag::Subnet && said.name == *name,
     }

@@ -199,7 +199,7 @@ pub fn put_missing(
     };
     if let Some(option) = port(kind, Side::Input, name) {
         if is_option(option) {
-            put_other_text(net, page, process)?;
+            put_other_text(net, page, process, kind)?;
             page.push_str("This port wants a text, as ")?;
             put_text_line(page, option, home.process)?;
             return put_option(page, &option.name, option.class);
@@ -217,19 +217,27 @@ pub fn put_missing(
     page.push_str(" -> PORT NAME; a process of the kind Discard takes what nobody wants.\n")
 }
 
-// A text that a process without its option is given at another port.
-fn put_other_text(net: Net<'_>, page: &mut String, process: &[u8]) -> Result<(), AllocError> {
+// The first text that a process without its option is given at a port for packets.
+fn put_other_text(
+    net: Net<'_>,
+    page: &mut String,
+    process: &[u8],
+    kind: &KindSpec,
+) -> Result<(), AllocError> {
     let home = net.home(process)?;
-    let Some(found) = net.find(&home, &Wanted::Text(home.process))? else {
-        return Ok(());
-    };
-    put_found(page, &found)?;
-    let Some(to) = found.said.to else {
-        return Ok(());
-    };
-    write!(page, "The text of line {} goes to ", found.number)?;
-    put_word(page, to.port)?;
-    page.push_str(", which takes packets. ")
+    for port in kind.inputs.as_slice() {
+        if is_option(port) {
+            continue;
+        }
+        let wanted = Wanted::Text(home.process, port.name.as_slice());
+        if let Some(found) = net.find(&home, &wanted)? {
+            put_found(page, &found)?;
+            write!(page, "The text of line {} goes to ", found.number)?;
+            put_word(page, port.name.as_slice())?;
+            return page.push_str(", which takes packets. ");
+        }
+    }
+    Ok(())
 }
 
 /// Elements of an array without one before them.

@@ -14,6 +14,7 @@ use Rattle.flow_parts.specs.Count.{count_uses}
 use Rattle.flow_parts.specs.Meanings.{fresh_count}
 use Rattle.flow_streams.specs.declared.select.SelectPlace.TheVariants.{Waiting}
 use Rattle.flow_streams.specs.Select.{select_uses}
+use Rattle.flow_pick.specs.Picking.{parting_uses}
 use Rattle.flow_batch.specs.Update.{update_uses}
 use Rattle.flow_batch.specs.Updated.{fresh_update}
 use Rattle.flow_match.specs.Match.{match_uses}
@@ -67,6 +68,12 @@ update-used network p keylen has zero used = has
 update-used network p keylen has (suc zero) used = connected-sends network p 1 used
 update-used network p keylen has (suc (suc o)) used = absurd (other-than o 0 1 (omega arith) (omega arith) (is_connected network p 1) used)
 
+-- and one that parts its stream
+parting-used : (network : Network) (p : ℕ) → HasSender network p 0 → (o : ℕ) → IsTrue (parting_uses (is_connected network p 1) o) → HasSender network p o
+parting-used network p has zero used = has
+parting-used network p has (suc zero) used = connected-sends network p 1 used
+parting-used network p has (suc (suc o)) used = absurd (other-than o 0 1 (omega arith) (omega arith) (is_connected network p 1) used)
+
 match-used : (network : Network) (p : ℕ) (pattern : List ℕ) → HasSender network p 0 → (o : ℕ) → IsTrue (match_uses (record { pattern = pattern; rejects = is_connected network p 1 }) o) → HasSender network p o
 match-used network p pattern has zero used = has
 match-used network p pattern has (suc zero) used = connected-sends network p 1 used
@@ -96,6 +103,9 @@ first-fits n p x kinds.Count file is = record { inputs = sym is.inputs; outputs 
 first-fits n p x kinds.LoadBalance file is = record { inputs = sym is.inputs; outputs = refl; uses = λ o used. is.needed o (range-at 0 x.outputs o (below o x.outputs used)); starts = λ held none. (is.outputs.0, refl, none) }
 first-fits n p x kinds.Select file is = record { inputs = sym is.inputs; outputs = sym is.outputs; uses = select-used n p (is.needed 0 refl); starts = λ held none. (refl, none) }
 first-fits n p x kinds.Update file is = record { inputs = sym is.inputs; outputs = sym is.outputs; uses = update-used n p (number_of (option_text 0 x.options)) (is.needed 0 refl); starts = λ held none. none }
+first-fits n p x kinds.Tally file is = record { inputs = sym is.inputs; outputs = sym is.outputs; uses = first-used n p (is.needed 0 refl); starts = λ held none. (refl, none) }
+first-fits n p x kinds.Unique file is = record { inputs = sym is.inputs; outputs = sym is.outputs; uses = parting-used n p (is.needed 0 refl); starts = λ held none. none }
+first-fits n p x kinds.Head file is = record { inputs = sym is.inputs; outputs = sym is.outputs; uses = parting-used n p (is.needed 0 refl); starts = λ held none. none }
+first-fits n p x kinds.Tail file is = record { inputs = sym is.inputs; outputs = sym is.outputs; uses = parting-used n p (is.needed 0 refl); starts = λ held none. none }
 first-fits n p x kinds.Match file is = record { inputs = sym is.inputs; outputs = sym is.outputs; uses = match-used n p (option_text 0 x.options) (is.needed 0 refl); starts = λ held none. none }
 first-fits n p x kinds.Replace file is = record { inputs = sym is.inputs; outputs = sym is.outputs; uses = first-used n p (is.needed 0 refl); starts = λ held none. none }
-first-fits n p x kinds.Tally file is = record { inputs = sym is.inputs; outputs = sym is.outputs; uses = first-used n p (is.needed 0 refl); starts = λ held none. (refl, none) }

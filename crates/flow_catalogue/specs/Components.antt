@@ -45,6 +45,13 @@ use Rattle.flow_parts.specs.Tally.{tally_next, tally_rules}
 use Rattle.flow_parts.specs.TallyLaws.{tally_lawful}
 use Rattle.flow_streams.specs.Select.{SelectState, select_next, select_rules}
 use Rattle.flow_streams.specs.SelectLaws.{select_lawful}
+use Rattle.flow_pick.specs.Unique.{UniqueState, unique_next, unique_rules}
+use Rattle.flow_pick.specs.UniqueLaws.{unique_lawful}
+use Rattle.flow_pick.specs.Head.{HeadState, head_next, head_rules}
+use Rattle.flow_pick.specs.HeadLaws.{head_lawful}
+use Rattle.flow_pick.specs.TailState.{TailState}
+use Rattle.flow_pick.specs.Tail.{tail_next, tail_rules}
+use Rattle.flow_pick.specs.TailLaws.{tail_lawful}
 use Rattle.flow_batch.specs.Around.{UpdateState}
 use Rattle.flow_batch.specs.Update.{update_next, update_rules}
 use Rattle.flow_batch.specs.UpdateLaws.{update_lawful}
@@ -134,3 +141,15 @@ replace_kind = record { rules = replace_rules; lawful = replace_lawful; next = r
 -- Tells how often a text came in a row.
 abbrev pub tally_kind : Kinded TallyState
 tally_kind = record { rules = tally_rules; lawful = tally_lawful; next = tally_next; comes = λ _ _ _. refl; alone = λ _ _ _ _ is. is; written = λ _. None }
+
+-- Drops repeats.
+abbrev pub unique_kind : Kinded UniqueState
+unique_kind = record { rules = unique_rules; lawful = unique_lawful; next = unique_next; comes = λ _ _ _. refl; alone = λ _ _ _ _ is. is; written = λ _. None }
+
+-- Passes on the first packets of each stretch.
+abbrev pub head_kind : Kinded HeadState
+head_kind = record { rules = head_rules; lawful = head_lawful; next = head_next; comes = λ _ _ _. refl; alone = λ _ _ _ _ is. is; written = λ _. None }
+
+-- Passes on the last packets of each stretch.
+abbrev pub tail_kind : Kinded TailState
+tail_kind = record { rules = tail_rules; lawful = tail_lawful; next = tail_next; comes = λ _ _ _. refl; alone = λ _ _ _ _ is. is; written = λ _. None }

@@ -18,6 +18,9 @@ use Rattle.flow_streams.specs.declared.unbundle.Unbundle.TheVariants as unbundle
 use Rattle.flow_streams.specs.declared.load_balance.LoadPlace.TheVariants as load_places
 use Rattle.flow_streams.specs.declared.select.SelectPlace.TheVariants as select_places
 use Rattle.flow_streams.specs.Meanings.{fresh_collate}
+use Rattle.flow_pick.specs.Unique.{fresh_unique}
+use Rattle.flow_pick.specs.Head.{fresh_head}
+use Rattle.flow_pick.specs.Tail.{fresh_tail}
 use Rattle.flow_batch.specs.Updated.{fresh_update}
 use Rattle.flow_catalogue.specs.declared.table.StdKind.{StdKind}
 use Rattle.flow_catalogue.specs.declared.table.StdKind.TheVariants as kinds
@@ -90,9 +93,12 @@ first_component kinds.Count given file = components.Count (fresh_count (given.co
 first_component kinds.LoadBalance given file = components.LoadBalance (record { count = given.outputs; depth = 0; chosen = 0; place = load_places.Waiting })
 first_component kinds.Select given file = components.Select (record { rejects = given.connected 1; place = select_places.Waiting })
 first_component kinds.Update given file = components.Update (fresh_update (number_of (given.option 0)) (given.connected 1))
+first_component kinds.Tally given file = components.Tally fresh_tally
+first_component kinds.Unique given file = components.Unique (fresh_unique (given.connected 1))
+first_component kinds.Head given file = components.Head (fresh_head (number_of (given.option 0)) (given.connected 1))
+first_component kinds.Tail given file = components.Tail (fresh_tail (number_of (given.option 0)) (given.connected 1))
 first_component kinds.Match given file = components.Match (record { pattern = given.option 0; rejects = given.connected 1 })
 first_component kinds.Replace given file = components.Replace (record { pattern = given.option 0; with = given.option 1 })
-first_component kinds.Tally given file = components.Tally fresh_tally
 
 -- The component is that of process p, in its first state on this file.
 pub record IsMade (network : Network) (p : ℕ) (process : Process) (file : List ℕ) (component : Std) : Type 0 where

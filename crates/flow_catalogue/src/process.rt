@@ -16,6 +16,7 @@ use flow_batch::Update;
 use flow_limits::TEXT_LIMIT;
 use flow_match::{Match, Replace};
 use flow_parts::{Brackets, Count, Fill, ReadLines, Tally, Words, WriteLines};
+use flow_pick::{Head, Tail, Unique};
 use flow_plan::{Plan, Process};
 use flow_streams::{
     Bundle, Collate, Concat, Copy as CopyEach, Discard, Hoard, LoadBalance, Passthru, Select,
@@ -67,6 +68,14 @@ fn key_length(process: &Process) -> u32
     ensures most { result ≤ 255 }
 {
     number_in(option_text(process, 0), 1, 255) as u32
+}
+
+// A Tail has the same input ports.
+fn packet_count(process: &Process) -> u32
+    requires { HasOptions (spec_of StdKind.Head).inputs process.now.options }
+    ensures { result ≡ number_of (option_text 0 process.now.options) }
+{
+    number_in(option_text(process, 0), 0, u32::MAX as u64) as u32
 }
 
 /// The file that a process reads or writes; none where its kind has none. Takes no memory.
@@ -147,6 +156,15 @@ fn first_component(
         )?)),
         StdKind::Replace => Ok(Std::Replace(replacing(alloc, process)?)),
         StdKind::Tally => Ok(Std::Tally(Tally::new(alloc))),
+        StdKind::Unique => Ok(Std::Unique(Unique::new(alloc, is_connected(plan, number, 1)))),
+        StdKind::Head => Ok(Std::Head(Head::new(
+            packet_count(process),
+            is_connected(plan, number, 1),
+        ))),
+        StdKind::Tail => Ok(Std::Tail(Tail::new(
+            packet_count(process),
+            is_connected(plan, number, 1),
+        ))),
     }
 }
 

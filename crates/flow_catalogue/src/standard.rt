@@ -10,6 +10,7 @@ use flow_component::{Answer, Component, Shape, Stop, Wish};
 use flow_match::{Match, Replace};
 use flow_packet::Hands;
 use flow_parts::{Brackets, Count, Fill, ReadLines, Tally, Words, WriteLines};
+use flow_pick::{Head, Tail, Unique};
 use flow_streams::{
     Bundle, Collate, Concat, Copy as CopyEach, Discard, Hoard, LoadBalance, Passthru, Select,
     Unbundle,
@@ -35,9 +36,12 @@ pub enum Std {
     LoadBalance(LoadBalance),
     Select(Select),
     Update(Update),
+    Tally(Tally),
+    Unique(Unique),
+    Head(Head),
+    Tail(Tail),
     Match(Match),
     Replace(Replace),
-    Tally(Tally),
 }
 
 impl Std {
@@ -81,9 +85,12 @@ impl Component for Std {
             Std::LoadBalance(component) => component.shape(),
             Std::Select(component) => component.shape(),
             Std::Update(component) => component.shape(),
+            Std::Tally(component) => component.shape(),
+            Std::Unique(component) => component.shape(),
+            Std::Head(component) => component.shape(),
+            Std::Tail(component) => component.shape(),
             Std::Match(component) => component.shape(),
             Std::Replace(component) => component.shape(),
-            Std::Tally(component) => component.shape(),
         }
     }
 
@@ -107,9 +114,12 @@ impl Component for Std {
             Std::LoadBalance(component) => component.resume(hands, answer),
             Std::Select(component) => component.resume(hands, answer),
             Std::Update(component) => component.resume(hands, answer),
+            Std::Tally(component) => component.resume(hands, answer),
+            Std::Unique(component) => component.resume(hands, answer),
+            Std::Head(component) => component.resume(hands, answer),
+            Std::Tail(component) => component.resume(hands, answer),
             Std::Match(component) => component.resume(hands, answer),
             Std::Replace(component) => component.resume(hands, answer),
-            Std::Tally(component) => component.resume(hands, answer),
         }
     }
 

@@ -29,13 +29,16 @@ pub enum StdKind {
     LoadBalance,
     Select,
     Update,
+    Tally,
+    Unique,
+    Head,
+    Tail,
     Match,
     Replace,
-    Tally,
 }
 
 // All kinds, in the order of the table.
-const ALL: [StdKind; 20] = [
+const ALL: [StdKind; 23] = [
     StdKind::ReadLines,
     StdKind::WriteLines,
     StdKind::Passthru,
@@ -53,9 +56,12 @@ const ALL: [StdKind; 20] = [
     StdKind::LoadBalance,
     StdKind::Select,
     StdKind::Update,
+    StdKind::Tally,
+    StdKind::Unique,
+    StdKind::Head,
+    StdKind::Tail,
     StdKind::Match,
     StdKind::Replace,
-    StdKind::Tally,
 ];
 
 impl StdKind {
@@ -81,9 +87,12 @@ impl StdKind {
             StdKind::LoadBalance => b"LoadBalance",
             StdKind::Select => b"Select",
             StdKind::Update => b"Update",
+            StdKind::Tally => b"Tally",
+            StdKind::Unique => b"Unique",
+            StdKind::Head => b"Head",
+            StdKind::Tail => b"Tail",
             StdKind::Match => b"Match",
             StdKind::Replace => b"Replace",
-            StdKind::Tally => b"Tally",
         }
     }
 
@@ -314,6 +323,32 @@ fn replacing(alloc: Global) -> Result<KindSpec, AllocError>
     kind(alloc, b"Replace", inputs, vec![in alloc; output]?)
 }
 
+fn unique(alloc: Global) -> Result<KindSpec, AllocError>
+    ensures { IfOk result (λ kind. kind ≡ spec_of StdKind.Unique) }
+{
+    let input = stream(alloc, b"IN")?;
+    let output = stream(alloc, b"OUT")?;
+    let repeats = optional(alloc, b"REP")?;
+    let inputs = vec![in alloc; input]?;
+    kind(alloc, b"Unique", inputs, vec![in alloc; output, repeats]?)
+}
+
+// A row with a number of packets, one input for packets, an output for so many of them, and one for the rest.
+fn counting(alloc: Global, name: &[u8]) -> Result<KindSpec, AllocError>
+    ensures { IfOk result (λ kind. kind ≡ row name.now (option_port (codes "COUNT") (PortClass.Number 0 4294967295) ∷ stream_port (codes "IN") ∷ []) (stream_port (codes "OUT") ∷ optional_port (codes "REST") ∷ [])) }
+{
+    let numbers = PortClass::Number {
+        least: 0,
+        most: u32::MAX as u64,
+    };
+    let count = option(alloc, b"COUNT", numbers)?;
+    let input = stream(alloc, b"IN")?;
+    let output = stream(alloc, b"OUT")?;
+    let rest = optional(alloc, b"REST")?;
+    let inputs = vec![in alloc; count, input]?;
+    kind(alloc, name, inputs, vec![in alloc; output, rest]?)
+}
+
 // The row of a kind.
 fn spec(alloc: Global, kind: StdKind) -> Result<KindSpec, AllocError>
     ensures { IfOk result (λ spec. spec ≡ spec_of kind) }
@@ -336,9 +371,12 @@ fn spec(alloc: Global, kind: StdKind) -> Result<KindSpec, AllocError>
         StdKind::LoadBalance => spreading(alloc, b"LoadBalance"),
         StdKind::Select => select(alloc),
         StdKind::Update => update(alloc),
+        StdKind::Tally => passing(alloc, b"Tally"),
+        StdKind::Unique => unique(alloc),
+        StdKind::Head => counting(alloc, b"Head"),
+        StdKind::Tail => counting(alloc, b"Tail"),
         StdKind::Match => matching(alloc),
         StdKind::Replace => replacing(alloc),
-        StdKind::Tally => passing(alloc, b"Tally"),
     }
 }
 

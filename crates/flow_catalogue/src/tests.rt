@@ -27,6 +27,9 @@ fn the_table_has_the_standard_kinds(rt: HostRuntime) -> Result<(), Fail> {
         b"Select".as_slice(),
         b"Update".as_slice(),
         b"Tally".as_slice(),
+        b"Unique".as_slice(),
+        b"Head".as_slice(),
+        b"Tail".as_slice(),
     ]) {
         assert_eq!(rt; spec.name.as_slice(), name);
         assert!(rt; StdKind::named(name).is_some());

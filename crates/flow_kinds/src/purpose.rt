@@ -29,8 +29,11 @@ pub fn purpose(kind: StdKind) -> &'static [u8]
         }
         StdKind::Select => b"accepts what begins with the text at KEY, and rejects the rest",
         StdKind::Update => b"updates masters by details, which a Collate of KEYLEN has merged",
+        StdKind::Tally => b"tells how often each text came in a row",
+        StdKind::Unique => b"drops what has the text of the packet before it",
+        StdKind::Head => b"passes on the first COUNT packets between two brackets",
+        StdKind::Tail => b"passes on the last COUNT packets between two brackets",
         StdKind::Match => b"accepts what PATTERN matches somewhere, and rejects the rest",
         StdKind::Replace => b"replaces each match of PATTERN by the text WITH",
-        StdKind::Tally => b"tells how often each text came in a row",
     }
 }

@@ -12,7 +12,7 @@ fn the_page_has_each_kind_of_port(rt: HostRuntime) -> Result<(), Fail> {
     );
     assert!(rt;
         page.ends_with(
-            b"\nUpdate: updates masters by details, which a Collate of KEYLEN has merged\n  option KEYLEN: a number from 1 to 255\n  input IN\n  output OUT\n  output REP: may be left open\nTally: tells how often each text came in a row\n  input IN\n  output OUT\n"
+            b"\nTail: passes on the last COUNT packets between two brackets\n  option COUNT: a number from 0 to 4294967295\n  input IN\n  output OUT\n  output REST: may be left open\n"
         )
     );
     let parts: [&[u8]; 4] = [

@@ -196,6 +196,9 @@ std-own (components.LoadBalance state) port is = grind (arith, nat_tests)
 std-own (components.Select state) port is = either-own 1 0 port state.rejects is (omega arith) (omega arith)
 std-own (components.Update state) port is = either-own 1 0 port state.rep is (omega arith) (omega arith)
 std-own (components.Tally state) port is = first-own port is
+std-own (components.Unique state) port is = either-own 1 0 port state.rep is (omega arith) (omega arith)
+std-own (components.Head state) port is = either-own 1 0 port state.rest is (omega arith) (omega arith)
+std-own (components.Tail state) port is = either-own 1 0 port state.rest is (omega arith) (omega arith)
 
 -- Where a sender has put something, it has entries.
 some-entry : (sender : Sender) (puts : List Put) (k : ℕ) (put : Put) → slice_get puts k ≡ Some put → put.sender.process ≡ sender.process → put.sender.output ≡ sender.output → entries_by sender puts ≡ [] → ⊥

@@ -20,6 +20,7 @@ use Rattle.flow_meanings.proofs.StreamKinds.{passthru-facts, copy-facts, concat-
 use Rattle.flow_meanings.proofs.SelectKind.{select-facts}
 use Rattle.flow_meanings.proofs.UpdateKind.{update-facts}
 use Rattle.flow_meanings.proofs.MatchKinds.{match-facts, replace-facts}
+use Rattle.flow_meanings.proofs.PickKinds.{unique-facts, head-facts, tail-facts}
 
 -- The facts of each standard component.
 pub facts-of : (component : Std) → Facts component
@@ -40,9 +41,12 @@ facts-of (components.Count state) = count-facts state
 facts-of (components.LoadBalance state) = load-facts state
 facts-of (components.Select state) = select-facts state
 facts-of (components.Update state) = update-facts state
+facts-of (components.Tally state) = tally-facts state
+facts-of (components.Unique state) = unique-facts state
+facts-of (components.Head state) = head-facts state
+facts-of (components.Tail state) = tail-facts state
 facts-of (components.Match state) = match-facts state
 facts-of (components.Replace with) = replace-facts with
-facts-of (components.Tally state) = tally-facts state
 
 -- a text of fields has one at least
 some-fields : (text : List ℕ) → 1 ≤ length (fields_of text)

@@ -27,6 +27,11 @@ use Rattle.flow_streams.specs.Bundled.{bundled}
 use Rattle.flow_streams.specs.Unbundled.{unbundled}
 use Rattle.flow_streams.specs.Split.{IsSplit}
 use Rattle.flow_streams.specs.Selected.{IsSelected}
+use Rattle.flow_pick.specs.Places.{IsParted}
+use Rattle.flow_pick.specs.Unique.{UniqueState, is_new, fresh_unique}
+use Rattle.flow_pick.specs.Head.{HeadState, is_among_first, fresh_head}
+use Rattle.flow_pick.specs.TailState.{TailState}
+use Rattle.flow_pick.specs.Tail.{is_among_last, fresh_tail}
 use Rattle.flow_batch.specs.Around.{UpdateState}
 use Rattle.flow_batch.specs.Updated.{fresh_update, IsUpdated}
 use Rattle.flow_pattern.specs.Pattern.{Replacement}
@@ -122,6 +127,18 @@ replace_meaning with = record { first = Unit {0}; loops = true; settled = true; 
 abbrev pub tally_meaning : TallyState → Meaning
 tally_meaning state = record { first = state ≡ fresh_tally; loops = true; settled = true; makes = λ wrote x y. y 0 ≡ tallied (x 0) }
 
+-- A Unique sends what is no repeat, and to its second output, where that is connected, what is one.
+abbrev pub unique_meaning : UniqueState → Meaning
+unique_meaning state = record { first = state ≡ fresh_unique state.rep; loops = true; settled = true; makes = λ wrote x y. IsParted is_new state.rep (x 0) (y 0) (y 1) }
+
+-- A Head sends the brackets and the first packets of each stretch, and to its second output, where that is connected, the others.
+abbrev pub head_meaning : HeadState → Meaning
+head_meaning state = record { first = state ≡ fresh_head state.count state.rest; loops = true; settled = true; makes = λ wrote x y. IsParted (is_among_first state.count) state.rest (x 0) (y 0) (y 1) }
+
+-- A Tail sends the brackets and the last packets of each stretch, and to its second output, where that is connected, the others.
+abbrev pub tail_meaning : TailState → Meaning
+tail_meaning state = record { first = state ≡ fresh_tail state.count state.rest; loops = true; settled = true; makes = λ wrote x y. IsParted (is_among_last state.count) state.rest (x 0) (y 0) (y 1) }
+
 -- What a standard component means.
 abbrev pub meaning_of : Std → Meaning
 meaning_of (components.ReadLines left) = read_lines_meaning left
@@ -141,6 +158,9 @@ meaning_of (components.Count state) = count_meaning state
 meaning_of (components.LoadBalance state) = load_balance_meaning state
 meaning_of (components.Select state) = select_meaning state
 meaning_of (components.Update state) = update_meaning state
+meaning_of (components.Tally state) = tally_meaning state
+meaning_of (components.Unique state) = unique_meaning state
+meaning_of (components.Head state) = head_meaning state
+meaning_of (components.Tail state) = tail_meaning state
 meaning_of (components.Match state) = match_meaning state
 meaning_of (components.Replace with) = replace_meaning with
-meaning_of (components.Tally state) = tally_meaning state

@@ -108,6 +108,51 @@ fn ports_are_those_of_their_kind(rt: HostRuntime) -> Result<(), Fail> {
 }
 
 #[test]
+fn kinds_that_pick_have_their_ports(rt: HostRuntime) -> Result<(), Fail> {
+    let rows = [
+        // A Unique's OUT has to be connected, its REP may be left open.
+        refused(
+            b"flow 1\n'i' -> FILE R(ReadLines)\nR OUT -> IN U(Unique)\nU REP -> IN A\n'a' -> FILE A(WriteLines)\n",
+            b"network refused: port missing U.OUT\n",
+        ),
+        // A Head needs a count,
+        refused(
+            b"flow 1\n'i' -> FILE R(ReadLines)\nR OUT -> IN H(Head)\nH OUT -> IN A\n'a' -> FILE A(WriteLines)\n",
+            b"network refused: port missing H.COUNT\n",
+        ),
+        // which is at most 4,294,967,295;
+        refused(
+            b"flow 1\n'i' -> FILE R(ReadLines)\nR OUT -> IN H(Head)\n'4294967296' -> COUNT H\nH OUT -> IN A\n'a' -> FILE A(WriteLines)\n",
+            b"network refused: bad option H.COUNT\n",
+        ),
+        // its OUT has to be connected, its REST may be left open.
+        refused(
+            b"flow 1\n'i' -> FILE R(ReadLines)\nR OUT -> IN H(Head)\n'1' -> COUNT H\nH REST -> IN A\n'a' -> FILE A(WriteLines)\n",
+            b"network refused: port missing H.OUT\n",
+        ),
+        // So it is with a Tail.
+        refused(
+            b"flow 1\n'i' -> FILE R(ReadLines)\nR OUT -> IN T(Tail)\nT OUT -> IN A\n'a' -> FILE A(WriteLines)\n",
+            b"network refused: port missing T.COUNT\n",
+        ),
+        // Its count is a number,
+        refused(
+            b"flow 1\n'i' -> FILE R(ReadLines)\nR OUT -> IN T(Tail)\n'-1' -> COUNT T\nT OUT -> IN A\n'a' -> FILE A(WriteLines)\n",
+            b"network refused: bad option T.COUNT\n",
+        ),
+        // and its OUT has to be connected.
+        refused(
+            b"flow 1\n'i' -> FILE R(ReadLines)\nR OUT -> IN T(Tail)\n'1' -> COUNT T\nT REST -> IN A\n'a' -> FILE A(WriteLines)\n",
+            b"network refused: port missing T.OUT\n",
+        ),
+    ];
+    for row in rows {
+        run_row(&rt, rt.alloc(), row)?;
+    }
+    Ok(())
+}
+
+#[test]
 fn outputs_and_files_are_those_of_their_kind(rt: HostRuntime) -> Result<(), Fail> {
     let rows = [
         // A Select needs a key.

@@ -258,6 +258,53 @@ fn a_load_is_balanced(rt: HostRuntime) -> Result<(), Fail> {
     Ok(())
 }
 
+#[test]
+fn packets_are_picked(rt: HostRuntime) -> Result<(), Fail> {
+    let rows = [
+        // An inner substream doesn't part two packets, and begins anew itself.
+        Row {
+            net: b"flow 1\n'i' -> FILE R(ReadLines)\nR OUT -> IN B(Brackets)\nB OUT -> IN U(Unique)\nU OUT -> IN Write(WriteLines)\nU REP -> IN Rep(WriteLines)\n'o' -> FILE Write\n'r' -> FILE Rep\n",
+            inputs: [("i", b"a\na\n(s\na\nb\n)\na\nb\n\n\n"), NONE, NONE],
+            outputs: [("o", b"a\n(s\na\nb\n)\nb\n\n"), ("r", b"a\na\n\n")],
+            ..ROW
+        },
+        // A bracket begins a stretch anew.
+        Row {
+            net: b"flow 1\n'i' -> FILE R(ReadLines)\nR OUT -> IN B(Brackets)\nB OUT -> IN H(Head)\n'1' -> COUNT H\nH OUT -> IN Write(WriteLines)\nH REST -> IN Rest(WriteLines)\n'o' -> FILE Write\n'r' -> FILE Rest\n",
+            inputs: [("i", b"1\n2\n(x\n3\n4\n)\n5\n6\n"), NONE, NONE],
+            outputs: [("o", b"1\n(x\n3\n)\n5\n"), ("r", b"2\n4\n6\n")],
+            ..ROW
+        },
+        Row {
+            net: b"flow 1\n'i' -> FILE R(ReadLines)\nR OUT -> IN B(Brackets)\nB OUT -> IN T(Tail)\n'1' -> COUNT T\nT OUT -> IN Write(WriteLines)\nT REST -> IN Rest(WriteLines)\n'o' -> FILE Write\n'r' -> FILE Rest\n",
+            inputs: [("i", b"1\n2\n(x\n3\n4\n)\n5\n6\n"), NONE, NONE],
+            outputs: [("o", b"2\n(x\n4\n)\n6\n"), ("r", b"1\n3\n5\n")],
+            ..ROW
+        },
+        // With the count 0 the brackets alone are passed on, and what isn't connected gets nothing.
+        Row {
+            net: b"flow 1\n'i' -> FILE R(ReadLines)\nR OUT -> IN B(Brackets)\nB OUT -> IN T(Tail)\n'0' -> COUNT T\nT OUT -> IN H(Head)\n'0' -> COUNT H\nH OUT -> IN Write(WriteLines)\n'o' -> FILE Write\n",
+            inputs: [("i", b"1\n(x\n2\n)\n3\n"), NONE, NONE],
+            outputs: [("o", b"(x\n)\n"), NONE],
+            ..ROW
+        },
+        // The carrier of the three packets is made and dropped.
+        Row {
+            net: b"flow 1\n'i' -> FILE R(ReadLines)\nR OUT -> IN T(Tail)\n'2' -> COUNT T\nT OUT -> IN A(WriteLines)\nT REST -> IN B(WriteLines)\n'o' -> FILE A\n'r' -> FILE B\n",
+            inputs: [("i", b"a\nb\nc\n"), NONE, NONE],
+            printed: Some(
+                b"verdict finished\nprocess R ReadLines ended turns 7 made 3 dropped 0 left 0\nprocess T Tail ended turns 12 made 1 dropped 1 left 0\nprocess A WriteLines ended turns 6 made 0 dropped 2 left 0\nprocess B WriteLines ended turns 5 made 0 dropped 1 left 0\nconnection T.IN capacity 10 puts 3 takes 3 left 0\nconnection A.IN capacity 10 puts 2 takes 2 left 0\nconnection B.IN capacity 10 puts 1 takes 1 left 0\ntotal turns 30 made 4 dropped 4 left 0\n",
+            ),
+            outputs: [("o", b"b\nc\n"), ("r", b"a\n")],
+            ..ROW
+        },
+    ];
+    for row in rows {
+        run_row(&rt, rt.alloc(), row)?;
+    }
+    Ok(())
+}
+
 /// Lines broken into words, and words filled into lines of twelve bytes.
 pub const TELEGRAM: Row = Row {
     net: b"flow 1\n# the telegram problem\n'in.txt' -> FILE Read(ReadLines)\nRead OUT -> IN Words(Words)\nWords OUT->(20) IN Fill(Fill)\n'12' -> SIZE Fill\nFill OUT -> IN Write(WriteLines)\n'out.txt' -> FILE Write\n",
@@ -323,6 +370,22 @@ fn hands_take_so_many_packets(rt: HostRuntime) -> Result<(), Fail> {
         status: 5,
         starts: b"verdict failed\nprocess Read ReadLines ended turns 4101 made 4097 dropped 0 left 0\nprocess Hoard Hoard failed turns 4097 made 0 dropped 0 left 4096\nconnection Hoard.IN capacity 10 puts 4097 takes 4096 left 1\nfailed Hoard hands limit\nleft Read:0 in hands of Hoard\nleft Read:1 in hands of Hoard\n",
         ends: b"left Read:4095 in hands of Hoard\nleft Read:4096 in Hoard.IN\ntotal turns 8198 made 4097 dropped 0 left 4097\n",
+        ..ROW
+    };
+    run_on(&rt, rt.alloc(), row, ("in", lines.as_slice()))?;
+    Ok(())
+}
+
+#[test]
+fn a_tail_holds_more_packets_than_hands_take(rt: HostRuntime) -> Result<(), Fail> {
+    let mut lines = Vec::new(rt.alloc());
+    for _ in 0..LINES {
+        lines.extend_from_slice(b"x\n")?;
+    }
+    let row = Row {
+        net: b"flow 1\n'in' -> FILE Read(ReadLines)\nRead OUT -> IN T(Tail)\n'4294967295' -> COUNT T\nT OUT -> IN Write(WriteLines)\nT REST -> IN Rest(Discard)\n'o' -> FILE Write\n",
+        starts: b"verdict finished\nprocess Read ReadLines ended turns 4101 made 4097 dropped 0 left 0\nprocess T Tail ended turns 8200 made 1 dropped 1 left 0\n",
+        ends: b"total turns 16403 made 4098 dropped 4098 left 0\n",
         ..ROW
     };
     run_on(&rt, rt.alloc(), row, ("in", lines.as_slice()))?;

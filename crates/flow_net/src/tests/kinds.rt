@@ -78,11 +78,35 @@ fn tally(alloc: Global) -> Result<KindSpec, AllocError>
     })
 }
 
+// A kind with two options, the first of which may be left out.
+fn mark(alloc: Global) -> Result<KindSpec, AllocError>
+    ensures { IfOk result (λ kind. kind ≡ record { name = codes "Mark"; inputs = record { name = codes "SIZE"; class = PortClass.Number 1 1048576; array = false; needed = false } ∷ record { name = codes "WITH"; class = PortClass.Text; array = false; needed = true } ∷ record { name = codes "IN"; class = PortClass.Stream; array = false; needed = true } ∷ []; outputs = record { name = codes "OUT"; class = PortClass.Stream; array = false; needed = true } ∷ [] }) }
+{
+    let size = PortSpec {
+        name: Text::from_slice(alloc, b"SIZE")?,
+        class: SIZE,
+        array: false,
+        needed: false,
+    };
+    let with = port(alloc, b"WITH", PortClass::Text, false)?;
+    let input = port(alloc, b"IN", PortClass::Stream, false)?;
+    let output = port(alloc, b"OUT", PortClass::Stream, false)?;
+    let name = Text::from_slice(alloc, b"Mark")?;
+    let inputs = Items::of(vec![in alloc; size, with, input]?);
+    let outputs = Items::of(vec![in alloc; output]?);
+    Ok(KindSpec {
+        name,
+        inputs,
+        outputs,
+    })
+}
+
 pub fn kinds(alloc: Global) -> Result<Vec<KindSpec>, AllocError>
     ensures { IfOk result (λ kinds. IsTrue (is_table kinds.items)) }
 {
     let split = split(alloc)?;
     let pass = pass(alloc)?;
     let tally = tally(alloc)?;
-    Ok(vec![in alloc; split, pass, tally]?)
+    let mark = mark(alloc)?;
+    Ok(vec![in alloc; split, pass, tally, mark]?)
 }

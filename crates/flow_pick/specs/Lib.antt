@@ -1,0 +1,12 @@
+pub mod Places
+pub mod Picking
+pub mod PickingLaws
+pub mod Unique
+pub mod UniqueLaws
+pub mod Head
+pub mod HeadLaws
+pub mod TailState
+pub mod Tail
+pub mod Carriers
+pub mod TailLaws
+pub mod Meanings

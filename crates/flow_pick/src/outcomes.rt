@@ -1,0 +1,12 @@
+//! That each component of this crate comes to one outcome.
+ghost use Rattle.flow_component.specs.Laws.{AtMostOneOutcome};
+
+use crate::{Head, Tail, Unique};
+use flow_component::Component;
+
+/// Told the same in the same state with the same hands, each of them comes to at most one outcome.
+pub fn each_comes_to_one_outcome()
+    ensures unique { AtMostOneOutcome ⟦<Unique as Component>⟧.rules }
+    ensures head { AtMostOneOutcome ⟦<Head as Component>⟧.rules }
+    ensures tail { AtMostOneOutcome ⟦<Tail as Component>⟧.rules }
+{}

@@ -1,0 +1,3 @@
+pub mod Stable
+pub mod Unloading
+pub mod SortStream

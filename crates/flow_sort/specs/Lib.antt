@@ -1,0 +1,4 @@
+pub mod Sorted
+pub mod Sort
+pub mod SortLaws
+pub mod Meanings
