@@ -29,3 +29,4 @@ pub mod Crews
 pub mod Openings
 pub mod Backs
 pub mod Strikes
+pub mod Rolls

@@ -1,8 +1,9 @@
 -- Who receives from a connection, and who sends into it, as the plan says.
-use Rattle.std.proofs.Common.{◌≡◌, ℕ, zero, suc, ◌+◌, ◌<◌, ◌∙◌, arith, cond, nat_eq, eq-eqb, Bool, true, false, inl, inr, List, [], ◌∷◌, map, length, get_or, drop, refl, sym, ap, subst, Option, Some, None, slice_get, All, Contains, IsTrue, ◌&&◌, ◌||◌}
+use Rattle.flow_limits.specs.declared.TheConstants.{SENDER_LIMIT}
+use Rattle.std.proofs.Common.{◌≡◌, ℕ, zero, suc, ◌+◌, ◌<◌, ◌≤◌, ◌∙◌, arith, cond, nat_eq, eq-eqb, Bool, true, false, inl, inr, List, [], ◌∷◌, map, length, get_or, drop, refl, sym, ap, subst, Option, Some, None, slice_get, All, Contains, IsTrue, ◌&&◌, ◌||◌}
 use Rattle.std.proofs.lemmas.List.{length-map, drop_more}
 use mathlib.Core.Logic.{dite}
-use native.Mathlib.Decide.{ℕ_discrete, dec_lt}
+use native.Mathlib.Decide.{ℕ_discrete, dec_lt, dec_le}
 use Rattle.std.proofs.lemmas.Bool.Decides.{nat_tests}
 use Rattle.std.proofs.lemmas.Grind.{not_there}
 use Rattle.std.proofs.lemmas.Option.{get_or_from_slice_get, slice_get-get_or}
@@ -137,6 +138,10 @@ module _ {K : Type 0} (net : NetValue K) (planned : IsPlanned net) where
       let s = get_or x.senders k d in
       wires-within s.process c (output_in s.output) refl (planned.senders c x s at (sender-among x.senders k s (slice_get-get_or x.senders k d low)))
 
+  -- They are few.
+  senders-short : (c : ℕ) (x : Connection) → slice_get net.connections c ≡ Some x → length x.senders ≤ SENDER_LIMIT
+  senders-short c x at = planned.few_senders c x at
+
   -- there are as many channels as connections
   counted : length net.connections ≡ length net.channels
   counted = sym (length-map net.connections (λ (x : Connection). x.capacity)) ∙ ap (λ (xs : List ℕ). length xs) (sym planned.channels) ∙ length-map net.channels (λ (k : ChannelShown). k.capacity)
@@ -158,6 +163,9 @@ module _ {K : Type 0} (net : NetValue K) (wired : ∥ IsPlanned net ∥₁) wher
   pub senders-below : (c : ℕ) (x : Connection) → slice_get net.connections c ≡ Some x → All (λ (s : Sender). s.process < length net.bodies) x.senders
   senders-below c x at k d inside =
       dite (dec_lt (get_or x.senders k d).process (length net.bodies)) (λ low. low) (λ high. absurd (not_there wired (λ planned. high (senders-low net planned c x at k d inside))))
+
+  pub senders-few : (c : ℕ) (x : Connection) → slice_get net.connections c ≡ Some x → length x.senders ≤ SENDER_LIMIT
+  senders-few c x at = dite (dec_le (length x.senders) SENDER_LIMIT) (λ few. few) (λ many. absurd (not_there wired (λ planned. many (senders-short net planned c x at))))
 
   pub connection-count : length net.connections ≡ length net.channels
   connection-count = dite (ℕ_discrete (length net.connections) (length net.channels)) (λ same. same) (λ other. absurd (not_there wired (λ planned. other (counted net planned))))

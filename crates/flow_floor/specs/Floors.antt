@@ -1,5 +1,5 @@
 -- What callers of other crates say of a floor, its workers and what they hold.
-use Rattle.std.specs.Prelude.{◌≡◌, ℕ, true, false, List, []}
+use Rattle.std.specs.Prelude.{◌≡◌, ℕ, ◌<◌, ◌≤◌, true, false, List, [], ◌++◌, All, length}
 use Rattle.std.specs.List.{list_any}
 use Rattle.flow_component.specs.Laws.{Rules}
 use Rattle.flow_model.specs.Events.{Event}
@@ -23,7 +23,7 @@ use Rattle.flow_floor.specs.Views.{stamping}
 use Rattle.flow_floor.specs.Turning.{MachineTurn}
 use Rattle.flow_floor.specs.Turns.{Turns}
 use Rattle.flow_floor.specs.Waking.{capacity_at}
-use Rattle.flow_floor.specs.Workers.{view, IsDone, IsGrabbing, IsHeldBy, IsIdle, IsSameSeat, IsWaking, SeenBlocks}
+use Rattle.flow_floor.specs.Workers.{view, woken_of as listed_by, IsDone, IsGrabbing, IsHeldBy, IsIdle, IsSameSeat, IsWaking, SeenBlocks}
 
 module _ {K : Type 0} where
   -- The net with which the floor was opened.
@@ -45,6 +45,34 @@ module _ {K : Type 0} where
   -- The turns that the worker made: the stamp and the process of each.
   abbrev pub turns_of : Worker K → List (ℕ × ℕ)
   turns_of w = (view w).made
+
+  -- The processes that the worker asked for, each time that it claimed one, and those that it made ready, in order.
+  abbrev pub asked_of : Worker K → List ℕ
+  asked_of w = (view w).asked
+
+  abbrev pub readied_of : Worker K → List ℕ
+  readied_of w = (view w).readied
+
+  -- The processes that its last call made ready, as it lists them.
+  abbrev pub woken_of : Worker K → List ℕ
+  woken_of w = listed_by w
+
+  -- A call made these processes ready: all that the worker made ready since it began are those that it lists, and they are this floor's.
+  pub record Readies (f : Floor K) (old new : Worker K) : Type 0 where
+    pub listed : readied_of new ≡ readied_of old ++ woken_of new
+    pub below : All (λ p. p < process_count f) (woken_of new)
+
+  -- It made nobody ready, and lists whom it listed before.
+  abbrev pub WakesNone : Worker K → Worker K → Type 0
+  WakesNone old new = (readied_of new ≡ readied_of old) × (woken_of new ≡ woken_of old)
+
+  -- It made nobody ready but maybe one process, which is this floor's, and lists that behind those that it listed before.
+  pub record WakesOne (f : Floor K) (old new : Worker K) : Type 0 where
+    pub more : List ℕ
+    pub few : length more ≤ 1
+    pub below : All (λ p. p < process_count f) more
+    pub readied : readied_of new ≡ readied_of old ++ more
+    pub woken : woken_of new ≡ woken_of old ++ more
 
   -- The worker once read that no process is ready or held.
   abbrev pub HasReadZero : Worker K → Type 0
@@ -109,7 +137,7 @@ module _ {K : Type 0} where
   abbrev pub HasSameShare : Worker K → Worker K → Type 0
   HasSameShare old new = (view new).shares ≡ (view old).shares
 
-  -- It has the same share, and has read 0 just where it had before.
+  -- It has the same share, has read 0 just where it had before, and has asked for nothing.
   abbrev pub IsSameWorker : Worker K → Worker K → Type 0
   IsSameWorker old new = IsSameSeat (view old) (view new)
 
@@ -125,3 +153,4 @@ module _ {K : Type 0} where
     pub machine : MachineTurn rules (opened_net f) (turns_of w) stamp h.process h.body event
     pub above : Below stamp (turns_of w)
     pub view : view w' ≡ stamping (view w) stamp event after
+    pub woken : woken_of w' ≡ woken_of w

@@ -25,6 +25,10 @@ module _ {K : Type 0} where
   abbrev pub view : Worker K → View K
   view w = w.seat.me.0
 
+  -- The processes that its last call made ready, as it lists them.
+  abbrev pub woken_of : Worker K → List ℕ
+  woken_of w = w.woken.names.items
+
   -- The worker is a seat of this table, and owes nothing: it holds no connection, has noted no process, and has no spare token.
   pub record IsCalm (z : TableId) (w : Worker K) : Type 0 where
     pub table : w.seat.table_id ≡ z
@@ -85,11 +89,13 @@ module _ {K : Type 0} where
     pub capacity : k.capacity ≡ most
     pub so : WasSo rules n old.seat.me.0.held old.seat.me.0.seen c k
     pub view : new.seat.me.0 ≡ grabbing old.seat.me.0 (n + c) word c k
+    pub woken : woken_of new ≡ woken_of old
 
-  -- Beside the process at hand all stays: the worker's shares, and whether it has read 0.
+  -- Beside the process at hand all stays: the worker's shares, whether it has read 0, and what it asked for.
   pub record IsSameSeat (old new : View K) : Type 0 where
     pub shares : new.shares ≡ old.shares
     pub zero : new.read_zero ≡ old.read_zero
+    pub asked : new.asked ≡ old.asked
 
   -- Looks were made and nothing else: they are kept in front of those that were kept before.
   pub record LooksOn (old new : View K) : Type 0 where

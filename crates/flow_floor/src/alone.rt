@@ -8,7 +8,7 @@ ghost use Rattle.flow_machine.specs.FitNets.{FitNet};
 ghost use Rattle.flow_model.specs.States.{From, Text};
 ghost use Rattle.flow_machine.specs.Effects.{text_event};
 ghost use Rattle.flow_machine.specs.Inlets.{signal_input};
-ghost use Rattle.flow_floor.specs.Floors.{connection_count, IsDeedOf, IsHeldAt, IsSameWorker, StampsTurn};
+ghost use Rattle.flow_floor.specs.Floors.{connection_count, woken_of, IsDeedOf, IsHeldAt, IsSameWorker, StampsTurn, WakesNone};
 ghost use Rattle.flow_floor.specs.Workers.{view, LooksOn};
 ghost use Rattle.flow_floor.specs.Looks.{Saws, first_open};
 ghost use Rattle.flow_floor.specs.Views.{seeing};
@@ -37,6 +37,7 @@ impl<K: Component> Floor<K> {
         requires range { connection < connection_count self.now }
         ensures held { IsHeldAt K.rules self.now worker.new held.now }
         ensures view { view worker.new ≡ seeing (view worker.old) (self.now.processes + connection) result }
+        ensures woken { woken_of worker.new ≡ woken_of worker.old }
     {
         let _ = held;
         let place = self.layout().connection_word(connection);
@@ -50,6 +51,7 @@ impl<K: Component> Floor<K> {
         ensures held { IsHeldAt K.rules self.now worker.new held.now }
         ensures looks { LooksOn (view worker.old) (view worker.new) }
         ensures seat { IsSameWorker worker.old worker.new }
+        ensures none { WakesNone worker.old worker.new }
         ensures saw { Saws self.now.processes (view worker.old).steps held.now.body.process.inputs (view worker.new).seen result }
     {
         let mut open = None;
@@ -75,6 +77,7 @@ impl<K: Component> Floor<K> {
         ensures held { IsHeldAt K.rules self.now worker.new held.now }
         ensures looks { LooksOn (view worker.old) (view worker.new) }
         ensures seat { IsSameWorker worker.old worker.new }
+        ensures none { WakesNone worker.old worker.new }
         ensures saw { Saws self.now.processes (view worker.old).steps (signal_input held.now.body.process.signal) (view worker.new).seen result }
     {
         let Some(connection) = held.body.signal() else {

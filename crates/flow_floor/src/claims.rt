@@ -5,7 +5,7 @@ ghost use Rattle.flow_floor.specs.declared.floor.Floor.{Floor};
 ghost use Rattle.flow_floor.specs.declared.floor.Worker.{Worker};
 ghost use Rattle.flow_machine.specs.Thoughts.{Thinks, KeepsTurns, PassesFirst};
 ghost use Rattle.flow_machine.specs.declared.answers.Thought.TheVariants.{NoMemory};
-ghost use Rattle.flow_floor.specs.Floors.{process_count, connection_count, turns_of, HasReadZero, IsDoneAt, IsHeldAt, IsIdleAt, IsOverAs, IsSameWorker, IsStuckAt, IsWiredAt};
+ghost use Rattle.flow_floor.specs.Floors.{process_count, connection_count, turns_of, woken_of, HasReadZero, IsDoneAt, IsHeldAt, IsIdleAt, IsOverAs, IsSameWorker, IsStuckAt, IsWiredAt, Readies};
 ghost use Rattle.flow_floor.specs.Workers.{view, MatchClaim};
 ghost use Rattle.flow_floor.specs.Views.{looked, refusing, claiming, leaving, lowering, parking, reading};
 
@@ -29,7 +29,7 @@ impl<K: Component> Floor<K> {
         requires spot { S.connection ≡ connection_count self.now }
         requires worker { IsIdleAt self.now worker.old }
         requires range { process < process_count self.now }
-        ensures { MatchClaim result (λ h. (h.process ≡ process) × IsHeldAt K.rules self.now worker.new h × IsWiredAt self.now h × (view worker.new ≡ claiming (view worker.old) process h.body)) (λ n. (n ≢ 2) × IsIdleAt self.now worker.new × (view worker.new ≡ refusing (view worker.old) process n)) }
+        ensures { MatchClaim result (λ h. (h.process ≡ process) × IsHeldAt K.rules self.now worker.new h × IsWiredAt self.now h × (view worker.new ≡ claiming (view worker.old) process h.body) × (woken_of worker.new ≡ woken_of worker.old)) (λ n. (n ≢ 2) × IsIdleAt self.now worker.new × (view worker.new ≡ refusing (view worker.old) process n) × (woken_of worker.new ≡ woken_of worker.old)) }
     {
         let shared = &self.table.shared;
         let place = self.layout().process_word(process);
@@ -53,8 +53,10 @@ impl<K: Component> Floor<K> {
     pub fn claim(&self, worker: &mut Worker<K>, process: usize) -> Claim<K>
         requires worker { IsIdleAt self.now worker.old }
         requires range { process < process_count self.now }
-        ensures { MatchClaim result (λ h. (h.process ≡ process) × IsHeldAt K.rules self.now worker.new h × IsWiredAt self.now h × (view worker.new ≡ claiming (view worker.old) process h.body)) (λ n. (n ≢ 2) × IsIdleAt self.now worker.new × (view worker.new ≡ refusing (view worker.old) process n)) }
+        ensures claimed { MatchClaim result (λ h. (h.process ≡ process) × IsHeldAt K.rules self.now worker.new h × IsWiredAt self.now h × (view worker.new ≡ claiming (view worker.old) process h.body)) (λ n. (n ≢ 2) × IsIdleAt self.now worker.new × (view worker.new ≡ refusing (view worker.old) process n)) }
+        ensures readies { Readies self.now worker.old worker.new }
     {
+        worker.woken.clear();
         self.claim_at::<Brand>(worker, process)
     }
 
@@ -63,7 +65,9 @@ impl<K: Component> Floor<K> {
         requires { IsHeldAt K.rules self.now worker.old held }
         ensures idle { IsIdleAt self.now worker.new }
         ensures view { view worker.new ≡ leaving (view worker.old) }
+        ensures readies { Readies self.now worker.old worker.new }
     {
+        worker.woken.clear();
         let Held {
             body,
             process,
@@ -75,6 +79,7 @@ impl<K: Component> Floor<K> {
         let Slot::Vacant = old else { unreachable!() };
         let place = self.layout().process_word(process);
         shared.swap::<Leave>(&mut worker.seat, place, READY);
+        worker.woken.add(process as u32);
     }
 
     /// The process is done: it is over, or its last thought found no memory.
@@ -85,8 +90,10 @@ impl<K: Component> Floor<K> {
         ensures view { view worker.new ≡ lowering (parking (view worker.old)) }
         ensures made { turns_of worker.new ≡ turns_of worker.old }
         ensures seat { IsSameWorker worker.old worker.new }
+        ensures readies { Readies self.now worker.old worker.new }
     {
         let _ = over;
+        worker.woken.clear();
         let Held {
             body,
             process,
@@ -110,7 +117,9 @@ impl<K: Component> Floor<K> {
         ensures look { ((view worker.new).look ≡ (view worker.old).look) ⊎ IsLook 0 (view worker.old).steps held.process 3 (view worker.new).look }
         ensures made { turns_of worker.new ≡ turns_of worker.old }
         ensures seat { IsSameWorker worker.old worker.new }
+        ensures readies { Readies self.now worker.old worker.new }
     {
+        worker.woken.clear();
         let Held {
             body,
             process,
@@ -126,6 +135,7 @@ impl<K: Component> Floor<K> {
             self.lower(worker);
         } else {
             shared.swap::<Leave>(&mut worker.seat, place, READY);
+            worker.woken.add(process as u32);
         }
     }
 
@@ -134,6 +144,7 @@ impl<K: Component> Floor<K> {
         requires { IsDoneAt self.now worker.old 1 }
         ensures idle { IsIdleAt self.now worker.new }
         ensures view { view worker.new ≡ lowering (view worker.old) }
+        ensures woken { woken_of worker.new ≡ woken_of worker.old }
     {
         let live = self.layout().live();
         self.table
@@ -147,9 +158,20 @@ impl<K: Component> Floor<K> {
         ensures idle { IsIdleAt self.now worker.new }
         ensures view { view worker.new ≡ reading (view worker.old) (process_count self.now + connection_count self.now + 1) result }
         ensures seen { result ≡ 0 → HasReadZero worker.new }
+        ensures readies { Readies self.now worker.old worker.new }
     {
+        worker.woken.clear();
         let live = self.layout().live();
         self.table.shared.load::<Live>(&mut worker.seat, live)
+    }
+}
+
+impl<K: Component> Worker<K> {
+    /// The processes that its last call of the floor made ready, in the order of the steps.
+    pub fn woken(&self) -> &[u32]
+        ensures { result.now ≡ woken_of self.now }
+    {
+        self.woken.names.as_slice()
     }
 }
 

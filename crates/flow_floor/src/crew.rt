@@ -9,30 +9,33 @@ ghost use Rattle.flow_floor.specs.Seats.{newcomer};
 
 use crate::floor::{Floor, Worker};
 use crate::plays::{Cut, Glue};
+use crate::roll::Roll;
 use flow_component::Component;
 
 impl<K: Component> Floor<K> {
-    /// One worker more.
-    fn split(&self, worker: &mut Worker<K>) -> Worker<K>
+    /// One worker more, who will list on this roll whom it makes ready.
+    fn split(&self, worker: &mut Worker<K>, woken: Roll) -> Worker<K>
         requires idle { IsIdleAt self.now worker.old }
         requires shares { 1 < (view worker.old).shares }
         ensures old { IsIdleAt self.now worker.new × (view worker.new ≡ cut (view worker.old)) }
         ensures new { IsIdleAt self.now result × (view result ≡ newcomer 1) }
     {
         let seat = self.table.shared.split_seat::<Cut>(&mut worker.seat);
-        Worker { seat }
+        Worker { seat, woken }
     }
 
     /// Splits off all other workers. The first one comes last.
     pub(crate) fn hire(
         &self,
         mut crew: Vec<Worker<K>>,
+        mut rolls: Vec<Roll>,
         mut first: Worker<K>,
         workers: u32,
     ) -> Vec<Worker<K>>
         requires least { 1 ≤ workers }
         requires most { workers ≤ WORKER_LIMIT }
         requires crew { (crew.items ≡ []) × (workers ≤ vec_capacity crew) }
+        requires rolls { length rolls.items + 1 ≡ workers }
         requires idle { IsIdleAt self.now first }
         requires all { (view first).shares ≡ WORKER_LIMIT }
         requires fresh { IsNewWorker first }
@@ -40,7 +43,10 @@ impl<K: Component> Floor<K> {
         ensures fresh { All IsNewWorker result.items }
     {
         for _i in 1..workers {
-            let other = self.split(&mut first);
+            let Some(roll) = rolls.pop() else {
+                unreachable!()
+            };
+            let other = self.split(&mut first, roll);
             crew.push_reserved(other);
         }
         crew.push_reserved(first);
@@ -54,7 +60,7 @@ impl<K: Component> Floor<K> {
         ensures idle { IsIdleAt self.now worker.new }
         ensures both { view worker.new ≡ merged (view worker.old) (view other) }
     {
-        let Worker { seat } = other;
+        let Worker { seat, woken: _ } = other;
         self.table.shared.join_seat::<Glue>(&mut worker.seat, seat);
     }
 

@@ -5,6 +5,7 @@ ghost use Rattle.flow_machine.specs.Joins.{IsPlanned};
 ghost use Rattle.flow_ring.specs.Places.{slot_count, word_count};
 
 use crate::board::{Lawful, Slot, View};
+use crate::roll::Roll;
 use atomic_table::{Seat, Table};
 use flow_component::Component;
 use flow_machine::{Block, Body, Channel, Net, Over};
@@ -32,6 +33,7 @@ pub struct Floor<K: Component> {
 #[derive(Drop)]
 pub struct Worker<K: Component> {
     pub(crate) seat: Seat<Slot<K>, View<K>>,
+    pub(crate) woken: Roll,
 }
 
 /// A body that a worker claimed. It must be spent.

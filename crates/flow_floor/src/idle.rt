@@ -1,9 +1,9 @@
 //! A whole turn of an idle process.
-ghost use Rattle.std.specs.Prelude.{◌≡◌};
+ghost use Rattle.std.specs.Prelude.{◌≡◌, []};
 ghost use Rattle.flow_model.specs.declared.Stage.TheVariants.{Idle};
 ghost use Rattle.flow_machine.specs.Thoughts.{HasRoom};
 ghost use Rattle.flow_floor.specs.Looks.{SawHeld, Idles};
-ghost use Rattle.flow_floor.specs.Floors.{IsHeldAt, IsSameWorker, IsWiredAt, TurnsAt};
+ghost use Rattle.flow_floor.specs.Floors.{woken_of, IsHeldAt, IsSameWorker, IsWiredAt, Readies, TurnsAt, WakesNone};
 ghost use Rattle.flow_floor.specs.Workers.{view, LooksOn};
 
 use crate::floor::{Floor, Grabbed, Held, Idling, Saw, Turned, Worker};
@@ -19,6 +19,7 @@ impl<K: Component> Floor<K> {
         ensures held { IsHeldAt K.rules self.now worker.new held.now }
         ensures looks { LooksOn (view worker.old) (view worker.new) }
         ensures seat { IsSameWorker worker.old worker.new }
+        ensures none { WakesNone worker.old worker.new }
         ensures saw { SawHeld self.now.processes (view worker.old).steps held.now.body.process (view worker.new).seen result }
     {
         if held.body.signalled() {
@@ -34,6 +35,7 @@ impl<K: Component> Floor<K> {
         ensures held { IsHeldAt K.rules self.now worker.new held.now }
         ensures looks { LooksOn (view worker.old) (view worker.new) }
         ensures seat { IsSameWorker worker.old worker.new }
+        ensures none { WakesNone worker.old worker.new }
         ensures idles { Idles self.now.processes (view worker.old).steps held.now.body.process (view worker.new).seen result }
     {
         match self.look_released(worker, held) {
@@ -63,9 +65,11 @@ impl<K: Component> Floor<K> {
         requires wired { IsWiredAt self.now held.old }
         requires stage { held.old.body.process.stage ≡ Idle }
         requires room { HasRoom held.old.body }
+        requires clear { woken_of worker.old ≡ [] }
         ensures held { IsHeldAt K.rules self.now worker.new held.new }
         ensures turned { TurnsAt K.rules self.now held.old worker.old held.new worker.new result }
         ensures seat { IsSameWorker worker.old worker.new }
+        ensures readies { Readies self.now worker.old worker.new }
     {
         match self.look_idle(worker, held) {
             Idling::Start => Turned::Made(self.start_as::<Brand>(worker, held)),

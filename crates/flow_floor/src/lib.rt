@@ -14,6 +14,7 @@ mod laws;
 mod open;
 mod plays;
 mod receive;
+mod roll;
 mod rooms;
 mod send;
 mod shut;

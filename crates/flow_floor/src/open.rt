@@ -9,6 +9,7 @@ ghost use Rattle.flow_floor.specs.Floors.{opened_net, process_count, HasRoomsFor
 use crate::back::join_again;
 use crate::board::Slot;
 use crate::floor::{Floor, Worker};
+use crate::roll::Roll;
 use crate::rooms::Rooms;
 use atomic_table::Table;
 use flow_component::Component;
@@ -87,25 +88,41 @@ fn put_channels<K: Component>(channels: Vec<Channel>, mut slots: Vec<Slot<K>>) -
     slots
 }
 
+/// A roll for the first worker, and one for each of the others.
+fn rolls(alloc: Global, workers: u32) -> Result<(Roll, Vec<Roll>), AllocError>
+    requires { 1 ≤ workers }
+    ensures { IfOk result (λ r. length r.1.items + 1 ≡ workers) }
+{
+    let mut others = Vec::with_capacity(alloc, workers as usize)?;
+    for _i in 1..workers {
+        others.push_reserved(Roll::new(alloc)?);
+    }
+    Ok((Roll::new(alloc)?, others))
+}
+
 /// What is taken before a net is taken apart.
 struct Laid<K: Component> {
     words: Vec<u64>,
     crew: Vec<Worker<K>>,
+    rolls: (Roll, Vec<Roll>),
     slots: Vec<Slot<K>>,
     rooms: Rooms<K>,
 }
 
 /// Takes all that a floor needs.
 fn lay<K: Component>(alloc: Global, net: &Net<K>, workers: u32) -> Result<Laid<K>, AllocError>
+    requires least { 1 ≤ workers }
     requires few { length net.now.channels ≤ CONNECTION_LIMIT }
     requires few_senders { FewSenders net.now.channels }
     ensures words { IfOk result (λ l. FirstWords net.now l.words.items) }
     ensures crew { IfOk result (λ l. (l.crew.items ≡ []) × (workers ≤ vec_capacity l.crew)) }
+    ensures rolls { IfOk result (λ l. length l.rolls.1.items + 1 ≡ workers) }
     ensures slots { IfOk result (λ l. (l.slots.items ≡ []) × (length net.now.bodies + length net.now.channels ≤ vec_capacity l.slots)) }
     ensures rooms { IfOk result (λ l. HasRooms (length net.now.bodies) (length net.now.channels) l.rooms) }
 {
     let words = first_words(alloc, net)?;
     let crew = Vec::with_capacity(alloc, workers as usize)?;
+    let rolls = rolls(alloc, workers)?;
     let rooms = Rooms::new(alloc, net.processes() as usize, net.connections())?;
     let layout = Layout::of(net.processes() as usize, net.connections());
     let Ok(slots) = Vec::with_capacity(alloc, layout.slots()) else {
@@ -115,6 +132,7 @@ fn lay<K: Component>(alloc: Global, net: &Net<K>, workers: u32) -> Result<Laid<K
     Ok(Laid {
         words,
         crew,
+        rolls,
         slots,
         rooms,
     })
@@ -132,6 +150,7 @@ fn begin<K: Component>(
     requires few { (length net.channels ≤ CONNECTION_LIMIT) × FewSenders net.channels }
     requires words { FirstWords net laid.words.items }
     requires crew { (laid.crew.items ≡ []) × (workers ≤ vec_capacity laid.crew) }
+    requires rolls { length laid.rolls.1.items + 1 ≡ workers }
     requires slots { (laid.slots.items ≡ []) × (length net.bodies + length net.channels ≤ vec_capacity laid.slots) }
     requires rooms { HasRooms (length net.bodies) (length net.channels) laid.rooms }
     ensures opened { IfOk result (λ o. opened_net o.floor ≡ net) }
@@ -143,6 +162,7 @@ fn begin<K: Component>(
     let Laid {
         words,
         crew,
+        rolls: (woken, others),
         slots,
         rooms,
     } = laid;
@@ -164,7 +184,7 @@ fn begin<K: Component>(
                 connections,
                 plan,
             };
-            let workers = floor.hire(crew, Worker { seat }, workers);
+            let workers = floor.hire(crew, others, Worker { seat, woken }, workers);
             Ok(Opened {
                 floor,
                 workers,

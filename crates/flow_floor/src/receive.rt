@@ -1,10 +1,10 @@
 //! A whole turn that receives.
-ghost use Rattle.std.specs.Prelude.{◌≡◌, ◌<◌, Some, slice_get};
+ghost use Rattle.std.specs.Prelude.{◌≡◌, ◌<◌, [], Some, slice_get};
 ghost use Rattle.flow_component.specs.declared.Wish.TheVariants.{Receive};
 ghost use Rattle.flow_model.specs.declared.Stage.TheVariants.{Wishing};
 ghost use Rattle.flow_model.specs.States.{From};
 ghost use Rattle.flow_machine.specs.Thoughts.{HasRoom};
-ghost use Rattle.flow_floor.specs.Floors.{connection_count, IsHeldAt, IsSameWorker, TurnsAt};
+ghost use Rattle.flow_floor.specs.Floors.{connection_count, woken_of, IsHeldAt, IsSameWorker, Readies, TurnsAt};
 
 use crate::floor::{Floor, Grabbed, Held, Turned, Worker};
 use flow_component::{Component, Port};
@@ -25,9 +25,11 @@ impl<K: Component> Floor<K> {
         requires stage { held.old.body.process.stage ≡ Wishing (Receive port) }
         requires input { slice_get held.old.body.process.inputs port.0 ≡ Some (From connection) }
         requires room { HasRoom held.old.body }
+        requires clear { woken_of worker.old ≡ [] }
         ensures held { IsHeldAt K.rules self.now worker.new held.new }
         ensures turned { TurnsAt K.rules self.now held.old worker.old held.new worker.new result }
         ensures seat { IsSameWorker worker.old worker.new }
+        ensures readies { Readies self.now worker.old worker.new }
     {
         let c = connection as usize;
         match self.grab::<Brand>(worker, held, c) {

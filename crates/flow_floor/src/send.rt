@@ -1,12 +1,12 @@
 //! Whole turns at an output.
-ghost use Rattle.std.specs.Prelude.{◌≡◌, ◌<◌, Some};
+ghost use Rattle.std.specs.Prelude.{◌≡◌, ◌<◌, [], Some};
 ghost use Rattle.flow_component.specs.declared.Wish.TheVariants.{Level};
 ghost use Rattle.flow_model.specs.declared.Stage.TheVariants.{Wishing, Closing};
 ghost use Rattle.flow_model.specs.States.{outlets, output_at};
 ghost use Rattle.flow_machine.specs.Thoughts.{HasRoom};
 ghost use Rattle.flow_machine.specs.Nets.{SendsAt};
 ghost use Rattle.flow_machine.specs.Outlets.{connection_at};
-ghost use Rattle.flow_floor.specs.Floors.{connection_count, IsHeldAt, IsSameWorker, TurnsAt};
+ghost use Rattle.flow_floor.specs.Floors.{connection_count, woken_of, IsHeldAt, IsSameWorker, Readies, TurnsAt};
 
 use crate::floor::{Floor, Grabbed, Held, Turned, Worker};
 use flow_component::{Component, Port};
@@ -27,9 +27,11 @@ impl<K: Component> Floor<K> {
         requires stage { SendsAt held.old.body.process.stage port }
         requires output { output_at held.old.body.process port.0 ≡ Some connection }
         requires room { HasRoom held.old.body }
+        requires clear { woken_of worker.old ≡ [] }
         ensures held { IsHeldAt K.rules self.now worker.new held.new }
         ensures turned { TurnsAt K.rules self.now held.old worker.old held.new worker.new result }
         ensures seat { IsSameWorker worker.old worker.new }
+        ensures readies { Readies self.now worker.old worker.new }
     {
         let c = connection as usize;
         match self.grab::<Brand>(worker, held, c) {
@@ -59,9 +61,11 @@ impl<K: Component> Floor<K> {
         requires stage { held.old.body.process.stage ≡ Wishing (Level port) }
         requires output { output_at held.old.body.process port.0 ≡ Some connection }
         requires room { HasRoom held.old.body }
+        requires clear { woken_of worker.old ≡ [] }
         ensures held { IsHeldAt K.rules self.now worker.new held.new }
         ensures turned { TurnsAt K.rules self.now held.old worker.old held.new worker.new result }
         ensures seat { IsSameWorker worker.old worker.new }
+        ensures readies { Readies self.now worker.old worker.new }
     {
         let c = connection as usize;
         match self.grab::<Brand>(worker, held, c) {
@@ -87,9 +91,11 @@ impl<K: Component> Floor<K> {
         requires stage { held.old.body.process.stage ≡ Closing place }
         requires outlet { connection_at (outlets held.old.body.process) place ≡ Some connection }
         requires room { HasRoom held.old.body }
+        requires clear { woken_of worker.old ≡ [] }
         ensures held { IsHeldAt K.rules self.now worker.new held.new }
         ensures turned { TurnsAt K.rules self.now held.old worker.old held.new worker.new result }
         ensures seat { IsSameWorker worker.old worker.new }
+        ensures readies { Readies self.now worker.old worker.new }
     {
         let c = connection as usize;
         match self.grab::<Brand>(worker, held, c) {

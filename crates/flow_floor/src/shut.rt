@@ -130,7 +130,7 @@ impl<K: Component> Floor<K> {
         ensures starved { AllUnset result.net result.starved.items }
         ensures quiet { HasReadZero worker → result.starved.items ≡ [] → IsQuietNet result.net }
     {
-        let Worker { seat } = worker;
+        let Worker { seat, woken: _ } = worker;
         let layout = self.layout();
         let Floor {
             table,

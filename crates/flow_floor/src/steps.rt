@@ -2,7 +2,7 @@
 ghost use Rattle.std.specs.Prelude.{◌≡◌, ◌+◌, ◌<◌, ◌≤◌, ◌++◌, [], length};
 ghost use Rattle.flow_machine.specs.FitNets.{FitNet};
 ghost use Rattle.flow_ring.specs.Words.{held_bit, free_word, level_in, senders_in};
-ghost use Rattle.flow_floor.specs.Floors.{capacity_of, connection_count, opened_net, IsDeedOf, IsGrabbingAt, IsHeldAt, IsSameWorker, IsWakingAt};
+ghost use Rattle.flow_floor.specs.Floors.{capacity_of, connection_count, opened_net, woken_of, IsDeedOf, IsGrabbingAt, IsHeldAt, IsSameWorker, IsWakingAt, Readies};
 ghost use Rattle.flow_floor.specs.Workers.{view, Agrees, HasGrabbed, MatchGrabbed};
 ghost use Rattle.flow_floor.specs.Views.{seeing, stamping, releasing};
 ghost use Rattle.flow_floor.specs.Ahead.{IsUnturned};
@@ -31,7 +31,7 @@ impl<K: Component> Floor<K> {
         requires most { S.most ≡ capacity_of self.now connection }
         requires held { IsHeldAt K.rules self.now worker.old held.now }
         requires range { connection < connection_count self.now }
-        ensures { MatchGrabbed result (λ w. (held_bit ≤ w) × IsHeldAt K.rules self.now worker.new held.now × (view worker.new ≡ seeing (view worker.old) (self.now.processes + connection) w)) (λ w k. IsGrabbingAt K.rules self.now worker.new held.now connection k × HasGrabbed K.rules worker.old worker.new self.now.processes connection (capacity_of self.now connection) w k) }
+        ensures { MatchGrabbed result (λ w. (held_bit ≤ w) × IsHeldAt K.rules self.now worker.new held.now × (view worker.new ≡ seeing (view worker.old) (self.now.processes + connection) w) × (woken_of worker.new ≡ woken_of worker.old)) (λ w k. IsGrabbingAt K.rules self.now worker.new held.now connection k × HasGrabbed K.rules worker.old worker.new self.now.processes connection (capacity_of self.now connection) w k) }
     {
         let shared = &self.table.shared;
         let place = self.layout().connection_word(connection);
@@ -58,6 +58,7 @@ impl<K: Component> Floor<K> {
         ensures table { worker.new.seat.table_id ≡ worker.old.seat.table_id }
         ensures view { view worker.new ≡ stamping (view worker.old) result D.event D.after }
         ensures slots { worker.new.seat.me.1 ≡ worker.old.seat.me.1 }
+        ensures woken { woken_of worker.new ≡ woken_of worker.old }
         ensures above { Below result (view worker.old).made }
         ensures machine { MachineTurn K.rules (opened_net self.now) (view worker.old).made result held.now.process held.now.body D.event }
     {
@@ -83,6 +84,7 @@ impl<K: Component> Floor<K> {
         requires notes { Notes (opened_net self.now) connection (view worker.old).word (free_word (length channel.packets) channel.open_senders) (N.notes ++ (view worker.old).noted) }
         ensures waking { IsWakingAt K.rules self.now worker.new held.now N.notes }
         ensures view { view worker.new ≡ releasing (view worker.old) N.notes }
+        ensures woken { woken_of worker.new ≡ woken_of worker.old }
     {
         let _ = held;
         let shared = &self.table.shared;
@@ -108,6 +110,7 @@ impl<K: Component> Floor<K> {
         requires senders { senders_in (view worker.old).word ≤ channel.open_senders }
         ensures held { IsHeldAt K.rules self.now worker.new held.now }
         ensures view { view worker.new ≡ releasing (view worker.old) [] }
+        ensures woken { woken_of worker.new ≡ woken_of worker.old }
     {
         self.release::<Brand>(worker, held, channel, connection);
     }
@@ -123,9 +126,11 @@ impl<K: Component> Floor<K> {
         requires held { IsGrabbingAt K.rules self.now worker.old held.now connection channel }
         requires range { connection < connection_count self.now }
         requires level { level_in (view worker.old).word ≤ length channel.packets }
+        requires clear { woken_of worker.old ≡ [] }
         ensures held { IsHeldAt K.rules self.now worker.new held.now }
         ensures made { (view worker.new).made ≡ (view worker.old).made }
         ensures seat { IsSameWorker worker.old worker.new }
+        ensures readies { Readies self.now worker.old worker.new }
     {
         let receiver = self.plan[connection].receiver;
         self.release::<Brand>(worker, held, channel, connection);
@@ -144,9 +149,11 @@ impl<K: Component> Floor<K> {
         requires range { connection < connection_count self.now }
         requires level { length channel.packets ≤ level_in (view worker.old).word }
         requires senders { senders_in (view worker.old).word ≤ channel.open_senders }
+        requires clear { woken_of worker.old ≡ [] }
         ensures held { IsHeldAt K.rules self.now worker.new held.now }
         ensures made { (view worker.new).made ≡ (view worker.old).made }
         ensures seat { IsSameWorker worker.old worker.new }
+        ensures readies { Readies self.now worker.old worker.new }
     {
         let senders = self.plan[connection].senders.as_slice();
         self.release::<Brand>(worker, held, channel, connection);

@@ -1,7 +1,8 @@
 //! How noted processes are woken.
-ghost use Rattle.std.specs.Prelude.{◌≡◌, ◌+◌, ◌<◌, ◌∷◌, All, Some, length, drop, slice_get};
+ghost use Rattle.std.specs.Prelude.{◌≡◌, ◌+◌, ◌<◌, ◌≤◌, ◌∷◌, [], All, Some, length, drop, slice_get};
+ghost use Rattle.flow_limits.specs.declared.TheConstants.{SENDER_LIMIT};
 ghost use Rattle.flow_plan.specs.declared.plan.Sender.{Sender};
-ghost use Rattle.flow_floor.specs.Floors.{process_count, IsHeldAt, IsSameWorker, IsWakingAt};
+ghost use Rattle.flow_floor.specs.Floors.{process_count, woken_of, IsHeldAt, IsSameWorker, IsWakingAt, Readies, WakesOne};
 ghost use Rattle.flow_floor.specs.Sending.{is_followed, sending_processes};
 ghost use Rattle.flow_floor.specs.Workers.{view};
 
@@ -35,9 +36,11 @@ impl<K: Component> Floor<K> {
     fn rouse(&self, worker: &mut Worker<K>, held: &Held<K>, process: usize)
         requires waking { IsWakingAt K.rules self.now worker.old held.now (process ∷ drop 1 (view worker.old).noted) }
         requires below { process < process_count self.now }
+        requires room { length (woken_of worker.old) < SENDER_LIMIT }
         ensures waking { IsWakingAt K.rules self.now worker.new held.now (drop 1 (view worker.old).noted) }
         ensures made { (view worker.new).made ≡ (view worker.old).made }
         ensures seat { IsSameWorker worker.old worker.new }
+        ensures one { WakesOne self.now worker.old worker.new }
     {
         let _ = held;
         let shared = &self.table.shared;
@@ -47,6 +50,8 @@ impl<K: Component> Floor<K> {
         let found = shared.fetch_or::<Poke>(&mut worker.seat, place, POKE);
         if found != 0 {
             shared.fetch_sub::<Lower>(&mut worker.seat, live, 1);
+        } else {
+            worker.woken.add(process as u32);
         }
     }
 
@@ -55,9 +60,11 @@ impl<K: Component> Floor<K> {
     pub(crate) fn wake(&self, worker: &mut Worker<K>, held: &Held<K>, process: usize)
         requires waking { IsWakingAt K.rules self.now worker.old held.now (process ∷ drop 1 (view worker.old).noted) }
         requires below { process < process_count self.now }
+        requires room { length (woken_of worker.old) < SENDER_LIMIT }
         ensures waking { IsWakingAt K.rules self.now worker.new held.now (drop 1 (view worker.old).noted) }
         ensures made { (view worker.new).made ≡ (view worker.old).made }
         ensures seat { IsSameWorker worker.old worker.new }
+        ensures one { WakesOne self.now worker.old worker.new }
     {
         let shared = &self.table.shared;
         let place = self.layout().process_word(process);
@@ -78,9 +85,12 @@ impl<K: Component> Floor<K> {
     pub(crate) fn wake_senders(&self, worker: &mut Worker<K>, held: &Held<K>, senders: &[Sender])
         requires waking { IsWakingAt K.rules self.now worker.old held.now (sending_processes senders.now) }
         requires below { All (λ (s : Sender). s.process < process_count self.now) senders.now }
+        requires few { length senders.now ≤ SENDER_LIMIT }
+        requires clear { woken_of worker.old ≡ [] }
         ensures held { IsHeldAt K.rules self.now worker.new held.now }
         ensures made { (view worker.new).made ≡ (view worker.old).made }
         ensures seat { IsSameWorker worker.old worker.new }
+        ensures readies { Readies self.now worker.old worker.new }
     {
         for i in 0..senders.len() {
             if !is_followed(senders, i) {

@@ -25,8 +25,8 @@ module _ {K : Type 0} where
 
   -- A worker that is the same after one call and after the next is the same after both.
   pub same-trans : (u v w : View K) → IsSameSeat u v → IsSameSeat v w → IsSameSeat u w
-  same-trans u v w a b = record { shares = b.shares ∙ a.shares; zero = b.zero ∙ a.zero }
+  same-trans u v w a b = record { shares = b.shares ∙ a.shares; zero = b.zero ∙ a.zero; asked = b.asked ∙ a.asked }
 
   -- A view that kept share and zero is the same worker's.
-  pub same-view : (u v w : View K) → w ≡ v → v.shares ≡ u.shares → v.read_zero ≡ u.read_zero → IsSameSeat u w
-  same-view u v w e s z = record { shares = ap (λ x. x.shares) e ∙ s; zero = ap (λ x. x.read_zero) e ∙ z }
+  pub same-view : (u v w : View K) → w ≡ v → v.shares ≡ u.shares → v.read_zero ≡ u.read_zero → v.asked ≡ u.asked → IsSameSeat u w
+  same-view u v w e s z a = record { shares = ap (λ x. x.shares) e ∙ s; zero = ap (λ x. x.read_zero) e ∙ z; asked = ap (λ x. x.asked) e ∙ a }

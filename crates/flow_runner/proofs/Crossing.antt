@@ -10,6 +10,7 @@ use Rattle.std.proofs.Crossing as heap
 use Rattle.std.proofs.Crossing.{crosses}
 use Rattle.std.specs.contracts.alloc.Global as Heap
 use Rattle.std.specs.contracts.impls.GlobalAllocator.TheImpl.{ghosts}
+use Rattle.std.specs.contracts.option.Option as Option
 use Rattle.std.specs.contracts.vec.Vec as Vec
 use Rattle.atomic_table.specs.declared.shared.TableRule as Rule
 use Rattle.atomic_table.specs.contracts.owned.Table as Table
@@ -25,8 +26,14 @@ use Rattle.flow_machine.specs.contracts.inlet.Inlet as Inlet
 use Rattle.flow_machine.specs.contracts.body.Body as Body
 use Rattle.flow_machine.specs.contracts.channel.Channel as Channel
 use Rattle.flow_floor.specs.contracts.board.Slot as Slot
+use Rattle.flow_floor.specs.contracts.board.View as View
 use Rattle.flow_floor.specs.contracts.floor.Worker as Worker
+use Rattle.flow_floor.specs.contracts.roll.Roll as Roll
 use Rattle.flow_floor.specs.contracts.floor.Floor as Floor
+use Rattle.flow_runner.specs.contracts.line.Line as Line
+use Rattle.flow_runner.specs.contracts.line.LinePass as LinePass
+use Rattle.flow_runner.specs.contracts.server.Server as Server
+use Rattle.flow_runner.proofs.rest.Bell.TheSendSync as Bell
 
 inlet-send : IsSend Inlet.the_row
 inlet-send = search (sendable, crosses) depth 20
@@ -46,9 +53,13 @@ body-send K g s = search (sendable, crosses, inlet-send, hands-send) depth 40 fi
 slot-send : (K : RattleType) (g : Component.Ghosts K.Denot) → IsSend K → IsSend (Slot.the_row K g)
 slot-send K g s = search (sendable, body-send, channel-send) depth 20
 
--- A worker has a seat at the table.
+-- A list of processes.
+roll-send : IsSend Roll.the_row
+roll-send = search (sendable, crosses) depth 20
+
+-- A worker has a seat at the table, and such a list.
 pub worker-send : (K : RattleType) (g : Component.Ghosts K.Denot) → IsSend K → IsSend (Worker.the_row K g)
-worker-send K g s = search (sendable, slot-send, Seat.the_send) depth 20
+worker-send K g s = search (sendable, crosses, slot-send, Seat.the_send, roll-send) depth 40 fits 10000
 
 -- a table on the heap, whose leases of words and of slots stay with it
 table-sync : (S V K P : RattleType) (g : Rule.Ghosts P.Denot S.Denot V.Denot K.Denot) → IsSend S → IsSync (Table.the_field S V K P Heap.the_row g ghosts).row
@@ -68,6 +79,18 @@ connections-sync = search (sendable, crosses, connection-sync) depth 20
 pub floor-sync : (K : RattleType) (g : Component.Ghosts K.Denot) → IsSend K → IsSync (Floor.the_row K g)
 floor-sync K g s = let slot = slot-send K g s in search (sendable, table-sync, connections-sync) depth 20
 
--- So may a reference to a number.
-pub number-sync : (ℓ : Lifetime) (κ : Lft) → IsSync (ShrRef ℓ κ u64)
-number-sync ℓ κ = search sendable
+-- A pass of the line.
+pass-send : IsSend LinePass.the_row
+pass-send = search (sendable, Seat.the_send) depth 20
+
+-- A worker with its pass.
+pub server-send : (K : RattleType) (g : Component.Ghosts K.Denot) → IsSend K → IsSend (Server.the_row K g)
+server-send K g s = let worker = worker-send K g s in search (sendable, crosses, Seat.the_send, slot-send, pass-send) depth 40 fits 10000
+
+-- The line.
+pub line-sync : IsSync Line.the_row
+line-sync = search (sendable, crosses, table-sync, Bell.the_sync) depth 20
+
+-- So may a reference to a budget.
+pub budget-sync : (ℓ : Lifetime) (κ : Lft) → IsSync (ShrRef ℓ κ (Option.the_row u64))
+budget-sync ℓ κ = search sendable depth 20

@@ -2,3 +2,4 @@ pub mod Attempts
 pub mod Crews
 pub mod Fair
 pub mod Lines
+pub mod Serving

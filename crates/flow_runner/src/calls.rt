@@ -5,6 +5,7 @@ ghost use Rattle.flow_runner.specs.Lines.{IsPassAt, IsAlone, IsNewPass, AreAllPa
 ghost use Rattle.std.specs.Prelude.{◌≡◌, ℕ, ◌+◌, ◌<◌, ◌≤◌, ◌++◌, ◌∷◌, [], All, IfOk, IsFalse, IsTrue, MatchOption, length, sum_by, vec_capacity};
 
 use crate::line::{Begin, Cut, Line, LinePass, Puts, Size, Takes};
+use crate::rest::Bell;
 use crossbeam_queue::RuledArrayQueue;
 use std::alloc::{AllocError, Global};
 use std::marker::Brand;
@@ -48,6 +49,7 @@ impl Line {
         let line = Line {
             queue,
             processes,
+            bell: Bell::new(),
             left,
         };
         let passes = line.cut(passes, LinePass { pass }, workers);
@@ -116,6 +118,7 @@ impl Line {
         let Line {
             queue,
             processes: _,
+            bell: _,
             mut left,
         } = self;
         queue.learn_as::<Takes>(&mut only.pass);

@@ -1,15 +1,13 @@
 //! The workers together.
 ghost use Rattle.flow_floor.specs.Crew.{made_by};
-ghost use Rattle.flow_floor.specs.Floors.{HasReadZero, HasSameShare, IsCrewOf, IsIdleAt};
 ghost use Rattle.flow_floor.specs.Shut.{IsShut};
 ghost use Rattle.flow_limits.specs.declared.TheConstants.{WORKER_LIMIT};
 ghost use Rattle.flow_machine.specs.Quiet.{AllUnset, IsQuietNet};
 ghost use Rattle.flow_machine.specs.Solo.{ReachesNet};
 ghost use Rattle.flow_runner.specs.Crews.{HasWorkers, workers_in};
-ghost use Rattle.std.specs.Prelude.{◌≡◌, ◌≤◌, All, IfOk, [], length};
+ghost use Rattle.std.specs.Prelude.{◌≡◌, ◌≤◌, IfOk, [], length};
 
-use crate::rest::Bell;
-use crate::serve::serve;
+use crate::together::make_turns;
 use crate::worked::{Crew, Worked};
 use flow_component::{Component, Gate};
 use flow_floor::{Floor, OpenStop, Opened, Worker};
@@ -18,7 +16,6 @@ use flow_machine::{Closed, Net};
 use std::alloc::Global;
 use std::snapshot::Snapshot;
 use std::sync::Wait;
-use std::thread;
 use std::thread::Threads;
 
 /// Why a network isn't run. It is given up then.
@@ -57,33 +54,6 @@ impl<K: Component> Worked<K> {
     }
 }
 
-/// Has each worker make turns in a thread of its own.
-fn serve_all<K: Component + Send, G: Gate + Sync, R: Threads + Wait + Sync>(
-    rt: &R,
-    floor: &Floor<K>,
-    crew: &mut [Worker<K>],
-    workers: u32,
-    gate: &G,
-)
-    requires least { 1 ≤ workers }
-    requires crew { IsCrewOf floor.now crew.old }
-    ensures crew { IsCrewOf floor.now crew.new × (length crew.new ≡ length crew.old) }
-    ensures zero { All HasReadZero crew.new }
-{
-    let bell = Bell::new();
-    thread::for_each_mut(
-        rt,
-        crew,
-        workers as usize,
-        &|number: usize, worker: &mut Worker<K>|
-            requires { IsIdleAt floor.now worker.old }
-            ensures idle { IsIdleAt floor.entry.now worker.new }
-            ensures share { HasSameShare worker.old worker.new }
-            ensures zero { HasReadZero worker.new }
-        { serve(rt, floor, worker, number, gate, &bell) },
-    );
-}
-
 /// Runs a network by so many workers, each in a thread of its own, until no process will ever have a turn again, and tells who they were: all turns of
 /// the run are theirs, each that of one of them. Takes memory for the floor and for what the components do, and none for a turn.
 pub fn run<K: Component + Send, G: Gate + Sync, R: Threads + Wait + Sync>(
@@ -110,11 +80,18 @@ pub fn run<K: Component + Send, G: Gate + Sync, R: Threads + Wait + Sync>(
     };
     let Opened {
         floor,
-        workers: mut crew,
+        workers: crew,
         rooms,
     } = opened;
-    serve_all(rt, &floor, crew.as_mut_slice(), workers, gate);
-    let by = Crew::of(&crew);
-    let closed = floor.close(crew, rooms);
-    Ok(Worked { closed, crew: by })
+    match make_turns(rt, alloc, &floor, crew, workers, gate, None) {
+        Ok(crew) => {
+            let by = Crew::of(&crew);
+            let closed = floor.close(crew, rooms);
+            Ok(Worked { closed, crew: by })
+        }
+        Err(crew) => {
+            floor.discard(crew, rooms);
+            Err(RunStop::NoMemory)
+        }
+    }
 }

@@ -6,12 +6,16 @@ mod calls;
 mod crew;
 mod line;
 mod paused;
+mod readied;
 mod rest;
-mod serve;
+mod service;
+mod server;
+mod together;
 mod work;
 mod worked;
 
 pub use crew::{RunStop, run};
 pub use line::{Line, LinePass};
 pub use paused::run_for;
+pub use service::serve;
 pub use worked::{Crew, Worked};

@@ -2,6 +2,7 @@
 ghost use Rattle.crossbeam_queue.specs.Passes.{ruled_capacity};
 ghost use Rattle.std.specs.Prelude.{◌≡◌, ◌≤◌, [], vec_capacity};
 
+use crate::rest::Bell;
 use crossbeam_queue::protocol::{Join, Lesson, Outcome, Protocol, Split};
 use crossbeam_queue::{Pass, RuledArrayQueue};
 use std::collections::LinkedList;
@@ -114,6 +115,8 @@ pub struct LinePass {
 pub struct Line {
     pub(crate) queue: RuledArrayQueue<u32, Hand, Fairly>,
     pub(crate) processes: u32,
+    /// Ends the sleeps of those who found it empty.
+    pub(crate) bell: Bell,
     /// Room for what is left at the end.
     pub(crate) left: Vec<u32>,
     pub ghost sized: { ruled_capacity queue ≡ processes },

@@ -1,15 +1,18 @@
 //! What a worker does with one process.
-ghost use Rattle.flow_floor.specs.Floors.{IsHeldAt, IsIdleAt, IsSameWorker, IsWiredAt, process_count, turns_of};
-ghost use Rattle.flow_machine.specs.Thoughts.{PassesFirst};
+ghost use Rattle.flow_floor.specs.Floors.{IsHeldAt, IsIdleAt, IsSameWorker, IsWiredAt, HasSameShare, Readies, TurnsAt, asked_of, process_count, turns_of};
+ghost use Rattle.flow_machine.specs.Thoughts.{IsSet, PassesFirst};
 ghost use Rattle.flow_runner.specs.Attempts.{Adds, MayGo, Spends};
-ghost use Rattle.std.specs.Prelude.{◌≡◌, ◌<◌};
+ghost use Rattle.flow_runner.specs.Lines.{IsPassAt};
+ghost use Rattle.flow_runner.specs.Serving.{IsLineFor, Pushes};
+ghost use Rattle.std.specs.Prelude.{◌≡◌, ◌<◌, ◌++◌, [], ◌∷◌};
 
+use crate::line::{Line, LinePass};
+use crate::readied::push_woken;
 use flow_component::{Component, Gate};
 use flow_floor::{Claim, Floor, Held, Turned, Worker};
+use flow_limits::RUN_LIMIT;
 use flow_machine::{Over, Thought};
-
-/// The most turns that a worker makes of a process before it hands it back, so that the others have theirs.
-const BURST: u32 = 64;
+use std::sync::Wait;
 
 /// What an attempt at a turn of a held process came to.
 pub(crate) enum Attempt {
@@ -23,24 +26,55 @@ pub(crate) enum Attempt {
     Over(Over),
 }
 
-/// Has the held process think, and makes its turn if it has one now.
-fn try_turn<K: Component, G: Gate>(
+/// A turn of the held process, if it has one now. Those whom it made ready are pushed.
+fn make_turn<K: Component, R: Wait>(
+    rt: &R,
     floor: &Floor<K>,
+    line: &Line,
     worker: &mut Worker<K>,
+    pass: &mut LinePass,
+    held: &mut Held<K>,
+) -> Turned
+    requires held { IsHeldAt K.rules floor.now worker.old held.old }
+    requires wired { IsWiredAt floor.now held.old }
+    requires set { IsSet held.old.body }
+    requires line { IsLineFor floor.now line.now }
+    requires pass { IsPassAt line.now pass.old }
+    ensures held { IsHeldAt K.rules floor.now worker.new held.new }
+    ensures wired { IsWiredAt floor.now held.new }
+    ensures turned { TurnsAt K.rules floor.now held.old worker.old held.new worker.new result }
+    ensures same { IsSameWorker worker.old worker.new }
+    ensures pushes { Pushes line.now worker.old pass.old worker.new pass.new }
+{
+    let turned = floor.turn(worker, held);
+    push_woken(rt, line, worker, pass);
+    turned
+}
+
+/// Has the held process think, and makes its turn if it has one now.
+fn try_turn<K: Component, G: Gate, R: Wait>(
+    rt: &R,
+    floor: &Floor<K>,
+    line: &Line,
+    worker: &mut Worker<K>,
+    pass: &mut LinePass,
     held: &mut Held<K>,
     gate: &G,
 ) -> Attempt
     requires held { IsHeldAt K.rules floor.now worker.old held.old }
     requires wired { IsWiredAt floor.now held.old }
+    requires line { IsLineFor floor.now line.now }
+    requires pass { IsPassAt line.now pass.old }
     ensures held { IsHeldAt K.rules floor.now worker.new held.new }
     ensures wired { IsWiredAt floor.now held.new }
     ensures may { MayGo floor.now worker.new held.new result }
     ensures same { IsSameWorker worker.old worker.new }
     ensures adds { Adds result (turns_of worker.old) (turns_of worker.new) }
     ensures passed { PassesFirst (G.has_passed gate.now) held.old.body }
+    ensures pushes { Pushes line.now worker.old pass.old worker.new pass.new }
 {
     match held.think(gate) {
-        Thought::Wishing => match floor.turn(worker, held) {
+        Thought::Wishing => match make_turn(rt, floor, line, worker, pass, held) {
             Turned::Made(_) => Attempt::Made,
             Turned::Busy(_, _) => Attempt::Busy,
             Turned::Blocked(_, _) => Attempt::Blocked,
@@ -51,26 +85,32 @@ fn try_turn<K: Component, G: Gate>(
     }
 }
 
-/// Makes turns of the held process, up to a burst and no more than are left, while it has them.
-fn work<K: Component, G: Gate>(
+/// Makes turns of the held process, no more than are left, while it has them. No run has more than `RUN_LIMIT`.
+fn work<K: Component, G: Gate, R: Wait>(
+    rt: &R,
     floor: &Floor<K>,
+    line: &Line,
     worker: &mut Worker<K>,
+    pass: &mut LinePass,
     held: &mut Held<K>,
     gate: &G,
     left: &mut u64,
 ) -> Attempt
     requires held { IsHeldAt K.rules floor.now worker.old held.old }
     requires wired { IsWiredAt floor.now held.old }
+    requires line { IsLineFor floor.now line.now }
+    requires pass { IsPassAt line.now pass.old }
     ensures held { IsHeldAt K.rules floor.now worker.new held.new }
     ensures may { MayGo floor.now worker.new held.new result }
     ensures same { IsSameWorker worker.old worker.new }
     ensures spends { Spends (turns_of worker.old) left.old (turns_of worker.new) left.new }
+    ensures pushes { Pushes line.now worker.old pass.old worker.new pass.new }
 {
-    for _turn in 0..BURST {
+    for _turn in 0..RUN_LIMIT {
         if *left == 0 {
             return Attempt::Made;
         }
-        match try_turn(floor, worker, held, gate) {
+        match try_turn(rt, floor, line, worker, pass, held, gate) {
             Attempt::Made => *left -= 1,
             Attempt::Busy => return Attempt::Busy,
             Attempt::Blocked => return Attempt::Blocked,
@@ -87,6 +127,7 @@ fn let_go<K: Component>(floor: &Floor<K>, worker: &mut Worker<K>, held: Held<K>,
     ensures idle { IsIdleAt floor.now worker.new }
     ensures same { IsSameWorker worker.old worker.new }
     ensures made { turns_of worker.new ≡ turns_of worker.old }
+    ensures readies { Readies floor.now worker.old worker.new }
 {
     match last {
         Attempt::Made => floor.hand_back(worker, held),
@@ -96,27 +137,35 @@ fn let_go<K: Component>(floor: &Floor<K>, worker: &mut Worker<K>, held: Held<K>,
     }
 }
 
-/// Claims the process, and makes turns of it. False: it wasn't ready, or was left to the worker that holds its connection.
-pub(crate) fn tend<K: Component, G: Gate>(
+/// Claims the process, which was popped, and makes turns of it; whoever is ready by that is pushed. False: it was left to the worker that holds its connection.
+pub(crate) fn tend<K: Component, G: Gate, R: Wait>(
+    rt: &R,
     floor: &Floor<K>,
+    line: &Line,
     worker: &mut Worker<K>,
+    pass: &mut LinePass,
     process: usize,
     gate: &G,
     left: &mut u64,
 ) -> bool
     requires idle { IsIdleAt floor.now worker.old }
     requires range { process < process_count floor.now }
+    requires line { IsLineFor floor.now line.now }
+    requires pass { IsPassAt line.now pass.old }
     ensures idle { IsIdleAt floor.now worker.new }
-    ensures same { IsSameWorker worker.old worker.new }
+    ensures share { HasSameShare worker.old worker.new }
+    ensures asked { asked_of worker.new ≡ asked_of worker.old ++ process ∷ [] }
     ensures spends { Spends (turns_of worker.old) left.old (turns_of worker.new) left.new }
+    ensures pushes { Pushes line.now worker.old pass.old worker.new pass.new }
 {
     match floor.claim(worker, process) {
         Claim::Held(mut held) => {
-            let last = work(floor, worker, &mut held, gate, left);
+            let last = work(rt, floor, line, worker, pass, &mut held, gate, left);
             let waits = matches!(&last, Attempt::Busy);
             let_go(floor, worker, held, last);
+            push_woken(rt, line, worker, pass);
             !waits
         }
-        Claim::NotReady(_) => false,
+        Claim::NotReady(_) => true,
     }
 }

@@ -1,11 +1,11 @@
 use Rattle.flow_runner.proofs.Attempts.{stuck-still}
 use Rattle.flow_runner.proofs.work.try_turn.Goals as goal
 
-pub turn-requires-clause-held : goal.turn-requires-clause-held
-turn-requires-clause-held g c = c.think.ensures.held c.args.floor.now c.args.worker.now c.requires.held
+pub make_turn-requires-clause-held : goal.make_turn-requires-clause-held
+make_turn-requires-clause-held g c = c.think.ensures.held c.args.floor.now c.args.worker.now c.requires.held
 
 pub returns-in-Blocked-clause-may : goal.returns-in-Blocked-clause-may
-returns-in-Blocked-clause-may g c = let t = c.in-Blocked.ensures.turned in stuck-still c.args.floor.now c.turn.new.worker c.think.new.self c.turn.new.held t.0.0 t.1.stays
+returns-in-Blocked-clause-may g c = let t = c.in-Blocked.ensures.turned in stuck-still c.args.floor.now c.make_turn.new.worker c.think.new.self c.make_turn.new.held t.0.0 t.1.stays
 
 pub returns-in-Failed-clause-held : goal.returns-in-Failed-clause-held
 returns-in-Failed-clause-held g c = c.think.ensures.held c.args.floor.now c.args.worker.now c.requires.held

@@ -52,6 +52,7 @@ returns g c = let q = c.requires.worker in let e = c.compare_exchange-found.ensu
       },
       subst (λ z. IsWiredIn c.args.self.now.connections z) body_is (subst (λ n. IsWiredIn n b) c.requires.spot t.2),
       me0 ∙ ap (λ z. claiming c.args.worker.now.seat.me.0 c.args.process z) body_is,
+      refl,
     )
 
 pub returns-then-found-ne-READY : goal.returns-then-found-ne-READY
@@ -67,4 +68,5 @@ returns-then-found-ne-READY g c = let q = c.requires.worker in let e = c.compare
         slots = ap (λ x. x.1) m ∙ q.slots;
       },
       v,
+      refl,
     )

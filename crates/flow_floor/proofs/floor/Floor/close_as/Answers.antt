@@ -11,4 +11,4 @@ returns-clause-held g c = let f = c.args.self.now in let q = c.requires.held in 
 pub returns-clause-turn : goal.returns-clause-turn
 returns-clause-turn g c = let s = c.stamp-stamp.ensures in
     let t = close-deed c.args.held.now.body c.effect.new.self (slice_get (outlets c.args.held.now.body.process) c.args.place) c.args.connection c.stamp-stamp.result c.args.channel.now c.close_one.new.self g.D.Deed.event c.requires.event c.requires.outlet c.close_one.ensures c.effect.ensures in
-    record { process = refl; body = t.0; machine = s.machine; above = s.above; view = s.view }
+    record { process = refl; body = t.0; machine = s.machine; above = s.above; view = s.view; woken = s.woken }

@@ -25,4 +25,4 @@ returns-clause-held g c = let f = c.args.self.now in let s = c.stamp-stamp.ensur
 pub returns-clause-turn : goal.returns-clause-turn
 returns-clause-turn g c = let s = c.stamp-stamp.ensures in
     let turn = body-turn c.args.held.now.body c.effect.new.self effects.Deactivate c.stamp-stamp.result Sleeps c.effect.ensures refl refl refl in
-    record { process = refl; body = subst (λ (e : Event). BodyTurn c.args.held.now.body e c.stamp-stamp.result c.effect.new.self) (sym c.requires.event) turn; machine = s.machine; above = s.above; view = s.view }
+    record { process = refl; body = subst (λ (e : Event). BodyTurn c.args.held.now.body e c.stamp-stamp.result c.effect.new.self) (sym c.requires.event) turn; machine = s.machine; above = s.above; view = s.view; woken = s.woken }

@@ -1,6 +1,7 @@
 use Rattle.std.proofs.Common.{◌≡◌, ◌∙◌, Some, length, slice_get, sym, ap, arith}
 use Rattle.std.proofs.lemmas.Option.{slice_get_read}
 use Rattle.flow_floor.proofs.Planned.{connection-count, receiver-below, receiver_at-is}
+use Rattle.flow_floor.proofs.Rolls.{readies-more, readies-none}
 use Rattle.flow_floor.proofs.Turnings.{first-noted, receiver-notes, rest-noted, waking-none}
 use Rattle.flow_floor.proofs.floor.Floor.give_back_waking_receiver.Goals as goal
 use Rattle.flow_floor.proofs.floor.Floor.give_back_waking_receiver.Goals.{After-index}
@@ -27,3 +28,7 @@ wake-requires-clause-below g c = let f = c.args.self.now in
 pub returns-clause-held : goal.returns-clause-held
 returns-clause-held g c = let named = receiver_at-is c.args.self.now.plan.items c.args.connection c.index.result.now (at g (goal.at.returns-clause-held g c).After-index) in
     waking-none _ _ _ _ c.args.held.now (rest-noted _ _ _ _ _ c.args.held.now c.index.result.now.receiver _ _ named c.release.ensures.waking c.wake.ensures.waking)
+
+pub returns-clause-readies : goal.returns-clause-readies
+returns-clause-readies g c = let f = c.args.self.now in let e = c.release.ensures in
+    readies-more f c.args.worker.now c.release.new.worker c.wake.new.worker (readies-none f c.args.worker.now c.release.new.worker (e.woken ∙ c.requires.clear) (ap (λ v. v.readied) e.view)) c.wake.ensures.one

@@ -3,7 +3,8 @@ use Rattle.std.proofs.lemmas.Option.{slice_get_read}
 use Rattle.flow_plan.specs.declared.plan.Sender.{Sender}
 use Rattle.flow_floor.specs.Sending.{sending_processes}
 use Rattle.flow_floor.specs.Workers.{IsWaking}
-use Rattle.flow_floor.proofs.Planned.{connection-count, senders-below, senders_at-is}
+use Rattle.flow_floor.proofs.Planned.{connection-count, senders-below, senders-few, senders_at-is}
+use Rattle.flow_floor.proofs.Rolls.{readies-after}
 use Rattle.flow_floor.proofs.Turnings.{senders-notes}
 use Rattle.flow_floor.proofs.floor.Floor.give_back_waking_senders.Goals as goal
 use Rattle.flow_floor.proofs.floor.Floor.give_back_waking_senders.Goals.{After-index}
@@ -29,3 +30,11 @@ wake_senders-requires-clause-below g c = let f = c.args.self.now in
     let there = ap (λ xs. slice_get xs c.args.connection) (sym f.planned) ∙ at g (goal.at.wake_senders-requires-clause-below g c).After-index in
     let low = senders-below f.table.shared.key.value f.wired c.args.connection c.index.result.now there in
     subst (λ (ss : List Sender). All (λ (s : Sender). s.process < f.processes) ss) (sym c.as_slice-senders.ensures) (subst (λ (n : ℕ). All (λ (s : Sender). s.process < n) c.index.result.now.senders) f.bodies low)
+
+pub wake_senders-requires-clause-few : goal.wake_senders-requires-clause-few
+wake_senders-requires-clause-few g c = let f = c.args.self.now in
+    let there = ap (λ xs. slice_get xs c.args.connection) (sym f.planned) ∙ at g (goal.at.wake_senders-requires-clause-few g c).After-index in
+    omega (arith, senders-few f.table.shared.key.value f.wired c.args.connection c.index.result.now there, ap (λ xs. length xs) c.as_slice-senders.ensures)
+
+pub returns-clause-readies : goal.returns-clause-readies
+returns-clause-readies g c = readies-after c.args.self.now c.args.worker.now c.release.new.worker c.wake_senders.new.worker (ap (λ v. v.readied) c.release.ensures.view) c.wake_senders.ensures.readies

@@ -1,4 +1,4 @@
-use Rattle.std.proofs.Common.{◌≡◌, ℕ, ◌+◌, bit_or, ◌<◌, [], ◌∷◌, Some, length, arith, sym, ap, ◌∙◌, subst, ◌≤◌}
+use Rattle.std.proofs.Common.{◌≡◌, refl, ℕ, ◌+◌, bit_or, ◌<◌, [], ◌∷◌, Some, length, arith, sym, ap, ◌∙◌, subst, ◌≤◌}
 use mathlib.Core.Option.{none}
 use Rattle.std.proofs.lemmas.Bool.Decides.{nat_tests}
 use Rattle.atomic_table.specs.Table.{rest, step}
@@ -38,6 +38,7 @@ returns-then-is_held g c = let q = c.requires.held in let e = c.fetch_or-word.en
     slots = ap (λ x. x.1) m ∙ q.slots;
   },
   v,
+  refl,
 )
 
 pub exchange-old-requires : goal.exchange-old-requires
@@ -70,5 +71,5 @@ returns g c = let told = sym c.is_held.ensures ∙ c.if-is_held.false in let low
         level = omega (arith, level);
         senders = omega (arith, senders);
       },
-      record { level = level; senders = senders; capacity = ap (λ z. z.capacity) (sym k_is) ∙ t.3 ∙ c.requires.most; so = subst (λ (z : ℕ × ℕ × ChannelShown). WasSo g.K.Component.rules z.0 old.0.held old.0.seen z.1 z.2) (λ j. (c.requires.processes j, c.requires.spot j, k_is j)) t.4; view = me0 ∙ ap (λ z. grabbing old.0 i r c.args.connection z) k_is },
+      record { level = level; senders = senders; capacity = ap (λ z. z.capacity) (sym k_is) ∙ t.3 ∙ c.requires.most; so = subst (λ (z : ℕ × ℕ × ChannelShown). WasSo g.K.Component.rules z.0 old.0.held old.0.seen z.1 z.2) (λ j. (c.requires.processes j, c.requires.spot j, k_is j)) t.4; view = me0 ∙ ap (λ z. grabbing old.0 i r c.args.connection z) k_is; woken = refl },
     )

@@ -16,6 +16,7 @@ loop-i-preserved g c = let i = c.loop-i.invariant in let z = c.args.self.now.tab
       room = c.push_reserved.ensures.capacity ∙ i.room;
       new = new-cut c.loop-i.first c.split-other.new.worker e.old.1 i.new;
       fresh = subst (All IsNewWorker) (sym items) (all-push IsNewWorker c.loop-i.crew.items c.split-other.result i.fresh (new-comer c.split-other.result 1 e.new.1));
+      rolls = omega (arith, i.rolls, ap (λ xs. length xs) c.in-Some.ensures.items, length-append c.pop.new.self.items (c.in-Some.roll ∷ []));
     }
 
 pub returns-clause-crew : goal.returns-clause-crew

@@ -15,4 +15,5 @@ invariant-loop-i g l = record {
   room : vec_capacity l.crew ≡ vec_capacity l.fn.crew;
   new : IsNewWorker l.first;
   fresh : All IsNewWorker l.crew.items;
+  rolls : length l.rolls.items + l._i ≡ l.fn.workers;
 }

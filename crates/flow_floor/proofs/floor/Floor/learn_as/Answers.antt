@@ -16,4 +16,4 @@ returns-clause-held g c = let f = c.args.self.now in let q = c.requires.held in 
 pub returns-clause-turn : goal.returns-clause-turn
 returns-clause-turn g c = let s = c.stamp-stamp.ensures in
     let t = learn-deed c.args.held.now.body c.effect.new.self c.args.port.0 c.level.result (length c.args.channel.now.packets) c.stamp-stamp.result c.args.channel.now g.D.Deed.event c.requires.event c.level.ensures c.effect.ensures in
-    record { process = refl; body = t.0; machine = s.machine; above = s.above; view = s.view }
+    record { process = refl; body = t.0; machine = s.machine; above = s.above; view = s.view; woken = s.woken }

@@ -2,6 +2,7 @@ use Rattle.std.proofs.Common.{◌≡◌, ◌+◌, ◌<◌, arith, refl, sym, ap,
 use Rattle.flow_ring.specs.Words.{level_in}
 use Rattle.flow_floor.specs.declared.board.Look.{Look}
 use Rattle.flow_floor.specs.declared.floor.Worker.{Worker}
+use Rattle.flow_floor.specs.Floors.{WakesNone}
 use Rattle.flow_floor.specs.Looks.{Looked, first_open}
 use Rattle.flow_floor.specs.Workers.{view, IsHeldBy, IsSameSeat, LooksOn}
 use Rattle.flow_floor.specs.Views.{look_at}
@@ -18,7 +19,7 @@ loop-i-preserved g c =
     let n = f.processes in
     let inputs = h.body.process.inputs in
     let at = c.input.ensures in
-    let Goal : Worker g.row.K.Denot → Option ℕ → Type 0 = λ w o. IsHeldBy g.K.Component.rules f.table.shared.table_id n w h × LooksOn old (view w) × IsSameSeat old (view w) × Looked n old.steps (c.loop-i.i + 1) inputs (view w).seen o in
+    let Goal : Worker g.row.K.Denot → Option ℕ → Type 0 = λ w o. IsHeldBy g.K.Component.rules f.table.shared.table_id n w h × LooksOn old (view w) × IsSameSeat old (view w) × Looked n old.steps (c.loop-i.i + 1) inputs (view w).seen o × WakesNone c.args.worker.now w in
     elim c.match-input.branch [
       | in-Some+else-level-ne0 w ↦ (let e = w.look-word.ensures in let r = w.look-word.result in
           let look = look_at (view c.loop-i.worker) (n + w.in-Some.connection) r in
@@ -28,15 +29,17 @@ loop-i-preserved g c =
           subst (λ (x : Worker g.row.K.Denot). Goal x c.match-input.open) (sym w.worker-is) (subst (λ (o : Option ℕ). Goal w.look-word.new.worker o) (sym (w.open-is ∙ w.first_open-open.ensures)) (
             e.held,
             looks-then old (view c.loop-i.worker) (view w.look-word.new.worker) inv.1 (looks-one (view c.loop-i.worker) (view w.look-word.new.worker) (n + w.in-Some.connection) r e.view),
-            record { shares = ap (λ v. v.shares) e.view ∙ inv.2.shares; zero = ap (λ v. v.read_zero) e.view ∙ inv.2.zero },
+            record { shares = ap (λ v. v.shares) e.view ∙ inv.2.shares; zero = ap (λ v. v.read_zero) e.view ∙ inv.2.zero; asked = ap (λ v. v.asked) e.view ∙ inv.2.asked },
             subst (λ (xs : List Look). Looked n old.steps (c.loop-i.i + 1) inputs xs (first_open c.loop-i.open r)) (sym (ap (λ v. v.seen) e.view))
                 (looked-more n old.steps c.loop-i.i w.in-Some.connection inputs look (view c.loop-i.worker).seen c.loop-i.open inv.3 (at ∙ w.in-Some.is) refl late none_in),
+            (ap (λ v. v.readied) e.view ∙ inv.4.0, e.woken ∙ inv.4.1),
           )))
       | in_default w ↦ subst (λ (x : Worker g.row.K.Denot). Goal x c.match-input.open) (sym w.worker-is) (subst (λ (o : Option ℕ). Goal c.loop-i.worker o) (sym w.open-is) (
         inv.0,
         inv.1,
         inv.2,
         looked-skip n old.steps c.loop-i.i inputs (view c.loop-i.worker).seen c.loop-i.open inv.3 (at ∙ w.in_default.is),
+        inv.4,
       ))
     ]
 

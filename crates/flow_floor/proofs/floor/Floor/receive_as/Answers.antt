@@ -15,9 +15,9 @@ returns-clause-held g c = let f = c.args.self.now in let q = c.requires.held in 
 pub returns-then-level-eq0-clause-turn : goal.returns-then-level-eq0-clause-turn
 returns-then-level-eq0-clause-turn g c = let s = c.stamp-stamp.ensures in
     let t = end-deed c.args.held.now.body c.effect.new.self c.args.port.0 c.args.connection c.stamp-stamp.result c.args.channel.now g.D.Deed.event c.requires.event (sym c.level.ensures ∙ c.if-level-eq0.true) c.effect.ensures in
-    record { process = refl; body = t.0; machine = s.machine; above = s.above; view = s.view }
+    record { process = refl; body = t.0; machine = s.machine; above = s.above; view = s.view; woken = s.woken }
 
 pub returns-clause-turn : goal.returns-clause-turn
 returns-clause-turn g c = let s = c.stamp-stamp.ensures in
     let t = got-deed c.args.held.now.body c.effect-2.new.self c.args.port.0 c.args.connection c.stamp-stamp.result c.args.channel.now c.take-packet.new.self c.take-packet.result g.D.Deed.event c.requires.event c.take-packet.ensures.oldest c.take-packet.ensures.rest c.effect-2.ensures in
-    record { process = refl; body = t.0; machine = s.machine; above = s.above; view = s.view }
+    record { process = refl; body = t.0; machine = s.machine; above = s.above; view = s.view; woken = s.woken }

@@ -26,5 +26,5 @@ swap-requires g c = let f = c.args.self.now in let q = c.requires.held in let s 
 
 pub returns-clause-waking : goal.returns-clause-waking
 returns-clause-waking g c = let f = c.args.self.now in let x = c.exchange-old.ensures in let w = c.swap.ensures in
-    waking-after g.K.Component.rules f.table.shared.table_id f.processes c.args.worker.now (record { seat = c.swap.new.seat }) c.args.held.now c.args.connection c.args.channel g.N.Noting.notes g.N.Noting.notes c.requires.held (w.0 ∙ x.0)
+    waking-after g.K.Component.rules f.table.shared.table_id f.processes c.args.worker.now (record { seat = c.swap.new.seat; woken = c.args.worker.now.woken }) c.args.held.now c.args.connection c.args.channel g.N.Noting.notes g.N.Noting.notes c.requires.held (w.0 ∙ x.0)
     (ap (λ m. m.0) w.2 ∙ ap (λ m. releasing m.0 g.N.Noting.notes) x.3) (ap (λ m. m.1) w.2 ∙ ap (λ m. rest m.1) x.3 ∙ ap rest c.requires.held.slots) refl

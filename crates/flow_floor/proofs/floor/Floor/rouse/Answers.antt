@@ -1,9 +1,10 @@
-use Rattle.std.proofs.Common.{◌≡◌, ◌+◌, ◌-◌, ◌%◌, ◌^◌, bit_or, ◌<◌, length, drop, arith, sym, ap, ◌∙◌, subst}
+use Rattle.std.proofs.Common.{◌≡◌, refl, ◌+◌, ◌-◌, ◌%◌, ◌^◌, bit_or, ◌<◌, ◌++◌, length, drop, take, arith, sym, ap, ◌∙◌, subst}
 use Rattle.flow_floor.proofs.Lives.{raises, pokes, lowers}
 use mathlib.Core.Option.{none}
 use Rattle.atomic_table.specs.Table.{step}
 use Rattle.flow_floor.specs.Plays.{raised, poked, lowered}
 use Rattle.flow_floor.proofs.Spacing.{apart}
+use Rattle.flow_floor.proofs.Rolls.{poked-none, poked-ready, wakes-none, wakes-this}
 use Rattle.flow_floor.proofs.Turnings.{woken, poked-spare, poked-spent}
 use Rattle.flow_floor.proofs.floor.Floor.rouse.Goals as goal
 
@@ -36,14 +37,24 @@ fetch_sub-requires g c = let f = c.args.self.now in let q = c.requires.waking in
 
 pub returns-then-found-ne0-clause-waking : goal.returns-then-found-ne0-clause-waking
 returns-then-found-ne0-clause-waking g c = let q = c.requires.waking in let e = c.fetch_add.ensures in let d = c.fetch_or-found.ensures in let l = c.fetch_sub.ensures in
-    woken _ _ _ c.args.worker.now (record { seat = c.fetch_sub.new.seat }) c.args.held.now _ _ q (l.0 ∙ d.0 ∙ e.0) (ap (λ m. m.1) l.2 ∙ ap (λ m. m.1) d.2 ∙ ap (λ m. m.1) e.2)
+    woken _ _ _ c.args.worker.now (record { seat = c.fetch_sub.new.seat; woken = c.args.worker.now.woken }) c.args.held.now _ _ q (l.0 ∙ d.0 ∙ e.0) (ap (λ m. m.1) l.2 ∙ ap (λ m. m.1) d.2 ∙ ap (λ m. m.1) e.2)
     (ap (λ m. m.0.shares) l.2 ∙ ap (λ m. m.0.shares) d.2 ∙ ap (λ m. m.0.shares) e.2) (ap (λ m. m.0.grab) l.2 ∙ ap (λ m. m.0.grab) d.2 ∙ ap (λ m. m.0.grab) e.2) (ap (λ m. m.0.held) l.2 ∙ ap (λ m. m.0.held) d.2 ∙ ap (λ m. m.0.held) e.2)
     (ap (λ m. m.0.noted) l.2 ∙ ap (λ m. m.0.noted) d.2 ∙ ap (λ m. drop 1 m.0.noted) e.2 ∙ ap (drop 1) (q.noted))
     (ap (λ m. m.0.spare) l.2 ∙ ap (λ n. n - 1) (poked-spare c.fetch_add.new.seat.me.0 c.fetch_or-found.new.seat.me.0 c.fetch_or-found.result (ap (λ m. m.0) d.2) c.if-found-ne0.true ∙ ap (λ m. m.0.spare) e.2 ∙ ap (λ n. n + 1) q.spare))
 
 pub returns-else-found-ne0-clause-waking : goal.returns-else-found-ne0-clause-waking
 returns-else-found-ne0-clause-waking g c = let q = c.requires.waking in let e = c.fetch_add.ensures in let d = c.fetch_or-found.ensures in
-    woken _ _ _ c.args.worker.now (record { seat = c.fetch_or-found.new.seat }) c.args.held.now _ _ q (d.0 ∙ e.0) (ap (λ m. m.1) d.2 ∙ ap (λ m. m.1) e.2)
+    woken _ _ _ c.args.worker.now (record { seat = c.fetch_or-found.new.seat; woken = c.add.new.self }) c.args.held.now _ _ q (d.0 ∙ e.0) (ap (λ m. m.1) d.2 ∙ ap (λ m. m.1) e.2)
     (ap (λ m. m.0.shares) d.2 ∙ ap (λ m. m.0.shares) e.2) (ap (λ m. m.0.grab) d.2 ∙ ap (λ m. m.0.grab) e.2) (ap (λ m. m.0.held) d.2 ∙ ap (λ m. m.0.held) e.2)
     (ap (λ m. m.0.noted) d.2 ∙ ap (λ m. drop 1 m.0.noted) e.2 ∙ ap (drop 1) (q.noted))
     (poked-spent c.fetch_add.new.seat.me.0 c.fetch_or-found.new.seat.me.0 c.fetch_or-found.result (ap (λ m. m.0) d.2) c.if-found-ne0.false ∙ ap (λ n. n - 1) (ap (λ m. m.0.spare) e.2 ∙ ap (λ n. n + 1) q.spare))
+
+pub returns-then-found-ne0-clause-one : goal.returns-then-found-ne0-clause-one
+returns-then-found-ne0-clause-one g c = let e = c.fetch_add.ensures in let d = c.fetch_or-found.ensures in let l = c.fetch_sub.ensures in
+    wakes-none c.args.self.now c.args.worker.now (record { seat = c.fetch_sub.new.seat; woken = c.args.worker.now.woken })
+    (ap (λ m. m.0.readied) l.2 ∙ poked-none c.fetch_add.new.seat.me.0 c.fetch_or-found.new.seat.me.0 c.fetch_or-found.result (ap (λ m. m.0) d.2) c.if-found-ne0.true ∙ ap (λ m. m.0.readied) e.2) refl
+
+pub returns-else-found-ne0-clause-one : goal.returns-else-found-ne0-clause-one
+returns-else-found-ne0-clause-one g c = let q = c.requires.waking in let e = c.fetch_add.ensures in let d = c.fetch_or-found.ensures in
+    wakes-this c.args.self.now c.args.worker.now (record { seat = c.fetch_or-found.new.seat; woken = c.add.new.self }) c.args.process c.requires.below
+    (poked-ready c.fetch_add.new.seat.me.0 c.fetch_or-found.new.seat.me.0 c.fetch_or-found.result (ap (λ m. m.0) d.2) c.if-found-ne0.false ∙ (λ i. (e.2 i).0.readied ++ take 1 (e.2 i).0.noted) ∙ ap (λ xs. c.args.worker.now.seat.me.0.readied ++ take 1 xs) q.noted) c.add.ensures

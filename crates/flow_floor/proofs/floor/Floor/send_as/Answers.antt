@@ -25,4 +25,4 @@ returns-clause-channel g c = let o = c.outgoing-packet.ensures in
 pub returns-clause-turn : goal.returns-clause-turn
 returns-clause-turn g c = let s = c.stamp-stamp.ensures in let o = c.outgoing-packet.ensures in
     let t = send-deed c.args.held.now.body c.outgoing-packet.new.self c.effect.new.self c.args.port c.args.connection c.stamp-stamp.result c.requires.stage.0 c.args.channel.now c.put.new.self c.outgoing-packet.result g.D.Deed.event c.requires.event c.requires.stage.1 o.packet o.left c.requires.space c.put.ensures c.effect.ensures in
-    record { process = refl; body = t.0; machine = s.machine; above = s.above; view = s.view }
+    record { process = refl; body = t.0; machine = s.machine; above = s.above; view = s.view; woken = s.woken }

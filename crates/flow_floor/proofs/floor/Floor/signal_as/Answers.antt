@@ -10,4 +10,4 @@ returns-clause-held g c = let f = c.args.self.now in let q = c.requires.held in 
 pub returns-clause-turn : goal.returns-clause-turn
 returns-clause-turn g c = let s = c.stamp-stamp.ensures in
     let t = signalled-deed c.args.held.now.body c.effect.new.self c.args.connection c.stamp-stamp.result c.args.channel.now c.take-signal.new.self c.take-signal.result g.D.Deed.event c.requires.event c.take-signal.ensures.oldest c.take-signal.ensures.rest c.effect.ensures in
-    record { process = refl; body = t.0; machine = s.machine; above = s.above; view = s.view }
+    record { process = refl; body = t.0; machine = s.machine; above = s.above; view = s.view; woken = s.woken }

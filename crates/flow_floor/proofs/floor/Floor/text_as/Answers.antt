@@ -22,4 +22,4 @@ returns-clause-held g c = let f = c.args.self.now in let s = c.stamp-stamp.ensur
 
 pub returns-clause-turn : goal.returns-clause-turn
 returns-clause-turn g c = let s = c.stamp-stamp.ensures in
-    record { process = refl; body = text-deed c.args.held.now.body c.effect.new.self c.args.port c.stamp-stamp.result g.D.Deed.event c.requires.event c.requires.stage c.effect.ensures; machine = s.machine; above = s.above; view = s.view }
+    record { process = refl; body = text-deed c.args.held.now.body c.effect.new.self c.args.port c.stamp-stamp.result g.D.Deed.event c.requires.event c.requires.stage c.effect.ensures; machine = s.machine; above = s.above; view = s.view; woken = s.woken }

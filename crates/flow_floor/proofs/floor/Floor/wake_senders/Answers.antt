@@ -1,9 +1,11 @@
-use Rattle.std.proofs.Common.{◌∙◌, get_or, sym, ap, subst, arith}
+use Rattle.std.proofs.Common.{◌∙◌, get_or, length, sym, ap, subst, arith}
 use Rattle.std.proofs.lemmas.List.{drop_all}
 use Rattle.std.proofs.lemmas.Option.{slice_get-get_or}
 use Rattle.flow_plan.specs.declared.plan.Sender.{Sender}
+use Rattle.flow_floor.specs.Floors.{woken_of, Readies}
 use Rattle.flow_floor.specs.Sending.{sending_processes}
 use Rattle.flow_floor.specs.Workers.{IsWaking}
+use Rattle.flow_floor.proofs.Rolls.{listed-few, readies-more, wakes-as}
 use Rattle.flow_floor.proofs.Planned.{sending-first, sending-skip}
 use Rattle.flow_floor.proofs.Turnings.{first-noted, rest-noted, waking-as, waking-none}
 use Rattle.flow_floor.proofs.floor.Floor.wake_senders.Goals as goal
@@ -25,13 +27,17 @@ loop-i-preserved g c = let f = c.args.self.now in let senders = c.args.senders.n
         waking-as _ _ _ c.if-not-is_followed.worker w.wake.new.worker c.args.held.now _ w.worker-is
             (rest-noted _ _ _ c.loop-i.worker w.wake.new.worker c.args.held.now s.process _ _ (sending-first senders i s at (sym (c.is_followed.ensures s at) ∙ w.if-not-is_followed.true)) inv.0 e.waking),
         ap (λ x. x.seat.me.0.made) w.worker-is ∙ e.made ∙ inv.1,
-        record { shares = ap (λ x. x.seat.me.0.shares) w.worker-is ∙ e.seat.shares ∙ inv.2.shares; zero = ap (λ x. x.seat.me.0.read_zero) w.worker-is ∙ e.seat.zero ∙ inv.2.zero },
+        record { shares = ap (λ x. x.seat.me.0.shares) w.worker-is ∙ e.seat.shares ∙ inv.2.shares; zero = ap (λ x. x.seat.me.0.read_zero) w.worker-is ∙ e.seat.zero ∙ inv.2.zero; asked = ap (λ x. x.seat.me.0.asked) w.worker-is ∙ e.seat.asked ∙ inv.2.asked },
+        readies-more f c.args.worker.now c.loop-i.worker c.if-not-is_followed.worker inv.3 (wakes-as f c.loop-i.worker w.wake.new.worker c.if-not-is_followed.worker w.worker-is e.one),
+        listed-few f c.loop-i.worker c.if-not-is_followed.worker i inv.4 (wakes-as f c.loop-i.worker w.wake.new.worker c.if-not-is_followed.worker w.worker-is e.one),
       ))
       | else-not-is_followed w ↦ (
         waking-as _ _ _ c.if-not-is_followed.worker c.loop-i.worker c.args.held.now _ w.worker-is
             (subst (IsWaking g.K.Component.rules f.table.shared.table_id f.processes c.loop-i.worker c.args.held.now) (sending-skip senders i s at (sym (c.is_followed.ensures s at) ∙ w.if-not-is_followed.false)) inv.0),
         ap (λ x. x.seat.me.0.made) w.worker-is ∙ inv.1,
-        record { shares = ap (λ x. x.seat.me.0.shares) w.worker-is ∙ inv.2.shares; zero = ap (λ x. x.seat.me.0.read_zero) w.worker-is ∙ inv.2.zero },
+        record { shares = ap (λ x. x.seat.me.0.shares) w.worker-is ∙ inv.2.shares; zero = ap (λ x. x.seat.me.0.read_zero) w.worker-is ∙ inv.2.zero; asked = ap (λ x. x.seat.me.0.asked) w.worker-is ∙ inv.2.asked },
+        subst (Readies f c.args.worker.now) (sym w.worker-is) inv.3,
+        omega (arith, inv.4, ap (λ x. length (woken_of x)) w.worker-is),
       )
     ]
 
@@ -39,3 +45,6 @@ pub returns-clause-held : goal.returns-clause-held
 returns-clause-held g c = let f = c.args.self.now in let senders = c.args.senders.now in
     waking-none _ _ _ c.loop-i.worker c.args.held.now
     (subst (IsWaking g.K.Component.rules f.table.shared.table_id f.processes c.loop-i.worker c.args.held.now) (ap sending_processes (drop_all c.loop-i.i senders (omega (arith, c.loop-i-test.false)))) c.loop-i.invariant.0)
+
+pub wake-requires-clause-room : goal.wake-requires-clause-room
+wake-requires-clause-room g c = omega (arith, c.loop-i.invariant.4, c.loop-i-test.true, c.requires.few)

@@ -1,7 +1,7 @@
 use Rattle.flow_machine.specs.declared.answers.Case.TheVariants as cases
 use Rattle.flow_machine.proofs.NetTurns.{case-is}
 use Rattle.flow_floor.proofs.Came.{close-range, wired-came}
-use Rattle.flow_floor.proofs.floor.Floor.turn.Goals as goal
+use Rattle.flow_floor.proofs.floor.Floor.take_turn.Goals as goal
 
 pub text_turn-requires-clause-input : goal.text_turn-requires-clause-input
 text_turn-requires-clause-input g c = let t = case-is c.args.held.now.body.process (cases.Initial c.in-Initial.port) c.in-Initial.ensures in (t.0, t.2)

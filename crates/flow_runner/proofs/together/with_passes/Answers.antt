@@ -1,0 +1,33 @@
+use Rattle.std.proofs.Common.{◌∙◌, ◌++◌, ◌∷◌, [], All, sym, ap, subst, arith, length, length-append, append-nil}
+use Rattle.std.specs.Vec.Iter.{into_iter_items}
+use Rattle.flow_floor.proofs.Backs.{one-more}
+use Rattle.flow_floor.proofs.Crews.{all-push}
+use Rattle.flow_floor.proofs.Shutting.{All-front, All-last}
+use Rattle.flow_runner.specs.declared.server.Server.{Server}
+use Rattle.flow_runner.specs.Lines.{IsPassAt}
+use Rattle.flow_runner.specs.Serving.{workers_at}
+use Rattle.flow_runner.proofs.Served.{workers-push}
+use Rattle.flow_runner.proofs.together.with_passes.Goals as goal
+
+pub push_reserved-requires : goal.push_reserved-requires
+push_reserved-requires g c = let i = c.loop-worker.invariant in let e = c.in-Some.ensures.cases in omega (arith, i.long, i.room, c.requires.room.1, ap (λ ys. length ys) e.0, c.loop-worker.servers.ok.0)
+
+pub loop-worker-preserved : goal.loop-worker-preserved
+loop-worker-preserved g c =
+    let i = c.loop-worker.invariant in
+    let e = c.in-Some.ensures.cases in
+    let p = c.in-Some-pop.ensures in
+    let line = c.args.line.now in
+    let behind = into_iter_items c.next.new.self in
+    let ss = c.loop-worker.servers.items in
+    let s : Server g.row.K.Denot = record { worker = c.in-Some.worker; pass = c.in-Some-pop.pass } in
+    let were = subst (All (IsPassAt line)) p.items i.passes in
+    record {
+      items = ap (λ xs. workers_at xs ++ behind) c.push_reserved.ensures.items ∙ ap (λ xs. xs ++ behind) (workers-push ss s) ∙ one-more (workers_at ss) c.in-Some.worker behind ∙ ap (λ xs. workers_at ss ++ xs) (sym e.0) ∙ i.items;
+      long = omega (arith, i.long, ap (λ ys. length ys) e.0, ap (λ ys. length ys) c.push_reserved.ensures.items, length-append ss (s ∷ []));
+      len = omega (arith, i.len, e.1, ap (λ ys. length ys) e.0);
+      count = omega (arith, i.count, ap (λ ys. length ys) e.0, ap (λ ys. length ys) p.items, length-append c.pop.new.self.items (c.in-Some-pop.pass ∷ []));
+      room = c.push_reserved.ensures.capacity ∙ i.room;
+      passes = All-front (IsPassAt line) c.pop.new.self.items c.in-Some-pop.pass were;
+      each = subst (All (λ x. IsPassAt line x.pass)) (sym c.push_reserved.ensures.items) (all-push (λ x. IsPassAt line x.pass) ss s i.each (All-last (IsPassAt line) c.pop.new.self.items c.in-Some-pop.pass were));
+    }
