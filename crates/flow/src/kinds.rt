@@ -200,6 +200,7 @@ pub fn put_option(page: &mut String, name: &Text, class: PortClass) -> Result<()
                 " is the name of a file: 1 to {FILE_NAME_LIMIT} bytes that are UTF-8, and no byte 0 among them.\n"
             )
         }
+        PortClass::Pattern => page.push_str(" is a pattern: a regular expression, in UTF-8.\n"),
         PortClass::Text => page.push_str(" is any text.\n"),
     }
 }
@@ -214,6 +215,7 @@ pub fn put_example(page: &mut String, class: PortClass) -> Result<(), AllocError
         }
         PortClass::Fields => page.push_str("3 5"),
         PortClass::File => page.push_str("in.txt"),
+        PortClass::Pattern => page.push_str("^[0-9]+"),
         PortClass::Text => page.push_str("TEXT"),
     }
 }

@@ -1,5 +1,5 @@
 -- The component of a process of a standard kind, in its first state, fits the process.
-use Rattle.std.proofs.Common.{◌≡◌, ℕ, zero, suc, ◌+◌, ◌<◌, Bool, true, false, [], map, Some, refl, sym, ◌∙◌, subst, arith, slice_get, nat_eq, nat_lt}
+use Rattle.std.proofs.Common.{◌≡◌, ℕ, zero, suc, ◌+◌, ◌<◌, Bool, true, false, List, [], map, Some, refl, sym, ◌∙◌, subst, arith, slice_get, nat_eq, nat_lt}
 use Rattle.std.specs.Prelude.{IsTrue, if◌then◌else◌}
 use Rattle.std.proofs.lemmas.Bool.{false≢true}
 use Rattle.std.specs.List.{range_with_len}
@@ -17,6 +17,7 @@ use Rattle.flow_streams.specs.Select.{select_uses}
 use Rattle.flow_pick.specs.Picking.{parting_uses}
 use Rattle.flow_batch.specs.Update.{update_uses}
 use Rattle.flow_batch.specs.Updated.{fresh_update}
+use Rattle.flow_match.specs.Match.{match_uses}
 use Rattle.flow_text.specs.Text.{number_of}
 use Rattle.flow_catalogue.specs.Processes.{is_connected, option_text}
 use Rattle.flow_catalogue.proofs.Connected.{connected-sends}
@@ -73,6 +74,11 @@ parting-used network p has zero used = has
 parting-used network p has (suc zero) used = connected-sends network p 1 used
 parting-used network p has (suc (suc o)) used = absurd (other-than o 0 1 (omega arith) (omega arith) (is_connected network p 1) used)
 
+match-used : (network : Network) (p : ℕ) (pattern : List ℕ) → HasSender network p 0 → (o : ℕ) → IsTrue (match_uses (record { pattern = pattern; rejects = is_connected network p 1 }) o) → HasSender network p o
+match-used network p pattern has zero used = has
+match-used network p pattern has (suc zero) used = connected-sends network p 1 used
+match-used network p pattern has (suc (suc o)) used = absurd (other-than o 0 1 (omega arith) (omega arith) (is_connected network p 1) used)
+
 -- The components that a plan begins with fit its processes.
 pub first-fits : FirstFits
 first-fits n p x kinds.ReadLines file is = record { inputs = sym is.inputs; outputs = sym is.outputs; uses = first-used n p (is.needed 0 refl); starts = λ held none. none }
@@ -101,3 +107,5 @@ first-fits n p x kinds.Tally file is = record { inputs = sym is.inputs; outputs 
 first-fits n p x kinds.Unique file is = record { inputs = sym is.inputs; outputs = sym is.outputs; uses = parting-used n p (is.needed 0 refl); starts = λ held none. none }
 first-fits n p x kinds.Head file is = record { inputs = sym is.inputs; outputs = sym is.outputs; uses = parting-used n p (is.needed 0 refl); starts = λ held none. none }
 first-fits n p x kinds.Tail file is = record { inputs = sym is.inputs; outputs = sym is.outputs; uses = parting-used n p (is.needed 0 refl); starts = λ held none. none }
+first-fits n p x kinds.Match file is = record { inputs = sym is.inputs; outputs = sym is.outputs; uses = match-used n p (option_text 0 x.options) (is.needed 0 refl); starts = λ held none. none }
+first-fits n p x kinds.Replace file is = record { inputs = sym is.inputs; outputs = sym is.outputs; uses = first-used n p (is.needed 0 refl); starts = λ held none. none }

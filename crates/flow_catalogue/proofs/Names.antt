@@ -40,6 +40,8 @@ place-of kinds.Tally = (17, refl)
 place-of kinds.Unique = (18, refl)
 place-of kinds.Head = (19, refl)
 place-of kinds.Tail = (20, refl)
+place-of kinds.Match = (21, refl)
+place-of kinds.Replace = (22, refl)
 
 -- a name is among the names that have it at a place
 among : (name : List ℕ) (names : List (List ℕ)) (i : ℕ) → slice_get names i ≡ Some name → list_any (bytes_eq name) names ≡ true

@@ -55,6 +55,11 @@ use Rattle.flow_pick.specs.TailLaws.{tail_lawful}
 use Rattle.flow_batch.specs.Around.{UpdateState}
 use Rattle.flow_batch.specs.Update.{update_next, update_rules}
 use Rattle.flow_batch.specs.UpdateLaws.{update_lawful}
+use Rattle.flow_pattern.specs.Pattern.{Replacement}
+use Rattle.flow_match.specs.Match.{MatchState, match_next, match_rules}
+use Rattle.flow_match.specs.MatchLaws.{match_lawful}
+use Rattle.flow_match.specs.Replace.{replace_next, replace_rules}
+use Rattle.flow_match.specs.ReplaceLaws.{replace_lawful}
 use Rattle.flow_catalogue.specs.Kinded.{Kinded}
 
 -- Reads the lines of its file.
@@ -124,6 +129,14 @@ select_kind = record { rules = select_rules; lawful = select_lawful; next = sele
 -- Updates masters by details.
 abbrev pub update_kind : Kinded UpdateState
 update_kind = record { rules = update_rules; lawful = update_lawful; next = update_next; comes = λ _ _ _. refl; alone = λ _ _ _ _ is. is; written = λ _. None }
+
+-- Accepts packets in whose text a pattern matches.
+abbrev pub match_kind : Kinded MatchState
+match_kind = record { rules = match_rules; lawful = match_lawful; next = match_next; comes = λ _ _ _. refl; alone = λ _ _ _ _ is. is; written = λ _. None }
+
+-- Replaces the matches of a pattern.
+abbrev pub replace_kind : Kinded Replacement
+replace_kind = record { rules = replace_rules; lawful = replace_lawful; next = replace_next; comes = λ _ _ _. refl; alone = λ _ _ _ _ is. is; written = λ _. None }
 
 -- Tells how often a text came in a row.
 abbrev pub tally_kind : Kinded TallyState

@@ -1,11 +1,11 @@
 -- The table of the standard kinds: one row for each. (Morrison's components and JavaFBP's; the ports are this project's own.)
 use Rattle.flow_limits.specs.declared.TheConstants.{TEXT_LIMIT}
 use Rattle.std.specs.Prelude.{ℕ, List, [], ◌∷◌, map, codes}
-use Rattle.flow_plan.specs.declared.kind.PortClass.TheVariants.{Number, Fields, File}
+use Rattle.flow_plan.specs.declared.kind.PortClass.TheVariants.{Number, Fields, File, Pattern, Text}
 use Rattle.flow_plan.specs.declared.kind.PortSpec.{PortSpec}
 use Rattle.flow_plan.specs.declared.kind.KindSpec.{KindSpec}
 use Rattle.flow_catalogue.specs.declared.table.StdKind.{StdKind}
-use Rattle.flow_catalogue.specs.declared.table.StdKind.TheVariants.{ReadLines, WriteLines, Passthru, Words, Fill, Brackets, Copy, Concat, Collate, Discard, Bundle, Unbundle, Hoard, Count, LoadBalance, Select, Update, Tally, Unique, Head, Tail}
+use Rattle.flow_catalogue.specs.declared.table.StdKind.TheVariants.{ReadLines, WriteLines, Passthru, Words, Fill, Brackets, Copy, Concat, Collate, Discard, Bundle, Unbundle, Hoard, Count, LoadBalance, Select, Update, Tally, Unique, Head, Tail, Match, Replace}
 use Rattle.flow_catalogue.specs.Rows.{option_port, stream_port, array_port, optional_port}
 
 -- A kind of this name, with these ports.
@@ -35,6 +35,8 @@ spec_of Tally = row (codes "Tally") (stream_port (codes "IN") ∷ []) (stream_po
 spec_of Unique = row (codes "Unique") (stream_port (codes "IN") ∷ []) (stream_port (codes "OUT") ∷ optional_port (codes "REP") ∷ [])
 spec_of Head = row (codes "Head") (option_port (codes "COUNT") (Number 0 4294967295) ∷ stream_port (codes "IN") ∷ []) (stream_port (codes "OUT") ∷ optional_port (codes "REST") ∷ [])
 spec_of Tail = row (codes "Tail") (option_port (codes "COUNT") (Number 0 4294967295) ∷ stream_port (codes "IN") ∷ []) (stream_port (codes "OUT") ∷ optional_port (codes "REST") ∷ [])
+spec_of Match = row (codes "Match") (option_port (codes "PATTERN") Pattern ∷ stream_port (codes "IN") ∷ []) (stream_port (codes "ACC") ∷ optional_port (codes "REJ") ∷ [])
+spec_of Replace = row (codes "Replace") (option_port (codes "PATTERN") Pattern ∷ option_port (codes "WITH") Text ∷ stream_port (codes "IN") ∷ []) (stream_port (codes "OUT") ∷ [])
 
 -- A kind's name in a network file.
 abbrev pub name_of : StdKind → List ℕ
@@ -42,7 +44,7 @@ name_of kind = (spec_of kind).name
 
 -- All standard kinds, in the order of the table.
 abbrev pub all_kinds : List StdKind
-all_kinds = ReadLines ∷ WriteLines ∷ Passthru ∷ Words ∷ Fill ∷ Brackets ∷ Copy ∷ Concat ∷ Collate ∷ Discard ∷ Bundle ∷ Unbundle ∷ Hoard ∷ Count ∷ LoadBalance ∷ Select ∷ Update ∷ Tally ∷ Unique ∷ Head ∷ Tail ∷ []
+all_kinds = ReadLines ∷ WriteLines ∷ Passthru ∷ Words ∷ Fill ∷ Brackets ∷ Copy ∷ Concat ∷ Collate ∷ Discard ∷ Bundle ∷ Unbundle ∷ Hoard ∷ Count ∷ LoadBalance ∷ Select ∷ Update ∷ Tally ∷ Unique ∷ Head ∷ Tail ∷ Match ∷ Replace ∷ []
 
 -- The table.
 abbrev pub std_kinds : List KindSpec

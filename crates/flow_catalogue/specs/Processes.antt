@@ -97,6 +97,8 @@ first_component kinds.Tally given file = components.Tally fresh_tally
 first_component kinds.Unique given file = components.Unique (fresh_unique (given.connected 1))
 first_component kinds.Head given file = components.Head (fresh_head (number_of (given.option 0)) (given.connected 1))
 first_component kinds.Tail given file = components.Tail (fresh_tail (number_of (given.option 0)) (given.connected 1))
+first_component kinds.Match given file = components.Match (record { pattern = given.option 0; rejects = given.connected 1 })
+first_component kinds.Replace given file = components.Replace (record { pattern = given.option 0; with = given.option 1 })
 
 -- The component is that of process p, in its first state on this file.
 pub record IsMade (network : Network) (p : ℕ) (process : Process) (file : List ℕ) (component : Std) : Type 0 where

@@ -14,6 +14,7 @@ use crate::standard::Std;
 use crate::table::StdKind;
 use flow_batch::Update;
 use flow_limits::TEXT_LIMIT;
+use flow_match::{Match, Replace};
 use flow_parts::{Brackets, Count, Fill, ReadLines, Tally, Words, WriteLines};
 use flow_pick::{Head, Tail, Unique};
 use flow_plan::{Plan, Process};
@@ -100,6 +101,20 @@ fn collate(alloc: Global, process: &Process) -> Result<Collate, AllocError>
     Ok(Collate::new(fields, process.inputs))
 }
 
+fn matching(alloc: Global, process: &Process, rejects: bool) -> Result<Match, AllocError>
+    requires options { HasOptions (spec_of StdKind.Match).inputs process.now.options }
+    ensures { IfOk result (λ component. component ≡ record { pattern = option_text 0 process.now.options; rejects = rejects }) }
+{
+    Match::new(alloc, option_text(process, 0), rejects)
+}
+
+fn replacing(alloc: Global, process: &Process) -> Result<Replace, AllocError>
+    requires options { HasOptions (spec_of StdKind.Replace).inputs process.now.options }
+    ensures { IfOk result (λ component. component ≡ record { pattern = option_text 0 process.now.options; with = option_text 1 process.now.options }) }
+{
+    Replace::new(alloc, option_text(process, 0), option_text(process, 1))
+}
+
 // The component of a process of this kind, in its first state.
 fn first_component(
     alloc: Global,
@@ -134,6 +149,12 @@ fn first_component(
             key_length(process),
             is_connected(plan, number, 1),
         ))),
+        StdKind::Match => Ok(Std::Match(matching(
+            alloc,
+            process,
+            is_connected(plan, number, 1),
+        )?)),
+        StdKind::Replace => Ok(Std::Replace(replacing(alloc, process)?)),
         StdKind::Tally => Ok(Std::Tally(Tally::new(alloc))),
         StdKind::Unique => Ok(Std::Unique(Unique::new(alloc, is_connected(plan, number, 1)))),
         StdKind::Head => Ok(Std::Head(Head::new(

@@ -7,6 +7,7 @@ ghost use Rattle.flow_catalogue.specs.Std.{std_rules};
 
 use flow_batch::Update;
 use flow_component::{Answer, Component, Shape, Stop, Wish};
+use flow_match::{Match, Replace};
 use flow_packet::Hands;
 use flow_parts::{Brackets, Count, Fill, ReadLines, Tally, Words, WriteLines};
 use flow_pick::{Head, Tail, Unique};
@@ -39,6 +40,8 @@ pub enum Std {
     Unique(Unique),
     Head(Head),
     Tail(Tail),
+    Match(Match),
+    Replace(Replace),
 }
 
 impl Std {
@@ -86,6 +89,8 @@ impl Component for Std {
             Std::Unique(component) => component.shape(),
             Std::Head(component) => component.shape(),
             Std::Tail(component) => component.shape(),
+            Std::Match(component) => component.shape(),
+            Std::Replace(component) => component.shape(),
         }
     }
 
@@ -113,6 +118,8 @@ impl Component for Std {
             Std::Unique(component) => component.resume(hands, answer),
             Std::Head(component) => component.resume(hands, answer),
             Std::Tail(component) => component.resume(hands, answer),
+            Std::Match(component) => component.resume(hands, answer),
+            Std::Replace(component) => component.resume(hands, answer),
         }
     }
 

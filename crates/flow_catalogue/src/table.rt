@@ -33,10 +33,12 @@ pub enum StdKind {
     Unique,
     Head,
     Tail,
+    Match,
+    Replace,
 }
 
 // All kinds, in the order of the table.
-const ALL: [StdKind; 21] = [
+const ALL: [StdKind; 23] = [
     StdKind::ReadLines,
     StdKind::WriteLines,
     StdKind::Passthru,
@@ -58,6 +60,8 @@ const ALL: [StdKind; 21] = [
     StdKind::Unique,
     StdKind::Head,
     StdKind::Tail,
+    StdKind::Match,
+    StdKind::Replace,
 ];
 
 impl StdKind {
@@ -87,6 +91,8 @@ impl StdKind {
             StdKind::Unique => b"Unique",
             StdKind::Head => b"Head",
             StdKind::Tail => b"Tail",
+            StdKind::Match => b"Match",
+            StdKind::Replace => b"Replace",
         }
     }
 
@@ -290,6 +296,33 @@ fn update(alloc: Global) -> Result<KindSpec, AllocError>
     kind(alloc, b"Update", inputs, vec![in alloc; output, refused]?)
 }
 
+fn matching(alloc: Global) -> Result<KindSpec, AllocError>
+    ensures { IfOk result (λ kind. kind ≡ spec_of StdKind.Match) }
+{
+    let pattern = option(alloc, b"PATTERN", PortClass::Pattern)?;
+    let input = stream(alloc, b"IN")?;
+    let accepted = stream(alloc, b"ACC")?;
+    let others = optional(alloc, b"REJ")?;
+    let inputs = vec![in alloc; pattern, input]?;
+    kind(
+        alloc,
+        b"Match",
+        inputs,
+        vec![in alloc; accepted, others]?,
+    )
+}
+
+fn replacing(alloc: Global) -> Result<KindSpec, AllocError>
+    ensures { IfOk result (λ kind. kind ≡ spec_of StdKind.Replace) }
+{
+    let pattern = option(alloc, b"PATTERN", PortClass::Pattern)?;
+    let with = option(alloc, b"WITH", PortClass::Text)?;
+    let input = stream(alloc, b"IN")?;
+    let output = stream(alloc, b"OUT")?;
+    let inputs = vec![in alloc; pattern, with, input]?;
+    kind(alloc, b"Replace", inputs, vec![in alloc; output]?)
+}
+
 fn unique(alloc: Global) -> Result<KindSpec, AllocError>
     ensures { IfOk result (λ kind. kind ≡ spec_of StdKind.Unique) }
 {
@@ -342,6 +375,8 @@ fn spec(alloc: Global, kind: StdKind) -> Result<KindSpec, AllocError>
         StdKind::Unique => unique(alloc),
         StdKind::Head => counting(alloc, b"Head"),
         StdKind::Tail => counting(alloc, b"Tail"),
+        StdKind::Match => matching(alloc),
+        StdKind::Replace => replacing(alloc),
     }
 }
 

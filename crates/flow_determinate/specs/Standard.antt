@@ -42,6 +42,8 @@ is_balance (components.Tally state) = false
 is_balance (components.Unique state) = false
 is_balance (components.Head state) = false
 is_balance (components.Tail state) = false
+is_balance (components.Match state) = false
+is_balance (components.Replace with) = false
 
 -- The component of process p of the plan, in its first state, on this file where it reads one.
 pub record IsFirstOf (plan : Plan) (p : ℕ) (component : Std) : Type 0 where

@@ -1,6 +1,6 @@
 -- A flat text comes to a plan or to a fault.
 use Rattle.std.proofs.Common.{◌≡◌, ◌≢◌, ℕ, ◌<◌, ◌≤◌, Bool, true, false, List, [], ◌∷◌, length, take, zero, suc, Option, Some, None, Ok, Err, refl, ap, sym, subst, ◌∙◌, ◌⊎◌, inl, inr, slice_get, arith}
-use Rattle.std.specs.Prelude.{◌==◌, nat_le, slice_index_or}
+use Rattle.std.specs.Prelude.{◌==◌, nat_le, slice_index_or, IsSomeAnd}
 use Rattle.std.specs.List.{All, slice_split}
 use Rattle.std.specs.Str.{IsUtf8, is_utf8}
 use Rattle.std.specs.declared.result.Result.{Result}
@@ -8,12 +8,13 @@ use Rattle.std.proofs.lemmas.Bool.{false≢true}
 use Rattle.std.proofs.lemmas.Bool.Decides.{nat_tests}
 use Rattle.std.proofs.lemmas.Str.{IsUtf8-from_is_utf8, is_utf8-from_IsUtf8}
 use Rattle.flow_text.specs.Text.{IsPlain, number_of}
+use Rattle.flow_pattern.specs.Pattern.{pattern_options, reading}
 use Rattle.flow_net.specs.declared.draft.End.{End}
 use Rattle.flow_net.specs.declared.fault.PlanFault.{PlanFault}
 use Rattle.flow_net.specs.declared.fault.PlanFault.TheVariants.{BadOption}
 use Rattle.flow_plan.specs.declared.kind.KindSpec.{KindSpec}
 use Rattle.flow_plan.specs.declared.kind.PortClass.{PortClass}
-use Rattle.flow_plan.specs.declared.kind.PortClass.TheVariants.{Stream, Number, Fields, File, Text}
+use Rattle.flow_plan.specs.declared.kind.PortClass.TheVariants.{Stream, Number, Fields, File, Pattern, Text}
 use Rattle.flow_plan.specs.declared.kind.PortRef.{PortRef}
 use Rattle.flow_plan.specs.Network.{Network}
 use Rattle.flow_plan.specs.Texts.{IsNumberWithin, IsOfClass}
@@ -80,6 +81,10 @@ dec_utf8 bs = by (is_utf8 bs) refl where
   by true is = inl (IsUtf8-from_is_utf8 bs is)
   by false is = inr (λ utf8. false≢true (sym is ∙ is_utf8-from_IsUtf8 bs utf8))
 
+dec_some_and : {X : Type 0} (o : Option X) (P : X → Type 0) → ((x : X) → Dec (P x)) → Dec (IsSomeAnd o P)
+dec_some_and None P each = inr (λ none. none)
+dec_some_and (Some x) P each = each x
+
 dec_not : {P : Type 0} → Dec P → Dec (P → ⊥)
 dec_not (inl p) = inr (λ np. np p)
 dec_not (inr np) = inl np
@@ -100,6 +105,7 @@ dec_class Stream text = inl tt
 dec_class (Number least most) text = dec_number least most text
 dec_class Fields text = dec_and (dec_le (length (slice_split (λ b. b == 32) text)) 8) (dec_all (IsNumberWithin 1 255) (dec_number 1 255) (slice_split (λ b. b == 32) text))
 dec_class File text = dec_and4 (dec_le 1 (length text)) (dec_le (length text) 255) (dec_utf8 text) (dec_all (λ b. b ≢ 0) (λ b. dec_not (same_or_not b 0)) text)
+dec_class Pattern text = dec_and (dec_utf8 text) (dec_some_and (reading text) (λ found. found.0.depth ≤ pattern_options.nest_limit) (λ found. dec_le found.0.depth pattern_options.nest_limit))
 dec_class Text text = inl tt
 
 dec_fits : (o : Option PortAt) (text : List ℕ) → Dec (FitsAt o text)

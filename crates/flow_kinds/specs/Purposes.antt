@@ -1,7 +1,7 @@
 -- What the standard kinds do, each in a line.
 use Rattle.std.specs.Prelude.{ℕ, List, codes}
 use Rattle.flow_catalogue.specs.declared.table.StdKind.{StdKind}
-use Rattle.flow_catalogue.specs.declared.table.StdKind.TheVariants.{ReadLines, WriteLines, Passthru, Words, Fill, Brackets, Copy, Concat, Collate, Discard, Bundle, Unbundle, Hoard, Count, LoadBalance, Select, Update, Tally, Unique, Head, Tail}
+use Rattle.flow_catalogue.specs.declared.table.StdKind.TheVariants.{ReadLines, WriteLines, Passthru, Words, Fill, Brackets, Copy, Concat, Collate, Discard, Bundle, Unbundle, Hoard, Count, LoadBalance, Select, Update, Tally, Unique, Head, Tail, Match, Replace}
 
 -- What a kind does.
 abbrev pub purpose_of : StdKind → List ℕ
@@ -26,3 +26,5 @@ purpose_of Tally = codes "tells how often each text came in a row"
 purpose_of Unique = codes "drops what has the text of the packet before it"
 purpose_of Head = codes "passes on the first COUNT packets between two brackets"
 purpose_of Tail = codes "passes on the last COUNT packets between two brackets"
+purpose_of Match = codes "accepts what PATTERN matches somewhere, and rejects the rest"
+purpose_of Replace = codes "replaces each match of PATTERN by the text WITH"

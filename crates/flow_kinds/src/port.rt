@@ -91,6 +91,7 @@ fn put_range(page: &mut Vec<u8>, class: PortClass) -> Result<(), AllocError>
             b": one to eight numbers from 1 to 255 with one space between two",
         ),
         PortClass::File => page.extend_from_slice(b": the name of a file"),
+        PortClass::Pattern => page.extend_from_slice(b": a pattern"),
         PortClass::Text => page.extend_from_slice(b": any text"),
     }
 }

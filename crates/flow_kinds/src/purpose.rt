@@ -33,5 +33,7 @@ pub fn purpose(kind: StdKind) -> &'static [u8]
         StdKind::Unique => b"drops what has the text of the packet before it",
         StdKind::Head => b"passes on the first COUNT packets between two brackets",
         StdKind::Tail => b"passes on the last COUNT packets between two brackets",
+        StdKind::Match => b"accepts what PATTERN matches somewhere, and rejects the rest",
+        StdKind::Replace => b"replaces each match of PATTERN by the text WITH",
     }
 }

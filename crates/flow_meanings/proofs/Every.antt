@@ -19,6 +19,7 @@ use Rattle.flow_meanings.proofs.LineKinds.{read_lines-facts, write_lines-facts, 
 use Rattle.flow_meanings.proofs.StreamKinds.{passthru-facts, copy-facts, concat-facts, collate-facts, discard-facts, bundle-facts, unbundle-facts, hoard-facts, load-facts}
 use Rattle.flow_meanings.proofs.SelectKind.{select-facts}
 use Rattle.flow_meanings.proofs.UpdateKind.{update-facts}
+use Rattle.flow_meanings.proofs.MatchKinds.{match-facts, replace-facts}
 use Rattle.flow_meanings.proofs.PickKinds.{unique-facts, head-facts, tail-facts}
 
 -- The facts of each standard component.
@@ -44,6 +45,8 @@ facts-of (components.Tally state) = tally-facts state
 facts-of (components.Unique state) = unique-facts state
 facts-of (components.Head state) = head-facts state
 facts-of (components.Tail state) = tail-facts state
+facts-of (components.Match state) = match-facts state
+facts-of (components.Replace with) = replace-facts with
 
 -- a text of fields has one at least
 some-fields : (text : List ℕ) → 1 ≤ length (fields_of text)
@@ -57,6 +60,8 @@ first-first kinds.Brackets given file = tt
 first-first kinds.Collate given file = (some-fields (given.option 0), refl)
 first-first kinds.Discard given file = tt
 first-first kinds.Hoard given file = tt
+first-first kinds.Match given file = tt
+first-first kinds.Replace given file = tt
 first-first kind given file = refl
 
 -- the component of a process in its first state is so by its meaning too

@@ -6,6 +6,7 @@ pub mod LineKinds
 pub mod StreamKinds
 pub mod SelectKind
 pub mod UpdateKind
+pub mod MatchKinds
 pub mod PickKinds
 pub mod Every
 pub mod Contents

@@ -34,6 +34,9 @@ use Rattle.flow_pick.specs.TailState.{TailState}
 use Rattle.flow_pick.specs.Tail.{is_among_last, fresh_tail}
 use Rattle.flow_batch.specs.Around.{UpdateState}
 use Rattle.flow_batch.specs.Updated.{fresh_update, IsUpdated}
+use Rattle.flow_pattern.specs.Pattern.{Replacement}
+use Rattle.flow_match.specs.Match.{MatchState}
+use Rattle.flow_match.specs.Meanings.{IsMatched, rewritten}
 use Rattle.flow_catalogue.specs.declared.standard.Std.{Std}
 use Rattle.flow_catalogue.specs.declared.standard.Std.TheVariants as components
 use Rattle.flow_meanings.specs.Meaning.{Meaning}
@@ -112,6 +115,14 @@ select_meaning state = record { first = state ≡ fresh_select state.rejects; lo
 abbrev pub update_meaning : UpdateState → Meaning
 update_meaning state = record { first = state ≡ fresh_update state.keylen state.rep; loops = true; settled = true; makes = λ wrote x y. IsUpdated state.keylen state.rep (x 0) (y 0) (y 1) }
 
+-- A Match sends the packets that it accepts, and to its second output, where that is connected, the others.
+abbrev pub match_meaning : MatchState → Meaning
+match_meaning state = record { first = Unit {0}; loops = true; settled = true; makes = λ wrote x y. IsMatched state.pattern state.rejects (x 0) (y 0) (y 1) }
+
+-- A Replace sends its input with the matches in each Normal packet replaced.
+abbrev pub replace_meaning : Replacement → Meaning
+replace_meaning with = record { first = Unit {0}; loops = true; settled = true; makes = λ wrote x y. y 0 ≡ map (rewritten with) (x 0) }
+
 -- A Tally sends its input with each row of Normal packets with one text replaced by what is told of it.
 abbrev pub tally_meaning : TallyState → Meaning
 tally_meaning state = record { first = state ≡ fresh_tally; loops = true; settled = true; makes = λ wrote x y. y 0 ≡ tallied (x 0) }
@@ -151,3 +162,5 @@ meaning_of (components.Tally state) = tally_meaning state
 meaning_of (components.Unique state) = unique_meaning state
 meaning_of (components.Head state) = head_meaning state
 meaning_of (components.Tail state) = tail_meaning state
+meaning_of (components.Match state) = match_meaning state
+meaning_of (components.Replace with) = replace_meaning with

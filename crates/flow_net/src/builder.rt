@@ -127,7 +127,8 @@ impl PlanBuilder {
             Ok(input) => input,
             Err(stop) => return Err(stop),
         };
-        if !options::fits(ports, input, text) {
+        let fits = options::fits(alloc, ports, input, text)?;
+        if !fits {
             return Err(PlanStop::Fault(give::option_fault(alloc, to, into)?));
         }
         let process = give::process_at(ports, input);

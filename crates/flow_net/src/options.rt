@@ -1,13 +1,15 @@
 //! The texts that option ports take.
-ghost use Rattle.std.specs.Prelude.{◌≡◌, ◌≢◌, ◌≤◌, ◌==◌, ◌+◌, ◌<◌, ◌↔◌, length, IsTrue, count_by, position, ◌∷◌, [], IfSome, IfNone, slice_get};
+ghost use Rattle.std.specs.Prelude.{◌≡◌, ◌≢◌, ◌≤◌, ◌==◌, ◌+◌, ◌<◌, ◌↔◌, length, IsTrue, count_by, position, IfOk, ◌∷◌, [], IfSome, IfNone, slice_get};
 ghost use Rattle.std.specs.List.{All, slice_split};
 ghost use Rattle.flow_plan.specs.Texts.{IsNumberWithin, IsFields, IsFileName, IsOfClass};
 ghost use Rattle.flow_net.specs.Options.{FitsPort};
 
 use crate::draft::{DraftPort, End};
 use flow_limits::FILE_NAME_LIMIT;
+use flow_pattern::is_pattern;
 use flow_plan::PortClass;
 use flow_text::decimal;
+use std::alloc::{AllocError, Global};
 
 fn is_number(text: &[u8], least: u64, most: u64) -> bool
     ensures { IsTrue result ↔ IsNumberWithin least most text.now }
@@ -74,24 +76,30 @@ fn is_file_name(text: &[u8]) -> bool
         && has_no_zero(text)
 }
 
-fn is_of_class(class: PortClass, text: &[u8]) -> bool
-    ensures { IsTrue result ↔ IsOfClass class text.now }
+fn is_of_class(alloc: Global, class: PortClass, text: &[u8]) -> Result<bool, AllocError>
+    ensures { IfOk result (λ is. IsTrue is ↔ IsOfClass class text.now) }
 {
     match class {
-        PortClass::Stream => true,
-        PortClass::Number { least, most } => is_number(text, least, most),
-        PortClass::Fields => is_fields(text),
-        PortClass::File => is_file_name(text),
-        PortClass::Text => true,
+        PortClass::Stream => Ok(true),
+        PortClass::Number { least, most } => Ok(is_number(text, least, most)),
+        PortClass::Fields => Ok(is_fields(text)),
+        PortClass::File => Ok(is_file_name(text)),
+        PortClass::Pattern => is_pattern(alloc, text),
+        PortClass::Text => Ok(true),
     }
 }
 
-/// Whether a text is of the class of an element's port.
-pub fn fits(ports: &[DraftPort], end: End, text: &[u8]) -> bool
-    ensures { IsTrue result ↔ FitsPort (slice_get ports.now end.port) text.now }
+/// Whether a text is of the class of an element's port. To read a pattern takes memory.
+pub fn fits(
+    alloc: Global,
+    ports: &[DraftPort],
+    end: End,
+    text: &[u8],
+) -> Result<bool, AllocError>
+    ensures { IfOk result (λ fits. IsTrue fits ↔ FitsPort (slice_get ports.now end.port) text.now) }
 {
     match ports.get(end.port as usize) {
-        None => false,
-        Some(port) => is_of_class(port.spec.class, text),
+        None => Ok(false),
+        Some(port) => is_of_class(alloc, port.spec.class, text),
     }
 }

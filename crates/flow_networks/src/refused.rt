@@ -223,3 +223,53 @@ fn outputs_and_files_are_those_of_their_kind(rt: HostRuntime) -> Result<(), Fail
     }
     Ok(())
 }
+
+#[test]
+fn kinds_with_patterns_have_their_ports(rt: HostRuntime) -> Result<(), Fail> {
+    let rows = [
+        // A Match needs a pattern,
+        refused(
+            b"flow 1\n'i' -> FILE R(ReadLines)\nR OUT -> IN M(Match)\nM ACC -> IN A\n'a' -> FILE A(WriteLines)\n",
+            b"network refused: port missing M.PATTERN\n",
+        ),
+        // which is a regular expression
+        refused(
+            b"flow 1\n'i' -> FILE R(ReadLines)\nR OUT -> IN M(Match)\n'a(b' -> PATTERN M\nM ACC -> IN A\n'a' -> FILE A(WriteLines)\n",
+            b"network refused: bad option M.PATTERN\n",
+        ),
+        // in UTF-8;
+        refused(
+            b"flow 1\n'i' -> FILE R(ReadLines)\nR OUT -> IN M(Match)\n'caf\xE9' -> PATTERN M\nM ACC -> IN A\n'a' -> FILE A(WriteLines)\n",
+            b"network refused: bad option M.PATTERN\n",
+        ),
+        // its ACC has to be connected, its REJ may be left open.
+        refused(
+            b"flow 1\n'i' -> FILE R(ReadLines)\nR OUT -> IN M(Match)\n'a' -> PATTERN M\nM REJ -> IN A\n'a' -> FILE A(WriteLines)\n",
+            b"network refused: port missing M.ACC\n",
+        ),
+        // A Replace needs a pattern,
+        refused(
+            b"flow 1\n'i' -> FILE R(ReadLines)\nR OUT -> IN P(Replace)\n'x' -> WITH P\nP OUT -> IN A\n'a' -> FILE A(WriteLines)\n",
+            b"network refused: port missing P.PATTERN\n",
+        ),
+        // which is one,
+        refused(
+            b"flow 1\n'i' -> FILE R(ReadLines)\nR OUT -> IN P(Replace)\n'*' -> PATTERN P\n'x' -> WITH P\nP OUT -> IN A\n'a' -> FILE A(WriteLines)\n",
+            b"network refused: bad option P.PATTERN\n",
+        ),
+        // a text that takes the place of what it matches,
+        refused(
+            b"flow 1\n'i' -> FILE R(ReadLines)\nR OUT -> IN P(Replace)\n'a' -> PATTERN P\nP OUT -> IN A\n'a' -> FILE A(WriteLines)\n",
+            b"network refused: port missing P.WITH\n",
+        ),
+        // and a connection of its OUT.
+        refused(
+            b"flow 1\n'i' -> FILE R(ReadLines)\nR OUT -> IN P(Replace)\n'a' -> PATTERN P\n'x' -> WITH P\n",
+            b"network refused: port missing P.OUT\n",
+        ),
+    ];
+    for row in rows {
+        run_row(&rt, rt.alloc(), row)?;
+    }
+    Ok(())
+}

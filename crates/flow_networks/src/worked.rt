@@ -391,3 +391,44 @@ fn a_tail_holds_more_packets_than_hands_take(rt: HostRuntime) -> Result<(), Fail
     run_on(&rt, rt.alloc(), row, ("in", lines.as_slice()))?;
     Ok(())
 }
+
+#[test]
+fn patterns_are_matched_and_replaced(rt: HostRuntime) -> Result<(), Fail> {
+    let rows = [
+        // What matches somewhere is accepted, with all brackets; the rest goes to REJ,
+        Row {
+            net: b"flow 1\n'i' -> FILE Read(ReadLines)\nRead OUT -> IN B(Brackets)\nB OUT -> IN M(Match)\n'^[a-c]+$' -> PATTERN M\nM ACC -> IN A(WriteLines)\n'a' -> FILE A\nM REJ -> IN R(WriteLines)\n'r' -> FILE R\n",
+            inputs: [("i", b"(x\ncab\nabcd\n\n)\nb\n"), NONE, NONE],
+            outputs: [("a", b"(x\ncab\n)\nb\n"), ("r", b"abcd\n\n")],
+            ..ROW
+        },
+        // or is dropped where that isn't connected.
+        Row {
+            net: b"flow 1\n'i' -> FILE Read(ReadLines)\nRead OUT -> IN M(Match)\n'(?i)error' -> PATTERN M\nM ACC -> IN A(WriteLines)\n'a' -> FILE A\n",
+            inputs: [("i", b"an Error\nnone\n"), NONE, NONE],
+            printed: Some(
+                b"verdict finished\nprocess Read ReadLines ended turns 6 made 2 dropped 0 left 0\nprocess M Match ended turns 8 made 0 dropped 1 left 0\nprocess A WriteLines ended turns 5 made 0 dropped 1 left 0\nconnection M.IN capacity 10 puts 2 takes 2 left 0\nconnection A.IN capacity 10 puts 1 takes 1 left 0\ntotal turns 19 made 2 dropped 2 left 0\n",
+            ),
+            outputs: [("a", b"an Error\n"), NONE],
+            ..ROW
+        },
+        // All matches are replaced, from the left, by the text as it is written.
+        Row {
+            net: b"flow 1\n'i' -> FILE Read(ReadLines)\nRead OUT -> IN R(Replace)\n'a+' -> PATTERN R\n'$1' -> WITH R\nR OUT -> IN W(WriteLines)\n'o' -> FILE W\n",
+            inputs: [("i", b"banana\nplum\naaa\n"), NONE, NONE],
+            outputs: [("o", b"b$1n$1n$1\nplum\n$1\n"), NONE],
+            ..ROW
+        },
+        // The text may be empty.
+        Row {
+            net: b"flow 1\n'i' -> FILE Read(ReadLines)\nRead OUT -> IN R(Replace)\n' +$' -> PATTERN R\n'' -> WITH R\nR OUT -> IN W(WriteLines)\n'o' -> FILE W\n",
+            inputs: [("i", b"a b  \n \nc\n"), NONE, NONE],
+            outputs: [("o", b"a b\n\nc\n"), NONE],
+            ..ROW
+        },
+    ];
+    for row in rows {
+        run_row(&rt, rt.alloc(), row)?;
+    }
+    Ok(())
+}

@@ -4,8 +4,9 @@ use Rattle.std.specs.Prelude.{◌≢◌, ℕ, ◌≤◌, ◌==◌, List, length}
 use Rattle.std.specs.List.{All, slice_split}
 use Rattle.std.specs.Str.{IsUtf8}
 use Rattle.flow_text.specs.Text.{IsPlain, number_of}
+use Rattle.flow_pattern.specs.Pattern.{IsPattern}
 use Rattle.flow_plan.specs.declared.kind.PortClass.{PortClass}
-use Rattle.flow_plan.specs.declared.kind.PortClass.TheVariants.{Stream, Number, Fields, File, Text}
+use Rattle.flow_plan.specs.declared.kind.PortClass.TheVariants.{Stream, Number, Fields, File, Pattern, Text}
 
 -- Decimal digits without a superfluous leading zero, for a number within these bounds.
 abbrev pub IsNumberWithin : ℕ → ℕ → List ℕ → Type 0
@@ -25,4 +26,5 @@ IsOfClass Stream text = Unit {0}
 IsOfClass (Number least most) text = IsNumberWithin least most text
 IsOfClass Fields text = IsFields text
 IsOfClass File text = IsFileName text
+IsOfClass Pattern text = IsPattern text
 IsOfClass Text text = Unit {0}

@@ -5,14 +5,15 @@ use flow_items::{Items, Text};
 use std::alloc::{AllocError, Global};
 
 /// What a port carries. A stream port carries packets. An option port is given one text before the
-/// network runs: a decimal number within bounds, a list of field lengths, the name of a file, or any
-/// text.
+/// network runs: a decimal number within bounds, a list of field lengths, the name of a file, a
+/// pattern, or any text.
 #[derive(Clone, Copy, Debug, PartialEq, Eq)]
 pub enum PortClass {
     Stream,
     Number { least: u64, most: u64 },
     Fields,
     File,
+    Pattern,
     Text,
 }
 

@@ -35,7 +35,7 @@ invariant_of-self-2 c =
     let ok : input_for c.self.inside.processes.items c.self.inside.ports.items c.args.to.now c.args.into.now ≡ Ok c.in-Ok.input =
     rw (sym c.as_slice.ensures.value, sym c.as_slice-ports.ensures.value) c.in-Ok.ensures in
     let number : c.process_at-process.result ≡ process_at c.self.inside.ports.items c.in-Ok.input = rw (sym c.as_slice-ports.ensures.value) c.process_at-process.ensures in
-    let fits : FitsPort (slice_get c.self.inside.ports.items c.in-Ok.input.port) c.args.text.now = rw (sym c.as_slice-ports.ensures.value) (c.fits.ensures.0 c.if-not-fits.false) in
+    let fits : FitsPort (slice_get c.self.inside.ports.items c.in-Ok.input.port) c.args.text.now = rw (sym c.as_slice-ports.ensures.value) (c.in_ok-fits.ensures.0 c.if-not-fits.false) in
     let text : c.in_ok-text.text ≡ c.args.text.now = c.in_ok-text.ensures in
     let processes = c.in_ok-give.ensures.processes in
     let ports = c.in_ok-give.ensures.ports in

@@ -1,0 +1,2 @@
+pub mod MatchStream
+pub mod ReplaceStream

@@ -1,0 +1,5 @@
+pub mod Match
+pub mod MatchLaws
+pub mod Replace
+pub mod ReplaceLaws
+pub mod Meanings

@@ -1,0 +1,1 @@
+//! What is found and replaced, with values known from outside.

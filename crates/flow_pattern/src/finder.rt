@@ -1,0 +1,120 @@
+//! Whether a pattern matches in a text.
+
+ghost use Rattle.std.specs.Prelude.{◌≡◌, IfOk};
+ghost use Rattle.regex.specs.Patterns.{SameCaptures};
+ghost use Rattle.regex_meta.specs.Programs.{pattern_of};
+ghost use Rattle.flow_pattern.specs.Pattern.{IsPattern, expression, matches};
+
+use crate::reading::read;
+use regex_compile::Error;
+use regex_dfa::{End, Forward};
+use regex_meta::{Program, Searcher};
+use regex_syntax::Parsed;
+use std::alloc::{AllocError, Global};
+use std::marker::Model;
+use std::str;
+
+// About how many bytes a compiled pattern may take, as in the crate regex.
+const SIZE_LIMIT: usize = 10 << 20;
+
+/// A pattern, compiled, with what its searches have built so far. It is seen as the pattern's text.
+///
+/// The crate's own `Matcher` is borrowed from its `Regex`, so that a component can't keep one, and to make one takes
+/// some thirty times as long as to search a line. So this keeps the automaton by which a `Matcher` finds the end of a
+/// match, and makes the rest where that gives up.
+pub struct Finder {
+    text: Vec<u8>,
+    program: Program,
+    forward: Forward,
+}
+
+impl Model for Finder {
+    ghost use Rattle.std.specs.Prelude.{ℕ, List};
+    ghost use Rattle.regex.specs.Patterns.{SameCaptures};
+    ghost use Rattle.std.specs.Prelude.{◌≡◌, false};
+    ghost use Rattle.regex_dfa.specs.Search.{IsForwardFor, stops_when_idle};
+    ghost use Rattle.regex_meta.specs.Programs.{pattern_of};
+    ghost use Rattle.flow_pattern.specs.Pattern.{expression};
+
+    ghost Value = { List ℕ };
+
+    ghost view = { λ f. f.text.items };
+
+    ghost invariant = { λ f. IsForwardFor f.forward f.program.dfa × (stops_when_idle f.forward ≡ false) × SameCaptures (pattern_of f.program) (expression f.text.items) };
+}
+
+// Written out, so that a proof above sees one call here and not what all the fields let go.
+impl Drop for Finder {
+    fn drop(self) {
+        let Finder {
+            text: _text,
+            program: _program,
+            forward: _forward,
+        } = self;
+    }
+}
+
+// Compiles a pattern.
+fn compiled(alloc: Global, source: &str) -> Result<Program, AllocError>
+    requires pattern { IsPattern source.now }
+    ensures { IfOk result (λ p. SameCaptures (pattern_of p) (expression source.now)) }
+{
+    let Some(Parsed { hir, names }) = read(alloc, source)? else {
+        unreachable!()
+    };
+    let Ok(groups) = u32::try_from(names.len()) else {
+        return Err(AllocError);
+    };
+    match Program::new(alloc, hir, groups, SIZE_LIMIT) {
+        Ok(program) => Ok(program),
+        Err(Error::TooBig) => Err(AllocError),
+        Err(Error::OutOfMemory) => Err(AllocError),
+        Err(Error::Malformed) => unreachable!(),
+    }
+}
+
+impl Finder {
+    /// Compiles a pattern. One whose program has more than some 10 MiB finds no memory.
+    pub fn new(alloc: Global, pattern: &[u8]) -> Result<Finder, AllocError>
+        requires pattern { IsPattern pattern.now }
+        ensures { IfOk result (λ finder. finder ≡ pattern.now) }
+    {
+        let Ok(source) = str::from_utf8(pattern) else {
+            unreachable!()
+        };
+        let program = compiled(alloc, source)?;
+        let forward = Forward::new(alloc, &program.dfa, false)?;
+        let text = Vec::from_slice(alloc, pattern)?;
+        Ok(Finder {
+            text,
+            program,
+            forward,
+        })
+    }
+
+    /// Whether the pattern matches somewhere in the text. Takes memory where the automaton gives up, which it does for
+    /// a few patterns with assertions on Unicode words and where its tables have filled too often.
+    pub fn matches(&mut self, alloc: Global, text: &[u8]) -> Result<bool, AllocError>
+        ensures same { self.new ≡ self.old }
+        ensures found { IfOk result (λ found. found ≡ matches self.old text.now) }
+    {
+        match self
+            .forward
+            .find_end(&self.program.dfa, text, 0, text.len(), false, true)
+        {
+            End::At(_) => Ok(true),
+            End::NoMatch => Ok(false),
+            End::Idle(_) => unreachable!(),
+            End::GaveUp => self.matches_anew(alloc, text),
+        }
+    }
+
+    // The same, by a search of its own.
+    #[cold]
+    fn matches_anew(&self, alloc: Global, text: &[u8]) -> Result<bool, AllocError>
+        ensures { IfOk result (λ found. found ≡ matches self.now text.now) }
+    {
+        let mut searcher = Searcher::new(alloc, &self.program)?;
+        Ok(searcher.is_match(text, 0))
+    }
+}
