@@ -199,6 +199,8 @@ std-own (components.Tally state) port is = first-own port is
 std-own (components.Unique state) port is = either-own 1 0 port state.rep is (omega arith) (omega arith)
 std-own (components.Head state) port is = either-own 1 0 port state.rest is (omega arith) (omega arith)
 std-own (components.Tail state) port is = either-own 1 0 port state.rest is (omega arith) (omega arith)
+std-own (components.Match state) port is = either-own 1 0 port state.rejects is (omega arith) (omega arith)
+std-own (components.Replace with) port is = first-own port is
 std-own (components.Sort state) port is = first-own port is
 
 -- Where a sender has put something, it has entries.

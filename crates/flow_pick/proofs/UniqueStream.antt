@@ -3,9 +3,9 @@ use Rattle.std.proofs.Common.{◌≡◌, ℕ, zero, suc, Bool, List, [], ◌∷�
 use Rattle.std.specs.Prelude.{not}
 use Rattle.flow_packet.specs.declared.packet.Kind.{Kind}
 use Rattle.flow_packet.specs.declared.packet.Kind.TheVariants.{Normal, Open, Close}
-use Rattle.flow_packet.specs.Tree.{Tree, kind_of, text_of}
+use Rattle.flow_packet.specs.Tree.{Tree, node, kind_of, text_of}
 use Rattle.flow_pick.specs.Places.{Place}
-use Rattle.flow_pick.specs.Unique.{UniqueState, is_last, unique_picks, closed, unique_after, unique_picker, behind, last_before, has_text, kept, is_new, fresh_unique}
+use Rattle.flow_pick.specs.Unique.{UniqueState, is_last, unique_picks, closed, unique_after, unique_picker, last_before, has_text, kept, is_new, fresh_unique}
 use Rattle.flow_pick.specs.UniqueLaws.{after-rep}
 use Rattle.flow_pick.specs.Meanings.{UniqueMeaning}
 use Rattle.flow_pick.proofs.PickingStream.{parted-run}
@@ -42,24 +42,18 @@ nth-closed state last [] zero = refl
 nth-closed state last [] (suc n) = refl
 nth-closed state last (o ∷ outer) n = refl
 
-recalls-by : (state : UniqueState) (earlier : List Tree) (packet : Tree) (kind : Kind) → Recalls state earlier
-    → (n : ℕ) → nth n (unique_after state kind (text_of packet)).last (unique_after state kind (text_of packet)).outer ≡ text_in (behind n kind packet (λ k. last_before k earlier))
-recalls-by state earlier packet Normal r zero = refl
-recalls-by state earlier packet Normal r (suc n) = nth-further state.last (Some (text_of packet)) state.outer n ∙ r (suc n)
-  where
-    nth-further : (a b : Option (List ℕ)) (outer : List (Option (List ℕ))) (n : ℕ) → nth (suc n) b outer ≡ nth (suc n) a outer
-    nth-further a b [] n = refl
-    nth-further a b (o ∷ outer) n = refl
-recalls-by state earlier packet Open r zero = refl
-recalls-by state earlier packet Open r (suc n) = r n
-recalls-by state earlier packet Close r n = nth-closed state state.last state.outer n ∙ r (suc n) ∙ close-behind n
-  where
-    close-behind : (n : ℕ) → text_in (last_before (suc n) earlier) ≡ text_in (behind n Close packet (λ k. last_before k earlier))
-    close-behind zero = refl
-    close-behind (suc n) = refl
+-- what is kept of a substream further out doesn't change with a packet here
+nth-further : (a b : Option (List ℕ)) (outer : List (Option (List ℕ))) (n : ℕ) → nth (suc n) b outer ≡ nth (suc n) a outer
+nth-further a b [] n = refl
+nth-further a b (o ∷ outer) n = refl
 
 recalls-on : (state : UniqueState) (earlier : List Tree) (packet : Tree) → Recalls state earlier → Recalls (unique_after state (kind_of packet) (text_of packet)) (packet ∷ earlier)
-recalls-on state earlier packet r n = recalls-by state earlier packet (kind_of packet) r n
+recalls-on state earlier (node id Normal text chains) r zero = refl
+recalls-on state earlier (node id Normal text chains) r (suc n) = nth-further state.last (Some text) state.outer n ∙ r (suc n)
+recalls-on state earlier (node id Open text chains) r zero = refl
+recalls-on state earlier (node id Open text chains) r (suc n) = r n
+recalls-on state earlier (node id Close text chains) r zero = nth-closed state state.last state.outer zero ∙ r (suc zero)
+recalls-on state earlier (node id Close text chains) r (suc n) = nth-closed state state.last state.outer (suc n) ∙ r (suc (suc n))
 
 nothing-yet : (rep : Bool) → Recalls (fresh_unique rep) []
 nothing-yet rep zero = refl

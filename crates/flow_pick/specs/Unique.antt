@@ -4,7 +4,7 @@ use Rattle.std.specs.Prelude.{ℕ, zero, suc, Bool, true, false, not, List, [], 
 use Rattle.std.specs.Str.{bytes_eq}
 use Rattle.flow_packet.specs.declared.packet.Kind.{Kind}
 use Rattle.flow_packet.specs.declared.packet.Kind.TheVariants.{Normal, Open, Close}
-use Rattle.flow_packet.specs.Tree.{Tree, kind_of, text_of}
+use Rattle.flow_packet.specs.Tree.{Tree, node, kind_of, text_of}
 use Rattle.flow_packet.specs.Held.{Held}
 use Rattle.flow_component.specs.declared.Answer.{Answer}
 use Rattle.flow_component.specs.Laws.{Rules, Outcome}
@@ -51,19 +51,15 @@ unique_next state held answer = picker_next unique_picker state held answer
 abbrev pub unique_rules : Rules UniqueState
 unique_rules = picker_rules unique_picker
 
--- The Normal packet before in the same substream, with this one of these kind behind the others, the nearest first, where so many inner substreams are passed over on the way back.
-abbrev pub behind : ℕ → Kind → Tree → (ℕ → Option Tree) → Option Tree
-behind zero Normal packet further = Some packet
-behind (suc inner) Normal packet further = further (suc inner)
-behind zero Open packet further = None
-behind (suc inner) Open packet further = further inner
-behind inner Close packet further = further (suc inner)
-
--- The Normal packet that came last in the same substream, if there is one: what came before is gone through, the nearest first. A Close packet leads into an inner substream, and its Open packet out
--- of it again; the Open packet of the substream itself ends the search.
+-- The Normal packet that came last in the same substream, if there is one. What came before is gone through, the nearest first: a Close packet leads into an inner substream, whose packets are
+-- passed over, and its Open packet out of it again; the Open packet of the substream itself ends the search. So many inner substreams are being passed over.
 abbrev pub last_before : ℕ → List Tree → Option Tree
 last_before inner [] = None
-last_before inner (packet ∷ earlier) = behind inner (kind_of packet) packet (λ n. last_before n earlier)
+last_before zero (node id Normal text chains ∷ earlier) = Some (node id Normal text chains)
+last_before (suc inner) (node id Normal text chains ∷ earlier) = last_before (suc inner) earlier
+last_before zero (node id Open text chains ∷ earlier) = None
+last_before (suc inner) (node id Open text chains ∷ earlier) = last_before inner earlier
+last_before inner (node id Close text chains ∷ earlier) = last_before (suc inner) earlier
 
 -- It has this text.
 abbrev pub has_text : Option Tree → List ℕ → Bool

@@ -1,9 +1,5 @@
 //! What the components of this crate share: one input, an output for what they pick, and one for the rest.
 
-ghost use Rattle.std.specs.Prelude.{◌≡◌};
-ghost use Rattle.flow_packet.specs.Held.{held_of};
-ghost use Rattle.flow_component.specs.Alone.{HoldsOnly};
-
 use flow_component::{Port, Shape};
 
 pub(crate) const IN: Port = Port(0);
