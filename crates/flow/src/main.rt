@@ -15,6 +15,7 @@ mod line;
 mod near;
 mod net;
 mod outer;
+mod patterns;
 mod pieces;
 mod place;
 mod ports;

@@ -4,9 +4,10 @@ use crate::kinds::{
     Side, automatic, is_option, nearest_port, other_side, port, put_example, put_option, put_ports,
 };
 use crate::net::{Net, put_found, put_if_found};
+use crate::patterns::put_slip;
 use crate::shown::put_word;
 use flow_flat::ExpandFault;
-use flow_plan::{KindSpec, PortRef, PortSpec};
+use flow_plan::{KindSpec, PortClass, PortRef, PortSpec};
 use std::alloc::AllocError;
 
 // Whether a kind has no such port on a side.
@@ -175,13 +176,17 @@ pub fn put_bad_option(
 ) -> Result<(), AllocError> {
     let home = net.home(process)?;
     let wrong = name.name.as_slice();
-    net.put_statement(page, fault, &home, wrong, Side::Input)?;
+    let shown = net.put_statement(page, fault, &home, wrong, Side::Input)?;
     let Some(kind) = net.row(&home)? else {
         return Ok(());
     };
-    match port(kind, Side::Input, wrong) {
-        Some(option) => put_option(page, &option.name, option.class),
-        None => Ok(()),
+    let Some(option) = port(kind, Side::Input, wrong) else {
+        return Ok(());
+    };
+    put_option(page, &option.name, option.class)?;
+    match (option.class, shown.statement) {
+        (PortClass::Pattern, Some(found)) => put_slip(net.alloc, page, &found),
+        _ => Ok(()),
     }
 }
 

@@ -30,6 +30,8 @@ fn the_table_has_the_standard_kinds(rt: HostRuntime) -> Result<(), Fail> {
         b"Unique".as_slice(),
         b"Head".as_slice(),
         b"Tail".as_slice(),
+        b"Match".as_slice(),
+        b"Replace".as_slice(),
     ]) {
         assert_eq!(rt; spec.name.as_slice(), name);
         assert!(rt; StdKind::named(name).is_some());

@@ -12,7 +12,7 @@ fn the_page_has_each_kind_of_port(rt: HostRuntime) -> Result<(), Fail> {
     );
     assert!(rt;
         page.ends_with(
-            b"\nTail: passes on the last COUNT packets between two brackets\n  option COUNT: a number from 0 to 4294967295\n  input IN\n  output OUT\n  output REST: may be left open\n"
+            b"\nReplace: replaces each match of PATTERN by the text WITH\n  option PATTERN: a pattern\n  option WITH: any text\n  input IN\n  output OUT\n"
         )
     );
     let parts: [&[u8]; 4] = [

@@ -7,8 +7,6 @@ mod matching;
 mod meanings;
 mod outcomes;
 mod replacing;
-#[cfg(test)]
-mod tests;
 
 pub use matching::Match;
 pub use meanings::{match_keeps_its_meaning, replace_keeps_its_meaning};

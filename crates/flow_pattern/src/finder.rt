@@ -59,7 +59,7 @@ fn compiled(alloc: Global, source: &str) -> Result<Program, AllocError>
     requires pattern { IsPattern source.now }
     ensures { IfOk result (λ p. SameCaptures (pattern_of p) (expression source.now)) }
 {
-    let Some(Parsed { hir, names }) = read(alloc, source)? else {
+    let Ok(Parsed { hir, names }) = read(alloc, source)? else {
         unreachable!()
     };
     let Ok(groups) = u32::try_from(names.len()) else {

@@ -1,13 +1,20 @@
 //! How a pattern is read.
 
-ghost use Rattle.std.specs.Prelude.{◌≡◌, ◌↔◌, ◌<◌, vec_len, map, option_map, string_bytes, IfOk, IfNone, IfSome, IsTrue};
+ghost use Rattle.std.specs.Prelude.{◌≡◌, ◌↔◌, ◌<◌, ◌≤◌, length, vec_len, map, option_map, string_bytes, IfErr, IfOk, IfNone, IfSome, IsTrue};
 ghost use Rattle.regex.specs.Patterns.{Reads};
 ghost use Rattle.regex_syntax.specs.WellFormed.{IsWellFormed};
 ghost use Rattle.flow_pattern.specs.Pattern.{pattern_options, IsPattern};
 
-use regex_syntax::{Config, ErrorKind, Parsed, parse};
+use regex_syntax::{Config, Error, ErrorKind, Parsed, parse};
 use std::alloc::{AllocError, Global};
 use std::str;
+
+/// Where a text stops being a pattern, in bytes from its beginning, and what is wrong there.
+#[derive(Clone, Copy, Debug, PartialEq, Eq)]
+pub struct Slip {
+    pub place: usize,
+    pub why: &'static str,
+}
 
 // The options with which a pattern is read.
 fn options() -> Config
@@ -19,20 +26,46 @@ fn options() -> Config
     }
 }
 
-// Reads a pattern; none where the text isn't one.
-pub(crate) fn read(alloc: Global, source: &str) -> Result<Option<Parsed>, AllocError>
-    ensures none { IfOk result (λ read. IfNone read (IsPattern source.now → ⊥)) }
-    ensures some { IfOk result (λ read. IfSome read (λ p. IsPattern source.now)) }
-    ensures reads { IfOk result (λ read. IfSome read (λ p. Reads pattern_options source.now p.hir (map (option_map string_bytes) p.names.items))) }
-    ensures formed { IfOk result (λ read. IfSome read (λ p. IsWellFormed pattern_options.utf8 p.hir)) }
-    ensures group_zero { IfOk result (λ read. IfSome read (λ p. 0 < vec_len p.names)) }
+// Reads a pattern, or tells where the text isn't one.
+pub(crate) fn read(alloc: Global, source: &str) -> Result<Result<Parsed, Error>, AllocError>
+    ensures none { IfOk result (λ read. IfErr read (λ e. IsPattern source.now → ⊥)) }
+    ensures place { IfOk result (λ read. IfErr read (λ e. e.span.start ≤ length source.now)) }
+    ensures some { IfOk result (λ read. IfOk read (λ p. IsPattern source.now)) }
+    ensures reads { IfOk result (λ read. IfOk read (λ p. Reads pattern_options source.now p.hir (map (option_map string_bytes) p.names.items))) }
+    ensures formed { IfOk result (λ read. IfOk read (λ p. IsWellFormed pattern_options.utf8 p.hir)) }
+    ensures group_zero { IfOk result (λ read. IfOk read (λ p. 0 < vec_len p.names)) }
 {
     match parse(alloc, source, &options()) {
-        Ok(parsed) => Ok(Some(parsed)),
+        Ok(parsed) => Ok(Ok(parsed)),
         Err(error) => match error.kind {
             ErrorKind::OutOfMemory => Err(AllocError),
-            _ => Ok(None),
+            _ => Ok(Err(error)),
         },
+    }
+}
+
+/// Where a text stops being a pattern; none where it is one. Reading it takes memory.
+pub fn slip_in(alloc: Global, text: &[u8]) -> Result<Option<Slip>, AllocError>
+    ensures none { IfOk result (λ slip. IfNone slip (IsPattern text.now)) }
+    ensures some { IfOk result (λ slip. IfSome slip (λ s. IsPattern text.now → ⊥)) }
+    ensures place { IfOk result (λ slip. IfSome slip (λ s. s.place ≤ length text.now)) }
+{
+    let source = match str::from_utf8(text) {
+        Ok(source) => source,
+        Err(fault) => {
+            return Ok(Some(Slip {
+                place: fault.valid_up_to(),
+                why: "no letter in UTF-8",
+            }));
+        }
+    };
+    let fault = read(alloc, source)?.err();
+    match fault {
+        None => Ok(None),
+        Some(error) => Ok(Some(Slip {
+            place: error.span.start,
+            why: error.kind.message(),
+        })),
     }
 }
 
@@ -40,9 +73,6 @@ pub(crate) fn read(alloc: Global, source: &str) -> Result<Option<Parsed>, AllocE
 pub fn is_pattern(alloc: Global, text: &[u8]) -> Result<bool, AllocError>
     ensures { IfOk result (λ is. IsTrue is ↔ IsPattern text.now) }
 {
-    let Ok(source) = str::from_utf8(text) else {
-        return Ok(false);
-    };
-    let read = read(alloc, source)?;
-    Ok(read.is_some())
+    let slip = slip_in(alloc, text)?;
+    Ok(slip.is_none())
 }

@@ -6,6 +6,7 @@ returns-in-Ok-clause-some c = is_pattern c.args.source.now c.in-Ok.parsed.hir _ 
 
 pub returns-in_default : goal.returns-in_default
 returns-in_default c = record {
+  place = c.in-Err.ensures.span.1.0;
   none = no_pattern c.args.source.now c.in-Err.error.kind c.in_default.not-OutOfMemory (rw c.options.ensures at c.in-Err.ensures.err);
   some = tt;
   reads = tt;

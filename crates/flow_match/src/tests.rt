@@ -1,1 +1,0 @@
-//! What is found and replaced, with values known from outside.
