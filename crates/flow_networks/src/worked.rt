@@ -436,9 +436,9 @@ fn patterns_are_matched_and_replaced(rt: HostRuntime) -> Result<(), Fail> {
             outputs: [("o", b"b$1n$1n$1\nplum\n$1\n"), NONE],
             ..ROW
         },
-        // The text may be empty.
+        // The text may be empty, and the options come in any order.
         Row {
-            net: b"flow 1\n'i' -> FILE Read(ReadLines)\nRead OUT -> IN R(Replace)\n' +$' -> PATTERN R\n'' -> WITH R\nR OUT -> IN W(WriteLines)\n'o' -> FILE W\n",
+            net: b"flow 1\n'i' -> FILE Read(ReadLines)\nRead OUT -> IN R(Replace)\n'' -> WITH R\n' +$' -> PATTERN R\nR OUT -> IN W(WriteLines)\n'o' -> FILE W\n",
             inputs: [("i", b"a b  \n \nc\n"), NONE, NONE],
             outputs: [("o", b"a b\n\nc\n"), NONE],
             ..ROW

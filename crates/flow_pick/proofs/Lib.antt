@@ -4,3 +4,4 @@ pub mod HeadStream
 pub mod Lasts
 pub mod TailStream
 pub mod Carrying
+pub mod PlainStreams

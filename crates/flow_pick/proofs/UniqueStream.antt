@@ -48,12 +48,12 @@ nth-further a b [] n = refl
 nth-further a b (o ∷ outer) n = refl
 
 recalls-on : (state : UniqueState) (earlier : List Tree) (packet : Tree) → Recalls state earlier → Recalls (unique_after state (kind_of packet) (text_of packet)) (packet ∷ earlier)
-recalls-on state earlier (node id Normal text chains) r zero = refl
-recalls-on state earlier (node id Normal text chains) r (suc n) = nth-further state.last (Some text) state.outer n ∙ r (suc n)
-recalls-on state earlier (node id Open text chains) r zero = refl
-recalls-on state earlier (node id Open text chains) r (suc n) = r n
-recalls-on state earlier (node id Close text chains) r zero = nth-closed state state.last state.outer zero ∙ r (suc zero)
-recalls-on state earlier (node id Close text chains) r (suc n) = nth-closed state state.last state.outer (suc n) ∙ r (suc (suc n))
+recalls-on state earlier (node id Normal text cs) r zero = refl
+recalls-on state earlier (node id Normal text cs) r (suc n) = nth-further state.last (Some text) state.outer n ∙ r (suc n)
+recalls-on state earlier (node id Open text cs) r zero = refl
+recalls-on state earlier (node id Open text cs) r (suc n) = r n
+recalls-on state earlier (node id Close text cs) r zero = nth-closed state state.last state.outer zero ∙ r (suc zero)
+recalls-on state earlier (node id Close text cs) r (suc n) = nth-closed state state.last state.outer (suc n) ∙ r (suc (suc n))
 
 nothing-yet : (rep : Bool) → Recalls (fresh_unique rep) []
 nothing-yet rep zero = refl

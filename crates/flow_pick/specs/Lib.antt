@@ -9,4 +9,5 @@ pub mod TailState
 pub mod Tail
 pub mod Carriers
 pub mod TailLaws
+pub mod Plain
 pub mod Meanings

@@ -55,11 +55,11 @@ unique_rules = picker_rules unique_picker
 -- passed over, and its Open packet out of it again; the Open packet of the substream itself ends the search. So many inner substreams are being passed over.
 abbrev pub last_before : ℕ → List Tree → Option Tree
 last_before inner [] = None
-last_before zero (node id Normal text chains ∷ earlier) = Some (node id Normal text chains)
-last_before (suc inner) (node id Normal text chains ∷ earlier) = last_before (suc inner) earlier
-last_before zero (node id Open text chains ∷ earlier) = None
-last_before (suc inner) (node id Open text chains ∷ earlier) = last_before inner earlier
-last_before inner (node id Close text chains ∷ earlier) = last_before (suc inner) earlier
+last_before zero (node id Normal text cs ∷ earlier) = Some (node id Normal text cs)
+last_before (suc inner) (node id Normal text cs ∷ earlier) = last_before (suc inner) earlier
+last_before zero (node id Open text cs ∷ earlier) = None
+last_before (suc inner) (node id Open text cs ∷ earlier) = last_before inner earlier
+last_before inner (node id Close text cs ∷ earlier) = last_before (suc inner) earlier
 
 -- It has this text.
 abbrev pub has_text : Option Tree → List ℕ → Bool

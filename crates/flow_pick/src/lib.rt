@@ -13,7 +13,10 @@ mod tests;
 mod unique;
 
 pub use head::Head;
-pub use meanings::{head_keeps_its_meaning, tail_keeps_its_meaning, unique_keeps_its_meaning};
+pub use meanings::{
+    head_keeps_its_meaning, streams_without_brackets_are_lists, tail_keeps_its_meaning,
+    unique_keeps_its_meaning,
+};
 pub use outcomes::each_comes_to_one_outcome;
 pub use tail::{Tail, TailPlace};
 pub use unique::Unique;

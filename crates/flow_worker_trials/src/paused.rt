@@ -67,14 +67,15 @@ fn made_again(alloc: Global, plan: &Plan, journal: &Journal) -> Result<Vec<u8>, 
     Ok(report?)
 }
 
-/// A run with its report: the turns, and the lines.
+/// What is told of a run: how many turns it made, and the lines of its report.
+#[derive(Drop)]
 struct Seen {
     turns: u32,
     report: Vec<u8>,
 }
 
 /// What is seen of a network at which the run stands.
-fn seen(alloc: Global, plan: &Plan, closed: &Closed<Std>) -> Result<Seen, AllocError> {
+fn look_at(alloc: Global, plan: &Plan, closed: &Closed<Std>) -> Result<Seen, AllocError> {
     Ok(Seen {
         turns: closed.net.turns_made(),
         report: told(alloc, plan, closed)?,
@@ -91,10 +92,10 @@ fn in_two_parts<R: Threads + Wait + Sync>(
     requires { 1 ≤ budget }
 {
     let paused = begun(rt, alloc, budget)?;
-    let middle = seen(alloc, plan, &paused);
+    let middle = look_at(alloc, plan, &paused);
     let Closed { net, starved: _ } = paused;
     let closed = ended(rt, alloc, net)?;
-    let end = seen(alloc, plan, &closed);
+    let end = look_at(alloc, plan, &closed);
     let journal = Journal::merge(alloc, &closed.net);
     closed.discard();
     Ok((middle?, end?, journal?))
@@ -119,7 +120,7 @@ fn a_run_ends_before_its_budget(rt: HostRuntime) -> Result<(), Fail> {
     let alloc = rt.alloc();
     let plan = plan_of_text(alloc, NET)?;
     let closed = begun(&rt, alloc, 100)?;
-    let seen = seen(alloc, &plan, &closed);
+    let seen = look_at(alloc, &plan, &closed);
     closed.discard();
     let seen = seen?;
     assert_eq!(rt; seen.turns, 50);
