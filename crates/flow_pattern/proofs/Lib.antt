@@ -1,2 +1,3 @@
+pub mod Locating
 pub mod Readings
 pub mod Replacing

@@ -1,25 +1,44 @@
--- Two expressions that match alike are replaced alike.
-use Rattle.std.proofs.Common.{◌≡◌, ℕ, ◌<◌, Bool, true, false, List, [], ◌∷◌, ◌++◌, map, get_or, refl, sym, ap, ap₂, ◌∙◌, slice_range}
-use Rattle.regex.specs.Patterns.{Re, Match, SameCaptures, span, find_all}
+-- What is left to write of a text with its matches replaced, match by match.
+use Rattle.std.proofs.Common.{◌≡◌, ℕ, zero, suc, ◌+◌, ◌-◌, ◌<◌, true, false, List, [], ◌∷◌, ◌++◌, drop, Option, Some, None, is_some, option_map, sym, ap, ◌∙◌, arith, slice_range}
+use Rattle.regex.specs.Patterns.{Re, find, find_all, span}
+use Rattle.regex.specs.Search.{next_match, matches_after}
 use Rattle.regex.specs.Replace.{replaced_by}
-use Rattle.regex.proofs.ForCallers.{spans_alike}
-use Rattle.flow_pattern.specs.Pattern.{expression, replaced}
+use Rattle.regex.proofs.SearchLemmas.{matches_after_none, matches_after_some, matches_after_bytes}
+use Rattle.regex_meta.proofs.ProgramLemmas.{none_of_option_map, value_of_option_map}
 
-module _ (with hay : List ℕ) where
-  -- What is replaced depends on the spans of the matches alone.
-  by-spans : (xs ys : List Match) → map span xs ≡ map span ys → (at : ℕ) → replaced_by (λ _. with) hay at xs ≡ replaced_by (λ _. with) hay at ys
+module _ (re : Re) (with text : List ℕ) where
+  -- What is left to write, where `after` is one more than the end of the last match, or 0 before the first.
+  abbrev pub left : ℕ → List ℕ
+  left after = replaced_by (λ _. with) text (after - 1) (matches_after false re text after)
+
+  -- Before the first it is all.
+  pub all_left : left 0 ≡ replaced_by (λ _. with) text 0 (find_all re text)
+  all_left = ap (replaced_by (λ _. with) text 0) (matches_after_bytes re text)
+
+  -- A match: what lies before it, what takes its place, and what is left then.
+  pub match_left : (after : ℕ) (s : ℕ × ℕ) → Some s ≡ option_map span (next_match false re text after) →
+      left after ≡ (slice_range text (after - 1) s.0 ++ with) ++ left (s.1 + 1)
   unfolding replaced_by
-  by-spans [] [] e at = refl
-  by-spans [] (y ∷ ys) e at = absurd cc
-  by-spans (x ∷ xs) [] e at = absurd cc
-  by-spans (x ∷ xs) (y ∷ ys) e at =
-      let head : span x ≡ span y = cc in
-      let tail : map span xs ≡ map span ys = cc in
-      let start : x.start ≡ y.start = ap (λ (s : ℕ × ℕ). s.0) head in
-      let end : x.trace.end ≡ y.trace.end = ap (λ (s : ℕ × ℕ). s.1) head in
-      ap₂ ◌++◌ (ap (λ (i : ℕ). slice_range hay at i ++ with) start)
-      (by-spans xs ys tail x.trace.end ∙ ap (λ (i : ℕ). replaced_by (λ _. with) hay i ys) end)
+  match_left after s e =
+      let v = value_of_option_map span (next_match false re text after) s (sym e) in
+      let back : s.1 ≡ s.1 + 1 - 1 = omega arith in
+      ap (replaced_by (λ _. with) text (after - 1)) (matches_after_some re text false after v.0 v.1)
+      ∙ ap (λ (x : ℕ × ℕ). (slice_range text (after - 1) x.0 ++ with) ++ replaced_by (λ _. with) text x.1 (matches_after false re text (x.1 + 1))) v.2
+      ∙ ap (λ n. (slice_range text (after - 1) s.0 ++ with) ++ replaced_by (λ _. with) text n (matches_after false re text (s.1 + 1))) back
 
--- What a regular expression that matches as the pattern does has replaced.
-pub replaced_so : (re : Re) (pattern with text : List ℕ) → SameCaptures re (expression pattern) → ((k : ℕ) → get_or text k 0 < 256) → replaced_by (λ _. with) text 0 (find_all re text) ≡ replaced pattern with text
-replaced_so re pattern with text same bytes = by-spans with text (find_all re text) (find_all (expression pattern) text) (spans_alike same text bytes false) 0
+  -- No match: the rest of the text.
+  pub rest_left : (after : ℕ) → None ≡ option_map span (next_match false re text after) → left after ≡ drop (after - 1) text
+  unfolding replaced_by
+  rest_left after e = ap (replaced_by (λ _. with) text (after - 1)) (matches_after_none re text false after (none_of_option_map span _ (sym e)))
+
+  -- A match comes: then there is one in the text.
+  pub some_in : (after : ℕ) (s : ℕ × ℕ) → Some s ≡ option_map span (next_match false re text after) →
+      (0 < after → is_some (find re text 0) ≡ true) → is_some (find re text 0) ≡ true
+  unfolding next_match
+  some_in zero s e before = let v = value_of_option_map span (find re text 0) s (sym e) in ap is_some v.1
+  some_in (suc n) s e before = before (omega arith)
+
+  -- None comes at the beginning: then there is none.
+  pub none_in : None ≡ option_map span (next_match false re text 0) → is_some (find re text 0) ≡ false
+  unfolding next_match
+  none_in e = ap is_some (none_of_option_map span (find re text 0) (sym e))

@@ -55,7 +55,7 @@ impl Drop for Finder {
 }
 
 // Compiles a pattern.
-fn compiled(alloc: Global, source: &str) -> Result<Program, AllocError>
+pub(crate) fn compiled(alloc: Global, source: &str) -> Result<Program, AllocError>
     requires pattern { IsPattern source.now }
     ensures { IfOk result (λ p. SameCaptures (pattern_of p) (expression source.now)) }
 {

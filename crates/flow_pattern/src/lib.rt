@@ -4,6 +4,7 @@
 #![tactic(auto)]
 
 mod finder;
+mod locator;
 mod reading;
 mod replacer;
 #[cfg(test)]

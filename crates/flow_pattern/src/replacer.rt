@@ -1,61 +1,61 @@
 //! A text with the matches of a pattern replaced.
 
 ghost use Rattle.std.specs.Prelude.{◌≡◌, true, false, IfOk, IfNone, IfSome};
-ghost use Rattle.regex.specs.Patterns.{SameCaptures};
-ghost use Rattle.regex.specs.Bytes.{regex_pattern};
-ghost use Rattle.flow_pattern.specs.Pattern.{IsPattern, expression, matches, replaced};
+ghost use Rattle.flow_pattern.specs.Pattern.{IsPattern, matches, replaced};
 
-use crate::finder::Finder;
-use regex::Error;
-use regex::bytes::{Regex, Template};
+use crate::locator::Locator;
 use std::alloc::{AllocError, Global};
 use std::marker::Model;
-use std::str;
 
 /// A pattern with the bytes that take the place of its matches. It is seen as the two texts.
 pub struct Replacer {
-    finder: Finder,
-    regex: Regex,
+    locator: Locator,
     with: Vec<u8>,
-    template: Template,
 }
 
 impl Model for Replacer {
-    ghost use Rattle.regex.specs.Patterns.{SameCaptures};
-    ghost use Rattle.regex.specs.Bytes.{regex_pattern, IsLiteral};
-    ghost use Rattle.flow_pattern.specs.Pattern.{Replacement, expression};
+    ghost use Rattle.flow_pattern.specs.Pattern.{Replacement};
 
     ghost Value = { Replacement };
 
-    ghost view = { λ r. record { pattern = r.finder; with = r.with.items } };
-
-    ghost invariant = { λ r. SameCaptures (regex_pattern r.regex) (expression r.finder) × IsLiteral r.template r.with.items };
+    ghost view = { λ r. record { pattern = r.locator; with = r.with.items } };
 }
 
 // Written out, so that a proof above sees one call here and not what all the fields let go.
 impl Drop for Replacer {
     fn drop(self) {
         let Replacer {
-            finder: _finder,
-            regex: _regex,
+            locator: _locator,
             with: _with,
-            template: _template,
         } = self;
     }
 }
 
-// Compiles a pattern.
-fn compiled(alloc: Global, source: &str) -> Result<Regex, AllocError>
-    requires pattern { IsPattern source.now }
-    ensures { IfOk result (λ r. SameCaptures (regex_pattern r) (expression source.now)) }
+// The text with what the pattern matches replaced by `with`; none where nothing matches.
+fn rewritten(
+    locator: &mut Locator,
+    alloc: Global,
+    text: &[u8],
+    with: &[u8],
+) -> Result<Option<Vec<u8>>, AllocError>
+    ensures same { locator.new ≡ locator.old }
+    ensures none { IfOk result (λ new. IfNone new (matches locator.old text.now ≡ false)) }
+    ensures some { IfOk result (λ new. IfSome new (λ v. matches locator.old text.now ≡ true)) }
+    ensures text { IfOk result (λ new. IfSome new (λ v. v.items ≡ replaced locator.old with.now text.now)) }
 {
-    match Regex::new(alloc, source) {
-        Ok(regex) => Ok(regex),
-        Err(Error::CompiledTooBig) => Err(AllocError),
-        Err(Error::OutOfMemory) => Err(AllocError),
-        Err(Error::Syntax(_)) => unreachable!(),
-        Err(Error::Internal) => unreachable!(),
+    let mut new = Vec::new(alloc);
+    // One more than the end of the last match, or 0 before the first.
+    let mut after: usize = 0;
+    while let Some((from, end)) = locator.next(alloc, text, after)? {
+        new.extend_from_slice(&text[after.saturating_sub(1)..from])?;
+        new.extend_from_slice(with)?;
+        after = end + 1;
     }
+    if after == 0 {
+        return Ok(None);
+    }
+    new.extend_from_slice(&text[after - 1..])?;
+    Ok(Some(new))
 }
 
 impl Replacer {
@@ -65,19 +65,9 @@ impl Replacer {
         requires pattern { IsPattern pattern.now }
         ensures { IfOk result (λ r. r ≡ record { pattern = pattern.now; with = with.now }) }
     {
-        let Ok(source) = str::from_utf8(pattern) else {
-            unreachable!()
-        };
-        let regex = compiled(alloc, source)?;
-        let template = Template::literal(alloc, with)?;
+        let locator = Locator::new(alloc, pattern)?;
         let with = Vec::from_slice(alloc, with)?;
-        let finder = Finder::new(alloc, pattern)?;
-        Ok(Replacer {
-            finder,
-            regex,
-            with,
-            template,
-        })
+        Ok(Replacer { locator, with })
     }
 
     /// The text with its matches replaced; none where nothing matches.
@@ -87,18 +77,6 @@ impl Replacer {
         ensures some { IfOk result (λ new. IfSome new (λ v. matches self.old.pattern text.now ≡ true)) }
         ensures text { IfOk result (λ new. IfSome new (λ v. v.items ≡ replaced self.old.pattern self.old.with text.now)) }
     {
-        if !self.finder.matches(alloc, text)? {
-            return Ok(None);
-        }
-        Ok(Some(self.rewritten(alloc, text)?))
-    }
-
-    // The same, whether something matches or not.
-    fn rewritten(&self, alloc: Global, text: &[u8]) -> Result<Vec<u8>, AllocError>
-        ensures { IfOk result (λ v. v.items ≡ replaced self.now.pattern self.now.with text.now) }
-    {
-        let mut matcher = self.regex.matcher(alloc)?;
-        let new = matcher.replace_all(alloc, text, &self.template)?;
-        Ok(new)
+        rewritten(&mut self.locator, alloc, text, &self.with)
     }
 }

@@ -40,3 +40,12 @@ fn empty_matches_are_replaced_too(rt: HostRuntime) -> Result<(), Fail> {
     assert_eq!(rt; new.as_slice(), b"-a-b-c-".as_slice());
     Ok(())
 }
+
+#[test]
+fn empty_matches_stand_beside_others(rt: HostRuntime) -> Result<(), Fail> {
+    let mut replacer = Replacer::new(rt.alloc(), b"a*", b"-")?;
+    let new = replacer.replaced(rt.alloc(), b"baaac")?;
+    let new = new.expect(&rt, "there are three matches");
+    assert_eq!(rt; new.as_slice(), b"-b-c-".as_slice());
+    Ok(())
+}

@@ -1,0 +1,139 @@
+//! Where a pattern matches in a text.
+
+ghost use Rattle.std.specs.Prelude.{◌≡◌, ◌+◌, ◌-◌, ◌<◌, ◌≤◌, false, length, option_map, IfOk, IfSome};
+ghost use Rattle.regex.specs.Patterns.{find, span};
+ghost use Rattle.regex.specs.Search.{next_match, LiesWithin};
+ghost use Rattle.flow_pattern.specs.Pattern.{IsPattern, expression};
+
+use crate::finder::compiled;
+use regex_dfa::{End, Forward, Reverse, Start};
+use regex_meta::{Program, Searcher};
+use std::alloc::{AllocError, Global};
+use std::marker::Model;
+use std::str;
+
+/// A pattern, compiled, with what its searches have built so far. It is seen as the pattern's text.
+///
+/// As a `Finder`, with a second automaton, which reads back from the end of a match to its start.
+pub(crate) struct Locator {
+    text: Vec<u8>,
+    program: Program,
+    forward: Forward,
+    reverse: Reverse,
+}
+
+impl Model for Locator {
+    ghost use Rattle.std.specs.Prelude.{◌≡◌, ℕ, List, false};
+    ghost use Rattle.regex.specs.Patterns.{SameCaptures};
+    ghost use Rattle.regex_dfa.specs.Search.{IsForwardFor, IsReverseFor, stops_when_idle};
+    ghost use Rattle.regex_meta.specs.Programs.{pattern_of};
+    ghost use Rattle.flow_pattern.specs.Pattern.{expression};
+
+    ghost Value = { List ℕ };
+
+    ghost view = { λ l. l.text.items };
+
+    ghost invariant = { λ l. IsForwardFor l.forward l.program.dfa × (stops_when_idle l.forward ≡ false) × IsReverseFor l.reverse l.program.dfa × SameCaptures (pattern_of l.program) (expression l.text.items) };
+}
+
+// Written out, so that a proof above sees one call here and not what all the fields let go.
+impl Drop for Locator {
+    fn drop(self) {
+        let Locator {
+            text: _text,
+            program: _program,
+            forward: _forward,
+            reverse: _reverse,
+        } = self;
+    }
+}
+
+impl Locator {
+    /// Compiles a pattern. One whose program has more than some 10 MiB finds no memory.
+    pub(crate) fn new(alloc: Global, pattern: &[u8]) -> Result<Locator, AllocError>
+        requires pattern { IsPattern pattern.now }
+        ensures { IfOk result (λ locator. locator ≡ pattern.now) }
+    {
+        let Ok(source) = str::from_utf8(pattern) else {
+            unreachable!()
+        };
+        let program = compiled(alloc, source)?;
+        let forward = Forward::new(alloc, &program.dfa, false)?;
+        let reverse = Reverse::new(alloc, &program.dfa)?;
+        let text = Vec::from_slice(alloc, pattern)?;
+        Ok(Locator {
+            text,
+            program,
+            forward,
+            reverse,
+        })
+    }
+
+    /// The span of the leftmost match that starts at `start` or after it. Takes memory where an automaton gives up.
+    pub(crate) fn find(
+        &mut self,
+        alloc: Global,
+        text: &[u8],
+        start: usize,
+    ) -> Result<Option<(usize, usize)>, AllocError>
+        requires within { start ≤ length text.now }
+        ensures same { self.new ≡ self.old }
+        ensures found { IfOk result (λ found. found ≡ option_map span (find (expression self.old) text.now start)) }
+    {
+        let end = match self
+            .forward
+            .find_end(&self.program.dfa, text, start, text.len(), false, false)
+        {
+            End::At(end) => end,
+            End::NoMatch => return Ok(None),
+            End::Idle(_) => unreachable!(),
+            End::GaveUp => return self.find_anew(alloc, text, start),
+        };
+        match self
+            .reverse
+            .find_start(&self.program.dfa, text, start, end)
+        {
+            Start::At(from) => Ok(Some((from, end))),
+            _ => self.find_anew(alloc, text, start),
+        }
+    }
+
+    // The same, by a search of its own.
+    #[cold]
+    fn find_anew(
+        &self,
+        alloc: Global,
+        text: &[u8],
+        start: usize,
+    ) -> Result<Option<(usize, usize)>, AllocError>
+        requires within { start ≤ length text.now }
+        ensures { IfOk result (λ found. found ≡ option_map span (find (expression self.now) text.now start)) }
+    {
+        let mut searcher = Searcher::new(alloc, &self.program)?;
+        Ok(searcher.find(text, start))
+    }
+
+    /// The span of the match after the one that ended at `after - 1`, or of the first match where `after` is 0.
+    pub(crate) fn next(
+        &mut self,
+        alloc: Global,
+        text: &[u8],
+        after: usize,
+    ) -> Result<Option<(usize, usize)>, AllocError>
+        requires within { after ≤ length text.now + 1 }
+        ensures same { self.new ≡ self.old }
+        ensures found { IfOk result (λ found. found ≡ option_map span (next_match false (expression self.old) text.now after)) }
+        ensures lies { IfOk result (λ found. IfSome found (λ s. LiesWithin (after - 1) (length text.now) s × (after ≤ s.1))) }
+    {
+        let Some((from, end)) = self.find(alloc, text, after.saturating_sub(1))? else {
+            return Ok(None);
+        };
+        if end >= after {
+            return Ok(Some((from, end)));
+        }
+        if after > text.len() {
+            return Ok(None);
+        }
+        self.find(alloc, text, after)
+    }
+}
