@@ -1,5 +1,5 @@
 -- What the two automata find is where the pattern's leftmost match lies; and what comes after a match, by the search from its end.
-use Rattle.std.proofs.Common.{◌≡◌, ℕ, ◌+◌, ◌-◌, ◌<◌, ◌≤◌, false, List, length, All, Option, Some, None, IfSome, option_map, get_or, refl, sym, ap, ◌∙◌, subst, arith}
+use Rattle.std.proofs.Common.{◌≡◌, ℕ, ◌-◌, ◌<◌, ◌≤◌, false, List, length, All, Option, Some, None, IfSome, option_map, get_or, refl, sym, ap, ◌∙◌, subst, arith}
 use Rattle.std.proofs.lemmas.List.{get_or_default}
 use Rattle.std.proofs.lemmas.Option.{none-some, same_Some}
 use Rattle.regex.specs.Patterns.{Re, Match, SameCaptures, find, span}

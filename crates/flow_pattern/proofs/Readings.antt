@@ -1,5 +1,5 @@
 -- What the parser answers, as facts on patterns; and what the automaton answers, as facts on matches.
-use Rattle.std.proofs.Common.{◌≡◌, ◌≢◌, ℕ, ◌<◌, ◌≤◌, ◌⊎◌, inl, inr, Bool, true, false, List, length, All, Option, Some, None, IsSomeAnd, IfSome, is_some, IsSome, option_map, refl, sym, ap, ◌∙◌, subst, arith, get_or, chars}
+use Rattle.std.proofs.Common.{◌≡◌, ◌≢◌, ℕ, ◌<◌, ◌≤◌, inl, inr, true, false, List, length, All, Option, Some, None, IsSomeAnd, IfSome, is_some, IsSome, option_map, refl, sym, ap, ◌∙◌, subst, arith, get_or}
 use Rattle.std.specs.Str.{IsUtf8}
 use Rattle.std.proofs.lemmas.List.{get_or_default}
 use Rattle.regex.specs.Patterns.{Re, SameCaptures, Reads, Refuses, find}
@@ -9,9 +9,9 @@ use Rattle.regex_hir.specs.declared.hir.Hir.{Hir}
 use Rattle.regex.proofs.OnLiterals.{IsReadAs, same_refl}
 use Rattle.regex_syntax.specs.Same.{SameTree}
 use Rattle.regex_syntax.specs.Brackets.{Nested}
-use Rattle.regex_syntax.specs.Grammar.{Names, group_count, read}
+use Rattle.regex_syntax.specs.Grammar.{Names, group_count}
 use Rattle.regex_syntax.specs.declared.error.ErrorKind.{ErrorKind}
-use Rattle.regex_syntax.specs.declared.error.ErrorKind.TheVariants.{OutOfMemory, NestLimitExceeded}
+use Rattle.regex_syntax.specs.declared.error.ErrorKind.TheVariants.{OutOfMemory}
 use Rattle.regex_dfa.specs.Search.{end_from}
 use Rattle.regex_meta.specs.Programs.{pattern_of, leftmost}
 use Rattle.regex_meta.specs.declared.program.Program.{Program}

@@ -1,5 +1,5 @@
 -- What is left to write of a text with its matches replaced, match by match.
-use Rattle.std.proofs.Common.{◌≡◌, ℕ, zero, suc, ◌+◌, ◌-◌, ◌<◌, true, false, List, [], ◌∷◌, ◌++◌, drop, Option, Some, None, is_some, option_map, sym, ap, ◌∙◌, arith, slice_range}
+use Rattle.std.proofs.Common.{◌≡◌, ℕ, zero, suc, ◌+◌, ◌-◌, ◌<◌, true, false, List, ◌++◌, drop, Some, None, is_some, option_map, sym, ap, ◌∙◌, arith, slice_range}
 use Rattle.regex.specs.Patterns.{Re, find, find_all, span}
 use Rattle.regex.specs.Search.{next_match, matches_after}
 use Rattle.regex.specs.Replace.{replaced_by}

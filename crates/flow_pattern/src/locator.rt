@@ -89,10 +89,7 @@ impl Locator {
             End::Idle(_) => unreachable!(),
             End::GaveUp => return self.find_anew(alloc, text, start),
         };
-        match self
-            .reverse
-            .find_start(&self.program.dfa, text, start, end)
-        {
+        match self.reverse.find_start(&self.program.dfa, text, start, end) {
             Start::At(from) => Ok(Some((from, end))),
             _ => self.find_anew(alloc, text, start),
         }

@@ -1,4 +1,4 @@
-use Rattle.std.proofs.Common.{◌≡◌, ℕ, List, Option, is_some, subst, ap, ◌∙◌}
+use Rattle.std.proofs.Common.{◌≡◌, ℕ, List, is_some, subst, ap, ◌∙◌}
 use Rattle.regex_meta.specs.Programs.{leftmost}
 use Rattle.regex_meta.specs.declared.program.Program.{Program}
 use Rattle.flow_pattern.specs.Pattern.{matches}

@@ -1,4 +1,4 @@
-use Rattle.std.proofs.Common.{◌≡◌, ℕ, ◌-◌, ◌≤◌, false, List, length, Some, None, IfSome, option_map, sym, ap, ◌∙◌, arith}
+use Rattle.std.proofs.Common.{◌≡◌, ℕ, ◌-◌, ◌≤◌, false, List, length, IfSome, option_map, sym, ap, ◌∙◌, arith}
 use Rattle.regex.specs.Patterns.{find, span}
 use Rattle.regex.specs.Search.{next_match, LiesWithin}
 use Rattle.regex.proofs.ReplaceLemmas.{IfOk-weaker}
