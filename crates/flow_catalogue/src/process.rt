@@ -171,11 +171,7 @@ fn first_component(
             key_length(process),
             is_connected(plan, number, 1),
         ))),
-        StdKind::Match => Ok(Std::Match(matching(
-            alloc,
-            process,
-            is_connected(plan, number, 1),
-        )?)),
+        StdKind::Match => Ok(Std::Match(matching(alloc, process, is_connected(plan, number, 1))?)),
         StdKind::Replace => Ok(Std::Replace(replacing(alloc, process)?)),
         StdKind::Tally => Ok(Std::Tally(Tally::new(alloc))),
         StdKind::Unique => Ok(Std::Unique(Unique::new(alloc, is_connected(plan, number, 1)))),

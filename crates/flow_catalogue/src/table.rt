@@ -307,12 +307,7 @@ fn matching(alloc: Global) -> Result<KindSpec, AllocError>
     let accepted = stream(alloc, b"ACC")?;
     let others = optional(alloc, b"REJ")?;
     let inputs = vec![in alloc; pattern, input]?;
-    kind(
-        alloc,
-        b"Match",
-        inputs,
-        vec![in alloc; accepted, others]?,
-    )
+    kind(alloc, b"Match", inputs, vec![in alloc; accepted, others]?)
 }
 
 fn replacing(alloc: Global) -> Result<KindSpec, AllocError>

@@ -11,6 +11,7 @@ use Rattle.flow_journal.specs.Files.{HasJournalOrFault, HasOneJournal}
 use Rattle.flow_journal.specs.Replays.{StopsAreNoSchedules}
 use Rattle.flow_journal.specs.declared.merge.Journal.{Journal}
 use Rattle.flow_meanings.specs.Batches.{EndedCollates, BatchMeans}
+use Rattle.flow_meanings.specs.SortingBatches.{SortingBatchMeans}
 use Rattle.flow_meanings.specs.Composition.{FinishedComposes}
 use Rattle.flow_model.specs.Rising.{FinishedLeadsOn}
 use Rattle.flow_model.specs.States.{State}
@@ -31,11 +32,11 @@ use Rattle.flow_cli.proofs.Tops.{stopped, stop-not-over, stop-not-running, stop-
 use Rattle.flow_cli.proofs.Updating.{collates-each, leaves-books}
 
 -- A call in which something was done keeps them, by the laws of plans, of meanings, of one outcome and of journals.
-pub done-keeps : StartsPlans std_rules → FinishedComposes → FinishedLeadsOn std_rules → EndedCollates → BatchMeans → DeterminatePlansEndAsAlone
+pub done-keeps : StartsPlans std_rules → FinishedComposes → FinishedLeadsOn std_rules → EndedCollates → BatchMeans → SortingBatchMeans → DeterminatePlansEndAsAlone
     → ((s : State Std) → HasOneReport s) → AtMostOneOutcome std_rules → StopsAreNoSchedules std_rules → HasJournalOrFault → HasOneJournal
     → (words : List (String Global)) (o a n po pn : Outside) (done : Done) (outcome : Outcome) → Performs o a words (Ok done) → Concludes a n po pn done outcome
     → KeepsPromises (call_of words o n po pn outcome.journal outcome.status)
-done-keeps starts composes rises collates books determinate one_report one no_schedule apart single words o a n po pn done outcome did concludes =
+done-keeps starts composes rises collates books sorting determinate one_report one no_schedule apart single words o a n po pn done outcome did concludes =
     let call = call_of words o n po pn outcome.journal outcome.status in
     let over = done-over words o a n po pn done outcome did concludes in
     let meaning = done-meaning starts composes rises words o a n po pn done outcome did concludes in
@@ -43,7 +44,7 @@ done-keeps starts composes rises collates books determinate one_report one no_sc
       over = over;
       one_outcome = λ ended. alone starts determinate one_report call (over ended);
       meaning = meaning;
-      books = λ finished. leaves-books books call.work (meaning finished);
+      books = λ finished. leaves-books books sorting call.work (meaning finished);
       collated = collates-each starts collates call.work;
       cause = done-cause words o a n po pn done outcome did concludes;
       status = done-status words o a n po pn done outcome did concludes;

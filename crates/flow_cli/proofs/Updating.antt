@@ -5,6 +5,7 @@ use Rattle.flow_catalogue.specs.declared.standard.Std.{Std}
 use Rattle.flow_catalogue.specs.Std.{std_rules}
 use Rattle.flow_model.specs.Ready.{StartsPlans}
 use Rattle.flow_meanings.specs.Batches.{EndedCollates, BatchMeans}
+use Rattle.flow_meanings.specs.SortingBatches.{SortingBatchMeans}
 use Rattle.flow_determinate.specs.Standard.{AreFirstOf}
 use Rattle.flow_cli.specs.Causes.{Work}
 use Rattle.flow_cli.specs.Components.{AreComponents}
@@ -24,9 +25,10 @@ of-plan : (plan : Network) (given : List (List ℕ)) (ks : List Std) → AreComp
 of-plan plan given ks are p component at = let is = are.each p component at in record { process = is.2.process; there = is.2.there; file = is.0; made = is.2.made }
 
 -- A network that left what it means left its books.
-pub leaves-books : BatchMeans → (w : Work) → LeavesMeaning w → LeavesBooks w
-leaves-books means w (inl l) =
+pub leaves-books : BatchMeans → SortingBatchMeans → (w : Work) → LeavesMeaning w → LeavesBooks w
+leaves-books means sorting w (inl l) =
     let meant = l.2 in
     let run = meant.whole.run in
-    inl (l.0, l.1, meant, means meant.whole.plan run.components (bytes_in meant.whole.last) (of-plan meant.whole.plan run.ready.given run.components run.ready.are_components) meant.composes)
-leaves-books means w (inr l) = inr l
+    let first = of-plan meant.whole.plan run.ready.given run.components run.ready.are_components in
+    inl (l.0, l.1, meant, means meant.whole.plan run.components (bytes_in meant.whole.last) first meant.composes, sorting meant.whole.plan run.components (bytes_in meant.whole.last) first meant.composes)
+leaves-books means sorting w (inr l) = inr l

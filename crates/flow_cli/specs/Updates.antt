@@ -10,6 +10,7 @@ use Rattle.flow_model.specs.Schedules.{Journal, Prefix}
 use Rattle.flow_model.specs.Plans.{start_of}
 use Rattle.flow_journal.specs.Replays.{schedule_of}
 use Rattle.flow_meanings.specs.Batches.{AreCollated, WritesBooks}
+use Rattle.flow_meanings.specs.SortingBatches.{WritesUnsortedBooks}
 use Rattle.flow_cli.specs.Causes.{Work, IsRunOf}
 use Rattle.flow_cli.specs.Meant.{IsMeant, ChangesNoName}
 use Rattle.flow_cli.specs.Reads.{Asks}
@@ -21,7 +22,7 @@ CollatesEach w =
     (asked : AskedRun) (plan : Network) (last : State Std) (middle : Outside) (run : IsRunOf w asked plan last middle) (front : Journal) (mid : State Std)
     → Prefix std_rules (start_of plan run.components) (schedule_of w.journal) last front mid → AreCollated run.components mid
 
--- A run that finished left what its network means, and so the book of each batch update of sorted files; nothing else leaves any.
+-- A run that finished left what its network means, and so the book of each batch update of sorted files, and of each that sorts its files; nothing else leaves any.
 abbrev pub LeavesBooks : Work → Type 0
 LeavesBooks w =
-    ((asked : AskedRun) × Asks w.words (run_of asked) × (meant : IsMeant w asked) × WritesBooks meant.whole.plan meant.whole.run.components (bytes_in meant.whole.last)) ⊎ ChangesNoName w
+    ((asked : AskedRun) × Asks w.words (run_of asked) × (meant : IsMeant w asked) × WritesBooks meant.whole.plan meant.whole.run.components (bytes_in meant.whole.last) × WritesUnsortedBooks meant.whole.plan meant.whole.run.components (bytes_in meant.whole.last)) ⊎ ChangesNoName w

@@ -22,8 +22,8 @@ use flow_journal::{
 use flow_limits::WORKER_LIMIT;
 use flow_machine::Net;
 use flow_meanings::{
-    a_batch_update_writes_its_book, a_finished_network_composes_its_meanings,
-    an_ended_collate_has_sent_the_collation,
+    a_batch_update_that_sorts_writes_its_book, a_batch_update_writes_its_book,
+    a_finished_network_composes_its_meanings, an_ended_collate_has_sent_the_collation,
 };
 use flow_model::{a_finished_network_leads_on, a_valid_plan_is_ready};
 use flow_report::a_state_has_one_report;
@@ -120,6 +120,7 @@ where
     a_finished_network_composes_its_meanings();
     an_ended_collate_has_sent_the_collation();
     a_batch_update_writes_its_book();
+    a_batch_update_that_sorts_writes_its_book();
     a_determinate_plan_ends_as_on_one_thread();
     a_state_has_one_report::<Std>();
     a_finished_network_leads_on::<Std>();

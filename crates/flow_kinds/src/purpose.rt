@@ -35,6 +35,7 @@ pub fn purpose(kind: StdKind) -> &'static [u8]
         StdKind::Tail => b"passes on the last COUNT packets between two brackets",
         StdKind::Match => b"accepts what PATTERN matches somewhere, and rejects the rest",
         StdKind::Replace => b"replaces each match of PATTERN by the text WITH",
-        StdKind::Sort => b"sorts the packets between two brackets by text, or by the bytes of FIELDS",
+        StdKind::Sort =>
+            b"sorts the packets between two brackets by text, or by the bytes of FIELDS",
     }
 }

@@ -1,5 +1,5 @@
 -- What Match makes of its stream.
-use Rattle.std.proofs.Common.{◌≡◌, ℕ, ◌<◌, ◌==◌, Bool, true, false, not, cond, List, [], ◌∷◌, ◌++◌, Option, Some, None, refl, sym, ap, ◌∙◌, nat_eq, if◌then◌else◌}
+use Rattle.std.proofs.Common.{◌≡◌, ℕ, ◌<◌, ◌==◌, Bool, true, false, not, List, [], ◌∷◌, ◌++◌, Option, Some, refl, sym, ap, ◌∙◌, nat_eq, if◌then◌else◌}
 use Rattle.std.specs.List.{filter}
 use Rattle.flow_packet.specs.declared.packet.Kind.{Kind}
 use Rattle.flow_packet.specs.declared.packet.Kind.TheVariants.{Normal, Open, Close}

@@ -1,6 +1,6 @@
 -- What Replace sends is what it gets, with the matches in each Normal packet replaced.
 use Rattle.flow_limits.specs.declared.TheConstants.{TEXT_LIMIT}
-use Rattle.std.proofs.Common.{◌≡◌, ℕ, Bool, true, false, List, [], ◌∷◌, ◌++◌, map, length, nat_lt, cond, refl, sym, ap, ◌∙◌, append-nil, nat_eq, Option, Some, None}
+use Rattle.std.proofs.Common.{◌≡◌, ℕ, Bool, true, false, List, [], ◌∷◌, ◌++◌, map, length, nat_lt, cond, refl, sym, ap, ◌∙◌, append-nil, nat_eq, Some}
 use Rattle.std.specs.List.{flat_map}
 use Rattle.flow_packet.specs.Tree.{Tree, content, id_of, kind_of, text_of}
 use Rattle.flow_packet.specs.declared.packet.Kind.{Kind}
@@ -18,7 +18,7 @@ use Rattle.flow_component.specs.Runs.{Poise, fresh, Steps, content_got, content_
 use Rattle.flow_component.proofs.Lone.{HoldsOnly-packet_at, HoldsOnly-text, HoldsOnly-kind, HoldsOnly-end, HoldsOnly-without}
 use Rattle.flow_component.proofs.Streams.{owed-run, stays-allowed, Comes-packets, contents_in, content-kind, content-text, made_at, port_zero, port_below_one}
 use Rattle.flow_pattern.specs.Pattern.{Replacement, matches, replaced}
-use Rattle.flow_match.specs.Replace.{renews, rewrites, comes, replace_rules}
+use Rattle.flow_match.specs.Replace.{rewrites, comes, replace_rules}
 use Rattle.flow_match.specs.ReplaceLaws.{next-same, replace_lawful}
 use Rattle.flow_match.specs.Meanings.{rewritten_if, rewritten_as, rewritten, ReplaceMeaning}
 

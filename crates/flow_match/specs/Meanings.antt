@@ -7,7 +7,7 @@ use Rattle.flow_packet.specs.Tree.{Tree, kind_of, text_of}
 use Rattle.flow_component.specs.Happenings.{Happening}
 use Rattle.flow_component.specs.Runs.{EndedRun, got, sent, text_packet}
 use Rattle.flow_pattern.specs.Pattern.{Replacement, matches, replaced}
-use Rattle.flow_match.specs.Match.{MatchState, match_rules}
+use Rattle.flow_match.specs.Match.{match_rules}
 use Rattle.flow_match.specs.Replace.{replace_rules}
 
 -- A Normal packet is accepted where the pattern matches somewhere in its text, a bracket always.

@@ -1,6 +1,6 @@
 -- Replace keeps the laws of components.
 use Rattle.flow_limits.specs.declared.TheConstants.{TEXT_LIMIT}
-use Rattle.std.proofs.Common.{◌≡◌, ℕ, Bool, true, false, List, [], length, nat_lt, cond, refl, sym, subst, ap, ◌∙◌, arith}
+use Rattle.std.proofs.Common.{◌≡◌, ℕ, Bool, true, false, List, [], length, nat_lt, cond, refl, sym, subst, ap, arith}
 use Rattle.flow_packet.specs.declared.packet.Kind.{Kind}
 use Rattle.flow_packet.specs.declared.packet.Kind.TheVariants.{Normal, Open, Close}
 use Rattle.flow_packet.specs.Hands.{kind_at, text_at}

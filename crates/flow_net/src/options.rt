@@ -90,12 +90,7 @@ fn is_of_class(alloc: Global, class: PortClass, text: &[u8]) -> Result<bool, All
 }
 
 /// Whether a text is of the class of an element's port. To read a pattern takes memory.
-pub fn fits(
-    alloc: Global,
-    ports: &[DraftPort],
-    end: End,
-    text: &[u8],
-) -> Result<bool, AllocError>
+pub fn fits(alloc: Global, ports: &[DraftPort], end: End, text: &[u8]) -> Result<bool, AllocError>
     ensures { IfOk result (λ fits. IsTrue fits ↔ FitsPort (slice_get ports.now end.port) text.now) }
 {
     match ports.get(end.port as usize) {

@@ -300,7 +300,7 @@ fn packets_are_picked(rt: HostRuntime) -> Result<(), Fail> {
             net: b"flow 1\n'i' -> FILE R(ReadLines)\nR OUT -> IN S(Sort)\nS OUT -> IN A(WriteLines)\n'o' -> FILE A\n",
             inputs: [("i", b"b2\nab\nb1\na\n"), NONE, NONE],
             printed: Some(
-                b"verdict finished\nprocess R ReadLines ended turns 8 made 4 dropped 0 left 0\nprocess S Sort ended turns 14 made 1 dropped 1 left 0\nprocess A WriteLines ended turns 8 made 0 dropped 4 left 0\nconnection S.IN capacity 10 puts 4 takes 4 left 0\nconnection A.IN capacity 10 puts 4 takes 4 left 0\ntotal turns 30 made 5 dropped 5 left 0\n",
+                b"verdict finished\nprocess R ReadLines ended turns 8 made 4 dropped 0 left 0\nprocess S Sort ended turns 13 made 1 dropped 1 left 0\nprocess A WriteLines ended turns 8 made 0 dropped 4 left 0\nconnection S.IN capacity 10 puts 4 takes 4 left 0\nconnection A.IN capacity 10 puts 4 takes 4 left 0\ntotal turns 29 made 5 dropped 5 left 0\n",
             ),
             outputs: [("o", b"a\nab\nb1\nb2\n"), NONE],
             ..ROW

@@ -15,7 +15,10 @@ fn patterns_are_told_from_other_texts(rt: HostRuntime) -> Result<(), Fail> {
 
 #[test]
 fn a_pattern_is_found_anywhere(rt: HostRuntime) -> Result<(), Fail> {
-    let mut finder = Finder::new(rt.alloc(), br#"" [45]\d\d "#)?;
+    let pattern = br#"" [45]\d\d "#;
+    let is = is_pattern(rt.alloc(), pattern)?;
+    assert!(rt; is);
+    let mut finder = Finder::new(rt.alloc(), pattern)?;
     assert!(rt; finder.matches(rt.alloc(), br#""GET /a HTTP/1.0" 404 23"#)?);
     assert!(rt; !finder.matches(rt.alloc(), br#""GET /404 HTTP/1.0" 200 23"#)?);
     assert!(rt; !finder.matches(rt.alloc(), b"")?);
@@ -24,6 +27,8 @@ fn a_pattern_is_found_anywhere(rt: HostRuntime) -> Result<(), Fail> {
 
 #[test]
 fn matches_are_replaced_from_the_left(rt: HostRuntime) -> Result<(), Fail> {
+    let is = is_pattern(rt.alloc(), b"a+")?;
+    assert!(rt; is);
     let mut replacer = Replacer::new(rt.alloc(), b"a+", b"$0")?;
     let new = replacer.replaced(rt.alloc(), b"baac aa")?;
     let new = new.expect(&rt, "there are two matches");
@@ -34,6 +39,8 @@ fn matches_are_replaced_from_the_left(rt: HostRuntime) -> Result<(), Fail> {
 
 #[test]
 fn empty_matches_are_replaced_too(rt: HostRuntime) -> Result<(), Fail> {
+    let is = is_pattern(rt.alloc(), b"x*")?;
+    assert!(rt; is);
     let mut replacer = Replacer::new(rt.alloc(), b"x*", b"-")?;
     let new = replacer.replaced(rt.alloc(), b"abxc")?;
     let new = new.expect(&rt, "there are four matches");

@@ -58,7 +58,12 @@ fn ended(net: &Net<Std>) -> u32 {
 
 /// Tells how far the network has come. That it can't be told is of no matter.
 fn tell<R: Eprint>(rt: &R, net: &Net<Std>) {
-    let _ = eprintln!(rt; "turns {}, processes that have ended {} of {}", net.turns_made(), ended(net), net.processes());
+    let _ = eprintln!(rt;
+        "turns {}, processes that have ended {} of {}",
+        net.turns_made(),
+        ended(net),
+        net.processes()
+    );
 }
 
 /// Runs the network until it can't go on, in stretches, and tells after each of them how far it has come.

@@ -72,9 +72,7 @@ fn serve_on<K: Component, G: Gate, R: Wait>(
     let mut rest = Rest::new();
     for _ in rt.forever() {
         let mut left = u64::MAX;
-        if tend_next(
-            rt, floor, line, worker, pass, gate, &mut rest, &mut left,
-        ) {
+        if tend_next(rt, floor, line, worker, pass, gate, &mut rest, &mut left) {
             line.bell.ring();
             return;
         }
@@ -106,9 +104,7 @@ fn serve_for<K: Component, G: Gate, R: Wait>(
         if left == 0 {
             return;
         }
-        if tend_next(
-            rt, floor, line, worker, pass, gate, &mut rest, &mut left,
-        ) {
+        if tend_next(rt, floor, line, worker, pass, gate, &mut rest, &mut left) {
             line.bell.ring();
             return;
         }

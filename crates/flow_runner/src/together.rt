@@ -7,8 +7,8 @@ ghost use Rattle.std.specs.Prelude.{◌≡◌, ◌≤◌, ℕ, All, IfErr, IfOk,
 
 use crate::line::{Line, LinePass};
 use crate::readied::push_surely;
-use crate::service::serve;
 use crate::server::Server;
+use crate::service::serve;
 use flow_component::{Component, Gate};
 use flow_floor::{Floor, Worker};
 use std::alloc::{AllocError, Global};
@@ -93,10 +93,7 @@ fn with_passes<K: Component>(
 }
 
 /// Takes the passes from them again.
-fn without_passes<K: Component>(
-    servers: Vec<Server<K>>,
-    mut crew: Vec<Worker<K>>,
-) -> Vec<Worker<K>>
+fn without_passes<K: Component>(servers: Vec<Server<K>>, mut crew: Vec<Worker<K>>) -> Vec<Worker<K>>
     requires room { (crew.items ≡ []) × (length servers.items ≤ vec_capacity crew) }
     ensures { result.items ≡ workers_at servers.items }
 {
@@ -138,7 +135,17 @@ fn serve_all<K: Component + Send, G: Gate + Sync, R: Threads + Wait + Sync>(
             ensures idle { IsIdleAt floor.entry.now server.new.worker }
             ensures share { HasSameShare server.old.worker server.new.worker }
             ensures served { HasServed budget server.old.worker server.new.worker }
-        { serve(rt, floor, line, &mut server.worker, &mut server.pass, gate, budget) },
+        {
+            serve(
+                rt,
+                floor,
+                line,
+                &mut server.worker,
+                &mut server.pass,
+                gate,
+                budget,
+            )
+        },
     );
 }
 

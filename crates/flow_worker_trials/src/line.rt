@@ -51,7 +51,11 @@ fn a_worker_serves_first_who_was_woken_first(rt: HostRuntime) -> Result<(), Fail
 
 #[test]
 fn one_thread_goes_by_the_numbers(rt: HostRuntime) -> Result<(), Fail> {
-    let called = call_alone(rt.alloc(), &["--workers", "0", "--journal", "j", "net"], COPIED)?;
+    let called = call_alone(
+        rt.alloc(),
+        &["--workers", "0", "--journal", "j", "net"],
+        COPIED,
+    )?;
     assert_eq!(rt; called.status, 0);
     assert!(rt; called.shelf.file("j").unwrap_or(b"").ends_with(IN_TURN));
     Ok(())

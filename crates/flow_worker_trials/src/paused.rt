@@ -27,11 +27,7 @@ fn told(alloc: Global, plan: &Plan, closed: &Closed<Std>) -> Result<Vec<u8>, All
 }
 
 /// The network at its start, run by two workers of whom each makes so many turns.
-fn begun<R: Threads + Wait + Sync>(
-    rt: &R,
-    alloc: Global,
-    budget: u64,
-) -> Result<Closed<Std>, Fail>
+fn begun<R: Threads + Wait + Sync>(rt: &R, alloc: Global, budget: u64) -> Result<Closed<Std>, Fail>
     requires { 1 ≤ budget }
 {
     let net = started(alloc, NET, INPUT)?;

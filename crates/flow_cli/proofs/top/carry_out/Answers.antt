@@ -7,7 +7,7 @@ use Rattle.flow_cli.proofs.top.carry_out.Goals as goal
 pub returns-in-Ok-clause-promises : goal.returns-in-Ok-clause-promises
 returns-in-Ok-clause-promises g c =
     done-keeps c.a_valid_plan_is_ready.ensures.starts c.a_finished_network_composes_its_meanings.ensures c.a_finished_network_leads_on.ensures
-    c.an_ended_collate_has_sent_the_collation.ensures c.a_batch_update_writes_its_book.ensures c.a_determinate_plan_ends_as_on_one_thread.ensures c.a_state_has_one_report.ensures
+    c.an_ended_collate_has_sent_the_collation.ensures c.a_batch_update_writes_its_book.ensures c.a_batch_update_that_sorts_writes_its_book.ensures c.a_determinate_plan_ends_as_on_one_thread.ensures c.a_state_has_one_report.ensures
     c.standard_components_come_to_one_outcome.ensures c.a_journal_that_stops_is_no_schedule.ensures c.a_file_has_one_journal_or_one_fault.ensures.apart c.a_file_has_one_journal_or_one_fault.ensures.journal
     c.args.words.now (g.F.Edge.outside c.args.shelf.now) (g.F.Edge.outside c.perform.new.shelf) (g.F.Edge.outside c.conclude.new.shelf) (g.O.Edge.outside c.args.out.now) (g.O.Edge.outside c.conclude.new.out)
     c.in-Ok.done c.conclude.result c.in-Ok.ensures c.conclude.ensures

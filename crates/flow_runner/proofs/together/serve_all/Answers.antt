@@ -14,7 +14,7 @@ returns-clause-crew g c = let f = c.args.floor.now in let xs = c.args.servers.no
   crew-each f.table.shared.table_id (workers_at xs) (workers_at ys) c.requires.crew (same-count xs ys c.for_each_mut.auto.s)
       (each-worker (λ a b. IsIdleAt f b × HasSameShare a b) xs ys c.for_each_mut.auto.s
       (λ i d lt. let at = (c.for_each_mut.ensures i d lt).1 in
-          has-kept f (get_or xs i d).worker (get_or ys i d).worker at.argument.now.worker at.after_call.now.worker (ap (λ s. s.worker) at.argument_is) (ap (λ s. s.worker) at.left) at.call.0 at.call.1.0)),
+      has-kept f (get_or xs i d).worker (get_or ys i d).worker at.argument.now.worker at.after_call.now.worker (ap (λ s. s.worker) at.argument_is) (ap (λ s. s.worker) at.left) at.call.0 at.call.1.0)),
   c.for_each_mut.auto.s,
 )
 
@@ -24,7 +24,7 @@ returns-clause-done g c k d lt = let xs = c.args.servers.now in let ys = c.for_e
     served-new c.args.budget (get_or (workers_at xs) k d) (get_or (workers_at ys) k d) (c.requires.new k d below)
     (each-worker (HasServed c.args.budget) xs ys c.for_each_mut.auto.s
     (λ i e m. let at = (c.for_each_mut.ensures i e m).1 in
-        served-as c.args.budget (get_or xs i e).worker (get_or ys i e).worker at.argument.now.worker at.after_call.now.worker (ap (λ s. s.worker) at.argument_is) (ap (λ s. s.worker) at.left) at.call.1.1) k d below)
+    served-as c.args.budget (get_or xs i e).worker (get_or ys i e).worker at.argument.now.worker at.after_call.now.worker (ap (λ s. s.worker) at.argument_is) (ap (λ s. s.worker) at.left) at.call.1.1) k d below)
 
 pub for_each_mut-requires-send-T : goal.for_each_mut-requires-send-T
 for_each_mut-requires-send-T g c κs within = search (sendable, server-send) depth 20
