@@ -3,11 +3,12 @@
 ghost use Rattle.std.specs.Prelude.{◌≡◌, IfOk};
 ghost use Rattle.regex.specs.Patterns.{SameCaptures};
 ghost use Rattle.regex_meta.specs.Programs.{pattern_of};
+ghost use Rattle.flow_pattern.specs.Automata.{Serves};
 ghost use Rattle.flow_pattern.specs.Pattern.{IsPattern, expression, matches};
 
 use crate::reading::read;
 use regex_compile::Error;
-use regex_dfa::{End, Forward};
+use regex_dfa::{Dfa, End, Forward};
 use regex_meta::{Program, Searcher};
 use regex_syntax::Parsed;
 use std::alloc::{AllocError, Global};
@@ -21,26 +22,24 @@ const SIZE_LIMIT: usize = 10 << 20;
 ///
 /// The crate's own `Matcher` is borrowed from its `Regex`, so that a component can't keep one, and to make one takes
 /// some thirty times as long as to search a line. So this keeps the automaton by which a `Matcher` finds the end of a
-/// match, and makes the rest where that gives up.
+/// match, and compiles the pattern anew where that gives up.
 pub struct Finder {
     text: Vec<u8>,
-    program: Program,
+    dfa: Dfa,
     forward: Forward,
 }
 
 impl Model for Finder {
     ghost use Rattle.std.specs.Prelude.{ℕ, List};
-    ghost use Rattle.regex.specs.Patterns.{SameCaptures};
     ghost use Rattle.std.specs.Prelude.{◌≡◌, false};
     ghost use Rattle.regex_dfa.specs.Search.{IsForwardFor, stops_when_idle};
-    ghost use Rattle.regex_meta.specs.Programs.{pattern_of};
-    ghost use Rattle.flow_pattern.specs.Pattern.{expression};
+    ghost use Rattle.flow_pattern.specs.Automata.{Serves};
 
     ghost Value = { List ℕ };
 
     ghost view = { λ f. f.text.items };
 
-    ghost invariant = { λ f. IsForwardFor f.forward f.program.dfa × (stops_when_idle f.forward ≡ false) × SameCaptures (pattern_of f.program) (expression f.text.items) };
+    ghost invariant = { λ f. IsForwardFor f.forward f.dfa × (stops_when_idle f.forward ≡ false) × Serves f.dfa f.text.items };
 }
 
 // Written out, so that a proof above sees one call here and not what all the fields let go.
@@ -48,7 +47,7 @@ impl Drop for Finder {
     fn drop(self) {
         let Finder {
             text: _text,
-            program: _program,
+            dfa: _dfa,
             forward: _forward,
         } = self;
     }
@@ -73,6 +72,27 @@ pub(crate) fn compiled(alloc: Global, source: &str) -> Result<Program, AllocErro
     }
 }
 
+// The automaton of a pattern.
+pub(crate) fn automaton(alloc: Global, source: &str) -> Result<Dfa, AllocError>
+    requires pattern { IsPattern source.now }
+    ensures { IfOk result (λ dfa. Serves dfa source.now) }
+{
+    let program = compiled(alloc, source)?;
+    let Program { dfa, .. } = program;
+    Ok(dfa)
+}
+
+// Compiles a pattern once more.
+pub(crate) fn anew(alloc: Global, pattern: &[u8]) -> Result<Program, AllocError>
+    requires pattern { IsPattern pattern.now }
+    ensures { IfOk result (λ p. SameCaptures (pattern_of p) (expression pattern.now)) }
+{
+    let Ok(source) = str::from_utf8(pattern) else {
+        unreachable!()
+    };
+    compiled(alloc, source)
+}
+
 impl Finder {
     /// Compiles a pattern. One whose program has more than some 10 MiB finds no memory.
     pub fn new(alloc: Global, pattern: &[u8]) -> Result<Finder, AllocError>
@@ -82,14 +102,10 @@ impl Finder {
         let Ok(source) = str::from_utf8(pattern) else {
             unreachable!()
         };
-        let program = compiled(alloc, source)?;
-        let forward = Forward::new(alloc, &program.dfa, false)?;
+        let dfa = automaton(alloc, source)?;
+        let forward = Forward::new(alloc, &dfa, false)?;
         let text = Vec::from_slice(alloc, pattern)?;
-        Ok(Finder {
-            text,
-            program,
-            forward,
-        })
+        Ok(Finder { text, dfa, forward })
     }
 
     /// Whether the pattern matches somewhere in the text. Takes memory where the automaton gives up, which it does for
@@ -100,7 +116,7 @@ impl Finder {
     {
         match self
             .forward
-            .find_end(&self.program.dfa, text, 0, text.len(), false, true)
+            .find_end(&self.dfa, text, 0, text.len(), false, true)
         {
             End::At(_) => Ok(true),
             End::NoMatch => Ok(false),
@@ -114,7 +130,8 @@ impl Finder {
     fn matches_anew(&self, alloc: Global, text: &[u8]) -> Result<bool, AllocError>
         ensures { IfOk result (λ found. found ≡ matches self.now text.now) }
     {
-        let mut searcher = Searcher::new(alloc, &self.program)?;
+        let program = anew(alloc, &self.text)?;
+        let mut searcher = Searcher::new(alloc, &program)?;
         Ok(searcher.is_match(text, 0))
     }
 }

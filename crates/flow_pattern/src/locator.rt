@@ -5,9 +5,9 @@ ghost use Rattle.regex.specs.Patterns.{find, span};
 ghost use Rattle.regex.specs.Search.{next_match, LiesWithin};
 ghost use Rattle.flow_pattern.specs.Pattern.{IsPattern, expression};
 
-use crate::finder::compiled;
-use regex_dfa::{End, Forward, Reverse, Start};
-use regex_meta::{Program, Searcher};
+use crate::finder::{anew, automaton};
+use regex_dfa::{Dfa, End, Forward, Reverse, Start};
+use regex_meta::Searcher;
 use std::alloc::{AllocError, Global};
 use std::marker::Model;
 use std::str;
@@ -17,23 +17,21 @@ use std::str;
 /// As a `Finder`, with a second automaton, which reads back from the end of a match to its start.
 pub(crate) struct Locator {
     text: Vec<u8>,
-    program: Program,
+    dfa: Dfa,
     forward: Forward,
     reverse: Reverse,
 }
 
 impl Model for Locator {
     ghost use Rattle.std.specs.Prelude.{◌≡◌, ℕ, List, false};
-    ghost use Rattle.regex.specs.Patterns.{SameCaptures};
     ghost use Rattle.regex_dfa.specs.Search.{IsForwardFor, IsReverseFor, stops_when_idle};
-    ghost use Rattle.regex_meta.specs.Programs.{pattern_of};
-    ghost use Rattle.flow_pattern.specs.Pattern.{expression};
+    ghost use Rattle.flow_pattern.specs.Automata.{Serves};
 
     ghost Value = { List ℕ };
 
     ghost view = { λ l. l.text.items };
 
-    ghost invariant = { λ l. IsForwardFor l.forward l.program.dfa × (stops_when_idle l.forward ≡ false) × IsReverseFor l.reverse l.program.dfa × SameCaptures (pattern_of l.program) (expression l.text.items) };
+    ghost invariant = { λ l. IsForwardFor l.forward l.dfa × (stops_when_idle l.forward ≡ false) × IsReverseFor l.reverse l.dfa × Serves l.dfa l.text.items };
 }
 
 // Written out, so that a proof above sees one call here and not what all the fields let go.
@@ -41,7 +39,7 @@ impl Drop for Locator {
     fn drop(self) {
         let Locator {
             text: _text,
-            program: _program,
+            dfa: _dfa,
             forward: _forward,
             reverse: _reverse,
         } = self;
@@ -57,13 +55,13 @@ impl Locator {
         let Ok(source) = str::from_utf8(pattern) else {
             unreachable!()
         };
-        let program = compiled(alloc, source)?;
-        let forward = Forward::new(alloc, &program.dfa, false)?;
-        let reverse = Reverse::new(alloc, &program.dfa)?;
+        let dfa = automaton(alloc, source)?;
+        let forward = Forward::new(alloc, &dfa, false)?;
+        let reverse = Reverse::new(alloc, &dfa)?;
         let text = Vec::from_slice(alloc, pattern)?;
         Ok(Locator {
             text,
-            program,
+            dfa,
             forward,
             reverse,
         })
@@ -82,14 +80,14 @@ impl Locator {
     {
         let end = match self
             .forward
-            .find_end(&self.program.dfa, text, start, text.len(), false, false)
+            .find_end(&self.dfa, text, start, text.len(), false, false)
         {
             End::At(end) => end,
             End::NoMatch => return Ok(None),
             End::Idle(_) => unreachable!(),
             End::GaveUp => return self.find_anew(alloc, text, start),
         };
-        match self.reverse.find_start(&self.program.dfa, text, start, end) {
+        match self.reverse.find_start(&self.dfa, text, start, end) {
             Start::At(from) => Ok(Some((from, end))),
             _ => self.find_anew(alloc, text, start),
         }
@@ -106,7 +104,8 @@ impl Locator {
         requires within { start ≤ length text.now }
         ensures { IfOk result (λ found. found ≡ option_map span (find (expression self.now) text.now start)) }
     {
-        let mut searcher = Searcher::new(alloc, &self.program)?;
+        let program = anew(alloc, &self.text)?;
+        let mut searcher = Searcher::new(alloc, &program)?;
         Ok(searcher.find(text, start))
     }
 
