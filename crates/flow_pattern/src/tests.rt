@@ -50,6 +50,8 @@ fn empty_matches_are_replaced_too(rt: HostRuntime) -> Result<(), Fail> {
 
 #[test]
 fn empty_matches_stand_beside_others(rt: HostRuntime) -> Result<(), Fail> {
+    let is = is_pattern(rt.alloc(), b"a*")?;
+    assert!(rt; is);
     let mut replacer = Replacer::new(rt.alloc(), b"a*", b"-")?;
     let new = replacer.replaced(rt.alloc(), b"baaac")?;
     let new = new.expect(&rt, "there are three matches");
