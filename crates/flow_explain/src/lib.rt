@@ -24,4 +24,4 @@ mod shown;
 pub use called::words_of;
 pub use near::nearest;
 pub use refusal::put_refusal;
-pub use shown::put_word;
+pub use shown::{put_all, put_word};

@@ -56,7 +56,8 @@ pub fn fault_of(alloc: Global, net: &[u8]) -> Result<Option<Fault>, AllocError> 
 
 // The fault of the network that a value spells.
 fn network_fault(alloc: Global, text: &NetText) -> Result<Option<Fault>, AllocError> {
-    match expand(alloc, text, kinds(alloc)?) {
+    let kinds = kinds(alloc)?;
+    match expand(alloc, text, kinds) {
         Ok(_) => Ok(None),
         Err(ExpandStop::Fault(fault)) => Ok(Some(Fault::Network(fault))),
         Err(ExpandStop::NoMemory) => Err(AllocError),

@@ -1,0 +1,4 @@
+pub mod Cycles
+pub mod Matched
+pub mod Reading
+pub mod Said

@@ -1,0 +1,5 @@
+pub mod Words
+pub mod States
+pub mod Causes
+pub mod Loads
+pub mod Draws
