@@ -36,6 +36,10 @@ file-stopped old new name (Refused refusal) s = absurd s
 file-stopped old new name (JournalRefused refusal) s = absurd s
 file-stopped old new name (WriteFault written) s = absurd s
 
+-- A network file that was read, and has a plan.
+pub file-read : (old new : Outside) (name net : Name) (file : NetFile) → OnlyReads old new (whole (name, net) ∷ []) → IsRead old.files FILE_LIMIT (name, net) → ReadsAs net (Ok file) → Loads old new name (Ok file.plan)
+file-read old new name net file only read taken = (net, file.text, only, record { read = read; holds = taken.0; standard = taken.1 })
+
 -- A network file that was read, and is refused.
 pub file-refused : (old new : Outside) (name net : Name) (stop : Stop) → OnlyReads old new (whole (name, net) ∷ []) → IsRead old.files FILE_LIMIT (name, net) → ReadsAs net (Err stop) → Loads old new name (Err stop)
 file-refused old new name net (Refused refusal) only read taken = record { net = net; read = read; refused = taken; shelf = only }

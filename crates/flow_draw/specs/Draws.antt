@@ -1,5 +1,5 @@
 -- What the top call promises.
-use Rattle.std.specs.Prelude.{◌≡◌, ⊥, ℕ, List, [], ◌∷◌, Ok, Err, Some, None, String, Vec}
+use Rattle.std.specs.Prelude.{◌≡◌, ℕ, List, [], ◌∷◌, Ok, Err, Some, None, String, Vec}
 use Rattle.std.specs.declared.alloc.Global.{Global}
 use Rattle.std.specs.declared.option.Option.{Option}
 use Rattle.std.specs.declared.result.Result.{Result}

@@ -3,3 +3,4 @@ pub mod States
 pub mod Causes
 pub mod Loads
 pub mod Draws
+pub mod Complete

@@ -1,13 +1,15 @@
 //! The top call.
 ghost use Rattle.std.specs.Prelude.{◌≡◌, IfOk};
+ghost use Rattle.flow_draw.specs.Complete.{IsComplete};
 ghost use Rattle.flow_draw.specs.Draws.{Ends, Makes, Prints, call_of, picture_of};
 
 use crate::scene::{Scene, scene_of};
 use crate::status::DrawStatus;
 use crate::words::command;
-use flow_catalogue::kinds;
+use flow_catalogue::{Std, kinds, standard_components_come_to_one_outcome};
 use flow_cli::Stop;
 use flow_drawing::{Drawing, Form};
+use flow_journal::{a_file_has_one_journal_or_one_fault, a_journal_that_stops_is_no_schedule};
 use flow_text::{Shelf, Sink, WriteStop, write_all};
 use std::alloc::{AllocError, Global};
 
@@ -19,8 +21,12 @@ pub fn draw_top<F: Shelf, O: Sink>(
     shelf: &mut F,
     out: &mut O,
 ) -> DrawStatus
-    ensures { Ends (call_of words.now (F.outside shelf.old) (F.outside shelf.new) (O.outside out.old) (O.outside out.new)) result }
+    ensures ends { Ends (call_of words.now (F.outside shelf.old) (F.outside shelf.new) (O.outside out.old) (O.outside out.new)) result }
+    ensures complete { IsComplete (call_of words.now (F.outside shelf.old) (F.outside shelf.new) (O.outside out.old) (O.outside out.new)) result }
 {
+    standard_components_come_to_one_outcome();
+    a_journal_that_stops_is_no_schedule::<Std>();
+    a_file_has_one_journal_or_one_fault();
     match picture(alloc, words, shelf) {
         Ok(text) => print(out, &text),
         Err(stop) => DrawStatus::Stopped(stop),

@@ -68,7 +68,9 @@ fn dot<'a>(alloc: Global) -> Arg<'a>
     ensures rule { rule_of result ≡ rule_by Flag (codes "dot") }
     ensures local { result.global ≡ false }
 {
-    Arg::new(alloc, "dot").long("dot").action(ArgAction::SetTrue)
+    Arg::new(alloc, "dot")
+        .long("dot")
+        .action(ArgAction::SetTrue)
 }
 
 // The option with the name of a journal's file.
