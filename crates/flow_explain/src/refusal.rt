@@ -6,7 +6,7 @@ use flow_expand::{ExpandStop, expand};
 use flow_files::FileShelf;
 use flow_flat::ExpandFault;
 use flow_limits::FILE_LIMIT;
-use flow_parse::{NetFault, NetText, ParseStop, parse};
+use flow_parse::{NetFault, ParseStop, parse};
 use flow_text::{Shelf, read_all};
 use std::alloc::{AllocError, Global};
 use std::fs::{File, Files};
@@ -47,17 +47,13 @@ pub enum Fault {
 
 /// The fault of a network file's bytes, where they are refused.
 pub fn fault_of(alloc: Global, net: &[u8]) -> Result<Option<Fault>, AllocError> {
-    match parse(alloc, net) {
-        Ok(text) => network_fault(alloc, &text),
-        Err(ParseStop::Fault(fault)) => Ok(Some(Fault::Line(fault))),
-        Err(ParseStop::NoMemory) => Err(AllocError),
-    }
-}
-
-// The fault of the network that a value spells.
-fn network_fault(alloc: Global, text: &NetText) -> Result<Option<Fault>, AllocError> {
+    let text = match parse(alloc, net) {
+        Ok(text) => text,
+        Err(ParseStop::Fault(fault)) => return Ok(Some(Fault::Line(fault))),
+        Err(ParseStop::NoMemory) => return Err(AllocError),
+    };
     let kinds = kinds(alloc)?;
-    match expand(alloc, text, kinds) {
+    match expand(alloc, &text, kinds) {
         Ok(_) => Ok(None),
         Err(ExpandStop::Fault(fault)) => Ok(Some(Fault::Network(fault))),
         Err(ExpandStop::NoMemory) => Err(AllocError),
