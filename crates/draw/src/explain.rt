@@ -8,7 +8,8 @@ use std::alloc::{AllocError, Global};
 use std::fs::{File, Files};
 use std::io;
 
-const HELP: &str = "draw NETFILE                 draws the network of the file, as a graph for Mermaid
+const HELP: &str =
+    "draw NETFILE                 draws the network of the file, as a graph for Mermaid
 draw --dot NETFILE           draws it for Graphviz
 draw --journal FILE NETFILE  draws the state to which the journal in FILE leads; so with --dot
 draw -- NETFILE              draws a file whose name begins with -
