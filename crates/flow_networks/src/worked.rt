@@ -449,3 +449,39 @@ fn patterns_are_matched_and_replaced(rt: HostRuntime) -> Result<(), Fail> {
     }
     Ok(())
 }
+
+#[test]
+fn rows_of_one_text_are_told(rt: HostRuntime) -> Result<(), Fail> {
+    let rows = [
+        Row {
+            net: b"flow 1\n'i' -> FILE Read(ReadLines)\nRead OUT -> IN Tally(Tally)\nTally OUT -> IN Write(WriteLines)\n'o' -> FILE Write\n",
+            inputs: [("i", b"a\na\nb\na\n"), NONE, NONE],
+            outputs: [("o", b"2 a\n1 b\n1 a\n"), NONE],
+            ..ROW
+        },
+        // A bracket ends a row, and comes behind what is told of it.
+        Row {
+            net: b"flow 1\n'i' -> FILE Read(ReadLines)\nRead OUT -> IN Marks(Brackets)\nMarks OUT -> IN Tally(Tally)\nTally OUT -> IN Write(WriteLines)\n'o' -> FILE Write\n",
+            inputs: [("i", b"a\na\n(k\na\n)\na\n"), NONE, NONE],
+            outputs: [("o", b"2 a\n(k\n1 a\n)\n1 a\n"), NONE],
+            ..ROW
+        },
+        // An empty text is a text; of no text nothing is told.
+        Row {
+            net: b"flow 1\n'i' -> FILE Read(ReadLines)\nRead OUT -> IN Tally(Tally)\nTally OUT -> IN Write(WriteLines)\n'o' -> FILE Write\n",
+            inputs: [("i", b"\n\n"), NONE, NONE],
+            outputs: [("o", b"2 \n"), NONE],
+            ..ROW
+        },
+        Row {
+            net: b"flow 1\n'i' -> FILE Read(ReadLines)\nRead OUT -> IN Tally(Tally)\nTally OUT -> IN Write(WriteLines)\n'o' -> FILE Write\n",
+            inputs: [("i", b""), NONE, NONE],
+            outputs: [("o", b""), NONE],
+            ..ROW
+        },
+    ];
+    for row in rows {
+        run_row(&rt, rt.alloc(), row)?;
+    }
+    Ok(())
+}
