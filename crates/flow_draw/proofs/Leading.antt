@@ -22,7 +22,8 @@ use Rattle.flow_draw.specs.States.{TellsOf}
 
 -- What is said of the net to which the turns led tells of the state to which they lead.
 pub remarks-tell : (plan : Network) (components : List Std) (net : NetValue Std) (journal : Journal) (remarks : Remarks) → StartsWell std_rules plan components
-    → ComesOfSchedule std_rules plan components (schedule_of journal) net → ((s : State Std) → IsReached std_rules plan net s → TellsOf plan s remarks) → RemarksAfter plan components journal (Ok remarks)
+    → ComesOfSchedule std_rules plan components (schedule_of journal) net → ((s : State Std) → IsReached std_rules plan net s → TellsOf plan s remarks)
+    → RemarksAfter plan components journal (Ok remarks)
 remarks-tell plan components net journal remarks well comes tells = (
   comes.last,
   comes.schedule,
@@ -31,6 +32,7 @@ remarks-tell plan components net journal remarks well comes tells = (
 
 -- A replay that stops has stopped from the start of the plan.
 pub stopped-again : (plan : Network) (components : List Std) (start : NetValue Std) (journal : Journal) (stop : ReplayStop) (result : Stop)
-    → ((place p : ℕ) (refusal : NoTurn) → StopsFrom std_rules start journal (replays.NoTurn place p refusal) → StopsAtTurn std_rules (start_of plan components) (schedule_of journal) place p refusal)
+    → ((place p : ℕ) (refusal : NoTurn) → StopsFrom std_rules start journal (replays.NoTurn place p refusal)
+    → StopsAtTurn std_rules (start_of plan components) (schedule_of journal) place p refusal)
     → StopsFrom std_rules start journal stop → result ≡ stop_of_replay stop → RemarksAfter plan components journal (Err result)
 stopped-again plan components start journal stop result law stops is = leaving.stopped-again plan components start journal stop result law stops is

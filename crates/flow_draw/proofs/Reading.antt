@@ -37,11 +37,13 @@ file-stopped old new name (JournalRefused refusal) s = absurd s
 file-stopped old new name (WriteFault written) s = absurd s
 
 -- A network file that was read, and has a plan.
-pub file-read : (old new : Outside) (name net : Name) (file : NetFile) → OnlyReads old new (whole (name, net) ∷ []) → IsRead old.files FILE_LIMIT (name, net) → ReadsAs net (Ok file) → Loads old new name (Ok file.plan)
+pub file-read : (old new : Outside) (name net : Name) (file : NetFile) → OnlyReads old new (whole (name, net) ∷ []) → IsRead old.files FILE_LIMIT (name, net)
+    → ReadsAs net (Ok file) → Loads old new name (Ok file.plan)
 file-read old new name net file only read taken = (net, file.text, only, record { read = read; holds = taken.0; standard = taken.1 })
 
 -- A network file that was read, and is refused.
-pub file-refused : (old new : Outside) (name net : Name) (stop : Stop) → OnlyReads old new (whole (name, net) ∷ []) → IsRead old.files FILE_LIMIT (name, net) → ReadsAs net (Err stop) → Loads old new name (Err stop)
+pub file-refused : (old new : Outside) (name net : Name) (stop : Stop) → OnlyReads old new (whole (name, net) ∷ []) → IsRead old.files FILE_LIMIT (name, net)
+    → ReadsAs net (Err stop) → Loads old new name (Err stop)
 file-refused old new name net (Refused refusal) only read taken = record { net = net; read = read; refused = taken; shelf = only }
 file-refused old new name net NoMemory only read taken = may-read old new _ only
 file-refused old new name net Words only read taken = absurd taken
@@ -72,7 +74,8 @@ net-stopped old new name keeps (JournalRefused refusal) s = absurd s
 net-stopped old new name keeps (WriteFault written) s = absurd s
 
 -- A stop at the journal's file, behind the network file.
-module _ (old mid new : Outside) (name kept net : Name) (text : NetText) (plan : Network) (only : OnlyReads old mid (whole (name, net) ∷ [])) (file : IsFile old.files name net text plan) where
+module _ (old mid new : Outside) (name kept net : Name) (text : NetText) (plan : Network) (only : OnlyReads old mid (whole (name, net) ∷ []))
+    (file : IsFile old.files name net text plan) where
   told : mid.files ≡ old.files
   told = OnlyReads-files old mid (whole (name, net) ∷ []) only
 
@@ -108,11 +111,13 @@ module _ (old mid new : Outside) (name kept net : Name) (text : NetText) (plan :
 
 -- A stop at the file of a reader, behind the network file and the journal's.
 module _ (old mid new : Outside) (name net kept bytes : Name) (journal : Journal) (text : NetText) (plan : Network)
-    (only : OnlyReads old mid (map whole ((name, net) ∷ (kept, bytes) ∷ []))) (file : IsFile old.files name net text plan) (is_journal : IsJournalFile old.files kept bytes journal) where
+    (only : OnlyReads old mid (map whole ((name, net) ∷ (kept, bytes) ∷ []))) (file : IsFile old.files name net text plan)
+    (is_journal : IsJournalFile old.files kept bytes journal) where
   told-between : mid.files ≡ old.files
   told-between = OnlyReads-files old mid (map whole ((name, net) ∷ (kept, bytes) ∷ [])) only
 
-  behind-both : (inputs : List Filled) (input read : Name) → read ≡ input → IsNext mid.files plan inputs input → IsLimitedNext old.files name (Some kept) ((name, net) ∷ (kept, bytes) ∷ inputs) read
+  behind-both : (inputs : List Filled) (input read : Name) → read ≡ input → IsNext mid.files plan inputs input
+      → IsLimitedNext old.files name (Some kept) ((name, net) ∷ (kept, bytes) ∷ inputs) read
   behind-both inputs input read same is = inr (record {
     kept = kept;
     keeps_is = refl;
@@ -151,8 +156,9 @@ module _ (old mid new : Outside) (name net kept bytes : Name) (journal : Journal
   inputs-stopped (WriteFault written) r = absurd r.3
 
 -- A journal that is no schedule of its network.
-pub replay-stopped : (old new : Outside) (name kept bytes : Name) (journal : Journal) (plan : Network) (components : List Std) → IsJournalFile old.files kept bytes journal
-    → IsReady old new name ((kept, bytes) ∷ []) plan components → (stop : Stop) → MakesAgain plan components journal (Err stop) → StopsFor old new name (Some kept) stop
+pub replay-stopped : (old new : Outside) (name kept bytes : Name) (journal : Journal) (plan : Network) (components : List Std)
+    → IsJournalFile old.files kept bytes journal → IsReady old new name ((kept, bytes) ∷ []) plan components → (stop : Stop)
+    → MakesAgain plan components journal (Err stop) → StopsFor old new name (Some kept) stop
 replay-stopped old new name kept bytes journal plan components is_journal ready (JournalRefused (Turn place p refusal)) s = record {
   kept = kept;
   keeps_is = refl;

@@ -19,7 +19,8 @@ use Rattle.flow_draw.specs.declared.status.DrawStatus.TheVariants.{Drawn, Unwrit
 use Rattle.flow_draw.specs.declared.words.DrawCommand.{DrawCommand}
 
 -- What the words ask for is what the command does that was read of them.
-pub asks-as : (words : List (String Global)) (found : Option DrawCommand) (command : DrawCommand) → option_map asked_by found ≡ asked_of (map string_bytes words) → found ≡ Some command
+pub asks-as : (words : List (String Global)) (found : Option DrawCommand) (command : DrawCommand)
+    → option_map asked_by found ≡ asked_of (map string_bytes words) → found ≡ Some command
     → asked_in_call words ≡ Some (asked_by command)
 asks-as words found command read is = sym read ∙ ap (option_map asked_by) is
 
@@ -28,12 +29,14 @@ pub nothing-read : (o : Outside) → MayRead o o
 nothing-read o = may-read o o [] (no-reads o o refl)
 
 -- What was drawn was read.
-pub shown-read : (old new : Outside) (name : Name) (keeps : Option Name) (plan : Network) (remarks : Remarks) → ShowsBy old new name keeps plan remarks → MayRead old new
+pub shown-read : (old new : Outside) (name : Name) (keeps : Option Name) (plan : Network) (remarks : Remarks) → ShowsBy old new name keeps plan remarks
+    → MayRead old new
 shown-read old new name None plan remarks shows = may-read old new _ shows.shelf
 shown-read old new name (Some kept) plan remarks shows = may-read old new _ shows.ready.reads
 
 -- A stop is one of the words that ask for the drawing.
-pub caused : (words : List (String Global)) (old new : Outside) (asked : Asked) (stop : Stop) → asked_in_call words ≡ Some asked → StopsFor old new asked.net asked.journal stop → HasCause words old new stop
+pub caused : (words : List (String Global)) (old new : Outside) (asked : Asked) (stop : Stop) → asked_in_call words ≡ Some asked
+    → StopsFor old new asked.net asked.journal stop → HasCause words old new stop
 caused words old new asked (Refused refusal) asks s = (asked, asks, s)
 caused words old new asked (JournalRefused refusal) asks s = (asked, asks, s)
 caused words old new asked (ReadFault read) asks s = (asked, asks, s)
@@ -43,7 +46,8 @@ caused words old new asked Words asks s = absurd s
 caused words old new asked (WriteFault written) asks s = (asked, asks, s)
 
 -- The drawing that was made was printed, or a first part of it.
-pub ends-printed : (c : Call) (picture : List ℕ) (status : DrawStatus) → IsPicture c.words c.before c.after picture → Prints c.out c.out_after picture status → Ends c status
+pub ends-printed : (c : Call) (picture : List ℕ) (status : DrawStatus) → IsPicture c.words c.before c.after picture → Prints c.out c.out_after picture status
+    → Ends c status
 ends-printed c picture Drawn is prints = (picture, is, prints)
 ends-printed c picture Unwritten is prints = (picture, is, prints)
 ends-printed c picture (Stopped stop) is prints = absurd prints

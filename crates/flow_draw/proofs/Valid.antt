@@ -35,7 +35,8 @@ one-schedule : (a b : Journal) → a.turns ≡ b.turns → a.seen ≡ b.seen →
 one-schedule a b turns seen = ap₂ (λ t s. record { turns = t; seen = s }) turns seen
 
 -- a file that has a limit isn't that of a journal
-limited-at : (told : Option Files) (name : Name) (keeps : Option Name) (earlier : List Filled) (read : Name) → IsLimitedNext told name keeps earlier read → IsJournalAt keeps (length (map whole earlier)) → ⊥
+limited-at : (told : Option Files) (name : Name) (keeps : Option Name) (earlier : List Filled) (read : Name) → IsLimitedNext told name keeps earlier read
+    → IsJournalAt keeps (length (map whole earlier)) → ⊥
 limited-at told name keeps earlier read (inl next) at = omega (arith, at.0, ap (λ (l : List Filled). length (map whole l)) next.1)
 limited-at told name keeps earlier read (inr next) at = omega (arith, at.0, ap (λ (l : List Filled). length (map whole l)) next.earlier_are)
 
@@ -60,7 +61,8 @@ module _ (old new : Outside) (name : Name) (keeps : Option Name) (valid : (read 
       let begins = v.schedule c.net c.text c.plan 1 c.given (name, refl) c.file.holds (second c.kept c.keeps_is) refl in
       apart (c.given.bytes ++ begins.0) begins.2.journal place begins.2.is (c.shows.fault begins.0 begins.1)
 
-  no-stop : AtMostOneOutcome std_rules → StopsAreNoSchedules std_rules → HasOneJournal → (place p : ℕ) (refusal : NoTurn) → IsNoSchedule old new name keeps place p refusal → ⊥
+  no-stop : AtMostOneOutcome std_rules → StopsAreNoSchedules std_rules → HasOneJournal → (place p : ℕ) (refusal : NoTurn)
+      → IsNoSchedule old new name keeps place p refusal → ⊥
   no-stop one no_schedule single place p refusal c =
       let r = c.ready in
       let v = all-valid (map whole ((name, r.net) ∷ (((c.kept, c.bytes) ∷ []) ++ inputs_of c.plan.processes r.given))) r.reads in
@@ -83,18 +85,21 @@ module _ (old new : Outside) (name : Name) (keeps : Option Name) (valid : (read 
       let many = more.1 in
       omega (arith, few, many)
 
-  valid-stop : AtMostOneOutcome std_rules → StopsAreNoSchedules std_rules → HasJournalOrFault → HasOneJournal → (Rose old.read_faults new.read_faults → ⊥) → (stop : Stop) → StopsFor old new name keeps stop → stop ≡ NoMemory
+  valid-stop : AtMostOneOutcome std_rules → StopsAreNoSchedules std_rules → HasJournalOrFault → HasOneJournal → (Rose old.read_faults new.read_faults → ⊥)
+      → (stop : Stop) → StopsFor old new name keeps stop → stop ≡ NoMemory
   valid-stop one no_schedule apart single reads NoMemory c = refl
   valid-stop one no_schedule apart single reads (ReadFault read) c = absurd (reads c.shelf.rose)
   valid-stop one no_schedule apart single reads (Refused refusal) c = absurd (no-refusal refusal c)
   valid-stop one no_schedule apart single reads (JournalRefused (Byte place)) c = absurd (no-fault apart place c)
-  valid-stop one no_schedule apart single reads (JournalRefused (Turn place process refusal)) c = absurd (no-stop one no_schedule single place process refusal c)
+  valid-stop one no_schedule apart single reads (JournalRefused (Turn place process refusal)) c =
+      absurd (no-stop one no_schedule single place process refusal c)
   valid-stop one no_schedule apart single reads (TooLong read) c = absurd (not-too-long (string_bytes read) c)
   valid-stop one no_schedule apart single reads Words c = absurd c
   valid-stop one no_schedule apart single reads (WriteFault written) c = absurd c
 
 -- Where words ask for one drawing, a cause is one of that.
-module _ (one : AtMostOneOutcome std_rules) (no_schedule : StopsAreNoSchedules std_rules) (apart : HasJournalOrFault) (single : HasOneJournal) (c : Call) (faults : NoFaults c) (valid : IsValid c) where
+module _ (one : AtMostOneOutcome std_rules) (no_schedule : StopsAreNoSchedules std_rules) (apart : HasJournalOrFault) (single : HasOneJournal) (c : Call)
+    (faults : NoFaults c) (valid : IsValid c) where
   stop-of : (asked : Asked) → asked_in_call c.words ≡ Some asked → (stop : Stop) → StopsFor c.before c.after asked.net asked.journal stop → stop ≡ NoMemory
   stop-of asked asks stop s =
       let same : valid.0 ≡ asked = (let h = valid.1 in cc) in

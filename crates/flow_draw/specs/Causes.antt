@@ -30,8 +30,8 @@ pub record IsRefused (old new : Outside) (name : Name) (refusal : NetRefusal) : 
   pub refused : RefusedFor net refusal
   pub shelf : OnlyReads old new (whole (name, net) ∷ [])
 
--- The network file was read whole, and then that of the journal as far as its fault shows; the byte at this place can't stand in a journal's file, or the file ends
--- there too early.
+-- The network file was read whole, and then that of the journal as far as its fault shows; the byte at this place can't stand in a journal's file, or the file
+-- ends there too early.
 pub record IsFaulty (old new : Outside) (name : Name) (keeps : Option Name) (place : ℕ) : Type 0 where
   pub kept : Name
   pub keeps_is : keeps ≡ Some kept

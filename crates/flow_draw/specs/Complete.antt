@@ -22,12 +22,13 @@ IsJournalAt keeps place = (place ≡ 1) × ((kept : Name) × (keeps ≡ Some kep
 pub record AreValid (keeps : Option Name) (read : List Logged) : Type 0 where
   pub network : (net : List ℕ) → GaveAt read 0 net → (text : NetText) × (plan : Network) × Holds net text plan
   pub short : (place : ℕ) (file : Logged) → slice_get read place ≡ Some file → (IsJournalAt keeps place → ⊥) → length file.bytes ≤ FILE_LIMIT
-  pub schedule : (net : List ℕ) (text : NetText) (plan : Network) (place : ℕ) (given : Logged) → GaveAt read 0 net → Holds net text plan → IsJournalAt keeps place
-      → slice_get read place ≡ Some given → BeginsSchedule read plan given
+  pub schedule : (net : List ℕ) (text : NetText) (plan : Network) (place : ℕ) (given : Logged) → GaveAt read 0 net → Holds net text plan
+      → IsJournalAt keeps place → slice_get read place ≡ Some given → BeginsSchedule read plan given
 
 -- The words ask for a drawing, and what was read is valid, whatever that was.
 abbrev pub IsValid : Call → Type 0
-IsValid c = (asked : Asked) × (asked_in_call c.words ≡ Some asked) × ((read : List Logged) → c.after.opened ≡ c.before.opened ++ read → AreValid asked.journal read)
+IsValid c = (asked : Asked) × (asked_in_call c.words ≡ Some asked)
+    × ((read : List Logged) → c.after.opened ≡ c.before.opened ++ read → AreValid asked.journal read)
 
 -- No count of faults rose.
 pub record NoFaults (c : Call) : Type 0 where

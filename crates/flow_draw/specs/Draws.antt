@@ -42,8 +42,9 @@ pub record ShowsNet (old new : Outside) (name : Name) (plan : Network) (remarks 
   pub shelf : OnlyReads old new (whole (name, net) ∷ [])
   pub none : remarks ≡ no_remarks
 
--- The state is drawn to which the journal of this file leads: the network file was read whole, then the journal's, then those of the network's readers, and nothing
--- else; the journal is a schedule of the machine from the start of the network on what the readers' files gave, and the remarks tell of the state to which it leads.
+-- The state is drawn to which the journal of this file leads: the network file was read whole, then the journal's, then those of the network's readers, and
+-- nothing else; the journal is a schedule of the machine from the start of the network on what the readers' files gave, and the remarks tell of the state to
+-- which it leads.
 pub record ShowsState (old new : Outside) (name kept : Name) (plan : Network) (remarks : Remarks) : Type 0 where
   pub bytes : List ℕ
   pub journal : Journal
@@ -66,7 +67,8 @@ Reads old new name keeps (Err stop) = StopsFor old new name keeps stop
 
 -- What making the turns of a journal again comes to: remarks that tell of the state to which they lead, or the first of them that isn't defined.
 abbrev pub RemarksAfter : Network → List Std → Journal → Result Remarks Stop → Type 0
-RemarksAfter plan components journal (Ok remarks) = (last : State Std) × IsScheduled std_rules plan components (schedule_of journal) last × TellsOf plan last remarks
+RemarksAfter plan components journal (Ok remarks) =
+    (last : State Std) × IsScheduled std_rules plan components (schedule_of journal) last × TellsOf plan last remarks
 RemarksAfter plan components journal (Err stop) = MakesAgain plan components journal (Err stop)
 
 -- The text of a drawing of a plan with these remarks.
@@ -81,8 +83,8 @@ pub record Call : Type 0 where
   pub out : Outside
   pub out_after : Outside
 
--- This is the text of the drawing that the words ask for: it is spelled in their language, and shows the network of their file, and the state to which the journal
--- leads where they name one.
+-- This is the text of the drawing that the words ask for: it is spelled in their language, and shows the network of their file, and the state to which the
+-- journal leads where they name one.
 pub record IsPicture (words : List (String Global)) (old new : Outside) (picture : List ℕ) : Type 0 where
   pub asked : Asked
   pub asks : asked_in_call words ≡ Some asked

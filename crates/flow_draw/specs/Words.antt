@@ -13,7 +13,8 @@ use Rattle.flow_drawing.specs.declared.quote.Form.{Form}
 use Rattle.flow_drawing.specs.declared.quote.Form.TheVariants.{Mermaid, Dot}
 use Rattle.flow_draw.specs.declared.words.DrawCommand.{DrawCommand}
 
--- A drawing that is asked for: its language; the name of the network file; and that of a journal's file, where the state is to be drawn to which the journal leads.
+-- A drawing that is asked for: its language; the name of the network file; and that of a journal's file, where the state is to be drawn to which the journal
+-- leads.
 pub record Asked : Type 0 where
   pub form : Form
   pub net : Text
@@ -37,7 +38,9 @@ asked_with dot journal net = record { form = form_by dot; net = net; journal = j
 
 -- What the rows of a line ask for. They have to have a network file.
 abbrev pub asked_in : List Row → Option Asked
-asked_in rows = option_map (asked_with (is_given (row_named (codes "dot") rows)) (value_by Valued (row_named (codes "journal") rows))) (value_by Name (row_named (codes "NETFILE") rows))
+asked_in rows = option_map
+    (asked_with (is_given (row_named (codes "dot") rows)) (value_by Valued (row_named (codes "journal") rows)))
+    (value_by Name (row_named (codes "NETFILE") rows))
 
 -- Words in which clap finds a fault ask for nothing, and all others for what their rows do.
 abbrev pub asked_of : List Text → Option Asked

@@ -13,8 +13,8 @@ use flow_journal::{a_file_has_one_journal_or_one_fault, a_journal_that_stops_is_
 use flow_text::{Shelf, Sink, WriteStop, write_all};
 use std::alloc::{AllocError, Global};
 
-/// Draws what the words ask for: the network of a file, and with a journal the state to which that leads. The drawing is printed, and nothing else; where there is
-/// none the status says why.
+/// Draws what the words ask for: the network of a file, and with a journal the state to which that leads. The drawing is printed, and nothing else; where there
+/// is none the status says why.
 pub fn draw_top<F: Shelf, O: Sink>(
     alloc: Global,
     words: &[String],

@@ -19,4 +19,5 @@ returns-then-waits-connection c =
     any-here (λ (x : Waits). x.connection == n) c.args.cycle.now c.loop-waits.waits-index first _ c.loop-waits-test.true passes c.loop-waits.invariant
 
 pub returns : goal.returns
-returns c = any-none (λ (x : Waits). x.connection == c.args.connection) c.args.cycle.now c.loop-waits.waits-index _ c.loop-waits-test.false c.loop-waits.invariant
+returns c = any-none (λ (x : Waits). x.connection == c.args.connection) c.args.cycle.now c.loop-waits.waits-index _ c.loop-waits-test.false
+    c.loop-waits.invariant

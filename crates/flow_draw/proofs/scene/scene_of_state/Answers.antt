@@ -10,7 +10,8 @@ returns-in-Err g c =
 pub returns-in-Err-read_journal : goal.returns-in-Err-read_journal
 returns-in-Err-read_journal g c =
     let l = c.in-Ok.ensures in
-    journal-stopped (g.F.Edge.outside c.args.shelf.now) (g.F.Edge.outside c.load.new.shelf) (g.F.Edge.outside c.read_journal.new.shelf) c.args.name.now c.args.kept.now l.0 l.1 c.in-Ok.plan l.2 l.3
+    journal-stopped (g.F.Edge.outside c.args.shelf.now) (g.F.Edge.outside c.load.new.shelf) (g.F.Edge.outside c.read_journal.new.shelf) c.args.name.now
+    c.args.kept.now l.0 l.1 c.in-Ok.plan l.2 l.3
     c.in-Err-read_journal.stop c.in-Err-read_journal.ensures
 
 pub returns-in-Err-read_components : goal.returns-in-Err-read_components
@@ -21,7 +22,8 @@ returns-in-Err-read_components g c =
     let l = c.in-Ok.ensures in
     let j = c.in-Ok-read_journal.ensures in
     inputs-stopped o low (g.F.Edge.outside c.read_components.new.shelf) c.args.name.now l.0 c.args.kept.now j.0 c.in-Ok-read_journal.journal l.1 c.in-Ok.plan
-    (behind-net o mid low c.args.name.now c.args.kept.now l.0 j.0 l.2 j.1) l.3 (journal-file-of o mid c.args.name.now l.0 c.args.kept.now j.0 c.in-Ok-read_journal.journal l.2 j.2)
+    (behind-net o mid low c.args.name.now c.args.kept.now l.0 j.0 l.2 j.1) l.3
+    (journal-file-of o mid c.args.name.now l.0 c.args.kept.now j.0 c.in-Ok-read_journal.journal l.2 j.2)
     c.in-Err-read_components.stop c.in-Err-read_components.ensures
 
 pub returns-in-Ok-remarks_after : goal.returns-in-Ok-remarks_after
@@ -51,7 +53,8 @@ returns-in-Err-remarks_after g c =
     let low = g.F.Edge.outside c.read_journal.new.shelf in
     let l = c.in-Ok.ensures in
     let j = c.in-Ok-read_journal.ensures in
-    replay-stopped o (g.F.Edge.outside c.read_components.new.shelf) c.args.name.now c.args.kept.now j.0 c.in-Ok-read_journal.journal c.in-Ok.plan c.in-Ok-read_components.components.items
+    replay-stopped o (g.F.Edge.outside c.read_components.new.shelf) c.args.name.now c.args.kept.now j.0 c.in-Ok-read_journal.journal c.in-Ok.plan
+    c.in-Ok-read_components.components.items
     (journal-file-of o mid c.args.name.now l.0 c.args.kept.now j.0 c.in-Ok-read_journal.journal l.2 j.2)
     (ready o low (g.F.Edge.outside c.read_components.new.shelf) c.args.name.now l.0 ((c.args.kept.now, j.0) ∷ []) l.1 c.in-Ok.plan
     (behind-net o mid low c.args.name.now c.args.kept.now l.0 j.0 l.2 j.1) l.3 c.in-Ok-read_components.components c.in-Ok-read_components.ensures)

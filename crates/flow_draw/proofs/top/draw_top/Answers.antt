@@ -13,7 +13,8 @@ returns-in-Ok g c =
     let ends = ends-printed call c.in-Ok.text.items c.print.result c.in-Ok.ensures prints in
     record {
       ends = ends;
-      complete = λ faults valid. complete c.standard_components_come_to_one_outcome.ensures c.a_journal_that_stops_is_no_schedule.ensures c.a_file_has_one_journal_or_one_fault.ensures.apart
+      complete = λ faults valid. complete c.standard_components_come_to_one_outcome.ensures c.a_journal_that_stops_is_no_schedule.ensures
+          c.a_file_has_one_journal_or_one_fault.ensures.apart
           c.a_file_has_one_journal_or_one_fault.ensures.journal call faults valid c.print.result ends;
     }
 
@@ -23,6 +24,7 @@ returns-in-Err g c =
     let call = call_of c.args.words.now (g.F.Edge.outside c.args.shelf.now) (g.F.Edge.outside c.picture.new.shelf) o o in
     record {
       ends = (c.in-Err.ensures, refl);
-      complete = λ faults valid. complete c.standard_components_come_to_one_outcome.ensures c.a_journal_that_stops_is_no_schedule.ensures c.a_file_has_one_journal_or_one_fault.ensures.apart
+      complete = λ faults valid. complete c.standard_components_come_to_one_outcome.ensures c.a_journal_that_stops_is_no_schedule.ensures
+          c.a_file_has_one_journal_or_one_fault.ensures.apart
           c.a_file_has_one_journal_or_one_fault.ensures.journal call faults valid _ (c.in-Err.ensures, refl);
     }
