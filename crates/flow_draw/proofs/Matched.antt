@@ -1,5 +1,5 @@
 -- What clap's matches ask for is what the words do.
-use Rattle.std.proofs.Common.{◌≡◌, ◌∙◌, true, List, [], Some, None, Option, ap, sym}
+use Rattle.std.proofs.Common.{◌≡◌, ◌∙◌, true, List, [], None, Option, ap, sym}
 use Rattle.std.specs.Prelude.{if◌then◌else◌}
 use Rattle.clap.specs.Faults.{fault_of, is_simple_and_free}
 use Rattle.clap.specs.Kinds.{Kinds}

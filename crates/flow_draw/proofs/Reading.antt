@@ -1,17 +1,14 @@
 -- What is read for a drawing, and why it stops.
-use Rattle.std.proofs.Common.{◌≡◌, inl, inr, ℕ, List, [], ◌∷◌, ◌++◌, map, Some, None, Ok, Err, refl, sym, ap, ◌∙◌, subst, append_assoc}
-use Rattle.std.proofs.lemmas.List.{map-append}
-use Rattle.std.specs.Prelude.{Vec, String, string_bytes}
-use Rattle.std.specs.declared.alloc.Global.{Global}
+use Rattle.std.proofs.Common.{◌≡◌, inl, inr, List, [], ◌∷◌, ◌++◌, map, Some, Ok, Err, refl, sym, ap, subst}
+use Rattle.std.specs.Prelude.{string_bytes}
 use Rattle.std.specs.declared.option.Option.{Option}
-use Rattle.std.specs.declared.result.Result.{Result}
 use Rattle.flow_limits.specs.declared.TheConstants.{FILE_LIMIT}
-use Rattle.flow_text.specs.Edge.{Outside, Name, Files, Logged}
+use Rattle.flow_text.specs.Edge.{Outside, Name, Files}
 use Rattle.flow_plan.specs.Network.{Network}
 use Rattle.flow_parse.specs.declared.value.NetText.{NetText}
 use Rattle.flow_catalogue.specs.declared.standard.Std.{Std}
 use Rattle.flow_journal.specs.declared.merge.Journal.{Journal}
-use Rattle.flow_cli.specs.Step.{Filled, OnlyReads, FailsToRead, MayRead, Unended, IsRead, GivesMore, HoldsMore, whole}
+use Rattle.flow_cli.specs.Step.{Filled, OnlyReads, FailsToRead, Unended, IsRead, GivesMore, HoldsMore, whole}
 use Rattle.flow_cli.specs.Networks.{ReadsAs}
 use Rattle.flow_cli.specs.Components.{IsNext, StopsAtFile, ReadsComponents}
 use Rattle.flow_cli.specs.Prepare.{ReadsJournal}
@@ -23,7 +20,7 @@ use Rattle.flow_cli.specs.declared.stop.Stop.{Stop}
 use Rattle.flow_cli.specs.declared.stop.Stop.TheVariants.{Words, Refused, JournalRefused, ReadFault, WriteFault, TooLong, NoMemory}
 use Rattle.flow_cli.proofs.Steps.{may-read, MayRead-trans}
 use Rattle.flow_cli.proofs.Readings.{OnlyReads-trans, FailsToRead-after, GivesMore-after, OnlyReads-files}
-use Rattle.flow_draw.specs.Causes.{IsInputNext, IsLimitedNext, IsJournalNext, StopsFor}
+use Rattle.flow_draw.specs.Causes.{IsLimitedNext, IsJournalNext, StopsFor}
 use Rattle.flow_draw.specs.Loads.{Loads}
 
 -- A read of the network file that stopped.

@@ -1,5 +1,5 @@
 -- What is said of a net is what is said of the state that it stands for.
-use Rattle.std.proofs.Common.{◌≡◌, ℕ, suc, ◌+◌, List, [], ◌∷◌, ◌++◌, map, take, length, Option, Some, None, refl, sym, ◌∙◌, ap}
+use Rattle.std.proofs.Common.{◌≡◌, ℕ, suc, ◌+◌, List, [], ◌∷◌, ◌++◌, map, take, length, Option, Some, None, refl, ◌∙◌, ap}
 use mathlib.Core.Path.{ap₂}
 use Rattle.std.specs.Prelude.{slice_get, option_and_then, unwrap_or}
 use Rattle.flow_component.specs.Laws.{Rules}
@@ -23,7 +23,7 @@ use Rattle.flow_report.proofs.Shown.{processes-shown}
 use Rattle.flow_report.proofs.Tellings.{process-there, told-step}
 use Rattle.flow_drawing.specs.declared.drawing.Remark.{Remark}
 use Rattle.flow_drawing.specs.declared.drawing.Remarks.{Remarks}
-use Rattle.flow_draw.specs.States.{channel_said, connection_remark, connection_said, process_remark, process_said, remarks_in, remarks_on, TellsOf}
+use Rattle.flow_draw.specs.States.{channel_said, connection_remark, connection_said, process_remark, process_said, remarks_in, TellsOf}
 
 -- What is said of one process more.
 pub process-step : {K : Type 0} (plan : Network) (cycle : List Waits) (net : NetValue K) (p : ℕ) (b : BodyValue K) (status : Status) (block : Option Block)

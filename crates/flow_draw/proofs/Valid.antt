@@ -1,9 +1,8 @@
 -- Where no count of faults rose and all that was read is valid, a call draws, or memory is wanting.
-use Rattle.std.proofs.Common.{◌≡◌, ℕ, List, [], ◌∷◌, ◌++◌, length, Some, None, inl, inr, arith, refl, sym, ap, ◌∙◌, subst}
+use Rattle.std.proofs.Common.{◌≡◌, ℕ, List, [], ◌∷◌, ◌++◌, length, Some, inl, inr, arith, refl, ap, ◌∙◌, subst}
 use mathlib.Core.Path.{ap₂}
 use mathlib.Core.List.{append-nil}
-use Rattle.std.proofs.lemmas.List.{length-map}
-use Rattle.std.specs.Prelude.{String, string_bytes, map, ◌⊎◌}
+use Rattle.std.specs.Prelude.{string_bytes, map, ◌⊎◌}
 use Rattle.std.specs.declared.option.Option.{Option}
 use Rattle.flow_text.specs.Edge.{Outside, Name, Files, Logged, Rose}
 use Rattle.flow_component.specs.Laws.{AtMostOneOutcome}
@@ -24,7 +23,7 @@ use Rattle.flow_cli.specs.declared.stop.Stop.TheVariants.{Words, Refused, Journa
 use Rattle.flow_cli.proofs.Networks.{holds-or-refused}
 use Rattle.flow_cli.proofs.Readings.{get-last}
 use Rattle.flow_draw.specs.Causes.{IsFaulty, IsLimitedNext, IsNoSchedule, IsRefused, IsTooLong, StopsFor}
-use Rattle.flow_draw.specs.Complete.{AreValid, IsComplete, IsJournalAt, IsValid, NoFaults}
+use Rattle.flow_draw.specs.Complete.{AreValid, IsJournalAt, IsValid, NoFaults}
 use Rattle.flow_draw.specs.Draws.{Call, Ends, HasCause}
 use Rattle.flow_draw.specs.Words.{Asked, asked_in_call}
 use Rattle.flow_draw.specs.declared.status.DrawStatus.{DrawStatus}

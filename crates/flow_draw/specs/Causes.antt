@@ -1,6 +1,5 @@
 -- Why a call draws nothing: each cause, once.
-use Rattle.std.specs.Prelude.{◌≡◌, ◌⊎◌, ℕ, List, [], ◌∷◌, ◌++◌, map, Some, None, String, string_bytes}
-use Rattle.std.specs.declared.alloc.Global.{Global}
+use Rattle.std.specs.Prelude.{◌≡◌, ◌⊎◌, ℕ, List, [], ◌∷◌, ◌++◌, map, Some, string_bytes}
 use Rattle.std.specs.declared.option.Option.{Option}
 use Rattle.flow_limits.specs.declared.TheConstants.{FILE_LIMIT}
 use Rattle.flow_text.specs.Edge.{Outside, Name, Files, Logged}
@@ -17,11 +16,9 @@ use Rattle.flow_cli.specs.Components.{IsNext}
 use Rattle.flow_cli.specs.Networks.{RefusedFor}
 use Rattle.flow_cli.specs.Reads.{IsFile, IsJournalFile, IsReady, ShowsFault}
 use Rattle.flow_cli.specs.declared.stop.NetRefusal.{NetRefusal}
-use Rattle.flow_cli.specs.declared.stop.JournalRefusal.{JournalRefusal}
 use Rattle.flow_cli.specs.declared.stop.JournalRefusal.TheVariants.{Byte, Turn}
 use Rattle.flow_cli.specs.declared.stop.Stop.{Stop}
 use Rattle.flow_cli.specs.declared.stop.Stop.TheVariants.{Words, Refused, JournalRefused, ReadFault, WriteFault, TooLong, NoMemory}
-use Rattle.flow_draw.specs.Words.{asked_in_call}
 
 -- The network file of this name was read whole, and nothing but it; and it is refused for this.
 pub record IsRefused (old new : Outside) (name : Name) (refusal : NetRefusal) : Type 0 where

@@ -2,7 +2,6 @@
 use Rattle.std.specs.Prelude.{ℕ, List, [], ◌∷◌, Ok, Err}
 use Rattle.std.specs.declared.result.Result.{Result}
 use Rattle.flow_text.specs.Edge.{Outside, Name}
-use Rattle.flow_plan.specs.declared.plan.Plan.{Plan}
 use Rattle.flow_plan.specs.Network.{Network}
 use Rattle.flow_parse.specs.declared.value.NetText.{NetText}
 use Rattle.flow_cli.specs.Step.{OnlyReads, whole}

@@ -1,4 +1,4 @@
-use Rattle.std.proofs.Common.{◌≡◌, [], Some, None, List, Option, Vec, Global, ap, sym, subst}
+use Rattle.std.proofs.Common.{Some, None, List, Option, Vec, Global, sym, subst}
 use Rattle.std.specs.Option.{option_map}
 use Rattle.flow_cycle.specs.Nets.{IsCycleOf}
 use Rattle.flow_cycle.specs.declared.Waits.{Waits}

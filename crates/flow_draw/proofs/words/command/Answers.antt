@@ -1,4 +1,4 @@
-use Rattle.std.proofs.Common.{◌≡◌, ◌∙◌, arith, map, string_bytes, None}
+use Rattle.std.proofs.Common.{◌≡◌, arith, map, string_bytes, None}
 use Rattle.std.proofs.lemmas.Grind.{common_steps}
 use Rattle.std.specs.Option.{option_map}
 use Rattle.clap.specs.Words.{app_of, found_of, rows_of}
