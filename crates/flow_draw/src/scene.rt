@@ -1,5 +1,5 @@
 //! What a drawing shows is read: the plan of a network file, and what a journal says besides.
-ghost use Rattle.std.specs.Prelude.{◌≡◌, Some, None};
+ghost use Rattle.std.specs.Prelude.{Some, None};
 ghost use Rattle.std.specs.Option.{option_map};
 ghost use Rattle.flow_draw.specs.Draws.{Reads};
 ghost use Rattle.flow_draw.specs.Loads.{Loads};
