@@ -1,4 +1,6 @@
 //! Runs that are paused, and go on.
+ghost use Rattle.std.specs.Prelude.{◌≤◌};
+
 use flow_catalogue::Std;
 use flow_component::NoGate;
 use flow_journal::{Journal, replay};

@@ -28,11 +28,11 @@ fn a_parked_process_is_woken(rt: HostRuntime) {
     makes(&rt, &floor, &mut first, &mut reader, 0);
     assert!(rt; first.woken().is_empty());
     makes(&rt, &floor, &mut first, &mut reader, 1);
-    assert_eq!(rt; first.woken(), [WRITE as u32]);
+    assert_eq!(rt; first.woken(), [WRITE as u32].as_slice());
     reads_live(&rt, &floor, &mut second, 2);
     let writer = claims(&rt, &floor, &mut second, WRITE);
     hands_back(&floor, &mut first, reader);
-    assert_eq!(rt; first.woken(), [READ as u32]);
+    assert_eq!(rt; first.woken(), [READ as u32].as_slice());
     hands_back(&floor, &mut second, writer);
     discard(&rt, rt.alloc(), floor, first, second, rooms);
 }
