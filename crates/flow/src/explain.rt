@@ -1,10 +1,8 @@
 //! What the program says besides on the standard error: what a person needs to find a fault. No contract speaks of it,
 //! and it never changes how the program ends.
-use crate::line::put_fault;
-use crate::refused::put_refused;
 use crate::words::{put_help, put_wrong};
-use flow_cli::{NetRefusal, Status, Stop, network, read_file};
-use flow_files::FileShelf;
+use flow_cli::Status;
+use flow_explain::put_refusal;
 use flow_limits::FILE_LIMIT;
 use flow_words::{Command, command};
 use std::alloc::{AllocError, Global};
@@ -49,7 +47,11 @@ fn page<R: Files<File = File> + Eprint + Drop>(
             put_wrong(alloc, &mut page, words)?;
             put_help(&mut page)?;
         }
-        Status::Refused => put_refusal(alloc, rt, &mut page, words)?,
+        Status::Refused => {
+            if let Some(name) = net_named(alloc, words) {
+                put_refusal(alloc, rt, &mut page, name)?;
+            }
+        }
         Status::JournalRefused => page.push_str(OTHER_RUN)?,
         Status::TooLong => write!(
             page,
@@ -68,31 +70,5 @@ fn net_named<'a>(alloc: Global, words: &'a [String]) -> Option<&'a str> {
         Ok(Some(Command::Judge(net))) => Some(net),
         Ok(Some(Command::Replay { net, journal: _ })) => Some(net),
         _ => None,
-    }
-}
-
-// Explains the fault of a network file, which is read once more where it is a regular one: a pipe has nothing left to
-// give.
-fn put_refusal<R: Files<File = File> + Eprint + Drop>(
-    alloc: Global,
-    rt: &R,
-    page: &mut String,
-    words: &[String],
-) -> Result<(), AllocError> {
-    let Some(name) = net_named(alloc, words) else {
-        return Ok(());
-    };
-    match rt.metadata(name) {
-        Ok(found) if found.is_file() => {}
-        _ => return Ok(()),
-    }
-    let mut shelf = FileShelf::new(alloc, rt);
-    let Ok(net) = read_file(alloc, &mut shelf, name) else {
-        return Ok(());
-    };
-    match network(alloc, &net) {
-        Err(Stop::Refused(NetRefusal::Line(fault))) => put_fault(alloc, page, &net, fault),
-        Err(Stop::Refused(NetRefusal::Network(fault))) => put_refused(alloc, page, &net, &fault),
-        _ => Ok(()),
     }
 }

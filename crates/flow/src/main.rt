@@ -5,48 +5,18 @@
 //! on the standard error, of which no clause speaks.
 #![tactic(auto)]
 
-mod bytes;
 mod explain;
-mod forms;
-mod found;
-mod inside;
-mod kinds;
-mod line;
-mod near;
-mod net;
-mod outer;
-mod patterns;
-mod pieces;
-mod place;
-mod ports;
-mod refused;
-mod said;
-mod shown;
 mod words;
 
 use crate::explain::explain;
 use flow_cli::{Status, busy_top, needs_workers, plain_top};
 use flow_component::NoGate;
+use flow_explain::words_of;
 use flow_files::{FileShelf, StdSink};
 use flow_words::{Command, command};
 use std::alloc::{AllocError, Global};
+use std::env;
 use std::process::ExitCode;
-use std::{env, io};
-
-// The words after the program's name. Words that are no text are no command line, as no words are.
-fn words_of(alloc: Global, args: io::Result<env::Args>) -> Result<Vec<String>, AllocError> {
-    let mut words = Vec::new(alloc);
-    match args {
-        Ok(args) => {
-            for word in args.skip(1) {
-                words.push(word)?;
-            }
-            Ok(words)
-        }
-        Err(error) if error.kind() == io::ErrorKind::OutOfMemory => Err(AllocError),
-        Err(_) => Ok(words),
-    }
-}
 
 // The name of the file to which the run's journal goes.
 fn journal_of(alloc: Global, words: &[String]) -> Result<Option<String>, AllocError> {

@@ -1,6 +1,5 @@
 //! Words that are no command line: the first that is wrong, and what there would be.
-use crate::near::nearest;
-use crate::shown::put_word;
+use flow_explain::{nearest, put_word};
 use flow_limits::{NUMBER_LIMIT, WORKER_LIMIT};
 use flow_text::decimal;
 use std::alloc::{AllocError, Global};

@@ -17,6 +17,7 @@ mod quote;
 mod rows;
 
 pub use drawing::{Drawing, Edge, Given, Mark, Node, Remark, Remarks, Row};
+pub use ports::{input_text, output_text};
 pub use quote::{Form, a_quoted_text_reads_back, put_quoted};
 pub use rows::each_process_stands_in_its_boxes;
 

@@ -1,8 +1,8 @@
 //! Where the statement stands that is at fault: the last one of the shortest beginning of the file that is refused in
 //! the same way.
 use crate::found::{Found, Walk};
+use crate::refusal::{Fault, fault_of};
 use crate::said::Tag;
-use flow_cli::{NetRefusal, Stop, network};
 use flow_flat::ExpandFault;
 use flow_parse::{parse, print};
 use std::alloc::{AllocError, Global};
@@ -79,8 +79,8 @@ fn count(spelling: &[u8], counted: Counted) -> usize {
 
 // Whether a network is refused for this fault.
 fn is_refused(alloc: Global, net: &[u8], fault: &ExpandFault) -> bool {
-    match network(alloc, net) {
-        Err(Stop::Refused(NetRefusal::Network(found))) => found == *fault,
+    match fault_of(alloc, net) {
+        Ok(Some(Fault::Network(found))) => found == *fault,
         _ => false,
     }
 }

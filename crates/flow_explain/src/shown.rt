@@ -32,6 +32,11 @@ pub fn put_word(page: &mut String, word: &[u8]) -> Result<(), AllocError> {
     put_within(page, word, WIDTH)
 }
 
+/// A text, all of it.
+pub fn put_all(page: &mut String, text: &[u8]) -> Result<(), AllocError> {
+    put_within(page, text, usize::MAX)
+}
+
 // What is left of a line without the rest of a letter that began before.
 fn from_letter(rest: &[u8]) -> &[u8] {
     match rest.iter().position(|byte| (*byte & 0xc0) != 0x80) {

@@ -1,0 +1,6 @@
+pub mod Words
+pub mod States
+pub mod Causes
+pub mod Loads
+pub mod Draws
+pub mod Complete

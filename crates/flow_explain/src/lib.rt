@@ -1,0 +1,28 @@
+//! What the programs say on the standard error of a network file that is refused: the line at fault, and what would be
+//! right there; and how they come by their words. `flow` and `draw` use it. No contract speaks of it: it never changes
+//! how a program ends.
+#![tactic(auto)]
+
+mod bytes;
+mod called;
+mod forms;
+mod found;
+mod inside;
+mod kinds;
+mod line;
+mod near;
+mod net;
+mod outer;
+mod patterns;
+mod pieces;
+mod place;
+mod ports;
+mod refusal;
+mod refused;
+mod said;
+mod shown;
+
+pub use called::words_of;
+pub use near::nearest;
+pub use refusal::put_refusal;
+pub use shown::{put_all, put_word};
