@@ -1,7 +1,7 @@
 //! What one worker's calls tell while another one's go on.
 use crate::floor::opened::{READ, Staffed, WRITE, discard, opened};
 use crate::floor::steps::{
-    claims, claims_in_vain, hands_back, makes, parks, reads_live, stays_dormant,
+    claims, claims_in_vain, hands_back, makes, parks, reads_live, stays_dormant, woke,
 };
 
 /// The word of a process that is held.
@@ -26,13 +26,13 @@ fn a_parked_process_is_woken(rt: HostRuntime) {
     parks(&floor, &mut second, writer);
     reads_live(&rt, &floor, &mut second, 1);
     makes(&rt, &floor, &mut first, &mut reader, 0);
-    assert!(rt; first.woken().is_empty());
+    woke(&rt, &first, &[]);
     makes(&rt, &floor, &mut first, &mut reader, 1);
-    assert_eq!(rt; first.woken(), [WRITE as u32].as_slice());
+    woke(&rt, &first, &[WRITE as u32]);
     reads_live(&rt, &floor, &mut second, 2);
     let writer = claims(&rt, &floor, &mut second, WRITE);
     hands_back(&floor, &mut first, reader);
-    assert_eq!(rt; first.woken(), [READ as u32].as_slice());
+    woke(&rt, &first, &[READ as u32]);
     hands_back(&floor, &mut second, writer);
     discard(&rt, rt.alloc(), floor, first, second, rooms);
 }

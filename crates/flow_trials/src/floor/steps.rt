@@ -133,3 +133,8 @@ pub(crate) fn reads_live<K: Component>(
 {
     assert_eq!(rt; floor.live(worker), live);
 }
+
+/// The worker's last call made these processes ready.
+pub(crate) fn woke<K: Component>(rt: &impl Abort, worker: &Worker<K>, processes: &[u32]) {
+    assert_eq!(rt; worker.woken(), processes);
+}
