@@ -61,7 +61,7 @@ fn page<R: Files<File = File> + Eprint + Drop>(
         Status::Words => page.push_str(HELP)?,
         Status::Refused => {
             if let Ok(Some(asked)) = command(alloc, words) {
-                put_refusal(alloc, rt, &mut page, asked.net)?;
+                put_refusal(alloc, rt, &mut page, asked.net, &[], &[])?;
             }
         }
         Status::JournalRefused => page.push_str(OTHER_RUN)?,

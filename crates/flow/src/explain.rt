@@ -1,9 +1,12 @@
 //! What the program says besides on the standard error: what a person needs to find a fault. No contract speaks of it,
 //! and it never changes how the program ends.
+use crate::own::{PARTS, own_kinds};
 use crate::words::{put_help, put_wrong};
 use flow_cli::Status;
 use flow_explain::put_refusal;
 use flow_limits::FILE_LIMIT;
+use flow_number::number_is_an_own_kind;
+use flow_tape::TAPE_FILE_LIMIT;
 use flow_words::{Command, command};
 use std::alloc::{AllocError, Global};
 use std::fs::{File, Files};
@@ -11,6 +14,9 @@ use std::io;
 
 const OTHER_RUN: &str =
     "A journal is replayed with the network file and the input files of its own run.\n";
+
+const OTHER_TAPES: &str =
+    "A replay takes the file of tapes that its own run wrote by --tapes; a network without components of one's own needs none.\n";
 
 /// Explains a status, where there is more to say than its line on the standard output. What can't be said, for want of
 /// memory or of a standard error, is left out.
@@ -49,17 +55,30 @@ fn page<R: Files<File = File> + Eprint + Drop>(
         }
         Status::Refused => {
             if let Some(name) = net_named(alloc, words) {
-                put_refusal(alloc, rt, &mut page, name)?;
+                put_own_refusal(alloc, rt, &mut page, name)?;
             }
         }
         Status::JournalRefused => page.push_str(OTHER_RUN)?,
+        Status::TapesRefused => page.push_str(OTHER_TAPES)?,
         Status::TooLong => write!(
             page,
-            "A network file and an input file have at most {FILE_LIMIT} bytes.\n"
+            "A network file and an input file have at most {FILE_LIMIT} bytes, and a file of tapes {TAPE_FILE_LIMIT}.\n"
         )?,
         _ => {}
     }
     Ok(page)
+}
+
+// Why the network file of this name is refused, beside what this program hands in.
+fn put_own_refusal<R: Files<File = File> + Eprint + Drop>(
+    alloc: Global,
+    rt: &R,
+    page: &mut String,
+    name: &str,
+) -> Result<(), AllocError> {
+    let own = own_kinds(alloc)?;
+    number_is_an_own_kind();
+    put_refusal(alloc, rt, page, name, &own, &[PARTS])
 }
 
 // The network file that the words name.
@@ -68,7 +87,15 @@ fn net_named<'a>(alloc: Global, words: &'a [String]) -> Option<&'a str> {
         Ok(Some(Command::Run(asked))) => Some(asked.net),
         Ok(Some(Command::Check(net))) => Some(net),
         Ok(Some(Command::Judge(net))) => Some(net),
-        Ok(Some(Command::Replay { net, journal: _ })) => Some(net),
+        Ok(
+            Some(
+                Command::Replay {
+                    net,
+                    journal: _,
+                    tapes: _,
+                },
+            ),
+        ) => Some(net),
         _ => None,
     }
 }

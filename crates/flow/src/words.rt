@@ -22,7 +22,7 @@ struct Asked {
     takes_net: bool,
 }
 
-const OPTIONS: [Asked; 7] = [
+const OPTIONS: [Asked; 8] = [
     Asked {
         name: "--check",
         value: Value::Nothing,
@@ -44,13 +44,13 @@ const OPTIONS: [Asked; 7] = [
     Asked {
         name: "--journal",
         value: Value::File,
-        beside: &["--workers"],
+        beside: &["--tapes", "--workers"],
         takes_net: true,
     },
     Asked {
         name: "--replay",
         value: Value::File,
-        beside: &[],
+        beside: &["--tapes"],
         takes_net: true,
     },
     Asked {
@@ -63,12 +63,18 @@ const OPTIONS: [Asked; 7] = [
         takes_net: false,
     },
     Asked {
+        name: "--tapes",
+        value: Value::File,
+        beside: &["--journal", "--replay", "--workers"],
+        takes_net: true,
+    },
+    Asked {
         name: "--workers",
         value: Value::Number {
             least: 0,
             most: WORKER_LIMIT,
         },
-        beside: &["--journal", "--make"],
+        beside: &["--journal", "--make", "--tapes"],
         takes_net: true,
     },
 ];
@@ -79,13 +85,14 @@ pub fn put_help(page: &mut String) -> Result<(), AllocError> {
         page,
         "flow NETFILE                 runs the network of the file, and prints a report
 flow --journal FILE NETFILE  does so, and writes the journal of the run to FILE
+flow --tapes FILE NETFILE    does so, and writes the tapes of its parts to FILE; with --replay these are played
 flow --check NETFILE         prints the canonical spelling of the file, and runs nothing
 flow --determinate NETFILE   tells whether every run of the network on the same files ends in one state
 flow --kinds                 prints the kinds of processes, each with its ports and options
 flow --replay FILE NETFILE   makes the turns of the journal in FILE again
 flow --make N                runs the network that is made from N, a number from 1 to {NUMBER_LIMIT}
 flow --workers N NETFILE     runs the network by N workers, each in a thread of its own: 1 to {WORKER_LIMIT}, or 0
-                             for none; so do the other runs, with --journal or --make
+                             for none; so do the other runs, with --journal, --tapes or --make
 flow -- NETFILE              runs a file whose name begins with -
 "
     )

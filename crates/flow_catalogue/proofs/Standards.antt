@@ -1,29 +1,42 @@
--- A valid plan over the standard kinds has standard processes alone.
-use Rattle.std.proofs.Common.{◌≡◌, ℕ, zero, suc, true, List, [], ◌∷◌, map, Some, refl, sym, ◌∙◌, ap, subst, slice_get}
+-- A valid plan over a table that begins with the standard kinds has standard processes, and those of the kinds behind them.
+use Rattle.std.specs.Prelude.{◌⊎◌}
+use Rattle.std.proofs.Common.{◌≡◌, ℕ, zero, suc, ◌<◌, ◌++◌, true, List, [], ◌∷◌, length, map, Some, refl, sym, ◌∙◌, ap, subst, inl, inr, slice_get}
 use Rattle.std.specs.List.{list_all}
 use Rattle.flow_plan.specs.declared.kind.KindSpec.{KindSpec}
 use Rattle.flow_plan.specs.declared.plan.Process.{Process}
 use Rattle.flow_plan.specs.Network.{Network}
-use Rattle.flow_net.specs.Over.{entries, carries}
+use Rattle.flow_net.specs.Over.{IsOver, IsOfKind, entries, carries}
 use Rattle.flow_plan.specs.Valid.{IsValid}
 use Rattle.flow_net.proofs.Ends.{and_true}
 use Rattle.flow_catalogue.specs.declared.table.StdKind.{StdKind}
 use Rattle.flow_catalogue.specs.Rows.{IsCount, count_on, needs, is_plain}
 use Rattle.flow_catalogue.specs.Kinds.{name_of, spec_of, all_kinds, std_kinds}
-use Rattle.flow_catalogue.specs.Processes.{IsOfKind as IsOfStdKind}
-use Rattle.flow_catalogue.specs.Plans.{OverIsStandard}
+use Rattle.flow_catalogue.specs.Processes.{IsStandard, IsOfKind as IsOfStdKind}
+use Rattle.flow_catalogue.specs.Plans.{IsOfTable, OverIsStandard, OverIsStandardOrMore}
 use Rattle.flow_catalogue.proofs.Tables.{HasTable, has-table, there-at}
 use Rattle.flow_catalogue.proofs.OptionTexts.{has-options}
 use Rattle.flow_catalogue.proofs.Rows.{side-count, needed-there}
 
--- the kind of the table at a place is one of the standard kinds, and its row is plain
-from-map : (ks : List StdKind) (place : ℕ) (kind : KindSpec) → slice_get (map spec_of ks) place ≡ Some kind → list_all is_plain (map spec_of ks) ≡ true → (std : StdKind) × (spec_of std ≡ kind) × (is_plain (spec_of std) ≡ true)
-from-map [] place kind is plain = absurd cc
-from-map (std ∷ ks) zero kind is plain = (std, (let h : spec_of std ≡ kind = cc in h), (and_true (is_plain (spec_of std)) (list_all is_plain (map spec_of ks)) plain).0)
-from-map (std ∷ ks) (suc place) kind is plain = from-map ks place kind is (and_true (is_plain (spec_of std)) (list_all is_plain (map spec_of ks)) plain).1
+-- a standard kind whose row this is, and the row is plain
+record IsRowOf (kind : KindSpec) : Type 0 where
+  pub std : StdKind
+  pub row : spec_of std ≡ kind
+  pub plain : is_plain (spec_of std) ≡ true
 
-kind-at : (place : ℕ) (kind : KindSpec) → slice_get std_kinds place ≡ Some kind → (std : StdKind) × (spec_of std ≡ kind) × (is_plain (spec_of std) ≡ true)
-kind-at place kind is = from-map all_kinds place kind is refl
+-- the kind stands behind the standard ones
+record StandsIn (more : List KindSpec) (kind : KindSpec) : Type 0 where
+  pub place : ℕ
+  pub here : slice_get more place ≡ Some kind
+
+-- the kind of the table at a place is one of the standard kinds, and its row is plain; or it stands behind them
+from-map : (ks : List StdKind) (more : List KindSpec) (place : ℕ) (kind : KindSpec) → slice_get (map spec_of ks ++ more) place ≡ Some kind → list_all is_plain (map spec_of ks) ≡ true → IsRowOf kind ⊎ StandsIn more kind
+from-map [] more place kind is plain = inr (record { place = place; here = is })
+from-map (std ∷ ks) more zero kind is plain =
+    inl (record { std = std; row = (let h : spec_of std ≡ kind = cc in h); plain = (and_true (is_plain (spec_of std)) (list_all is_plain (map spec_of ks)) plain).0 })
+from-map (std ∷ ks) more (suc place) kind is plain = from-map ks more place kind is (and_true (is_plain (spec_of std)) (list_all is_plain (map spec_of ks)) plain).1
+
+kind-at : (more : List KindSpec) (place : ℕ) (kind : KindSpec) → slice_get (std_kinds ++ more) place ≡ Some kind → IsRowOf kind ⊎ StandsIn more kind
+kind-at more place kind is = from-map all_kinds more place kind is refl
 
 of-kind : (n : Network) (p : ℕ) (x : Process) (std : StdKind) → IsValid n → slice_get n.processes p ≡ Some x → (t : HasTable n p x)
     → entries t.table.inputs ≡ (spec_of std).inputs → entries t.table.outputs ≡ map carries (spec_of std).outputs → x.kind ≡ name_of std → is_plain (spec_of std) ≡ true → IsOfStdKind n p x std
@@ -40,14 +53,45 @@ of-kind n p x std valid there t inputs outputs named plain =
       });
     }
 
+module _ (kinds : List KindSpec) (plan : Network) (valid : IsValid plan) (p : ℕ) (x : Process) (there : slice_get plan.processes p ≡ Some x) (t : HasTable plan p x) (is : IsOfKind kinds x t.table) where
+  -- a process whose kind has the row of a standard one is standard
+  standard : IsRowOf is.kind → IsStandard plan p
+  standard row =
+      let inputs = is.inputs ∙ ap (λ (k : KindSpec). k.inputs) (sym row.row) in
+      let outputs = is.outputs ∙ ap (λ (k : KindSpec). map carries k.outputs) (sym row.row) in
+      let named = is.name ∙ ap (λ (k : KindSpec). k.name) (sym row.row) in
+      record { process = x; there = there; kind = row.std; is_of_kind = of-kind plan p x row.std valid there t inputs outputs named row.plain }
+
+  -- a process whose kind stands behind the standard ones has as many ports as that says
+  of-more : (more : List KindSpec) → StandsIn more is.kind → IsOfTable more plan p
+  of-more more stands = record {
+    process = x;
+    there = there;
+    table = t.table;
+    tabled = t.here;
+    is_of_kind = record { place = stands.place; kind = is.kind; here = stands.here; name = is.name; inputs = is.inputs; outputs = is.outputs };
+    inputs = subst (IsCount (count_on is.kind.inputs)) t.inputs (side-count t.table.inputs is.kind.inputs is.inputs (λ i row at. valid.rows.inputs p i t.table row t.here at));
+    outputs = subst (IsCount (count_on (map carries is.kind.outputs))) t.outputs (side-count t.table.outputs (map carries is.kind.outputs) is.outputs (λ i row at. valid.rows.outputs p i t.table row t.here at));
+  }
+
+-- In a plan over a table that begins with the standard kinds each process is standard, or of a kind behind them.
+pub over-standard-or-more : OverIsStandardOrMore
+over-standard-or-more more plan valid over p lt =
+    let at = there-at plan.processes p lt in
+    let t = has-table plan p at.0 valid at.1 in
+    let is = over.each p at.0 t.table at.1 t.here in
+    elim (kind-at more is.place is.kind is.here) [
+      | inl row ↦ inl (standard (std_kinds ++ more) plan valid p at.0 at.1 t is row)
+      | inr stands ↦ inr (of-more (std_kinds ++ more) plan valid p at.0 at.1 t is more stands)
+    ]
+
 -- A plan over the table of the standard kinds is a standard plan.
 pub over-standard : OverIsStandard
 over-standard plan valid over p lt =
     let at = there-at plan.processes p lt in
     let t = has-table plan p at.0 valid at.1 in
     let is = over.each p at.0 t.table at.1 t.here in
-    let std = kind-at is.place is.kind is.here in
-    let inputs = is.inputs ∙ ap (λ (k : KindSpec). k.inputs) (sym std.1) in
-    let outputs = is.outputs ∙ ap (λ (k : KindSpec). map carries k.outputs) (sym std.1) in
-    let named = is.name ∙ ap (λ (k : KindSpec). k.name) (sym std.1) in
-    record { process = at.0; there = at.1; kind = std.0; is_of_kind = of-kind plan p at.0 std.0 valid at.1 t inputs outputs named std.2 }
+    elim (kind-at [] is.place is.kind is.here) [
+      | inl row ↦ standard std_kinds plan valid p at.0 at.1 t is row
+      | inr stands ↦ absurd (let here = stands.here in cc)
+    ]

@@ -12,7 +12,10 @@ mod table;
 mod tests;
 
 pub use options::is_connected;
-pub use plans::{a_first_component_fits, a_plan_over_the_table_is_standard};
+pub use plans::{
+    a_first_component_fits, a_plan_over_more_kinds_is_standard_beside_them,
+    a_plan_over_the_table_is_standard,
+};
 pub use process::{FileUse, file_of, make};
 pub use standard::{Std, standard_components_come_to_one_outcome};
 pub use table::{StdKind, kinds};

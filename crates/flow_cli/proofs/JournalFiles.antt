@@ -23,7 +23,7 @@ use Rattle.flow_cli.specs.Stops.{IsReadStop}
 use Rattle.flow_cli.specs.Prepare.{ReadsJournal}
 use Rattle.flow_cli.specs.declared.stop.JournalRefusal.TheVariants.{Byte}
 use Rattle.flow_cli.specs.declared.stop.Stop.{Stop}
-use Rattle.flow_cli.specs.declared.stop.Stop.TheVariants.{Words, Refused, JournalRefused, ReadFault, WriteFault, TooLong, NoMemory}
+use Rattle.flow_cli.specs.declared.stop.Stop.TheVariants.{Words, Refused, NoPart, JournalRefused, TapesRefused, ReadFault, WriteFault, TooLong, NoMemory}
 use Rattle.flow_cli.proofs.Steps.{failed, gave, held-all, may-fail-to-read}
 
 -- what a source gave stands in front of what the name holds
@@ -41,6 +41,8 @@ fault-stopped old new name (ReadFault read) files unended fails is = (is, (files
 fault-stopped old new name NoMemory files unended fails is = may-fail-to-read old new files name fails
 fault-stopped old new name Words files unended fails is = absurd is
 fault-stopped old new name (Refused refusal) files unended fails is = absurd is
+fault-stopped old new name (NoPart process) files unended fails is = absurd is
+fault-stopped old new name (TapesRefused refusal) files unended fails is = absurd is
 fault-stopped old new name (JournalRefused refusal) files unended fails is = absurd is
 fault-stopped old new name (WriteFault written) files unended fails is = absurd is
 fault-stopped old new name (TooLong read) files unended fails is = absurd is

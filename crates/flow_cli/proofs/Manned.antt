@@ -1,14 +1,11 @@
 -- Who made the turns of a run.
-use Rattle.std.proofs.Common.{◌≡◌, ℕ, ◌+◌, List, [], ◌∷◌, map, Ok, Err, refl, sym, ap, ◌∙◌, subst, arith}
-use Rattle.std.specs.Prelude.{IfOk, String}
+use Rattle.std.proofs.Common.{◌≡◌, ℕ, ◌+◌, List, [], ◌∷◌, map, refl, sym, ap, ◌∙◌, subst, arith}
+use Rattle.std.specs.Prelude.{String}
 use Rattle.std.specs.declared.alloc.Global.{Global}
-use Rattle.std.specs.declared.alloc.AllocError.{AllocError}
-use Rattle.std.specs.declared.result.Result.{Result}
 use Rattle.flow_words.specs.Words.{Asked, workers_asked}
 use Rattle.flow_plan.specs.Network.{Network}
 use Rattle.flow_model.specs.Plans.{start_of}
-use Rattle.flow_catalogue.specs.declared.standard.Std.{Std}
-use Rattle.flow_catalogue.specs.Std.{std_rules}
+use Rattle.flow_cli.specs.Offers.{AnyKind, live_rules}
 use Rattle.flow_machine.specs.Logs.{Logged, IsLogOf, turns_made}
 use Rattle.flow_machine.specs.Starts.{StartsNet}
 use Rattle.flow_machine.specs.Values.{NetValue}
@@ -24,7 +21,6 @@ use Rattle.flow_cli.specs.Engines.{RanBy}
 use Rattle.flow_cli.specs.Reads.{Asks}
 use Rattle.flow_cli.specs.Runs.{IsJournalOfNet}
 use Rattle.flow_cli.specs.Workers.{IsMadeBy, IsMadeAsAsked}
-use Rattle.flow_cli.specs.declared.ran.Ran.{Ran}
 
 -- turns by their stamps are their processes by their stamps
 numbered-stamped : (n : ℕ) (log : List Logged) → numbered n log ≡ stamped n (map (λ turn. turn.process) log)
@@ -32,29 +28,23 @@ numbered-stamped n [] = refl
 numbered-stamped n (turn ∷ log) = ap (λ (l : List (ℕ × ℕ)). (n, turn.process) ∷ l) (numbered-stamped (n + 1) log)
 
 -- The turns of a net that workers ran from the start of a plan are those of its journal.
-pub made-by : (workers : ℕ) (plan : Network) (components : List Std) (start : NetValue Std) (worked : Worked Std) (journal : Journal)
+pub made-by : (workers : ℕ) (plan : Network) (components : List AnyKind) (start : NetValue AnyKind) (worked : Worked AnyKind) (journal : Journal)
     → StartsNet plan components start → RanBy workers start worked → IsJournalOfNet worked.closed.net journal
-    → ComesOfRun std_rules workers plan components (schedule_of journal) worked.closed.net → IsMadeBy workers worked.crew journal
+    → ComesOfRun live_rules workers plan components (schedule_of journal) worked.closed.net → IsMadeBy workers worked.crew journal
 made-by workers plan components start worked journal starts ran is comes = record {
   count = ran.crew;
   turns = λ one.
       let shut = ran.made one in
-      let count = schedule-count std_rules (start_of plan components) journal.turns journal.seen comes.last comes.run.schedule.leads in
+      let count = schedule-count live_rules (start_of plan components) journal.turns journal.seen comes.last comes.run.schedule.leads in
       let logged : IsLogOf shut.log worked.closed.net = all-logged plan components start shut.log worked.closed.net comes.last starts.stands starts.unmade shut.goes.remembers shut.total comes.stands count in
       let first : turns_made start ≡ 0 = omega (arith, logged.total, shut.total) in
       shut.turns ∙ (ap (λ n. numbered n shut.log) first ∙ (numbered-stamped 0 shut.log ∙ ap (stamped 0) (sym (is.turns shut.log logged))));
 }
 
--- Whatever the account answers.
-pub manned : (workers : ℕ) (worked : Worked Std) (result : Result Ran AllocError) → ((journal : Journal) → IsJournalOfNet worked.closed.net journal → IsMadeBy workers worked.crew journal)
-    → IfOk result (λ ran. ran.crew ≡ worked.crew) → IfOk result (λ ran. IsJournalOfNet worked.closed.net ran.journal) → IfOk result (λ ran. IsMadeBy workers ran.crew ran.journal)
-manned workers worked (Ok ran) made same names = subst (λ (crew : Crew Std). IsMadeBy workers crew ran.journal) (sym same) (made ran.journal names)
-manned workers worked (Err e) made same names = tt
-
 -- Nobody is a crew of no workers.
-pub by-none : (crew : Crew Std) (journal : Journal) → HasWorkers 0 crew → IsMadeBy 0 crew journal
+pub by-none : (crew : Crew) (journal : Journal) → HasWorkers 0 crew → IsMadeBy 0 crew journal
 by-none crew journal nobody = record { count = nobody; turns = λ one. absurd (omega (arith, one)) }
 
 -- What is true of the one thing that the words ask for is true of whatever they ask for.
-pub as-asked : (words : List (String Global)) (asked : Asked) (crew : Crew Std) (journal : Journal) → Asks words asked → IsMadeBy (workers_asked asked) crew journal → IsMadeAsAsked words crew journal
+pub as-asked : (words : List (String Global)) (asked : Asked) (crew : Crew) (journal : Journal) → Asks words asked → IsMadeBy (workers_asked asked) crew journal → IsMadeAsAsked words crew journal
 as-asked words asked crew journal asks made other asks_other = let same : other ≡ asked = cc in subst (λ (a : Asked). IsMadeBy (workers_asked a) crew journal) (sym same) made

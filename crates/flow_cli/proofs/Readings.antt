@@ -26,8 +26,8 @@ FailsToRead-after a b c xs ys name p q = record {
 }
 
 -- A file that gives more than it may gives so behind others that were read.
-pub GivesMore-after : (a b c : Outside) (xs ys : List Logged) (name : Name) → OnlyReads a b xs → GivesMore b c ys name → GivesMore a c (xs ++ ys) name
-GivesMore-after a b c xs ys name p q = (
+pub GivesMore-after : (a b c : Outside) (xs ys : List Logged) (limit : ℕ) (name : Name) → OnlyReads a b xs → GivesMore b c ys limit name → GivesMore a c (xs ++ ys) limit name
+GivesMore-after a b c xs ys limit name p q = (
   q.0,
   q.1,
   subst (λ (l : List Logged). OnlyReads a c l) (sym (append_assoc xs ys (partly q.0 name ∷ []))) (OnlyReads-trans a b c xs (ys ++ partly q.0 name ∷ []) p q.2),

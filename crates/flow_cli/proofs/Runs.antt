@@ -2,35 +2,39 @@
 use Rattle.std.proofs.Common.{◌≡◌, ◌∙◌, inl, inr, ℕ, List, ◌++◌, Err, ap, subst}
 use Rattle.std.specs.Prelude.{String, string_bytes}
 use Rattle.std.specs.declared.alloc.Global.{Global}
+use Rattle.flow_cli.specs.Offers.{AnyKind, Offer, specs_of}
 use Rattle.flow_text.specs.Edge.{Outside, Name}
 use Rattle.flow_report.specs.Text.{report_text}
 use Rattle.flow_cli.specs.Step.{Filled}
 use Rattle.flow_cli.specs.Many.{WritesFiles, WritesAll, EndsAt, FailsAt}
 use Rattle.flow_cli.specs.After.{Prints, verdict_status}
 use Rattle.flow_cli.specs.Causes.{IsRunOf, IsWriteFault, HasCause}
-use Rattle.flow_cli.specs.Top.{IsWhole, HasRun, kept_file, outputs_of_run}
+use Rattle.flow_cli.specs.Top.{IsWhole, HasRun, kept_file, outputs_of_run, recorded_by}
 use Rattle.flow_cli.specs.declared.run.Unwritten.{Unwritten}
 use Rattle.flow_cli.specs.Runs.{bytes_at, bytes_in, files_of_run, outputs_of}
 use Rattle.flow_cli.proofs.Leaving.{outputs-same}
 use Rattle.flow_cli.specs.declared.status.Status.{Status}
 use Rattle.flow_cli.specs.declared.stop.Stop.{Stop}
-use Rattle.flow_cli.specs.declared.stop.Stop.TheVariants.{Words, Refused, JournalRefused, ReadFault, WriteFault, TooLong, NoMemory}
-use Rattle.flow_cli.proofs.Befores.{so_far}
+use Rattle.flow_cli.specs.declared.stop.Stop.TheVariants.{Words, Refused, NoPart, JournalRefused, TapesRefused, ReadFault, WriteFault, TooLong, NoMemory}
+use Rattle.flow_cli.specs.Prepare.{so_far}
 
-module _ (o a n : Outside) (words : List (String Global)) (run : Unwritten) (has : HasRun o a words run) where
-  run-of : IsRunOf (so_far words o n run.ran.journal) has.asked run.ran.plan has.leaves.last a
+module _ (o a n : Outside) (words : List (String Global)) (own : List Offer) (run : Unwritten AnyKind) (has : HasRun (specs_of own) o a words run) where
+  unfoldable pub run-of : IsRunOf (so_far words own o n (recorded_by run.ran)) has.asked run.ran.plan has.leaves.last a
   run-of = record {
-    components = has.components;
+    given = has.given;
     ready = has.ready;
+    components = has.leaves.components;
+    are_components = has.leaves.are_components;
     run = has.leaves.run;
     writable = has.leaves.writable;
+    tapes_writable = has.leaves.tapes_writable;
   }
 
   -- The files of the code are those of the run.
-  pub files : outputs_of_run run ≡ files_of_run run.ran.plan has.leaves.last has.asked.journal run.ran.journal
-  files = ap (λ l. l ++ kept_file run.kept) (outputs-same (bytes_at run.ran.net.bodies) (bytes_in has.leaves.last) has.leaves.wrote 0 run.ran.plan.processes) ∙ ap (λ l. outputs_of run.ran.plan has.leaves.last ++ l) has.kept
+  pub files : outputs_of_run run ≡ files_of_run run.ran.plan has.leaves.last has.asked (recorded_by run.ran)
+  files = ap (λ l. l ++ (kept_file run.journal ++ kept_file run.tapes)) (outputs-same (bytes_at run.ran.net.bodies) (bytes_in has.leaves.last) has.leaves.wrote 0 run.ran.plan.processes) ∙ ap (λ l. outputs_of run.ran.plan has.leaves.last ++ l) has.kept
 
-  fails : (written : Name) → FailsAt a n (outputs_of_run run) written → IsWriteFault (so_far words o n run.ran.journal) written
+  fails : (written : Name) → FailsAt a n (outputs_of_run run) written → IsWriteFault (so_far words own o n (recorded_by run.ran)) written
   fails written w = record {
     asked = has.asked;
     asks = has.asks;
@@ -42,7 +46,7 @@ module _ (o a n : Outside) (words : List (String Global)) (run : Unwritten) (has
   }
 
   -- a stop in writing
-  pub stops-writing : (stop : Stop) → WritesFiles {T = Unit {0}} a n (Err stop) (outputs_of_run run) → HasCause (so_far words o n run.ran.journal) stop
+  pub stops-writing : (stop : Stop) → WritesFiles {T = Unit {0}} a n (Err stop) (outputs_of_run run) → HasCause (so_far words own o n (recorded_by run.ran)) stop
   stops-writing (WriteFault written) w = fails (string_bytes written) w
   stops-writing NoMemory (inl w) = inr (inl (record {
     asked = has.asked;
@@ -56,12 +60,14 @@ module _ (o a n : Outside) (words : List (String Global)) (run : Unwritten) (has
   stops-writing NoMemory (inr w) = inr (inr (w.0, fails w.0 w.1))
   stops-writing Words w = absurd w
   stops-writing (Refused refusal) w = absurd w
+  stops-writing (NoPart process) w = absurd w
   stops-writing (JournalRefused refusal) w = absurd w
+  stops-writing (TapesRefused refusal) w = absurd w
   stops-writing (ReadFault read) w = absurd w
   stops-writing (TooLong read) w = absurd w
 
   -- all files were written
-  pub whole-run : WritesAll a n (outputs_of_run run) → IsWhole (so_far words o n run.ran.journal) has.asked has.leaves.told_is.report
+  unfoldable pub whole-run : WritesAll a n (outputs_of_run run) → IsWhole (so_far words own o n (recorded_by run.ran)) has.asked has.leaves.told_is.report
   whole-run w = record {
     plan = run.ran.plan;
     last = has.leaves.last;

@@ -8,7 +8,6 @@ use Rattle.std.specs.declared.alloc.Global.{Global}
 use Rattle.std.specs.declared.option.Option.{Option}
 use Rattle.std.specs.declared.result.Result.{Result}
 use Rattle.std.specs.Io.KnownBytes.{Consumes, IsAtEnd}
-use Rattle.flow_limits.specs.declared.TheConstants.{FILE_LIMIT}
 use Rattle.flow_text.specs.Edge.{Outside, Name, Files, Logged, Rose, begun, last_moved, replaced, appended_at, appended_to, IsHeld, after_open, after_create, after_finish, after_read, after_read_fault, after_write, after_write_fault}
 use Rattle.flow_text.specs.Shelf.{FailsToWrite as FailedWrite}
 use Rattle.flow_text.specs.ReadAll.{ReadsAll}
@@ -95,12 +94,12 @@ held-all (Some files) name (Some xs) None bytes held gives end = absurd gives
 held-all (Some files) name (Some xs) (Some ys) bytes held gives end =
     sym held.0 ∙ ap Some (gives ∙ ap (λ (l : List ℕ). bytes ++ l) end ∙ append-nil bytes)
 
-held-more : (told : Option Files) (name : Name) (left after : Option (List ℕ)) (bytes : List ℕ) → IsHeld told name left → Consumes left after bytes
-    → length bytes ≡ FILE_LIMIT + 1 → HoldsMore told name
-held-more None name left after bytes held gives size = tt
-held-more (Some files) name None after bytes held gives size = absurd (let none = held.1 in cc)
-held-more (Some files) name (Some xs) None bytes held gives size = absurd gives
-held-more (Some files) name (Some xs) (Some ys) bytes held gives size =
+held-more : (told : Option Files) (name : Name) (limit : ℕ) (left after : Option (List ℕ)) (bytes : List ℕ) → IsHeld told name left → Consumes left after bytes
+    → length bytes ≡ limit + 1 → HoldsMore told limit name
+held-more None name limit left after bytes held gives size = tt
+held-more (Some files) name limit None after bytes held gives size = absurd (let none = held.1 in cc)
+held-more (Some files) name limit (Some xs) None bytes held gives size = absurd gives
+held-more (Some files) name limit (Some xs) (Some ys) bytes held gives size =
     (xs, sym held.0, omega (arith, size, ap length gives, length-append bytes ys))
 
 -- a file that was opened, and then read
@@ -122,22 +121,22 @@ module _ (old mid new : Outside) (name : Name) (opens : mid ≡ after_open old n
       (moved-begun name n false old.opened)
       (subst (λ (k : ℕ). Rose k new.read_faults) (ap (λ (o : Outside). o.read_faults) opens) rose)
 
-  pub read-whole : (r : Result (Vec ℕ Global) ReadStop) → IsHeld old.files name mid.left → ReadsAll mid new r FILE_LIMIT → ReadsFile old new r name
-  read-whole (Ok v) held a = (
+  pub read-whole : (limit : ℕ) (r : Result (Vec ℕ Global) ReadStop) → IsHeld old.files name mid.left → ReadsAll mid new r limit → ReadsFile old new limit r name
+  read-whole limit (Ok v) held a = (
     gave v.items true a.0.state,
     record { short = a.2; held = held-all old.files name mid.left new.left v.items held a.0.given a.1 },
   )
-  read-whole (Err reads.Fault) held a = (partly a.0 name ∷ [], inr (a.0, refl), failed a.0 a.1.state a.1.rose)
-  read-whole (Err (reads.TooLong told)) held a = (
+  read-whole limit (Err reads.Fault) held a = (partly a.0 name ∷ [], inr (a.0, refl), failed a.0 a.1.state a.1.rose)
+  read-whole limit (Err (reads.TooLong told)) held a = (
     (a.1.0, a.1.2, gave a.1.0 false a.1.1.state),
-    held-more old.files name mid.left new.left a.1.0 held a.1.1.given a.1.2,
+    held-more old.files name limit mid.left new.left a.1.0 held a.1.1.given a.1.2,
   )
-  read-whole (Err reads.NoMemory) held a = may-read old new _ (gave a.0 a.1 a.2.state)
+  read-whole limit (Err reads.NoMemory) held a = may-read old new _ (gave a.0 a.1 a.2.state)
 
 -- a file that couldn't be opened
-pub unopened : (old new : Outside) (name : Name) → new ≡ after_read_fault old (Some name) new.read_faults → Rose old.read_faults new.read_faults
-    → ReadsFile old new (Err reads.Fault) name
-unopened old new name is rose =
+pub unopened : (old new : Outside) (limit : ℕ) (name : Name) → new ≡ after_read_fault old (Some name) new.read_faults → Rose old.read_faults new.read_faults
+    → ReadsFile old new limit (Err reads.Fault) name
+unopened old new limit name is rose =
     ([], inl refl, fit-failed-read old new old.open_name old.left old.opened [] name is (sym (append-nil old.opened)) rose)
 
 -- What didn't change wasn't read.

@@ -3,11 +3,7 @@ use Rattle.std.proofs.Common.{◌≡◌, ℕ, List, inl, inr, ◌∙◌, ap, sub
 use Rattle.std.specs.Prelude.{◌≢◌, String, string_bytes}
 use Rattle.std.specs.declared.alloc.Global.{Global}
 use Rattle.flow_text.specs.Edge.{Outside, Rose}
-use Rattle.flow_component.specs.Laws.{AtMostOneOutcome}
-use Rattle.flow_catalogue.specs.Std.{std_rules}
-use Rattle.flow_journal.specs.Files.{HasJournalOrFault, HasOneJournal}
-use Rattle.flow_journal.specs.Replays.{StopsAreNoSchedules}
-use Rattle.flow_journal.specs.declared.merge.Journal.{Journal}
+use Rattle.flow_cli.specs.Offers.{Offer, Recorded}
 use Rattle.flow_cli.specs.After.{Prints}
 use Rattle.flow_cli.specs.Statuses.{IsOver}
 use Rattle.flow_cli.specs.Stops.{status_of, text_of}
@@ -16,37 +12,45 @@ use Rattle.flow_cli.specs.Top.{call_of, PrintsStop, TellsStop, IsCaused, IsCompl
 use Rattle.flow_cli.specs.declared.status.Status.{Status}
 use Rattle.flow_cli.specs.declared.status.Status.TheVariants as statuses
 use Rattle.flow_cli.specs.declared.stop.JournalRefusal.TheVariants.{Byte, Turn}
+use Rattle.flow_cli.specs.declared.stop.TapesRefusal.TheVariants as tapes_refusals
 use Rattle.flow_cli.specs.declared.stop.Stop.{Stop}
-use Rattle.flow_cli.specs.declared.stop.Stop.TheVariants.{Words, Refused, JournalRefused, ReadFault, WriteFault, TooLong, NoMemory}
+use Rattle.flow_cli.specs.declared.stop.Stop.TheVariants.{Words, Refused, NoPart, JournalRefused, TapesRefused, ReadFault, WriteFault, TooLong, NoMemory}
 use Rattle.flow_cli.proofs.Steps.{may-read, may-fail-to-read}
-use Rattle.flow_cli.proofs.Befores.{so_far, untouched}
+use Rattle.flow_cli.specs.Prepare.{so_far}
+use Rattle.flow_cli.proofs.TopLaws.{Laws}
+use Rattle.flow_cli.proofs.Befores.{untouched}
 use Rattle.flow_cli.proofs.Valid.{valid-at}
 
 -- want of memory for the text of a stop
 as-memory : (w : Work) (stop : Stop) → HasCause w stop → HasCause w NoMemory
-as-memory w Words c = inl (record { journal = c.journal; files = ap (λ (o : Outside). o.files) c.shelf; created = ap (λ (o : Outside). o.created) c.shelf })
-as-memory w (Refused refusal) c = inl (untouched w (may-read w.before w.after _ c.shelf) c.journal)
-as-memory w (JournalRefused (Byte place)) c = inl (untouched w (may-read w.before w.after _ c.shelf) c.journal)
-as-memory w (JournalRefused (Turn place process refusal)) c = inl (untouched w (may-read w.before w.after _ c.ready.reads) c.journal)
-as-memory w (ReadFault read) c = inl (untouched w (may-fail-to-read w.before w.after _ _ c.shelf) c.journal)
-as-memory w (TooLong read) c = inl (untouched w (may-read w.before w.after _ c.shelf.2) c.journal)
+as-memory w Words c = inl (record { nothing = c.nothing; files = ap (λ (o : Outside). o.files) c.shelf; created = ap (λ (o : Outside). o.created) c.shelf })
+as-memory w (Refused refusal) c = inl (untouched w (may-read w.before w.after _ c.shelf) c.nothing)
+as-memory w (NoPart process) c = inl (untouched w (may-read w.before w.after _ c.shelf) c.nothing)
+as-memory w (TapesRefused (tapes_refusals.Byte place)) c = inl (untouched w (may-read w.before w.after _ c.shelf) c.nothing)
+as-memory w (TapesRefused (tapes_refusals.Count count)) c = inl (untouched w (may-read w.before w.after _ c.shelf) c.nothing)
+as-memory w (JournalRefused (Byte place)) c = inl (untouched w (may-read w.before w.after _ c.shelf) c.nothing)
+as-memory w (JournalRefused (Turn place process refusal)) c = inl (untouched w (may-read w.before w.after _ c.ready.reads) c.nothing)
+as-memory w (ReadFault read) c = inl (untouched w (may-fail-to-read w.before w.after _ _ c.shelf) c.nothing)
+as-memory w (TooLong read) c = inl (untouched w (may-read w.before w.after _ c.shelf.2) c.nothing)
 as-memory w (WriteFault written) c = inr (inr (string_bytes written, c))
 as-memory w NoMemory c = c
 
 -- a stop, and what was printed of it
-module _ (words : List (String Global)) (o n po pn : Outside) (journal : Journal) (status : Status) (stop : Stop)
-    (cause : HasCause (so_far words o n journal) stop) (prints : PrintsStop po pn stop status) where
-  told : PrintsStop po pn stop status → TellsStop (call_of words o n po pn journal status)
+module _ (words : List (String Global)) (own : List Offer) (o n po pn : Outside) (recorded : Recorded) (status : Status) (stop : Stop)
+    (cause : HasCause (so_far words own o n recorded) stop) (prints : PrintsStop po pn stop status) where
+  told : PrintsStop po pn stop status → TellsStop (call_of words own o n po pn recorded status)
   told (inl p) = record { stop = stop; cause = cause; prints = p }
-  told (inr p) = record { stop = NoMemory; cause = as-memory (so_far words o n journal) stop cause; prints = p }
+  told (inr p) = record { stop = NoMemory; cause = as-memory (so_far words own o n recorded) stop cause; prints = p }
 
-  pub stopped : IsCaused (call_of words o n po pn journal status)
+  pub stopped : IsCaused (call_of words own o n po pn recorded status)
   stopped = inr (inr (told prints))
 
 not-over : (stop : Stop) → IsOver (status_of stop) → ⊥
 not-over Words over = over
 not-over (Refused refusal) over = over
+not-over (NoPart process) over = over
 not-over (JournalRefused refusal) over = over
+not-over (TapesRefused refusal) over = over
 not-over (ReadFault read) over = over
 not-over (WriteFault written) over = over
 not-over (TooLong read) over = over
@@ -55,7 +59,9 @@ not-over NoMemory over = over
 not-running : (stop : Stop) → status_of stop ≡ statuses.Running → ⊥
 not-running Words is = cc
 not-running (Refused refusal) is = cc
+not-running (NoPart process) is = cc
 not-running (JournalRefused refusal) is = cc
+not-running (TapesRefused refusal) is = cc
 not-running (ReadFault read) is = cc
 not-running (WriteFault written) is = cc
 not-running (TooLong read) is = cc
@@ -83,8 +89,8 @@ own-or-memory po pn stop status (inr (inl p)) is quiet = p.0
 own-or-memory po pn stop status (inr (inr p)) is quiet = absurd (quiet p.1.1.rose)
 
 -- What a stopped call says of its cause is complete.
-pub stop-complete : AtMostOneOutcome std_rules → StopsAreNoSchedules std_rules → HasJournalOrFault → HasOneJournal
-    → (words : List (String Global)) (o n po pn : Outside) (journal : Journal) (status : Status) (stop : Stop)
-    → HasCause (so_far words o n journal) stop → PrintsStop po pn stop status → IsComplete (call_of words o n po pn journal status)
-stop-complete one no_schedule apart single words o n po pn journal status stop cause prints quiet valid =
-    inr (own-or-memory po pn stop status prints (valid-at one no_schedule apart single (so_far words o n journal) stop cause valid quiet.reads quiet.writes) quiet.prints)
+pub stop-complete : Laws
+    → (words : List (String Global)) (own : List Offer) (o n po pn : Outside) (recorded : Recorded) (status : Status) (stop : Stop)
+    → HasCause (so_far words own o n recorded) stop → PrintsStop po pn stop status → IsComplete (call_of words own o n po pn recorded status)
+stop-complete laws words own o n po pn recorded status stop cause prints quiet valid =
+    inr (own-or-memory po pn stop status prints (valid-at laws (so_far words own o n recorded) stop cause valid quiet.reads quiet.writes) quiet.prints)

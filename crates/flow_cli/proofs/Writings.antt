@@ -1,5 +1,5 @@
 -- Files that are written one after another.
-use Rattle.std.proofs.Common.{◌≡◌, inl, inr, ℕ, zero, suc, ◌<◌, List, [], ◌∷◌, ◌++◌, length, map, take, get_or, Some, None, Err, subst, refl, sym, ◌∙◌, ap, arith, append_assoc}
+use Rattle.std.proofs.Common.{◌≡◌, ◌⊎◌, inl, inr, ℕ, zero, suc, ◌<◌, List, [], ◌∷◌, ◌++◌, length, map, take, get_or, Some, None, Err, subst, refl, sym, ◌∙◌, ap, arith, append_assoc}
 use Rattle.std.specs.Prelude.{string_bytes}
 use Rattle.std.specs.declared.option.Option.{Option}
 use Rattle.std.specs.Option.{option_map}
@@ -8,10 +8,11 @@ use Rattle.flow_text.specs.Edge.{Outside, Name, Files, Logged, Rose, replaced}
 use Rattle.flow_text.specs.declared.edge.ShelfStop.{ShelfStop}
 use Rattle.flow_text.specs.declared.edge.ShelfStop.TheVariants as shelf
 use Rattle.flow_cli.specs.Step.{Filled, OnlyWrites, FailsToWrite, WritesFile, HoldsPart, whole}
-use Rattle.flow_cli.specs.Many.{WritesFiles, FailsAt, replaced_all, after_some}
+use Rattle.flow_cli.specs.Many.{WritesFiles, EndsAt, FailsAt, replaced_all, after_some}
 use Rattle.flow_cli.specs.Stops.{IsWriteStop}
 use Rattle.flow_cli.specs.declared.stop.Stop.{Stop}
-use Rattle.flow_cli.specs.declared.stop.Stop.TheVariants.{Words, Refused, JournalRefused, ReadFault, WriteFault, TooLong, NoMemory}
+use Rattle.flow_cli.specs.declared.stop.Stop.TheVariants.{Words, Refused, NoPart, JournalRefused, TapesRefused, ReadFault, WriteFault, TooLong, NoMemory}
+use Rattle.flow_cli.proofs.Steps.{no-writes}
 
 -- one file more
 more_at : (outputs : List Filled) (at : ℕ) (d : Filled) (files : Files) → at < length outputs
@@ -81,12 +82,20 @@ stops old mid new outputs at d shelf.NoMemory NoMemory only files lt is w named 
 })
 stops old mid new outputs at d shelf.Fault Words only files lt is w named = absurd named
 stops old mid new outputs at d shelf.Fault (Refused refusal) only files lt is w named = absurd named
+stops old mid new outputs at d shelf.Fault (NoPart process) only files lt is w named = absurd named
+stops old mid new outputs at d shelf.Fault (TapesRefused refusal) only files lt is w named = absurd named
 stops old mid new outputs at d shelf.Fault (JournalRefused refusal) only files lt is w named = absurd named
 stops old mid new outputs at d shelf.Fault (ReadFault read) only files lt is w named = absurd named
 stops old mid new outputs at d shelf.Fault (TooLong read) only files lt is w named = absurd named
 stops old mid new outputs at d shelf.NoMemory Words only files lt is w named = absurd named
 stops old mid new outputs at d shelf.NoMemory (Refused refusal) only files lt is w named = absurd named
+stops old mid new outputs at d shelf.NoMemory (NoPart process) only files lt is w named = absurd named
+stops old mid new outputs at d shelf.NoMemory (TapesRefused refusal) only files lt is w named = absurd named
 stops old mid new outputs at d shelf.NoMemory (JournalRefused refusal) only files lt is w named = absurd named
 stops old mid new outputs at d shelf.NoMemory (ReadFault read) only files lt is w named = absurd named
 stops old mid new outputs at d shelf.NoMemory (WriteFault written) only files lt is w named = absurd named
 stops old mid new outputs at d shelf.NoMemory (TooLong read) only files lt is w named = absurd named
+
+-- Where memory is wanting before the first file, none was begun.
+pub nothing-written : (old : Outside) (outputs : List Filled) → EndsAt old old outputs ⊎ ((written : Name) × FailsAt old old outputs written)
+nothing-written old outputs = inl (record { place = 0; few = inl refl; writes = no-writes old old refl; files = after_none outputs old.files })

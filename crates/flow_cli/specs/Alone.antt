@@ -4,10 +4,10 @@ use Rattle.flow_words.specs.Words.{AskedRun, run_of}
 use Rattle.flow_model.specs.Schedules.{Journal}
 use Rattle.flow_model.specs.Robin.{RoundRobin}
 use Rattle.flow_model.specs.Plans.{start_of}
-use Rattle.flow_catalogue.specs.Std.{std_rules}
 use Rattle.flow_determinate.specs.Standard.{IsDeterminate}
 use Rattle.flow_report.specs.Text.{Told as Report}
 use Rattle.flow_report.specs.States.{TellsOf}
+use Rattle.flow_cli.specs.Offers.{net_rules}
 use Rattle.flow_cli.specs.Reads.{Asks}
 use Rattle.flow_cli.specs.Top.{Call, EndsWell, SaysWell}
 
@@ -17,7 +17,7 @@ use Rattle.flow_cli.specs.Top.{Call, EndsWell, SaysWell}
 pub record EndsAsAlone (c : Call) (asked : AskedRun) : Type 0 where
   pub ends : EndsWell c asked
   pub one_report : (report : Report) → TellsOf ends.whole.plan ends.whole.last report → report ≡ ends.report
-  pub alone : IsDeterminate ends.whole.plan → (robin : Journal) × RoundRobin std_rules (start_of ends.whole.plan ends.whole.run.components) robin ends.whole.last
+  pub alone : IsDeterminate ends.whole.plan → (robin : Journal) × RoundRobin net_rules (start_of ends.whole.plan ends.whole.run.components) robin ends.whole.last
 
 -- A call that came to its end, and as on one thread if it is a run; else what writes no file did.
 abbrev pub ComesToEndAsAlone : Call → Type 0

@@ -1,5 +1,6 @@
 pub mod After
 pub mod Alone
+pub mod Begins
 pub mod Causes
 pub mod Components
 pub mod Engines
@@ -9,6 +10,7 @@ pub mod Makes
 pub mod Many
 pub mod Meant
 pub mod Networks
+pub mod Offers
 pub mod Prepare
 pub mod Promises
 pub mod Reads

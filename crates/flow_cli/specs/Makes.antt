@@ -1,5 +1,6 @@
 -- A make: the network and the input that are made from a number, run, and what is told of it.
-use Rattle.std.specs.Prelude.{◌≡◌, ℕ, ◌+◌, List, [], ◌∷◌, ◌++◌, length, Ok, Err, IfSome, slice_get, codes}
+use Rattle.std.specs.Prelude.{◌≡◌, ℕ, ◌+◌, List, [], ◌∷◌, ◌++◌, length, Some, None, Ok, Err, IfSome, slice_get, codes}
+use Rattle.std.specs.declared.option.Option.{Option}
 use Rattle.std.specs.declared.result.Result.{Result}
 use Rattle.std.specs.Fmt.{decimal}
 use Rattle.std.specs.List.{flat_map}
@@ -11,14 +12,12 @@ use Rattle.flow_make.specs.Input.{input_lines}
 use Rattle.flow_make.specs.Network.{network_lines}
 use Rattle.flow_journal.specs.declared.merge.Journal.{Journal}
 use Rattle.flow_model.specs.States.{State}
-use Rattle.flow_catalogue.specs.declared.standard.Std.{Std}
-use Rattle.flow_report.specs.Text.{Told as Report, report_text}
-use Rattle.flow_report.specs.States.{TellsOf}
-use Rattle.flow_cli.specs.Components.{GivesComponents, written_by}
-use Rattle.flow_cli.specs.Networks.{Holds, IsStandardPlan}
-use Rattle.flow_cli.specs.Runs.{RunsTo, bytes_at, bytes_in}
+use Rattle.flow_cli.specs.Offers.{AnyKind}
+use Rattle.flow_cli.specs.Components.{AreComponents, AreLive, GivesAll, written_by}
+use Rattle.flow_offer.specs.Processes.{IsOfferedPlan}
+use Rattle.flow_cli.specs.Networks.{Holds}
+use Rattle.flow_cli.specs.Runs.{RunsTo, bytes_at}
 use Rattle.flow_cli.specs.After.{verdict_status}
-use Rattle.flow_cli.specs.Workers.{IsMadeBy}
 use Rattle.flow_cli.specs.declared.ran.Ran.{Ran}
 use Rattle.flow_cli.specs.declared.made.MadeJob.{MadeJob}
 use Rattle.flow_cli.specs.declared.run.Said.{Said}
@@ -43,28 +42,37 @@ output_lines_from wrote p (process ∷ processes) = output_lines_at wrote p proc
 abbrev pub make_text : ℕ → List ℕ → (ℕ → List ℕ) → Network → List ℕ
 make_text number report wrote plan = codes "make " ++ decimal number ++ codes " input " ++ decimal (length (made_input number)) ++ 10 ∷ report ++ output_lines_from wrote 0 plan.processes
 
--- The network that is made was run by so many workers, its reader on the input that is made from this number. This is its plan, and this is the state to which the
+-- The network that is made, all of standard kinds, was run by so many workers, its reader on the input that is made from this number. This is its plan, and this is the state to which the
 -- journal leads.
-pub record IsRunOfMade (number workers : ℕ) (plan : Network) (journal : Journal) (last : State Std) : Type 0 where
+pub record IsRunOfMade (number workers : ℕ) (plan : Network) (journal : Journal) (last : State AnyKind) : Type 0 where
   pub text : NetText
-  pub holds : Holds (text_of network_lines) text plan
-  pub standard : IsStandardPlan plan
-  pub components : List Std
-  pub given : GivesComponents plan (made_input number) components
+  pub holds : Holds [] (text_of network_lines) text plan
+  pub over : IsOfferedPlan [] plan
+  pub given : List (List ℕ)
+  pub gives : GivesAll plan (made_input number) given
+  pub components : List AnyKind
+  pub are_components : AreComponents [] plan given [] components
   pub run : RunsTo workers plan components journal last
 
+-- There are so many places for parts, and no part in any.
+pub record AreNoParts {P : Type 0} (count : ℕ) (parts : List (Option P)) : Type 0 where
+  pub many : length parts ≡ count
+  pub each : (p : ℕ) (part : Option P) → slice_get parts p ≡ Some part → part ≡ None
+
 -- The made network of this number, ready to run, and how many bytes its input has. It is never refused.
-abbrev pub IsMadeJob : ℕ → Result MadeJob Stop → Type 0
-IsMadeJob number (Ok made) = ((text : NetText) × Holds (text_of network_lines) text made.job.plan) × IsStandardPlan made.job.plan
-    × GivesComponents made.job.plan (made_input number) made.job.components.items × (made.bytes ≡ length (made_input number))
+abbrev pub IsMadeJob : ℕ → Result (MadeJob AnyKind) Stop → Type 0
+IsMadeJob number (Ok made) = ((text : NetText) × Holds [] (text_of network_lines) text made.job.plan) × IsOfferedPlan [] made.job.plan
+    × ((given : List (List ℕ)) × GivesAll made.job.plan (made_input number) given × AreLive [] made.job.plan given made.job.components.items) × (made.bytes ≡ length (made_input number))
 IsMadeJob number (Err stop) = stop ≡ NoMemory
 
--- What is said of the run of a made network by so many workers. Nothing else stops it than want of memory.
-abbrev pub SaysMadeRun : ℕ → ℕ → Result Said Stop → Type 0
-SaysMadeRun number workers (Ok said) = (report : Report) × (plan : Network) × (last : State Std) × IsRunOfMade number workers plan said.journal last × TellsOf plan last report
-    × (said.text.items ≡ make_text number (report_text report) (bytes_in last) plan) × (said.status ≡ verdict_status report.verdict) × IsMadeBy workers said.crew said.journal
-SaysMadeRun number workers (Err stop) = stop ≡ NoMemory
+-- What is said of a make from this number, of the run that was made.
+pub record SaysOfMake (number : ℕ) (ran : Ran AnyKind) (said : Said) : Type 0 where
+  pub text : said.text.items ≡ make_text number ran.report.text.items (bytes_at ran.net.bodies) ran.plan
+  pub status : said.status ≡ verdict_status ran.report.verdict
+  pub journal : said.journal ≡ ran.journal
+  pub tapes : said.tapes ≡ ran.tapes
+  pub crew : said.crew ≡ ran.crew
 
 -- The line of process p of a run was appended, if it writes a file.
-abbrev pub PutsOutput : List ℕ → List ℕ → Ran → ℕ → Type 0
+abbrev pub PutsOutput : List ℕ → List ℕ → Ran AnyKind → ℕ → Type 0
 PutsOutput old new ran p = IfSome (slice_get ran.plan.processes p) (λ process. new ≡ old ++ output_lines_at (bytes_at ran.net.bodies) p process)

@@ -1,7 +1,7 @@
 -- The numbers of the statuses.
 use Rattle.std.specs.Prelude.{ℕ, ⊤}
 use Rattle.flow_cli.specs.declared.status.Status.{Status}
-use Rattle.flow_cli.specs.declared.status.Status.TheVariants.{Finished, FinishedLeft, Words, Refused, JournalRefused, Deadlock, Failed, ReadFault, WriteFault, NoMemory, TooLong, Running}
+use Rattle.flow_cli.specs.declared.status.Status.TheVariants.{Finished, FinishedLeft, Words, Refused, JournalRefused, Deadlock, Failed, ReadFault, WriteFault, NoMemory, TooLong, Running, TapesRefused}
 
 -- The number with which the program ends.
 abbrev pub code_of : Status → ℕ
@@ -17,6 +17,7 @@ code_of NoMemory = 8
 code_of TooLong = 9
 code_of JournalRefused = 10
 code_of Running = 11
+code_of TapesRefused = 12
 
 -- A call came to its end: a run did, finished, finished with packets left, in a deadlock, or failed; or a replay did, which may leave a network that can go on; or a
 -- check found nothing, a judge answered, or the page of kinds was printed.

@@ -2,23 +2,22 @@
 use Rattle.std.specs.Prelude.{◌≡◌, ◌≤◌, ℕ, List, String}
 use Rattle.std.specs.declared.alloc.Global.{Global}
 use Rattle.flow_words.specs.Words.{Asked, workers_asked}
-use Rattle.flow_catalogue.specs.declared.standard.Std.{Std}
 use Rattle.flow_runner.specs.declared.worked.Crew.{Crew}
-use Rattle.flow_floor.specs.Crew.{made_by}
-use Rattle.flow_runner.specs.Crews.{HasWorkers, stamped, workers_in}
+use Rattle.flow_runner.specs.Crews.{HasWorkers, turns_of_crew, stamped}
 use Rattle.flow_journal.specs.declared.merge.Journal.{Journal}
-use Rattle.flow_cli.specs.Reads.{Asks, IsEmptyJournal}
+use Rattle.flow_cli.specs.Offers.{IsEmptyJournal}
+use Rattle.flow_cli.specs.Reads.{Asks}
 
 -- The turns of a journal were made by this crew, and they are so many workers: all turns that each of them made are together those of the journal, with
 -- their places there for stamps. Where they are none one thread made the turns.
-pub record IsMadeBy (workers : ℕ) (crew : Crew Std) (journal : Journal) : Type 0 where
+pub record IsMadeBy (workers : ℕ) (crew : Crew) (journal : Journal) : Type 0 where
   pub count : HasWorkers workers crew
-  pub turns : 1 ≤ workers → made_by (workers_in crew) ≡ stamped 0 journal.turns
+  pub turns : 1 ≤ workers → turns_of_crew crew ≡ stamped 0 journal.turns
 
 -- They were made by as many workers as these words ask for.
-abbrev pub IsMadeAsAsked : List (String Global) → Crew Std → Journal → Type 0
+abbrev pub IsMadeAsAsked : List (String Global) → Crew → Journal → Type 0
 IsMadeAsAsked words crew journal = (asked : Asked) → Asks words asked → IsMadeBy (workers_asked asked) crew journal
 
 -- There are no turns, and nobody was there to make any.
-abbrev pub IsMadeByNobody : Crew Std → Journal → Type 0
+abbrev pub IsMadeByNobody : Crew → Journal → Type 0
 IsMadeByNobody crew journal = HasWorkers 0 crew × IsEmptyJournal journal

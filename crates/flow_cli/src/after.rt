@@ -1,39 +1,48 @@
 //! The steps after a run: the files of the writers are written, then the report is printed.
-ghost use Rattle.std.specs.Prelude.{◌≡◌};
-ghost use Rattle.flow_cli.specs.Networks.{IsStandardPlan};
+ghost use Rattle.std.specs.Prelude.{◌≡◌, ◌++◌, OnOk, map};
+ghost use Rattle.flow_offer.specs.Processes.{IsOfferedPlan};
 ghost use Rattle.flow_cli.specs.After.{Prints, verdict_status};
-ghost use Rattle.flow_cli.specs.Many.{WritesFiles};
-ghost use Rattle.flow_cli.specs.Top.{outputs_of_run};
+ghost use Rattle.flow_cli.specs.Many.{WritesFiles, output_of};
+ghost use Rattle.flow_cli.specs.Top.{kept_file, outputs_of_run};
 
 use crate::many::{Output, write_files};
-use crate::run::Unwritten;
+use crate::run::{Kept, Unwritten};
 use crate::status::Status;
 use crate::stop::Stop;
+use flow_catalogue::Std;
+use flow_own::{Mixed, Part};
+use flow_plan::KindSpec;
 use flow_report::Verdict;
 use flow_text::{Shelf, Sink, WriteStop, write_all};
-use std::alloc::Global;
+use std::alloc::{AllocError, Global};
 
-/// Writes the files of a run, in the order of the processes, and then that of its journal, where there is one.
-pub fn write_outputs<F: Shelf>(
+/// Writes the files of a run, in the order of the processes, and then those that it keeps for a replay.
+pub fn write_outputs<F: Shelf, P: Part>(
     alloc: Global,
     shelf: &mut F,
-    run: &Unwritten<'_>,
+    run: &Unwritten<'_, Mixed<Std, P>>,
+    own: &[KindSpec],
 ) -> Result<(), Stop>
-    requires { IsStandardPlan run.now.ran.plan }
+    requires { IsOfferedPlan own.now run.now.ran.plan }
     ensures { WritesFiles (F.outside shelf.old) (F.outside shelf.new) result (outputs_of_run run.now) }
 {
-    let mut outputs = run.ran.outputs(alloc)?;
-    if let Some(kept) = &run.kept {
-        let output = Output {
+    let mut outputs = run.ran.outputs(alloc, own)?;
+    add_kept(&mut outputs, &run.journal)?;
+    add_kept(&mut outputs, &run.tapes)?;
+    write_files(alloc, shelf, &outputs)
+}
+
+// Adds a file that is kept for a replay, where it was named.
+fn add_kept<'a>(outputs: &mut Vec<Output<'a>>, kept: &'a Option<Kept<'a>>) -> Result<(), AllocError>
+    ensures { OnOk result (map output_of outputs.new.items ≡ map output_of outputs.old.items ++ kept_file kept.now) }
+{
+    if let Some(kept) = kept {
+        outputs.push(Output {
             name: kept.name,
             bytes: &kept.bytes,
-        };
-        // The error of a push holds what wasn't pushed, and so is no `Stop`.
-        if outputs.push(output).is_err() {
-            return Err(Stop::NoMemory);
-        }
+        })?;
     }
-    write_files(alloc, shelf, &outputs)
+    Ok(())
 }
 
 /// The status of a run that came to its end. The statuses are this project's own.

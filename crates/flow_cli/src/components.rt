@@ -1,80 +1,130 @@
-//! The components of a plan's processes, each reader on what its file holds.
-ghost use Rattle.std.specs.Prelude.{◌≡◌, IfOk};
-ghost use Rattle.flow_cli.specs.Components.{GivesComponent, GivesComponents, ReadsComponent, ReadsComponents};
-ghost use Rattle.flow_cli.specs.Networks.{IsStandardPlan};
-ghost use Rattle.flow_catalogue.specs.Processes.{IsStandard};
+//! The components of a plan's processes: standard ones, and those of the caller's own, live or as players of tapes.
+ghost use Rattle.std.specs.Prelude.{◌≡◌, ◌<◌, IfOk, length};
+ghost use Rattle.std.specs.Option.{option_copied};
+ghost use Rattle.flow_offer.specs.Processes.{IsOfferedPlan, own_processes};
+ghost use Rattle.flow_cli.specs.Components.{AreComponents, AreLive, CanTake, IsPartAt, IsPlayerAt, TakesPart, TakesParts, TakesTape, contents_of};
 
-use crate::step::read_file;
-use crate::stop::{Stop, read_stop};
-use flow_catalogue::{FileUse, Std, a_plan_over_the_table_is_standard, file_of, make};
-use flow_plan::Plan;
-use flow_text::Shelf;
+use flow_catalogue::{Std, make};
+use flow_offer::{each_process_is_standard_or_own, own_kind, shape_at, used_outputs};
+use flow_own::{Mix, Mixed, Own, Part, Tape};
+use flow_plan::{KindSpec, Plan};
+use flow_played::Played;
 use std::alloc::{AllocError, Global};
 
-/// Reads the files of the plan's readers in the order of the processes, and makes the component of each process.
-pub fn read_components<F: Shelf>(
+/// The components of the plan's processes: each reader on what it was given, and each of the caller's own the part at its place. The kinds are those among which
+/// the plan was made.
+pub(crate) fn live_components<P: Part>(
     alloc: Global,
-    shelf: &mut F,
     plan: &Plan,
-) -> Result<Vec<Std>, Stop>
-    requires { IsStandardPlan plan.now }
-    ensures { ReadsComponents (F.outside shelf.old) (F.outside shelf.new) plan.now result }
+    own: &[KindSpec],
+    given: Vec<Vec<u8>>,
+    parts: Vec<Option<P>>,
+) -> Result<Vec<Mixed<Std, P>>, AllocError>
+    requires offered { IsOfferedPlan own.now plan.now }
+    requires given { length given.items ≡ length plan.now.processes }
+    requires parts { TakesParts own.now plan.now parts.items }
+    ensures { IfOk result (λ components. AreLive own.now plan.now (contents_of given.items) components.items) }
 {
-    a_plan_over_the_table_is_standard();
+    let _ = own;
+    each_process_is_standard_or_own();
     let mut components = Vec::new(alloc);
-    for process in 0..plan.processes().len() {
-        let component = match read_component(alloc, shelf, plan, process as u32) {
-            Ok(component) => component,
-            Err(stop) => return Err(stop),
-        };
-        // The error of a push holds what wasn't pushed, and so is no `Stop`.
-        if components.push(component).is_err() {
-            return Err(Stop::NoMemory);
-        }
+    let mut process = 0;
+    for (bytes, part) in given.into_iter().zip(parts) {
+        components.push(live_component(alloc, plan, process, bytes, part)?)?;
+        process += 1;
     }
     Ok(components)
 }
 
 // The component of one process.
-fn read_component<F: Shelf>(
+fn live_component<P: Part>(
     alloc: Global,
-    shelf: &mut F,
     plan: &Plan,
     process: u32,
-) -> Result<Std, Stop>
-    requires { IsStandard plan.now process }
-    ensures { ReadsComponent (F.outside shelf.old) (F.outside shelf.new) plan.now process result }
+    bytes: Vec<u8>,
+    part: Option<P>,
+) -> Result<Mixed<Std, P>, AllocError>
+    requires { CanTake plan.now process part }
+    ensures { IfOk result (λ component. TakesPart plan.now process bytes.items part component) }
 {
-    match file_of(plan, process) {
-        Some(FileUse::Read(name)) => match read_file(alloc, shelf, name) {
-            Ok(bytes) => Ok(make(alloc, plan, process, bytes)?),
-            Err(stop) => Err(read_stop(alloc, stop, name)),
-        },
-        _ => Ok(make(alloc, plan, process, Vec::new(alloc))?),
+    match part {
+        Some(part) => live_part(alloc, plan, process, part),
+        None => {
+            let standard = make(alloc, plan, process, bytes)?;
+            Ok(Mixed::of(Mix::Other(standard)))
+        }
     }
 }
 
-/// Makes the component of each process of the plan, each reader on these bytes.
-pub fn give_components(alloc: Global, plan: &Plan, bytes: &[u8]) -> Result<Vec<Std>, AllocError>
-    requires { IsStandardPlan plan.now }
-    ensures { IfOk result (λ components. GivesComponents plan.now bytes.now components.items) }
+// The live part of a process, as its component.
+fn live_part<P: Part>(
+    alloc: Global,
+    plan: &Plan,
+    process: u32,
+    part: P,
+) -> Result<Mixed<Std, P>, AllocError>
+    requires { process < length plan.now.processes }
+    ensures { IfOk result (λ component. IsPartAt plan.now process component) }
 {
-    a_plan_over_the_table_is_standard();
+    let used = used_outputs(alloc, plan, process)?;
+    let live = Own::live(alloc, part, shape_at(plan, process), used);
+    Ok(Mixed::of(Mix::Own(live)))
+}
+
+/// The components of the plan's processes: each reader on what it was given, and each of the caller's own the player of its tape; the tapes are in the order of
+/// these processes.
+pub fn played_components(
+    alloc: Global,
+    plan: &Plan,
+    own: &[KindSpec],
+    given: Vec<Vec<u8>>,
+    tapes: &[Tape],
+) -> Result<Vec<Played<Std>>, AllocError>
+    requires offered { IsOfferedPlan own.now plan.now }
+    requires given { length given.items ≡ length plan.now.processes }
+    requires tapes { length tapes.now ≡ length (own_processes own.now plan.now) }
+    ensures { IfOk result (λ components. AreComponents own.now plan.now (contents_of given.items) tapes.now components.items) }
+{
     let mut components = Vec::new(alloc);
-    for process in 0..plan.processes().len() {
-        let component = give_component(alloc, plan, process as u32, bytes)?;
-        components.push(component)?;
+    let mut left = tapes.iter();
+    let mut process = 0;
+    for bytes in given {
+        let tape = match own_kind(plan, process, own) {
+            Some(_) => left.next(),
+            None => None,
+        };
+        components.push(played_component(alloc, plan, process, bytes, tape)?)?;
+        process += 1;
     }
     Ok(components)
 }
 
-// The component of one process, on these bytes if it is a reader.
-fn give_component(alloc: Global, plan: &Plan, process: u32, bytes: &[u8]) -> Result<Std, AllocError>
-    requires { IsStandard plan.now process }
-    ensures { IfOk result (GivesComponent plan.now process bytes.now) }
+// The component of one process.
+fn played_component(
+    alloc: Global,
+    plan: &Plan,
+    process: u32,
+    bytes: Vec<u8>,
+    tape: Option<&Tape>,
+) -> Result<Played<Std>, AllocError>
+    requires { CanTake plan.now process tape }
+    ensures { IfOk result (λ component. TakesTape plan.now process bytes.items (option_copied tape.entry) component) }
 {
-    match file_of(plan, process) {
-        Some(FileUse::Read(_)) => make(alloc, plan, process, bytes.to_vec(alloc)?),
-        _ => make(alloc, plan, process, Vec::new(alloc)),
+    match tape {
+        Some(tape) => player(alloc, plan, process, tape),
+        None => {
+            let standard = make(alloc, plan, process, bytes)?;
+            Ok(Played::other(standard))
+        }
     }
+}
+
+// The player of a tape, as the component of a process.
+fn player(alloc: Global, plan: &Plan, process: u32, tape: &Tape) -> Result<Played<Std>, AllocError>
+    requires { process < length plan.now.processes }
+    ensures { IfOk result (λ component. IsPlayerAt plan.now process tape.now component) }
+{
+    let used = used_outputs(alloc, plan, process)?;
+    let tape = tape.copy()?;
+    Ok(Played::player(tape, shape_at(plan, process), used))
 }

@@ -6,19 +6,23 @@ use flow_catalogue::Std;
 use flow_component::Gate;
 use flow_limits::WORKER_LIMIT;
 use flow_machine::{Net, solo};
+use flow_own::{Mixed, Part};
 use flow_runner::{Crew, RunStop, Worked, run};
 use std::alloc::{AllocError, Global};
 use std::sync::Wait;
 use std::thread::Threads;
 
 /// Runs a network on one thread, round and round, until no process can go on. Without memory it is given up.
-pub fn run_alone(alloc: Global, net: Net<Std>) -> Result<Worked<Std>, AllocError>
+pub fn run_alone<P: Part>(
+    alloc: Global,
+    net: Net<Mixed<Std, P>>,
+) -> Result<Worked<Mixed<Std, P>>, AllocError>
     ensures { IfOk result (RanBy 0 net) }
 {
     match solo(alloc, net) {
         Ok(closed) => Ok(Worked {
             closed,
-            crew: Crew::nobody(alloc),
+            crew: Crew::nobody(),
         }),
         Err(closed) => {
             closed.discard();
@@ -29,13 +33,13 @@ pub fn run_alone(alloc: Global, net: Net<Std>) -> Result<Worked<Std>, AllocError
 
 /// Runs a network by so many workers, each in a thread of its own, until no process can go on, and tells who they were. Without memory it is given up,
 /// and so it is where the work of a process found none.
-pub fn run_by_workers<R: Threads + Wait + Sync, G: Gate + Sync>(
+pub fn run_by_workers<R: Threads + Wait + Sync, G: Gate + Sync, P: Part + Send>(
     rt: &R,
     alloc: Global,
-    net: Net<Std>,
+    net: Net<Mixed<Std, P>>,
     workers: u32,
     gate: &G,
-) -> Result<Worked<Std>, AllocError>
+) -> Result<Worked<Mixed<Std, P>>, AllocError>
     requires least { 1 ≤ workers }
     requires most { workers ≤ WORKER_LIMIT }
     ensures { IfOk result (RanBy workers net) }

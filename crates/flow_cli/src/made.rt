@@ -1,65 +1,59 @@
 //! A make: the network and the input that are made from a number, run, and what is said of it.
 ghost use Rattle.std.specs.Prelude.{◌≡◌, ◌<◌, ◌≤◌, ◌++◌, ◌∷◌, [], IfOk, OnOk, codes, length};
 ghost use Rattle.std.specs.Fmt.{decimal};
-ghost use Rattle.flow_catalogue.specs.Processes.{IsStandard};
-ghost use Rattle.flow_cli.specs.Engines.{Runs};
-ghost use Rattle.flow_cli.specs.Makes.{IsMadeJob, PutsOutput, SaysMadeRun, made_input, make_text, output_lines_from};
-ghost use Rattle.flow_cli.specs.Networks.{IsStandardPlan};
+ghost use Rattle.flow_offer.specs.Processes.{IsOfferedPlan};
+ghost use Rattle.flow_cli.specs.Makes.{AreNoParts, IsMadeJob, PutsOutput, SaysOfMake, made_input, make_text, output_lines_from};
 ghost use Rattle.flow_cli.specs.Runs.{bytes_at};
 
 use crate::after::verdict_status;
 use crate::before::Job;
-use crate::components::give_components;
+use crate::components::live_components;
+use crate::inputs::give_inputs;
 use crate::made_plan::the_made_network_has_a_plan;
 use crate::net_file::network;
 use crate::outputs::{written_at, written_name};
-use crate::ran::{Ran, run_net};
+use crate::ran::Ran;
 use crate::run::Said;
 use crate::stop::Stop;
-use flow_catalogue::{Std, a_plan_over_the_table_is_standard};
+use flow_catalogue::Std;
+use flow_component::Component;
 use flow_limits::NUMBER_LIMIT;
-use flow_machine::Net;
 use flow_make::make;
-use flow_runner::Worked;
+use flow_own::{Mixed, Part};
 use flow_text::put_decimal;
 use std::alloc::{AllocError, Global};
 
 /// A made network that can run, and how many bytes its input has.
 #[derive(Drop)]
-struct MadeJob {
-    job: Job,
+pub(crate) struct MadeJob<K: Component> {
+    pub job: Job<K>,
+    pub bytes: usize,
+}
+
+/// What is said of a make whose run is over.
+pub(crate) fn said_of_make<P: Part>(
+    alloc: Global,
+    number: u32,
     bytes: usize,
-}
-
-/// Runs the network that is made from this number on the input that is made from it, and makes what is said of it. No file is read or written.
-pub fn run_made<E>(alloc: Global, engine: &E, number: u32, workers: u32) -> Result<Said, Stop>
-where
-    E: Fn(Net<Std>, u32) -> Result<Worked<Std>, AllocError>,
-    requires least { 1 ≤ number }
-    requires most { number ≤ NUMBER_LIMIT }
-    requires engine { Runs (E.pre engine.now) (E.post engine.now) workers }
-    ensures { SaysMadeRun number workers result }
+    ran: Ran<Mixed<Std, P>>,
+) -> Result<Said, AllocError>
+    requires offered { IsOfferedPlan [] ran.plan }
+    requires input { bytes ≡ length (made_input number) }
+    ensures { IfOk result (SaysOfMake number ran) }
 {
-    let made = match job_of(alloc, number) {
-        Ok(made) => made,
-        Err(stop) => return Err(stop),
-    };
-    let ran = run_net(alloc, engine, made.job, workers)?;
-    let text = text_of(alloc, number, made.bytes, &ran);
-    let (report, journal, crew) = ran.into_report();
-    match text {
-        Ok(text) => Ok(Said {
-            text,
-            status: verdict_status(report.verdict),
-            journal,
-            crew,
-        }),
-        Err(AllocError) => Err(Stop::NoMemory),
-    }
+    let text = text_of(alloc, number, bytes, &ran);
+    let account = ran.into_account();
+    Ok(Said {
+        text: text?,
+        status: verdict_status(account.report.verdict),
+        journal: account.journal,
+        tapes: account.tapes,
+        crew: account.crew,
+    })
 }
 
-// The made network with its components. It is never refused, since its text has a plan.
-fn job_of(alloc: Global, number: u32) -> Result<MadeJob, Stop>
+/// The made network with its components. It is never refused, since its text has a plan.
+pub(crate) fn job_of<P: Part>(alloc: Global, number: u32) -> Result<MadeJob<Mixed<Std, P>>, Stop>
     requires least { 1 ≤ number }
     requires most { number ≤ NUMBER_LIMIT }
     ensures { IsMadeJob number result }
@@ -67,20 +61,38 @@ fn job_of(alloc: Global, number: u32) -> Result<MadeJob, Stop>
     the_made_network_has_a_plan();
     let made = make(alloc, number)?;
     let input = made.input.as_slice();
-    let plan = match network(alloc, made.network.as_slice()) {
+    let plan = match network(alloc, made.network.as_slice(), &[]) {
         Ok(file) => file.plan,
         Err(stop) => return Err(stop),
     };
-    let components = give_components(alloc, &plan, input)?;
+    let given = give_inputs(alloc, &plan, input)?;
+    let parts = no_parts(alloc, plan.processes().len())?;
+    let components = live_components(alloc, &plan, &[], given, parts)?;
     Ok(MadeJob {
         job: Job { plan, components },
         bytes: input.len(),
     })
 }
 
+// No part for each of so many processes.
+fn no_parts<P: Part>(alloc: Global, count: usize) -> Result<Vec<Option<P>>, AllocError>
+    ensures { IfOk result (λ parts. AreNoParts count parts.items) }
+{
+    let mut parts = Vec::new(alloc);
+    for _place in 0..count {
+        parts.push(None)?;
+    }
+    Ok(parts)
+}
+
 // What is said of a make.
-fn text_of(alloc: Global, number: u32, bytes: usize, ran: &Ran) -> Result<Vec<u8>, AllocError>
-    requires standard { IsStandardPlan ran.now.plan }
+fn text_of<P: Part>(
+    alloc: Global,
+    number: u32,
+    bytes: usize,
+    ran: &Ran<Mixed<Std, P>>,
+) -> Result<Vec<u8>, AllocError>
+    requires standard { IsOfferedPlan [] ran.now.plan }
     requires input { bytes ≡ length (made_input number) }
     ensures { IfOk result (λ text. text.items ≡ make_text number ran.now.report.text.items (bytes_at ran.now.net.bodies) ran.now.plan) }
 {
@@ -95,11 +107,10 @@ fn text_of(alloc: Global, number: u32, bytes: usize, ran: &Ran) -> Result<Vec<u8
 }
 
 // Appends a line for each process that writes a file.
-fn put_outputs(text: &mut Vec<u8>, ran: &Ran) -> Result<(), AllocError>
-    requires { IsStandardPlan ran.now.plan }
+fn put_outputs<P: Part>(text: &mut Vec<u8>, ran: &Ran<Mixed<Std, P>>) -> Result<(), AllocError>
+    requires { IsOfferedPlan [] ran.now.plan }
     ensures { OnOk result (text.new.items ≡ text.old.items ++ output_lines_from (bytes_at ran.now.net.bodies) 0 ran.now.plan.processes) }
 {
-    a_plan_over_the_table_is_standard();
     for process in 0..ran.plan.processes().len() {
         put_output(text, ran, process as u32)?;
     }
@@ -107,12 +118,16 @@ fn put_outputs(text: &mut Vec<u8>, ran: &Ran) -> Result<(), AllocError>
 }
 
 // Appends the line of one process, if it writes a file.
-fn put_output(text: &mut Vec<u8>, ran: &Ran, process: u32) -> Result<(), AllocError>
-    requires standard { IsStandard ran.now.plan process }
+fn put_output<P: Part>(
+    text: &mut Vec<u8>,
+    ran: &Ran<Mixed<Std, P>>,
+    process: u32,
+) -> Result<(), AllocError>
+    requires standard { IsOfferedPlan [] ran.now.plan }
     requires in_range { process < length ran.now.plan.processes }
     ensures { OnOk result (PutsOutput text.old.items text.new.items ran.now process) }
 {
-    match written_name(&ran.plan, process) {
+    match written_name(&ran.plan, process, &[]) {
         None => Ok(()),
         Some(_) => {
             let name = ran.plan.processes()[process as usize].name.as_slice();

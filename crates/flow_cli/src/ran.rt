@@ -1,30 +1,33 @@
 //! The run of a network, and what it leaves.
 ghost use Rattle.std.specs.Prelude.{◌≡◌, IfOk};
-ghost use Rattle.flow_cli.specs.Components.{HasComponents};
-ghost use Rattle.flow_cli.specs.Engines.{Runs};
-ghost use Rattle.flow_cli.specs.Networks.{IsStandardPlan};
-ghost use Rattle.flow_cli.specs.Runs.{IsJournalOfNet, IsToldOfNet, Leaves};
-ghost use Rattle.flow_cli.specs.Workers.{IsMadeBy};
+ghost use Rattle.flow_offer.specs.Processes.{IsOfferedPlan};
+ghost use Rattle.flow_cli.specs.Begins.{LeavesAsRan};
+ghost use Rattle.flow_cli.specs.Runs.{AreTapesOfNet, IsJournalOfNet, IsRecordedAt, IsToldOfNet, tape_by};
 
-use crate::before::Job;
-use flow_catalogue::{Std, a_plan_over_the_table_is_standard};
+use flow_catalogue::Std;
+use flow_component::Component;
 use flow_journal::{
     Journal, a_round_of_a_net_is_a_run, a_schedule_sees_no_more_than_its_turns,
     what_workers_reach_is_a_run,
 };
 use flow_machine::{Closed, Net};
 use flow_model::a_valid_plan_is_ready;
-use flow_plan::Plan;
+use flow_offer::{own_components_fit, own_kind};
+use flow_own::{Mixed, Part, Tape};
+use flow_plan::{KindSpec, Plan};
+use flow_played::{a_run_of_parts_is_one_of_players, parts_stay_parts, players_are_told_of};
 use flow_report::{Report, Verdict, a_report_tells_of_its_state};
 use flow_runner::{Crew, Worked};
 use std::alloc::{AllocError, Global};
 
-/// A run that is over: its plan, its network, the journal of its turns, who made them, and the report of what it came to.
-pub struct Ran {
+/// A run that is over: its plan, its network, the journal of its turns, the tapes of the caller's own components in the order of their processes, who made the
+/// turns, and the report of what it came to.
+pub struct Ran<K: Component> {
     pub plan: Plan,
-    pub net: Net<Std>,
+    pub net: Net<K>,
     pub journal: Journal,
-    pub crew: Crew<Std>,
+    pub tapes: Vec<Tape>,
+    pub crew: Crew,
     pub report: PrintedReport,
 }
 
@@ -35,72 +38,95 @@ pub struct PrintedReport {
     pub text: Vec<u8>,
 }
 
-/// The report of a network, and the journal of its turns.
+/// What is told of a run: its report, its journal, its tapes, and who made its turns.
 #[derive(Drop)]
-struct Account {
-    report: PrintedReport,
-    journal: Journal,
+pub struct Account {
+    pub report: PrintedReport,
+    pub journal: Journal,
+    pub tapes: Vec<Tape>,
+    pub crew: Crew,
 }
 
-impl Ran {
-    /// The report of the run, its journal, and who made its turns. What else it holds is given up.
-    pub fn into_report(self) -> (PrintedReport, Journal, Crew<Std>)
-        ensures { result ≡ (self.report, self.journal, self.crew) }
+impl<K: Component> Ran<K> {
+    /// What is told of the run. What else it holds is given up.
+    pub fn into_account(self) -> Account
+        ensures { result ≡ record { report = self.report; journal = self.journal; tapes = self.tapes; crew = self.crew } }
     {
         let Ran {
             plan: _,
             net,
             journal,
+            tapes,
             crew,
             report,
         } = self;
         net.discard();
-        (report, journal, crew)
+        Account {
+            report,
+            journal,
+            tapes,
+            crew,
+        }
     }
 
     /// Gives up all that the run holds.
     pub fn discard(self) {
-        let _given_up = self.into_report();
+        let _given_up = self.into_account();
     }
 }
 
-/// Runs a network by an engine until no process can go on, and makes its report.
-pub fn run_net<E>(alloc: Global, engine: &E, job: Job, workers: u32) -> Result<Ran, AllocError>
-where
-    E: Fn(Net<Std>, u32) -> Result<Worked<Std>, AllocError>,
-    requires standard { IsStandardPlan job.plan }
-    requires components { HasComponents job.plan job.components.items }
-    requires engine { Runs (E.pre engine.now) (E.post engine.now) workers }
-    ensures plan { IfOk result (λ ran. ran.plan ≡ job.plan) }
-    ensures leaves { IfOk result (λ ran. Leaves workers job.plan job.components.items ran.net ran.journal ran.report) }
-    ensures made { IfOk result (λ ran. IsMadeBy workers ran.crew ran.journal) }
+/// The run of a network whose turns were made, with its report, its journal and its tapes. These are the kinds of the caller's own among which its plan was made.
+/// Without memory it is given up.
+pub(crate) fn told<P: Part>(
+    alloc: Global,
+    plan: Plan,
+    worked: Worked<Mixed<Std, P>>,
+    own: &[KindSpec],
+) -> Result<Ran<Mixed<Std, P>>, AllocError>
+    requires { IsOfferedPlan own.now plan }
+    ensures plan { IfOk result (λ ran. ran.plan ≡ plan) }
+    ensures leaves { IfOk result (λ ran. LeavesAsRan own.now plan worked ran) }
 {
-    a_plan_over_the_table_is_standard();
-    a_valid_plan_is_ready::<Std>();
-    a_round_of_a_net_is_a_run::<Std>();
-    what_workers_reach_is_a_run::<Std>();
-    a_schedule_sees_no_more_than_its_turns::<Std>();
-    a_report_tells_of_its_state::<Std>();
-    let Job { plan, components } = job;
-    let net = Net::start(alloc, &plan, components)?;
-    let worked = engine(net, workers)?;
-    tell(alloc, plan, worked)
+    own_components_fit::<Std>();
+    a_valid_plan_is_ready::<Mixed<Std, P>>();
+    a_round_of_a_net_is_a_run::<Mixed<Std, P>>();
+    what_workers_reach_is_a_run::<Mixed<Std, P>>();
+    a_schedule_sees_no_more_than_its_turns::<Mixed<Std, P>>();
+    a_report_tells_of_its_state::<Mixed<Std, P>>();
+    a_run_of_parts_is_one_of_players::<Std>();
+    players_are_told_of::<Std>();
+    parts_stay_parts::<Std>();
+    tell(alloc, plan, worked, own)
 }
 
-// The run with its report and its journal. Without memory it is given up.
-fn tell(alloc: Global, plan: Plan, worked: Worked<Std>) -> Result<Ran, AllocError>
+// The same, as the net has it.
+fn tell<P: Part>(
+    alloc: Global,
+    plan: Plan,
+    worked: Worked<Mixed<Std, P>>,
+    own: &[KindSpec],
+) -> Result<Ran<Mixed<Std, P>>, AllocError>
+    requires { IsOfferedPlan own.now plan }
     ensures plan { IfOk result (λ ran. ran.plan ≡ plan) }
     ensures net { IfOk result (λ ran. ran.net ≡ worked.closed.net) }
     ensures crew { IfOk result (λ ran. ran.crew ≡ worked.crew) }
     ensures report { IfOk result (λ ran. IsToldOfNet plan worked.closed.net ran.report) }
     ensures journal { IfOk result (λ ran. IsJournalOfNet worked.closed.net ran.journal) }
+    ensures tapes { IfOk result (λ ran. AreTapesOfNet own.now plan worked.closed.net ran.tapes.items) }
 {
     let Worked { closed, crew } = worked;
-    match account_of(alloc, &plan, &closed) {
-        Ok(Account { report, journal }) => Ok(Ran {
+    match account_of(alloc, &plan, &closed, own) {
+        Ok(
+            NetAccount {
+                report,
+                journal,
+                tapes,
+            },
+        ) => Ok(Ran {
             plan,
             net: closed.into_net(),
             journal,
+            tapes,
             crew,
             report,
         }),
@@ -111,24 +137,77 @@ fn tell(alloc: Global, plan: Plan, worked: Worked<Std>) -> Result<Ran, AllocErro
     }
 }
 
-// The report and the journal of a net.
-fn account_of(alloc: Global, plan: &Plan, closed: &Closed<Std>) -> Result<Account, AllocError>
+/// The report of a network, the journal of its turns, and its tapes.
+#[derive(Drop)]
+struct NetAccount {
+    report: PrintedReport,
+    journal: Journal,
+    tapes: Vec<Tape>,
+}
+
+// What is told of a net.
+fn account_of<P: Part>(
+    alloc: Global,
+    plan: &Plan,
+    closed: &Closed<Mixed<Std, P>>,
+    own: &[KindSpec],
+) -> Result<NetAccount, AllocError>
+    requires { IsOfferedPlan own.now plan.now }
     ensures report { IfOk result (λ account. IsToldOfNet plan.now closed.now.net account.report) }
     ensures journal { IfOk result (λ account. IsJournalOfNet closed.now.net account.journal) }
+    ensures tapes { IfOk result (λ account. AreTapesOfNet own.now plan.now closed.now.net account.tapes.items) }
 {
     // Its contract says that no net has made more turns than a run may have, and so that the journal has a file.
     let _few = closed.net.turns_made();
-    Ok(Account {
+    Ok(NetAccount {
         report: report_of(alloc, plan, closed)?,
         journal: Journal::merge(alloc, &closed.net)?,
+        tapes: tapes_of(alloc, plan, &closed.net, own)?,
     })
 }
 
-/// The report of a network that was run on this plan.
-pub fn report_of(
+// Copies of the tapes of a net, one for each process of a kind of the caller's own, in the order of the processes.
+fn tapes_of<P: Part>(
     alloc: Global,
     plan: &Plan,
-    closed: &Closed<Std>,
+    net: &Net<Mixed<Std, P>>,
+    own: &[KindSpec],
+) -> Result<Vec<Tape>, AllocError>
+    requires { IsOfferedPlan own.now plan.now }
+    ensures { IfOk result (λ tapes. AreTapesOfNet own.now plan.now net.now tapes.items) }
+{
+    let mut tapes = Vec::new(alloc);
+    for process in 0..plan.processes().len() {
+        if own_kind(plan, process as u32, own).is_some() {
+            tapes.push(tape_at(alloc, net, process as u32)?)?;
+        }
+    }
+    Ok(tapes)
+}
+
+// A copy of the tape of a process; an empty one where its component isn't the caller's own.
+fn tape_at<P: Part>(
+    alloc: Global,
+    net: &Net<Mixed<Std, P>>,
+    process: u32,
+) -> Result<Tape, AllocError>
+    ensures tape { IfOk result (λ tape. tape ≡ tape_by net.now.bodies process) }
+    ensures recorded { IsRecordedAt net.now.bodies process }
+{
+    if process >= net.processes() {
+        return Ok(Tape::new(alloc));
+    }
+    match net.body(process).component().tape() {
+        Some(tape) => tape.copy(),
+        None => Ok(Tape::new(alloc)),
+    }
+}
+
+/// The report of a network that was run on this plan.
+pub fn report_of<K: Component>(
+    alloc: Global,
+    plan: &Plan,
+    closed: &Closed<K>,
 ) -> Result<PrintedReport, AllocError>
     ensures { IfOk result (λ report. IsToldOfNet plan.now closed.now.net report) }
 {

@@ -25,6 +25,8 @@ pub enum Status {
     JournalRefused,
     /// A replay came to the end of its journal, and some process can go on.
     Running,
+    /// A file of tapes is refused, or there aren't as many tapes as processes for them.
+    TapesRefused,
 }
 
 impl Status {
@@ -45,6 +47,7 @@ impl Status {
             Status::TooLong => 9,
             Status::JournalRefused => 10,
             Status::Running => 11,
+            Status::TapesRefused => 12,
         }
     }
 }

@@ -1,11 +1,12 @@
 //! Why a call stops before its report, and what it prints then.
 ghost use Rattle.std.specs.Prelude.{◌≡◌, ◌++◌, ◌∷◌, [], IfOk, OnOk, codes};
-ghost use Rattle.flow_cli.specs.Stops.{status_of, journal_refusal_text, reason_text, refusal_text, text_of, IsReadStop, IsWriteStop};
+ghost use Rattle.flow_cli.specs.Stops.{status_of, journal_refusal_text, reason_text, refusal_text, tapes_refusal_text, text_of, IsReadStop, IsWriteStop};
 ghost use Rattle.flow_cli.specs.declared.stop.Stop.TheVariants.{NoMemory};
 
 use crate::status::Status;
 use flow_expand::{put_fault, put_net_fault};
 use flow_flat::ExpandFault;
+use flow_items::Text;
 use flow_journal::Refusal as NoTurn;
 use flow_parse::NetFault;
 use flow_text::{ReadStop, ShelfStop, put_decimal};
@@ -33,6 +34,15 @@ pub enum JournalRefusal {
     },
 }
 
+/// Why tapes are refused.
+#[derive(Debug, Drop)]
+pub enum TapesRefusal {
+    /// The byte at this place, counted from 0, can't stand there in a file of tapes, or the file ends there too early.
+    Byte(u64),
+    /// There are so many tapes, and not as many processes of kinds of the caller's own.
+    Count(u64),
+}
+
 /// Why a call stops. The statuses and texts are this project's own.
 #[derive(Debug, Drop)]
 pub enum Stop {
@@ -40,8 +50,12 @@ pub enum Stop {
     Words,
     /// The network file is refused.
     Refused(NetRefusal),
+    /// In a run the process of this name finds no part left of its kind, which is the caller's own.
+    NoPart(Text),
     /// The file of a journal is refused, or its journal is no schedule of the network.
     JournalRefused(JournalRefusal),
+    /// The tapes of a replay are refused.
+    TapesRefused(TapesRefusal),
     /// The file of this name couldn't be read.
     ReadFault(String),
     /// The file of this name couldn't be written.
@@ -67,7 +81,9 @@ impl Stop {
         match self {
             Stop::Words => Status::Words,
             Stop::Refused(_) => Status::Refused,
+            Stop::NoPart(_) => Status::Refused,
             Stop::JournalRefused(_) => Status::JournalRefused,
+            Stop::TapesRefused(_) => Status::TapesRefused,
             Stop::ReadFault(_) => Status::ReadFault,
             Stop::WriteFault(_) => Status::WriteFault,
             Stop::NoMemory => Status::NoMemory,
@@ -82,11 +98,13 @@ impl Stop {
         match self {
             Stop::Words => line(
                 alloc,
-                b"usage: flow [--workers N] [--journal FILE] [--check] [--determinate] [--kinds] [--replay FILE] [--make N] [NETFILE]",
+                b"usage: flow [--workers N] [--journal FILE] [--check] [--determinate] [--kinds] [--replay FILE] [--make N] [--tapes FILE] [NETFILE]",
                 b"",
             ),
             Stop::Refused(refusal) => refused_line(alloc, refusal),
+            Stop::NoPart(process) => line(alloc, b"network refused: no part ", process.as_slice()),
             Stop::JournalRefused(refusal) => journal_line(alloc, refusal),
+            Stop::TapesRefused(refusal) => tapes_line(alloc, refusal),
             Stop::ReadFault(name) => line(alloc, b"read fault: ", name.as_bytes()),
             Stop::WriteFault(name) => line(alloc, b"write fault: ", name.as_bytes()),
             Stop::NoMemory => line(alloc, b"no memory", b""),
@@ -143,6 +161,31 @@ fn put_journal_refusal(text: &mut Vec<u8>, refusal: &JournalRefusal) -> Result<(
             put_decimal(text, u64::from(*process))?;
             text.push(32)?;
             text.extend_from_slice(reason(refusal))
+        }
+    }
+}
+
+// The line for refused tapes.
+fn tapes_line(alloc: Global, refusal: &TapesRefusal) -> Result<Vec<u8>, AllocError>
+    ensures { IfOk result (λ text. text.items ≡ codes "tapes refused: " ++ tapes_refusal_text refusal.now ++ 10 ∷ []) }
+{
+    let mut text = b"tapes refused: ".to_vec(alloc)?;
+    put_tapes_refusal(&mut text, refusal)?;
+    text.push(10)?;
+    Ok(text)
+}
+
+fn put_tapes_refusal(text: &mut Vec<u8>, refusal: &TapesRefusal) -> Result<(), AllocError>
+    ensures { OnOk result (text.new.items ≡ text.old.items ++ tapes_refusal_text refusal.now) }
+{
+    match refusal {
+        TapesRefusal::Byte(place) => {
+            text.extend_from_slice(b"byte ")?;
+            put_decimal(text, *place)
+        }
+        TapesRefusal::Count(count) => {
+            text.extend_from_slice(b"count ")?;
+            put_decimal(text, *count)
         }
     }
 }

@@ -1,5 +1,6 @@
 // Calls over files in memory: runs and checks to their last byte, refusals, and stops.
 use super::*;
+use flow_own::Part;
 use flow_text::{MemShelf, MemSink, Shelf, Sink};
 use std::alloc::{AllocError, Global};
 use std::process::Abort;
@@ -379,7 +380,8 @@ fn call<F: Shelf, O: Sink>(
     out: &mut O,
 ) -> Result<Outcome, AllocError> {
     assert!(rt; !needs_workers(alloc, words)?);
-    Ok(plain_top(alloc, words, shelf, out))
+    let own: Vec<OwnKind<Box<dyn Part + Send>>> = Vec::new(alloc);
+    Ok(plain_top(alloc, words, shelf, out, own))
 }
 
 // Runs a network on this input.

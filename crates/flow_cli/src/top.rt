@@ -1,33 +1,46 @@
 //! The top calls.
-ghost use Rattle.std.specs.Prelude.{◌≡◌, ◌≤◌, ◌↔◌, IfOk, IsTrue};
-ghost use Rattle.flow_cli.specs.Engines.{RanBy, Runs};
-ghost use Rattle.flow_cli.specs.Networks.{IsStandardPlan};
+ghost use Rattle.std.specs.Prelude.{◌≡◌, ◌↔◌, IfOk, IsTrue, List, String, length};
+ghost use Rattle.std.specs.declared.alloc.Global.{Global};
+ghost use Rattle.flow_text.specs.Edge.{Outside};
+ghost use Rattle.flow_offer.specs.Kinds.{AreOwnKinds};
+ghost use Rattle.flow_offer.specs.Processes.{IsOfferedPlan};
+ghost use Rattle.flow_runner.specs.Crews.{HasWorkers};
+ghost use Rattle.flow_cli.specs.Offers.{AreOffered, IsNothing, Offer, offers_of, specs_of};
 ghost use Rattle.flow_cli.specs.Promises.{KeepsPromises};
-ghost use Rattle.flow_cli.specs.Reads.{AsksWorkers, IsServed};
-ghost use Rattle.flow_cli.specs.Top.{Concludes, Finishes, IsManned, IsRunnable, PrintsStop, call_of};
+ghost use Rattle.flow_cli.specs.Reads.{AsksWorkers};
+ghost use Rattle.flow_cli.specs.Top.{Concludes, Finishes, IsManned, IsRunnable, Performs, PrintsStop, PrintsWritten, call_of, recorded_by, recorded_of};
 
 use crate::after::{print_text, verdict_status, write_outputs};
+use crate::begin::{Begun, begin};
 use crate::crew::{run_alone, run_by_workers};
-use crate::run::{Done, Unwritten, no_journal, perform};
+use crate::offers::{OwnKind, kinds_and_parts};
+use crate::over::over;
+use crate::ran::{Account, PrintedReport};
+use crate::run::{Done, Unwritten, no_journal};
 use crate::status::Status;
 use crate::stop::Stop;
-use flow_catalogue::{
-    Std, a_plan_over_the_table_is_standard, standard_components_come_to_one_outcome,
-};
+use flow_catalogue::{Std, standard_components_come_to_one_outcome};
 use flow_component::Gate;
 use flow_determinate::a_determinate_plan_ends_as_on_one_thread;
 use flow_journal::{
     Journal, a_file_has_one_journal_or_one_fault, a_journal_that_stops_is_no_schedule,
 };
-use flow_limits::WORKER_LIMIT;
-use flow_machine::Net;
 use flow_meanings::{
     a_batch_update_that_sorts_writes_its_book, a_batch_update_writes_its_book,
     a_finished_network_composes_its_meanings, an_ended_collate_has_sent_the_collation,
 };
 use flow_model::{a_finished_network_leads_on, a_valid_plan_is_ready};
+use flow_offer::{each_process_is_standard_or_own, own_components_fit};
+use flow_own::{Mixed, Part, Tape};
+use flow_plan::KindSpec;
+use flow_played::{
+    Played, a_network_without_own_components_runs_as_it_is,
+    a_network_without_own_components_tells_as_it_is, components_without_own_ones_are_others,
+    players_come_to_one_outcome,
+};
 use flow_report::a_state_has_one_report;
-use flow_runner::{Crew, Worked};
+use flow_runner::Crew;
+use flow_tape::a_file_has_one_list_of_tapes_or_one_fault;
 use flow_text::{Shelf, Sink};
 use flow_words::{Command, command};
 use std::alloc::{AllocError, Global};
@@ -41,8 +54,10 @@ pub struct Outcome {
     pub status: Status,
     /// The journal of the run, and empty where none was made.
     pub journal: Journal,
+    /// The tapes of the processes of kinds of the caller's own, in the order of the processes; none where no network ran, or there was no memory for them.
+    pub tapes: Vec<Tape>,
     /// The workers that made its turns, and nobody where one thread did, or none were made.
-    pub crew: Crew<Std>,
+    pub crew: Crew,
 }
 
 /// Whether the words ask for workers: then `busy_top` does what they ask for, and otherwise `plain_top`.
@@ -62,122 +77,218 @@ pub fn needs_workers(alloc: Global, words: &[String]) -> Result<bool, AllocError
 
 /// Does what the program does, and waits for nobody: runs the network that the words name on one thread, or the one that is made from a number,
 /// or makes the turns of a journal again in it, and prints the report; or checks the network file and prints its canonical spelling, or judges it
-/// and prints whether its plan is determinate; or prints the page of the standard kinds; or prints why it stopped.
-pub fn plain_top<F: Shelf, O: Sink>(
+/// and prints whether its plan is determinate; or prints the page of the standard kinds; or prints why it stopped. The kinds of the caller's own stand beside
+/// the standard ones.
+pub fn plain_top<F: Shelf, O: Sink, P: Part>(
     alloc: Global,
     words: &[String],
     shelf: &mut F,
     out: &mut O,
+    own: Vec<OwnKind<P>>,
 ) -> Outcome
-    requires { AsksWorkers words.now → ⊥ }
-    ensures promises { KeepsPromises (call_of words.now (F.outside shelf.old) (F.outside shelf.new) (O.outside out.old) (O.outside out.new) result.journal result.status) }
+    requires alone { AsksWorkers words.now → ⊥ }
+    requires own { AreOwnKinds (specs_of (offers_of own.items)) }
+    ensures promises { KeepsPromises (call_of words.now (offers_of own.items) (F.outside shelf.old) (F.outside shelf.new) (O.outside out.old) (O.outside out.new) (recorded_of result) result.status) }
     ensures crew { IsManned words.now result }
 {
-    let engine = |net: Net<Std>, workers: u32| -> Result<Worked<Std>, AllocError>
-        requires { workers ≡ 0 }
-        ensures { IfOk result (RanBy workers net) }
-    { run_alone(alloc, net) };
-    carry_out(alloc, &engine, words, shelf, out)
+    let Ok((kinds, parts)) = kinds_and_parts(alloc, own) else {
+        return conclude::<F, O, P>(alloc, shelf, out, Err(Stop::NoMemory), &[]);
+    };
+    let done = perform_alone(alloc, words, shelf, &kinds, parts);
+    conclude(alloc, shelf, out, done, &kinds)
 }
 
 /// Does what the program does where the words ask for workers: runs the network that they name, or the one that is made from a number, by so many
 /// workers, each in a thread of its own, and prints the report; or prints why it stopped. Its promises hold if it returns.
-pub fn busy_top<R: Threads + Wait + Sync, F: Shelf, O: Sink, G: Gate + Sync>(
+pub fn busy_top<R: Threads + Wait + Sync, F: Shelf, O: Sink, G: Gate + Sync, P: Part + Send>(
     rt: &R,
     alloc: Global,
     words: &[String],
     shelf: &mut F,
     out: &mut O,
     gate: &G,
+    own: Vec<OwnKind<P>>,
 ) -> Outcome
-    requires { AsksWorkers words.now }
-    ensures promises { KeepsPromises (call_of words.now (F.outside shelf.old) (F.outside shelf.new) (O.outside out.old) (O.outside out.new) result.journal result.status) }
+    requires workers { AsksWorkers words.now }
+    requires own { AreOwnKinds (specs_of (offers_of own.items)) }
+    ensures promises { KeepsPromises (call_of words.now (offers_of own.items) (F.outside shelf.old) (F.outside shelf.new) (O.outside out.old) (O.outside out.new) (recorded_of result) result.status) }
     ensures crew { IsManned words.now result }
 {
-    let engine = |net: Net<Std>, workers: u32| -> Result<Worked<Std>, AllocError>
-        requires { (1 ≤ workers) × (workers ≤ WORKER_LIMIT) }
-        ensures { IfOk result (RanBy workers net) }
-    { run_by_workers(rt, alloc, net, workers, gate) };
-    carry_out(alloc, &engine, words, shelf, out)
+    let Ok((kinds, parts)) = kinds_and_parts(alloc, own) else {
+        return conclude::<F, O, P>(alloc, shelf, out, Err(Stop::NoMemory), &[]);
+    };
+    let done = perform_by_workers(rt, alloc, words, shelf, gate, &kinds, parts);
+    conclude(alloc, shelf, out, done, &kinds)
 }
 
-// Does what the words ask for by an engine that serves it.
-fn carry_out<E, F: Shelf, O: Sink>(
+// Does all that comes before something is written or printed; one thread makes the turns.
+fn perform_alone<'a, F: Shelf, P: Part>(
     alloc: Global,
-    engine: &E,
-    words: &[String],
+    words: &'a [String],
+    shelf: &mut F,
+    kinds: &[KindSpec],
+    parts: Vec<Vec<P>>,
+) -> Result<Done<'a, Mixed<Std, P>>, Stop>
+    requires alone { AsksWorkers words.now → ⊥ }
+    requires kinds { AreOwnKinds kinds.now }
+    requires parts { length parts.items ≡ length kinds.now }
+    ensures { (own : List Offer) → AreOffered own kinds.now parts.items → Performs own (F.outside shelf.old) (F.outside shelf.new) words.entry.now result }
+{
+    match begin(alloc, words, shelf, kinds, parts) {
+        Ok(Begun::Running(running, net)) => match run_alone(alloc, net) {
+            Ok(worked) => over(alloc, running, worked, kinds),
+            Err(AllocError) => Err(Stop::NoMemory),
+        },
+        Ok(Begun::Said(said)) => Ok(Done::Said(said)),
+        Err(stop) => Err(stop),
+    }
+}
+
+// The same; workers make the turns.
+fn perform_by_workers<'a, R: Threads + Wait + Sync, F: Shelf, G: Gate + Sync, P: Part + Send>(
+    rt: &R,
+    alloc: Global,
+    words: &'a [String],
+    shelf: &mut F,
+    gate: &G,
+    kinds: &[KindSpec],
+    parts: Vec<Vec<P>>,
+) -> Result<Done<'a, Mixed<Std, P>>, Stop>
+    requires workers { AsksWorkers words.now }
+    requires kinds { AreOwnKinds kinds.now }
+    requires parts { length parts.items ≡ length kinds.now }
+    ensures { (own : List Offer) → AreOffered own kinds.now parts.items → Performs own (F.outside shelf.old) (F.outside shelf.new) words.entry.now result }
+{
+    match begin(alloc, words, shelf, kinds, parts) {
+        Ok(Begun::Running(running, net)) => {
+            match run_by_workers(rt, alloc, net, running.goal.workers(), gate) {
+                Ok(worked) => over(alloc, running, worked, kinds),
+                Err(AllocError) => Err(Stop::NoMemory),
+            }
+        }
+        Ok(Begun::Said(said)) => Ok(Done::Said(said)),
+        Err(stop) => Err(stop),
+    }
+}
+
+// Writes what there is to write, and prints what there is to print, or why there is nothing. What was done keeps the promises then.
+fn conclude<F: Shelf, O: Sink, P: Part>(
+    alloc: Global,
     shelf: &mut F,
     out: &mut O,
+    done: Result<Done<'_, Mixed<Std, P>>, Stop>,
+    own: &[KindSpec],
 ) -> Outcome
-where
-    E: Fn(Net<Std>, u32) -> Result<Worked<Std>, AllocError>,
-    requires { IsServed (Runs (E.pre engine.now) (E.post engine.now)) words.now }
-    ensures promises { KeepsPromises (call_of words.now (F.outside shelf.old) (F.outside shelf.new) (O.outside out.old) (O.outside out.new) result.journal result.status) }
-    ensures crew { IsManned words.now result }
+    requires { IfOk done (IsRunnable own.now) }
+    ensures promises { (own : List Offer) (words : List (String Global)) (before : Outside) → Performs own before (F.outside shelf.old) words done.entry → KeepsPromises (call_of words own before (F.outside shelf.new) (O.outside out.old) (O.outside out.new) (recorded_of result) result.status) }
+    ensures crew { (own : List Offer) (words : List (String Global)) (before : Outside) → Performs own before (F.outside shelf.old) words done.entry → IsManned words result }
 {
-    a_plan_over_the_table_is_standard();
+    each_process_is_standard_or_own();
+    own_components_fit::<Std>();
     a_valid_plan_is_ready::<Std>();
     a_finished_network_composes_its_meanings();
     an_ended_collate_has_sent_the_collation();
     a_batch_update_writes_its_book();
     a_batch_update_that_sorts_writes_its_book();
     a_determinate_plan_ends_as_on_one_thread();
-    a_state_has_one_report::<Std>();
-    a_finished_network_leads_on::<Std>();
+    a_valid_plan_is_ready::<Played<Std>>();
+    a_state_has_one_report::<Played<Std>>();
+    a_finished_network_leads_on::<Played<Std>>();
     standard_components_come_to_one_outcome();
-    a_journal_that_stops_is_no_schedule::<Std>();
+    players_come_to_one_outcome::<Std>();
+    a_network_without_own_components_runs_as_it_is::<Std>();
+    components_without_own_ones_are_others::<Std>();
+    a_network_without_own_components_tells_as_it_is::<Std>();
+    a_journal_that_stops_is_no_schedule::<Played<Std>>();
     a_file_has_one_journal_or_one_fault();
-    match perform(alloc, engine, words, shelf) {
-        Ok(done) => conclude(alloc, shelf, out, done),
-        Err(stop) => Outcome {
-            status: print_stop(alloc, out, &stop),
-            journal: no_journal(alloc),
-            crew: Crew::nobody(alloc),
-        },
+    a_file_has_one_list_of_tapes_or_one_fault();
+    match done {
+        Ok(done) => tell(alloc, shelf, out, done, own),
+        Err(stop) => stopped(alloc, out, &stop),
+    }
+}
+
+// What stands after a stop before which no turn was made.
+fn stopped<O: Sink>(alloc: Global, out: &mut O, stop: &Stop) -> Outcome
+    ensures status { PrintsStop (O.outside out.old) (O.outside out.new) stop.now result.status }
+    ensures nothing { IsNothing (recorded_of result) }
+    ensures crew { HasWorkers 0 result.crew }
+{
+    Outcome {
+        status: print_stop(alloc, out, stop),
+        journal: no_journal(alloc),
+        tapes: Vec::new(alloc),
+        crew: Crew::nobody(),
     }
 }
 
 // Writes what there is to write, and then prints what there is to print.
-fn conclude<F: Shelf, O: Sink>(alloc: Global, shelf: &mut F, out: &mut O, done: Done<'_>) -> Outcome
-    requires { IsRunnable done }
+fn tell<F: Shelf, O: Sink, P: Part>(
+    alloc: Global,
+    shelf: &mut F,
+    out: &mut O,
+    done: Done<'_, Mixed<Std, P>>,
+    own: &[KindSpec],
+) -> Outcome
+    requires { IsRunnable own.now done }
     ensures { Concludes (F.outside shelf.old) (F.outside shelf.new) (O.outside out.old) (O.outside out.new) done.entry result }
 {
     match done {
-        Done::Ran(run) => finish(alloc, shelf, out, run),
+        Done::Ran(run) => finish(alloc, shelf, out, run, own),
         Done::Said(said) => Outcome {
             status: print_text(out, &said.text, said.status),
             journal: said.journal,
+            tapes: said.tapes,
             crew: said.crew,
         },
     }
 }
 
 // Writes the files of a run, and then prints its report.
-fn finish<F: Shelf, O: Sink>(
+fn finish<F: Shelf, O: Sink, P: Part>(
     alloc: Global,
     shelf: &mut F,
     out: &mut O,
-    run: Unwritten<'_>,
+    run: Unwritten<'_, Mixed<Std, P>>,
+    own: &[KindSpec],
 ) -> Outcome
-    requires { IsStandardPlan run.ran.plan }
+    requires { IsOfferedPlan own.now run.ran.plan }
     ensures files { Finishes (F.outside shelf.old) (F.outside shelf.new) (O.outside out.old) (O.outside out.new) run.entry result.status }
-    ensures journal { result.journal ≡ run.entry.ran.journal }
+    ensures recorded { recorded_of result ≡ recorded_by run.entry.ran }
     ensures crew { result.crew ≡ run.entry.ran.crew }
 {
-    let written = write_outputs(alloc, shelf, &run);
-    let Unwritten { ran, kept: _ } = run;
-    let (report, journal, crew) = ran.into_report();
+    let written = write_outputs(alloc, shelf, &run, own);
+    let Unwritten {
+        ran,
+        journal: _,
+        tapes: _,
+    } = run;
+    let Account {
+        report,
+        journal,
+        tapes,
+        crew,
+    } = ran.into_account();
+    Outcome {
+        status: print_written(alloc, out, &written, &report),
+        journal,
+        tapes,
+        crew,
+    }
+}
+
+// Prints the report of a run whose files are written, or why they aren't.
+fn print_written<O: Sink>(
+    alloc: Global,
+    out: &mut O,
+    written: &Result<(), Stop>,
+    report: &PrintedReport,
+) -> Status
+    ensures { PrintsWritten (O.outside out.old) (O.outside out.new) report.now written.now result }
+{
     match written {
-        Ok(()) => Outcome {
-            status: print_text(out, &report.text, verdict_status(report.verdict)),
-            journal,
-            crew,
-        },
-        Err(fault) => Outcome {
-            status: print_stop(alloc, out, &fault),
-            journal,
-            crew,
-        },
+        Ok(()) => print_text(out, &report.text, verdict_status(report.verdict)),
+        Err(fault) => print_stop(alloc, out, fault),
     }
 }
 

@@ -8,15 +8,21 @@ use Rattle.flow_model.specs.Robin.{RoundRobin}
 use Rattle.flow_model.specs.Plans.{start_of, StartsWell}
 use Rattle.flow_catalogue.specs.declared.standard.Std.{Std}
 use Rattle.flow_catalogue.specs.declared.standard.Std.TheVariants as components
+use Rattle.flow_catalogue.specs.declared.table.StdKind.{StdKind}
 use Rattle.flow_catalogue.specs.declared.table.StdKind.TheVariants as kinds
 use Rattle.flow_catalogue.specs.Kinds.{name_of}
 use Rattle.flow_catalogue.specs.Processes.{IsMade}
 use Rattle.flow_catalogue.specs.Std.{std_rules}
 use Rattle.flow_determinate.specs.Determinate.{EachHasOneSender, IsStill, SameEnd}
 
--- A determinate plan: no connection has two senders, and no process is a LoadBalance.
+-- The process's kind is the name of a standard kind.
+abbrev pub IsNamedStandard : PlanProcess → Type 0
+IsNamedStandard process = (kind : StdKind) × (process.kind ≡ name_of kind)
+
+-- A determinate plan: no connection has two senders, and every process is of a standard kind other than LoadBalance.
 pub record IsDeterminate (plan : Plan) : Type 0 where
   pub one_sender : EachHasOneSender plan
+  pub standard : (p : ℕ) (process : PlanProcess) → slice_get plan.processes p ≡ Some process → IsNamedStandard process
   pub no_balance : (p : ℕ) (process : PlanProcess) → slice_get plan.processes p ≡ Some process → process.kind ≢ name_of kinds.LoadBalance
 
 -- A LoadBalance. It alone of the standard components asks for a level.

@@ -7,9 +7,9 @@ ghost use Rattle.std.specs.Prelude.{◌≡◌, ◌≤◌, ◌↔◌, IsTrue, len
 ghost use Rattle.flow_catalogue.specs.declared.table.StdKind.TheVariants as kinds;
 ghost use Rattle.flow_catalogue.specs.Kinds.{name_of};
 ghost use Rattle.flow_determinate.specs.Determinate.{HasOneOutcome};
-ghost use Rattle.flow_determinate.specs.Standard.{IsDeterminate, DeterminatePlansHaveOneOutcome, DeterminatePlansEndAsAlone};
+ghost use Rattle.flow_determinate.specs.Standard.{IsNamedStandard, IsDeterminate, DeterminatePlansHaveOneOutcome, DeterminatePlansEndAsAlone};
 
-use flow_catalogue::{Std, standard_components_come_to_one_outcome};
+use flow_catalogue::{Std, StdKind, standard_components_come_to_one_outcome};
 use flow_component::Component;
 use flow_model::{every_start_has_a_round_robin, round_robins_are_schedules};
 use flow_plan::{Connection, Plan, Process};
@@ -45,6 +45,13 @@ fn has_one_sender(connection: &Connection) -> bool
     connection.senders.as_slice().len() <= 1
 }
 
+// Whether the process is of a standard kind.
+fn is_standard(process: &Process) -> bool
+    ensures { IsTrue result ↔ IsNamedStandard process.now }
+{
+    StdKind::named(process.kind.as_slice()).is_some()
+}
+
 // Whether the process is a LoadBalance.
 fn is_load_balance(process: &Process) -> bool
     ensures { IsTrue result ↔ process.now.kind ≡ name_of kinds.LoadBalance }
@@ -52,7 +59,8 @@ fn is_load_balance(process: &Process) -> bool
     process.kind.as_slice() == b"LoadBalance".as_slice()
 }
 
-/// Whether the plan is determinate: no connection has two senders, and no process is a LoadBalance. Takes no memory.
+/// Whether the plan is determinate: no connection has two senders, and every process is of a standard kind other than
+/// LoadBalance. Takes no memory.
 ///
 /// Where it is so, all schedules after which no process can go on end in the same state. Where it isn't so, they still may.
 pub fn determinate(plan: &Plan) -> bool
@@ -61,6 +69,7 @@ pub fn determinate(plan: &Plan) -> bool
     plan.connections()
         .iter()
         .all(|connection| has_one_sender(connection))
+        && plan.processes().iter().all(|process| is_standard(process))
         && !plan
             .processes()
             .iter()

@@ -5,24 +5,23 @@ use Rattle.flow_model.specs.Plans.{start_of, StartsWell}
 use Rattle.flow_model.specs.States.{State}
 use Rattle.flow_machine.specs.Values.{NetValue}
 use Rattle.flow_cycle.specs.Nets.{IsReached}
-use Rattle.flow_catalogue.specs.declared.standard.Std.{Std}
-use Rattle.flow_catalogue.specs.Std.{std_rules}
 use Rattle.flow_journal.specs.Replays.{schedule_of, StopsAtTurn, StopsFrom}
 use Rattle.flow_journal.specs.Runs.{ComesOfSchedule}
 use Rattle.flow_journal.specs.declared.merge.Journal.{Journal}
 use Rattle.flow_journal.specs.declared.refusal.Refusal.{Refusal as NoTurn}
 use Rattle.flow_journal.specs.declared.refusal.ReplayStop.{ReplayStop}
 use Rattle.flow_journal.specs.declared.refusal.ReplayStop.TheVariants as replays
+use Rattle.flow_cli.specs.Offers.{AnyKind, net_rules}
 use Rattle.flow_cli.specs.Runs.{stop_of_replay}
 use Rattle.flow_cli.specs.declared.stop.Stop.{Stop}
-use Rattle.flow_cli.proofs.Leaving as leaving
+use Rattle.flow_cli.proofs.LeavingAgain as leaving
 use Rattle.flow_drawing.specs.declared.drawing.Remarks.{Remarks}
 use Rattle.flow_draw.specs.Draws.{RemarksAfter}
 use Rattle.flow_draw.specs.States.{TellsOf}
 
 -- What is said of the net to which the turns led tells of the state to which they lead.
-pub remarks-tell : (plan : Network) (components : List Std) (net : NetValue Std) (journal : Journal) (remarks : Remarks) → StartsWell std_rules plan components
-    → ComesOfSchedule std_rules plan components (schedule_of journal) net → ((s : State Std) → IsReached std_rules plan net s → TellsOf plan s remarks)
+pub remarks-tell : (plan : Network) (components : List AnyKind) (net : NetValue AnyKind) (journal : Journal) (remarks : Remarks) → StartsWell net_rules plan components
+    → ComesOfSchedule net_rules plan components (schedule_of journal) net → ((s : State AnyKind) → IsReached net_rules plan net s → TellsOf plan s remarks)
     → RemarksAfter plan components journal (Ok remarks)
 remarks-tell plan components net journal remarks well comes tells = (
   comes.last,
@@ -31,8 +30,8 @@ remarks-tell plan components net journal remarks well comes tells = (
 )
 
 -- A replay that stops has stopped from the start of the plan.
-pub stopped-again : (plan : Network) (components : List Std) (start : NetValue Std) (journal : Journal) (stop : ReplayStop) (result : Stop)
-    → ((place p : ℕ) (refusal : NoTurn) → StopsFrom std_rules start journal (replays.NoTurn place p refusal)
-    → StopsAtTurn std_rules (start_of plan components) (schedule_of journal) place p refusal)
-    → StopsFrom std_rules start journal stop → result ≡ stop_of_replay stop → RemarksAfter plan components journal (Err result)
+pub stopped-again : (plan : Network) (components : List AnyKind) (start : NetValue AnyKind) (journal : Journal) (stop : ReplayStop) (result : Stop)
+    → ((place p : ℕ) (refusal : NoTurn) → StopsFrom net_rules start journal (replays.NoTurn place p refusal)
+    → StopsAtTurn net_rules (start_of plan components) (schedule_of journal) place p refusal)
+    → StopsFrom net_rules start journal stop → result ≡ stop_of_replay stop → RemarksAfter plan components journal (Err result)
 stopped-again plan components start journal stop result law stops is = leaving.stopped-again plan components start journal stop result law stops is

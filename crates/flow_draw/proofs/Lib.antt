@@ -1,6 +1,7 @@
 pub mod Leading
 pub mod Cycles
 pub mod Matched
+pub mod Plain
 pub mod Reading
 pub mod Said
 pub mod Tops

@@ -1,23 +1,23 @@
 -- What is read for a drawing, and why it stops.
-use Rattle.std.proofs.Common.{◌≡◌, inl, inr, List, [], ◌∷◌, ◌++◌, map, Some, Ok, Err, refl, sym, ap, subst}
+use Rattle.std.proofs.Common.{◌≡◌, inl, inr, ℕ, List, [], ◌∷◌, ◌++◌, map, Some, Ok, Err, refl, sym, ap, subst}
 use Rattle.std.specs.Prelude.{string_bytes}
 use Rattle.std.specs.declared.option.Option.{Option}
 use Rattle.flow_limits.specs.declared.TheConstants.{FILE_LIMIT}
 use Rattle.flow_text.specs.Edge.{Outside, Name, Files}
 use Rattle.flow_plan.specs.Network.{Network}
 use Rattle.flow_parse.specs.declared.value.NetText.{NetText}
-use Rattle.flow_catalogue.specs.declared.standard.Std.{Std}
 use Rattle.flow_journal.specs.declared.merge.Journal.{Journal}
 use Rattle.flow_cli.specs.Step.{Filled, OnlyReads, FailsToRead, Unended, IsRead, GivesMore, HoldsMore, whole}
 use Rattle.flow_cli.specs.Networks.{ReadsAs}
-use Rattle.flow_cli.specs.Components.{IsNext, StopsAtFile, ReadsComponents}
+use Rattle.flow_cli.specs.Offers.{AnyKind}
+use Rattle.flow_cli.specs.Components.{AreComponents, IsNext, StopsAtFile, ReadsInputs}
 use Rattle.flow_cli.specs.Prepare.{ReadsJournal}
 use Rattle.flow_cli.specs.Reads.{IsFile, IsJournalFile, IsReady, ShowsFault}
 use Rattle.flow_cli.specs.Runs.{MakesAgain}
 use Rattle.flow_cli.specs.declared.net_file.NetFile.{NetFile}
 use Rattle.flow_cli.specs.declared.stop.JournalRefusal.TheVariants.{Byte, Turn}
 use Rattle.flow_cli.specs.declared.stop.Stop.{Stop}
-use Rattle.flow_cli.specs.declared.stop.Stop.TheVariants.{Words, Refused, JournalRefused, ReadFault, WriteFault, TooLong, NoMemory}
+use Rattle.flow_cli.specs.declared.stop.Stop.TheVariants.{Words, Refused, NoPart, JournalRefused, TapesRefused, ReadFault, WriteFault, TooLong, NoMemory}
 use Rattle.flow_cli.proofs.Steps.{may-read, MayRead-trans}
 use Rattle.flow_cli.proofs.Readings.{OnlyReads-trans, FailsToRead-after, GivesMore-after, OnlyReads-files}
 use Rattle.flow_draw.specs.Causes.{IsLimitedNext, IsJournalNext, StopsFor}
@@ -30,21 +30,25 @@ file-stopped old new name (TooLong read) s = s
 file-stopped old new name NoMemory s = s
 file-stopped old new name Words s = absurd s
 file-stopped old new name (Refused refusal) s = absurd s
+file-stopped old new name (NoPart process) s = absurd s
 file-stopped old new name (JournalRefused refusal) s = absurd s
+file-stopped old new name (TapesRefused refusal) s = absurd s
 file-stopped old new name (WriteFault written) s = absurd s
 
 -- A network file that was read, and has a plan.
 pub file-read : (old new : Outside) (name net : Name) (file : NetFile) → OnlyReads old new (whole (name, net) ∷ []) → IsRead old.files FILE_LIMIT (name, net)
-    → ReadsAs net (Ok file) → Loads old new name (Ok file.plan)
-file-read old new name net file only read taken = (net, file.text, only, record { read = read; holds = taken.0; standard = taken.1 })
+    → ReadsAs [] net (Ok file) → Loads old new name (Ok file.plan)
+file-read old new name net file only read taken = (net, file.text, only, record { read = read; holds = taken.0; over = taken.1 })
 
 -- A network file that was read, and is refused.
 pub file-refused : (old new : Outside) (name net : Name) (stop : Stop) → OnlyReads old new (whole (name, net) ∷ []) → IsRead old.files FILE_LIMIT (name, net)
-    → ReadsAs net (Err stop) → Loads old new name (Err stop)
+    → ReadsAs [] net (Err stop) → Loads old new name (Err stop)
 file-refused old new name net (Refused refusal) only read taken = record { net = net; read = read; refused = taken; shelf = only }
 file-refused old new name net NoMemory only read taken = may-read old new _ only
 file-refused old new name net Words only read taken = absurd taken
+file-refused old new name net (NoPart process) only read taken = absurd taken
 file-refused old new name net (JournalRefused refusal) only read taken = absurd taken
+file-refused old new name net (TapesRefused refusal) only read taken = absurd taken
 file-refused old new name net (ReadFault read') only read taken = absurd taken
 file-refused old new name net (WriteFault written) only read taken = absurd taken
 file-refused old new name net (TooLong read') only read taken = absurd taken
@@ -62,17 +66,19 @@ net-stopped old new name keeps (ReadFault read) s = record {
 net-stopped old new name keeps (TooLong read) s = record {
   earlier = [];
   next = inl (s.0, refl);
-  more = subst (λ (n : Name). HoldsMore old.files n) (sym s.0) s.2;
-  shelf = subst (λ (n : Name). GivesMore old new [] n) (sym s.0) s.1;
+  more = subst (λ (n : Name). HoldsMore old.files FILE_LIMIT n) (sym s.0) s.2;
+  shelf = subst (λ (n : Name). GivesMore old new [] FILE_LIMIT n) (sym s.0) s.1;
 }
 net-stopped old new name keeps NoMemory s = s
 net-stopped old new name keeps Words s = absurd s
+net-stopped old new name keeps (NoPart process) s = absurd s
 net-stopped old new name keeps (JournalRefused refusal) s = absurd s
+net-stopped old new name keeps (TapesRefused refusal) s = absurd s
 net-stopped old new name keeps (WriteFault written) s = absurd s
 
 -- A stop at the journal's file, behind the network file.
 module _ (old mid new : Outside) (name kept net : Name) (text : NetText) (plan : Network) (only : OnlyReads old mid (whole (name, net) ∷ []))
-    (file : IsFile old.files name net text plan) where
+    (file : IsFile [] old.files name net text plan) where
   told : mid.files ≡ old.files
   told = OnlyReads-files old mid (whole (name, net) ∷ []) only
 
@@ -103,12 +109,14 @@ module _ (old mid new : Outside) (name kept net : Name) (text : NetText) (plan :
   journal-stopped NoMemory may = MayRead-trans old mid new (may-read old mid _ only) may
   journal-stopped Words r = absurd r
   journal-stopped (Refused refusal) r = absurd r
+  journal-stopped (NoPart process) r = absurd r
+  journal-stopped (TapesRefused refusal) r = absurd r
   journal-stopped (WriteFault written) r = absurd r
   journal-stopped (TooLong read) r = absurd r
 
 -- A stop at the file of a reader, behind the network file and the journal's.
 module _ (old mid new : Outside) (name net kept bytes : Name) (journal : Journal) (text : NetText) (plan : Network)
-    (only : OnlyReads old mid (map whole ((name, net) ∷ (kept, bytes) ∷ []))) (file : IsFile old.files name net text plan)
+    (only : OnlyReads old mid (map whole ((name, net) ∷ (kept, bytes) ∷ []))) (file : IsFile [] old.files name net text plan)
     (is_journal : IsJournalFile old.files kept bytes journal) where
   told-between : mid.files ≡ old.files
   told-between = OnlyReads-files old mid (map whole ((name, net) ∷ (kept, bytes) ∷ [])) only
@@ -130,7 +138,7 @@ module _ (old mid new : Outside) (name net kept bytes : Name) (journal : Journal
     earlier_are = refl;
   })
 
-  pub inputs-stopped : (stop : Stop) → ReadsComponents mid new plan (Err stop) → StopsFor old new name (Some kept) stop
+  pub inputs-stopped : (stop : Stop) → ReadsInputs mid new plan (Err stop) → StopsFor old new name (Some kept) stop
   inputs-stopped (ReadFault read) r = record {
     earlier = (name, net) ∷ (kept, bytes) ∷ r.0;
     next = inl (behind-both r.0 r.1 (string_bytes read) r.3.0 r.2);
@@ -142,35 +150,41 @@ module _ (old mid new : Outside) (name net kept bytes : Name) (journal : Journal
   inputs-stopped (TooLong read) r = record {
     earlier = (name, net) ∷ (kept, bytes) ∷ r.0;
     next = behind-both r.0 r.1 (string_bytes read) r.3.0 r.2;
-    more = subst (λ (n : Name). HoldsMore old.files n) (sym r.3.0) (subst (λ (t : Option Files). HoldsMore t r.1) told-between r.3.2);
-    shelf = subst (λ (n : Name). GivesMore old new (map whole ((name, net) ∷ (kept, bytes) ∷ r.0)) n) (sym r.3.0)
-        (GivesMore-after old mid new (map whole ((name, net) ∷ (kept, bytes) ∷ [])) (map whole r.0) r.1 only r.3.1);
+    more = subst (λ (n : Name). HoldsMore old.files FILE_LIMIT n) (sym r.3.0) (subst (λ (t : Option Files). HoldsMore t FILE_LIMIT r.1) told-between r.3.2);
+    shelf = subst (λ (n : Name). GivesMore old new (map whole ((name, net) ∷ (kept, bytes) ∷ r.0)) FILE_LIMIT n) (sym r.3.0)
+        (GivesMore-after old mid new (map whole ((name, net) ∷ (kept, bytes) ∷ [])) (map whole r.0) FILE_LIMIT r.1 only r.3.1);
   }
   inputs-stopped NoMemory may = MayRead-trans old mid new (may-read old mid _ only) may
   inputs-stopped Words r = absurd r.3
   inputs-stopped (Refused refusal) r = absurd r.3
+  inputs-stopped (NoPart process) r = absurd r.3
   inputs-stopped (JournalRefused refusal) r = absurd r.3
+  inputs-stopped (TapesRefused refusal) r = absurd r.3
   inputs-stopped (WriteFault written) r = absurd r.3
 
 -- A journal that is no schedule of its network.
-pub replay-stopped : (old new : Outside) (name kept bytes : Name) (journal : Journal) (plan : Network) (components : List Std)
-    → IsJournalFile old.files kept bytes journal → IsReady old new name ((kept, bytes) ∷ []) plan components → (stop : Stop)
-    → MakesAgain plan components journal (Err stop) → StopsFor old new name (Some kept) stop
-replay-stopped old new name kept bytes journal plan components is_journal ready (JournalRefused (Turn place p refusal)) s = record {
+pub replay-stopped : (old new : Outside) (name kept bytes : Name) (journal : Journal) (plan : Network) (given : List (List ℕ)) (components : List AnyKind)
+    → IsJournalFile old.files kept bytes journal → IsReady [] old new name ((kept, bytes) ∷ []) plan given → AreComponents [] plan given [] components
+    → (stop : Stop) → MakesAgain plan components journal (Err stop) → StopsFor old new name (Some kept) stop
+replay-stopped old new name kept bytes journal plan given components is_journal ready are (JournalRefused (Turn place p refusal)) s = record {
   kept = kept;
   keeps_is = refl;
   bytes = bytes;
   tells = journal;
   is_journal = is_journal;
   plan = plan;
-  components = components;
+  given = given;
   ready = ready;
+  components = components;
+  are_components = are;
   stops = s;
 }
-replay-stopped old new name kept bytes journal plan components is_journal ready NoMemory s = may-read old new _ ready.reads
-replay-stopped old new name kept bytes journal plan components is_journal ready (JournalRefused (Byte place)) s = absurd s
-replay-stopped old new name kept bytes journal plan components is_journal ready Words s = absurd s
-replay-stopped old new name kept bytes journal plan components is_journal ready (Refused refusal) s = absurd s
-replay-stopped old new name kept bytes journal plan components is_journal ready (ReadFault read) s = absurd s
-replay-stopped old new name kept bytes journal plan components is_journal ready (WriteFault written) s = absurd s
-replay-stopped old new name kept bytes journal plan components is_journal ready (TooLong read) s = absurd s
+replay-stopped old new name kept bytes journal plan given components is_journal ready are NoMemory s = may-read old new _ ready.reads
+replay-stopped old new name kept bytes journal plan given components is_journal ready are (JournalRefused (Byte place)) s = absurd s
+replay-stopped old new name kept bytes journal plan given components is_journal ready are Words s = absurd s
+replay-stopped old new name kept bytes journal plan given components is_journal ready are (Refused refusal) s = absurd s
+replay-stopped old new name kept bytes journal plan given components is_journal ready are (NoPart process) s = absurd s
+replay-stopped old new name kept bytes journal plan given components is_journal ready are (TapesRefused refusal) s = absurd s
+replay-stopped old new name kept bytes journal plan given components is_journal ready are (ReadFault read) s = absurd s
+replay-stopped old new name kept bytes journal plan given components is_journal ready are (WriteFault written) s = absurd s
+replay-stopped old new name kept bytes journal plan given components is_journal ready are (TooLong read) s = absurd s

@@ -9,7 +9,7 @@ use Rattle.flow_plan.specs.Network.{Network}
 use Rattle.flow_drawing.specs.declared.drawing.Remarks.{Remarks}
 use Rattle.flow_cli.specs.Step.{MayRead}
 use Rattle.flow_cli.specs.declared.stop.Stop.{Stop}
-use Rattle.flow_cli.specs.declared.stop.Stop.TheVariants.{Words, Refused, JournalRefused, ReadFault, WriteFault, TooLong, NoMemory}
+use Rattle.flow_cli.specs.declared.stop.Stop.TheVariants.{Words, Refused, NoPart, JournalRefused, TapesRefused, ReadFault, WriteFault, TooLong, NoMemory}
 use Rattle.flow_cli.proofs.Steps.{may-read, no-reads}
 use Rattle.flow_draw.specs.Causes.{StopsFor}
 use Rattle.flow_draw.specs.Draws.{Call, Ends, HasCause, IsPicture, Prints, ShowsBy}
@@ -43,6 +43,8 @@ caused words old new asked (ReadFault read) asks s = (asked, asks, s)
 caused words old new asked (TooLong read) asks s = (asked, asks, s)
 caused words old new asked NoMemory asks s = s
 caused words old new asked Words asks s = absurd s
+caused words old new asked (NoPart process) asks s = absurd s
+caused words old new asked (TapesRefused refusal) asks s = absurd s
 caused words old new asked (WriteFault written) asks s = (asked, asks, s)
 
 -- The drawing that was made was printed, or a first part of it.

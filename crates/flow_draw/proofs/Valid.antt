@@ -1,25 +1,20 @@
 -- Where no count of faults rose and all that was read is valid, a call draws, or memory is wanting.
-use Rattle.std.proofs.Common.{◌≡◌, ℕ, List, [], ◌∷◌, ◌++◌, length, Some, inl, inr, arith, refl, ap, ◌∙◌, subst}
-use mathlib.Core.Path.{ap₂}
-use mathlib.Core.List.{append-nil}
+use Rattle.std.proofs.Common.{◌≡◌, ℕ, List, [], ◌∷◌, ◌++◌, length, Some, inl, inr, arith, refl, ap, subst}
 use Rattle.std.specs.Prelude.{string_bytes, map, ◌⊎◌}
 use Rattle.std.specs.declared.option.Option.{Option}
 use Rattle.flow_text.specs.Edge.{Outside, Name, Files, Logged, Rose}
 use Rattle.flow_component.specs.Laws.{AtMostOneOutcome}
-use Rattle.flow_model.specs.Schedules.{Journal as Schedule}
 use Rattle.flow_model.specs.Plans.{start_of}
-use Rattle.flow_catalogue.specs.Std.{std_rules}
-use Rattle.flow_journal.specs.Files.{HasJournalOrFault, HasOneJournal}
-use Rattle.flow_journal.specs.Replays.{schedule_of, StopsAreNoSchedules, StopsAtTurn}
-use Rattle.flow_journal.specs.declared.merge.Journal.{Journal}
+use Rattle.flow_journal.specs.Files.{HasJournalOrFault}
+use Rattle.flow_journal.specs.Replays.{schedule_of, StopsAreNoSchedules}
 use Rattle.flow_journal.specs.declared.refusal.Refusal.{Refusal as NoTurn}
 use Rattle.flow_cli.specs.Step.{Filled, OnlyReads, whole, partly}
+use Rattle.flow_cli.specs.Offers.{net_rules}
 use Rattle.flow_cli.specs.Components.{inputs_of}
-use Rattle.flow_cli.specs.Top.{HasSchedule}
 use Rattle.flow_cli.specs.declared.stop.NetRefusal.{NetRefusal}
 use Rattle.flow_cli.specs.declared.stop.JournalRefusal.TheVariants.{Byte, Turn}
 use Rattle.flow_cli.specs.declared.stop.Stop.{Stop}
-use Rattle.flow_cli.specs.declared.stop.Stop.TheVariants.{Words, Refused, JournalRefused, ReadFault, WriteFault, TooLong, NoMemory}
+use Rattle.flow_cli.specs.declared.stop.Stop.TheVariants.{Words, Refused, NoPart, JournalRefused, TapesRefused, ReadFault, WriteFault, TooLong, NoMemory}
 use Rattle.flow_cli.proofs.Networks.{holds-or-refused}
 use Rattle.flow_cli.proofs.Readings.{get-last}
 use Rattle.flow_draw.specs.Causes.{IsFaulty, IsLimitedNext, IsNoSchedule, IsRefused, IsTooLong, StopsFor}
@@ -28,10 +23,6 @@ use Rattle.flow_draw.specs.Draws.{Call, Ends, HasCause}
 use Rattle.flow_draw.specs.Words.{Asked, asked_in_call}
 use Rattle.flow_draw.specs.declared.status.DrawStatus.{DrawStatus}
 use Rattle.flow_draw.specs.declared.status.DrawStatus.TheVariants.{Drawn, Unwritten, Stopped}
-
--- two journals of the same turns and numbers are one schedule
-one-schedule : (a b : Journal) → a.turns ≡ b.turns → a.seen ≡ b.seen → schedule_of a ≡ schedule_of b
-one-schedule a b turns seen = ap₂ (λ t s. record { turns = t; seen = s }) turns seen
 
 -- a file that has a limit isn't that of a journal
 limited-at : (told : Option Files) (name : Name) (keeps : Option Name) (earlier : List Filled) (read : Name) → IsLimitedNext told name keeps earlier read
@@ -48,31 +39,23 @@ module _ (old new : Outside) (name : Name) (keeps : Option Name) (valid : (read 
   no-refusal refusal c =
       let v = all-valid (whole (name, c.net) ∷ []) c.shelf in
       let has = v.network c.net (name, refl) in
-      holds-or-refused c.net has.0 has.1 refusal has.2 c.refused
-
-  -- a journal that is named is read behind the network file
-  second : (kept : Name) → keeps ≡ Some kept → IsJournalAt keeps 1
-  second kept is = (refl, (kept, is))
+      holds-or-refused [] c.net has.0 has.1 refusal has.2 c.refused
 
   no-fault : HasJournalOrFault → (place : ℕ) → IsFaulty old new name keeps place → ⊥
   no-fault apart place c =
       let v = all-valid (whole (name, c.net) ∷ c.given ∷ []) c.shelf in
-      let begins = v.schedule c.net c.text c.plan 1 c.given (name, refl) c.file.holds (second c.kept c.keeps_is) refl in
-      apart (c.given.bytes ++ begins.0) begins.2.journal place begins.2.is (c.shows.fault begins.0 begins.1)
+      let replay = v.replay c.kept c.net c.text c.plan c.keeps_is (name, refl) c.file.holds in
+      let begins = replay.journal c.given refl in
+      apart (c.given.bytes ++ begins.0) begins.2.0 place begins.2.1 (c.shows.fault begins.0 begins.1)
 
-  no-stop : AtMostOneOutcome std_rules → StopsAreNoSchedules std_rules → HasOneJournal → (place p : ℕ) (refusal : NoTurn)
+  no-stop : AtMostOneOutcome net_rules → StopsAreNoSchedules net_rules → (place p : ℕ) (refusal : NoTurn)
       → IsNoSchedule old new name keeps place p refusal → ⊥
-  no-stop one no_schedule single place p refusal c =
+  no-stop one no_schedule place p refusal c =
       let r = c.ready in
-      let v = all-valid (map whole ((name, r.net) ∷ (((c.kept, c.bytes) ∷ []) ++ inputs_of c.plan.processes r.given))) r.reads in
-      let begins = v.schedule r.net r.text c.plan 1 (whole (c.kept, c.bytes)) (name, refl) r.file.holds (second c.kept c.keeps_is) refl in
-      let bytes : c.bytes ++ begins.0 ≡ c.bytes = ap (λ (rest : List ℕ). c.bytes ++ rest) (begins.1 refl) ∙ append-nil c.bytes in
-      let has = subst (HasSchedule (map whole ((name, r.net) ∷ (((c.kept, c.bytes) ∷ []) ++ inputs_of c.plan.processes r.given))) c.plan) bytes begins.2 in
-      let leads = has.leads r.given c.components refl r.are_components in
-      let same = single c.bytes c.tells has.journal c.is_journal.is has.is in
-      let schedule : schedule_of c.tells ≡ schedule_of has.journal = one-schedule c.tells has.journal same.0 same.1 in
-      let stops = subst (λ (s : Schedule). StopsAtTurn std_rules (start_of c.plan c.components) s place p refusal) schedule c.stops in
-      no_schedule one (start_of c.plan c.components) (schedule_of has.journal) place p refusal leads.0 stops leads.1
+      let v = all-valid (map whole ((name, r.net) ∷ (((c.kept, c.bytes) ∷ []) ++ inputs_of c.plan.processes c.given))) r.reads in
+      let replay = v.replay c.kept r.net r.text c.plan c.keeps_is (name, refl) r.file.holds in
+      let leads = replay.schedule c.bytes c.tells [] c.given c.components (c.kept, refl) c.is_journal.is refl refl c.are_components in
+      no_schedule one (start_of c.plan c.components) (schedule_of c.tells) place p refusal leads.0 c.stops leads.1
 
   -- a file that the call reads isn't too long
   not-too-long : (read : Name) → IsTooLong old new name keeps read → ⊥
@@ -84,33 +67,37 @@ module _ (old new : Outside) (name : Name) (keeps : Option Name) (valid : (read 
       let many = more.1 in
       omega (arith, few, many)
 
-  valid-stop : AtMostOneOutcome std_rules → StopsAreNoSchedules std_rules → HasJournalOrFault → HasOneJournal → (Rose old.read_faults new.read_faults → ⊥)
+  valid-stop : AtMostOneOutcome net_rules → StopsAreNoSchedules net_rules → HasJournalOrFault → (Rose old.read_faults new.read_faults → ⊥)
       → (stop : Stop) → StopsFor old new name keeps stop → stop ≡ NoMemory
-  valid-stop one no_schedule apart single reads NoMemory c = refl
-  valid-stop one no_schedule apart single reads (ReadFault read) c = absurd (reads c.shelf.rose)
-  valid-stop one no_schedule apart single reads (Refused refusal) c = absurd (no-refusal refusal c)
-  valid-stop one no_schedule apart single reads (JournalRefused (Byte place)) c = absurd (no-fault apart place c)
-  valid-stop one no_schedule apart single reads (JournalRefused (Turn place process refusal)) c =
-      absurd (no-stop one no_schedule single place process refusal c)
-  valid-stop one no_schedule apart single reads (TooLong read) c = absurd (not-too-long (string_bytes read) c)
-  valid-stop one no_schedule apart single reads Words c = absurd c
-  valid-stop one no_schedule apart single reads (WriteFault written) c = absurd c
+  valid-stop one no_schedule apart reads NoMemory c = refl
+  valid-stop one no_schedule apart reads (ReadFault read) c = absurd (reads c.shelf.rose)
+  valid-stop one no_schedule apart reads (Refused refusal) c = absurd (no-refusal refusal c)
+  valid-stop one no_schedule apart reads (JournalRefused (Byte place)) c = absurd (no-fault apart place c)
+  valid-stop one no_schedule apart reads (JournalRefused (Turn place process refusal)) c =
+      absurd (no-stop one no_schedule place process refusal c)
+  valid-stop one no_schedule apart reads (TooLong read) c = absurd (not-too-long (string_bytes read) c)
+  valid-stop one no_schedule apart reads Words c = absurd c
+  valid-stop one no_schedule apart reads (NoPart process) c = absurd c
+  valid-stop one no_schedule apart reads (TapesRefused refusal) c = absurd c
+  valid-stop one no_schedule apart reads (WriteFault written) c = absurd c
 
 -- Where words ask for one drawing, a cause is one of that.
-module _ (one : AtMostOneOutcome std_rules) (no_schedule : StopsAreNoSchedules std_rules) (apart : HasJournalOrFault) (single : HasOneJournal) (c : Call)
+module _ (one : AtMostOneOutcome net_rules) (no_schedule : StopsAreNoSchedules net_rules) (apart : HasJournalOrFault) (c : Call)
     (faults : NoFaults c) (valid : IsValid c) where
   stop-of : (asked : Asked) → asked_in_call c.words ≡ Some asked → (stop : Stop) → StopsFor c.before c.after asked.net asked.journal stop → stop ≡ NoMemory
   stop-of asked asks stop s =
       let same : valid.0 ≡ asked = (let h = valid.1 in cc) in
       valid-stop c.before c.after asked.net asked.journal
       (subst (λ (a : Asked). (read : List Logged) → c.after.opened ≡ c.before.opened ++ read → AreValid a.journal read) same valid.2)
-      one no_schedule apart single faults.reads stop s
+      one no_schedule apart faults.reads stop s
 
   cause-of : (stop : Stop) → HasCause c.words c.before c.after stop → stop ≡ NoMemory
   cause-of Words s = (let h = valid.1 in let g = s.0 in absurd cc)
   cause-of NoMemory s = refl
   cause-of (ReadFault read) s = stop-of s.0 s.1 (ReadFault read) s.2
   cause-of (Refused refusal) s = stop-of s.0 s.1 (Refused refusal) s.2
+  cause-of (NoPart process) s = absurd s.2
+  cause-of (TapesRefused refusal) s = absurd s.2
   cause-of (JournalRefused refusal) s = stop-of s.0 s.1 (JournalRefused refusal) s.2
   cause-of (TooLong read) s = stop-of s.0 s.1 (TooLong read) s.2
   cause-of (WriteFault written) s = stop-of s.0 s.1 (WriteFault written) s.2

@@ -1,4 +1,4 @@
--- Why a call draws nothing: each cause, once.
+-- Why a call draws nothing: each cause, once. A drawing is of a network of standard kinds alone: there are none of the caller's own.
 use Rattle.std.specs.Prelude.{◌≡◌, ◌⊎◌, ℕ, List, [], ◌∷◌, ◌++◌, map, Some, string_bytes}
 use Rattle.std.specs.declared.option.Option.{Option}
 use Rattle.flow_limits.specs.declared.TheConstants.{FILE_LIMIT}
@@ -6,25 +6,24 @@ use Rattle.flow_text.specs.Edge.{Outside, Name, Files, Logged}
 use Rattle.flow_plan.specs.Network.{Network}
 use Rattle.flow_parse.specs.declared.value.NetText.{NetText}
 use Rattle.flow_model.specs.Plans.{start_of}
-use Rattle.flow_catalogue.specs.declared.standard.Std.{Std}
-use Rattle.flow_catalogue.specs.Std.{std_rules}
 use Rattle.flow_journal.specs.Replays.{schedule_of, StopsAtTurn}
 use Rattle.flow_journal.specs.declared.merge.Journal.{Journal}
 use Rattle.flow_journal.specs.declared.refusal.Refusal.{Refusal as NoTurn}
 use Rattle.flow_cli.specs.Step.{Filled, OnlyReads, FailsToRead, MayRead, Unended, IsRead, GivesMore, HoldsMore, whole}
-use Rattle.flow_cli.specs.Components.{IsNext}
+use Rattle.flow_cli.specs.Offers.{AnyKind, net_rules}
+use Rattle.flow_cli.specs.Components.{AreComponents, IsNext}
 use Rattle.flow_cli.specs.Networks.{RefusedFor}
 use Rattle.flow_cli.specs.Reads.{IsFile, IsJournalFile, IsReady, ShowsFault}
 use Rattle.flow_cli.specs.declared.stop.NetRefusal.{NetRefusal}
 use Rattle.flow_cli.specs.declared.stop.JournalRefusal.TheVariants.{Byte, Turn}
 use Rattle.flow_cli.specs.declared.stop.Stop.{Stop}
-use Rattle.flow_cli.specs.declared.stop.Stop.TheVariants.{Words, Refused, JournalRefused, ReadFault, WriteFault, TooLong, NoMemory}
+use Rattle.flow_cli.specs.declared.stop.Stop.TheVariants.{Words, Refused, NoPart, JournalRefused, TapesRefused, ReadFault, WriteFault, TooLong, NoMemory}
 
 -- The network file of this name was read whole, and nothing but it; and it is refused for this.
 pub record IsRefused (old new : Outside) (name : Name) (refusal : NetRefusal) : Type 0 where
   pub net : List ℕ
   pub read : IsRead old.files FILE_LIMIT (name, net)
-  pub refused : RefusedFor net refusal
+  pub refused : RefusedFor [] net refusal
   pub shelf : OnlyReads old new (whole (name, net) ∷ [])
 
 -- The network file was read whole, and then that of the journal as far as its fault shows; the byte at this place can't stand in a journal's file, or the file
@@ -35,7 +34,7 @@ pub record IsFaulty (old new : Outside) (name : Name) (keeps : Option Name) (pla
   pub net : List ℕ
   pub text : NetText
   pub plan : Network
-  pub file : IsFile old.files name net text plan
+  pub file : IsFile [] old.files name net text plan
   pub given : Logged
   pub shows : ShowsFault old.files kept given place
   pub shelf : OnlyReads old new (whole (name, net) ∷ given ∷ [])
@@ -48,9 +47,11 @@ pub record IsNoSchedule (old new : Outside) (name : Name) (keeps : Option Name) 
   pub tells : Journal
   pub is_journal : IsJournalFile old.files kept bytes tells
   pub plan : Network
-  pub components : List Std
-  pub ready : IsReady old new name ((kept, bytes) ∷ []) plan components
-  pub stops : StopsAtTurn std_rules (start_of plan components) (schedule_of tells) place process refusal
+  pub given : List (List ℕ)
+  pub ready : IsReady [] old new name ((kept, bytes) ∷ []) plan given
+  pub components : List AnyKind
+  pub are_components : AreComponents [] plan given [] components
+  pub stops : StopsAtTurn net_rules (start_of plan components) (schedule_of tells) place process refusal
 
 -- The file `read` is that of a reader of the network, and these are all files before it: the network file, the journal's, and those of the readers before.
 pub record IsInputNext (told : Option Files) (name : Name) (keeps : Option Name) (earlier : List Filled) (read : Name) : Type 0 where
@@ -59,7 +60,7 @@ pub record IsInputNext (told : Option Files) (name : Name) (keeps : Option Name)
   pub net : List ℕ
   pub text : NetText
   pub plan : Network
-  pub file : IsFile told name net text plan
+  pub file : IsFile [] told name net text plan
   pub bytes : List ℕ
   pub journal : Journal
   pub is_journal : IsJournalFile told kept bytes journal
@@ -73,7 +74,7 @@ pub record IsJournalNext (told : Option Files) (name : Name) (keeps : Option Nam
   pub net : List ℕ
   pub text : NetText
   pub plan : Network
-  pub file : IsFile told name net text plan
+  pub file : IsFile [] told name net text plan
   pub earlier_are : earlier ≡ (name, net) ∷ []
 
 -- The file `read` is the next one behind these that has a limit: the network file first; then, with a journal, those of the network's readers.
@@ -92,8 +93,8 @@ pub record IsReadFault (old new : Outside) (name : Name) (keeps : Option Name) (
 pub record IsTooLong (old new : Outside) (name : Name) (keeps : Option Name) (read : Name) : Type 0 where
   pub earlier : List Filled
   pub next : IsLimitedNext old.files name keeps earlier read
-  pub more : HoldsMore old.files read
-  pub shelf : GivesMore old new (map whole earlier) read
+  pub more : HoldsMore old.files FILE_LIMIT read
+  pub shelf : GivesMore old new (map whole earlier) FILE_LIMIT read
 
 -- Why the drawing of this network file isn't made, of the state to which a journal leads where one is named.
 abbrev pub StopsFor : Outside → Outside → Name → Option Name → Stop → Type 0
@@ -104,4 +105,6 @@ StopsFor old new name keeps (ReadFault read) = IsReadFault old new name keeps (s
 StopsFor old new name keeps (TooLong read) = IsTooLong old new name keeps (string_bytes read)
 StopsFor old new name keeps NoMemory = MayRead old new
 StopsFor old new name keeps Words = ⊥
+StopsFor old new name keeps (NoPart process) = ⊥
+StopsFor old new name keeps (TapesRefused refusal) = ⊥
 StopsFor old new name keeps (WriteFault written) = ⊥

@@ -1,12 +1,12 @@
 -- When a call has to draw.
-use Rattle.std.specs.Prelude.{◌≡◌, ◌⊎◌, ◌≤◌, ℕ, List, ◌++◌, length, slice_get, Some}
+use Rattle.std.specs.Prelude.{◌≡◌, ◌⊎◌, ◌≤◌, ℕ, List, [], ◌++◌, length, slice_get, Some, None}
 use Rattle.std.specs.declared.option.Option.{Option}
 use Rattle.flow_limits.specs.declared.TheConstants.{FILE_LIMIT}
 use Rattle.flow_text.specs.Edge.{Name, Logged, Rose}
 use Rattle.flow_plan.specs.Network.{Network}
 use Rattle.flow_parse.specs.declared.value.NetText.{NetText}
 use Rattle.flow_cli.specs.Networks.{Holds}
-use Rattle.flow_cli.specs.Top.{BeginsSchedule, GaveAt}
+use Rattle.flow_cli.specs.Top.{GaveAt, IsValidReplay}
 use Rattle.flow_cli.specs.declared.stop.Stop.TheVariants.{NoMemory}
 use Rattle.flow_draw.specs.Words.{Asked, asked_in_call}
 use Rattle.flow_draw.specs.Draws.{Call}
@@ -17,13 +17,13 @@ use Rattle.flow_draw.specs.declared.status.DrawStatus.TheVariants.{Drawn, Stoppe
 abbrev pub IsJournalAt : Option Name → ℕ → Type 0
 IsJournalAt keeps place = (place ≡ 1) × ((kept : Name) × (keeps ≡ Some kept))
 
--- What the files gave that were read, in order, is valid: the network file holds a value with a plan; no file but a journal's gave more than the limit; and the
--- journal's file, where one is named, holds a schedule of that network, as far as it was read.
+-- What the files gave that were read, in order, is valid: the network file holds a value with a plan; no file but a journal's gave more than the limit; and what
+-- was read besides, where a journal's file is named, is valid with that network for a replay without tapes.
 pub record AreValid (keeps : Option Name) (read : List Logged) : Type 0 where
-  pub network : (net : List ℕ) → GaveAt read 0 net → (text : NetText) × (plan : Network) × Holds net text plan
+  pub network : (net : List ℕ) → GaveAt read 0 net → (text : NetText) × (plan : Network) × Holds [] net text plan
   pub short : (place : ℕ) (file : Logged) → slice_get read place ≡ Some file → (IsJournalAt keeps place → ⊥) → length file.bytes ≤ FILE_LIMIT
-  pub schedule : (net : List ℕ) (text : NetText) (plan : Network) (place : ℕ) (given : Logged) → GaveAt read 0 net → Holds net text plan
-      → IsJournalAt keeps place → slice_get read place ≡ Some given → BeginsSchedule read plan given
+  pub replay : (kept : Name) (net : List ℕ) (text : NetText) (plan : Network) → keeps ≡ Some kept → GaveAt read 0 net → Holds [] net text plan
+      → IsValidReplay [] None read plan
 
 -- The words ask for a drawing, and what was read is valid, whatever that was.
 abbrev pub IsValid : Call → Type 0

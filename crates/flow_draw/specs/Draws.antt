@@ -8,13 +8,13 @@ use Rattle.flow_text.specs.WriteAll.{WroteAndFailed}
 use Rattle.flow_plan.specs.Network.{Network}
 use Rattle.flow_parse.specs.declared.value.NetText.{NetText}
 use Rattle.flow_model.specs.States.{State}
-use Rattle.flow_catalogue.specs.declared.standard.Std.{Std}
-use Rattle.flow_catalogue.specs.Std.{std_rules}
 use Rattle.flow_catalogue.specs.Kinds.{std_kinds}
 use Rattle.flow_journal.specs.Replays.{schedule_of}
 use Rattle.flow_journal.specs.Runs.{IsScheduled}
 use Rattle.flow_journal.specs.declared.merge.Journal.{Journal}
 use Rattle.flow_cli.specs.Step.{OnlyReads, MayRead, whole}
+use Rattle.flow_cli.specs.Offers.{AnyKind, net_rules}
+use Rattle.flow_cli.specs.Components.{AreComponents}
 use Rattle.flow_cli.specs.Reads.{IsFile, IsJournalFile, IsReady}
 use Rattle.flow_cli.specs.Runs.{MakesAgain}
 use Rattle.flow_cli.specs.Stops.{status_of}
@@ -38,7 +38,7 @@ use Rattle.flow_draw.specs.declared.scene.Scene.{Scene}
 pub record ShowsNet (old new : Outside) (name : Name) (plan : Network) (remarks : Remarks) : Type 0 where
   pub net : List ℕ
   pub text : NetText
-  pub file : IsFile old.files name net text plan
+  pub file : IsFile [] old.files name net text plan
   pub shelf : OnlyReads old new (whole (name, net) ∷ [])
   pub none : remarks ≡ no_remarks
 
@@ -49,10 +49,12 @@ pub record ShowsState (old new : Outside) (name kept : Name) (plan : Network) (r
   pub bytes : List ℕ
   pub journal : Journal
   pub is_journal : IsJournalFile old.files kept bytes journal
-  pub components : List Std
-  pub ready : IsReady old new name ((kept, bytes) ∷ []) plan components
-  pub last : State Std
-  pub schedule : IsScheduled std_rules plan components (schedule_of journal) last
+  pub given : List (List ℕ)
+  pub ready : IsReady [] old new name ((kept, bytes) ∷ []) plan given
+  pub components : List AnyKind
+  pub are_components : AreComponents [] plan given [] components
+  pub last : State AnyKind
+  pub schedule : IsScheduled net_rules plan components (schedule_of journal) last
   pub tells : TellsOf plan last remarks
 
 -- What is drawn of a network file, with the file of a journal or without.
@@ -66,9 +68,9 @@ Reads old new name keeps (Ok scene) = ShowsBy old new name keeps scene.plan scen
 Reads old new name keeps (Err stop) = StopsFor old new name keeps stop
 
 -- What making the turns of a journal again comes to: remarks that tell of the state to which they lead, or the first of them that isn't defined.
-abbrev pub RemarksAfter : Network → List Std → Journal → Result Remarks Stop → Type 0
+abbrev pub RemarksAfter : Network → List AnyKind → Journal → Result Remarks Stop → Type 0
 RemarksAfter plan components journal (Ok remarks) =
-    (last : State Std) × IsScheduled std_rules plan components (schedule_of journal) last × TellsOf plan last remarks
+    (last : State AnyKind) × IsScheduled net_rules plan components (schedule_of journal) last × TellsOf plan last remarks
 RemarksAfter plan components journal (Err stop) = MakesAgain plan components journal (Err stop)
 
 -- The text of a drawing of a plan with these remarks.

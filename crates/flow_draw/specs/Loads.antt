@@ -13,6 +13,6 @@ use Rattle.flow_draw.specs.Causes.{IsRefused}
 
 -- It was read whole, and nothing but it, and this is its plan; or it is refused, or a read of it stopped.
 abbrev pub Loads : Outside → Outside → Name → Result Network Stop → Type 0
-Loads old new name (Ok plan) = (net : List ℕ) × (text : NetText) × OnlyReads old new (whole (name, net) ∷ []) × IsFile old.files name net text plan
+Loads old new name (Ok plan) = (net : List ℕ) × (text : NetText) × OnlyReads old new (whole (name, net) ∷ []) × IsFile [] old.files name net text plan
 Loads old new name (Err (Refused refusal)) = IsRefused old new name refusal
 Loads old new name (Err stop) = StopsAtFile old new [] name stop

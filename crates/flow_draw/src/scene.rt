@@ -5,11 +5,12 @@ ghost use Rattle.flow_draw.specs.Draws.{Reads};
 ghost use Rattle.flow_draw.specs.Loads.{Loads};
 
 use crate::again::remarks_after;
-use flow_cli::{Stop, network, read_components, read_file, read_journal, read_stop};
+use flow_cli::{Stop, network, played_components, read_file, read_inputs, read_journal, read_stop};
 use flow_drawing::Remarks;
+use flow_limits::FILE_LIMIT;
 use flow_plan::Plan;
 use flow_text::Shelf;
-use std::alloc::Global;
+use std::alloc::{AllocError, Global};
 
 /// What a drawing shows: a plan, and what is said besides.
 #[derive(Drop)]
@@ -65,9 +66,13 @@ fn scene_of_state<F: Shelf>(
         Ok(journal) => journal,
         Err(stop) => return Err(stop),
     };
-    let components = match read_components(alloc, shelf, &plan) {
-        Ok(components) => components,
+    let given = match read_inputs(alloc, shelf, &plan, &[]) {
+        Ok(given) => given,
         Err(stop) => return Err(stop),
+    };
+    let components = match played_components(alloc, &plan, &[], given, &[]) {
+        Ok(components) => components,
+        Err(AllocError) => return Err(Stop::NoMemory),
     };
     match remarks_after(alloc, &plan, components, &journal) {
         Ok(remarks) => Ok(Scene { plan, remarks }),
@@ -75,15 +80,15 @@ fn scene_of_state<F: Shelf>(
     }
 }
 
-// The plan of the network file of this name.
+// The plan of the network file of this name, over the standard kinds alone.
 fn load<F: Shelf>(alloc: Global, shelf: &mut F, name: &str) -> Result<Plan, Stop>
     ensures { Loads (F.outside shelf.old) (F.outside shelf.new) name.now result }
 {
-    let net = match read_file(alloc, shelf, name) {
+    let net = match read_file(alloc, shelf, name, FILE_LIMIT) {
         Ok(net) => net,
         Err(stop) => return Err(read_stop(alloc, stop, name)),
     };
-    match network(alloc, &net) {
+    match network(alloc, &net, &[]) {
         Ok(file) => Ok(file.plan),
         Err(stop) => Err(stop),
     }

@@ -10,6 +10,7 @@ use flow_catalogue::{Std, kinds, standard_components_come_to_one_outcome};
 use flow_cli::Stop;
 use flow_drawing::{Drawing, Form};
 use flow_journal::{a_file_has_one_journal_or_one_fault, a_journal_that_stops_is_no_schedule};
+use flow_played::{Played, players_come_to_one_outcome};
 use flow_text::{Shelf, Sink, WriteStop, write_all};
 use std::alloc::{AllocError, Global};
 
@@ -25,7 +26,8 @@ pub fn draw_top<F: Shelf, O: Sink>(
     ensures complete { IsComplete (call_of words.now (F.outside shelf.old) (F.outside shelf.new) (O.outside out.old) (O.outside out.new)) result }
 {
     standard_components_come_to_one_outcome();
-    a_journal_that_stops_is_no_schedule::<Std>();
+    players_come_to_one_outcome::<Std>();
+    a_journal_that_stops_is_no_schedule::<Played<Std>>();
     a_file_has_one_journal_or_one_fault();
     match picture(alloc, words, shelf) {
         Ok(text) => print(out, &text),

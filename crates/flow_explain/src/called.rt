@@ -1,5 +1,8 @@
 //! The words with which a program was called.
+use flow_files::FileShelf;
+use flow_words::{Command, command};
 use std::alloc::{AllocError, Global};
+use std::fs::{File, Files};
 use std::{env, io};
 
 /// The words after the program's name. Words that are no text are no command line, as no words are.
@@ -15,4 +18,22 @@ pub fn words_of(alloc: Global, args: io::Result<env::Args>) -> Result<Vec<String
         Err(error) if error.kind() == io::ErrorKind::OutOfMemory => Err(AllocError),
         Err(_) => Ok(words),
     }
+}
+
+/// Tells the shelf to which files the run that these words ask for keeps its journal and its tapes.
+pub fn expect_kept<R: Files<File = File> + Drop>(
+    alloc: Global,
+    shelf: &mut FileShelf<R>,
+    words: &[String],
+) -> Result<(), AllocError> {
+    let Some(Command::Run(asked)) = command(alloc, words)? else {
+        return Ok(());
+    };
+    if let Some(name) = asked.journal {
+        shelf.expect_journal(String::from_str(alloc, name)?);
+    }
+    if let Some(name) = asked.tapes {
+        shelf.expect_tapes(String::from_str(alloc, name)?);
+    }
+    Ok(())
 }

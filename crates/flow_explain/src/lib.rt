@@ -13,6 +13,7 @@ mod line;
 mod near;
 mod net;
 mod outer;
+mod own;
 mod patterns;
 mod pieces;
 mod place;
@@ -22,7 +23,7 @@ mod refused;
 mod said;
 mod shown;
 
-pub use called::words_of;
+pub use called::{expect_kept, words_of};
 pub use near::nearest;
 pub use refusal::put_refusal;
 pub use shown::{put_all, put_word};

@@ -4,13 +4,14 @@ use crate::forms::{is_digits, put_forms, slip};
 use crate::found::{Found, Wanted, find, find_in, kind_given};
 use crate::kinds::is_port_name;
 use crate::net::{Net, put_found};
+use crate::own::OwnKinds;
 use crate::pieces::{Piece, bad_rest, pieces};
 use crate::said::Mention;
 use crate::shown::{put_line, put_word};
-use flow_catalogue::kinds;
 use flow_limits::{
     CAPACITY_LIMIT, FIRST_CAPACITY_LIMIT, LAST_ELEMENT, NAME_LIMIT, STATEMENT_LIMIT, TEXT_LIMIT,
 };
+use flow_offer::table;
 use flow_parse::{FIRST_VERSION, NetFault, RESERVED, Reason, SECOND_VERSION, is_reserved};
 use flow_text::decimal;
 use std::alloc::{AllocError, Global};
@@ -20,13 +21,15 @@ pub fn put_fault(
     alloc: Global,
     page: &mut String,
     bytes: &[u8],
+    own: OwnKinds<'_>,
     fault: NetFault,
 ) -> Result<(), AllocError> {
-    let table = kinds(alloc)?;
+    let table = table(alloc, own.kinds)?;
     let net = Net {
         alloc,
         bytes,
         kinds: &table,
+        own,
     };
     match find(alloc, bytes, &Wanted::Number(fault.line))? {
         Some(found) => put_reason(net, page, &found, fault.reason),

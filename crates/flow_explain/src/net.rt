@@ -1,6 +1,7 @@
 //! A network file that is explained, beside the table of kinds.
 use crate::found::{Found, Home, Walk, Wanted, find_in, home_of, is_same_part, kind_of};
 use crate::kinds::{Side, row};
+use crate::own::OwnKinds;
 use crate::place::{Counted, canonical, fewest, statement};
 use crate::shown::put_line;
 use flow_flat::ExpandFault;
@@ -13,6 +14,8 @@ pub struct Net<'a> {
     pub alloc: Global,
     pub bytes: &'a [u8],
     pub kinds: &'a [KindSpec],
+    /// Those of them that are the caller's own.
+    pub own: OwnKinds<'a>,
 }
 
 /// The statement at fault, and the line that has the port which is at fault.
@@ -92,7 +95,7 @@ impl<'a> Net<'a> {
         let Some(spelling) = canonical(self.alloc, self.bytes)? else {
             return Ok(None);
         };
-        let number = fewest(self.alloc, &spelling, Counted::Statements, fault)?;
+        let number = fewest(self.alloc, &spelling, self.own, Counted::Statements, fault)?;
         statement(self.alloc, self.bytes, number)
     }
 

@@ -1,7 +1,8 @@
 //! Where the statement stands that is at fault: the last one of the shortest beginning of the file that is refused in
 //! the same way.
 use crate::found::{Found, Walk};
-use crate::refusal::{Fault, fault_of};
+use crate::own::OwnKinds;
+use crate::refusal::{Opened, open_network};
 use crate::said::Tag;
 use flow_flat::ExpandFault;
 use flow_parse::{parse, print};
@@ -78,9 +79,9 @@ fn count(spelling: &[u8], counted: Counted) -> usize {
 }
 
 // Whether a network is refused for this fault.
-fn is_refused(alloc: Global, net: &[u8], fault: &ExpandFault) -> bool {
-    match fault_of(alloc, net) {
-        Ok(Some(Fault::Network(found))) => found == *fault,
+fn is_refused(alloc: Global, net: &[u8], own: OwnKinds<'_>, fault: &ExpandFault) -> bool {
+    match open_network(alloc, net, own) {
+        Ok(Opened::Network(found)) => found == *fault,
         _ => false,
     }
 }
@@ -89,6 +90,7 @@ fn is_refused(alloc: Global, net: &[u8], fault: &ExpandFault) -> bool {
 pub fn fewest(
     alloc: Global,
     spelling: &[u8],
+    own: OwnKinds<'_>,
     counted: Counted,
     fault: &ExpandFault,
 ) -> Result<usize, AllocError> {
@@ -101,7 +103,7 @@ pub fn fewest(
         }
         let middle = fine.saturating_add(apart / 2);
         let tried = beginning(alloc, spelling, counted, middle)?;
-        if is_refused(alloc, &tried, fault) {
+        if is_refused(alloc, &tried, own, fault) {
             refused = middle;
         } else {
             fine = middle;

@@ -1,23 +1,32 @@
 //! A network file that is refused is read once more, and its fault explained.
+ghost use Rattle.flow_offer.specs.Kinds.{AreOwnKinds};
+
 use crate::line::put_fault;
+use crate::own::{OwnKinds, put_no_part};
 use crate::refused::put_refused;
-use flow_catalogue::kinds;
 use flow_expand::{ExpandStop, expand};
 use flow_files::FileShelf;
 use flow_flat::ExpandFault;
 use flow_limits::FILE_LIMIT;
+use flow_offer::{own_kinds_make_a_table, table};
 use flow_parse::{NetFault, ParseStop, parse};
+use flow_plan::{KindSpec, Plan};
 use flow_text::{Shelf, read_all};
 use std::alloc::{AllocError, Global};
 use std::fs::{File, Files};
 
-/// Explains why the network file of this name is refused, where it is a regular one: a pipe has nothing left to give.
+/// Explains why the network file of this name is refused, where it is a regular one: a pipe has nothing left to give. It
+/// may name these kinds of the caller's own, of which there are so many parts.
 pub fn put_refusal<R: Files<File = File> + Eprint + Drop>(
     alloc: Global,
     rt: &R,
     page: &mut String,
     name: &str,
-) -> Result<(), AllocError> {
+    own: &[KindSpec],
+    parts: &[usize],
+) -> Result<(), AllocError>
+    requires { AreOwnKinds own.now }
+{
     match rt.metadata(name) {
         Ok(found) if found.is_file() => {}
         _ => return Ok(()),
@@ -29,33 +38,37 @@ pub fn put_refusal<R: Files<File = File> + Eprint + Drop>(
     let Ok(net) = read_all(alloc, &mut shelf, FILE_LIMIT) else {
         return Ok(());
     };
-    match fault_of(alloc, &net)? {
-        Some(Fault::Line(fault)) => put_fault(alloc, page, &net, fault),
-        Some(Fault::Network(fault)) => put_refused(alloc, page, &net, &fault),
-        None => Ok(()),
+    let own = OwnKinds { kinds: own };
+    match open_network(alloc, &net, own)? {
+        Opened::Line(fault) => put_fault(alloc, page, &net, own, fault),
+        Opened::Network(fault) => put_refused(alloc, page, &net, own, &fault),
+        Opened::Plan(plan) => put_no_part(page, &plan, own.kinds, parts),
     }
 }
 
-/// Why a network file is refused.
+/// What the bytes of a network file are.
 #[derive(Drop)]
-pub enum Fault {
+pub enum Opened {
     /// A line of the file has a fault.
     Line(NetFault),
     /// The network that the file spells has a fault.
     Network(ExpandFault),
+    /// The file has no fault, and this is its plan.
+    Plan(Plan),
 }
 
-/// The fault of a network file's bytes, where they are refused.
-pub fn fault_of(alloc: Global, net: &[u8]) -> Result<Option<Fault>, AllocError> {
+/// What a network file's bytes are.
+pub fn open_network(alloc: Global, net: &[u8], own: OwnKinds<'_>) -> Result<Opened, AllocError> {
     let text = match parse(alloc, net) {
         Ok(text) => text,
-        Err(ParseStop::Fault(fault)) => return Ok(Some(Fault::Line(fault))),
+        Err(ParseStop::Fault(fault)) => return Ok(Opened::Line(fault)),
         Err(ParseStop::NoMemory) => return Err(AllocError),
     };
-    let kinds = kinds(alloc)?;
+    own_kinds_make_a_table();
+    let kinds = table(alloc, own.kinds)?;
     match expand(alloc, &text, kinds) {
-        Ok(_) => Ok(None),
-        Err(ExpandStop::Fault(fault)) => Ok(Some(Fault::Network(fault))),
+        Ok(plan) => Ok(Opened::Plan(plan)),
+        Err(ExpandStop::Fault(fault)) => Ok(Opened::Network(fault)),
         Err(ExpandStop::NoMemory) => Err(AllocError),
     }
 }

@@ -5,18 +5,19 @@ use crate::kinds::{names, put_names};
 use crate::near::nearest;
 use crate::net::{Net, put_if_found};
 use crate::outer::put_outer_port;
+use crate::own::OwnKinds;
 use crate::place::{Counted, canonical, fewest, process};
 use crate::ports::{
     put_bad_option, put_capacity, put_gap, put_missing, put_needs_initial, put_taken, put_unknown,
 };
 use crate::shown::put_word;
-use flow_catalogue::kinds;
 use flow_flat::ExpandFault;
 use flow_limits::{
     CAPACITY_SUM_LIMIT, CONNECTION_LIMIT, DEFAULT_CAPACITY, PROCESS_LIMIT, SENDER_LIMIT,
     SUBNET_PROCESS_LIMIT,
 };
 use flow_net::{Many, PlanFault};
+use flow_offer::table;
 use std::alloc::{AllocError, Global};
 
 /// Explains the fault of a network.
@@ -24,13 +25,15 @@ pub fn put_refused(
     alloc: Global,
     page: &mut String,
     bytes: &[u8],
+    own: OwnKinds<'_>,
     fault: &ExpandFault,
 ) -> Result<(), AllocError> {
-    let table = kinds(alloc)?;
+    let table = table(alloc, own.kinds)?;
     let net = Net {
         alloc,
         bytes,
         kinds: &table,
+        own,
     };
     match fault {
         ExpandFault::Recursive(name) => put_recursive(net, page, name.as_slice()),
@@ -117,7 +120,7 @@ fn put_last_process(
     let Some(spelling) = canonical(net.alloc, net.bytes)? else {
         return Ok(());
     };
-    let number = fewest(net.alloc, &spelling, Counted::Processes, fault)?;
+    let number = fewest(net.alloc, &spelling, net.own, Counted::Processes, fault)?;
     let Some(last) = process(net.alloc, &spelling, number)? else {
         return Ok(());
     };

@@ -34,11 +34,20 @@ enum Part {
     Output,
 }
 
+/// A file that is kept of a run. It is written behind all outputs, so it is known by its name before it is open.
+#[derive(Clone, Copy)]
+pub enum Kept {
+    Journal,
+    Tapes,
+}
+
 /// The files of a call so far.
 #[derive(Drop)]
 pub struct Known {
-    /// The name of the journal's file, which is written last.
+    /// The name of the journal's file.
     journal: Option<String>,
+    /// The name of the tape file.
+    tapes: Option<String>,
     /// Those that were opened to be read, that of the network first.
     read: Vec<Option<Identity>>,
     written: Vec<Option<Identity>>,
@@ -48,13 +57,17 @@ impl Known {
     pub fn new(alloc: Global) -> Known {
         Known {
             journal: None,
+            tapes: None,
             read: Vec::new(alloc),
             written: Vec::new(alloc),
         }
     }
 
-    pub fn expect_journal(&mut self, name: String) {
-        self.journal = Some(name);
+    pub fn expect(&mut self, kept: Kept, name: String) {
+        match kept {
+            Kept::Journal => self.journal = Some(name),
+            Kept::Tapes => self.tapes = Some(name),
+        }
     }
 
     pub fn add_read(&mut self, file: &File) -> Result<(), AllocError> {
@@ -67,22 +80,31 @@ impl Known {
         Ok(())
     }
 
-    /// Before anything is written: a journal that would be written over the network or over an input is a fault. Its
-    /// file isn't open yet, so it is asked by its name, and once more when it is open.
-    pub fn admit_journal<R: Files>(&self, rt: &R) -> io::Result<()> {
-        let Some(journal) = &self.journal else {
-            return Ok(());
-        };
+    /// Before anything is written: what is kept of the run and would be written over the network or over an input is a
+    /// fault. Its file isn't open yet, so it is asked by its name, and once more when it is open.
+    pub fn admit_kept<R: Files>(&self, rt: &R) -> io::Result<()> {
         if !self.written.is_empty() {
             return Ok(());
         }
-        self.admit_as_journal(Identity::of(rt.metadata(journal.as_str())))
+        if let Some(journal) = &self.journal {
+            self.admit_as(Kept::Journal, Identity::of(rt.metadata(journal.as_str())))?;
+        }
+        if let Some(tapes) = &self.tapes {
+            self.admit_as(Kept::Tapes, Identity::of(rt.metadata(tapes.as_str())))?;
+        }
+        Ok(())
     }
 
-    fn admit_as_journal(&self, file: Option<Identity>) -> io::Result<()> {
-        match self.part_of(file) {
-            Some(Part::Network) => Err(refused("the journal's file is the network file")),
-            Some(Part::Input) => Err(refused("the journal's file is an input")),
+    fn admit_as(&self, kept: Kept, file: Option<Identity>) -> io::Result<()> {
+        match (self.part_of(file), kept) {
+            (Some(Part::Network), Kept::Journal) => {
+                Err(refused("the journal's file is the network file"))
+            }
+            (Some(Part::Network), Kept::Tapes) => {
+                Err(refused("the tape file is the network file"))
+            }
+            (Some(Part::Input), Kept::Journal) => Err(refused("the journal's file is an input")),
+            (Some(Part::Input), Kept::Tapes) => Err(refused("the tape file is an input")),
             _ => Ok(()),
         }
     }
@@ -91,8 +113,8 @@ impl Known {
     /// standard error tells.
     pub fn admit<R: Eprint>(&self, rt: &R, name: &str, file: &File) -> io::Result<()> {
         let file = Identity::of(file.metadata());
-        if self.is_journal(name) {
-            self.admit_as_journal(file)?;
+        if let Some(kept) = self.kept_as(name) {
+            self.admit_as(kept, file)?;
         }
         match self.part_of(file) {
             None => {}
@@ -107,11 +129,15 @@ impl Known {
         Ok(())
     }
 
-    fn is_journal(&self, name: &str) -> bool {
-        match &self.journal {
-            Some(journal) => journal.as_str() == name,
-            None => false,
+    /// What the file of this name keeps of the run.
+    fn kept_as(&self, name: &str) -> Option<Kept> {
+        if is_named(&self.journal, name) {
+            return Some(Kept::Journal);
         }
+        if is_named(&self.tapes, name) {
+            return Some(Kept::Tapes);
+        }
+        None
     }
 
     /// A number may be given anew once its file is gone, so those that were written are looked through first: they are
@@ -126,6 +152,13 @@ impl Known {
             Some(_) => Some(Part::Input),
             None => None,
         }
+    }
+}
+
+fn is_named(kept: &Option<String>, name: &str) -> bool {
+    match kept {
+        Some(kept) => kept.as_str() == name,
+        None => false,
     }
 }
 

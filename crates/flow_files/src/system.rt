@@ -78,7 +78,7 @@ pub fn begin<R: Files<File = File> + Eprint>(
     known: &Known,
     name: &str,
 ) -> Result<Output, OutputError> {
-    known.admit_journal(rt)?;
+    known.admit_kept(rt)?;
     match OpenOptions::new().write(true).open(rt, name) {
         // A file that may not be written isn't replaced either.
         Ok(old) => {

@@ -34,14 +34,14 @@ use Rattle.flow_floor.specs.declared.board.View.{View}
 use Rattle.flow_floor.specs.Rule.{Law}
 use Rattle.flow_floor.specs.Made.{numbered}
 use Rattle.flow_floor.specs.Waking.{IsWiredAs, IsDoneWord, IsRetired, AllRetired}
-use Rattle.flow_machine.specs.Quiet.{AllUnset, IsQuietNet}
+use Rattle.flow_machine.specs.Quiet.{AllUnset, EndedAreTold, IsQuietNet}
 use Rattle.flow_floor.specs.Shut.{IsShut, ListsStarved, starves, HasBodies, HasChannels, BodiesIn, ChannelsIn}
 use Rattle.flow_floor.proofs.Numbers.{contains-none}
 use Rattle.flow_floor.proofs.Shutting.{same-lists}
 use Rattle.flow_floor.proofs.Seats.{St, get-exists, get-within}
 use Rattle.flow_floor.proofs.Ends.{closes}
 use Rattle.flow_floor.specs.Still.{IsStill, IsAllStill}
-use Rattle.flow_floor.proofs.Quiet.{quiet-at-zero, free-at-zero, parked-at-zero, none-held-at-zero}
+use Rattle.flow_floor.proofs.Quiet.{quiet-at-zero, free-at-zero, parked-at-zero, told-at-zero, none-held-at-zero}
 
 over-still : {K : Type 0} (channels : List ChannelShown) (b : BodyValue K) (stage : Stage) → b.process.stage ≡ stage → IsOverStage stage → IsThoughtStage stage × ((m : ℕ) → event_from (looks_of channels) b.process m ≡ None)
 over-still channels b stages.Ended at over = (tt, λ m. ap (stage_event (looks_of channels) b.process m) at)
@@ -124,6 +124,7 @@ module _ {K : Type 0} (rules : Rules K) (start : NetValue K) where
     pub done : AllRetired ws now.bodies
     pub words : v.read_zero ≡ true → (p : ℕ) (b : BodyValue K) → slice_get now.bodies p ≡ Some b → (get_or ws p 0 ≡ 0) ⊎ IsDoneWord (get_or ws p 0)
     pub thought : v.read_zero ≡ true → (p : ℕ) (b : BodyValue K) → slice_get now.bodies p ≡ Some b → get_or ws p 0 ≡ 0 → IsThoughtStage b.process.stage
+    pub told : v.read_zero ≡ true → EndedAreTold now
     pub quiet : v.read_zero ≡ true → ((p : ℕ) (b : BodyValue K) → slice_get now.bodies p ≡ Some b → (get_or ws p 0 ≡ 0) ⊎ IsOverStage b.process.stage) → (t : State K) → StandsForOpen (shown_net now) t → Quiet t
 
   pub closing : (id : ℕ) (v : View K) (ws : List ℕ) (xs : List (Slot K)) → v.shares ≡ WORKER_LIMIT → v.held ≡ None → Final (Seen Rule id v) ws xs → Closes v ws xs
@@ -145,6 +146,7 @@ module _ {K : Type 0} (rules : Rules K) (start : NetValue K) where
         done = subst (λ (l : List ℕ). AllRetired l r.beside.now.bodies) words r.done;
         words = λ zero_read p b there. subst (λ (l : List ℕ). (get_or l p 0 ≡ 0) ⊎ IsDoneWord (get_or l p 0)) words (free-at-zero rules start s r ((r.wakes.each id v seen.1).zero zero_read) p b there);
         thought = λ zero_read p b there parked. (parked-at-zero rules start s r ((r.wakes.each id v seen.1).zero zero_read) p b there (ap (λ (l : List ℕ). get_or l p 0) words ∙ parked)).0;
+        told = λ zero_read. told-at-zero rules start s r ((r.wakes.each id v seen.1).zero zero_read);
         quiet = λ zero_read over t stands. quiet-at-zero rules start s r ((r.wakes.each id v seen.1).zero zero_read)
             (λ p b there. elim (over p b there) [
               | inl parked ↦ inl (ap (λ (l : List ℕ). get_or l p 0) words ∙ parked)
@@ -179,8 +181,12 @@ module _ {K : Type 0} (rules : Rules K) (start : NetValue K) where
       (λ l k d low. (let p = get_or starved k d in let a = l.each k d low in let t = starves-true (get_or ws p 0) a.0.process.stage a.2 in (a.0, a.1, retired a.0 t.1 (c.done p a.0 a.1 t.0)))) lists
     where
       retired : (b : BodyValue K) → is_over_stage b.process.stage ≡ false → IsRetired b → IsUnset b
-      retired b left (inl over) = absurd (not-over b.process.stage left over)
-      retired b left (inr unset) = unset
+      retired b left (inl told) = absurd (not-over b.process.stage left told.0)
+      retired b left (inr starved) = starved.1
+
+  -- where the worker read 0, each body that is over was told its end
+  pub over-told : (v : View K) (ws : List ℕ) (xs : List (Slot K)) (net : NetValue K) (c : Closes v ws xs) → c.now ≡ net → v.read_zero ≡ true → EndedAreTold net
+  over-told v ws xs net c is zero_read = subst EndedAreTold is (c.told zero_read)
 
   -- where the worker read 0, and none is listed, the net is quiet
   pub quiet-none : (v : View K) (ws : List ℕ) (xs : List (Slot K)) (net : NetValue K) (starved : List ℕ) (c : Closes v ws xs) → c.now ≡ net → ListsStarved ws net.bodies (length net.bodies) starved → v.read_zero ≡ true → starved ≡ [] → IsQuietNet net
@@ -205,14 +211,18 @@ module _ {K : Type 0} (rules : Rules K) (start : NetValue K) where
 
   -- Where some seat has read 0, nobody has anything to do.
   pub still-at-zero : (s : St K) (r : Law rules start s) (j : ℕ) (v : View K) → get_elem? s.views j ≡ some v → v.read_zero ≡ true → IsAllStill s.words s.views r.beside.now
-  still-at-zero s r j v at zero = record { idle = λ i u there. none-held-at-zero rules start s r live i u there; still = λ q b there. by q b there (free-at-zero rules start s r live q b there) }
+  still-at-zero s r j v at zero = record {
+    idle = λ i u there. none-held-at-zero rules start s r live i u there;
+    still = λ q b there. by q b there (free-at-zero rules start s r live q b there);
+    told = told-at-zero rules start s r live;
+  }
     where
       live : get_or s.words (length start.bodies + length start.channels + 1) 0 ≡ 0
       live = (r.wakes.each j v at).zero zero
 
       done : (q : ℕ) (b : BodyValue K) → IsDoneWord (get_or s.words q 0) → IsRetired b → IsStill r.beside.now b ⊎ (IsDoneWord (get_or s.words q 0) × IsUnset b)
-      done q b is (inl over) = inl (over-still r.beside.now.channels b b.process.stage refl over)
-      done q b is (inr unset) = inr (is, unset)
+      done q b is (inl told) = inl (over-still r.beside.now.channels b b.process.stage refl told.0)
+      done q b is (inr starved) = inr (is, starved.1)
 
       by : (q : ℕ) (b : BodyValue K) → slice_get r.beside.now.bodies q ≡ Some b → (get_or s.words q 0 ≡ 0) ⊎ IsDoneWord (get_or s.words q 0) → IsStill r.beside.now b ⊎ (IsDoneWord (get_or s.words q 0) × IsUnset b)
       by q b there (inl parked) = inl (parked-at-zero rules start s r live q b there parked)

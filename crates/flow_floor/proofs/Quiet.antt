@@ -21,7 +21,10 @@ use Rattle.flow_model.specs.Verdicts.{Quiet}
 use Rattle.flow_machine.specs.Values.{BodyValue, NetValue, shown_body, shown_net}
 use Rattle.flow_machine.specs.Nets.{looks_of}
 use Rattle.flow_machine.proofs.Standings.{get-map, process-in, happens-in}
+use Rattle.flow_machine.specs.Quiet.{EndedAreTold}
+use Rattle.flow_machine.specs.Thoughts.{IsNotOver}
 use Rattle.flow_machine.proofs.FitLemmas.{level-fits}
+use Rattle.flow_machine.proofs.Told.{not-both, told-at}
 use Rattle.flow_ring.specs.Words.{level_in, senders_in}
 use Rattle.flow_floor.specs.declared.board.View.{View}
 use Rattle.flow_floor.specs.Law.{IsTaken, IsFree, Stands, Lies, Holds}
@@ -171,6 +174,15 @@ module _ {K : Type 0} (n : ℕ) (channels start : List ChannelShown) (ws : List 
   block-none b stages.Ended m at ins outs signals never = absurd never
   block-none b (stages.Failed cause) m at ins outs signals never = absurd never
 
+-- a process that the words block isn't over
+blocks-not-over : {K : Type 0} (n : ℕ) (channels : List ChannelShown) (ws : List ℕ) (b : BodyValue K) (stage : Stage) → WordsBlock n channels ws b stage → IsNotOver stage
+blocks-not-over n channels ws b stages.Idle blocks = tt
+blocks-not-over n channels ws b (stages.Wishing wish) blocks = tt
+blocks-not-over n channels ws b (stages.Told answer) blocks = tt
+blocks-not-over n channels ws b (stages.Closing i) blocks = tt
+blocks-not-over n channels ws b stages.Ended blocks = blocks
+blocks-not-over n channels ws b (stages.Failed cause) blocks = blocks
+
 module _ {K : Type 0} (rules : Rules K) (start : NetValue K) where
   abbrev Rule : St K → Type 0
   Rule = Law rules start
@@ -234,21 +246,38 @@ module _ {K : Type 0} (rules : Rules K) (start : NetValue K) where
       by None none k = free (get_or s.words q 0) none k.0
       by (Some j) none k = absurd (omega (arith, none, taken-live (get_or s.words q 0) k.0))
 
+  -- Where the live word is 0, the words block each parked process.
+  blocks-at-zero : (s : St K) (r : Rule s) → get_or s.words L 0 ≡ 0 → (q : ℕ) (b : BodyValue K) → slice_get r.beside.now.bodies q ≡ Some b → get_or s.words q 0 ≡ 0 → WordsBlock P start.channels s.words b b.process.stage
+  blocks-at-zero s r z q b there empty = elim (r.wakes.parked q b there empty).1 [
+    | inl words ↦ words
+    | inr note ↦ absurd (none-noted s r z q note)
+  ]
+
+  -- Where the live word is 0, no parked process is over.
+  parked-not-over : (s : St K) (r : Rule s) → get_or s.words L 0 ≡ 0 → (q : ℕ) (b : BodyValue K) → slice_get r.beside.now.bodies q ≡ Some b → get_or s.words q 0 ≡ 0 → IsNotOver b.process.stage
+  parked-not-over s r z q b there empty = blocks-not-over P start.channels s.words b b.process.stage (blocks-at-zero s r z q b there empty)
+
   -- Where the live word is 0, no parked process has a turn or a work to come.
   pub parked-at-zero : (s : St K) (r : Rule s) → get_or s.words L 0 ≡ 0 → (q : ℕ) (b : BodyValue K) → slice_get r.beside.now.bodies q ≡ Some b → get_or s.words q 0 ≡ 0
       → IsThoughtStage b.process.stage × ((m : ℕ) → event_from (looks_of r.beside.now.channels) b.process m ≡ None)
   parked-at-zero s r z q b there empty =
       let now = r.beside.now in
-      let p = r.wakes.parked q b there empty in
       let wired = r.flow.fit.wired q b there in
-      let blocks : WordsBlock P start.channels s.words b b.process.stage = elim p.1 [
-        | inl words ↦ words
-        | inr note ↦ absurd (none-noted s r z q note)
-      ] in (
-        p.0,
+      let blocks = blocks-at-zero s r z q b there empty in (
+        (r.wakes.parked q b there empty).0,
         λ m. block-none P now.channels start.channels s.words (words-tell s r z) (λ c below. get-exists now.channels c below) r.wakes.wired.capacities b b.process.stage m refl (λ i c is. wired.inputs i c is) (λ o c is. wired.outputs o c is)
             (λ c is. (let below = r.wakes.wired.signals q c b there is in omega (arith, below, r.flow.same.1))) blocks,
       )
+
+  -- Where the live word is 0, each body of a process that is over was told its end.
+  pub told-at-zero : (s : St K) (r : Rule s) → get_or s.words L 0 ≡ 0 → EndedAreTold r.beside.now
+  told-at-zero s r z q b there over = elim (free-at-zero s r z q b there) [
+    | inl parked ↦ absurd (not-both b.process.stage over (parked-not-over s r z q b there parked))
+    | inr done ↦ elim (r.done q b there done) [
+      | inl told ↦ told-at b b.process.stage told.0 told.1
+      | inr starved ↦ absurd (not-both b.process.stage over starved.0)
+    ]
+  ]
 
   -- Where the live word is 0 and each done process is over, each state that the net stands for is quiet.
   pub quiet-at-zero : (s : St K) (r : Rule s) → get_or s.words L 0 ≡ 0 → ((q : ℕ) (b : BodyValue K) → slice_get r.beside.now.bodies q ≡ Some b → (get_or s.words q 0 ≡ 0) ⊎ (IsThoughtStage b.process.stage × ((m : ℕ) → event_from (looks_of r.beside.now.channels) b.process m ≡ None)))

@@ -27,9 +27,9 @@ low-undone w low (inr e) = omega (arith, low, e)
 
 -- Who may be retired is.
 pub retires-as : {K : Type 0} (over : Over) (h : Held K) → IsOverAs over h → IsRetired h.body
-retires-as overs.Ended h is = inl (subst IsOverStage (sym is) tt)
-retires-as overs.Failed h is = inl (subst IsOverStage (sym is.1) tt)
-retires-as overs.Starved h is = inr is.1
+retires-as overs.Ended h is = inl (subst IsOverStage (sym is.0) tt, is.1)
+retires-as overs.Failed h is = inl (subst IsOverStage (sym is.0.1) tt, is.1)
+retires-as overs.Starved h is = inr (is.1, is.2)
 
 module _ {K : Type 0} where
   -- The word of one process changes.

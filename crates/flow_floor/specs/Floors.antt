@@ -6,7 +6,7 @@ use Rattle.flow_model.specs.Events.{Event}
 use Rattle.flow_model.specs.Stands.{ChannelShown}
 use Rattle.flow_model.specs.declared.Stage.TheVariants as stages
 use Rattle.flow_machine.specs.Nets.{BodyTurn, HasFailed}
-use Rattle.flow_machine.specs.Thoughts.{IsUnset}
+use Rattle.flow_machine.specs.Thoughts.{IsNotOver, IsSet, IsUnset}
 use Rattle.flow_machine.specs.Values.{BodyValue, NetValue}
 use Rattle.flow_machine.specs.declared.answers.Over.{Over}
 use Rattle.flow_machine.specs.declared.answers.Over.TheVariants as overs
@@ -127,11 +127,12 @@ module _ {K : Type 0} where
   abbrev pub TurnsAt : Rules K → Floor K → Held K → Worker K → Held K → Worker K → Turned → Type 0
   TurnsAt rules f h w h' w' turned = Turns rules (process_count f) (opened_net f) h w h' w' turned
 
-  -- The held body may be retired so: its process has ended, or has failed, or its last thought found no memory, and it isn't set.
+  -- The held body may be retired so: its process has ended, or has failed, and the body is set, which is that its component was told its end; or its
+  -- last thought found no memory, and it isn't over and isn't set.
   abbrev pub IsOverAs : Over → Held K → Type 0
-  IsOverAs overs.Ended h = h.body.process.stage ≡ stages.Ended
-  IsOverAs overs.Failed h = HasFailed h.body.process.stage
-  IsOverAs overs.Starved h = (h.starved ≡ true) × IsUnset h.body
+  IsOverAs overs.Ended h = (h.body.process.stage ≡ stages.Ended) × IsSet h.body
+  IsOverAs overs.Failed h = HasFailed h.body.process.stage × IsSet h.body
+  IsOverAs overs.Starved h = (h.starved ≡ true) × IsNotOver h.body.process.stage × IsUnset h.body
 
   -- The worker has the same share of its floor.
   abbrev pub HasSameShare : Worker K → Worker K → Type 0

@@ -14,7 +14,7 @@ use Rattle.flow_model.specs.Stages.{IsOverStage, IsThoughtStage}
 use Rattle.flow_model.specs.Events.{is_connected}
 use Rattle.flow_model.specs.Stands.{ChannelShown}
 use Rattle.flow_machine.specs.Values.{BodyValue, NetValue}
-use Rattle.flow_machine.specs.Thoughts.{IsUnset}
+use Rattle.flow_machine.specs.Thoughts.{IsNotOver, IsSet, IsUnset}
 use Rattle.flow_ring.specs.Words.{level_in, senders_in}
 use Rattle.flow_floor.specs.declared.board.Slot.{Slot}
 use Rattle.flow_floor.specs.declared.board.View.{View}
@@ -95,9 +95,10 @@ module _ {K : Type 0} where
   AllBlock n channels words b [] = Unit {0}
   AllBlock n channels words b (look ∷ seen) = StillBlocks n channels words b look × AllBlock n channels words b seen
 
-  -- There is nothing to do with the body any more: it is over, or its thought found no memory, so that it isn't set.
+  -- There is nothing to do with the body any more: it is over and set, which is that its component was told its end; or it is starved: it isn't over,
+  -- and isn't set, since its thought found no memory.
   abbrev pub IsRetired : BodyValue K → Type 0
-  IsRetired b = IsOverStage b.process.stage ⊎ IsUnset b
+  IsRetired b = (IsOverStage b.process.stage × IsSet b) ⊎ (IsNotOver b.process.stage × IsUnset b)
 
   -- Done. Each process whose word says that it is done has such a body.
   abbrev pub AllRetired : List ℕ → List (BodyValue K) → Type 0

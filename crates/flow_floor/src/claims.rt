@@ -82,7 +82,7 @@ impl<K: Component> Floor<K> {
         worker.woken.add(process as u32);
     }
 
-    /// The process is done: it is over, or its last thought found no memory.
+    /// The process is done: it is over and was told its end, or its last thought found no memory.
     pub fn retire(&self, worker: &mut Worker<K>, held: Held<K>, over: Over)
         requires held { IsHeldAt K.rules self.now worker.old held }
         requires over { IsOverAs over held }

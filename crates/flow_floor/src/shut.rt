@@ -6,7 +6,7 @@ ghost use Rattle.flow_ring.specs.Spaced.{ranked};
 ghost use Rattle.flow_limits.specs.declared.TheConstants.{PROCESS_LIMIT, WORKER_LIMIT};
 ghost use Rattle.flow_floor.specs.Crew.{made_by};
 ghost use Rattle.flow_floor.specs.Floors.{opened_net, HasReadZero, SomeReadZero, HasRoomsFor, IsCrewOf, IsIdleAt, turns_of};
-ghost use Rattle.flow_machine.specs.Quiet.{AllUnset, IsQuietNet};
+ghost use Rattle.flow_machine.specs.Quiet.{AllUnset, EndedAreTold, IsQuietNet};
 ghost use Rattle.flow_model.specs.Stages.{is_over_stage};
 ghost use Rattle.flow_floor.specs.Shut.{HasBodies, HasChannels, BodiesIn, ChannelsIn, IsShut, ListsStarved, starves, listed};
 ghost use Rattle.flow_floor.specs.Workers.{view};
@@ -128,6 +128,7 @@ impl<K: Component> Floor<K> {
         requires rooms { HasRoomsFor self rooms }
         ensures net { IsShut K.rules (opened_net self) (turns_of worker) result.net }
         ensures starved { AllUnset result.net result.starved.items }
+        ensures ended_are_told { HasReadZero worker → EndedAreTold result.net }
         ensures quiet { HasReadZero worker → result.starved.items ≡ [] → IsQuietNet result.net }
     {
         let Worker { seat, woken: _ } = worker;
@@ -165,6 +166,7 @@ impl<K: Component> Floor<K> {
         requires rooms { HasRoomsFor self rooms }
         ensures net { IsShut K.rules (opened_net self) (made_by workers.items) result.net }
         ensures starved { AllUnset result.net result.starved.items }
+        ensures ended_are_told { SomeReadZero workers.items → EndedAreTold result.net }
         ensures quiet { SomeReadZero workers.items → result.starved.items ≡ [] → IsQuietNet result.net }
     {
         let mut workers = workers;
@@ -176,13 +178,14 @@ impl<K: Component> Floor<K> {
     }
 
     /// Puts the net together again, from all workers, each of which read 0. The opened net goes on to it by their turns. It is quiet where no process
-    /// found no memory. Takes no memory: the room for this was taken when the floor was opened.
+    /// found no memory, and has no live component in a process that ended or failed. Takes no memory: the room for this was taken when the floor was opened.
     pub fn close(self, workers: Vec<Worker<K>>, rooms: Rooms<K>) -> Shut<K>
         requires crew { IsCrewOf self workers.items }
         requires rooms { HasRoomsFor self rooms }
         requires zero { All HasReadZero workers.items }
         ensures net { IsShut K.rules (opened_net self) (made_by workers.items) result.net }
         ensures starved { AllUnset result.net result.starved.items }
+        ensures ended_are_told { EndedAreTold result.net }
         ensures quiet { result.starved.items ≡ [] → IsQuietNet result.net }
     {
         self.rejoin(workers, rooms)
@@ -195,6 +198,7 @@ impl<K: Component> Floor<K> {
         requires rooms { HasRoomsFor self rooms }
         ensures net { IsShut K.rules (opened_net self) (made_by workers.items) result.net }
         ensures starved { AllUnset result.net result.starved.items }
+        ensures ended_are_told { SomeReadZero workers.items → EndedAreTold result.net }
         ensures quiet { SomeReadZero workers.items → result.starved.items ≡ [] → IsQuietNet result.net }
     {
         self.rejoin(workers, rooms)

@@ -25,3 +25,4 @@ mod WireLemmas
 pub mod SoloLemmas
 pub mod Reaching
 mod StartLemmas
+pub mod Told

@@ -44,6 +44,12 @@ IsSetAt body stages.Idle = HasRoom body
 IsSetAt body (stages.Wishing wish) = HasRoom body
 IsSetAt body (stages.Closing i) = HasRoom body
 
+-- A process at this stage isn't over: it has neither ended nor failed.
+abbrev pub IsNotOver : Stage → Type 0
+IsNotOver stages.Ended = ⊥
+IsNotOver (stages.Failed cause) = ⊥
+IsNotOver stage = Unit {0}
+
 -- A body is set for its next turn, which then takes no memory.
 abbrev pub IsSet : {K : Type 0} → BodyValue K → Type 0
 IsSet body = IsSetAt body body.process.stage
@@ -75,17 +81,17 @@ abbrev pub PassesFirst : {K : Type 0} → (ℕ → ℕ → Type 0) → BodyValue
 PassesFirst has_passed body = (answer : Answer) → body.process.stage ≡ stages.Told answer → has_passed body.process.held.maker body.process.turns
 
 -- What a thought comes to. After a wish and after a failure the pending work is done, and the body is set; without memory either nothing changed that
--- is shown, or the work is done and only the room is missing, and the body isn't set: so the process hasn't ended.
+-- is shown, or the work is done and only the room is missing, and the process isn't over and its body isn't set: one that is over needs no memory.
 abbrev pub Thinks : {K : Type 0} → Rules K → BodyValue K → Thought → BodyValue K → Type 0
 Thinks rules old thoughts.Wishing new = SettlesBody rules old new × IsSet new × HasNotFailed new.process.stage
 Thinks rules old (thoughts.Failed cause) new = SettlesBody rules old new × IsSet new × (new.process.stage ≡ stages.Failed cause)
-Thinks rules old thoughts.NoMemory new = (SameBody old new ⊎ WorkedBody rules old new) × HasNotFailed new.process.stage × IsUnset new
+Thinks rules old thoughts.NoMemory new = (SameBody old new ⊎ WorkedBody rules old new) × IsNotOver new.process.stage × IsUnset new
 
 -- The same of a body whose work is done: it takes the room of its next turn.
 abbrev pub Prepares : {K : Type 0} → BodyValue K → Thought → BodyValue K → Type 0
 Prepares old thoughts.Wishing new = SameBody old new × IsSet new × HasNotFailed new.process.stage
 Prepares old (thoughts.Failed cause) new = SameBody old new × IsSet new × (new.process.stage ≡ stages.Failed cause)
-Prepares old thoughts.NoMemory new = SameBody old new × HasNotFailed new.process.stage × IsUnset new
+Prepares old thoughts.NoMemory new = SameBody old new × IsNotOver new.process.stage × IsUnset new
 
 -- Stamps, level numbers and a packet under way stay.
 pub record KeepsTurns {K : Type 0} (old new : BodyValue K) : Type 0 where

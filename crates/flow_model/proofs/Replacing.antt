@@ -17,13 +17,13 @@ use Rattle.flow_model.specs.Replaced.{with_component, all_replaced, replaced, Of
 use Rattle.flow_model.proofs.Lists.{slice_get-set_same, slice_get-set_other, same_or_not}
 
 -- a process that is there is there with its other component
-replaced-there : {K L : Type 0} (other : ℕ → K → L) (xs : List (Process K)) (p : ℕ) (x : Process K) → slice_get xs p ≡ Some x → slice_get (all_replaced other xs) p ≡ Some (with_component x (other p x.component))
+pub replaced-there : {K L : Type 0} (other : ℕ → K → L) (xs : List (Process K)) (p : ℕ) (x : Process K) → slice_get xs p ≡ Some x → slice_get (all_replaced other xs) p ≡ Some (with_component x (other p x.component))
 replaced-there other [] p x is = cc
 replaced-there {K} {L} other (y ∷ xs) zero x is = let e : y ≡ x = cc in ap (λ (z : Process K). Some (with_component z (other 0 z.component))) e
 replaced-there other (y ∷ xs) (suc p) x is = replaced-there (λ q. other (suc q)) xs p x is
 
 -- and a process that is there with another component is there
-replaced-from : {K L : Type 0} (other : ℕ → K → L) (xs : List (Process K)) (p : ℕ) (y : Process L) → slice_get (all_replaced other xs) p ≡ Some y → (x : Process K) × (slice_get xs p ≡ Some x) × (with_component x (other p x.component) ≡ y)
+pub replaced-from : {K L : Type 0} (other : ℕ → K → L) (xs : List (Process K)) (p : ℕ) (y : Process L) → slice_get (all_replaced other xs) p ≡ Some y → (x : Process K) × (slice_get xs p ≡ Some x) × (with_component x (other p x.component) ≡ y)
 replaced-from other [] p y is = cc
 replaced-from other (x ∷ xs) zero y is = (x, refl, (let e : with_component x (other 0 x.component) ≡ y = cc in e))
 replaced-from other (x ∷ xs) (suc p) y is = replaced-from (λ q. other (suc q)) xs p y is
@@ -39,7 +39,7 @@ wish-same : {K L : Type 0} (channels : List Look) (x : Process K) (c : L) (n : �
 wish-same channels x c n (wishes.Receive port) = refl
 wish-same channels x c n wish = refl
 
-stage-same : {K L : Type 0} (channels : List Look) (x : Process K) (c : L) (n : ℕ) (stage : Stage) → stage_event channels (with_component x c) n stage ≡ stage_event channels x n stage
+pub stage-same : {K L : Type 0} (channels : List Look) (x : Process K) (c : L) (n : ℕ) (stage : Stage) → stage_event channels (with_component x c) n stage ≡ stage_event channels x n stage
 stage-same channels x c n (stages.Wishing wish) = wish-same channels x c n wish
 stage-same channels x c n stage = refl
 
@@ -52,7 +52,7 @@ after-same : {K L : Type 0} (x : Process K) (c : L) (event : Event) → process_
 after-same x c (Closes output d) = ap (λ (stage : Stage). with_component (at_stage x stage) c) (closing-same x c x.stage)
 after-same x c event = refl
 
-component-same : {K : Type 0} (x : Process K) (event : Event) → (process_after x event).component ≡ x.component
+pub component-same : {K : Type 0} (x : Process K) (event : Event) → (process_after x event).component ≡ x.component
 component-same x Starts = refl
 component-same x event = refl
 
@@ -65,7 +65,7 @@ past-same past p x c event = ap {B = Past} (λ (hs : List Happening). record { d
 
 module _ {K L : Type 0} (rules : Rules K) (rules' : Rules L) (holds : ℕ → K → Type 0) (other : ℕ → K → L) (mimics : Mimics rules rules' holds other) where
   -- a turn with the other components
-  turn-replaced : (s : State K) (p : ℕ) (event : Event) (s' : State K) → Turn s p event s' → Turn (replaced other s) p event (replaced other s')
+  pub turn-replaced : (s : State K) (p : ℕ) (event : Event) (s' : State K) → Turn s p event s' → Turn (replaced other s) p event (replaced other s')
   turn-replaced s p event s' turn =
       let x = turn.kept.before in
       let c = other p x.component in
@@ -120,7 +120,7 @@ module _ {K L : Type 0} (rules : Rules K) (rules' : Rules L) (holds : ℕ → K 
       }
 
   -- what holds of each component after a turn or a work holds before it
-  turn-back : (s : State K) (p : ℕ) (event : Event) (s' : State K) → Turn s p event s' → OfEach holds s' → OfEach holds s
+  pub turn-back : (s : State K) (p : ℕ) (event : Event) (s' : State K) → Turn s p event s' → OfEach holds s' → OfEach holds s
   turn-back s p event s' turn each = λ q x there. by q x there (same_or_not q p)
     where
       by : (q : ℕ) (x : Process K) → slice_get s.kept.processes q ≡ Some x → (q ≡ p) ⊎ (q ≢ p) → holds q x.component
@@ -150,11 +150,11 @@ module _ {K L : Type 0} (rules : Rules K) (rules' : Rules L) (holds : ℕ → K 
   thought-replaced : (s : State K) (p : ℕ) → IsThought s.kept p → IsThought (replaced other s).kept p
   thought-replaced s p thought = λ y there. (let from = replaced-from other s.kept.processes p y there in subst (λ (z : Process L). IsThoughtStage z.stage) from.2 (thought from.0 from.1))
 
-  settles-replaced : (s : State K) (p : ℕ) (s' : State K) → Settles rules s p s' → OfEach holds s' → Settles rules' (replaced other s) p (replaced other s')
+  pub settles-replaced : (s : State K) (p : ℕ) (s' : State K) → Settles rules s p s' → OfEach holds s' → Settles rules' (replaced other s) p (replaced other s')
   settles-replaced s p s' (inl thought) each = inl (thought-replaced s p thought.0, ap (replaced other) thought.1)
   settles-replaced s p s' (inr work) each = inr (work-replaced s p s' work each)
 
-  settles-back : (s : State K) (p : ℕ) (s' : State K) → Settles rules s p s' → OfEach holds s' → OfEach holds s
+  pub settles-back : (s : State K) (p : ℕ) (s' : State K) → Settles rules s p s' → OfEach holds s' → OfEach holds s
   settles-back s p s' (inl thought) each = subst (OfEach holds) thought.1 each
   settles-back s p s' (inr work) each = work-back s p s' work each
 

@@ -2,3 +2,4 @@ pub mod Drops
 pub mod Desks
 pub mod Players
 pub mod Recording
+pub mod Writable

@@ -25,7 +25,7 @@ use Rattle.flow_own.specs.declared.tape.Entry.{Entry}
 use Rattle.flow_own.specs.Acts.{Made, CanAct}
 use Rattle.flow_own.specs.Parts.{Seen}
 use Rattle.flow_own.specs.Ends.{is_used, at_port, at_root, end_by, EndsBy}
-use Rattle.flow_own.specs.Tapes.{OwnValue, own_state, is_failure, has_failed, can_end, is_limit, is_full, Records, NextAs, OwnNext, outcome_by, after_entry, result_by, IsOwn}
+use Rattle.flow_own.specs.Tapes.{OwnValue, own_state, is_failure, has_failed, can_end, is_limit, is_full, Records, NextAs, OwnNext, outcome_by, after_entry, result_by}
 use Rattle.flow_own.specs.Taping.{EntryAs, Adds, Tapes}
 
 -- how an end stands that comes of an answer
@@ -63,7 +63,8 @@ pub record Recorded (own : OwnValue) (old new : Holding) (answer : Answer) (entr
 pub same-count : (old new : Holding) → held_of new ≡ held_of old → new.dropped ≡ old.dropped → new.dropped ≡ dropped_count old.dropped (drops_between (held_of old) (held_of new))
 same-count old new e f = f ∙ dropped-same old ∙ ap (λ (h : Held). dropped_count old.dropped (drops_between (held_of old) h)) (sym e)
 
-entry-recorded : (own : OwnValue) (before after : Seen) (old new : Holding) (answer : Answer) (entry : Entry) (full : Bool) → is_full own.tape ≡ full
+-- An entry that was added is one of those that the part may come to.
+pub entry-recorded : (own : OwnValue) (before after : Seen) (old new : Holding) (answer : Answer) (entry : Entry) (full : Bool) → is_full own.tape ≡ full
     → EntryAs full before after own.shape own.used old new answer entry → Recorded own old new answer entry
 entry-recorded own before after old new answer entry true e how =
     let P : Option Made → List ℕ → Type 0 = λ made dropped. CanAct (held_of old) made dropped in
@@ -150,13 +151,9 @@ added-within own before after tape old new answer result within a none =
     let more : length tape ≡ length own.tape + 1 = ap (λ (t : List Entry). length t) a.added ∙ length-append own.tape (a.entry ∷ []) in
     omega (arith, less, more)
 
-tape-within : (own : OwnValue) (before after : Seen) (tape : List Entry) (old new : Holding) (answer : Answer) (result : Result Wish Stop) → length own.tape < TAPE_LIMIT
+-- The tape is within its limit until the part fails.
+pub tape-within : (own : OwnValue) (before after : Seen) (tape : List Entry) (old new : Holding) (answer : Answer) (result : Result Wish Stop) → length own.tape < TAPE_LIMIT
     → Tapes before after own.shape own.used own.tape tape old new answer result → has_failed tape ≡ false → length tape < TAPE_LIMIT
 tape-within own before after tape old new answer (Ok wish) within a none = added-within own before after tape old new answer (Ok wish) within a none
 tape-within own before after tape old new answer (Err (stops.Fail cause)) within a none = added-within own before after tape old new answer (Err (stops.Fail cause)) within a none
 tape-within own before after tape old new answer (Err stops.NoMemory) within s none = let same : length tape ≡ length own.tape = ap (λ (t : List Entry). length t) s.entries in omega (arith, same, within)
-
--- A live part stays one whose tape is within its limit until it fails.
-pub taped-own : (own : OwnValue) (before after : Seen) (tape : List Entry) (old new : Holding) (answer : Answer) (result : Result Wish Stop) → own.place ≡ None → length own.tape < TAPE_LIMIT
-    → Tapes before after own.shape own.used own.tape tape old new answer result → IsOwn (record own { part = Some after; tape = tape })
-taped-own own before after tape old new answer result none within t = record { live = λ l. none; limit = λ p f. tape-within own before after tape old new answer result within t f }

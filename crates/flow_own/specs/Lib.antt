@@ -2,6 +2,7 @@ pub mod Acts
 pub mod Desks
 pub mod Parts
 pub mod Ends
+pub mod Recorded
 pub mod Tapes
 pub mod Taping
 pub mod TapesLaws

@@ -1,5 +1,5 @@
 -- Components of a network in which some are the caller's own.
-use Rattle.std.specs.Prelude.{◌≡◌, ℕ, Bool}
+use Rattle.std.specs.Prelude.{◌≡◌, ℕ, Bool, List, Option, Some, None}
 use Rattle.flow_packet.specs.Held.{Held}
 use Rattle.flow_component.specs.declared.Answer.{Answer}
 use Rattle.flow_component.specs.declared.Shape.{Shape}
@@ -7,6 +7,8 @@ use Rattle.flow_component.specs.Laws.{Rules, Outcome}
 use Rattle.flow_component.specs.Outcomes.{outcome_as}
 use Rattle.flow_own.specs.declared.mixed.Mix.{Mix}
 use Rattle.flow_own.specs.declared.mixed.Mix.TheVariants as mixes
+use Rattle.flow_own.specs.declared.tape.Entry.{Entry}
+use Rattle.flow_own.specs.Recorded.{IsTapeWritable}
 use Rattle.flow_own.specs.Tapes.{OwnValue, own_state, own_told, own_uses, OwnReady, OwnNext}
 
 -- A component of the caller's own, or another.
@@ -52,3 +54,13 @@ mixed_rules rules = record { shape = mixed_shape rules; uses = mixed_uses rules;
 abbrev pub mixed_of : {K P : Type 0} → Mix K P → Mixed K
 mixed_of (mixes.Other component) = Other component
 mixed_of (mixes.Own own) = Own own
+
+-- The tape of a component of the caller's own; no other has one.
+abbrev pub tape_in : {K : Type 0} → Mixed K → Option (List Entry)
+tape_in (Other component) = None
+tape_in (Own own) = Some own.tape
+
+-- Where it is the caller's own and no player, its tape has a place in a file.
+abbrev pub IsRecordedIn : {K : Type 0} → Mixed K → Type 0
+IsRecordedIn (Other component) = Unit {0}
+IsRecordedIn (Own own) = own.place ≡ None → IsTapeWritable own.tape

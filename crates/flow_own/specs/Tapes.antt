@@ -20,6 +20,7 @@ use Rattle.flow_own.specs.declared.tape.Entry.{Entry}
 use Rattle.flow_own.specs.Acts.{Made, CanAct, after_make, after_acts}
 use Rattle.flow_own.specs.Parts.{Seen}
 use Rattle.flow_own.specs.Ends.{is_used}
+use Rattle.flow_own.specs.Recorded.{IsTapeWritable}
 
 -- A component of the caller's own: a live part, until its end; or the place of a player, which is how many entries it has given. And
 -- the tape, the shape and the outputs that are used.
@@ -167,10 +168,12 @@ OwnNext own held answer outcome = NextAs own.place own held answer outcome
 abbrev pub own_rules : Rules OwnValue
 own_rules = record { shape = λ own. own.shape; uses = own_uses; ready = OwnReady; next = OwnNext }
 
--- What holds of each: a live part is no player, and a part that is recorded has failed where its tape is at its limit.
+-- What holds of each: a live part is no player, a part that is recorded has failed where its tape is at its limit, and the tape of what
+-- is no player has a place in a file.
 pub record IsOwn (own : OwnValue) : Type 0 where
   pub live : is_some own.part ≡ true → own.place ≡ None
   pub limit : own.place ≡ None → has_failed own.tape ≡ false → length own.tape < TAPE_LIMIT
+  pub recorded : own.place ≡ None → IsTapeWritable own.tape
 
 -- What a resume gives that ends so.
 abbrev pub result_by : End → Result Wish Stop

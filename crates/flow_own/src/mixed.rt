@@ -2,6 +2,7 @@
 
 use crate::own::Own;
 use crate::part::Part;
+use crate::tape::Tape;
 use flow_component::{Answer, Component, Shape, Stop, Wish};
 use flow_packet::Hands;
 use std::marker::Model;
@@ -29,7 +30,8 @@ impl<K: Component, P: Part> Model for Mixed<K, P> {
 
 impl<K: Component, P: Part> Mixed<K, P> {
     ghost use Rattle.std.specs.Prelude.{◌≡◌};
-    ghost use Rattle.flow_own.specs.Mixed.{Mixed, Other, Own, mixed_of};
+    ghost use Rattle.std.specs.Option.{option_copied};
+    ghost use Rattle.flow_own.specs.Mixed.{Mixed, Other, Own, mixed_of, tape_in, IsRecordedIn};
 
     pub fn of(mix: Mix<K, P>) -> Mixed<K, P>
         ensures { result ≡ mixed_of mix }
@@ -41,6 +43,17 @@ impl<K: Component, P: Part> Mixed<K, P> {
         ensures { mixed_of result.now ≡ self.now }
     {
         &self.mix
+    }
+
+    /// The tape of a component of the caller's own; none of another.
+    pub fn tape(&self) -> Option<&Tape>
+        ensures tape { option_copied result ≡ tape_in self.now }
+        ensures recorded { IsRecordedIn self.now }
+    {
+        match &self.mix {
+            Mix::Other(_) => None,
+            Mix::Own(own) => Some(own.tape()),
+        }
     }
 }
 

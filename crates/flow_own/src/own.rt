@@ -7,6 +7,7 @@ ghost use Rattle.flow_component.specs.Resumes.{Resumes};
 ghost use Rattle.flow_own.specs.Acts.{IsActs};
 ghost use Rattle.flow_own.specs.Parts.{IsAsked};
 ghost use Rattle.flow_own.specs.Ends.{end_by};
+ghost use Rattle.flow_own.specs.Recorded.{IsTapeWritable};
 ghost use Rattle.flow_own.specs.Tapes.{result_by, OwnReady, OwnNext, own_state};
 ghost use Rattle.flow_own.specs.Taping.{IsEntry, Tapes, IsTaped};
 
@@ -199,7 +200,8 @@ impl<P: Part> Own<P> {
     }
 
     pub fn tape(&self) -> &Tape
-        ensures { result.now ≡ self.now.tape }
+        ensures tape { result.now ≡ self.now.tape }
+        ensures recorded { self.now.place ≡ None → IsTapeWritable self.now.tape }
     {
         &self.tape
     }
@@ -279,6 +281,7 @@ impl<P: Part> Component for Own<P> {
         requires room { hands.old.made < 4294967295 }
         ensures resumes { Resumes OwnNext (own_state self.old) hands.old answer result (own_state self.new) hands.new }
         ensures taped { IsTaped self.old self.new hands.old hands.new answer result }
+        ensures told { own_told self.old ≡ true → own_told self.new ≡ true }
     {
         if self.is_live() {
             return self.resume_live(hands, answer);

@@ -1,1 +1,14 @@
 pub mod Mimicry
+pub mod Functions
+pub mod Places
+pub mod Robins
+pub mod Starting
+pub mod WholeRuns
+pub mod Throughout
+pub mod Alike
+pub mod AlikeReports
+pub mod ToldAlike
+pub mod Others
+pub mod OthersLeads
+pub mod PlainRuns
+pub mod Kept

@@ -15,6 +15,7 @@ use Rattle.flow_own.specs.Acts.{Made, CanMake, CanDrop, after_make}
 use Rattle.flow_own.specs.Tapes.{OwnValue, Records, NextAs, OwnNext, is_answer, can_make, can_drop, can_play, after_entry, outcome_by, differs, played as played_outcome}
 use Rattle.flow_model.specs.Replaced.{Mimics}
 use Rattle.flow_own.specs.Mixed.{Mixed, Other, Own, MixedNext, mixed_rules}
+use Rattle.flow_played.specs.Rules.{IsPlayed, played_rules}
 use Rattle.flow_played.specs.Played.{player_of, played_by, HasTape}
 
 same-answer : (answer : Answer) → is_answer answer answer ≡ true
@@ -160,8 +161,12 @@ module _ {K : Type 0} (rules : Rules K) (tapes : ℕ → List Entry) where
   same p (Own own) held answer outcome n h =
       (outcome_as (player_of (tapes p)) n.0, came-same (tapes p) own held answer n.0 (own-came p own held answer outcome n h), ap (outcome_as (played_by tapes p)) n.2 ∙ own-twice p n.0)
 
-  pub mimics : Mimics (mixed_rules rules) (mixed_rules rules) (IsBehind tapes) (played_by tapes)
-  mimics = record { before = before; same = same }
+  is-played : (p : ℕ) (component : Mixed K) → IsPlayed (played_by tapes p component)
+  is-played p (Other component) = tt
+  is-played p (Own own) = record { unmanned = refl; placed = refl }
+
+  pub mimics : Mimics (mixed_rules rules) (played_rules rules) (IsBehind tapes) (played_by tapes)
+  mimics = record { before = before; same = λ p component held answer outcome n h. (is-played p component, same p component held answer outcome n h) }
 
   -- A part whose tape is the whole tape is behind nothing.
   pub behind : (p : ℕ) (component : Mixed K) → HasTape tapes p component → IsBehind tapes p component

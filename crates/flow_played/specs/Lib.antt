@@ -1,1 +1,9 @@
 pub mod Played
+pub mod Rules
+pub mod RulesLaws
+pub mod Runs
+pub mod Telling
+pub mod Others
+pub mod Alike
+pub mod Plain
+pub mod Kept

@@ -7,6 +7,7 @@ use Rattle.flow_model.specs.States.{State}
 use Rattle.flow_model.specs.Schedules.{Journal, Leads}
 use Rattle.flow_model.specs.Replaced.{replaced, OfEach}
 use Rattle.flow_own.specs.Mixed.{Mixed, Other, Own, mixed_rules}
+use Rattle.flow_played.specs.Rules.{played_rules}
 
 -- The player of a tape, at the place to which this part's tape has come.
 abbrev pub player_of : List Entry → OwnValue → OwnValue
@@ -30,7 +31,7 @@ HasTape tapes p (Own own) = (own.place ≡ None) × (own.tape ≡ tapes p)
 abbrev pub TapesOf : {K : Type 0} → (ℕ → List Entry) → State (Mixed K) → Type 0
 TapesOf tapes s = OfEach (HasTape tapes) s
 
--- What leads to a state leads to it with its players, from where these stood then.
+-- What leads to a state leads to it with its players, from where these stood then; and these are players all the way.
 abbrev pub PlaysRuns : {K : Type 0} → Rules K → Type 0
 PlaysRuns {K} rules =
-    (tapes : ℕ → List Entry) (journal : Journal) (s s' : State (Mixed K)) → TapesOf tapes s' → Leads (mixed_rules rules) s journal s' → Leads (mixed_rules rules) (played tapes s) journal (played tapes s')
+    (tapes : ℕ → List Entry) (journal : Journal) (s s' : State (Mixed K)) → TapesOf tapes s' → Leads (mixed_rules rules) s journal s' → Leads (played_rules rules) (played tapes s) journal (played tapes s')

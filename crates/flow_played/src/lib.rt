@@ -1,14 +1,24 @@
 //! A run of a network with components of the caller's own is also a run of the network in which each of them is
-//! replaced by the player of its tape. It is what a replay without these components will rest on; no command uses it
-//! yet. The law is the contract of `a_run_is_one_of_its_players`.
+//! replaced by the player of its tape. It is what a replay without these components rests on; no command uses it
+//! yet. `Played` is a component of such a network, and the laws are the contracts of the functions in `laws`; those in
+//! `plain` say that a network without components of the caller's own runs as it does by itself.
 #![tactic(auto)]
 
-ghost use Rattle.flow_played.specs.Played.{PlaysRuns};
+mod laws;
+mod no_part;
+mod plain;
+mod played;
 
-use flow_component::Component;
+pub use laws::{
+    a_run_is_one_of_its_players, a_run_of_parts_is_one_of_players, parts_stay_parts,
+    players_are_told_of, players_come_to_one_outcome, players_end_as_the_parts_did,
+    players_start_well,
+};
+pub use plain::{
+    a_network_without_own_components_runs_as_it_is,
+    a_network_without_own_components_tells_as_it_is, components_without_own_ones_are_others,
+};
+pub use played::Played;
 
-/// Let a journal lead from one state to another in which no component of the caller's own is a player. Then it leads so from the first state
-/// to the second with the players of the tapes of the second in their places, each at the place to which its tape had come.
-pub fn a_run_is_one_of_its_players<K: Component>()
-    ensures { PlaysRuns K.rules }
-{}
+#[cfg(test)]
+mod tests;

@@ -1,12 +1,14 @@
 //! A run in stretches, between which its caller has the network.
+ghost use Rattle.flow_catalogue.specs.Std.{std_rules};
 ghost use Rattle.flow_machine.specs.Quiet.{AllUnset, IsQuietNet};
+ghost use Rattle.flow_machine.specs.Solo.{ReachesNet};
 ghost use Rattle.std.specs.Prelude.{◌≡◌, IfOk, []};
 
 use flow_catalogue::Std;
 use flow_component::NoGate;
 use flow_machine::{Closed, Net, Status};
 use flow_rig::TrialStop;
-use flow_runner::{RunStop, run_for};
+use flow_runner::{RunStop, run_for, two_stretches_are_one};
 use std::alloc::{AllocError, Global};
 use std::sync::Wait;
 use std::thread::Threads;
@@ -66,15 +68,17 @@ fn tell<R: Eprint>(rt: &R, net: &Net<Std>) {
     );
 }
 
-/// Runs the network until it can't go on, in stretches, and tells after each of them how far it has come.
+/// Runs the network until it can't go on, in stretches, and tells after each of them how far it has come. All stretches are one run.
 pub(crate) fn to_the_end<R: Threads + Wait + Sync + Eprint>(
     rt: &R,
     alloc: Global,
     net: Net<Std>,
 ) -> Result<Closed<Std>, ProgressStop>
+    ensures reaches { IfOk result (λ closed. ReachesNet std_rules net closed.net) }
     ensures starved { IfOk result (λ closed. AllUnset closed.net closed.starved.items) }
     ensures quiet { IfOk result (λ closed. closed.starved.items ≡ [] → IsQuietNet closed.net) }
 {
+    two_stretches_are_one::<Std>();
     let mut net = net;
     for _ in rt.forever() {
         let before = net.turns_made() as u64;

@@ -1,9 +1,13 @@
 //! Calls of the program over files in memory.
 ghost use Rattle.std.specs.Prelude.{◌≤◌};
+ghost use Rattle.flow_offer.specs.Kinds.{AreOwnKinds};
+ghost use Rattle.flow_cli.specs.Offers.{offers_of, specs_of};
 
-use flow_cli::{Outcome, busy_top, needs_workers, plain_top};
+use flow_cli::{Outcome, OwnKind, busy_top, needs_workers, plain_top};
 use flow_component::Gate;
 use flow_items::Items;
+use flow_number::Number;
+use flow_own::{Part, Tape};
 use flow_text::{MemShelf, MemSink};
 use std::alloc::{AllocError, Global};
 use std::sync::Wait;
@@ -51,6 +55,8 @@ pub struct Called {
     pub turns: usize,
     /// The levels that were told on the way.
     pub seen: Items<u16>,
+    /// The tapes of the caller's own components, in the order of their processes.
+    pub tapes: Vec<Tape>,
     pub printed: Vec<u8>,
     pub shelf: MemShelf,
 }
@@ -105,6 +111,7 @@ fn told(
     let Outcome {
         status,
         journal,
+        tapes,
         crew: _,
     } = outcome;
     let turns = journal.turns.len();
@@ -113,14 +120,28 @@ fn told(
         status: status.code(),
         turns,
         seen,
+        tapes,
         printed: out.bytes().to_vec(alloc)?,
         shelf,
     })
 }
 
-/// A call with these words, which ask for no workers.
-pub fn call_on(alloc: Global, line: &[&str], outside: Outside) -> Result<Called, CallStop>
-    requires { 1 ≤ outside.piece }
+// No kinds of the caller's own. What parts they would have is of no matter.
+fn no_kinds(alloc: Global) -> Vec<OwnKind<Number>>
+    ensures { AreOwnKinds (specs_of (offers_of result.items)) }
+{
+    Vec::new(alloc)
+}
+
+/// A call with these words, which ask for no workers, and with these kinds of the caller's own.
+pub fn call_on_with<P: Part>(
+    alloc: Global,
+    line: &[&str],
+    outside: Outside,
+    own: Vec<OwnKind<P>>,
+) -> Result<Called, CallStop>
+    requires piece { 1 ≤ outside.piece }
+    requires own { AreOwnKinds (specs_of (offers_of own.items)) }
 {
     let words = words_of(alloc, line)?;
     if needs_workers(alloc, &words)? {
@@ -128,23 +149,33 @@ pub fn call_on(alloc: Global, line: &[&str], outside: Outside) -> Result<Called,
     }
     let mut shelf = shelf_of(alloc, outside)?;
     let mut out = sink_of(alloc, outside)?;
-    let outcome = plain_top(alloc, &words, &mut shelf, &mut out);
+    let outcome = plain_top(alloc, &words, &mut shelf, &mut out, own);
     Ok(told(alloc, outcome, shelf, &out)?)
 }
 
 /// The same over these files, where nothing fails.
-pub fn call_alone(alloc: Global, line: &[&str], files: &[File]) -> Result<Called, CallStop> {
-    call_on(alloc, line, faultless(files))
+pub fn call_alone_with<P: Part>(
+    alloc: Global,
+    line: &[&str],
+    files: &[File],
+    own: Vec<OwnKind<P>>,
+) -> Result<Called, CallStop>
+    requires { AreOwnKinds (specs_of (offers_of own.items)) }
+{
+    call_on_with(alloc, line, faultless(files), own)
 }
 
-/// A call with these words, which ask for workers, over these files, where nothing fails.
-pub fn call_by_workers<R: Threads + Wait + Sync, G: Gate + Sync>(
+/// A call with these words, which ask for workers, over these files, where nothing fails, and with these kinds of the caller's own.
+pub fn call_by_workers_with<R: Threads + Wait + Sync, G: Gate + Sync, P: Part + Send>(
     rt: &R,
     alloc: Global,
     line: &[&str],
     files: &[File],
     gate: &G,
-) -> Result<Called, CallStop> {
+    own: Vec<OwnKind<P>>,
+) -> Result<Called, CallStop>
+    requires { AreOwnKinds (specs_of (offers_of own.items)) }
+{
     let words = words_of(alloc, line)?;
     if !needs_workers(alloc, &words)? {
         return Err(CallStop::OtherEngine);
@@ -152,6 +183,29 @@ pub fn call_by_workers<R: Threads + Wait + Sync, G: Gate + Sync>(
     let outside = faultless(files);
     let mut shelf = shelf_of(alloc, outside)?;
     let mut out = sink_of(alloc, outside)?;
-    let outcome = busy_top(rt, alloc, &words, &mut shelf, &mut out, gate);
+    let outcome = busy_top(rt, alloc, &words, &mut shelf, &mut out, gate, own);
     Ok(told(alloc, outcome, shelf, &out)?)
+}
+
+/// A call with these words, which ask for no workers, and with the standard kinds alone.
+pub fn call_on(alloc: Global, line: &[&str], outside: Outside) -> Result<Called, CallStop>
+    requires { 1 ≤ outside.piece }
+{
+    call_on_with(alloc, line, outside, no_kinds(alloc))
+}
+
+/// The same over these files, where nothing fails.
+pub fn call_alone(alloc: Global, line: &[&str], files: &[File]) -> Result<Called, CallStop> {
+    call_alone_with(alloc, line, files, no_kinds(alloc))
+}
+
+/// A call with these words, which ask for workers, over these files, where nothing fails, and with the standard kinds alone.
+pub fn call_by_workers<R: Threads + Wait + Sync, G: Gate + Sync>(
+    rt: &R,
+    alloc: Global,
+    line: &[&str],
+    files: &[File],
+    gate: &G,
+) -> Result<Called, CallStop> {
+    call_by_workers_with(rt, alloc, line, files, gate, no_kinds(alloc))
 }

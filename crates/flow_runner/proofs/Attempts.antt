@@ -4,6 +4,7 @@ use Rattle.flow_machine.specs.Answers.{case_of}
 use Rattle.flow_machine.specs.declared.answers.Over.{Over}
 use Rattle.flow_machine.specs.declared.answers.Over.TheVariants as overs
 use Rattle.flow_machine.specs.declared.answers.Case.TheVariants as cases
+use Rattle.flow_machine.specs.Thoughts.{IsSet}
 use Rattle.flow_machine.proofs.NetTurns.{case-is}
 use Rattle.flow_floor.specs.declared.board.View.{View}
 use Rattle.flow_floor.specs.declared.floor.Floor.{Floor}
@@ -12,11 +13,11 @@ use Rattle.flow_floor.specs.declared.floor.Held.{Held}
 use Rattle.flow_floor.specs.Floors.{IsOverAs, IsStuckAt}
 use Rattle.flow_floor.specs.Workers.{IsSameSeat}
 
--- A process that has no further turn is over, and may be retired as such.
-pub over-as : {K : Type 0} (over : Over) (h : Held K) → case_of h.body.process ≡ Some (cases.Over over) → IsOverAs over h
-over-as overs.Ended h is = case-is h.body.process (cases.Over overs.Ended) is
-over-as overs.Failed h is = case-is h.body.process (cases.Over overs.Failed) is
-over-as overs.Starved h is = absurd (case-is h.body.process (cases.Over overs.Starved) is)
+-- A process that has no further turn, and whose body is set, is over and was told its end, and may be retired as such.
+pub over-as : {K : Type 0} (over : Over) (h : Held K) → IsSet h.body → case_of h.body.process ≡ Some (cases.Over over) → IsOverAs over h
+over-as overs.Ended h set is = (case-is h.body.process (cases.Over overs.Ended) is, set)
+over-as overs.Failed h set is = (case-is h.body.process (cases.Over overs.Failed) is, set)
+over-as overs.Starved h set is = absurd (case-is h.body.process (cases.Over overs.Starved) is)
 
 module _ {K : Type 0} where
   -- What blocked a body still does after a call that left the body as it was.

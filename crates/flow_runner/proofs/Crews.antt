@@ -1,5 +1,5 @@
 -- What the workers come to together.
-use Rattle.std.proofs.Common.{◌≡◌, ℕ, ◌<◌, ◌++◌, List, length, take, drop, get_or, ap, ◌∙◌, subst}
+use Rattle.std.proofs.Common.{◌≡◌, ℕ, ◌<◌, ◌++◌, List, [], ◌∷◌, refl, length, take, drop, get_or, ap, ◌∙◌, subst}
 use Rattle.std.proofs.Math.Seq.{take-append_seam}
 use Rattle.flow_component.specs.Laws.{Rules}
 use Rattle.flow_machine.specs.Values.{NetValue}
@@ -8,13 +8,21 @@ use Rattle.flow_floor.specs.declared.floor.Floor.{Floor}
 use Rattle.flow_floor.specs.declared.floor.Worker.{Worker}
 use Rattle.flow_floor.specs.Floors.{IsCrewOf, IsIdleAt, HasSameShare, HasReadZero}
 use Rattle.flow_floor.specs.Shut.{IsShut}
+use Rattle.flow_floor.specs.Made.{merge}
 use Rattle.flow_floor.proofs.Crews.{crew-each}
+use Rattle.flow_runner.specs.Crews.{MergeToAll}
 
 -- What a slice of a whole list was written back.
 pub written : {A : Type 0} (n : ℕ) (xs ys : List A) → n ≡ length xs → take n (xs ++ drop (length xs) ys) ≡ xs
 written n xs ys is = ap (λ m. take m (xs ++ drop (length xs) ys)) is ∙ take-append_seam xs (drop (length xs) ys)
 
 module _ {K : Type 0} where
+  -- The lists of turns of some workers are together what they all made.
+  pub merge-to-all : MergeToAll K
+  merge-to-all [] = refl
+  merge-to-all (worker ∷ []) = refl
+  merge-to-all (worker ∷ other ∷ workers) = ap (merge worker.seat.me.0.made) (merge-to-all (other ∷ workers))
+
   -- A worker that has served: it holds nothing, has its share, and has read 0.
   pub record HasServed (floor : Floor K) (old new : Worker K) : Type 0 where
     pub idle : IsIdleAt floor new

@@ -6,3 +6,5 @@ pub mod Serves
 pub mod Served
 pub mod Budgets
 pub mod Crossing
+pub mod Joined
+pub mod Rounds

@@ -3,3 +3,4 @@ pub mod Crews
 pub mod Fair
 pub mod Lines
 pub mod Serving
+pub mod Stretches

@@ -1,20 +1,19 @@
 //! The workers together.
-ghost use Rattle.flow_floor.specs.Crew.{made_by};
 ghost use Rattle.flow_floor.specs.Shut.{IsShut};
 ghost use Rattle.flow_limits.specs.declared.TheConstants.{WORKER_LIMIT};
-ghost use Rattle.flow_machine.specs.Quiet.{AllUnset, IsQuietNet};
+ghost use Rattle.flow_machine.specs.Quiet.{AllUnset, EndedAreTold, IsQuietNet};
 ghost use Rattle.flow_machine.specs.Solo.{ReachesNet};
-ghost use Rattle.flow_runner.specs.Crews.{HasWorkers, workers_in};
+ghost use Rattle.flow_runner.specs.Crews.{HasWorkers, MergeToAll, made_each, turns_each, turns_of_crew};
 ghost use Rattle.std.specs.Prelude.{◌≡◌, ◌≤◌, IfOk, [], length};
 
 use crate::together::make_turns;
+use crate::turns::Turns;
 use crate::worked::{Crew, Worked};
 use flow_component::{Component, Gate};
 use flow_floor::{Floor, OpenStop, Opened, Worker};
 use flow_limits::WORKER_LIMIT;
 use flow_machine::{Closed, Net};
 use std::alloc::Global;
-use std::snapshot::Snapshot;
 use std::sync::Wait;
 use std::thread::Threads;
 
@@ -24,25 +23,34 @@ pub enum RunStop {
     NoMemory,
 }
 
-impl<K: Component> Crew<K> {
+impl Crew {
     /// Nobody. Takes no memory.
-    pub fn nobody(alloc: Global) -> Crew<K>
+    pub fn nobody() -> Crew
         ensures { HasWorkers 0 result }
     {
-        Crew::of(&Vec::new(alloc))
+        Crew {
+            count: 0,
+            turns: Turns::none(),
+        }
     }
 
     /// These workers.
-    pub(crate) fn of(workers: &Vec<Worker<K>>) -> Crew<K>
-        ensures workers { workers_in result ≡ workers.now.items }
+    pub(crate) fn of<K: Component>(workers: &Vec<Worker<K>>) -> Crew
+        ensures turns { turns_each result ≡ made_each workers.now.items }
         ensures count { HasWorkers (length workers.now.items) result }
     {
         Crew {
             count: workers.len(),
-            workers: Snapshot::of(workers),
+            turns: Turns::of(workers),
         }
     }
 }
+
+/// The turns that each of some workers made are together, in the order of their stamps, those that a floor says they all made: so a crew, which has no
+/// workers, has their turns.
+pub fn what_each_made_is_what_all_made<K: Component>()
+    ensures { MergeToAll K }
+{}
 
 impl<K: Component> Worked<K> {
     /// The network, with the processes that found no memory.
@@ -66,9 +74,10 @@ pub fn run<K: Component + Send, G: Gate + Sync, R: Threads + Wait + Sync>(
     requires least { 1 ≤ workers }
     requires most { workers ≤ WORKER_LIMIT }
     ensures crew { IfOk result (λ worked. HasWorkers workers worked.crew) }
-    ensures made { IfOk result (λ worked. IsShut K.rules net (made_by (workers_in worked.crew)) worked.closed.net) }
+    ensures made { IfOk result (λ worked. IsShut K.rules net (turns_of_crew worked.crew) worked.closed.net) }
     ensures reaches { IfOk result (λ worked. ReachesNet K.rules net worked.closed.net) }
     ensures starved { IfOk result (λ worked. AllUnset worked.closed.net worked.closed.starved.items) }
+    ensures ended_are_told { IfOk result (λ worked. EndedAreTold worked.closed.net) }
     ensures quiet { IfOk result (λ worked. worked.closed.starved.items ≡ [] → IsQuietNet worked.closed.net) }
 {
     let opened = match Floor::open(alloc, net, workers) {

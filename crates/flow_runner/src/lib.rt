@@ -10,12 +10,15 @@ mod readied;
 mod rest;
 mod server;
 mod service;
+mod stretches;
 mod together;
+mod turns;
 mod work;
 mod worked;
 
-pub use crew::{RunStop, run};
+pub use crew::{RunStop, run, what_each_made_is_what_all_made};
 pub use line::{Line, LinePass};
 pub use paused::run_for;
 pub use service::serve;
+pub use stretches::{a_round_is_a_stretch, two_floors_are_one, two_stretches_are_one};
 pub use worked::{Crew, Worked};

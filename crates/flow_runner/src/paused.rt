@@ -1,7 +1,7 @@
 //! Workers who make so many turns each.
 ghost use Rattle.flow_limits.specs.declared.TheConstants.{WORKER_LIMIT};
 ghost use Rattle.flow_machine.specs.Logs.{turns_made};
-ghost use Rattle.flow_machine.specs.Quiet.{AllUnset, IsQuietNet};
+ghost use Rattle.flow_machine.specs.Quiet.{AllUnset, EndedAreTold, IsQuietNet};
 ghost use Rattle.flow_machine.specs.Solo.{ReachesNet};
 ghost use Rattle.std.specs.Prelude.{◌≡◌, ◌+◌, ◌*◌, ◌≤◌, ◌⊎◌, IfOk, []};
 
@@ -16,7 +16,7 @@ use std::sync::Wait;
 use std::thread::Threads;
 
 /// Runs a network by so many workers, each of which makes so many turns at most. Where they weren't all made, no process but a starved one will ever have
-/// a turn again. The net may be run on.
+/// a turn again. The net may be run on. Where they were, a process whose last turn ended it may not have been told its end yet: the next run tells it.
 pub fn run_for<K: Component + Send, G: Gate + Sync, R: Threads + Wait + Sync>(
     rt: &R,
     alloc: Global,
@@ -32,6 +32,7 @@ pub fn run_for<K: Component + Send, G: Gate + Sync, R: Threads + Wait + Sync>(
     ensures starved { IfOk result (λ closed. AllUnset closed.net closed.starved.items) }
     ensures most { IfOk result (λ closed. turns_made closed.net ≤ turns_made net + workers * budget) }
     ensures spent { IfOk result (λ closed. (turns_made closed.net ≡ turns_made net + workers * budget) ⊎ (closed.starved.items ≡ [] → IsQuietNet closed.net)) }
+    ensures ended_are_told { IfOk result (λ closed. (turns_made closed.net ≡ turns_made net + workers * budget) ⊎ EndedAreTold closed.net) }
 {
     let opened = match Floor::open(alloc, net, workers) {
         Ok(opened) => opened,

@@ -14,7 +14,8 @@ use Rattle.flow_own.specs.declared.tape.End.{End}
 use Rattle.flow_own.specs.declared.tape.End.TheVariants as ends
 use Rattle.flow_own.specs.declared.tape.Entry.{Entry}
 use Rattle.flow_own.specs.Acts.{Made}
-use Rattle.flow_tape.specs.Files.{name, IsOfPart}
+use Rattle.flow_own.specs.Recorded.{IsOfPart}
+use Rattle.flow_tape.specs.Files.{name}
 use Rattle.flow_tape.specs.Fields.{Field, Number, any_four, any_eight, answer_fields, made_fields, dropped_fields, end_fields, entry_fields, tape_fields, inner_fields}
 use Rattle.flow_tape.specs.Reading.{Read, ◌>>=◌, number_at, many_at, any_at, id_at, letters_at, send_at, end_with, end_by, end_at, answer_at, made_at, dropped_at, entry_at, tape_at, tapes_at}
 use Rattle.flow_tape.proofs.Readers.{Fits, Reads, matched-reads, joined_fields, AlsoAt, joined-reads, agreed-reads, given-reads}

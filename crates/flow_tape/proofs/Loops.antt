@@ -8,7 +8,8 @@ use Rattle.flow_limits.specs.declared.TheConstants.{TEXT_LIMIT}
 use Rattle.flow_packet.specs.declared.packet.Kind.{Kind}
 use Rattle.flow_packet.specs.declared.packet.Kind.TheVariants as kinds
 use Rattle.flow_own.specs.Acts.{Made}
-use Rattle.flow_tape.specs.Files.{kind_byte, IsShort}
+use Rattle.flow_own.specs.Recorded.{IsShort}
+use Rattle.flow_tape.specs.Files.{kind_byte}
 use Rattle.flow_tape.specs.declared.fault.Unread.{Unread}
 use Rattle.flow_tape.specs.declared.fault.Unread.TheVariants as stops
 use Rattle.flow_tape.specs.Fields.{Field, IsWhole, any_eight, made_fields}

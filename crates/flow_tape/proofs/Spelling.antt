@@ -14,7 +14,8 @@ use Rattle.flow_own.specs.declared.tape.End.{End}
 use Rattle.flow_own.specs.declared.tape.End.TheVariants as ends
 use Rattle.flow_own.specs.declared.tape.Entry.{Entry}
 use Rattle.flow_own.specs.Acts.{Made}
-use Rattle.flow_tape.specs.Files.{name, four, eight, answer_written, made_written, dropped_written, end_written, entry_written, tape_written, written, IsShort, IsEntryWritable, IsTapeWritable, IsWritable}
+use Rattle.flow_own.specs.Recorded.{IsShort, IsEntryWritable, IsTapeWritable}
+use Rattle.flow_tape.specs.Files.{name, four, eight, answer_written, made_written, dropped_written, end_written, entry_written, tape_written, written, IsWritable}
 use Rattle.flow_tape.specs.Fields.{Field, Letter, Number, Last, bytes_of, spelled, IsWhole, any_eight, answer_fields, made_fields, dropped_fields, end_fields, entry_fields, tape_fields, inner_fields, fields_of}
 use Rattle.flow_tape.specs.Faults.{AreCutUp}
 use Rattle.flow_tape.proofs.Readers.{Fits, whole-join, whole-cut}

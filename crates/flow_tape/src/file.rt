@@ -3,7 +3,8 @@
 ghost use Rattle.std.specs.Prelude.{◌≡◌, ◌++◌, ◌∷◌, ◌≤◌, ◌<◌, [], ℕ, List, Some, slice_get, length, map, OnOk, IfOk};
 ghost use Rattle.flow_own.specs.declared.tape.Entry.{Entry};
 ghost use Rattle.std.specs.List.{flat_map, AllByRecursion};
-ghost use Rattle.flow_tape.specs.Files.{four, eight, kind_byte, answer_written, made_written, dropped_written, end_written, entry_written, tape_written, IsShort, IsOfPart, IsEntryWritable, IsTapeWritable, IsWritable};
+ghost use Rattle.flow_own.specs.Recorded.{IsShort, IsOfPart, IsEntryWritable, IsTapeWritable};
+ghost use Rattle.flow_tape.specs.Files.{four, eight, kind_byte, answer_written, made_written, dropped_written, end_written, entry_written, tape_written, IsWritable};
 ghost use Rattle.flow_tape.specs.Fields.{IsWhole, any_eight, answer_fields, made_fields, dropped_fields, end_fields, entry_fields, tape_fields};
 ghost use Rattle.flow_tape.specs.Faults.{IsFileOf};
 

@@ -1,6 +1,6 @@
-//! The file of tapes. It is for programs with parts of their own (`flow_own`) whose runs are to be made again without
-//! them; no command uses it yet. The contracts are those of `to_bytes` and `from_bytes`, and a law says that a file has
-//! one list of tapes or one fault.
+//! The file of tapes, by which a run with components of the caller's own (`flow_own`) is made again without them.
+//! `flow_cli` writes it behind a run, and reads it before a replay. The contracts are those of `to_bytes` and
+//! `from_bytes`, and a law says that a file has one list of tapes or one fault.
 #![tactic(auto)]
 
 mod fault;
@@ -13,6 +13,9 @@ pub use fault::{TapeFault, TapeStop};
 pub use file::to_bytes;
 pub use law::a_file_has_one_list_of_tapes_or_one_fault;
 pub use parse::from_bytes;
+
+/// The most bytes of a tape file that a replay reads. The tapes of a run may have a longer one.
+pub const TAPE_FILE_LIMIT: u64 = 1_073_741_824;
 
 #[cfg(test)]
 mod tests;

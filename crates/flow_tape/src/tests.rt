@@ -44,6 +44,41 @@ fn a_tape_is_read(rt: HostRuntime) -> Result<(), Fail> {
     Ok(())
 }
 
+/// Its entries take 9, 40, 9, 40, 9 and 5 bytes behind the 16 that stand before them.
+#[test]
+fn entries_have_their_sizes(rt: HostRuntime) -> Result<(), Fail> {
+    let alloc = rt.alloc();
+    for (count, end) in [(1, 25), (2, 65), (3, 74), (4, 114), (5, 123), (6, 128)] {
+        let mut file = NUMBERED[..end].to_vec(alloc)?;
+        file[12] = count;
+        let read = from_bytes(alloc, &file).ok().ok_or("refused")?;
+        assert_eq!(rt; read.len(), 1);
+        assert_eq!(rt; read[0].entries().len(), usize::from(count));
+    }
+    Ok(())
+}
+
+/// The number 2 in place of the first answer is an answer too.
+#[test]
+fn another_answer_is_read(rt: HostRuntime) -> Result<(), Fail> {
+    let alloc = rt.alloc();
+    let mut file = NUMBERED.to_vec(alloc)?;
+    file[16] = 2;
+    let read = from_bytes(alloc, &file).ok().ok_or("refused")?;
+    assert_eq!(rt; read.len(), 1);
+    let entries = read[0].entries();
+    assert_eq!(rt; entries.len(), 6);
+    assert_eq!(rt; entries[0].answer, Answer::End);
+    assert_eq!(rt; to_bytes(alloc, &read)?.as_slice(), file.as_slice());
+    Ok(())
+}
+
+/// The limit of a replay is the one that the documents tell.
+#[test]
+fn the_limit_is_as_told(rt: HostRuntime) {
+    assert_eq!(rt; TAPE_FILE_LIMIT, 1_073_741_824);
+}
+
 /// What is read is written as what it was read from.
 #[test]
 fn tapes_are_written_as_they_were_read(rt: HostRuntime) -> Result<(), Fail> {

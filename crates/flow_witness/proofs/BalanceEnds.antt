@@ -16,6 +16,9 @@ use Rattle.flow_catalogue.specs.declared.standard.Std.{Std}
 use Rattle.flow_catalogue.specs.Std.{std_next, std_rules}
 use Rattle.flow_journal.specs.Replays.{schedule_of}
 use Rattle.flow_cli.specs.Step.{whole}
+use Rattle.flow_played.specs.Others.{others, as_mixed}
+use Rattle.flow_played.specs.Plain.{AllRunAsTheyAre}
+use Rattle.flow_cli.specs.Offers.{AnyKind, Taped, net_rules}
 use Rattle.flow_cli.specs.Components.{inputs_of, AreComponents}
 use Rattle.flow_report.specs.declared.report.Verdict.TheVariants as verdicts
 use Rattle.flow_report.specs.States.{TellsOf, process_in, connection_in}
@@ -180,9 +183,11 @@ pub balance_leads : Leads std_rules s0 (schedule_of balance_journal) balance_las
 balance_leads = round-leads std_rules s0 (schedule_of balance_journal) balance_last balance_robin
 
 -- Whatever components there are on what the files gave, the journal is a schedule from their start.
-pub leads-on : (given : List (List ℕ)) (ks : List Std) → whole input_file ∷ [] ≡ map whole (inputs_of balance.processes given) → AreComponents balance given ks
-    → (last : State Std) × Leads std_rules (start_of balance ks) (schedule_of balance_journal) last
-leads-on given ks read are = subst (λ (cs : List Std). (last : State Std) × Leads std_rules (start_of balance cs) (schedule_of balance_journal) last) (sym (only-components given ks read are)) (balance_last, balance_leads)
+pub leads-on : AllRunAsTheyAre std_rules → (given : List (List ℕ)) (tapes : List Taped) (ks : List AnyKind) → whole input_file ∷ [] ≡ map whole (inputs_of balance.processes given)
+    → AreComponents [] balance given tapes ks → (last : State AnyKind) × Leads net_rules (start_of balance ks) (schedule_of balance_journal) last
+leads-on plain given tapes ks read are =
+    subst (λ (cs : List AnyKind). (last : State AnyKind) × Leads net_rules (start_of balance cs) (schedule_of balance_journal) last) (sym (only-components given tapes ks read are))
+    (as_mixed balance_last, ((plain balance balance_components).leads (schedule_of balance_journal) balance_last).0 balance_leads)
 
 -- Every process has ended.
 pub balance_ended : AllEnded balance_last

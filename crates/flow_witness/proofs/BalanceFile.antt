@@ -1,10 +1,12 @@
 -- The value that the network file spells, and its plan, which is the only one.
 use Rattle.std.proofs.Common.{◌≡◌, ℕ, List, [], ◌∷◌, map, None, Some, Ok, refl, sym, subst}
+use mathlib.Core.List.{append-nil}
 use Rattle.std.specs.Prelude.{codes}
 use Rattle.std.specs.declared.result.Result.{Result}
 use Rattle.std.specs.List.{list_any}
 use Rattle.std.specs.Str.{bytes_eq}
 use Rattle.std.specs.Str.Lines.{lines}
+use Rattle.flow_plan.specs.declared.kind.KindSpec.{KindSpec}
 use Rattle.flow_plan.specs.declared.kind.PortRef.{PortRef}
 use Rattle.flow_plan.specs.Network.{Network}
 use Rattle.flow_plan.specs.Texts.{IsFileName}
@@ -23,6 +25,7 @@ use Rattle.flow_flat.specs.Texts.{RecursionPasses, InstancePasses, MeaningPasses
 use Rattle.flow_flat.specs.Firsts.{AllPass}
 use Rattle.flow_flat.proofs.Files.{file_once}
 use Rattle.flow_catalogue.specs.Kinds.{std_kinds}
+use Rattle.flow_offer.specs.Kinds.{table_with}
 use Rattle.flow_cli.specs.Networks.{Holds}
 use Rattle.flow_cli.proofs.MadeLines.{Saying, header, connects, connects_element, gives_kinded, lead}
 use Rattle.flow_cli.proofs.Passing.{all_pass, all_ok}
@@ -97,12 +100,13 @@ comes : TextComesTo std_kinds balance_value (Ok balance)
 comes = record { said = record { processes = record { ends = ends; processes = instances }; statements = statements }; ports = ports; sum = refl; is = refl }
 
 -- The network file holds this value with this plan.
-pub holds : Holds network_bytes balance_value balance
-holds = record { spelled = spelled; comes = comes }
+pub holds : Holds [] network_bytes balance_value balance
+holds = record { spelled = spelled; comes = subst (λ (kinds : List KindSpec). TextComesTo kinds balance_value (Ok balance)) (sym (append-nil std_kinds)) comes }
 
 same_plan : (one other : Network) → ◌≡◌ {A = Result (Result Network ExpandFault) NetFault} (Ok (Ok one)) (Ok (Ok other)) → one ≡ other
 same_plan one other same = cc
 
 -- It holds no other plan.
-pub only_plan : (text : NetText) (plan : Network) → Holds network_bytes text plan → plan ≡ balance
-only_plan text plan is = same_plan plan balance (file_once std_kinds network_bytes (Ok (Ok plan)) (Ok (Ok balance)) (text, is.spelled, is.comes) (balance_value, spelled, comes))
+pub only_plan : (text : NetText) (plan : Network) → Holds [] network_bytes text plan → plan ≡ balance
+only_plan text plan is =
+    same_plan plan balance (file_once (table_with []) network_bytes (Ok (Ok plan)) (Ok (Ok balance)) (text, is.spelled, is.comes) (balance_value, holds.spelled, holds.comes))

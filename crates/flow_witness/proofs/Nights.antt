@@ -18,7 +18,7 @@ use Rattle.flow_catalogue.specs.declared.table.StdKind.TheVariants as kinds
 use Rattle.flow_catalogue.specs.Kinds.{name_of}
 use Rattle.flow_model.specs.Plans.{sends_at, receives_at}
 use Rattle.flow_meanings.specs.Batches.{Feeds, IsBatch, file_of}
-use Rattle.flow_determinate.specs.Standard.{IsDeterminate}
+use Rattle.flow_determinate.specs.Standard.{IsNamedStandard, IsDeterminate}
 use Rattle.flow_meanings.proofs.Batching.{batch-means}
 use Rattle.flow_meanings.proofs.Chaining.{unmerged-plan}
 use Rattle.flow_witness.specs.Nightly.{nightly, masters, details, NightlyMeans}
@@ -40,6 +40,7 @@ each-at P (y ∷ xs) all (suc k) x at = each-at P xs all.1 k x at
 no-merge : IsDeterminate nightly
 no-merge = record {
   one_sender = λ c connection is. each-at (λ (x : Connection). length x.senders ≤ 1) nightly.connections (omega arith, (omega arith, (omega arith, (omega arith, (omega arith, tt))))) c connection is;
+  standard = λ p x is. each-at IsNamedStandard nightly.processes ((kinds.ReadLines, refl), ((kinds.ReadLines, refl), ((kinds.Collate, refl), ((kinds.Update, refl), ((kinds.WriteLines, refl), ((kinds.WriteLines, refl), tt)))))) p x is;
   no_balance = λ p x is. each-at (λ (y : Process). y.kind ≡ name_of kinds.LoadBalance → ⊥) nightly.processes ((λ h. cc), ((λ h. cc), ((λ h. cc), ((λ h. cc), ((λ h. cc), ((λ h. cc), tt)))))) p x is;
 }
 

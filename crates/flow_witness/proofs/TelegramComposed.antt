@@ -20,7 +20,7 @@ use Rattle.flow_model.proofs.Lists.{map-found}
 use Rattle.flow_meanings.specs.Means.{Means}
 use Rattle.flow_meanings.specs.Composition.{Sending, activated, inputs_of, arriving, leaving, Composes}
 use Rattle.flow_meanings.specs.Chains.{LeadsTo, IsTelegram}
-use Rattle.flow_determinate.specs.Standard.{AreFirstOf, IsFirstOf, IsDeterminate}
+use Rattle.flow_determinate.specs.Standard.{AreFirstOf, IsFirstOf, IsNamedStandard, IsDeterminate}
 use Rattle.flow_meanings.proofs.Every.{components-first}
 use Rattle.flow_meanings.proofs.Chaining.{unmerged-plan, telegram-means}
 use Rattle.flow_witness.specs.Telegram.{telegram, telegram_input, telegram_components, telegram_on, telegram_wrote, texts_from, sent_by, link}
@@ -127,6 +127,7 @@ composed = (record { one_each = refl; first = components-first telegram telegram
 no-merge : IsDeterminate telegram
 no-merge = record {
   one_sender = λ c connection is. at_three (λ _ (x : Connection). length x.senders ≤ 1) (link 0 1 10) (link 1 2 20) (link 2 3 10) (omega arith) (omega arith) (omega arith) c connection is;
+  standard = λ p x is. at_four (λ _ (y : Process). IsNamedStandard y) (process 0) (process 1) (process 2) (process 3) (kinds.ReadLines, refl) (kinds.Words, refl) (kinds.Fill, refl) (kinds.WriteLines, refl) p x is;
   no_balance = λ p x is. at_four (λ _ (y : Process). y.kind ≡ name_of kinds.LoadBalance → ⊥) (process 0) (process 1) (process 2) (process 3) (λ h. cc) (λ h. cc) (λ h. cc) (λ h. cc) p x is;
 }
 

@@ -8,10 +8,11 @@ use Rattle.flow_plan.specs.declared.plan.Connection.{Connection}
 use Rattle.flow_plan.specs.declared.plan.PortTable.{PortTable}
 use Rattle.flow_plan.specs.Network.{Network}
 use Rattle.flow_words.specs.Words.{Asked, run_of, Run, Check, Judge, Replay, command_of}
+use Rattle.flow_journal.specs.Files.{IsFileOf}
 use Rattle.flow_journal.specs.declared.merge.Journal.{Journal}
 use Rattle.flow_cli.specs.Step.{Filled, whole}
 use Rattle.flow_cli.specs.Reads.{Asks}
-use Rattle.flow_cli.specs.Top.{Call, ComesToEnd, HasSchedule, IsValid, NoFaults}
+use Rattle.flow_cli.specs.Top.{Call, ComesToEnd, IsValid, IsValidReplay, NoFaults}
 use Rattle.flow_witness.specs.Chain.{plain_row, reader_of}
 use Rattle.flow_witness.specs.Ends.{reader_ports}
 
@@ -90,10 +91,11 @@ shelf_before = record {
   created = [];
 }
 
--- A call over this shelf with these words in which all premises hold: no count of faults rose, and what was read, these files, is valid. It came to its end.
+-- A call over this shelf with these words, whose caller has no kinds of its own, in which all premises hold: no count of faults rose, and what was read, these files, is valid. It came to its end.
 pub record MeetsPremises (words : List (String Global)) (read : List Filled) : Type 0 where
   pub call : Call
   pub words_are : call.work.words ≡ words
+  pub none_own : call.work.own ≡ []
   pub shelf : call.work.before ≡ shelf_before
   pub opened : call.work.after.opened ≡ map whole read
   pub faults : NoFaults call
@@ -107,14 +109,14 @@ CanMeet asked read = (words : List (String Global)) → Asks words asked → Mee
 -- What the top calls ask before they promise to come to their end can be had of each form that has a network file, on files that are told, and calls that have it come to their end. The
 -- journal's file, whose level turns saw numbers, holds a schedule of the network on what its reader's file gave, whatever components there are on that.
 pub record PremisesAreMet : Type 0 where
-  pub schedule : HasSchedule (map whole (network_file ∷ journal_file ∷ input_file ∷ [])) balance journal_bytes
-  pub journal_is : schedule.journal ≡ balance_journal
-  pub replay : CanMeet (Replay (codes "net") (codes "j")) (network_file ∷ journal_file ∷ input_file ∷ [])
-  pub run : (kept : Option Name) (workers : ℕ) → CanMeet (run_of (record { net = codes "net"; journal = kept; workers = workers })) (network_file ∷ input_file ∷ [])
+  pub journal_is : IsFileOf balance_journal journal_bytes
+  pub schedule : IsValidReplay [] None (map whole (network_file ∷ journal_file ∷ input_file ∷ [])) balance
+  pub replay : CanMeet (Replay (codes "net") (codes "j") None) (network_file ∷ journal_file ∷ input_file ∷ [])
+  pub run : (kept tapes : Option Name) (workers : ℕ) → CanMeet (run_of (record { net = codes "net"; journal = kept; tapes = tapes; workers = workers })) (network_file ∷ input_file ∷ [])
   pub check : CanMeet (Check (codes "net")) (network_file ∷ [])
   pub judge : CanMeet (Judge (codes "net")) (network_file ∷ [])
   -- Such words there are: of each form these texts.
-  pub asks_replay : command_of (codes "--replay" ∷ codes "j" ∷ codes "net" ∷ []) ≡ Some (Replay (codes "net") (codes "j"))
-  pub asks_run : command_of (codes "net" ∷ []) ≡ Some (Run (codes "net") None 0)
+  pub asks_replay : command_of (codes "--replay" ∷ codes "j" ∷ codes "net" ∷ []) ≡ Some (Replay (codes "net") (codes "j") None)
+  pub asks_run : command_of (codes "net" ∷ []) ≡ Some (Run (codes "net") None None 0)
   pub asks_check : command_of (codes "--check" ∷ codes "net" ∷ []) ≡ Some (Check (codes "net"))
   pub asks_judge : command_of (codes "--determinate" ∷ codes "net" ∷ []) ≡ Some (Judge (codes "net"))

@@ -2,7 +2,11 @@
 ghost use Rattle.flow_witness.specs.Complete.{PremisesAreMet};
 
 use flow_catalogue::Std;
+use flow_journal::a_file_has_one_journal_or_one_fault;
 use flow_model::{a_valid_plan_is_ready, every_schedule_keeps_the_packets};
+use flow_played::{
+    a_network_without_own_components_runs_as_it_is, a_network_without_own_components_tells_as_it_is,
+};
 
 /// For a run, a check, a judge and a replay of a network with a LoadBalance there are calls, over a shelf that tells what it holds, in which
 /// no count of faults rises and what is read is valid, and which come to their end. The replay's journal, whose level turns saw numbers, is a
@@ -12,4 +16,7 @@ pub fn the_premises_of_completeness_are_met()
 {
     a_valid_plan_is_ready::<Std>();
     every_schedule_keeps_the_packets::<Std>();
+    a_network_without_own_components_runs_as_it_is::<Std>();
+    a_network_without_own_components_tells_as_it_is::<Std>();
+    a_file_has_one_journal_or_one_fault();
 }

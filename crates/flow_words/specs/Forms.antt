@@ -19,6 +19,7 @@ forms = Run ∷ Check ∷ Judge ∷ Kinds ∷ Replay ∷ Make ∷ []
 abbrev pub place_of : Form → Argument → Place
 place_of Run arguments.NetFile = Needed
 place_of Run arguments.Journal = Free
+place_of Run arguments.Tapes = Free
 place_of Run arguments.Workers = Free
 place_of Check arguments.NetFile = Needed
 place_of Check arguments.Check = Needed
@@ -27,6 +28,7 @@ place_of Judge arguments.Determinate = Needed
 place_of Kinds arguments.Kinds = Needed
 place_of Replay arguments.NetFile = Needed
 place_of Replay arguments.Replay = Needed
+place_of Replay arguments.Tapes = Free
 place_of Make arguments.Make = Needed
 place_of Make arguments.Workers = Free
 place_of _ _ = Barred

@@ -22,56 +22,58 @@ use Rattle.flow_words.specs.declared.form.Form.TheVariants as forms
 use Rattle.flow_words.specs.Arguments.{arguments as all_arguments, name_of, rule_for, shape_of}
 use Rattle.flow_words.specs.Forms.{fits, forms as all_forms}
 
--- A run of the network file of this name, with the name of a file for its journal, where there is one, and with the number of its workers; a check of it;
--- whether its plan is determinate; a replay of it, with the name of the file that has the journal; a make from a number, with the number of its workers; or
--- the page of the standard kinds.
+-- A run of the network file of this name, with the name of a file for its journal and of one for the tapes of its own components, where there are such, and
+-- with the number of its workers; a check of it; whether its plan is determinate; a replay of it, with the name of the file that has the journal, and of the
+-- one that has the tapes, where there is one; a make from a number, with the number of its workers; or the page of the standard kinds.
 pub data Asked : Type 0 where
-  Run : Text → Option Text → ℕ → Asked
+  Run : Text → Option Text → Option Text → ℕ → Asked
   Check : Text → Asked
   Judge : Text → Asked
-  Replay : Text → Text → Asked
+  Replay : Text → Text → Option Text → Asked
   Make : ℕ → ℕ → Asked
   Kinds : Asked
 
--- A run that is asked for: the name of its network file, that of the file for its journal, where there is one, and the number of its workers.
+-- A run that is asked for: the name of its network file, those of the file for its journal and of the file for the tapes of its own components, where there
+-- are such, and the number of its workers.
 pub record AskedRun : Type 0 where
   pub net : Text
   pub journal : Option Text
+  pub tapes : Option Text
   pub workers : ℕ
 
 -- What is asked for then.
 abbrev pub run_of : AskedRun → Asked
-run_of run = Run run.net run.journal run.workers
+run_of run = Run run.net run.journal run.tapes run.workers
 
 -- The run that a command asks for, with the texts of its names.
 abbrev pub run_by : RunCommand → AskedRun
-run_by run = record { net = run.net.now; journal = option_map (λ s. s.now) run.journal; workers = run.workers }
+run_by run = record { net = run.net.now; journal = option_map (λ s. s.now) run.journal; tapes = option_map (λ s. s.now) run.tapes; workers = run.workers }
 
 -- What a command asks for, with the texts of its names.
 abbrev pub asked_by : Command → Asked
 asked_by (commands.Run run) = run_of (run_by run)
 asked_by (commands.Check net) = Check net.now
 asked_by (commands.Judge net) = Judge net.now
-asked_by (commands.Replay net journal) = Replay net.now journal.now
+asked_by (commands.Replay net journal tapes) = Replay net.now journal.now (option_map (λ s. s.now) tapes)
 asked_by (commands.Make number workers) = Make number workers
 asked_by commands.Kinds = Kinds
 
 -- The number of a make is from 1 to the greatest from which something is made, and there are no more workers than may be.
 abbrev pub IsWithinBounds : Asked → Type 0
-IsWithinBounds (Run net journal workers) = workers ≤ WORKER_LIMIT
+IsWithinBounds (Run net journal tapes workers) = workers ≤ WORKER_LIMIT
 IsWithinBounds (Make number workers) = (1 ≤ number) × (number ≤ NUMBER_LIMIT) × (workers ≤ WORKER_LIMIT)
 IsWithinBounds (Check net) = ⊤
 IsWithinBounds (Judge net) = ⊤
-IsWithinBounds (Replay net journal) = ⊤
+IsWithinBounds (Replay net journal tapes) = ⊤
 IsWithinBounds Kinds = ⊤
 
 -- How many workers are asked for: those of a run or a make. The others have none.
 abbrev pub workers_asked : Asked → ℕ
-workers_asked (Run net journal workers) = workers
+workers_asked (Run net journal tapes workers) = workers
 workers_asked (Make number workers) = workers
 workers_asked (Check net) = 0
 workers_asked (Judge net) = 0
-workers_asked (Replay net journal) = 0
+workers_asked (Replay net journal tapes) = 0
 workers_asked Kinds = 0
 
 -- A command line that has these arguments and no others; its words begin after the program's name, and no flag asks for help.
@@ -116,11 +118,11 @@ make_by word workers = option_map (λ number. Make number workers) (spelled_numb
 
 -- What a line of this form asks for by its values.
 abbrev pub asked_as : Form → (Argument → Option Text) → Option Asked
-asked_as forms.Run values = option_and_then (λ net. option_map (Run net (values arguments.Journal)) (given_workers (values arguments.Workers))) (values arguments.NetFile)
+asked_as forms.Run values = option_and_then (λ net. option_map (Run net (values arguments.Journal) (values arguments.Tapes)) (given_workers (values arguments.Workers))) (values arguments.NetFile)
 asked_as forms.Check values = option_map Check (values arguments.NetFile)
 asked_as forms.Judge values = option_map Judge (values arguments.NetFile)
 asked_as forms.Kinds values = Some Kinds
-asked_as forms.Replay values = option_and_then (λ net. option_map (Replay net) (values arguments.Replay)) (values arguments.NetFile)
+asked_as forms.Replay values = option_and_then (λ net. option_map (λ journal. Replay net journal (values arguments.Tapes)) (values arguments.Replay)) (values arguments.NetFile)
 asked_as forms.Make values = option_and_then (λ word. option_and_then (make_by word) (given_workers (values arguments.Workers))) (values arguments.Make)
 
 -- What a line asks for that gives its arguments these values. A line of none of the forms asks for nothing.

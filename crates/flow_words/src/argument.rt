@@ -16,6 +16,7 @@ pub enum Argument {
     Journal,
     Replay,
     Make,
+    Tapes,
     Workers,
 }
 
@@ -28,7 +29,7 @@ pub enum Shape {
 }
 
 /// All arguments, in the order of the usage.
-pub const ARGUMENTS: [Argument; 8] = [
+pub const ARGUMENTS: [Argument; 9] = [
     Argument::NetFile,
     Argument::Check,
     Argument::Determinate,
@@ -36,6 +37,7 @@ pub const ARGUMENTS: [Argument; 8] = [
     Argument::Journal,
     Argument::Replay,
     Argument::Make,
+    Argument::Tapes,
     Argument::Workers,
 ];
 
@@ -52,6 +54,7 @@ impl Argument {
             Argument::Journal => "journal",
             Argument::Replay => "replay",
             Argument::Make => "make",
+            Argument::Tapes => "tapes",
             Argument::Workers => "workers",
         }
     }
@@ -63,9 +66,11 @@ impl Argument {
         match self {
             Argument::NetFile => Shape::Name,
             Argument::Check | Argument::Determinate | Argument::Kinds => Shape::Flag,
-            Argument::Journal | Argument::Replay | Argument::Make | Argument::Workers => {
-                Shape::Valued
-            }
+            Argument::Journal
+            | Argument::Replay
+            | Argument::Make
+            | Argument::Tapes
+            | Argument::Workers => Shape::Valued,
         }
     }
 

@@ -7,6 +7,8 @@ pub struct RunCommand<'a> {
     pub net: &'a str,
     /// The file in which the journal of the run is kept, where one is named.
     pub journal: Option<&'a str>,
+    /// The file to which the tapes of the run's own components are written, where one is named.
+    pub tapes: Option<&'a str>,
     /// So many workers run it; without any one thread does.
     pub workers: u32,
 }
@@ -22,9 +24,17 @@ pub enum Command<'a> {
     Judge(&'a str),
     /// Print the page of the standard kinds.
     Kinds,
-    /// Make the turns again that a journal's file tells of the network of a file.
-    Replay { net: &'a str, journal: &'a str },
+    /// Make the turns again that a journal's file tells of the network of a file, with what the tapes of its own
+    /// components tell, where a file of them is named.
+    Replay {
+        net: &'a str,
+        journal: &'a str,
+        tapes: Option<&'a str>,
+    },
     /// Run the network that is made from this number, on the input that is made from it. Workers run it as they do a
     /// file's.
-    Make { number: u32, workers: u32 },
+    Make {
+        number: u32,
+        workers: u32,
+    },
 }

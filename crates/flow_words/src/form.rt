@@ -41,6 +41,7 @@ impl Form {
         match (self, argument) {
             (Form::Run, Argument::NetFile) => Place::Needed,
             (Form::Run, Argument::Journal) => Place::Free,
+            (Form::Run, Argument::Tapes) => Place::Free,
             (Form::Run, Argument::Workers) => Place::Free,
             (Form::Check, Argument::NetFile) => Place::Needed,
             (Form::Check, Argument::Check) => Place::Needed,
@@ -49,6 +50,7 @@ impl Form {
             (Form::Kinds, Argument::Kinds) => Place::Needed,
             (Form::Replay, Argument::NetFile) => Place::Needed,
             (Form::Replay, Argument::Replay) => Place::Needed,
+            (Form::Replay, Argument::Tapes) => Place::Free,
             (Form::Make, Argument::Make) => Place::Needed,
             (Form::Make, Argument::Workers) => Place::Free,
             _ => Place::Barred,

@@ -14,30 +14,50 @@ fn cut(alloc: Global, line: &str) -> Result<Vec<String>, Fail> {
 }
 
 // A run of this network file.
-fn with<'a>(net: &'a str, journal: Option<&'a str>, workers: u32) -> Command<'a> {
+fn with<'a>(
+    net: &'a str,
+    journal: Option<&'a str>,
+    tapes: Option<&'a str>,
+    workers: u32,
+) -> Command<'a> {
     Command::Run(RunCommand {
         net,
         journal,
+        tapes,
         workers,
     })
 }
 
-// One on one thread that keeps no journal.
+// One on one thread that keeps neither a journal nor tapes.
 fn run(net: &str) -> Command<'_> {
-    with(net, None, 0)
+    with(net, None, None, 0)
 }
 
 // One that keeps its journal.
 fn kept<'a>(net: &'a str, journal: &'a str) -> Command<'a> {
-    with(net, Some(journal), 0)
+    with(net, Some(journal), None, 0)
+}
+
+// One that keeps its tapes.
+fn taped<'a>(net: &'a str, tapes: &'a str) -> Command<'a> {
+    with(net, None, Some(tapes), 0)
+}
+
+// One by so many workers that keeps neither.
+fn manned(net: &str, workers: u32) -> Command<'_> {
+    with(net, None, None, workers)
 }
 
 fn make<'a>(number: u32, workers: u32) -> Command<'a> {
     Command::Make { number, workers }
 }
 
-fn replay<'a>(net: &'a str, journal: &'a str) -> Command<'a> {
-    Command::Replay { net, journal }
+fn replay<'a>(net: &'a str, journal: &'a str, tapes: Option<&'a str>) -> Command<'a> {
+    Command::Replay {
+        net,
+        journal,
+        tapes,
+    }
 }
 
 #[test]
@@ -61,15 +81,29 @@ fn lines_are_read(rt: HostRuntime) -> Result<(), Fail> {
         ("--determinate net", Command::Judge("net")),
         ("net --determinate", Command::Judge("net")),
         ("--determinate -- -net", Command::Judge("-net")),
-        ("net --replay j", replay("net", "j")),
-        ("--replay=j net", replay("net", "j")),
+        ("net --replay j", replay("net", "j", None)),
+        ("--replay=j net", replay("net", "j", None)),
+        ("--tapes t net", taped("net", "t")),
+        ("net --tapes t", taped("net", "t")),
+        ("--tapes=-t -- -net", taped("-net", "-t")),
+        ("net --tapes=", taped("net", "")),
+        (
+            "--tapes=t --journal j net",
+            with("net", Some("j"), Some("t"), 0),
+        ),
+        (
+            "--journal j --tapes t --workers 3 net",
+            with("net", Some("j"), Some("t"), 3),
+        ),
+        ("--replay j --tapes t net", replay("net", "j", Some("t"))),
+        ("net --tapes=t --replay=j", replay("net", "j", Some("t"))),
         ("--make 7", make(7, 0)),
         ("--make=1", make(1, 0)),
         ("--make=100", make(100, 0)),
         ("--workers 0 net", run("net")),
-        ("--workers 3 net", with("net", None, 3)),
-        ("net --workers 32", with("net", None, 32)),
-        ("--workers=2 net", with("net", None, 2)),
+        ("--workers 3 net", manned("net", 3)),
+        ("net --workers 32", manned("net", 32)),
+        ("--workers=2 net", manned("net", 2)),
         ("--make 7 --workers 4", make(7, 4)),
         ("--workers=4 --make=7", make(7, 4)),
     ];
@@ -135,6 +169,22 @@ fn other_lines_are_refused(rt: HostRuntime) -> Result<(), Fail> {
         "net --replay",
         "--replay j --replay j net",
         "--check --replay j net",
+        "--tapes",
+        "--tapes t",
+        "--tapes net",
+        "net --tapes",
+        "--tapes -t net",
+        "--tapes -- net",
+        "--tapes t --tapes t net",
+        "--tapes t --tapes u net",
+        "--tape t net",
+        "--check --tapes t net",
+        "--determinate --tapes t net",
+        "--kinds --tapes t",
+        "--make 7 --tapes t",
+        "--replay j --tapes t",
+        "--replay j --tapes t --journal k net",
+        "--replay j --tapes t --workers 2 net",
         "--make",
         "--make=",
         "--make 0",

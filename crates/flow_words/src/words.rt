@@ -68,13 +68,21 @@ fn asked_as<'a>(form: Form, matches: &ArgMatches<'a>) -> Option<Command<'a>>
     let net = value_of(matches, Argument::NetFile);
     let workers = value_of(matches, Argument::Workers);
     match form {
-        Form::Run => run_of(net?, value_of(matches, Argument::Journal), workers),
+        Form::Run => {
+            let journal = value_of(matches, Argument::Journal);
+            run_of(net?, journal, value_of(matches, Argument::Tapes), workers)
+        }
         Form::Check => Some(Command::Check(net?)),
         Form::Judge => Some(Command::Judge(net?)),
         Form::Kinds => Some(Command::Kinds),
         Form::Replay => {
             let journal = value_of(matches, Argument::Replay)?;
-            Some(Command::Replay { net: net?, journal })
+            let tapes = value_of(matches, Argument::Tapes);
+            Some(Command::Replay {
+                net: net?,
+                journal,
+                tapes,
+            })
         }
         Form::Make => make_of(value_of(matches, Argument::Make)?, workers),
     }
@@ -120,15 +128,17 @@ fn value_of<'a>(matches: &ArgMatches<'a>, argument: Argument) -> Option<&'a str>
 fn run_of<'a>(
     net: &'a str,
     journal: Option<&'a str>,
+    tapes: Option<&'a str>,
     workers: Option<&'a str>,
 ) -> Option<Command<'a>>
-    ensures asks { option_map asked_by result ≡ option_map (Run net.entry.now (option_map (λ s. s.now) journal.entry)) (given_workers (option_map (λ s. s.now) workers.entry)) }
+    ensures asks { option_map asked_by result ≡ option_map (Run net.entry.now (option_map (λ s. s.now) journal.entry) (option_map (λ s. s.now) tapes.entry)) (given_workers (option_map (λ s. s.now) workers.entry)) }
     ensures bounds { IfSome result (λ command. IsWithinBounds (asked_by command)) }
 {
     let workers = workers_of(workers)?;
     Some(Command::Run(RunCommand {
         net,
         journal,
+        tapes,
         workers,
     }))
 }

@@ -3,11 +3,11 @@ ghost use Rattle.std.specs.Prelude.{◌≡◌, None, OnOk, OnErr, IfOk, IfSome, 
 ghost use Rattle.std.specs.Bool.{OnTrue, OnFalse};
 ghost use Rattle.flow_packet.specs.Held.{held_of};
 ghost use Rattle.flow_model.specs.Works.{judged};
-ghost use Rattle.flow_model.specs.Stages.{IsThoughtStage, HasNotFailed};
+ghost use Rattle.flow_model.specs.Stages.{IsThoughtStage};
 ghost use Rattle.flow_model.specs.Events.{is_fresh};
 ghost use Rattle.flow_model.specs.declared.Stage.TheVariants.{Told, Wishing};
 ghost use Rattle.flow_machine.specs.Texts.{text_taken};
-ghost use Rattle.flow_machine.specs.Thoughts.{next_text, Thinks, KeepsTurns, HasRoom, WorkedBody, SameBody, SendsHeld, PassesFirst, Prepares, IsSet, IsUnset};
+ghost use Rattle.flow_machine.specs.Thoughts.{next_text, Thinks, KeepsTurns, HasRoom, WorkedBody, SameBody, SendsHeld, PassesFirst, Prepares, IsSet, IsNotOver, IsUnset};
 
 use super::Body;
 use crate::answers::Thought;
@@ -117,7 +117,7 @@ impl<K: Component> Body<K> {
         requires whole { self.old.leaving ≡ None }
         requires thought { IsThoughtStage self.old.process.stage }
         ensures set { OnTrue result (SameBody self.old self.new × IsSet self.new) }
-        ensures unset { OnFalse result (SameBody self.old self.new × HasNotFailed self.new.process.stage × IsUnset self.new) }
+        ensures unset { OnFalse result (SameBody self.old self.new × IsNotOver self.new.process.stage × IsUnset self.new) }
         ensures keeps { KeepsTurns self.old self.new }
     {
         match self.stage {
@@ -161,7 +161,7 @@ impl<K: Component> Body<K> {
         requires told { self.old.process.stage ≡ Told answer }
         ensures worked { OnOk result (WorkedBody K.rules self.old self.new × IsThoughtStage self.new.process.stage) }
         ensures granted { IfOk result (λ granted. IfSome granted (λ wish. self.new.process.stage ≡ Wishing wish)) }
-        ensures unchanged { OnErr result (SameBody self.old self.new × HasNotFailed self.new.process.stage) }
+        ensures unchanged { OnErr result (SameBody self.old self.new × IsNotOver self.new.process.stage) }
         ensures keeps { KeepsTurns self.old self.new }
     {
         match self.component.resume(&mut self.hands, answer) {

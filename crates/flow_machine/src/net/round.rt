@@ -3,6 +3,7 @@ ghost use Rattle.std.specs.Prelude.{◌≡◌, ◌<◌, ◌≤◌, ◌+◌, leng
 ghost use Rattle.flow_limits.specs.declared.TheConstants.{RUN_LIMIT};
 ghost use Rattle.std.specs.Bool.{OnTrue, OnFalse};
 ghost use Rattle.flow_machine.specs.NetSteps.{IsSetIn};
+ghost use Rattle.flow_machine.specs.Quiet.{EndedAreTold};
 ghost use Rattle.flow_machine.specs.Starts.{AllSet};
 ghost use Rattle.flow_machine.specs.Logs.{turns_made};
 ghost use Rattle.flow_machine.specs.Solo.{Goes, MakesTurn, SettlesNet, StarvesNet, IsFirstUnset, ReachesNet, StopsAt, all_settled, burst_of, pass_below, round_robin};
@@ -165,6 +166,7 @@ impl<K: Component> Net<K> {
 
     /// Passes, until one has no turn.
     fn go_round(&mut self) -> Result<(), u32>
+        ensures set { OnOk result (AllSet self.new.bodies) }
         ensures goes { OnOk result (Goes K.rules (round_robin K.rules) self.old (turns_made self.old) self.new (turns_made self.new)) }
         ensures reaches { ReachesNet K.rules self.old self.new }
         ensures starved { IfErr result (IsFirstUnset self.new.bodies) }
@@ -182,6 +184,7 @@ impl<K: Component> Net<K> {
 pub fn solo<K: Component>(alloc: Global, net: Net<K>) -> Result<Closed<K>, Closed<K>>
     ensures quiet { IfOk result (λ closed. Goes K.rules (round_robin K.rules) net (turns_made net) closed.net (turns_made closed.net)) }
     ensures none { IfOk result (λ closed. closed.starved.items ≡ []) }
+    ensures ended_are_told { IfOk result (λ closed. EndedAreTold closed.net) }
     ensures reaches { IfErr result (λ closed. ReachesNet K.rules net closed.net) }
     ensures stops { IfErr result (λ closed. StopsAt net closed.net closed.starved.items) }
 {

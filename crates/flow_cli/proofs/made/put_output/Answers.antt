@@ -5,7 +5,7 @@ use Rattle.flow_cli.proofs.Lining.{puts-line}
 use Rattle.flow_cli.proofs.made.put_output.Goals as goal
 
 pub returns-in-Some : goal.returns-in-Some
-returns-in-Some c =
+returns-in-Some g c =
     let ps = c.args.ran.now.plan.processes in
     let process = c.index-processes-process.result in
     let same : c.processes.result.now ≡ ps = c.processes.ensures.processes in

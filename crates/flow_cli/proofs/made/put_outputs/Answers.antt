@@ -4,7 +4,7 @@ use Rattle.flow_cli.proofs.Lining.{one-line-more}
 use Rattle.flow_cli.proofs.made.put_outputs.Goals as goal
 
 pub loop-process-preserved : goal.loop-process-preserved
-loop-process-preserved c =
+loop-process-preserved g c =
     let ps = c.args.ran.now.plan.processes in
     let k = c.loop-process.process in
     let same = ap length c.processes-process-end.ensures.processes in

@@ -4,4 +4,4 @@ use Rattle.flow_cli.specs.Runs.{bytes_at}
 use Rattle.flow_cli.proofs.made.put_outputs.Given as goal
 
 abbrev pub invariant-loop-process : goal.invariant-loop-process
-invariant-loop-process l = l.text.items ≡ l.fn.text.items ++ output_lines_from (bytes_at l.fn.ran.net.bodies) 0 (take l.process l.fn.ran.plan.processes)
+invariant-loop-process g l = l.text.items ≡ l.fn.text.items ++ output_lines_from (bytes_at l.fn.ran.net.bodies) 0 (take l.process l.fn.ran.plan.processes)

@@ -4,7 +4,7 @@ use Rattle.flow_report.specs.Text.{Told as Report, report_text}
 use Rattle.flow_cli.proofs.ran.report_of.Goals as goal
 
 pub returns : goal.returns
-returns c =
+returns g c =
     let is : c.in_ok-report.report ≡ told_of c.args.plan.now c.args.closed.now.net = c.in_ok-report.ensures in
     record {
       verdict = c.verdict.ensures ∙ ap (λ (r : Report). r.verdict) is;

@@ -1,7 +1,25 @@
-use Rattle.std.proofs.Common.{[], ◌∷◌, Some}
+use Rattle.std.proofs.Common.{[], ◌∷◌, Some, refl}
+use Rattle.flow_cli.specs.Components.{contents_of}
 use Rattle.flow_cli.proofs.Befores.{behind-net, journal-file-of, ready}
+use Rattle.flow_cli.proofs.Steps.{may-read}
+use Rattle.flow_draw.proofs.Plain.{no-tapes}
 use Rattle.flow_draw.proofs.Reading.{net-stopped, journal-stopped, inputs-stopped, replay-stopped}
 use Rattle.flow_draw.proofs.scene.scene_of_state.Goals as goal
+
+pub played_components-requires-clause-offered : goal.played_components-requires-clause-offered
+played_components-requires-clause-offered g c = c.in-Ok.ensures.3.over
+
+pub played_components-requires-clause-given : goal.played_components-requires-clause-given
+played_components-requires-clause-given g c = c.in-Ok-read_inputs.ensures.0
+
+pub played_components-requires-clause-tapes : goal.played_components-requires-clause-tapes
+played_components-requires-clause-tapes g c = no-tapes c.in-Ok.plan [] refl
+
+pub remarks_after-requires-clause-offered : goal.remarks_after-requires-clause-offered
+remarks_after-requires-clause-offered g c = c.in-Ok.ensures.3.over
+
+pub remarks_after-requires-clause-components : goal.remarks_after-requires-clause-components
+remarks_after-requires-clause-components g c = (contents_of c.in-Ok-read_inputs.given.items, [], c.in-Ok-played_components.ensures)
 
 pub returns-in-Err : goal.returns-in-Err
 returns-in-Err g c =
@@ -14,17 +32,28 @@ returns-in-Err-read_journal g c =
     c.args.kept.now l.0 l.1 c.in-Ok.plan l.2 l.3
     c.in-Err-read_journal.stop c.in-Err-read_journal.ensures
 
-pub returns-in-Err-read_components : goal.returns-in-Err-read_components
-returns-in-Err-read_components g c =
+pub returns-in-Err-read_inputs : goal.returns-in-Err-read_inputs
+returns-in-Err-read_inputs g c =
     let o = g.F.Edge.outside c.args.shelf.now in
     let mid = g.F.Edge.outside c.load.new.shelf in
     let low = g.F.Edge.outside c.read_journal.new.shelf in
     let l = c.in-Ok.ensures in
     let j = c.in-Ok-read_journal.ensures in
-    inputs-stopped o low (g.F.Edge.outside c.read_components.new.shelf) c.args.name.now l.0 c.args.kept.now j.0 c.in-Ok-read_journal.journal l.1 c.in-Ok.plan
+    inputs-stopped o low (g.F.Edge.outside c.read_inputs.new.shelf) c.args.name.now l.0 c.args.kept.now j.0 c.in-Ok-read_journal.journal l.1 c.in-Ok.plan
     (behind-net o mid low c.args.name.now c.args.kept.now l.0 j.0 l.2 j.1) l.3
     (journal-file-of o mid c.args.name.now l.0 c.args.kept.now j.0 c.in-Ok-read_journal.journal l.2 j.2)
-    c.in-Err-read_components.stop c.in-Err-read_components.ensures
+    c.in-Err-read_inputs.stop c.in-Err-read_inputs.ensures
+
+pub returns-in-Err-played_components : goal.returns-in-Err-played_components
+returns-in-Err-played_components g c =
+    let o = g.F.Edge.outside c.args.shelf.now in
+    let mid = g.F.Edge.outside c.load.new.shelf in
+    let low = g.F.Edge.outside c.read_journal.new.shelf in
+    let new = g.F.Edge.outside c.read_inputs.new.shelf in
+    let l = c.in-Ok.ensures in
+    let j = c.in-Ok-read_journal.ensures in
+    may-read o new _ (ready [] o low new c.args.name.now l.0 ((c.args.kept.now, j.0) ∷ []) l.1 c.in-Ok.plan
+    (behind-net o mid low c.args.name.now c.args.kept.now l.0 j.0 l.2 j.1) l.3 c.in-Ok-read_inputs.given c.in-Ok-read_inputs.ensures).reads
 
 pub returns-in-Ok-remarks_after : goal.returns-in-Ok-remarks_after
 returns-in-Ok-remarks_after g c =
@@ -38,9 +67,11 @@ returns-in-Ok-remarks_after g c =
       bytes = j.0;
       journal = c.in-Ok-read_journal.journal;
       is_journal = journal-file-of o mid c.args.name.now l.0 c.args.kept.now j.0 c.in-Ok-read_journal.journal l.2 j.2;
-      components = c.in-Ok-read_components.components.items;
-      ready = ready o low (g.F.Edge.outside c.read_components.new.shelf) c.args.name.now l.0 ((c.args.kept.now, j.0) ∷ []) l.1 c.in-Ok.plan
-          (behind-net o mid low c.args.name.now c.args.kept.now l.0 j.0 l.2 j.1) l.3 c.in-Ok-read_components.components c.in-Ok-read_components.ensures;
+      given = contents_of c.in-Ok-read_inputs.given.items;
+      ready = ready [] o low (g.F.Edge.outside c.read_inputs.new.shelf) c.args.name.now l.0 ((c.args.kept.now, j.0) ∷ []) l.1 c.in-Ok.plan
+          (behind-net o mid low c.args.name.now c.args.kept.now l.0 j.0 l.2 j.1) l.3 c.in-Ok-read_inputs.given c.in-Ok-read_inputs.ensures;
+      components = c.in-Ok-played_components.components.items;
+      are_components = c.in-Ok-played_components.ensures;
       last = r.0;
       schedule = r.1;
       tells = r.2;
@@ -53,9 +84,9 @@ returns-in-Err-remarks_after g c =
     let low = g.F.Edge.outside c.read_journal.new.shelf in
     let l = c.in-Ok.ensures in
     let j = c.in-Ok-read_journal.ensures in
-    replay-stopped o (g.F.Edge.outside c.read_components.new.shelf) c.args.name.now c.args.kept.now j.0 c.in-Ok-read_journal.journal c.in-Ok.plan
-    c.in-Ok-read_components.components.items
+    replay-stopped o (g.F.Edge.outside c.read_inputs.new.shelf) c.args.name.now c.args.kept.now j.0 c.in-Ok-read_journal.journal c.in-Ok.plan
+    (contents_of c.in-Ok-read_inputs.given.items) c.in-Ok-played_components.components.items
     (journal-file-of o mid c.args.name.now l.0 c.args.kept.now j.0 c.in-Ok-read_journal.journal l.2 j.2)
-    (ready o low (g.F.Edge.outside c.read_components.new.shelf) c.args.name.now l.0 ((c.args.kept.now, j.0) ∷ []) l.1 c.in-Ok.plan
-    (behind-net o mid low c.args.name.now c.args.kept.now l.0 j.0 l.2 j.1) l.3 c.in-Ok-read_components.components c.in-Ok-read_components.ensures)
-    c.in-Err-remarks_after.stop c.in-Err-remarks_after.ensures
+    (ready [] o low (g.F.Edge.outside c.read_inputs.new.shelf) c.args.name.now l.0 ((c.args.kept.now, j.0) ∷ []) l.1 c.in-Ok.plan
+    (behind-net o mid low c.args.name.now c.args.kept.now l.0 j.0 l.2 j.1) l.3 c.in-Ok-read_inputs.given c.in-Ok-read_inputs.ensures)
+    c.in-Ok-played_components.ensures c.in-Err-remarks_after.stop c.in-Err-remarks_after.ensures

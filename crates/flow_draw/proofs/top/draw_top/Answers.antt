@@ -13,9 +13,8 @@ returns-in-Ok g c =
     let ends = ends-printed call c.in-Ok.text.items c.print.result c.in-Ok.ensures prints in
     record {
       ends = ends;
-      complete = λ faults valid. complete c.standard_components_come_to_one_outcome.ensures c.a_journal_that_stops_is_no_schedule.ensures
-          c.a_file_has_one_journal_or_one_fault.ensures.apart
-          c.a_file_has_one_journal_or_one_fault.ensures.journal call faults valid c.print.result ends;
+      complete = λ faults valid. complete (c.players_come_to_one_outcome.ensures c.standard_components_come_to_one_outcome.ensures)
+          c.a_journal_that_stops_is_no_schedule.ensures c.a_file_has_one_journal_or_one_fault.ensures.apart call faults valid c.print.result ends;
     }
 
 pub returns-in-Err : goal.returns-in-Err
@@ -23,8 +22,7 @@ returns-in-Err g c =
     let o = g.O.Edge.outside c.args.out.now in
     let call = call_of c.args.words.now (g.F.Edge.outside c.args.shelf.now) (g.F.Edge.outside c.picture.new.shelf) o o in
     record {
-      ends = (c.in-Err.ensures, refl);
-      complete = λ faults valid. complete c.standard_components_come_to_one_outcome.ensures c.a_journal_that_stops_is_no_schedule.ensures
-          c.a_file_has_one_journal_or_one_fault.ensures.apart
-          c.a_file_has_one_journal_or_one_fault.ensures.journal call faults valid _ (c.in-Err.ensures, refl);
+      ends = (c.in-Err.ensures, refl {a = o});
+      complete = λ faults valid. complete (c.players_come_to_one_outcome.ensures c.standard_components_come_to_one_outcome.ensures)
+          c.a_journal_that_stops_is_no_schedule.ensures c.a_file_has_one_journal_or_one_fault.ensures.apart call faults valid _ (c.in-Err.ensures, refl {a = o});
     }

@@ -21,3 +21,10 @@ returns-in-Ok-make_turns-clause-spent g c = let e = c.in-Ok-make_turns.ensures i
       | inl all ↦ inl (omega (arith, all, ap turns_made c.in-Ok.ensures.opened))
       | inr zero_read ↦ inr (c.pause.ensures.quiet zero_read)
     ]
+
+pub returns-in-Ok-make_turns-clause-ended_are_told : goal.returns-in-Ok-make_turns-clause-ended_are_told
+returns-in-Ok-make_turns-clause-ended_are_told g c = let e = c.in-Ok-make_turns.ensures in
+    elim (all-made g.K.Component.rules _ c.pause.result.net c.in-Ok-make_turns.crew.items c.args.workers c.args.budget c.pause.ensures.net e.crew.1 e.done) [
+      | inl all ↦ inl (omega (arith, all, ap turns_made c.in-Ok.ensures.opened))
+      | inr zero_read ↦ inr (c.pause.ensures.ended_are_told zero_read)
+    ]

@@ -1,4 +1,6 @@
-use Rattle.flow_runner.proofs.Attempts.{stuck-still}
+use Rattle.std.proofs.Common.{sym, subst}
+use Rattle.flow_floor.specs.Floors.{IsOverAs}
+use Rattle.flow_runner.proofs.Attempts.{over-as, stuck-still}
 use Rattle.flow_runner.proofs.work.try_turn.Goals as goal
 
 pub make_turn-requires-clause-held : goal.make_turn-requires-clause-held
@@ -12,3 +14,8 @@ returns-in-Failed-clause-held g c = c.think.ensures.held c.args.floor.now c.args
 
 pub returns-in-NoMemory-clause-held : goal.returns-in-NoMemory-clause-held
 returns-in-NoMemory-clause-held g c = c.think.ensures.held c.args.floor.now c.args.worker.now c.requires.held
+
+-- what is over was told its end by the thought before
+pub returns-in-Over-clause-may : goal.returns-in-Over-clause-may
+returns-in-Over-clause-may g c = let t = c.in-Over.ensures.turned in
+    subst (IsOverAs c.in-Over.over) (sym t.0.0) (over-as c.in-Over.over c.think.new.self c.in-Wishing.ensures.thinks.1 t.1)

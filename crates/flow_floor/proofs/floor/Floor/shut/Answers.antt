@@ -1,7 +1,7 @@
 use Rattle.std.proofs.Common.{◌<◌, length, sym, ap, ◌∙◌, subst}
 use Rattle.std.specs.Mem.Slots.{slots_items}
 use Rattle.flow_floor.specs.Shut.{HasBodies, HasChannels, ListsStarved}
-use Rattle.flow_floor.proofs.Closing.{closing, has-bodies, has-channels, pieces, is-shut, join-pieces, starved-unset, quiet-none}
+use Rattle.flow_floor.proofs.Closing.{closing, has-bodies, has-channels, pieces, is-shut, join-pieces, starved-unset, over-told, quiet-none}
 use Rattle.flow_ring.specs.Spaced.{ranked}
 use Rattle.flow_floor.proofs.Spacing.{final-ranked}
 use Rattle.flow_floor.proofs.floor.Floor.shut.Goals as goal
@@ -43,6 +43,13 @@ returns-clause-starved g c = let s = c.args.self in let w = c.args.worker.seat i
     subst (λ bs. ListsStarved (ranked (slots_items c.close_with-closed.result.words)) bs (length bs) c.list_starved-starved.result.items) (c.as_slice.ensures.value ∙ sym (ap (λ n. n.bodies) c.join.ensures))
     (subst (λ ws. ListsStarved (ranked (slots_items ws)) c.as_slice.result.now (length c.as_slice.result.now) c.list_starved-starved.result.items) c.take_bodies-bodies.ensures.words c.list_starved-starved.ensures) in
     starved-unset g.K.Component.rules s.table.shared.key.value w.me.0 _ _ c.join.result _ c.list_starved-starved.result.items cl is lists
+
+pub returns-clause-ended_are_told : goal.returns-clause-ended_are_told
+returns-clause-ended_are_told g c = let s = c.args.self in let w = c.args.worker.seat in
+    let cl = closing g.K.Component.rules s.table.shared.key.value w.id w.me.0 _ _ c.requires.all c.requires.worker.held (final-ranked g.K.Component.rules s.table.shared.key.value w.id w.me.0 _ _ c.close_with-closed.ensures.values.2) in
+    let is = pieces g.K.Component.rules s.table.shared.key.value w.me.0 _ _ s.plan.items c.take_bodies-bodies.result.items c.take_channels-channels.result.items cl s.planned
+    (rw s.bodies c.take_bodies-bodies.ensures.bodies) (rw (s.bodies, s.channels, ← c.take_bodies-bodies.ensures.same.0) c.take_channels-channels.ensures.channels) ∙ sym c.join.ensures in
+    over-told g.K.Component.rules s.table.shared.key.value w.me.0 _ _ c.join.result cl is
 
 pub returns-clause-quiet : goal.returns-clause-quiet
 returns-clause-quiet g c = let s = c.args.self in let w = c.args.worker.seat in

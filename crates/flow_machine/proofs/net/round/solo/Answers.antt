@@ -1,6 +1,7 @@
 use Rattle.std.proofs.Common.{◌≡◌, ℕ, List, [], ◌∷◌, ◌++◌, ◌∙◌, ap, sym, subst}
 use Rattle.flow_machine.specs.Solo.{StopsAt}
 use Rattle.flow_machine.proofs.Reaching.{reach-none}
+use Rattle.flow_machine.proofs.Told.{all-told}
 use Rattle.flow_machine.proofs.net.round.solo.Goals as goal
 
 pub returns-in-Err-clause-reaches : goal.returns-in-Err-clause-reaches
@@ -14,3 +15,6 @@ returns-in-Err-clause-stops g c =
 
 pub returns-in_default-clause-reaches : goal.returns-in_default-clause-reaches
 returns-in_default-clause-reaches g c = reach-none g.K.Component.rules g.met.K.Component.lawful c.args.net
+
+pub returns-in-Ok-go_round-clause-ended_are_told : goal.returns-in-Ok-go_round-clause-ended_are_told
+returns-in-Ok-go_round-clause-ended_are_told g c = all-told c.go_round.new.self c.in-Ok-go_round.ensures.set

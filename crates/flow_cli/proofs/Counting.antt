@@ -1,0 +1,28 @@
+-- The processes of kinds of the caller's own are counted, one after another.
+use Rattle.std.proofs.Common.{◌≡◌, ℕ, zero, suc, ◌+◌, ◌≤◌, Bool, true, false, cond, List, [], ◌∷◌, ◌++◌, length, is_some, refl, ◌∙◌, ap, subst, arith, length-append}
+use Rattle.flow_plan.specs.declared.kind.KindSpec.{KindSpec}
+use Rattle.flow_plan.specs.Network.{Network}
+use Rattle.flow_offer.specs.Processes.{own_place}
+use Rattle.flow_cli.proofs.Taping.{own_below, own-more}
+
+more : (own : List KindSpec) (plan : Network) (k : ℕ) (b : Bool) → is_some (own_place own plan k) ≡ b → length (own_below own plan (k + 1)) ≡ length (own_below own plan k) + length (cond b (k ∷ []) [])
+more own plan k b is = ap length (own-more own plan k ∙ ap (λ (c : Bool). own_below own plan k ++ cond c (k ∷ []) []) is) ∙ length-append (own_below own plan k) (cond b (k ∷ []) [])
+
+-- One process more, which is of a kind of the caller's own.
+pub one-counted : (own : List KindSpec) (plan : Network) (k count : ℕ) → is_some (own_place own plan k) ≡ true → count ≡ length (own_below own plan k) → count + 1 ≡ length (own_below own plan (k + 1))
+one-counted own plan k count is before = let long = more own plan k true is in omega (arith, before, long)
+
+-- One process more, which is of a standard kind.
+pub none-counted : (own : List KindSpec) (plan : Network) (k count : ℕ) → is_some (own_place own plan k) ≡ false → count ≡ length (own_below own plan k) → count ≡ length (own_below own plan (k + 1))
+none-counted own plan k count is before = let long = more own plan k false is in omega (arith, before, long)
+
+-- There are no more of them than processes.
+pub few-counted : (own : List KindSpec) (plan : Network) (k : ℕ) → length (own_below own plan k) ≤ k
+few-counted own plan zero = omega arith
+few-counted own plan (suc k) = subst (λ (n : ℕ). length (own_below own plan n) ≤ n) next (by (is_some (own_place own plan k)) refl (few-counted own plan k)) where
+  next : k + 1 ≡ suc k
+  next = omega arith
+
+  by : (b : Bool) → is_some (own_place own plan k) ≡ b → length (own_below own plan k) ≤ k → length (own_below own plan (k + 1)) ≤ k + 1
+  by true is less = let long = more own plan k true is in omega (arith, less, long)
+  by false is less = let long = more own plan k false is in omega (arith, less, long)

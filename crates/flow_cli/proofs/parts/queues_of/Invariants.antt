@@ -1,0 +1,6 @@
+use Rattle.std.proofs.Common.{◌≡◌}
+use Rattle.flow_cli.specs.Offers.{counts_left, counts_of}
+use Rattle.flow_cli.proofs.parts.queues_of.Given as goal
+
+abbrev pub invariant-loop-kind : goal.invariant-loop-kind
+invariant-loop-kind g l = counts_left l.queues.items ≡ counts_of l.yielded

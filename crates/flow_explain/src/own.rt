@@ -1,0 +1,42 @@
+//! Kinds of the caller's own, which a network file may name beside the standard ones.
+ghost use Rattle.flow_offer.specs.Kinds.{AreOwnKinds};
+
+use crate::shown::put_word;
+use flow_plan::{KindSpec, Plan};
+use std::alloc::AllocError;
+
+/// Kinds of the caller's own, as the top calls take them.
+#[derive(Clone, Copy)]
+pub struct OwnKinds<'a> {
+    pub kinds: &'a [KindSpec],
+    pub ghost are_own: { AreOwnKinds kinds.now },
+}
+
+// How many processes of a plan are of the kind.
+fn processes_of(plan: &Plan, kind: &KindSpec) -> usize {
+    plan.processes()
+        .iter()
+        .filter(|process| process.kind == kind.name)
+        .count()
+}
+
+/// Tells of the first of these kinds of which a plan has more processes than there are parts for them.
+pub fn put_no_part(
+    page: &mut String,
+    plan: &Plan,
+    own: &[KindSpec],
+    parts: &[usize],
+) -> Result<(), AllocError> {
+    for (kind, parts) in own.iter().zip(parts.iter()) {
+        let processes = processes_of(plan, kind);
+        if processes > *parts {
+            write!(page, "The network has {processes} processes of the kind ")?;
+            put_word(page, kind.name.as_slice())?;
+            return write!(
+                page,
+                ", and there are {parts} parts of it, one for each process.\nA program of your own may hand in more.\n"
+            );
+        }
+    }
+    Ok(())
+}

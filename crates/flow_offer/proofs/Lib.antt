@@ -1,0 +1,5 @@
+mod Lists
+mod Tables
+mod Owns
+mod Fitting
+mod Parts

@@ -1,0 +1,5 @@
+pub mod Kinds
+pub mod Processes
+pub mod Fits
+pub mod Shares
+pub mod Laws
