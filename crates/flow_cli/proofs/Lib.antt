@@ -20,6 +20,7 @@ pub mod Manned
 pub mod Meaning
 pub mod Networks
 pub mod Offering
+pub mod Ordering
 pub mod Parting
 pub mod Passing
 pub mod Performing

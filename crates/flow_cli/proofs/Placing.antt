@@ -1,22 +1,26 @@
 -- The components of a plan's processes, made one after another.
-use Rattle.std.proofs.Common.{◌≡◌, ◌⊎◌, inl, inr, ℕ, zero, suc, ◌+◌, ◌-◌, ◌<◌, ◌≤◌, Bool, true, false, cond, List, [], ◌∷◌, ◌++◌, length, map, drop, get_or, Option, Bor, Iter, Some, None, refl, sym, ◌∙◌, ap, subst, arith, length-append}
+use Rattle.std.proofs.Common.{◌≡◌, ◌≢◌, ◌⊎◌, inl, inr, ℕ, zero, suc, ◌+◌, ◌-◌, ◌<◌, ◌≤◌, Bool, true, false, cond, List, [], ◌∷◌, ◌++◌, length, map, drop, get_or, Option, Bor, Iter, Some, None, refl, sym, ◌∙◌, ap, subst, arith, length-append}
 use Rattle.std.proofs.lemmas.List.{length-drop}
-use Rattle.std.proofs.lemmas.Option.{slice_get-map}
+use Rattle.std.proofs.lemmas.Option.{slice_get-map, slice_get_within}
 use Rattle.std.specs.Option.{option_and_then, option_copied, option_map}
 use Rattle.std.specs.Prelude.{slice_get, is_some, MatchOption, Vec}
 use Rattle.std.specs.Slice.Iter.{iter_rest, iter_steps}
 use Rattle.std.specs.List.{filter, range_with_len}
 use Rattle.std.proofs.Math.Seq.{drop-cons}
 use Rattle.std.specs.declared.alloc.Global.{Global}
+use Rattle.flow_model.proofs.Lists.{same_or_not}
 use Rattle.flow_plan.specs.declared.kind.KindSpec.{KindSpec}
 use Rattle.flow_plan.specs.declared.plan.Process.{Process}
 use Rattle.flow_plan.specs.Network.{Network}
 use Rattle.flow_catalogue.specs.Processes.{IsStandard}
+use Rattle.flow_own.specs.Parts.{Seen}
+use Rattle.flow_own.specs.Mixed.{Own}
+use Rattle.flow_own.specs.Tapes.{OwnValue}
 use Rattle.flow_offer.specs.Fits.{player_at, part_at}
 use Rattle.flow_offer.specs.Laws.{EachIsStandardOrOwn}
 use Rattle.flow_offer.specs.Processes.{IsOfferedPlan, IsOwnAt, IsStandardOrOwn, place_of, own_place, own_processes}
 use Rattle.flow_cli.specs.Offers.{AnyKind, Taped}
-use Rattle.flow_cli.specs.Components.{AreComponents, AreLive, CanTake, TakesPart, TakesParts, TakesTape, contents_of, IsLiveComponent, IsPlayedComponent, IsPartAt, IsPlayerAt, IsStandardAt}
+use Rattle.flow_cli.specs.Components.{AreComponents, AreLive, CanTake, HoldParts, TakesPart, TakesParts, TakesTape, contents_of, IsLiveComponent, IsPlayedComponent, IsPartAt, IsPlayerAt, IsStandardAt}
 use Rattle.flow_cli.specs.Makes.{AreNoParts}
 use Rattle.flow_cli.proofs.Parting.{pushed}
 
@@ -50,10 +54,11 @@ pub standard-played : (own : List KindSpec) (plan : Network) (p : ℕ) (bytes : 
     → IsPlayedComponent own plan p bytes tape component
 standard-played own plan p bytes tape component is = subst (IsPlayedComponent own plan p bytes tape) (sym is.1) is.2
 
-pub part-live : (own : List KindSpec) (plan : Network) (p : ℕ) (bytes : List ℕ) (component : AnyKind) → IsOwnAt own plan p → IsPartAt plan p component → IsLiveComponent own plan p bytes component
-part-live own plan p bytes component is_own is =
-    let same : is.0 ≡ is_own.process = (let a = is.2 in let b = is_own.there in cc) in
-    subst (IsLiveComponent own plan p bytes) (sym is.3) (is_own, (is.1, ap (λ (x : Process). part_at plan p x (Some is.1)) same))
+pub part-live : (own : List KindSpec) (plan : Network) (p : ℕ) (bytes : List ℕ) (seen : Seen) (component : AnyKind) → IsOwnAt own plan p → IsPartAt plan p seen component
+    → IsLiveComponent own plan p bytes component
+part-live own plan p bytes seen component is_own is =
+    let same : is.0 ≡ is_own.process = (let a = is.1 in let b = is_own.there in cc) in
+    subst (IsLiveComponent own plan p bytes) (sym is.2) (is_own, (seen, ap (λ (x : Process). part_at plan p x (Some seen)) same))
 
 pub player-played : (own : List KindSpec) (plan : Network) (p : ℕ) (bytes : List ℕ) (tape : Taped) (component : AnyKind) → IsOwnAt own plan p → IsPlayerAt plan p tape component
     → IsPlayedComponent own plan p bytes tape component
@@ -144,10 +149,10 @@ can-take own plan p below tells None same = standard (own_place own plan p) tell
   standard (Some place) tells same = absurd cc
 
 -- What took its part, or none where it isn't the caller's own, is live.
-pub takes-live : {P : Type 0} (own : List KindSpec) (plan : Network) (p : ℕ) (bytes : List ℕ) → IsStandardOrOwn own plan p (own_place own plan p) → (part : Option P) (component : AnyKind)
-    → is_some part ≡ is_own_at own plan p → TakesPart plan p bytes part component → IsLiveComponent own plan p bytes component
-takes-live own plan p bytes tells (Some part) component same is = part-live own plan p bytes component (is-own own plan p (own_place own plan p) tells (sym same)) is
-takes-live own plan p bytes tells None component same is = standard-live own plan p bytes component is
+pub takes-live : {P : Type 0} (seen : P → Seen) (own : List KindSpec) (plan : Network) (p : ℕ) (bytes : List ℕ) → IsStandardOrOwn own plan p (own_place own plan p) → (part : Option P) (component : AnyKind)
+    → is_some part ≡ is_own_at own plan p → TakesPart seen plan p bytes part component → IsLiveComponent own plan p bytes component
+takes-live seen own plan p bytes tells (Some part) component same is = part-live own plan p bytes (seen part) component (is-own own plan p (own_place own plan p) tells (sym same)) is
+takes-live seen own plan p bytes tells None component same is = standard-live own plan p bytes component is
 
 -- The tape of a process of the caller's own: as many come before it as such processes do.
 abbrev pub tape_of : List KindSpec → Network → List Taped → ℕ → Taped
@@ -191,13 +196,62 @@ takes-played own plan tapes p bytes rest tells (Some tape) component taken is =
 takes-played own plan tapes p bytes rest tells None component taken is = standard-played own plan p bytes (tape_of own plan tapes p) component is
 
 -- The live component of one process more.
-pub one-live : {P : Type 0} (law : EachIsStandardOrOwn) (own : List KindSpec) (plan : Network) (given : List (Vec ℕ Global)) (parts : List (Option P)) (k : ℕ) (components : List AnyKind) (bytes : Vec ℕ Global)
+pub one-live : {P : Type 0} (seen : P → Seen) (law : EachIsStandardOrOwn) (own : List KindSpec) (plan : Network) (given : List (Vec ℕ Global)) (parts : List (Option P)) (k : ℕ) (components : List AnyKind) (bytes : Vec ℕ Global)
     (part : Option P) (component : AnyKind) → IsOfferedPlan own plan → TakesParts own plan parts → slice_get given k ≡ Some bytes → slice_get parts k ≡ Some part → k < length plan.processes
-    → AreMade (IsLiveComponent own plan) (contents_of given) k components → TakesPart plan k bytes.items part component
+    → AreMade (IsLiveComponent own plan) (contents_of given) k components → TakesPart seen plan k bytes.items part component
     → AreMade (IsLiveComponent own plan) (contents_of given) (k + 1) (components ++ component ∷ [])
-one-live law own plan given parts k components bytes part component offered takes has there below are is =
+one-live seen law own plan given parts k components bytes part component offered takes has there below are is =
     one-made (IsLiveComponent own plan) (contents_of given) k components bytes.items component are (content-at given k bytes has)
-    (takes-live own plan k bytes.items (law own plan offered k below) part component (takes.each k part there) is)
+    (takes-live seen own plan k bytes.items (law own plan offered k below) part component (takes.each k part there) is)
+
+-- The components of the first processes hold the parts that these took.
+abbrev pub HoldSoFar : {P : Type 0} → (P → Seen) → List (Option P) → ℕ → List AnyKind → Type 0
+HoldSoFar {P = P} seen parts k components = (p : ℕ) (part : P) → p < k → slice_get parts p ≡ Some (Some part) → (value : OwnValue) × (slice_get components p ≡ Some (Own value)) × (value.part ≡ Some (seen part))
+
+-- What stood in a list stands there still when one was pushed behind it, and that one stands last.
+stands-still : {X : Type 0} (xs : List X) (y x : X) (p : ℕ) → slice_get xs p ≡ Some x → slice_get (xs ++ y ∷ []) p ≡ Some x
+stands-still [] y x p at = absurd cc
+stands-still (z ∷ xs) y x zero at = at
+stands-still (z ∷ xs) y x (suc p) at = stands-still xs y x p at
+
+stands-last : {X : Type 0} (xs : List X) (y : X) (p : ℕ) → length xs ≡ p → slice_get (xs ++ y ∷ []) p ≡ Some y
+stands-last [] y zero long = refl
+stands-last [] y (suc p) long = absurd (omega (arith, long))
+stands-last (z ∷ xs) y zero long = absurd (omega (arith, long))
+stands-last (z ∷ xs) y (suc p) long = stands-last xs y p (omega (arith, long))
+
+nearer : (p k : ℕ) → p < k + 1 → p ≢ k → p < k
+nearer zero zero below other = absurd (other refl)
+nearer zero (suc k) below other = omega arith
+nearer (suc p) zero below other = absurd (omega (arith, below))
+nearer (suc p) (suc k) below other =
+    let less = nearer p k (omega (arith, below)) (λ same. other (ap suc same)) in
+    omega (arith, less)
+
+pub none-held : {P : Type 0} (seen : P → Seen) (parts : List (Option P)) → HoldSoFar seen parts 0 []
+none-held seen parts = λ p part below at. absurd (omega (arith, below))
+
+-- One process more holds its part.
+pub one-held : {P : Type 0} (seen : P → Seen) (plan : Network) (parts : List (Option P)) (k : ℕ) (components : List AnyKind) (bytes : List ℕ) (part : Option P) (component : AnyKind)
+    → length components ≡ k → HoldSoFar seen parts k components → slice_get parts k ≡ Some part → TakesPart seen plan k bytes part component → HoldSoFar seen parts (k + 1) (components ++ component ∷ [])
+one-held {P = P} seen plan parts k components bytes part component long held there takes = λ p one below at. by p one at (same_or_not p k) below where
+  Holds : ℕ → P → Type 0
+  Holds p one = (value : OwnValue) × (slice_get (components ++ component ∷ []) p ≡ Some (Own value)) × (value.part ≡ Some (seen one))
+
+  last : (one : P) → TakesPart seen plan k bytes (Some one) component → Holds k one
+  last one takes = (part_at plan k takes.0 (Some (seen one)), (stands-last components component k long ∙ ap (λ (x : AnyKind). Some x) takes.2, refl))
+
+  by : (p : ℕ) (one : P) → slice_get parts p ≡ Some (Some one) → (p ≡ k) ⊎ (p ≢ k) → p < k + 1 → Holds p one
+  by p one at (inl same) below =
+      let is : part ≡ Some one = (let a = ap (slice_get parts) same in cc) in
+      subst (λ n. Holds n one) (sym same) (last one (subst (λ (o : Option P). TakesPart seen plan k bytes o component) is takes))
+  by p one at (inr other) below =
+      let h = held p one (nearer p k below other) at in
+      (h.0, (stands-still components component (Own h.0) p h.1, h.2))
+
+-- The components hold all parts.
+pub all-held : {P : Type 0} (seen : P → Seen) (parts : List (Option P)) (k : ℕ) (components : List AnyKind) → length parts ≡ k → HoldSoFar seen parts k components → HoldParts seen parts components
+all-held {P = P} seen parts k components long held = λ p part at. held p part (omega (arith, slice_get_within parts p (Some part) at, long)) at
 
 -- The player, or the standard component, of one process more.
 pub one-played : (own : List KindSpec) (plan : Network) (given : List (Vec ℕ Global)) (tapes : List Taped) (k : ℕ) (components : List AnyKind) (bytes : Vec ℕ Global) (tape : Option (Bor Taped)) (rest : List Taped)

@@ -46,7 +46,7 @@ place-within [] name place at = absurd cc
 place-within (k ∷ own) name place at = (position-Some (λ (kind : KindSpec). bytes_eq kind.name name) (k ∷ own) place k at).0
 
 -- two names of one place are one name
-one-name : (own : List KindSpec) (a b : List ℕ) (place : ℕ) → place_of own a ≡ Some place → place_of own b ≡ Some place → a ≡ b
+pub one-name : (own : List KindSpec) (a b : List ℕ) (place : ℕ) → place_of own a ≡ Some place → place_of own b ≡ Some place → a ≡ b
 one-name [] a b place at there = absurd cc
 one-name (k ∷ own) a b place at there =
     let first = (position-Some (λ (kind : KindSpec). bytes_eq kind.name a) (k ∷ own) place k at).1 in
@@ -62,10 +62,10 @@ module _ (plan : Network) (p : ℕ) (x : Process) (there : slice_get plan.proces
   test-at name = ap (is-kind name) (get_or_from_slice_get plan.processes p x x there)
 
   -- a process of the kind is one more
-  one-more : (name : List ℕ) → bytes_eq x.kind name ≡ true → earlier plan name (p + 1) ≡ earlier plan name p + 1
+  pub one-more : (name : List ℕ) → bytes_eq x.kind name ≡ true → earlier plan name (p + 1) ≡ earlier plan name p + 1
   one-more name is = count_by_more_yes (is-kind name) plan.processes p x within (test-at name ∙ is)
 
-  no-more : (name : List ℕ) → bytes_eq x.kind name ≡ false → earlier plan name (p + 1) ≡ earlier plan name p
+  pub no-more : (name : List ℕ) → bytes_eq x.kind name ≡ false → earlier plan name (p + 1) ≡ earlier plan name p
   no-more name is = count_by_more_no (is-kind name) plan.processes p x within (test-at name ∙ is)
 
   -- no fewer
@@ -75,7 +75,7 @@ module _ (plan : Network) (p : ℕ) (x : Process) (there : slice_get plan.proces
     by true is = omega (arith, one-more name is)
     by false is = omega (arith, no-more name is)
 
-  its-place : (own : List KindSpec) → own_place own plan p ≡ place_of own x.kind
+  pub its-place : (own : List KindSpec) → own_place own plan p ≡ place_of own x.kind
   its-place own = ap (option_and_then (λ (process : Process). place_of own process.kind)) there
 
   -- What is left of the kinds, where the next part of one was taken.
@@ -128,6 +128,20 @@ module _ {P : Type 0} (own : List KindSpec) (plan : Network) (counts left left' 
 
   pub more-shared : (place : Option ℕ) → place ≡ own_place own plan p → TakesNext left left' place part → FindsPart own counts plan p → SharedOut own plan counts left' (p + 1) (shared ++ part ∷ [])
   more-shared place is takes finds = let x = there_at plan.processes p within in more-by place is takes finds x.0 x.1
+
+-- A part was taken where its kind is the caller's own, and only there.
+pub taken-where-own : {P : Type 0} (own : List KindSpec) (plan : Network) (counts left left' : List ℕ) (p : ℕ) (shared : List (Option P)) (part : Option P) → SharedOut own plan counts left p shared
+    → p < length plan.processes → (place : Option ℕ) → place ≡ own_place own plan p → TakesNext left left' place part → FindsPart own counts plan p → is_some part ≡ is_some place
+taken-where-own {P = P} own plan counts left left' p shared part s within place is takes finds = by place is takes where
+  x : (process : Process) × (slice_get plan.processes p ≡ Some process)
+  x = there_at plan.processes p within
+
+  by : (place : Option ℕ) → place ≡ own_place own plan p → TakesNext left left' place part → is_some part ≡ is_some place
+  by None is takes = takes.1
+  by (Some k) is takes =
+      let placed : place_of own x.0.kind ≡ Some k = sym (its-place plan p x.0 x.1 within own) ∙ sym is in
+      let some : 0 < slice_index left k = omega (arith, finds x.0 k x.1 placed, s.enough x.0.kind k placed) in
+      takes.1 ∙ grind (arith, nat_tests, some)
 
 -- The place of a process's kind is one of what is left.
 pub within-left : {P : Type 0} (own : List KindSpec) (plan : Network) (counts left : List ℕ) (p : ℕ) (shared : List (Option P)) → SharedOut own plan counts left p shared → p < length plan.processes

@@ -1,5 +1,6 @@
 -- The files that a plan's processes read and write, and the components of the processes, each reader on what its file gave.
-use Rattle.std.specs.Prelude.{◌≡◌, ℕ, ◌-◌, ◌<◌, nat_lt, false, List, [], ◌∷◌, ◌++◌, length, map, Some, None, Ok, Err, Vec, is_some, ⊤, string_bytes, slice_get, slice_set, slice_index, codes, if◌then◌else◌}
+use Rattle.std.specs.Prelude.{◌≡◌, ℕ, ◌-◌, ◌<◌, nat_lt, false, List, [], ◌∷◌, ◌++◌, length, map, Some, None, Ok, Err, Vec, is_some, ⊤, string_bytes, slice_get, slice_set, slice_index, get_or, codes, if◌then◌else◌}
+use Rattle.std.specs.Option.{option_and_then}
 use Rattle.std.specs.Str.{bytes_eq}
 use Rattle.std.specs.declared.alloc.Global.{Global}
 use Rattle.std.specs.declared.option.Option.{Option}
@@ -13,9 +14,10 @@ use Rattle.flow_catalogue.specs.Processes.{IsMade, IsStandard, Fits}
 use Rattle.flow_plan.specs.declared.kind.KindSpec.{KindSpec}
 use Rattle.flow_own.specs.Mixed.{Other, Own}
 use Rattle.flow_own.specs.Parts.{Seen}
-use Rattle.flow_offer.specs.Processes.{IsOwnAt, own_place, own_processes}
+use Rattle.flow_own.specs.Tapes.{OwnValue}
+use Rattle.flow_offer.specs.Processes.{IsOwnAt, own_place, own_processes, place_of}
 use Rattle.flow_offer.specs.Fits.{player_at, part_at}
-use Rattle.flow_offer.specs.Shares.{IsFirstWithout}
+use Rattle.flow_offer.specs.Shares.{IsFirstWithout, earlier}
 use Rattle.flow_cli.specs.Offers.{AnyKind, Taped}
 use Rattle.flow_cli.specs.Step.{Filled, OnlyReads, FailsToRead, MayRead, Unended, IsRead, GivesMore, HoldsMore, whole}
 use Rattle.flow_cli.specs.declared.stop.Stop.{Stop}
@@ -70,19 +72,19 @@ IsStandardAt plan p bytes component = (standard : Std) × (component ≡ Other s
 abbrev pub IsPlayerAt : Network → ℕ → Taped → AnyKind → Type 0
 IsPlayerAt plan p tape component = (process : Process) × (slice_get plan.processes p ≡ Some process) × (component ≡ Own (player_at plan p process tape))
 
--- The component is a live part at process p, with an empty tape.
-abbrev pub IsPartAt : Network → ℕ → AnyKind → Type 0
-IsPartAt plan p component = (process : Process) × (seen : Seen) × (slice_get plan.processes p ≡ Some process) × (component ≡ Own (part_at plan p process (Some seen)))
+-- The component is the live part at process p of which contracts see this, with an empty tape.
+abbrev pub IsPartAt : Network → ℕ → Seen → AnyKind → Type 0
+IsPartAt plan p seen component = (process : Process) × (slice_get plan.processes p ≡ Some process) × (component ≡ Own (part_at plan p process (Some seen)))
 
 -- Process p can be made from this, its part or its tape: where there is none it is of a standard kind.
 abbrev pub CanTake : {T : Type 0} → Network → ℕ → Option T → Type 0
 CanTake plan p None = IsStandard plan p
 CanTake plan p (Some taken) = p < length plan.processes
 
--- The component of process p is a live part where it took one, and else a standard one on these bytes.
-abbrev pub TakesPart : {P : Type 0} → Network → ℕ → List ℕ → Option P → AnyKind → Type 0
-TakesPart plan p bytes None component = IsStandardAt plan p bytes component
-TakesPart plan p bytes (Some part) component = IsPartAt plan p component
+-- The component of process p is the part that it took, alive, where it took one, and else a standard one on these bytes; `seen` tells what contracts see of a part.
+abbrev pub TakesPart : {P : Type 0} → (P → Seen) → Network → ℕ → List ℕ → Option P → AnyKind → Type 0
+TakesPart seen plan p bytes None component = IsStandardAt plan p bytes component
+TakesPart seen plan p bytes (Some part) component = IsPartAt plan p (seen part) component
 
 -- The component of process p is the player of a tape where it took one, and else a standard one on these bytes.
 abbrev pub TakesTape : Network → ℕ → List ℕ → Option Taped → AnyKind → Type 0
@@ -120,6 +122,21 @@ abbrev pub TakesNext : {P : Type 0} → List ℕ → List ℕ → Option ℕ →
 TakesNext old new None part = (new ≡ old) × (is_some part ≡ false)
 TakesNext old new (Some place) part = (new ≡ slice_set old place (slice_index old place - 1)) × (is_some part ≡ nat_lt 0 (slice_index old place))
 
+-- The first of the parts that were left of the kind at this place was taken, and those behind it are left; without a place nothing was taken.
+abbrev pub TakesFirst : {P : Type 0} → List (List P) → List (List P) → Option ℕ → Option P → Type 0
+TakesFirst old new None part = new ≡ old
+TakesFirst old new (Some place) None = ⊤
+TakesFirst {P = P} old new (Some place) (Some part) = (rest : List P) × (slice_get old place ≡ Some (part ∷ rest)) × (new ≡ slice_set old place rest)
+
+-- The part of process p, where these are the parts of each kind: of those of its kind the one with as many before it as there are processes of the kind before p.
+abbrev pub part_for : {P : Type 0} → List KindSpec → List (List P) → Network → ℕ → Option P
+part_for own parts plan p =
+    option_and_then (λ (process : Process). option_and_then (λ place. slice_get (get_or parts place []) (earlier plan process.kind p)) (place_of own process.kind)) (slice_get plan.processes p)
+
+-- Each process that took a part took its own: those of one kind take the kind's parts from the first on, in the order of the processes.
+abbrev pub AreInOrder : {P : Type 0} → List KindSpec → List (List P) → Network → List (Option P) → Type 0
+AreInOrder {P = P} own parts plan taken = (p : ℕ) (part : P) → slice_get taken p ≡ Some (Some part) → part_for own parts plan p ≡ Some part
+
 -- Why parts weren't handed out, where there are so many of each kind: this process is the first of a kind of the caller's own that finds none; or memory was wanting.
 abbrev pub StopsHandingOut : List KindSpec → List ℕ → Network → Stop → Type 0
 StopsHandingOut own counts plan (NoPart name) = (p : ℕ) × (process : Process) × (slice_get plan.processes p ≡ Some process) × (name ≡ process.name) × IsFirstWithout own counts plan p
@@ -130,6 +147,10 @@ StopsHandingOut own counts plan other = ⊥
 abbrev pub HandsOut : {P : Type 0} → List KindSpec → List ℕ → Network → Result (Vec (Option P) Global) Stop → Type 0
 HandsOut own counts plan (Ok parts) = TakesParts own plan parts.items
 HandsOut own counts plan (Err stop) = StopsHandingOut own counts plan stop
+
+-- The component of each process that took a part is that part, as far as contracts see it.
+abbrev pub HoldParts : {P : Type 0} → (P → Seen) → List (Option P) → List AnyKind → Type 0
+HoldParts {P = P} seen parts components = (p : ℕ) (part : P) → slice_get parts p ≡ Some (Some part) → (value : OwnValue) × (slice_get components p ≡ Some (Own value)) × (value.part ≡ Some (seen part))
 
 -- The components are those of the plan's processes, in order, each of the caller's own a live part.
 pub record AreLive (own : List KindSpec) (plan : Network) (given : List (List ℕ)) (components : List AnyKind) : Type 0 where

@@ -2,7 +2,7 @@
 use Rattle.std.specs.Prelude.{◌≡◌, ℕ, List, [], map, length, Vec}
 use Rattle.std.specs.declared.alloc.Global.{Global}
 use Rattle.std.specs.declared.vec.IntoIter.{IntoIter}
-use Rattle.std.specs.Vec.Iter.{into_iter_len}
+use Rattle.std.specs.Vec.Iter.{into_iter_items, into_iter_len}
 use Rattle.flow_plan.specs.declared.kind.KindSpec.{KindSpec}
 use Rattle.flow_own.specs.declared.tape.Entry.{Entry}
 use Rattle.flow_own.specs.Mixed.{Mixed, mixed_rules, mixed_state}
@@ -33,6 +33,14 @@ parts_of offers = map (λ (o : Offer). o.parts) offers
 -- How many parts there are of each kind.
 abbrev pub counts_of : {P : Type 0} → List (Vec P Global) → List ℕ
 counts_of parts = map (λ v. length v.items) parts
+
+-- The parts of each kind, in order.
+abbrev pub parts_in : {P : Type 0} → List (Vec P Global) → List (List P)
+parts_in parts = map (λ v. v.items) parts
+
+-- The parts of each kind that are left to be taken, in order.
+abbrev pub parts_left : {P : Type 0} → List (IntoIter P Global) → List (List P)
+parts_left queues = map (λ queue. into_iter_items queue) queues
 
 -- How many parts of each kind are left to be taken.
 abbrev pub counts_left : {P : Type 0} → List (IntoIter P Global) → List ℕ

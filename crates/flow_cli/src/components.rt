@@ -2,7 +2,7 @@
 ghost use Rattle.std.specs.Prelude.{◌≡◌, ◌<◌, IfOk, length};
 ghost use Rattle.std.specs.Option.{option_copied};
 ghost use Rattle.flow_offer.specs.Processes.{IsOfferedPlan, own_processes};
-ghost use Rattle.flow_cli.specs.Components.{AreComponents, AreLive, CanTake, IsPartAt, IsPlayerAt, TakesPart, TakesParts, TakesTape, contents_of};
+ghost use Rattle.flow_cli.specs.Components.{AreComponents, AreLive, CanTake, HoldParts, IsPartAt, IsPlayerAt, TakesPart, TakesParts, TakesTape, contents_of};
 
 use flow_catalogue::{Std, make};
 use flow_offer::{each_process_is_standard_or_own, own_kind, shape_at, used_outputs};
@@ -23,7 +23,8 @@ pub(crate) fn live_components<P: Part>(
     requires offered { IsOfferedPlan own.now plan.now }
     requires given { length given.items ≡ length plan.now.processes }
     requires parts { TakesParts own.now plan.now parts.items }
-    ensures { IfOk result (λ components. AreLive own.now plan.now (contents_of given.items) components.items) }
+    ensures live { IfOk result (λ components. AreLive own.now plan.now (contents_of given.items) components.items) }
+    ensures held { IfOk result (λ components. HoldParts P.seen parts.items components.items) }
 {
     let _ = own;
     each_process_is_standard_or_own();
@@ -45,7 +46,7 @@ fn live_component<P: Part>(
     part: Option<P>,
 ) -> Result<Mixed<Std, P>, AllocError>
     requires { CanTake plan.now process part }
-    ensures { IfOk result (λ component. TakesPart plan.now process bytes.items part component) }
+    ensures { IfOk result (λ component. TakesPart P.seen plan.now process bytes.items part component) }
 {
     match part {
         Some(part) => live_part(alloc, plan, process, part),
@@ -64,7 +65,7 @@ fn live_part<P: Part>(
     part: P,
 ) -> Result<Mixed<Std, P>, AllocError>
     requires { process < length plan.now.processes }
-    ensures { IfOk result (λ component. IsPartAt plan.now process component) }
+    ensures { IfOk result (λ component. IsPartAt plan.now process (P.seen part) component) }
 {
     let used = used_outputs(alloc, plan, process)?;
     let live = Own::live(alloc, part, shape_at(plan, process), used);

@@ -2,8 +2,8 @@
 ghost use Rattle.std.specs.Prelude.{◌≡◌, ◌<◌, ℕ, IfOk, IfSome, length};
 ghost use Rattle.flow_offer.specs.Shares.{FindsPart};
 ghost use Rattle.flow_offer.specs.Processes.{IsOfferedPlan};
-ghost use Rattle.flow_cli.specs.Components.{HandsOut, TakesNext, TakesParts};
-ghost use Rattle.flow_cli.specs.Offers.{counts_left, counts_of};
+ghost use Rattle.flow_cli.specs.Components.{AreInOrder, HandsOut, TakesFirst, TakesNext, TakesParts};
+ghost use Rattle.flow_cli.specs.Offers.{counts_left, counts_of, parts_in, parts_left};
 
 use crate::stop::Stop;
 use flow_offer::{no_part, own_kind};
@@ -21,7 +21,8 @@ pub(crate) fn parts_for<P: Part>(
 ) -> Result<Vec<Option<P>>, Stop>
     requires offered { IsOfferedPlan own.now plan.now }
     requires parts { length parts.items ≡ length own.now }
-    ensures { HandsOut own.now (counts_of parts.items) plan.now result }
+    ensures hands { HandsOut own.now (counts_of parts.items) plan.now result }
+    ensures order { IfOk result (λ taken. AreInOrder own.now (parts_in parts.items) plan.now taken.items) }
 {
     let counts = counts_of(alloc, &parts)?;
     if let Some(process) = no_part(plan, own, &counts) {
@@ -52,7 +53,8 @@ fn shared_out<P: Part>(
     requires offered { IsOfferedPlan own.now plan.now }
     requires parts { length parts.items ≡ length own.now }
     requires enough { (p : ℕ) → FindsPart own.now (counts_of parts.items) plan.now p }
-    ensures { IfOk result (λ shared. TakesParts own.now plan.now shared.items) }
+    ensures taken { IfOk result (λ shared. TakesParts own.now plan.now shared.items) }
+    ensures order { IfOk result (λ shared. AreInOrder own.now (parts_in parts.items) plan.now shared.items) }
 {
     let mut queues = queues_of(alloc, parts)?;
     let mut shared = Vec::new(alloc);
@@ -68,7 +70,8 @@ fn queues_of<P: Part>(
     alloc: Global,
     parts: Vec<Vec<P>>,
 ) -> Result<Vec<IntoIter<P, Global>>, AllocError>
-    ensures { IfOk result (λ queues. counts_left queues.items ≡ counts_of parts.items) }
+    ensures counts { IfOk result (λ queues. counts_left queues.items ≡ counts_of parts.items) }
+    ensures parts { IfOk result (λ queues. parts_left queues.items ≡ parts_in parts.items) }
 {
     let mut queues = Vec::new(alloc);
     for kind in parts {
@@ -80,7 +83,8 @@ fn queues_of<P: Part>(
 // The next part of the kind at this place, if there is one; without a place none is taken.
 fn next_part<P: Part>(queues: &mut [IntoIter<P, Global>], place: Option<usize>) -> Option<P>
     requires { IfSome place (λ place. place < length queues.now) }
-    ensures { TakesNext (counts_left queues.old) (counts_left queues.new) place result }
+    ensures counts { TakesNext (counts_left queues.old) (counts_left queues.new) place result }
+    ensures first { TakesFirst (parts_left queues.old) (parts_left queues.new) place result }
 {
     match place {
         Some(place) => queues[place].next(),

@@ -13,7 +13,7 @@ pub returns-in-Err-parts_for : goal.returns-in-Err-parts_for
 returns-in-Err-parts_for g c = λ own offered words recorded asks empty.
     let l = c.in-Ok.ensures in
     parts-stopped c.args.kinds.now (counts_of c.args.parts.items) (g.F.Edge.outside c.args.shelf.now) (g.F.Edge.outside c.load.new.shelf) (run_by c.args.asked) l.0 c.in-Ok.file.text c.in-Ok.file.plan l.1 l.2
-    c.in-Err-parts_for.stop c.in-Err-parts_for.ensures words own recorded offered.kinds_are offered.parts_are asks empty
+    c.in-Err-parts_for.stop c.in-Err-parts_for.ensures.hands words own recorded offered.kinds_are offered.parts_are asks empty
 
 pub returns-in-Err-read_inputs : goal.returns-in-Err-read_inputs
 returns-in-Err-read_inputs g c = λ own offered words recorded asks empty.
@@ -29,7 +29,7 @@ returns-in-Ok-live_components g c = λ own offered.
     let n = g.F.Edge.outside c.read_inputs.new.shelf in
     let given = c.in-Ok-read_inputs.given in
     run-ready c.args.kinds.now own offered.kinds_are o n c.args.asked.net.now _ (contents_of given.items)
-    (ready c.args.kinds.now o (g.F.Edge.outside c.load.new.shelf) n c.args.asked.net.now l.0 [] c.in-Ok.file.text c.in-Ok.file.plan l.1 l.2 given c.in-Ok-read_inputs.ensures) c.in-Ok-live_components.ensures
+    (ready c.args.kinds.now o (g.F.Edge.outside c.load.new.shelf) n c.args.asked.net.now l.0 [] c.in-Ok.file.text c.in-Ok.file.plan l.1 l.2 given c.in-Ok-read_inputs.ensures) c.in-Ok-live_components.ensures.live
 
 pub returns-in-Err-live_components : goal.returns-in-Err-live_components
 returns-in-Err-live_components g c = λ own offered words recorded asks empty.

@@ -5,7 +5,7 @@ use Rattle.std.specs.Prelude.{vec_len}
 use Rattle.std.specs.Vec.Iter.{into_iter_items, into_iter_len}
 use Rattle.flow_cli.specs.Offers.{AnyKind}
 use Rattle.flow_cli.specs.Components.{IsLiveComponent, contents_of}
-use Rattle.flow_cli.proofs.Placing.{AreMade, none-made, one-live, next-left, can-take}
+use Rattle.flow_cli.proofs.Placing.{AreMade, HoldSoFar, none-made, one-live, next-left, can-take, none-held, one-held, all-held, all-live}
 use Rattle.flow_cli.proofs.components.live_components.Goals as goal
 
 pub loop-bytes-init : goal.loop-bytes-init
@@ -22,6 +22,7 @@ loop-bytes-init g c =
       parts = ap (λ z. into_iter_items (zip_second z)) same ∙ zip.second.0;
       made = subst (λ (l : List AnyKind). AreMade (IsLiveComponent c.args.own.now c.args.plan.now) (contents_of c.args.given.items) 0 l) (sym c.new-components.ensures.items)
           (none-made (IsLiveComponent c.args.own.now c.args.plan.now) (contents_of c.args.given.items));
+      held = subst (λ (l : List AnyKind). HoldSoFar g.P.Part.seen c.args.parts.items 0 l) (sym c.new-components.ensures.items) (none-held g.P.Part.seen c.args.parts.items);
     }
 
 pub live_component-requires : goal.live_component-requires
@@ -49,6 +50,8 @@ loop-bytes-preserved g c =
       given = bytes.1;
       parts = part.1;
       made = subst (λ (l : List AnyKind). AreMade (IsLiveComponent c.args.own.now c.args.plan.now) (contents_of c.args.given.items) (k + 1) l) (sym pushed)
-          (one-live c.each_process_is_standard_or_own.ensures c.args.own.now c.args.plan.now c.args.given.items c.args.parts.items k c.loop-bytes.components.items c.in-Some.bytes c.in-Some.part component
+          (one-live g.P.Part.seen c.each_process_is_standard_or_own.ensures c.args.own.now c.args.plan.now c.args.given.items c.args.parts.items k c.loop-bytes.components.items c.in-Some.bytes c.in-Some.part component
           c.requires.offered c.requires.parts bytes.0 part.0 below i.made c.in_ok-live_component.ensures);
+      held = subst (λ (l : List AnyKind). HoldSoFar g.P.Part.seen c.args.parts.items (k + 1) l) (sym pushed)
+          (one-held g.P.Part.seen c.args.plan.now c.args.parts.items k c.loop-bytes.components.items c.in-Some.bytes.items c.in-Some.part component i.made.count i.held part.0 c.in_ok-live_component.ensures);
     }

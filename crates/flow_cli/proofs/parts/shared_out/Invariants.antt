@@ -1,6 +1,10 @@
-use Rattle.flow_cli.specs.Offers.{counts_left, counts_of}
+use Rattle.flow_cli.specs.Offers.{counts_left, counts_of, parts_in, parts_left}
+use Rattle.flow_cli.proofs.Ordering.{SharedInOrder}
 use Rattle.flow_cli.proofs.Sharing.{SharedOut}
 use Rattle.flow_cli.proofs.parts.shared_out.Given as goal
 
 abbrev pub invariant-loop-process : goal.invariant-loop-process
-invariant-loop-process g l = SharedOut l.own l.plan (counts_of l.fn.parts.items) (counts_left l.queues.items) l.process l.shared.items
+invariant-loop-process g l = record {
+  counts : SharedOut l.own l.plan (counts_of l.fn.parts.items) (counts_left l.queues.items) l.process l.shared.items;
+  order : SharedInOrder l.own l.plan (parts_in l.fn.parts.items) (parts_left l.queues.items) l.process l.shared.items;
+}
