@@ -7,7 +7,7 @@ use Rattle.flow_component.specs.Outcomes.{outcome_as}
 use Rattle.flow_own.specs.declared.tape.End.{End}
 use Rattle.flow_own.specs.declared.tape.End.TheVariants as ends
 use Rattle.flow_own.specs.Tapes.{OwnValue, NextAs, after_entry, outcome_by}
-use Rattle.flow_own.specs.Mixed.{Mixed, Other, Own, mixed_rules, MixedNext}
+use Rattle.flow_own.specs.Mixed.{Other, Own, mixed_rules}
 use Rattle.flow_played.specs.Kept.{IsPart}
 use Rattle.flow_played.proofs.Throughout.{Stays}
 
