@@ -1,7 +1,7 @@
 -- The order in which parts are taken.
 use Rattle.std.proofs.Common.{◌≡◌, ◌≢◌, ◌⊎◌, inl, inr, ℕ, zero, suc, ◌+◌, ◌<◌, Bool, true, false, List, [], ◌∷◌, ◌++◌, length, map, Some, None, refl, sym, ◌∙◌, ap, subst, arith, get_or, drop}
 use Rattle.std.proofs.lemmas.List.{map-append, map-set, get_or-set_same, get_or-set_other}
-use Rattle.std.proofs.lemmas.Option.{get_or_from_slice_get, slice_get_within, slice_get-map}
+use Rattle.std.proofs.lemmas.Option.{get_or_from_slice_get, slice_get-get_or, slice_get_within, slice_get-map}
 use Rattle.std.proofs.lemmas.Slice.Eq.{bytes_eq-Decides}
 use Rattle.std.specs.Prelude.{Vec, is_some, slice_get, slice_set}
 use Rattle.std.specs.Option.{option_and_then, option_map}
@@ -108,17 +108,14 @@ more-in-order {P = P} own plan parts left left' p shared part s count within pla
 -- One part was taken from the queue at this place, if it had one.
 pub first-of-queue : {P : Type 0} (queues : List (IntoIter P Global)) (place : ℕ) (old new : IntoIter P Global) (part : Option P) → place < length queues → old ≡ get_or queues place old → into_iter_steps old part new
     → TakesFirst (parts_left queues) (parts_left (slice_set queues place new)) (Some place) part
-first-of-queue {P = P} queues place old new None within is steps = unit
+first-of-queue {P = P} queues place old new None within is steps = tt
 first-of-queue {P = P} queues place old new (Some part) within is steps =
-    (into_iter_items new, (slice_get-map (λ (q : IntoIter P Global). into_iter_items q) queues place ∙ ap (option_map (λ (q : IntoIter P Global). into_iter_items q)) at ∙ ap Some steps.0, map-set (λ (q : IntoIter P Global). into_iter_items q) queues place new))
+    (into_iter_items new,
+        slice_get-map (λ (q : IntoIter P Global). into_iter_items q) queues place ∙ ap (option_map (λ (q : IntoIter P Global). into_iter_items q)) at ∙ ap (λ (l : List P). Some l) steps.0,
+        map-set (λ (q : IntoIter P Global). into_iter_items q) queues place new)
   where
     at : slice_get queues place ≡ Some old
-    at = stands queues place old within (sym is)
-
-    stands : {X : Type 0} (xs : List X) (i : ℕ) (d : X) → i < length xs → get_or xs i d ≡ d → slice_get xs i ≡ Some d
-    stands [] i d below is = absurd (omega (arith, below))
-    stands (x ∷ xs) zero d below is = ap Some is
-    stands (x ∷ xs) (suc i) d below is = stands xs i d (omega (arith, below)) is
+    at = slice_get-get_or queues place old within ∙ ap (λ (q : IntoIter P Global). Some q) (sym is)
 
 -- The queues of the parts that there are.
 pub queue-in-order : {P : Type 0} (queues : List (IntoIter P Global)) (yielded : List (Vec P Global)) (kind : Vec P Global) (queue : IntoIter P Global) → into_iter_items queue ≡ kind.items

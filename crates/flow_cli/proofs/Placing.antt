@@ -8,6 +8,8 @@ use Rattle.std.specs.Slice.Iter.{iter_rest, iter_steps}
 use Rattle.std.specs.List.{filter, range_with_len}
 use Rattle.std.proofs.Math.Seq.{drop-cons}
 use Rattle.std.specs.declared.alloc.Global.{Global}
+use Rattle.std.specs.declared.vec.IntoIter.{IntoIter}
+use Rattle.std.specs.Vec.Iter.{into_iter_len, into_iter_steps}
 use Rattle.flow_model.proofs.Lists.{same_or_not}
 use Rattle.flow_plan.specs.declared.kind.KindSpec.{KindSpec}
 use Rattle.flow_plan.specs.declared.plan.Process.{Process}
@@ -239,7 +241,7 @@ one-held {P = P} seen plan parts k components bytes part component long held the
   Holds p one = (value : OwnValue) × (slice_get (components ++ component ∷ []) p ≡ Some (Own value)) × (value.part ≡ Some (seen one))
 
   last : (one : P) → TakesPart seen plan k bytes (Some one) component → Holds k one
-  last one takes = (part_at plan k takes.0 (Some (seen one)), (stands-last components component k long ∙ ap (λ (x : AnyKind). Some x) takes.2, refl))
+  last one takes = (part_at plan k takes.0 (Some (seen one)), stands-last components component k long ∙ ap (λ (x : AnyKind). Some x) takes.2, refl)
 
   by : (p : ℕ) (one : P) → slice_get parts p ≡ Some (Some one) → (p ≡ k) ⊎ (p ≢ k) → p < k + 1 → Holds p one
   by p one at (inl same) below =
@@ -247,7 +249,13 @@ one-held {P = P} seen plan parts k components bytes part component long held the
       subst (λ n. Holds n one) (sym same) (last one (subst (λ (o : Option P). TakesPart seen plan k bytes o component) is takes))
   by p one at (inr other) below =
       let h = held p one (nearer p k below other) at in
-      (h.0, (stands-still components component (Own h.0) p h.1, h.2))
+      (h.0, stands-still components component (Own h.0) p h.1, h.2)
+
+-- Where one of two queues that go side by side has ended, all of both was taken.
+pub both-over : {A B : Type 0} (a : IntoIter A Global) (b : IntoIter B Global) (k n : ℕ) → ((u : IntoIter A Global) × into_iter_steps a None u) ⊎ ((u : IntoIter B Global) × into_iter_steps b None u)
+    → into_iter_len a + k ≡ n → into_iter_len b + k ≡ n → n ≡ k
+both-over {A = A} {B = B} a b k n (inl over) first second = omega (arith, over.1.0, first)
+both-over {A = A} {B = B} a b k n (inr over) first second = omega (arith, over.1.0, second)
 
 -- The components hold all parts.
 pub all-held : {P : Type 0} (seen : P → Seen) (parts : List (Option P)) (k : ℕ) (components : List AnyKind) → length parts ≡ k → HoldSoFar seen parts k components → HoldParts seen parts components

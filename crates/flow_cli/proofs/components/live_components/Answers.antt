@@ -5,7 +5,7 @@ use Rattle.std.specs.Prelude.{vec_len}
 use Rattle.std.specs.Vec.Iter.{into_iter_items, into_iter_len}
 use Rattle.flow_cli.specs.Offers.{AnyKind}
 use Rattle.flow_cli.specs.Components.{IsLiveComponent, contents_of}
-use Rattle.flow_cli.proofs.Placing.{AreMade, HoldSoFar, none-made, one-live, next-left, can-take, none-held, one-held, all-held, all-live}
+use Rattle.flow_cli.proofs.Placing.{AreMade, HoldSoFar, none-made, one-live, next-left, can-take, none-held, one-held, all-held, both-over}
 use Rattle.flow_cli.proofs.components.live_components.Goals as goal
 
 pub loop-bytes-init : goal.loop-bytes-init
@@ -55,3 +55,10 @@ loop-bytes-preserved g c =
       held = subst (λ (l : List AnyKind). HoldSoFar g.P.Part.seen c.args.parts.items (k + 1) l) (sym pushed)
           (one-held g.P.Part.seen c.args.plan.now c.args.parts.items k c.loop-bytes.components.items c.in-Some.bytes.items c.in-Some.part component i.made.count i.held part.0 c.in_ok-live_component.ensures);
     }
+
+pub returns-clause-held : goal.returns-clause-held
+returns-clause-held g c =
+    let i = c.loop-bytes.invariant in
+    let same : length c.args.parts.items ≡ length c.args.given.items = c.requires.parts.count ∙ sym c.requires.given in
+    let all = both-over (zip_first c.loop-bytes.bytes-iterator) (zip_second c.loop-bytes.bytes-iterator) c.loop-bytes.process (length c.args.parts.items) c.in-None.ensures.steps (i.given_left ∙ sym same) i.parts_left in
+    all-held g.P.Part.seen c.args.parts.items c.loop-bytes.process c.loop-bytes.components.items all i.held
