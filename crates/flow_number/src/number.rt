@@ -1,6 +1,6 @@
 //! The part that numbers packets.
 
-ghost use Rattle.std.specs.Prelude.{◌≡◌, ◌+◌, ◌≤◌, ◌++◌, IfOk, OnOk, OnErr};
+ghost use Rattle.std.specs.Prelude.{◌≡◌, ◌+◌, None};
 ghost use Rattle.flow_own.specs.Desks.{GoesOn, count_acts};
 
 use flow_component::{Answer, Port, Wish};
@@ -8,6 +8,7 @@ use flow_own::{Desk, DeskStop, Part, PartStop};
 use flow_packet::{Kind, PacketId};
 use flow_text::put_decimal;
 use std::alloc::{AllocError, Global};
+use std::marker::Model;
 
 /// Numbers the Normal packets of its input from 1: each leaves as a new packet with the number, a space and the text. Brackets pass. It
 /// fails with 1 where such a text would be too long, and with 2 where there is no room for the packet.
@@ -15,9 +16,19 @@ use std::alloc::{AllocError, Global};
 pub struct Number {
     alloc: Global,
     numbered: u64,
+    // What it shows of itself: how many answers it gave, the last of them, and how many acts it did for that one.
     answers: u64,
     last: Option<Result<Wish, PartStop>>,
     acts: u64,
+}
+
+// Contracts see of it what it shows, and nothing else.
+impl Model for Number {
+    ghost use Rattle.flow_own.specs.Parts.{Seen};
+
+    ghost Value = { Seen };
+
+    ghost view = { λ n. record { answers = n.answers; last = n.last; acts = n.acts } };
 }
 
 // The number, a space and the text.
@@ -31,7 +42,9 @@ fn numbered_text(alloc: Global, number: u64, text: &[u8]) -> Result<Vec<u8>, All
 
 impl Number {
     /// A part that has numbered nothing yet. Takes no memory.
-    pub fn new(alloc: Global) -> Number {
+    pub fn new(alloc: Global) -> Number
+        ensures { result ≡ record { answers = 0; last = None; acts = 0 } }
+    {
         Number {
             alloc,
             numbered: 0,
@@ -54,7 +67,7 @@ impl Number {
     fn number(&mut self, desk: &mut Desk<'_>, id: PacketId) -> (Result<Wish, PartStop>, u64)
         ensures goes_on { GoesOn desk.old desk.new }
         ensures acts { count_acts desk.new.made desk.new.dropped ≡ count_acts desk.old.made desk.old.dropped + result.1 }
-        ensures told { (self.new.answers ≡ self.old.answers) × (self.new.last ≡ self.old.last) × (self.new.acts ≡ self.old.acts) }
+        ensures shown { self.new ≡ self.old }
     {
         let number = self.numbered.saturating_add(1);
         let Some(text) = desk.text(id) else {
@@ -82,7 +95,7 @@ impl Number {
     fn work(&mut self, desk: &mut Desk<'_>, answer: Answer) -> (Result<Wish, PartStop>, u64)
         ensures goes_on { GoesOn desk.old desk.new }
         ensures acts { count_acts desk.new.made desk.new.dropped ≡ count_acts desk.old.made desk.old.dropped + result.1 }
-        ensures told { (self.new.answers ≡ self.old.answers) × (self.new.last ≡ self.old.last) × (self.new.acts ≡ self.old.acts) }
+        ensures shown { self.new ≡ self.old }
     {
         match answer {
             Answer::Got(id) => match desk.kind(id) {
@@ -96,9 +109,7 @@ impl Number {
 }
 
 impl Part for Number {
-    ghost use Rattle.flow_own.specs.Parts.{Seen};
-
-    ghost seen = { λ n. record { answers = n.answers; last = n.last; acts = n.acts } };
+    ghost seen = { λ shown. shown };
 
     fn resume(&mut self, desk: &mut Desk<'_>, answer: Answer) -> Result<Wish, PartStop> {
         let (said, acts) = self.work(desk, answer);

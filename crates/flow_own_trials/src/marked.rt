@@ -1,12 +1,14 @@
 //! Parts that tell when they are dropped.
-ghost use Rattle.std.specs.Prelude.{◌≡◌, ◌+◌};
+ghost use Rattle.std.specs.Prelude.{◌≡◌, ◌+◌, IfOk, None};
 ghost use Rattle.flow_own.specs.Desks.{GoesOn, count_acts};
 
+use crate::kinds::again;
 use flow_component::{Answer, Port, Wish};
 use flow_own::{Desk, DeskStop, Part, PartStop};
 use flow_packet::Kind;
 use flow_text::put_decimal;
 use std::alloc::{AllocError, Global};
+use std::marker::Model;
 use std::sync::Arc;
 use std::sync::atomic::{AtomicU64, Ordering};
 
@@ -36,6 +38,14 @@ pub struct Marked {
     acts: u64,
 }
 
+impl Model for Marked {
+    ghost use Rattle.flow_own.specs.Parts.{Seen};
+
+    ghost Value = { Seen };
+
+    ghost view = { λ m. record { answers = m.answers; last = m.last; acts = m.acts } };
+}
+
 fn digits(alloc: Global, number: u64) -> Result<Vec<u8>, AllocError> {
     let mut text = Vec::new(alloc);
     put_decimal(&mut text, number)?;
@@ -43,7 +53,9 @@ fn digits(alloc: Global, number: u64) -> Result<Vec<u8>, AllocError> {
 }
 
 impl Marked {
-    pub fn new(alloc: Global, drops: &Drops, tells: bool) -> Result<Marked, AllocError> {
+    pub fn new(alloc: Global, drops: &Drops, tells: bool) -> Result<Marked, AllocError>
+        ensures { IfOk result (λ part. part ≡ record { answers = 0; last = None; acts = 0 }) }
+    {
         let drops = Arc::try_clone(drops)?;
         Ok(Marked {
             alloc,
@@ -59,7 +71,7 @@ impl Marked {
     fn tell(&mut self, desk: &mut Desk<'_>) -> (Result<Wish, PartStop>, u64)
         ensures goes_on { GoesOn desk.old desk.new }
         ensures acts { count_acts desk.new.made desk.new.dropped ≡ count_acts desk.old.made desk.old.dropped + result.1 }
-        ensures told { (self.new.answers ≡ self.old.answers) × (self.new.last ≡ self.old.last) × (self.new.acts ≡ self.old.acts) }
+        ensures shown { self.new ≡ self.old }
     {
         let number = self.mark.drops.load(Ordering::SeqCst);
         let Ok(text) = digits(self.alloc, number) else {
@@ -78,7 +90,7 @@ impl Marked {
     fn work(&mut self, desk: &mut Desk<'_>, answer: Answer) -> (Result<Wish, PartStop>, u64)
         ensures goes_on { GoesOn desk.old desk.new }
         ensures acts { count_acts desk.new.made desk.new.dropped ≡ count_acts desk.old.made desk.old.dropped + result.1 }
-        ensures told { (self.new.answers ≡ self.old.answers) × (self.new.last ≡ self.old.last) × (self.new.acts ≡ self.old.acts) }
+        ensures shown { self.new ≡ self.old }
     {
         match answer {
             Answer::Got(id) => (Ok(Wish::Send(Port(0), id)), 0),
@@ -93,17 +105,8 @@ impl Marked {
     }
 }
 
-// The same answer once more.
-fn again(said: &Result<Wish, PartStop>) -> Result<Wish, PartStop>
-    ensures { result ≡ said.now }
-{
-    *said
-}
-
 impl Part for Marked {
-    ghost use Rattle.flow_own.specs.Parts.{Seen};
-
-    ghost seen = { λ m. record { answers = m.answers; last = m.last; acts = m.acts } };
+    ghost seen = { λ shown. shown };
 
     fn resume(&mut self, desk: &mut Desk<'_>, answer: Answer) -> Result<Wish, PartStop> {
         let (said, acts) = self.work(desk, answer);

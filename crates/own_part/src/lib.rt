@@ -2,7 +2,7 @@
 //! hands it in; the program `own_replay` makes its runs again without it. Its contract is that of the interface.
 #![tactic(auto)]
 
-ghost use Rattle.std.specs.Prelude.{◌≡◌, ◌+◌};
+ghost use Rattle.std.specs.Prelude.{◌≡◌, ◌+◌, None};
 ghost use Rattle.flow_own.specs.Desks.{GoesOn, count_acts};
 
 use flow_component::{Answer, Port, Wish};
@@ -10,6 +10,7 @@ use flow_own::{Desk, DeskStop, Part, PartStop};
 use flow_packet::{Kind, PacketId};
 use flow_text::put_decimal;
 use std::alloc::{AllocError, Global};
+use std::marker::Model;
 
 /// Sends each packet on with its number in front, counted from 1, and a colon. It fails with 1 where the desk doesn't take what it wants to do.
 #[derive(Drop)]
@@ -20,6 +21,15 @@ pub struct Lines {
     answers: u64,
     last: Option<Result<Wish, PartStop>>,
     acts: u64,
+}
+
+// Contracts see of it what it shows, and nothing else.
+impl Model for Lines {
+    ghost use Rattle.flow_own.specs.Parts.{Seen};
+
+    ghost Value = { Seen };
+
+    ghost view = { λ l. record { answers = l.answers; last = l.last; acts = l.acts } };
 }
 
 fn numbered(alloc: Global, number: u64, text: &[u8]) -> Result<Vec<u8>, AllocError> {
@@ -47,7 +57,9 @@ fn again(said: &Result<Wish, PartStop>) -> Result<Wish, PartStop>
 
 impl Lines {
     /// A part that has numbered nothing yet.
-    pub fn new(alloc: Global) -> Lines {
+    pub fn new(alloc: Global) -> Lines
+        ensures { result ≡ record { answers = 0; last = None; acts = 0 } }
+    {
         Lines {
             alloc,
             count: 0,
@@ -61,7 +73,7 @@ impl Lines {
     fn number(&mut self, desk: &mut Desk<'_>, id: PacketId) -> (Result<Wish, PartStop>, u64)
         ensures goes_on { GoesOn desk.old desk.new }
         ensures acts { count_acts desk.new.made desk.new.dropped ≡ count_acts desk.old.made desk.old.dropped + result.1 }
-        ensures shown { (self.new.answers ≡ self.old.answers) × (self.new.last ≡ self.old.last) × (self.new.acts ≡ self.old.acts) }
+        ensures shown { self.new ≡ self.old }
     {
         let number = self.count.saturating_add(1);
         let Some(text) = desk.text(id) else {
@@ -87,7 +99,7 @@ impl Lines {
     fn work(&mut self, desk: &mut Desk<'_>, answer: Answer) -> (Result<Wish, PartStop>, u64)
         ensures goes_on { GoesOn desk.old desk.new }
         ensures acts { count_acts desk.new.made desk.new.dropped ≡ count_acts desk.old.made desk.old.dropped + result.1 }
-        ensures shown { (self.new.answers ≡ self.old.answers) × (self.new.last ≡ self.old.last) × (self.new.acts ≡ self.old.acts) }
+        ensures shown { self.new ≡ self.old }
     {
         match answer {
             Answer::Got(id) => self.number(desk, id),
@@ -98,9 +110,7 @@ impl Lines {
 }
 
 impl Part for Lines {
-    ghost use Rattle.flow_own.specs.Parts.{Seen};
-
-    ghost seen = { λ l. record { answers = l.answers; last = l.last; acts = l.acts } };
+    ghost seen = { λ shown. shown };
 
     fn resume(&mut self, desk: &mut Desk<'_>, answer: Answer) -> Result<Wish, PartStop> {
         let (said, acts) = self.work(desk, answer);

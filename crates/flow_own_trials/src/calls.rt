@@ -46,14 +46,14 @@ pub fn left(alloc: Global, called: &Called, name: &str) -> Result<Vec<u8>, Alloc
 }
 
 /// A replay of this journal, with this file of tapes where it has bytes. The kind is handed in without parts.
-pub fn replay(
+pub fn replay<'a>(
     alloc: Global,
     line: &[&str],
-    journal: &[u8],
-    tapes: &[u8],
+    journal: &'a [u8],
+    tapes: &'a [u8],
 ) -> Result<Called, CallStop> {
     let own = numbers(alloc, 0)?;
-    let files: [File<'_>; 4] = [
+    let files: [File<'a>; 4] = [
         ("net", NUMBERING),
         ("in", LINES),
         ("j", journal),
