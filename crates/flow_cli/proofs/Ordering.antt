@@ -1,5 +1,5 @@
 -- The order in which parts are taken.
-use Rattle.std.proofs.Common.{◌≡◌, ◌≢◌, ◌⊎◌, inl, inr, ℕ, zero, suc, ◌+◌, ◌<◌, Bool, true, false, List, [], ◌∷◌, ◌++◌, length, map, Some, None, refl, sym, ◌∙◌, ap, subst, arith, get_or, drop}
+use Rattle.std.proofs.Common.{◌≡◌, ◌≢◌, ◌⊎◌, inl, inr, ℕ, ◌+◌, ◌<◌, Bool, true, false, List, [], ◌∷◌, ◌++◌, length, Some, None, refl, sym, ◌∙◌, ap, get_or, drop}
 use Rattle.std.proofs.lemmas.List.{map-append, map-set, get_or-set_same, get_or-set_other}
 use Rattle.std.proofs.lemmas.Option.{get_or_from_slice_get, slice_get-get_or, slice_get_within, slice_get-map}
 use Rattle.std.proofs.lemmas.Slice.Eq.{bytes_eq-Decides}
@@ -109,10 +109,11 @@ more-in-order {P = P} own plan parts left left' p shared part s count within pla
 pub first-of-queue : {P : Type 0} (queues : List (IntoIter P Global)) (place : ℕ) (old new : IntoIter P Global) (part : Option P) → place < length queues → old ≡ get_or queues place old → into_iter_steps old part new
     → TakesFirst (parts_left queues) (parts_left (slice_set queues place new)) (Some place) part
 first-of-queue {P = P} queues place old new None within is steps = tt
-first-of-queue {P = P} queues place old new (Some part) within is steps =
-    (into_iter_items new,
-        slice_get-map (λ (q : IntoIter P Global). into_iter_items q) queues place ∙ ap (option_map (λ (q : IntoIter P Global). into_iter_items q)) at ∙ ap (λ (l : List P). Some l) steps.0,
-        map-set (λ (q : IntoIter P Global). into_iter_items q) queues place new)
+first-of-queue {P = P} queues place old new (Some part) within is steps = (
+  into_iter_items new,
+  slice_get-map (λ (q : IntoIter P Global). into_iter_items q) queues place ∙ ap (option_map (λ (q : IntoIter P Global). into_iter_items q)) at ∙ ap (λ (l : List P). Some l) steps.0,
+  map-set (λ (q : IntoIter P Global). into_iter_items q) queues place new,
+)
   where
     at : slice_get queues place ≡ Some old
     at = slice_get-get_or queues place old within ∙ ap (λ (q : IntoIter P Global). Some q) (sym is)

@@ -1,4 +1,4 @@
-use Rattle.std.proofs.Common.{◌∙◌, ◌≡◌, ◌<◌, ◌+◌, List, ℕ, length, ap, sym, subst, arith}
+use Rattle.std.proofs.Common.{◌∙◌, ◌<◌, ◌+◌, List, length, ap, sym, subst, arith}
 use Rattle.std.proofs.lemmas.List.{length-map}
 use Rattle.std.specs.Prelude.{Vec}
 use Rattle.std.specs.declared.alloc.Global.{Global}
@@ -7,7 +7,7 @@ use Rattle.std.specs.declared.vec.IntoIter.{IntoIter}
 use Rattle.flow_cli.specs.Offers.{counts_left, counts_of, parts_in, parts_left}
 use Rattle.flow_cli.specs.Components.{TakesFirst, TakesNext}
 use Rattle.flow_cli.proofs.Ordering.{SharedInOrder, more-in-order, none-in-order}
-use Rattle.flow_cli.proofs.Sharing.{SharedOut, all-shared, more-shared, none-shared, put-back, taken-where-own, within-left}
+use Rattle.flow_cli.proofs.Sharing.{SharedOut, more-shared, none-shared, put-back, taken-where-own}
 use Rattle.flow_cli.proofs.parts.shared_out.Goals as goal
 
 pub loop-process-init : goal.loop-process-init
