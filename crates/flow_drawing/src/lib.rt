@@ -1,6 +1,6 @@
 //! Pictures of networks: what a drawing of a plan shows, and how it is spelled for Mermaid and for Graphviz. It is for
-//! programs that show networks; no command uses it yet. The contracts are those of `Drawing`, which has each process
-//! and each connection of the plan once, and of the two spellings, in which every quoted text reads back.
+//! programs that show networks, as `draw` does. The contracts are those of `Drawing`, which has each process and each
+//! connection of the plan once, and of the two spellings, in which every quoted text reads back.
 #![tactic(auto)]
 
 mod boxes;

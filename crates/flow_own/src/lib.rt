@@ -1,7 +1,7 @@
 //! Components of the caller's own: boxed objects that are changed through one interface, each with a tape of what it
-//! did; and players of such tapes. It is for whoever writes a program on these crates; no command uses it yet. The
-//! contracts are those of `Desk`, at which a part acts, and of `Mixed`, a component that is a standard one, a part or a
-//! player.
+//! did; and players of such tapes. Whoever writes such a component starts from its trait `Part`, and the top calls of
+//! `flow_cli` run it. The contracts are those of `Desk`, at which a part acts, and of `Mixed`, a component that is a
+//! standard one, a part or a player.
 #![tactic(auto)]
 
 mod acts;
