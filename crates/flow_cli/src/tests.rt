@@ -41,7 +41,7 @@ const BALANCE: &[u8] =
     b"flow 1\n'in' -> FILE Read(ReadLines)\nRead OUT -> IN Load(LoadBalance)\nLoad OUT[0] -> IN A(Discard)\nLoad OUT[1] -> IN B(Discard)\n";
 
 const USAGE: &[u8] =
-    b"usage: flow [--workers N] [--journal FILE] [--check] [--determinate] [--kinds] [--replay FILE] [--make N] [NETFILE]\n";
+    b"usage: flow [--workers N] [--journal FILE] [--check] [--determinate] [--kinds] [--replay FILE] [--make N] [--tapes FILE] [NETFILE]\n";
 
 fn file(alloc: Global, name: &str, bytes: &[u8]) -> Result<(String, Vec<u8>), AllocError> {
     Ok((String::from_str(alloc, name)?, bytes.to_vec(alloc)?))
