@@ -76,6 +76,7 @@ impl<K: Component, P: Part> Component for Mixed<K, P> {
         }
     }
 
+    #[inline(always)]
     fn resume(&mut self, hands: &mut Hands, answer: Answer) -> Result<Wish, Stop> {
         match &mut self.mix {
             Mix::Other(component) => return component.resume(hands, answer),

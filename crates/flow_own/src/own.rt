@@ -276,6 +276,9 @@ impl<P: Part> Component for Own<P> {
         self.shape
     }
 
+    // It stands apart from the choice between it and a standard component, so that this choice is cheap.
+    #[cold]
+    #[inline(never)]
     fn resume(&mut self, hands: &mut Hands, answer: Answer) -> Result<Wish, Stop>
         requires ready { OwnReady (own_state self.old) (held_of hands.old) answer }
         requires room { hands.old.made < 4294967295 }
