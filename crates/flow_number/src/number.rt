@@ -1,6 +1,7 @@
 //! The part that numbers packets.
 
-ghost use Rattle.std.specs.Prelude.{◌≡◌, ◌+◌, None};
+ghost use Rattle.std.specs.Prelude.{◌≡◌, ◌+◌, ◌++◌, ◌∷◌, IfOk, None};
+ghost use Rattle.std.specs.Fmt.{decimal};
 ghost use Rattle.flow_own.specs.Desks.{GoesOn, count_acts};
 
 use flow_component::{Answer, Port, Wish};
@@ -32,7 +33,9 @@ impl Model for Number {
 }
 
 // The number, a space and the text.
-fn numbered_text(alloc: Global, number: u64, text: &[u8]) -> Result<Vec<u8>, AllocError> {
+fn numbered_text(alloc: Global, number: u64, text: &[u8]) -> Result<Vec<u8>, AllocError>
+    ensures { IfOk result (λ line. line.items ≡ decimal number ++ 32 ∷ text.now) }
+{
     let mut line = Vec::new(alloc);
     put_decimal(&mut line, number)?;
     line.push(b' ')?;

@@ -2,7 +2,8 @@
 //! hands it in; the program `own_replay` makes its runs again without it. Its contract is that of the interface.
 #![tactic(auto)]
 
-ghost use Rattle.std.specs.Prelude.{◌≡◌, ◌+◌, None};
+ghost use Rattle.std.specs.Prelude.{◌≡◌, ◌+◌, ◌++◌, IfOk, None, codes};
+ghost use Rattle.std.specs.Fmt.{decimal};
 ghost use Rattle.flow_own.specs.Desks.{GoesOn, count_acts};
 
 use flow_component::{Answer, Port, Wish};
@@ -32,7 +33,10 @@ impl Model for Lines {
     ghost view = { λ l. record { answers = l.answers; last = l.last; acts = l.acts } };
 }
 
-fn numbered(alloc: Global, number: u64, text: &[u8]) -> Result<Vec<u8>, AllocError> {
+// The number, a colon, a space and the text.
+fn numbered(alloc: Global, number: u64, text: &[u8]) -> Result<Vec<u8>, AllocError>
+    ensures { IfOk result (λ line. line.items ≡ decimal number ++ codes ": " ++ text.now) }
+{
     let mut line = Vec::new(alloc);
     put_decimal(&mut line, number)?;
     line.extend_from_slice(b": ")?;
