@@ -2,15 +2,17 @@
 //! `tests/stress` and `tests/bench` call it. Its contracts say of each word how many turns were made, and when it
 //! prints `other`.
 //!
-//! `flow_bench chain PASSERS LINES` runs a chain of a reader of lines in memory, of so many processes that pass them on, and of a writer, on one thread, and
-//! prints how many turns were made.
+//! `flow_bench chain PASSERS LINES` runs a chain of a reader of lines in memory, of so many processes that pass them
+//! on, and of a writer, on one thread, and prints how many turns were made.
 //!
-//! `flow_bench race WORKERS PACKETS ROUNDS` runs four branches side by side, in which each process works for so many rounds on a packet that comes, by so
-//! many workers, or on one thread if there are none. It prints how many turns were made, and on standard error the microseconds.
+//! `flow_bench race WORKERS PACKETS ROUNDS` runs four branches side by side, in which each process works for so many
+//! rounds on a packet that comes, by so many workers, or on one thread if there are none. It prints how many turns were
+//! made, and on standard error the microseconds.
 //!
-//! `flow_bench again WORKERS NETFILE INPUT` runs the network of a file by so many workers, with each reader on the same input, makes the turns again on one
-//! thread by the run's own journal, and compares what the two leave: the report, and the bytes of each writer. Where no connection has two senders and no
-//! process is a LoadBalance, it compares these with what a run on one thread leaves, too. It prints `same` or `other`.
+//! `flow_bench again WORKERS NETFILE INPUT` runs the network of a file by so many workers, with each reader on the same
+//! input, makes the turns again on one thread by the run's own journal, and compares what the two leave: the report,
+//! and the bytes of each writer. Where no connection has two senders and no process is a LoadBalance, it compares these
+//! with what a run on one thread leaves, too. It prints `same` or `other`.
 #![tactic(auto)]
 
 ghost use Rattle.flow_bench.specs.Asked.{IsManned};

@@ -5,8 +5,6 @@
 
 mod depth;
 mod pairs;
-#[cfg(test)]
-mod tests;
 
 pub use depth::Depth;
 pub use pairs::substreams;

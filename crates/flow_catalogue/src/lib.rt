@@ -8,8 +8,6 @@ mod plans;
 mod process;
 mod standard;
 mod table;
-#[cfg(test)]
-mod tests;
 
 pub use options::is_connected;
 pub use plans::{

@@ -48,6 +48,3 @@ pub use step::{read_file, write_file};
 pub use stop::{JournalRefusal, NetRefusal, Stop, TapesRefusal, read_stop, write_stop};
 pub use tapes::read_tapes;
 pub use top::{Outcome, busy_top, needs_workers, plain_top};
-
-#[cfg(test)]
-mod tests;

@@ -16,6 +16,3 @@ pub use scene::{Scene, scene_of};
 pub use status::DrawStatus;
 pub use top::draw_top;
 pub use words::{DrawCommand, command};
-
-#[cfg(test)]
-mod tests;

@@ -20,6 +20,3 @@ pub use drawing::{Drawing, Edge, Given, Mark, Node, Remark, Remarks, Row};
 pub use ports::{input_text, output_text};
 pub use quote::{Form, a_quoted_text_reads_back, put_quoted};
 pub use rows::each_process_stands_in_its_boxes;
-
-#[cfg(test)]
-mod tests;

@@ -19,6 +19,3 @@ mod way;
 pub use plan::expand;
 pub use refusal::{put_fault, put_net_fault};
 pub use stop::ExpandStop;
-
-#[cfg(test)]
-mod tests;

@@ -1,6 +1,6 @@
 //! What the programs say on the standard error of a network file that is refused: the line at fault, and what would be
-//! right there; and how they come by their words. `flow` and `draw` use it. No contract speaks of it: it never changes
-//! how a program ends.
+//! right there; and how they get the words of their command line. The `main` of every program uses it. No contract
+//! speaks of what it says, and it never changes how a program ends.
 #![tactic(auto)]
 
 mod bytes;

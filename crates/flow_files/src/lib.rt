@@ -1,6 +1,6 @@
 //! What stands outside a program over the real system: its files as a shelf, and the standard output as a sink. The
-//! program `flow` alone uses it. Its contracts are those of the traits in `flow_text`, and that the system does as they
-//! say is trusted.
+//! programs use it, each in its `main`, and `flow_explain` for them. Its contracts are those of the traits in
+//! `flow_text`, and that the system does as they say is trusted.
 #![tactic(auto)]
 
 mod access;
@@ -14,6 +14,3 @@ mod system;
 
 pub use shelf::FileShelf;
 pub use stdout::StdSink;
-
-#[cfg(test)]
-mod tests;

@@ -7,6 +7,3 @@ mod port;
 mod purpose;
 
 pub use page::kinds_page;
-
-#[cfg(test)]
-mod tests;

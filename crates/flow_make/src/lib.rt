@@ -62,6 +62,3 @@ pub fn make(alloc: Global, number: u32) -> Result<Made, AllocError>
         input: Text::of(input),
     })
 }
-
-#[cfg(test)]
-mod tests;

@@ -1,6 +1,6 @@
-//! Components that search texts for a pattern. `flow_catalogue` offers them to networks by their kinds' names. Each one's
-//! contract is that of the trait with its own rules in `specs/`, and `meanings` has a law of each: what leaves it as a
-//! whole stream, for what came. What a pattern means is said in `flow_pattern`.
+//! Components that search texts for a pattern. `flow_catalogue` offers them to networks by their kinds' names. Each
+//! one's contract is that of the trait with its own rules in `specs/`, over what `flow_pattern` says of a pattern, and
+//! `meanings` has a law of each: what leaves it as a whole stream, for what came.
 #![tactic(auto)]
 
 mod matching;

@@ -19,6 +19,3 @@ mod options;
 pub use builder::PlanBuilder;
 pub use fault::{Many, PlanFault, PlanStop};
 pub use options::first_field;
-
-#[cfg(test)]
-mod tests;

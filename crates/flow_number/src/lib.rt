@@ -1,6 +1,6 @@
-//! A component of one's own, as an example of one: it numbers the packets of a stream. The program `flow` hands its kind
-//! to the top calls of `flow_cli`, and a reader who is to write a part starts from it. Its contract is that of the trait
-//! `Part` in `flow_own`; the kind has its own.
+//! A component of the caller's own, as an example: it numbers the packets of a stream. The program `flow` hands its
+//! kind to the top calls of `flow_cli`, and the trials of such components run it. Its contract is that of the trait
+//! `Part` in `flow_own`; the kind has its own, in `number_kind`.
 #![tactic(auto)]
 
 mod kind;

@@ -12,8 +12,14 @@ mod kinds;
 #[cfg(test)]
 mod marked;
 #[cfg(test)]
+mod offers;
+#[cfg(test)]
+mod played;
+#[cfg(test)]
 mod replays;
 #[cfg(test)]
 mod runs;
 #[cfg(test)]
 mod stray;
+#[cfg(test)]
+mod tapes;

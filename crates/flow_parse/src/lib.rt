@@ -29,6 +29,3 @@ pub use name::{RESERVED, is_reserved};
 pub use names::Names;
 pub use printed::print;
 pub use value::{FIRST_VERSION, NetPart, NetText, SECOND_VERSION, Statement};
-
-#[cfg(test)]
-mod tests;

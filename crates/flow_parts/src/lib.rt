@@ -10,8 +10,6 @@ mod meanings;
 mod outcomes;
 mod read_lines;
 mod tally;
-#[cfg(test)]
-mod tests;
 mod words;
 mod write_lines;
 

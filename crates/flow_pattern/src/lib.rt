@@ -1,14 +1,13 @@
-//! Patterns: which texts are patterns, and where one goes wrong that isn't, whether one matches in a text, and a text with its matches replaced. `flow_net`
-//! tests with it what an option port is given, and `flow_match` searches with it. What a pattern means is what the crate
-//! `regex` says of it: the definitions here cite that crate's.
+//! Patterns: whether a text is one, or else where it goes wrong; whether one matches in a text; and the text with its
+//! matches replaced. Options for a pattern are tested with it when a plan is made, and the components of `flow_match`
+//! search with it. The contracts are those of `is_pattern`, `slip_in`, `Finder` and `Replacer`: they cite what the
+//! crate `regex` says of a pattern.
 #![tactic(auto)]
 
 mod finder;
 mod locator;
 mod reading;
 mod replacer;
-#[cfg(test)]
-mod tests;
 
 pub use finder::Finder;
 pub use reading::{Slip, is_pattern, slip_in};

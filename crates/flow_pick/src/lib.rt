@@ -8,8 +8,6 @@ mod meanings;
 mod outcomes;
 mod parting;
 mod tail;
-#[cfg(test)]
-mod tests;
 mod unique;
 
 pub use head::Head;

@@ -1,7 +1,7 @@
 //! A run of a network with components of the caller's own is also a run of the network in which each of them is
 //! replaced by the player of its tape. The promises of the top calls in `flow_cli` speak of that network, and a replay
-//! runs it. `Played` is a component of such a network, and the laws are the contracts of the functions in `laws`; those
-//! in `plain` say that a network without components of the caller's own runs as it does by itself.
+//! runs it, with `Played` for its components. The laws are the contracts of the functions in `laws`, and of those in
+//! `plain`, by which a network without components of the caller's own runs as it does by itself.
 #![tactic(auto)]
 
 mod laws;
@@ -19,6 +19,3 @@ pub use plain::{
     a_network_without_own_components_tells_as_it_is, components_without_own_ones_are_others,
 };
 pub use played::Played;
-
-#[cfg(test)]
-mod tests;

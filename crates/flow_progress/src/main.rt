@@ -1,5 +1,6 @@
-//! A program of one's own over the libraries: it opens a plan, runs it by two workers, so many turns at a time, tells on standard error how far the network
-//! has come each time, and prints the report at the end. `docs/LIBRARY.md` goes through it. Its contracts say that the network that is reported can't go on.
+//! A program of one's own over the libraries: it opens a plan, runs it by two workers, so many turns at a time, tells
+//! on standard error how far the network has come each time, and prints the report at the end. `docs/LIBRARY.md` goes
+//! through it. Its contracts say that the network that is reported can't go on.
 #![tactic(auto)]
 
 mod stretches;

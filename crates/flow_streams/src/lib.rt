@@ -14,8 +14,6 @@ mod meanings;
 mod outcomes;
 mod passthru;
 mod select;
-#[cfg(test)]
-mod tests;
 mod unbundle;
 
 pub use bundle::Bundle;

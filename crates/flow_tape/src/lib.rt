@@ -16,6 +16,3 @@ pub use parse::from_bytes;
 
 /// The most bytes of a tape file that a replay reads. The tapes of a run may have a longer one.
 pub const TAPE_FILE_LIMIT: u64 = 1_073_741_824;
-
-#[cfg(test)]
-mod tests;

@@ -9,6 +9,3 @@ mod words;
 
 pub use asked::{Command, RunCommand};
 pub use words::command;
-
-#[cfg(test)]
-mod tests;

@@ -1,5 +1,6 @@
-//! A program like `flow` with a component of one's own: the kind Lines, of which one process of a network may be. Whoever writes such a
-//! program starts from it (`docs/OWN-COMPONENTS.md`). What is promised is the contract of the top calls in `flow_cli`.
+//! A program like `flow` with a component of one's own: the kind Lines, of which one process of a network may be.
+//! Whoever writes such a program starts from it (`docs/OWN-COMPONENTS.md`). What is promised is the contract of the top
+//! calls in `flow_cli`.
 #![tactic(auto)]
 
 ghost use Rattle.std.specs.Prelude.{IfOk};

@@ -1,5 +1,6 @@
-//! A component of one's own: it numbers the packets that pass, behind the interface of parts (`flow_own::Part`). The program `own_lines`
-//! hands it in; the program `own_replay` makes its runs again without it. Its contract is that of the interface.
+//! A component of one's own: it numbers the packets that pass, behind the interface of parts (`flow_own::Part`). The
+//! program `own_lines` hands it in; the program `own_replay` makes its runs again without it. Its contract is that of
+//! the interface.
 #![tactic(auto)]
 
 ghost use Rattle.std.specs.Prelude.{◌≡◌, ◌+◌, ◌++◌, IfOk, None, codes};

@@ -1,5 +1,6 @@
-//! A program for whoever hasn't the component of `own_lines`: it knows the kind and has no part of it. It checks networks with the kind, and makes their
-//! runs again by their tapes (`docs/OWN-COMPONENTS.md`). What is promised is the contract of the top calls in `flow_cli`.
+//! A program for whoever hasn't the component of `own_lines`: it knows the kind and has no part of it. It checks
+//! networks with the kind, and makes their runs again by their tapes (`docs/OWN-COMPONENTS.md`). What is promised is
+//! the contract of the top calls in `flow_cli`.
 #![tactic(auto)]
 
 ghost use Rattle.std.specs.Prelude.{IfOk};
