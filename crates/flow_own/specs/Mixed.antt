@@ -1,5 +1,5 @@
 -- Components of a network in which some are the caller's own.
-use Rattle.std.specs.Prelude.{◌≡◌, ℕ, Bool, List, Option, Some, None}
+use Rattle.std.specs.Prelude.{◌≡◌, ℕ, Bool, true, false, List, Option, Some, None}
 use Rattle.flow_packet.specs.Held.{Held}
 use Rattle.flow_component.specs.declared.Answer.{Answer}
 use Rattle.flow_component.specs.declared.Shape.{Shape}
@@ -54,6 +54,11 @@ mixed_rules rules = record { shape = mixed_shape rules; uses = mixed_uses rules;
 abbrev pub mixed_of : {K P : Type 0} → Mix K P → Mixed K
 mixed_of (mixes.Other component) = Other component
 mixed_of (mixes.Own own) = Own own
+
+-- It isn't the caller's own.
+abbrev pub is_other : {K : Type 0} → Mixed K → Bool
+is_other (Other component) = true
+is_other (Own own) = false
 
 -- The tape of a component of the caller's own; no other has one.
 abbrev pub tape_in : {K : Type 0} → Mixed K → Option (List Entry)

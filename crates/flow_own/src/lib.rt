@@ -11,9 +11,11 @@ mod own;
 mod part;
 mod play;
 mod tape;
+mod unmixed;
 
 pub use desk::{Desk, DeskStop};
 pub use mixed::{Mix, Mixed};
 pub use own::Own;
 pub use part::{Part, PartStop};
 pub use tape::{End, Entry, Tape};
+pub use unmixed::Unmixed;
