@@ -7,6 +7,8 @@ use Rattle.flow_component.specs.Laws.{Rules, Outcome}
 use Rattle.flow_component.specs.Outcomes.{outcome_as}
 use Rattle.flow_own.specs.declared.mixed.Mix.{Mix}
 use Rattle.flow_own.specs.declared.mixed.Mix.TheVariants as mixes
+use Rattle.flow_own.specs.declared.sorted.Sorted.{Sorted}
+use Rattle.flow_own.specs.declared.sorted.Sorted.TheVariants as sorts
 use Rattle.flow_own.specs.declared.tape.Entry.{Entry}
 use Rattle.flow_own.specs.Recorded.{IsTapeWritable}
 use Rattle.flow_own.specs.Tapes.{OwnValue, own_state, own_told, own_uses, OwnReady, OwnNext}
@@ -69,3 +71,8 @@ tape_in (Own own) = Some own.tape
 abbrev pub IsRecordedIn : {K : Type 0} → Mixed K → Type 0
 IsRecordedIn (Other component) = Unit {0}
 IsRecordedIn (Own own) = own.place ≡ None → IsTapeWritable own.tape
+
+-- The one that there is of a network without components of the caller's own or with some, which have the same values.
+abbrev pub of_either : {T : Type 0} → Sorted T T → T
+of_either (sorts.Unmixed value) = value
+of_either (sorts.Mixed value) = value

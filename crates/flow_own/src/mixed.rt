@@ -47,14 +47,14 @@ impl<K: Component, P: Part> Mixed<K, P> {
     }
 
     /// It isn't the caller's own.
-    pub fn is_other(&self) -> bool
+    pub(crate) fn is_other(&self) -> bool
         ensures { result ≡ is_other self.now }
     {
         matches!(&self.mix, Mix::Other(_))
     }
 
     /// The same component, for a network in which none is the caller's own.
-    pub fn into_unmixed(self) -> Unmixed<K>
+    pub(crate) fn into_unmixed(self) -> Unmixed<K>
         requires { IsTrue (is_other self) }
         ensures { result ≡ self }
     {
