@@ -3,6 +3,7 @@ use Rattle.std.proofs.Common.{◌≡◌, ◌⊎◌, ℕ, List, inl, inr, sym, ap
 use Rattle.std.specs.Prelude.{◌≢◌, String}
 use Rattle.std.specs.declared.alloc.Global.{Global}
 use Rattle.flow_text.specs.Edge.{Outside, Rose}
+use Rattle.flow_cli.specs.Live.{AnyNet}
 use Rattle.flow_cli.specs.Offers.{AnyKind, Offer, specs_of}
 use Rattle.flow_model.specs.States.{State}
 use Rattle.flow_model.specs.Verdicts.{Quiet}
@@ -50,7 +51,7 @@ own-complete po pn text own status over (inl p) quiet = inl (subst IsOver (sym p
 own-complete po pn text own status over (inr p) quiet = absurd (quiet p.1.1.rose)
 
 -- a run, and what was written and printed of it
-module _ (words : List (String Global)) (own : List Offer) (o a n po pn : Outside) (run : Unwritten AnyKind) (status : Status) (has : HasRun (specs_of own) o a words run) (did : Finishes a n po pn run status) where
+module _ (words : List (String Global)) (own : List Offer) (o a n po pn : Outside) (run : Unwritten AnyNet) (status : Status) (has : HasRun (specs_of own) o a words run) (did : Finishes a n po pn run status) where
   ran-not-running : status ≢ statuses.Running
   ran-not-running = go did where
     other : verdict_status run.ran.report.verdict ≢ statuses.Running

@@ -2,6 +2,7 @@
 use Rattle.std.proofs.Common.{◌≡◌, inl, inr, Ok, Err, ap, subst}
 use Rattle.std.specs.declared.result.Result.{Result}
 use Rattle.flow_text.specs.Edge.{Outside}
+use Rattle.flow_cli.specs.Live.{AnyNet}
 use Rattle.flow_cli.specs.After.{Prints, verdict_status}
 use Rattle.flow_cli.specs.Many.{WritesFiles}
 use Rattle.flow_cli.specs.Top.{Finishes, PrintsWritten, outputs_of_run}
@@ -10,10 +11,9 @@ use Rattle.flow_cli.specs.declared.ran.PrintedReport.{PrintedReport}
 use Rattle.flow_cli.specs.declared.run.Unwritten.{Unwritten}
 use Rattle.flow_cli.specs.declared.status.Status.{Status}
 use Rattle.flow_cli.specs.declared.stop.Stop.{Stop}
-use Rattle.flow_cli.specs.Offers.{AnyKind}
 
 -- The account of a run that is over is printed.
-pub finished-as-printed : (a n po pn : Outside) (run : Unwritten AnyKind) (written : Result (Unit {0}) Stop) (account : Account) (status : Status)
+pub finished-as-printed : (a n po pn : Outside) (run : Unwritten AnyNet) (written : Result (Unit {0}) Stop) (account : Account) (status : Status)
     → account ≡ record { report = run.ran.report; journal = run.ran.journal; tapes = run.ran.tapes; crew = run.ran.crew } → WritesFiles a n written (outputs_of_run run)
     → PrintsWritten po pn account.report written status → Finishes a n po pn run status
 finished-as-printed a n po pn run (Ok done) account status same writes prints =

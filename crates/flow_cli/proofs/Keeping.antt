@@ -3,8 +3,9 @@ use Rattle.std.proofs.Common.{List, Ok}
 use Rattle.std.specs.Prelude.{String}
 use Rattle.std.specs.declared.alloc.Global.{Global}
 use Rattle.flow_text.specs.Edge.{Outside}
+use Rattle.flow_cli.specs.Live.{AnyNet}
 use Rattle.flow_cli.specs.Causes.{HasCause}
-use Rattle.flow_cli.specs.Offers.{AnyKind, Offer, Recorded}
+use Rattle.flow_cli.specs.Offers.{Offer, Recorded}
 use Rattle.flow_cli.specs.Prepare.{so_far}
 use Rattle.flow_cli.specs.Promises.{KeepsPromises}
 use Rattle.flow_cli.specs.Top.{Concludes, Performs, PrintsStop, call_of, recorded_of}
@@ -20,7 +21,7 @@ use Rattle.flow_cli.proofs.Tops.{stopped, stop-not-over, stop-not-running, stop-
 use Rattle.flow_cli.proofs.Updating.{collates-each, leaves-books}
 
 -- A call in which something was done keeps them, by the laws of plans, of meanings, of one outcome and of journals.
-pub done-keeps : Laws → (words : List (String Global)) (own : List Offer) (o a n po pn : Outside) (done : Done AnyKind) (outcome : Outcome) → Performs own o a words (Ok done) → Concludes a n po pn done outcome
+pub done-keeps : Laws → (words : List (String Global)) (own : List Offer) (o a n po pn : Outside) (done : Done AnyNet) (outcome : Outcome) → Performs own o a words (Ok done) → Concludes a n po pn done outcome
     → KeepsPromises (call_of words own o n po pn (recorded_of outcome) outcome.status)
 done-keeps laws words own o a n po pn done outcome did concludes =
     let call = call_of words own o n po pn (recorded_of outcome) outcome.status in

@@ -21,6 +21,7 @@ use Rattle.flow_meanings.specs.Means.{Means}
 use Rattle.flow_journal.specs.Replays.{schedule_of}
 use Rattle.flow_offer.specs.Processes.{own_processes}
 use Rattle.flow_played.specs.Others.{others, as_mixed}
+use Rattle.flow_cli.specs.Live.{AnyNet}
 use Rattle.flow_cli.specs.After.{Prints, verdict_status}
 use Rattle.flow_cli.specs.Many.{WritesAll}
 use Rattle.flow_cli.specs.Meant.{LeavesMeaning}
@@ -90,7 +91,7 @@ finished-standard laws s ended = λ p x there.
     ended p (with_component x (Other x.component)) (laws.in_place s p ∙ ap (option_map (λ (x : Process Std). with_component x (Other x.component))) there)
 
 -- with the laws of plans and of meanings, a run that finished left what its network means
-module _ (laws : Laws) (words : List (String Global)) (own : List Offer) (o a n po pn : Outside) (run : Unwritten AnyKind) (status : Status) (has : HasRun (specs_of own) o a words run) where
+module _ (laws : Laws) (words : List (String Global)) (own : List Offer) (o a n po pn : Outside) (run : Unwritten AnyNet) (status : Status) (has : HasRun (specs_of own) o a words run) where
   composed : IsFinished has.leaves.last → own_processes (specs_of own) run.ran.plan ≡ [] → (standard : List Std) × (has.leaves.components ≡ others standard) × Composes run.ran.plan standard (bytes_in has.leaves.last)
   composed ends none =
       let kinds = specs_of own in

@@ -20,6 +20,7 @@ use Rattle.std.specs.declared.alloc.AllocError.{AllocError}
 use Rattle.flow_journal.specs.Files.{IsWritable}
 use Rattle.flow_tape.specs.Files.{IsWritable as IsTapesWritable}
 use Rattle.flow_offer.specs.Processes.{IsOfferedPlan, own_place, own_processes, place_of}
+use Rattle.flow_cli.specs.Live.{AnyNet}
 use Rattle.flow_cli.specs.After.{verdict_status}
 use Rattle.flow_cli.specs.Begins.{EndsAsRan, IsRunUnderWay, IsMakeUnderWay, IsUnderWayTo, LeavesAsRan, MakeEnds, RunEnds, WasRunUnderWay, WasUnderWay, workers_to}
 use Rattle.flow_cli.specs.Components.{AreComponents}
@@ -46,7 +47,7 @@ use Rattle.flow_cli.proofs.Steps.{may-read}
 use Rattle.flow_cli.proofs.Standards.{all-fail}
 
 -- A run that was under way has been made.
-pub run-over : (own : List KindSpec) (old new : Outside) (words : List (String Global)) (plan : Network) (asked : AskedRun) (start : NetValue AnyKind) (worked : Worked AnyKind) (run : Unwritten AnyKind)
+pub run-over : (own : List KindSpec) (old new : Outside) (words : List (String Global)) (plan : Network) (asked : AskedRun) (start : NetValue AnyKind) (worked : Worked AnyKind) (run : Unwritten AnyNet)
     → IsRunUnderWay own old new words plan asked start → RanBy asked.workers start worked → run.ran.plan ≡ plan → LeavesAsRan own plan worked run.ran
     → kept_file run.journal ≡ journal_file asked.journal run.ran.journal → kept_file run.tapes ≡ tapes_file asked.tapes run.ran.tapes.items → HasRun own old new words run
 run-over own old new words plan asked start worked run way by plan_is leaves journal tapes =
@@ -73,7 +74,7 @@ no-tapes : (plan : Network) (given : List (List ℕ)) (tapes : List Taped) (comp
 no-tapes plan given tapes components are = are.tapes_are ∙ ap (map are.by) (none-own plan)
 
 -- A make that was under way has been made.
-pub make-over : (own : List Offer) (old new : Outside) (words : List (String Global)) (plan : Network) (number workers bytes : ℕ) (start : NetValue AnyKind) (worked : Worked AnyKind) (ran : Ran AnyKind) (said : Said)
+pub make-over : (own : List Offer) (old new : Outside) (words : List (String Global)) (plan : Network) (number workers bytes : ℕ) (start : NetValue AnyKind) (worked : Worked AnyKind) (ran : Ran AnyNet) (said : Said)
     → IsMakeUnderWay old new words plan number workers bytes start → RanBy workers start worked → ran.plan ≡ plan → LeavesAsRan [] plan worked ran → SaysOfMake number ran said
     → Says (so_far words own old new (recorded_in said)) said.text.items said.status × IsMadeAsAsked words said.crew said.journal
 make-over own old new words plan number workers bytes start worked ran said way by plan_is leaves says =
@@ -108,24 +109,24 @@ make-over own old new words plan number workers bytes start worked ran said way 
     )
 
 -- What is written of a run that was made somewhere has a file.
-pub journal-writable : (own : List KindSpec) (plan : Network) (asked : AskedRun) (worked : Worked AnyKind) (ran : Ran AnyKind) → WasRunUnderWay own plan asked worked → LeavesAsRan own plan worked ran → IsWritable ran.journal
+pub journal-writable : (own : List KindSpec) (plan : Network) (asked : AskedRun) (worked : Worked AnyKind) (ran : Ran AnyNet) → WasRunUnderWay own plan asked worked → LeavesAsRan own plan worked ran → IsWritable ran.journal
 journal-writable own plan asked worked ran was leaves = let way = was.4 in (leaves asked.workers was.3 way.components way.given way.live way.starts was.5).0.writable
 
-pub tapes-writable : (own : List KindSpec) (plan : Network) (asked : AskedRun) (worked : Worked AnyKind) (ran : Ran AnyKind) → WasRunUnderWay own plan asked worked → LeavesAsRan own plan worked ran
+pub tapes-writable : (own : List KindSpec) (plan : Network) (asked : AskedRun) (worked : Worked AnyKind) (ran : Ran AnyNet) → WasRunUnderWay own plan asked worked → LeavesAsRan own plan worked ran
     → IsTapesWritable ran.tapes.items
 tapes-writable own plan asked worked ran was leaves = let way = was.4 in (leaves asked.workers was.3 way.components way.given way.live way.starts was.5).0.tapes_writable
 
 -- Whatever comes of making the files of a run.
-pub run-ends : (own : List KindSpec) (plan : Network) (asked : AskedRun) (worked : Worked AnyKind) (ran : Ran AnyKind) (result : Result (Unwritten AnyKind) AllocError) → ran.plan ≡ plan → LeavesAsRan own plan worked ran
+pub run-ends : (own : List KindSpec) (plan : Network) (asked : AskedRun) (worked : Worked AnyKind) (ran : Ran AnyNet) (result : Result (Unwritten AnyNet) AllocError) → ran.plan ≡ plan → LeavesAsRan own plan worked ran
     → IfOk result (λ run. run.ran ≡ ran) → IfOk result (λ run. kept_file run.journal ≡ journal_file asked.journal ran.journal)
     → IfOk result (λ run. kept_file run.tapes ≡ tapes_file asked.tapes ran.tapes.items) → IfOk result (RunEnds own plan asked worked)
 run-ends own plan asked worked ran (Err e) plan_is leaves same journal tapes = tt
 run-ends own plan asked worked ran (Ok run) plan_is leaves same journal tapes = λ old new words start way by.
     let leaves_run = subst (LeavesAsRan own plan worked) (sym same) leaves in
-    run-over own old new words plan asked start worked run way by (ap (λ (r : Ran AnyKind). r.plan) same ∙ plan_is) leaves_run
-    (journal ∙ ap (λ (r : Ran AnyKind). journal_file asked.journal r.journal) (sym same)) (tapes ∙ ap (λ (r : Ran AnyKind). tapes_file asked.tapes r.tapes.items) (sym same))
+    run-over own old new words plan asked start worked run way by (ap (λ (r : Ran AnyNet). r.plan) same ∙ plan_is) leaves_run
+    (journal ∙ ap (λ (r : Ran AnyNet). journal_file asked.journal r.journal) (sym same)) (tapes ∙ ap (λ (r : Ran AnyNet). tapes_file asked.tapes r.tapes.items) (sym same))
 
-pub make-ends : (plan : Network) (number : ℕ) (worked : Worked AnyKind) (ran : Ran AnyKind) (result : Result Said AllocError) → ran.plan ≡ plan → LeavesAsRan [] plan worked ran → IfOk result (SaysOfMake number ran)
+pub make-ends : (plan : Network) (number : ℕ) (worked : Worked AnyKind) (ran : Ran AnyNet) (result : Result Said AllocError) → ran.plan ≡ plan → LeavesAsRan [] plan worked ran → IfOk result (SaysOfMake number ran)
     → IfOk result (MakeEnds plan number worked)
 make-ends plan number worked ran (Err e) plan_is leaves says = tt
 make-ends plan number worked ran (Ok said) plan_is leaves says = λ own old new words workers bytes start way by. make-over own old new words plan number workers bytes start worked ran said way by plan_is leaves says
@@ -141,7 +142,7 @@ no-memory kinds running worked own old new words start same way by =
     no-memory-to own old new words running.plan running.goal start (subst (λ (k : List KindSpec). IsUnderWayTo k old new words running.plan running.goal start) (sym same) way)
 
 -- What a run or a make comes to is what the network comes to.
-pub ends-run : (kinds : List KindSpec) (running : Running) (asked : RunCommand) (worked : Worked AnyKind) (run : Unwritten AnyKind) → running.goal ≡ goals.Run asked → RunEnds kinds running.plan (run_by asked) worked run
+pub ends-run : (kinds : List KindSpec) (running : Running) (asked : RunCommand) (worked : Worked AnyKind) (run : Unwritten AnyNet) → running.goal ≡ goals.Run asked → RunEnds kinds running.plan (run_by asked) worked run
     → EndsAsRan kinds running worked (Ok (dones.Ran run))
 ends-run kinds running asked worked run is ends own old new words start same way by =
     subst (λ (k : List KindSpec). HasRun k old new words run) (sym same)

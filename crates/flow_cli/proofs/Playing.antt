@@ -34,6 +34,7 @@ use Rattle.flow_played.specs.Kept.{IsPart, PartsStay}
 use Rattle.flow_played.specs.Played.{HasTape, TapesOf, played, played_by}
 use Rattle.flow_played.specs.Runs.{IsFresh, player_for, each_replaced, players, PlaysWholeRuns}
 use Rattle.flow_played.specs.Telling.{PlayersStandInPlace, PlayersAreToldOf}
+use Rattle.flow_cli.specs.Live.{AnyNet}
 use Rattle.flow_cli.specs.Components.{AreComponents, AreLive, IsLiveComponent, IsPlayedComponent}
 use Rattle.flow_cli.specs.Offers.{AnyKind, Taped, Recorded, known, live_rules}
 use Rattle.flow_cli.specs.Runs.{AreTapesOfNet, IsJournalOfNet, IsRecordedAt, IsToldOf, IsToldOfNet, Leaves, bytes_in, tape_by, written_in}
@@ -249,7 +250,7 @@ leaves-one laws own workers plan given live net recorded told valid tell sees we
 
 -- Whoever made the turns, what is told of the net is what its run leaves.
 pub leaves-as-ran : Players → FitsMixed std_rules → StartsPlans live_rules → RoundsAreRuns live_rules → ReachesAreRuns live_rules → ReportsTell live_rules → SeesNoMoreThanTurns live_rules
-    → (own : List KindSpec) (plan : Network) (worked : Worked AnyKind) (ran : Ran AnyKind) → IsOfferedPlan own plan
+    → (own : List KindSpec) (plan : Network) (worked : Worked AnyKind) (ran : Ran AnyNet) → IsOfferedPlan own plan
     → ran.net ≡ worked.closed.net → ran.crew ≡ worked.crew → IsToldOfNet plan worked.closed.net ran.report → IsJournalOfNet worked.closed.net ran.journal → AreTapesOfNet own plan worked.closed.net ran.tapes.items
     → LeavesAsRan own plan worked ran
 leaves-as-ran laws fits starts_well rounds reaches tell sees own plan worked ran offered net crew told names taped = λ workers start live given are starts by.
@@ -262,7 +263,7 @@ leaves-as-ran laws fits starts_well rounds reaches tell sees own plan worked ran
 
 -- So it is of whatever the account answers.
 pub leaves : Players → FitsMixed std_rules → StartsPlans live_rules → RoundsAreRuns live_rules → ReachesAreRuns live_rules → ReportsTell live_rules → SeesNoMoreThanTurns live_rules
-    → (own : List KindSpec) (plan : Network) (worked : Worked AnyKind) (result : Result (Ran AnyKind) AllocError) → IsOfferedPlan own plan
+    → (own : List KindSpec) (plan : Network) (worked : Worked AnyKind) (result : Result (Ran AnyNet) AllocError) → IsOfferedPlan own plan
     → IfOk result (λ ran. ran.net ≡ worked.closed.net) → IfOk result (λ ran. ran.crew ≡ worked.crew) → IfOk result (λ ran. IsToldOfNet plan worked.closed.net ran.report)
     → IfOk result (λ ran. IsJournalOfNet worked.closed.net ran.journal) → IfOk result (λ ran. AreTapesOfNet own plan worked.closed.net ran.tapes.items) → IfOk result (λ ran. LeavesAsRan own plan worked ran)
 leaves laws fits starts_well rounds reaches tell sees own plan worked (Ok ran) offered net crew told names taped =

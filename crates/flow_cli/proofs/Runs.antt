@@ -2,7 +2,8 @@
 use Rattle.std.proofs.Common.{◌≡◌, ◌∙◌, inl, inr, ℕ, List, ◌++◌, Err, ap, subst}
 use Rattle.std.specs.Prelude.{String, string_bytes}
 use Rattle.std.specs.declared.alloc.Global.{Global}
-use Rattle.flow_cli.specs.Offers.{AnyKind, Offer, specs_of}
+use Rattle.flow_cli.specs.Live.{AnyNet}
+use Rattle.flow_cli.specs.Offers.{Offer, specs_of}
 use Rattle.flow_text.specs.Edge.{Outside, Name}
 use Rattle.flow_report.specs.Text.{report_text}
 use Rattle.flow_cli.specs.Step.{Filled}
@@ -18,7 +19,7 @@ use Rattle.flow_cli.specs.declared.stop.Stop.{Stop}
 use Rattle.flow_cli.specs.declared.stop.Stop.TheVariants.{Words, Refused, NoPart, JournalRefused, TapesRefused, ReadFault, WriteFault, TooLong, NoMemory}
 use Rattle.flow_cli.specs.Prepare.{so_far}
 
-module _ (o a n : Outside) (words : List (String Global)) (own : List Offer) (run : Unwritten AnyKind) (has : HasRun (specs_of own) o a words run) where
+module _ (o a n : Outside) (words : List (String Global)) (own : List Offer) (run : Unwritten AnyNet) (has : HasRun (specs_of own) o a words run) where
   unfoldable pub run-of : IsRunOf (so_far words own o n (recorded_by run.ran)) has.asked run.ran.plan has.leaves.last a
   run-of = record {
     given = has.given;

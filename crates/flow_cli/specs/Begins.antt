@@ -14,6 +14,7 @@ use Rattle.flow_machine.specs.Starts.{StartsNet}
 use Rattle.flow_machine.specs.Values.{NetValue}
 use Rattle.flow_runner.specs.declared.worked.Worked.{Worked}
 use Rattle.flow_offer.specs.Processes.{IsOfferedPlan}
+use Rattle.flow_cli.specs.Live.{AnyNet}
 use Rattle.flow_cli.specs.Components.{AreLive, GivesAll}
 use Rattle.flow_cli.specs.Engines.{RanBy}
 use Rattle.flow_cli.specs.Makes.{made_input}
@@ -78,7 +79,7 @@ workers_to (goals.Run asked) = asked.workers
 workers_to (goals.Make number workers bytes) = workers
 
 -- What a call does up to the turns of a network: that is under way, or there is something to say without it, or it stopped.
-abbrev pub Begins : List Offer → Outside → Outside → List (String Global) → Result (Begun AnyKind) Stop → Type 0
+abbrev pub Begins : List Offer → Outside → Outside → List (String Global) → Result (Begun AnyNet) Stop → Type 0
 Begins own old new words (Ok (begins.Running running net)) = IsUnderWay (specs_of own) old new words running net
 Begins own old new words (Ok (begins.Said said)) = Says (so_far words own old new (recorded_in said)) said.text.items said.status × IsMadeAsAsked words said.crew said.journal
 Begins own old new words (Err stop) = (recorded : Recorded) → IsNothing recorded → HasCause (so_far words own old new recorded) stop
@@ -90,7 +91,7 @@ BeginsMake number workers (Ok both) = (old : Outside) (words : List (String Glob
 BeginsMake number workers (Err stop) = stop ≡ NoMemory
 
 -- What is told of a net is what its run leaves, whoever made the turns, whatever its readers were given.
-abbrev pub LeavesAsRan : List KindSpec → Network → Worked AnyKind → Ran AnyKind → Type 0
+abbrev pub LeavesAsRan : List KindSpec → Network → Worked AnyKind → Ran AnyNet → Type 0
 LeavesAsRan own plan worked ran =
     (workers : ℕ) (start : NetValue AnyKind) (live : List AnyKind) (given : List (List ℕ)) → AreLive own plan given live → StartsNet plan (known live) start → RanBy workers start worked
     → Leaves own workers plan given ran.net (recorded_by ran) ran.report × IsMadeBy workers ran.crew ran.journal
@@ -106,7 +107,7 @@ WasUnderWay own running worked =
     (old : Outside) × (new : Outside) × (words : List (String Global)) × (start : NetValue AnyKind) × IsUnderWay own old new words running start × RanBy (workers_to running.goal) start worked
 
 -- A run whose turns are over: in each call in which it was under way it has been made.
-abbrev pub RunEnds : List KindSpec → Network → AskedRun → Worked AnyKind → Unwritten AnyKind → Type 0
+abbrev pub RunEnds : List KindSpec → Network → AskedRun → Worked AnyKind → Unwritten AnyNet → Type 0
 RunEnds own plan asked worked run =
     (old new : Outside) (words : List (String Global)) (start : NetValue AnyKind) → IsRunUnderWay own old new words plan asked start → RanBy asked.workers start worked → HasRun own old new words run
 
@@ -117,7 +118,7 @@ MakeEnds plan number worked said =
     → Says (so_far words own old new (recorded_in said)) said.text.items said.status × IsMadeAsAsked words said.crew said.journal
 
 -- What a network comes to that was under way and whose turns are over: what there is to write and to print, or want of memory.
-abbrev pub EndsAsRan : List KindSpec → Running → Worked AnyKind → Result (Done AnyKind) Stop → Type 0
+abbrev pub EndsAsRan : List KindSpec → Running → Worked AnyKind → Result (Done AnyNet) Stop → Type 0
 EndsAsRan kinds running worked result =
     (own : List Offer) (old new : Outside) (words : List (String Global)) (start : NetValue AnyKind) → specs_of own ≡ kinds → IsUnderWay kinds old new words running start
     → RanBy (workers_to running.goal) start worked → Performs own old new words result

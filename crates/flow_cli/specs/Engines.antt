@@ -1,5 +1,6 @@
 -- Who makes the turns of a network: one thread, or workers in threads.
 use Rattle.std.specs.Prelude.{◌≡◌, ◌≤◌, ℕ}
+use Rattle.flow_component.specs.Laws.{Rules}
 use Rattle.flow_cli.specs.Offers.{AnyKind, live_rules}
 use Rattle.flow_runner.specs.declared.worked.Worked.{Worked}
 use Rattle.flow_runner.specs.Crews.{HasWorkers, turns_of_crew}
@@ -11,9 +12,13 @@ use Rattle.flow_machine.specs.Logs.{turns_made}
 
 -- A net went on until no process could, by so many workers, who are the crew: by none its processes took turns on one thread, round and round; by one or more
 -- they took them in some order, and all turns are those that the workers made.
-pub record RanBy (workers : ℕ) (start : NetValue AnyKind) (worked : Worked AnyKind) : Type 0 where
+pub record WentBy {K : Type 0} (rules : Rules K) (workers : ℕ) (start : NetValue K) (worked : Worked K) : Type 0 where
   pub crew : HasWorkers workers worked.crew
-  pub alone : workers ≡ 0 → Goes live_rules (round_robin live_rules) start (turns_made start) worked.closed.net (turns_made worked.closed.net)
-  pub made : 1 ≤ workers → IsShut live_rules start (turns_of_crew worked.crew) worked.closed.net
-  pub reaches : 1 ≤ workers → ReachesNet live_rules start worked.closed.net
+  pub alone : workers ≡ 0 → Goes rules (round_robin rules) start (turns_made start) worked.closed.net (turns_made worked.closed.net)
+  pub made : 1 ≤ workers → IsShut rules start (turns_of_crew worked.crew) worked.closed.net
+  pub reaches : 1 ≤ workers → ReachesNet rules start worked.closed.net
   pub quiet : 1 ≤ workers → IsQuietNet worked.closed.net
+
+-- The same of a net of live components.
+abbrev pub RanBy : ℕ → NetValue AnyKind → Worked AnyKind → Type 0
+RanBy workers start worked = WentBy live_rules workers start worked

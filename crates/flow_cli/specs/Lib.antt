@@ -5,6 +5,7 @@ pub mod Causes
 pub mod Components
 pub mod Engines
 pub mod Front
+pub mod Live
 pub mod Made
 pub mod Makes
 pub mod Many

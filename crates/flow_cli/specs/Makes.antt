@@ -12,6 +12,7 @@ use Rattle.flow_make.specs.Input.{input_lines}
 use Rattle.flow_make.specs.Network.{network_lines}
 use Rattle.flow_journal.specs.declared.merge.Journal.{Journal}
 use Rattle.flow_model.specs.States.{State}
+use Rattle.flow_cli.specs.Live.{AnyNet}
 use Rattle.flow_cli.specs.Offers.{AnyKind}
 use Rattle.flow_cli.specs.Components.{AreComponents, AreLive, GivesAll, written_by}
 use Rattle.flow_offer.specs.Processes.{IsOfferedPlan}
@@ -66,7 +67,7 @@ IsMadeJob number (Ok made) = ((text : NetText) × Holds [] (text_of network_line
 IsMadeJob number (Err stop) = stop ≡ NoMemory
 
 -- What is said of a make from this number, of the run that was made.
-pub record SaysOfMake (number : ℕ) (ran : Ran AnyKind) (said : Said) : Type 0 where
+pub record SaysOfMake (number : ℕ) (ran : Ran AnyNet) (said : Said) : Type 0 where
   pub text : said.text.items ≡ make_text number ran.report.text.items (bytes_at ran.net.bodies) ran.plan
   pub status : said.status ≡ verdict_status ran.report.verdict
   pub journal : said.journal ≡ ran.journal
@@ -74,5 +75,5 @@ pub record SaysOfMake (number : ℕ) (ran : Ran AnyKind) (said : Said) : Type 0 
   pub crew : said.crew ≡ ran.crew
 
 -- The line of process p of a run was appended, if it writes a file.
-abbrev pub PutsOutput : List ℕ → List ℕ → Ran AnyKind → ℕ → Type 0
+abbrev pub PutsOutput : List ℕ → List ℕ → Ran AnyNet → ℕ → Type 0
 PutsOutput old new ran p = IfSome (slice_get ran.plan.processes p) (λ process. new ≡ old ++ output_lines_at (bytes_at ran.net.bodies) p process)

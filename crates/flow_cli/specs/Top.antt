@@ -26,6 +26,7 @@ use Rattle.flow_journal.specs.declared.merge.Journal.{Journal}
 use Rattle.flow_journal.specs.Runs.{IsScheduled}
 use Rattle.flow_report.specs.Text.{Told as Report, report_text}
 use Rattle.flow_report.specs.States.{TellsOf}
+use Rattle.flow_cli.specs.Live.{AnyNet}
 use Rattle.flow_cli.specs.Step.{Filled, OnlyReads, MayFollow, whole}
 use Rattle.flow_cli.specs.Offers.{AnyKind, Offer, Recorded, Taped, IsNothing, net_rules, specs_of, parts_of}
 use Rattle.flow_cli.specs.Components.{inputs_of, AreComponents}
@@ -161,11 +162,11 @@ kept_file None = []
 kept_file (Some kept) = (kept.name.now, kept.bytes.items) ∷ []
 
 -- The files of a run as the code holds them: those of its writers, in the order of the processes, and then that of its journal and that of its tapes, where they were named.
-abbrev pub outputs_of_run : Unwritten AnyKind → List Filled
+abbrev pub outputs_of_run : Unwritten AnyNet → List Filled
 outputs_of_run run = net_outputs run.ran.plan run.ran.net ++ (kept_file run.journal ++ kept_file run.tapes)
 
 -- What is left of the turns of a run, as the code holds it.
-abbrev pub recorded_by : Ran AnyKind → Recorded
+abbrev pub recorded_by : Ran AnyNet → Recorded
 recorded_by ran = record { journal = ran.journal; tapes = ran.tapes.items }
 
 -- The same of what a call says, and of its outcome.
@@ -177,7 +178,7 @@ abbrev pub recorded_of : Outcome → Recorded
 recorded_of outcome = record { journal = outcome.journal; tapes = outcome.tapes.items }
 
 -- A network has run, on what was read, and nothing is written yet.
-pub record HasRun (own : List KindSpec) (old new : Outside) (words : List (String Global)) (run : Unwritten AnyKind) : Type 0 where
+pub record HasRun (own : List KindSpec) (old new : Outside) (words : List (String Global)) (run : Unwritten AnyNet) : Type 0 where
   pub asked : AskedRun
   pub asks : Asks words (run_of asked)
   pub given : List (List ℕ)
@@ -193,7 +194,7 @@ SaysTurnsAgain plan components recorded (Ok said) = (told : PrintedReport) × Te
 SaysTurnsAgain plan components recorded (Err stop) = MakesAgain plan components recorded.journal (Err stop)
 
 -- What a call does before something is written or printed.
-abbrev pub Performs : List Offer → Outside → Outside → List (String Global) → Result (Done AnyKind) Stop → Type 0
+abbrev pub Performs : List Offer → Outside → Outside → List (String Global) → Result (Done AnyNet) Stop → Type 0
 Performs own old new words (Ok (dones.Ran run)) = HasRun (specs_of own) old new words run
 Performs own old new words (Ok (dones.Said said)) = Says (so_far words own old new (recorded_in said)) said.text.items said.status
     × IsMadeAsAsked words said.crew said.journal
@@ -209,18 +210,18 @@ PrintsWritten old new report (Ok done) status = Prints old new report.text.items
 PrintsWritten old new report (Err stop) status = PrintsStop old new stop status
 
 -- The files of a run were written and then its report was printed, or writing them stopped and the text of that was.
-abbrev pub Finishes : Outside → Outside → Outside → Outside → Unwritten AnyKind → Status → Type 0
+abbrev pub Finishes : Outside → Outside → Outside → Outside → Unwritten AnyNet → Status → Type 0
 Finishes shelf shelf_after out out_after run status =
     (WritesAll shelf shelf_after (outputs_of_run run) × Prints out out_after run.ran.report.text.items (verdict_status run.ran.report.verdict) status)
     ⊎ ((stop : Stop) × WritesFiles {T = Unit {0}} shelf shelf_after (Err stop) (outputs_of_run run) × PrintsStop out out_after stop status)
 
 -- What has run is a network of a plan over the standard kinds and these of the caller's own.
-abbrev pub IsRunnable : List KindSpec → Done AnyKind → Type 0
+abbrev pub IsRunnable : List KindSpec → Done AnyNet → Type 0
 IsRunnable own (dones.Ran run) = IsOfferedPlan own run.ran.plan
 IsRunnable own (dones.Said said) = ⊤
 
 -- What is done of what there is to write and to print.
-abbrev pub Concludes : Outside → Outside → Outside → Outside → Done AnyKind → Outcome → Type 0
+abbrev pub Concludes : Outside → Outside → Outside → Outside → Done AnyNet → Outcome → Type 0
 Concludes shelf shelf_after out out_after (dones.Ran run) outcome = Finishes shelf shelf_after out out_after run outcome.status × (recorded_of outcome ≡ recorded_by run.ran)
     × (outcome.crew ≡ run.ran.crew)
 Concludes shelf shelf_after out out_after (dones.Said said) outcome = (shelf_after ≡ shelf) × Prints out out_after said.text.items said.status outcome.status × (recorded_of outcome ≡ recorded_in said)

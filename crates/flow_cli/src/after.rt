@@ -5,12 +5,12 @@ ghost use Rattle.flow_cli.specs.After.{Prints, verdict_status};
 ghost use Rattle.flow_cli.specs.Many.{WritesFiles, output_of};
 ghost use Rattle.flow_cli.specs.Top.{kept_file, outputs_of_run};
 
+use crate::live::LiveNet;
 use crate::many::{Output, write_files};
 use crate::run::{Kept, Unwritten};
 use crate::status::Status;
 use crate::stop::Stop;
-use flow_catalogue::Std;
-use flow_own::{Mixed, Part};
+use flow_own::Part;
 use flow_plan::KindSpec;
 use flow_report::Verdict;
 use flow_text::{Shelf, Sink, WriteStop, write_all};
@@ -20,7 +20,7 @@ use std::alloc::{AllocError, Global};
 pub fn write_outputs<F: Shelf, P: Part>(
     alloc: Global,
     shelf: &mut F,
-    run: &Unwritten<'_, Mixed<Std, P>>,
+    run: &Unwritten<'_, LiveNet<P>>,
     own: &[KindSpec],
 ) -> Result<(), Stop>
     requires { IsOfferedPlan own.now run.now.ran.plan }

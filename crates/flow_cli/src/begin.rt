@@ -5,13 +5,11 @@ ghost use Rattle.flow_cli.specs.Begins.{Begins, workers_to};
 ghost use Rattle.flow_cli.specs.Offers.{AreOffered, Offer};
 
 use crate::before::{Task, prepare};
+use crate::live::LiveNet;
 use crate::run::{Said, judgement, page, run_again, spelling};
 use crate::start::{start, start_made};
 use crate::stop::Stop;
-use flow_catalogue::Std;
-use flow_component::Component;
-use flow_machine::Net;
-use flow_own::{Mixed, Part};
+use flow_own::Part;
 use flow_plan::{KindSpec, Plan};
 use flow_text::Shelf;
 use flow_words::RunCommand;
@@ -38,9 +36,9 @@ pub(crate) struct Running<'a> {
 }
 
 /// How a call begins.
-pub(crate) enum Begun<'a, K: Component> {
+pub(crate) enum Begun<'a, N> {
     /// A network is under way: this is its net at the start.
-    Running(Running<'a>, Net<K>),
+    Running(Running<'a>, N),
     /// There is something to print, and no network has to run for it.
     Said(Said),
 }
@@ -64,7 +62,7 @@ pub(crate) fn begin<'a, F: Shelf, P: Part>(
     shelf: &mut F,
     kinds: &[KindSpec],
     parts: Vec<Vec<P>>,
-) -> Result<Begun<'a, Mixed<Std, P>>, Stop>
+) -> Result<Begun<'a, LiveNet<P>>, Stop>
     requires kinds { AreOwnKinds kinds.now }
     requires parts { length parts.items ≡ length kinds.now }
     ensures { (own : List Offer) → AreOffered own kinds.now parts.items → Begins own (F.outside shelf.old) (F.outside shelf.new) words.entry.now result }

@@ -1,23 +1,32 @@
 //! Who makes the turns of a network: one thread, or workers in threads.
 ghost use Rattle.std.specs.Prelude.{◌≤◌, IfOk};
-ghost use Rattle.flow_cli.specs.Engines.{RanBy};
+ghost use Rattle.flow_cli.specs.Engines.{RanBy, WentBy};
 
-use flow_catalogue::Std;
-use flow_component::Gate;
+use crate::live::{LiveNet, LiveWorked};
+use flow_component::{Component, Gate};
 use flow_limits::WORKER_LIMIT;
 use flow_machine::{Net, solo};
-use flow_own::{Mixed, Part};
+use flow_own::{Part, Sorted};
 use flow_runner::{Crew, RunStop, Worked, run};
 use std::alloc::{AllocError, Global};
 use std::sync::Wait;
 use std::thread::Threads;
 
 /// Runs a network on one thread, round and round, until no process can go on. Without memory it is given up.
-pub fn run_alone<P: Part>(
-    alloc: Global,
-    net: Net<Mixed<Std, P>>,
-) -> Result<Worked<Mixed<Std, P>>, AllocError>
+pub fn run_alone<P: Part>(alloc: Global, net: LiveNet<P>) -> Result<LiveWorked<P>, AllocError>
     ensures { IfOk result (RanBy 0 net) }
+{
+    let LiveNet { net } = net;
+    let worked = match net {
+        Sorted::Unmixed(net) => Sorted::Unmixed(go_alone(alloc, net)?),
+        Sorted::Mixed(net) => Sorted::Mixed(go_alone(alloc, net)?),
+    };
+    Ok(LiveWorked { worked })
+}
+
+// The same of a network of either sort.
+fn go_alone<K: Component>(alloc: Global, net: Net<K>) -> Result<Worked<K>, AllocError>
+    ensures { IfOk result (WentBy K.rules 0 net) }
 {
     match solo(alloc, net) {
         Ok(closed) => Ok(Worked {
@@ -36,13 +45,33 @@ pub fn run_alone<P: Part>(
 pub fn run_by_workers<R: Threads + Wait + Sync, G: Gate + Sync, P: Part + Send>(
     rt: &R,
     alloc: Global,
-    net: Net<Mixed<Std, P>>,
+    net: LiveNet<P>,
     workers: u32,
     gate: &G,
-) -> Result<Worked<Mixed<Std, P>>, AllocError>
+) -> Result<LiveWorked<P>, AllocError>
     requires least { 1 ≤ workers }
     requires most { workers ≤ WORKER_LIMIT }
     ensures { IfOk result (RanBy workers net) }
+{
+    let LiveNet { net } = net;
+    let worked = match net {
+        Sorted::Unmixed(net) => Sorted::Unmixed(go_by_workers(rt, alloc, net, workers, gate)?),
+        Sorted::Mixed(net) => Sorted::Mixed(go_by_workers(rt, alloc, net, workers, gate)?),
+    };
+    Ok(LiveWorked { worked })
+}
+
+// The same of a network of either sort.
+fn go_by_workers<R: Threads + Wait + Sync, G: Gate + Sync, K: Component + Send>(
+    rt: &R,
+    alloc: Global,
+    net: Net<K>,
+    workers: u32,
+    gate: &G,
+) -> Result<Worked<K>, AllocError>
+    requires least { 1 ≤ workers }
+    requires most { workers ≤ WORKER_LIMIT }
+    ensures { IfOk result (WentBy K.rules workers net) }
 {
     match run(rt, alloc, net, workers, gate) {
         Ok(worked) => {

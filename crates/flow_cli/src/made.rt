@@ -9,6 +9,7 @@ use crate::after::verdict_status;
 use crate::before::Job;
 use crate::components::live_components;
 use crate::inputs::give_inputs;
+use crate::live::LiveNet;
 use crate::made_plan::the_made_network_has_a_plan;
 use crate::net_file::network;
 use crate::outputs::{written_at, written_name};
@@ -35,7 +36,7 @@ pub(crate) fn said_of_make<P: Part>(
     alloc: Global,
     number: u32,
     bytes: usize,
-    ran: Ran<Mixed<Std, P>>,
+    ran: Ran<LiveNet<P>>,
 ) -> Result<Said, AllocError>
     requires offered { IsOfferedPlan [] ran.plan }
     requires input { bytes ≡ length (made_input number) }
@@ -90,7 +91,7 @@ fn text_of<P: Part>(
     alloc: Global,
     number: u32,
     bytes: usize,
-    ran: &Ran<Mixed<Std, P>>,
+    ran: &Ran<LiveNet<P>>,
 ) -> Result<Vec<u8>, AllocError>
     requires standard { IsOfferedPlan [] ran.now.plan }
     requires input { bytes ≡ length (made_input number) }
@@ -107,7 +108,7 @@ fn text_of<P: Part>(
 }
 
 // Appends a line for each process that writes a file.
-fn put_outputs<P: Part>(text: &mut Vec<u8>, ran: &Ran<Mixed<Std, P>>) -> Result<(), AllocError>
+fn put_outputs<P: Part>(text: &mut Vec<u8>, ran: &Ran<LiveNet<P>>) -> Result<(), AllocError>
     requires { IsOfferedPlan [] ran.now.plan }
     ensures { OnOk result (text.new.items ≡ text.old.items ++ output_lines_from (bytes_at ran.now.net.bodies) 0 ran.now.plan.processes) }
 {
@@ -120,7 +121,7 @@ fn put_outputs<P: Part>(text: &mut Vec<u8>, ran: &Ran<Mixed<Std, P>>) -> Result<
 // Appends the line of one process, if it writes a file.
 fn put_output<P: Part>(
     text: &mut Vec<u8>,
-    ran: &Ran<Mixed<Std, P>>,
+    ran: &Ran<LiveNet<P>>,
     process: u32,
 ) -> Result<(), AllocError>
     requires standard { IsOfferedPlan [] ran.now.plan }

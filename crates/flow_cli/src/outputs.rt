@@ -1,17 +1,17 @@
 //! What the writers of a network wrote.
-ghost use Rattle.std.specs.Prelude.{◌≡◌, ◌<◌, ◌∷◌, [], IfOk, IfSome, IfNone, length, map, slice_get};
+ghost use Rattle.std.specs.Prelude.{◌≡◌, ◌<◌, ◌∷◌, [], IfOk, IfSome, IfNone, length, map, option_and_then, slice_get};
 ghost use Rattle.std.specs.Option.{option_copied};
 ghost use Rattle.flow_offer.specs.Processes.{IsOfferedPlan};
 ghost use Rattle.flow_cli.specs.Components.{written_by};
 ghost use Rattle.flow_cli.specs.Many.{output_of};
 ghost use Rattle.flow_cli.specs.Runs.{bytes_at, net_outputs, written_in};
 
+use crate::live::LiveNet;
 use crate::many::Output;
 use crate::ran::Ran;
 use flow_catalogue::{FileUse, Std, file_of};
-use flow_machine::Net;
 use flow_offer::own_kind;
-use flow_own::{Mix, Mixed, Part};
+use flow_own::{Mix, Mixed, Part, Sorted};
 use flow_plan::{KindSpec, Plan};
 use std::alloc::{AllocError, Global};
 
@@ -42,12 +42,23 @@ fn written_in<P: Part>(component: &Mixed<Std, P>) -> Option<&[u8]>
     }
 }
 
+// What the component of a process wrote, if it is a writer.
+fn wrote<P: Part>(net: &LiveNet<P>, process: u32) -> Option<&[u8]>
+    requires { process < length net.now.bodies }
+    ensures { option_copied result ≡ option_and_then (λ body. written_in body.process.component) (slice_get net.now.bodies process) }
+{
+    match &net.net {
+        Sorted::Unmixed(net) => net.body(process).component().component().written(),
+        Sorted::Mixed(net) => written_in(net.body(process).component()),
+    }
+}
+
 /// What the writer of this number wrote. A process that is no writer wrote nothing.
-pub fn written_at<P: Part>(net: &Net<Mixed<Std, P>>, process: u32) -> &[u8]
+pub fn written_at<P: Part>(net: &LiveNet<P>, process: u32) -> &[u8]
     ensures { result.now ≡ bytes_at net.now.bodies process }
 {
     if process < net.processes() {
-        match written_in(net.body(process).component()) {
+        match wrote(net, process) {
             Some(bytes) => bytes,
             None => b"",
         }
@@ -56,7 +67,7 @@ pub fn written_at<P: Part>(net: &Net<Mixed<Std, P>>, process: u32) -> &[u8]
     }
 }
 
-impl<P: Part> Ran<Mixed<Std, P>> {
+impl<P: Part> Ran<LiveNet<P>> {
     /// The files that are to be written with their bytes, in the order of the processes that wrote them.
     pub fn outputs(&self, alloc: Global, own: &[KindSpec]) -> Result<Vec<Output<'_>>, AllocError>
         requires { IsOfferedPlan own.now self.now.plan }

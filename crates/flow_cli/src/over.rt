@@ -11,16 +11,14 @@ ghost use Rattle.flow_cli.specs.Runs.{journal_file, tapes_file};
 ghost use Rattle.flow_cli.specs.Top.{kept_file};
 
 use crate::begin::{Goal, Running};
+use crate::live::{LiveNet, LiveWorked};
 use crate::made::said_of_make;
 use crate::ran::{Ran, told};
 use crate::run::{Done, Kept, Said, Unwritten};
 use crate::stop::Stop;
-use flow_catalogue::Std;
-use flow_component::Component;
 use flow_journal::Journal;
-use flow_own::{Mixed, Part, Tape};
+use flow_own::{Part, Tape};
 use flow_plan::{KindSpec, Plan};
-use flow_runner::Worked;
 use flow_tape::to_bytes;
 use flow_words::RunCommand;
 use std::alloc::{AllocError, Global};
@@ -29,9 +27,9 @@ use std::alloc::{AllocError, Global};
 pub(crate) fn over<'a, P: Part>(
     alloc: Global,
     running: Running<'a>,
-    worked: Worked<Mixed<Std, P>>,
+    worked: LiveWorked<P>,
     own: &[KindSpec],
-) -> Result<Done<'a, Mixed<Std, P>>, Stop>
+) -> Result<Done<'a, LiveNet<P>>, Stop>
     requires { WasUnderWay own.now running worked }
     ensures { EndsAsRan own.now running.entry worked result }
 {
@@ -57,9 +55,9 @@ fn run_over<'a, P: Part>(
     alloc: Global,
     plan: Plan,
     asked: RunCommand<'a>,
-    worked: Worked<Mixed<Std, P>>,
+    worked: LiveWorked<P>,
     own: &[KindSpec],
-) -> Result<Unwritten<'a, Mixed<Std, P>>, AllocError>
+) -> Result<Unwritten<'a, LiveNet<P>>, AllocError>
     requires { WasRunUnderWay own.now plan (run_by asked) worked }
     ensures { IfOk result (RunEnds own.now plan (run_by asked.entry) worked) }
 {
@@ -73,7 +71,7 @@ fn make_over<P: Part>(
     plan: Plan,
     number: u32,
     bytes: usize,
-    worked: Worked<Mixed<Std, P>>,
+    worked: LiveWorked<P>,
 ) -> Result<Said, AllocError>
     requires offered { IsOfferedPlan [] plan }
     requires input { bytes ≡ length (made_input number) }
@@ -84,11 +82,11 @@ fn make_over<P: Part>(
 }
 
 // A run with the files that it keeps. Without memory it is given up.
-fn unwritten<'a, K: Component>(
+fn unwritten<'a, P: Part>(
     alloc: Global,
-    ran: Ran<K>,
+    ran: Ran<LiveNet<P>>,
     asked: RunCommand<'a>,
-) -> Result<Unwritten<'a, K>, AllocError>
+) -> Result<Unwritten<'a, LiveNet<P>>, AllocError>
     requires journal { IsWritable ran.journal }
     requires tapes { IsTapesWritable ran.tapes.items }
     ensures ran { IfOk result (λ run. run.ran ≡ ran) }
@@ -109,9 +107,9 @@ fn unwritten<'a, K: Component>(
 }
 
 // The files that a run keeps, where they are named.
-fn kept_files<'a, K: Component>(
+fn kept_files<'a, N>(
     alloc: Global,
-    ran: &Ran<K>,
+    ran: &Ran<N>,
     asked: RunCommand<'a>,
 ) -> Result<(Option<Kept<'a>>, Option<Kept<'a>>), AllocError>
     requires journal { IsWritable ran.now.journal }

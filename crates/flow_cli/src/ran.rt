@@ -4,6 +4,7 @@ ghost use Rattle.flow_offer.specs.Processes.{IsOfferedPlan};
 ghost use Rattle.flow_cli.specs.Begins.{LeavesAsRan};
 ghost use Rattle.flow_cli.specs.Runs.{AreTapesOfNet, IsJournalOfNet, IsRecordedAt, IsToldOfNet, tape_by};
 
+use crate::live::{LiveNet, LiveWorked};
 use flow_catalogue::Std;
 use flow_component::Component;
 use flow_journal::{
@@ -13,18 +14,18 @@ use flow_journal::{
 use flow_machine::{Closed, Net};
 use flow_model::a_valid_plan_is_ready;
 use flow_offer::{own_components_fit, own_kind};
-use flow_own::{Mixed, Part, Tape};
+use flow_own::{Mixed, Part, Sorted, Tape};
 use flow_plan::{KindSpec, Plan};
 use flow_played::{a_run_of_parts_is_one_of_players, parts_stay_parts, players_are_told_of};
 use flow_report::{Report, Verdict, a_report_tells_of_its_state};
-use flow_runner::{Crew, Worked};
+use flow_runner::Crew;
 use std::alloc::{AllocError, Global};
 
 /// A run that is over: its plan, its network, the journal of its turns, the tapes of the caller's own components in the order of their processes, who made the
 /// turns, and the report of what it came to.
-pub struct Ran<K: Component> {
+pub struct Ran<N> {
     pub plan: Plan,
-    pub net: Net<K>,
+    pub net: N,
     pub journal: Journal,
     pub tapes: Vec<Tape>,
     pub crew: Crew,
@@ -47,7 +48,7 @@ pub struct Account {
     pub crew: Crew,
 }
 
-impl<K: Component> Ran<K> {
+impl<P: Part> Ran<LiveNet<P>> {
     /// What is told of the run. What else it holds is given up.
     pub fn into_account(self) -> Account
         ensures { result ≡ record { report = self.report; journal = self.journal; tapes = self.tapes; crew = self.crew } }
@@ -80,9 +81,9 @@ impl<K: Component> Ran<K> {
 pub(crate) fn told<P: Part>(
     alloc: Global,
     plan: Plan,
-    worked: Worked<Mixed<Std, P>>,
+    worked: LiveWorked<P>,
     own: &[KindSpec],
-) -> Result<Ran<Mixed<Std, P>>, AllocError>
+) -> Result<Ran<LiveNet<P>>, AllocError>
     requires { IsOfferedPlan own.now plan }
     ensures plan { IfOk result (λ ran. ran.plan ≡ plan) }
     ensures leaves { IfOk result (λ ran. LeavesAsRan own.now plan worked ran) }
@@ -103,9 +104,9 @@ pub(crate) fn told<P: Part>(
 fn tell<P: Part>(
     alloc: Global,
     plan: Plan,
-    worked: Worked<Mixed<Std, P>>,
+    worked: LiveWorked<P>,
     own: &[KindSpec],
-) -> Result<Ran<Mixed<Std, P>>, AllocError>
+) -> Result<Ran<LiveNet<P>>, AllocError>
     requires { IsOfferedPlan own.now plan }
     ensures plan { IfOk result (λ ran. ran.plan ≡ plan) }
     ensures net { IfOk result (λ ran. ran.net ≡ worked.closed.net) }
@@ -114,55 +115,59 @@ fn tell<P: Part>(
     ensures journal { IfOk result (λ ran. IsJournalOfNet worked.closed.net ran.journal) }
     ensures tapes { IfOk result (λ ran. AreTapesOfNet own.now plan worked.closed.net ran.tapes.items) }
 {
-    let Worked { closed, crew } = worked;
-    match account_of(alloc, &plan, &closed, own) {
-        Ok(
-            NetAccount {
-                report,
-                journal,
-                tapes,
-            },
-        ) => Ok(Ran {
+    let account = worked.account(alloc, &plan);
+    let (net, crew) = worked.into_net();
+    let tapes = tapes_of(alloc, &plan, &net, own);
+    match (account, tapes) {
+        (Ok(NetAccount { report, journal }), Ok(tapes)) => Ok(Ran {
             plan,
-            net: closed.into_net(),
+            net,
             journal,
             tapes,
             crew,
             report,
         }),
-        Err(AllocError) => {
-            closed.discard();
+        _ => {
+            net.discard();
             Err(AllocError)
         }
     }
 }
 
-/// The report of a network, the journal of its turns, and its tapes.
+/// The report of a network, and the journal of its turns.
 #[derive(Drop)]
 struct NetAccount {
     report: PrintedReport,
     journal: Journal,
-    tapes: Vec<Tape>,
 }
 
-// What is told of a net.
-fn account_of<P: Part>(
+impl<P: Part> LiveWorked<P> {
+    // What is told of the network, but for its tapes.
+    fn account(&self, alloc: Global, plan: &Plan) -> Result<NetAccount, AllocError>
+        ensures report { IfOk result (λ account. IsToldOfNet plan.now self.now.closed.net account.report) }
+        ensures journal { IfOk result (λ account. IsJournalOfNet self.now.closed.net account.journal) }
+    {
+        match &self.worked {
+            Sorted::Unmixed(worked) => account_of(alloc, plan, &worked.closed),
+            Sorted::Mixed(worked) => account_of(alloc, plan, &worked.closed),
+        }
+    }
+}
+
+// The same of a network of either sort.
+fn account_of<K: Component>(
     alloc: Global,
     plan: &Plan,
-    closed: &Closed<Mixed<Std, P>>,
-    own: &[KindSpec],
+    closed: &Closed<K>,
 ) -> Result<NetAccount, AllocError>
-    requires { IsOfferedPlan own.now plan.now }
     ensures report { IfOk result (λ account. IsToldOfNet plan.now closed.now.net account.report) }
     ensures journal { IfOk result (λ account. IsJournalOfNet closed.now.net account.journal) }
-    ensures tapes { IfOk result (λ account. AreTapesOfNet own.now plan.now closed.now.net account.tapes.items) }
 {
     // Its contract says that no net has made more turns than a run may have, and so that the journal has a file.
     let _few = closed.net.turns_made();
     Ok(NetAccount {
         report: report_of(alloc, plan, closed)?,
         journal: Journal::merge(alloc, &closed.net)?,
-        tapes: tapes_of(alloc, plan, &closed.net, own)?,
     })
 }
 
@@ -170,7 +175,7 @@ fn account_of<P: Part>(
 fn tapes_of<P: Part>(
     alloc: Global,
     plan: &Plan,
-    net: &Net<Mixed<Std, P>>,
+    net: &LiveNet<P>,
     own: &[KindSpec],
 ) -> Result<Vec<Tape>, AllocError>
     requires { IsOfferedPlan own.now plan.now }
@@ -186,7 +191,18 @@ fn tapes_of<P: Part>(
 }
 
 // A copy of the tape of a process; an empty one where its component isn't the caller's own.
-fn tape_at<P: Part>(
+fn tape_at<P: Part>(alloc: Global, net: &LiveNet<P>, process: u32) -> Result<Tape, AllocError>
+    ensures tape { IfOk result (λ tape. tape ≡ tape_by net.now.bodies process) }
+    ensures recorded { IsRecordedAt net.now.bodies process }
+{
+    match &net.net {
+        Sorted::Unmixed(_) => Ok(Tape::new(alloc)),
+        Sorted::Mixed(net) => tape_in(alloc, net, process),
+    }
+}
+
+// The same in a network in which components may be the caller's own.
+fn tape_in<P: Part>(
     alloc: Global,
     net: &Net<Mixed<Std, P>>,
     process: u32,

@@ -17,7 +17,6 @@ use crate::before::Again;
 use crate::ran::Ran;
 use crate::status::Status;
 use crate::stop::Stop;
-use flow_component::Component;
 use flow_determinate::determinate;
 use flow_items::Items;
 use flow_journal::Journal;
@@ -51,16 +50,16 @@ pub struct Said {
 }
 
 /// A run that is over, and the files of its journal and of its tapes where they were named. Nothing of it is written yet.
-pub struct Unwritten<'a, K: Component> {
-    pub ran: Ran<K>,
+pub struct Unwritten<'a, N> {
+    pub ran: Ran<N>,
     pub journal: Option<Kept<'a>>,
     pub tapes: Option<Kept<'a>>,
 }
 
 /// What there is to write and to print.
-pub enum Done<'a, K: Component> {
+pub enum Done<'a, N> {
     /// A run: its files are to be written, and then its report is to be printed.
-    Ran(Unwritten<'a, K>),
+    Ran(Unwritten<'a, N>),
     /// The spelling of a checked network file, the answer on a judged one, the page of kinds, or the report of a replay or of a make.
     Said(Said),
 }

@@ -8,11 +8,11 @@ ghost use Rattle.flow_cli.specs.Offers.{known};
 
 use crate::before::Job;
 use crate::begin::{Goal, Running};
+use crate::live::LiveNet;
 use crate::made::job_of;
 use crate::stop::Stop;
 use flow_catalogue::Std;
 use flow_limits::NUMBER_LIMIT;
-use flow_machine::Net;
 use flow_model::a_valid_plan_is_ready;
 use flow_offer::own_components_fit;
 use flow_own::{Mixed, Part};
@@ -25,7 +25,7 @@ pub(crate) fn start<'a, P: Part>(
     job: Job<Mixed<Std, P>>,
     own: &[KindSpec],
     goal: Goal<'a>,
-) -> Result<(Running<'a>, Net<Mixed<Std, P>>), AllocError>
+) -> Result<(Running<'a>, LiveNet<P>), AllocError>
     requires offered { IsOfferedPlan own.now job.plan }
     requires live { (given : List (List ℕ)) × AreLive own.now job.plan given job.components.items }
     ensures plan { IfOk result (λ both. both.0.plan ≡ job.plan) }
@@ -35,7 +35,7 @@ pub(crate) fn start<'a, P: Part>(
     own_components_fit::<Std>();
     a_valid_plan_is_ready::<Mixed<Std, P>>();
     let Job { plan, components } = job;
-    let net = Net::start(alloc, &plan, components)?;
+    let net = LiveNet::start(alloc, &plan, components)?;
     Ok((Running { plan, goal }, net))
 }
 
@@ -44,7 +44,7 @@ pub(crate) fn start_made<'a, P: Part>(
     alloc: Global,
     number: u32,
     workers: u32,
-) -> Result<(Running<'a>, Net<Mixed<Std, P>>), Stop>
+) -> Result<(Running<'a>, LiveNet<P>), Stop>
     requires least { 1 ≤ number }
     requires most { number ≤ NUMBER_LIMIT }
     ensures { BeginsMake number workers result }

@@ -13,6 +13,7 @@ ghost use Rattle.flow_cli.specs.Top.{Concludes, Finishes, IsManned, IsRunnable, 
 use crate::after::{print_text, verdict_status, write_outputs};
 use crate::begin::{Begun, begin};
 use crate::crew::{run_alone, run_by_workers};
+use crate::live::LiveNet;
 use crate::offers::{OwnKind, kinds_and_parts};
 use crate::over::over;
 use crate::ran::{Account, PrintedReport};
@@ -31,7 +32,7 @@ use flow_meanings::{
 };
 use flow_model::{a_finished_network_leads_on, a_valid_plan_is_ready};
 use flow_offer::{each_process_is_standard_or_own, own_components_fit};
-use flow_own::{Mixed, Part, Tape};
+use flow_own::{Part, Tape};
 use flow_plan::KindSpec;
 use flow_played::{
     Played, a_network_without_own_components_runs_as_it_is,
@@ -128,7 +129,7 @@ fn perform_alone<'a, F: Shelf, P: Part>(
     shelf: &mut F,
     kinds: &[KindSpec],
     parts: Vec<Vec<P>>,
-) -> Result<Done<'a, Mixed<Std, P>>, Stop>
+) -> Result<Done<'a, LiveNet<P>>, Stop>
     requires alone { AsksWorkers words.now → ⊥ }
     requires kinds { AreOwnKinds kinds.now }
     requires parts { length parts.items ≡ length kinds.now }
@@ -153,7 +154,7 @@ fn perform_by_workers<'a, R: Threads + Wait + Sync, F: Shelf, G: Gate + Sync, P:
     gate: &G,
     kinds: &[KindSpec],
     parts: Vec<Vec<P>>,
-) -> Result<Done<'a, Mixed<Std, P>>, Stop>
+) -> Result<Done<'a, LiveNet<P>>, Stop>
     requires workers { AsksWorkers words.now }
     requires kinds { AreOwnKinds kinds.now }
     requires parts { length parts.items ≡ length kinds.now }
@@ -176,7 +177,7 @@ fn conclude<F: Shelf, O: Sink, P: Part>(
     alloc: Global,
     shelf: &mut F,
     out: &mut O,
-    done: Result<Done<'_, Mixed<Std, P>>, Stop>,
+    done: Result<Done<'_, LiveNet<P>>, Stop>,
     own: &[KindSpec],
 ) -> Outcome
     requires { IfOk done (IsRunnable own.now) }
@@ -227,7 +228,7 @@ fn tell<F: Shelf, O: Sink, P: Part>(
     alloc: Global,
     shelf: &mut F,
     out: &mut O,
-    done: Done<'_, Mixed<Std, P>>,
+    done: Done<'_, LiveNet<P>>,
     own: &[KindSpec],
 ) -> Outcome
     requires { IsRunnable own.now done }
@@ -249,7 +250,7 @@ fn finish<F: Shelf, O: Sink, P: Part>(
     alloc: Global,
     shelf: &mut F,
     out: &mut O,
-    run: Unwritten<'_, Mixed<Std, P>>,
+    run: Unwritten<'_, LiveNet<P>>,
     own: &[KindSpec],
 ) -> Outcome
     requires { IsOfferedPlan own.now run.ran.plan }

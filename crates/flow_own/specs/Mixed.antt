@@ -1,5 +1,5 @@
 -- Components of a network in which some are the caller's own.
-use Rattle.std.specs.Prelude.{◌≡◌, ℕ, Bool, List, Option, Some, None}
+use Rattle.std.specs.Prelude.{◌≡◌, ℕ, Bool, true, false, List, Option, Some, None}
 use Rattle.flow_packet.specs.Held.{Held}
 use Rattle.flow_component.specs.declared.Answer.{Answer}
 use Rattle.flow_component.specs.declared.Shape.{Shape}
@@ -7,6 +7,8 @@ use Rattle.flow_component.specs.Laws.{Rules, Outcome}
 use Rattle.flow_component.specs.Outcomes.{outcome_as}
 use Rattle.flow_own.specs.declared.mixed.Mix.{Mix}
 use Rattle.flow_own.specs.declared.mixed.Mix.TheVariants as mixes
+use Rattle.flow_own.specs.declared.sorted.Sorted.{Sorted}
+use Rattle.flow_own.specs.declared.sorted.Sorted.TheVariants as sorts
 use Rattle.flow_own.specs.declared.tape.Entry.{Entry}
 use Rattle.flow_own.specs.Recorded.{IsTapeWritable}
 use Rattle.flow_own.specs.Tapes.{OwnValue, own_state, own_told, own_uses, OwnReady, OwnNext}
@@ -55,6 +57,11 @@ abbrev pub mixed_of : {K P : Type 0} → Mix K P → Mixed K
 mixed_of (mixes.Other component) = Other component
 mixed_of (mixes.Own own) = Own own
 
+-- It isn't the caller's own.
+abbrev pub is_other : {K : Type 0} → Mixed K → Bool
+is_other (Other component) = true
+is_other (Own own) = false
+
 -- The tape of a component of the caller's own; no other has one.
 abbrev pub tape_in : {K : Type 0} → Mixed K → Option (List Entry)
 tape_in (Other component) = None
@@ -64,3 +71,8 @@ tape_in (Own own) = Some own.tape
 abbrev pub IsRecordedIn : {K : Type 0} → Mixed K → Type 0
 IsRecordedIn (Other component) = Unit {0}
 IsRecordedIn (Own own) = own.place ≡ None → IsTapeWritable own.tape
+
+-- The one that there is of a network without components of the caller's own or with some, which have the same values.
+abbrev pub of_either : {T : Type 0} → Sorted T T → T
+of_either (sorts.Unmixed value) = value
+of_either (sorts.Mixed value) = value

@@ -10,10 +10,14 @@ mod mixed;
 mod own;
 mod part;
 mod play;
+mod sorted;
 mod tape;
+mod unmixed;
 
 pub use desk::{Desk, DeskStop};
 pub use mixed::{Mix, Mixed};
 pub use own::Own;
 pub use part::{Part, PartStop};
+pub use sorted::{Sorted, sorted_out};
 pub use tape::{End, Entry, Tape};
+pub use unmixed::Unmixed;

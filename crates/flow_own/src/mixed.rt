@@ -3,6 +3,7 @@
 use crate::own::Own;
 use crate::part::Part;
 use crate::tape::Tape;
+use crate::unmixed::Unmixed;
 use flow_component::{Answer, Component, Shape, Stop, Wish};
 use flow_packet::Hands;
 use std::marker::Model;
@@ -29,9 +30,9 @@ impl<K: Component, P: Part> Model for Mixed<K, P> {
 }
 
 impl<K: Component, P: Part> Mixed<K, P> {
-    ghost use Rattle.std.specs.Prelude.{◌≡◌};
+    ghost use Rattle.std.specs.Prelude.{◌≡◌, IsTrue};
     ghost use Rattle.std.specs.Option.{option_copied};
-    ghost use Rattle.flow_own.specs.Mixed.{Mixed, Other, Own, mixed_of, tape_in, IsRecordedIn};
+    ghost use Rattle.flow_own.specs.Mixed.{Mixed, Other, Own, mixed_of, is_other, tape_in, IsRecordedIn};
 
     pub fn of(mix: Mix<K, P>) -> Mixed<K, P>
         ensures { result ≡ mixed_of mix }
@@ -43,6 +44,24 @@ impl<K: Component, P: Part> Mixed<K, P> {
         ensures { mixed_of result.now ≡ self.now }
     {
         &self.mix
+    }
+
+    /// It isn't the caller's own.
+    pub(crate) fn is_other(&self) -> bool
+        ensures { result ≡ is_other self.now }
+    {
+        matches!(&self.mix, Mix::Other(_))
+    }
+
+    /// The same component, for a network in which none is the caller's own.
+    pub(crate) fn into_unmixed(self) -> Unmixed<K>
+        requires { IsTrue (is_other self) }
+        ensures { result ≡ self }
+    {
+        match self.mix {
+            Mix::Other(component) => Unmixed::of(component),
+            Mix::Own(_) => unreachable!(),
+        }
     }
 
     /// The tape of a component of the caller's own; none of another.

@@ -7,8 +7,8 @@ use Rattle.flow_cli.specs.Many.{output_of}
 use Rattle.flow_cli.specs.declared.many.Output.{Output}
 use Rattle.flow_cli.specs.Runs.{bytes_at, outputs_from}
 use Rattle.flow_cli.proofs.Written.{one-more, no-output, one-output}
-use Rattle.flow_cli.proofs.outputs.Ran+Mixed+Std+P.outputs.Goals as goal
-use Rattle.flow_cli.proofs.outputs.Ran+Mixed+Std+P.outputs.Goals.{in-None, in-Some+in_ok-push-in-Some}
+use Rattle.flow_cli.proofs.outputs.Ran+LiveNet+P.outputs.Goals as goal
+use Rattle.flow_cli.proofs.outputs.Ran+LiveNet+P.outputs.Goals.{in-None, in-Some+in_ok-push-in-Some}
 
 pub returns : goal.returns
 returns g c =

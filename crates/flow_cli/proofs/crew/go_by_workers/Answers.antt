@@ -1,7 +1,7 @@
 use Rattle.std.proofs.Common.{List, [], ◌∷◌, length, ℕ, ◌≡◌, ◌≤◌, true, refl, sym, ◌∙◌, arith}
 use Rattle.std.proofs.lemmas.Bool.Decides.{nat_tests}
 use Rattle.std.specs.Prelude.{◌==◌}
-use Rattle.flow_cli.proofs.crew.run_by_workers.Goals as goal
+use Rattle.flow_cli.proofs.crew.go_by_workers.Goals as goal
 
 no-worker : {n : ℕ} → 1 ≤ n → n ≡ 0 → ⊥
 no-worker some none = omega (arith, some, none)

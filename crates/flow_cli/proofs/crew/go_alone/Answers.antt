@@ -1,5 +1,5 @@
 use Rattle.std.proofs.Common.{◌≤◌, arith}
-use Rattle.flow_cli.proofs.crew.run_alone.Goals as goal
+use Rattle.flow_cli.proofs.crew.go_alone.Goals as goal
 
 no-worker : 1 ≤ 0 → ⊥
 no-worker some = omega (arith, some)
