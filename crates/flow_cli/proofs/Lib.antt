@@ -41,3 +41,4 @@ pub mod Written
 pub mod Taping
 pub mod Overs
 pub mod Beginnings
+mod Sorts

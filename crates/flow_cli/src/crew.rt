@@ -17,11 +17,16 @@ pub fn run_alone<P: Part>(alloc: Global, net: LiveNet<P>) -> Result<LiveWorked<P
     ensures { IfOk result (RanBy 0 net) }
 {
     let LiveNet { net } = net;
-    let worked = match net {
-        Sorted::Unmixed(net) => Sorted::Unmixed(go_alone(alloc, net)?),
-        Sorted::Mixed(net) => Sorted::Mixed(go_alone(alloc, net)?),
-    };
-    Ok(LiveWorked { worked })
+    match net {
+        Sorted::Unmixed(net) => match go_alone(alloc, net) {
+            Ok(worked) => Ok(LiveWorked::unmixed(worked)),
+            Err(AllocError) => Err(AllocError),
+        },
+        Sorted::Mixed(net) => match go_alone(alloc, net) {
+            Ok(worked) => Ok(LiveWorked::mixed(worked)),
+            Err(AllocError) => Err(AllocError),
+        },
+    }
 }
 
 // The same of a network of either sort.
@@ -54,11 +59,16 @@ pub fn run_by_workers<R: Threads + Wait + Sync, G: Gate + Sync, P: Part + Send>(
     ensures { IfOk result (RanBy workers net) }
 {
     let LiveNet { net } = net;
-    let worked = match net {
-        Sorted::Unmixed(net) => Sorted::Unmixed(go_by_workers(rt, alloc, net, workers, gate)?),
-        Sorted::Mixed(net) => Sorted::Mixed(go_by_workers(rt, alloc, net, workers, gate)?),
-    };
-    Ok(LiveWorked { worked })
+    match net {
+        Sorted::Unmixed(net) => match go_by_workers(rt, alloc, net, workers, gate) {
+            Ok(worked) => Ok(LiveWorked::unmixed(worked)),
+            Err(AllocError) => Err(AllocError),
+        },
+        Sorted::Mixed(net) => match go_by_workers(rt, alloc, net, workers, gate) {
+            Ok(worked) => Ok(LiveWorked::mixed(worked)),
+            Err(AllocError) => Err(AllocError),
+        },
+    }
 }
 
 // The same of a network of either sort.

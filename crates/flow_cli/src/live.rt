@@ -61,11 +61,47 @@ impl<P: Part> LiveNet<P> {
         requires few { length plan.now.connections ≤ CONNECTION_LIMIT }
         ensures { IfOk result (λ net. StartsNet plan.now (known components.items) net) }
     {
-        let net = match sorted_out(alloc, components)? {
-            Sorted::Unmixed(components) => Sorted::Unmixed(Net::start(alloc, plan, components)?),
-            Sorted::Mixed(components) => Sorted::Mixed(Net::start(alloc, plan, components)?),
-        };
-        Ok(LiveNet { net })
+        match sorted_out(alloc, components) {
+            Ok(Sorted::Unmixed(components)) => LiveNet::start_unmixed(alloc, plan, components),
+            Ok(Sorted::Mixed(components)) => LiveNet::start_mixed(alloc, plan, components),
+            Err(AllocError) => Err(AllocError),
+        }
+    }
+
+    // One in which no component is the caller's own.
+    fn start_unmixed(
+        alloc: Global,
+        plan: &Plan,
+        components: Vec<Unmixed<Std>>,
+    ) -> Result<LiveNet<P>, AllocError>
+        requires well { StartsWell live_rules plan.now (known components.items) }
+        requires few { length plan.now.connections ≤ CONNECTION_LIMIT }
+        ensures { IfOk result (λ net. StartsNet plan.now (known components.items) net) }
+    {
+        match Net::start(alloc, plan, components) {
+            Ok(net) => Ok(LiveNet {
+                net: Sorted::Unmixed(net),
+            }),
+            Err(AllocError) => Err(AllocError),
+        }
+    }
+
+    // One in which some are.
+    fn start_mixed(
+        alloc: Global,
+        plan: &Plan,
+        components: Vec<Mixed<Std, P>>,
+    ) -> Result<LiveNet<P>, AllocError>
+        requires well { StartsWell live_rules plan.now (known components.items) }
+        requires few { length plan.now.connections ≤ CONNECTION_LIMIT }
+        ensures { IfOk result (λ net. StartsNet plan.now (known components.items) net) }
+    {
+        match Net::start(alloc, plan, components) {
+            Ok(net) => Ok(LiveNet {
+                net: Sorted::Mixed(net),
+            }),
+            Err(AllocError) => Err(AllocError),
+        }
     }
 
     /// How many processes it has.
@@ -89,6 +125,24 @@ impl<P: Part> LiveNet<P> {
 }
 
 impl<P: Part> LiveWorked<P> {
+    /// That of a network in which no component is the caller's own.
+    pub(crate) fn unmixed(worked: Worked<Unmixed<Std>>) -> LiveWorked<P>
+        ensures { result ≡ worked }
+    {
+        LiveWorked {
+            worked: Sorted::Unmixed(worked),
+        }
+    }
+
+    /// That of one in which some are.
+    pub(crate) fn mixed(worked: Worked<Mixed<Std, P>>) -> LiveWorked<P>
+        ensures { result ≡ worked }
+    {
+        LiveWorked {
+            worked: Sorted::Mixed(worked),
+        }
+    }
+
     /// The network, and who made its turns.
     pub(crate) fn into_net(self) -> (LiveNet<P>, Crew)
         ensures net { result.0 ≡ self.closed.net }

@@ -14,7 +14,7 @@ use flow_journal::{
 use flow_machine::{Closed, Net};
 use flow_model::a_valid_plan_is_ready;
 use flow_offer::{own_components_fit, own_kind};
-use flow_own::{Mixed, Part, Sorted, Tape};
+use flow_own::{Mixed, Part, Sorted, Tape, Unmixed};
 use flow_plan::{KindSpec, Plan};
 use flow_played::{a_run_of_parts_is_one_of_players, parts_stay_parts, players_are_told_of};
 use flow_report::{Report, Verdict, a_report_tells_of_its_state};
@@ -196,9 +196,21 @@ fn tape_at<P: Part>(alloc: Global, net: &LiveNet<P>, process: u32) -> Result<Tap
     ensures recorded { IsRecordedAt net.now.bodies process }
 {
     match &net.net {
-        Sorted::Unmixed(_) => Ok(Tape::new(alloc)),
+        Sorted::Unmixed(net) => no_tape(alloc, net, process),
         Sorted::Mixed(net) => tape_in(alloc, net, process),
     }
+}
+
+// An empty one, of a network in which no component is the caller's own.
+fn no_tape(alloc: Global, net: &Net<Unmixed<Std>>, process: u32) -> Result<Tape, AllocError>
+    ensures tape { IfOk result (λ tape. tape ≡ tape_by net.now.bodies process) }
+    ensures recorded { IsRecordedAt net.now.bodies process }
+{
+    if process >= net.processes() {
+        return Ok(Tape::new(alloc));
+    }
+    let _standard = net.body(process).component().component();
+    Ok(Tape::new(alloc))
 }
 
 // The same in a network in which components may be the caller's own.
