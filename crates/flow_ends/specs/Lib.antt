@@ -1,0 +1,11 @@
+pub mod Places
+pub mod Seats
+pub mod Ends
+pub mod Law
+pub mod Waking
+pub mod Rule
+pub mod Turning
+pub mod Views
+pub mod Pending
+pub mod Plays
+pub mod Workers

@@ -1,0 +1,16 @@
+//! The rule of a floor whose connections have two ends: one worker sends at the one and another receives at the other, and
+//! each may make many turns before it stamps them all by one step. Nothing uses it yet: `flow_runner` runs on
+//! `flow_floor`, in whose place it is to come. The contracts are those of the methods of `Floor`, and behind them stands the
+//! rule of `specs/Rule.antt`, which each kind of step is proved to keep.
+#![tactic(auto)]
+
+mod board;
+mod floor;
+mod layout;
+mod packets;
+mod plays;
+mod steps;
+mod tells;
+
+pub use board::{Lawful, Slot, View};
+pub use floor::{Floor, Held, Worker};
