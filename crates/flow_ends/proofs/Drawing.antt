@@ -23,7 +23,7 @@ use Rattle.flow_ends.specs.declared.board.Slot.TheVariants as slot
 use Rattle.flow_ends.specs.declared.board.Sending.{Sending}
 use Rattle.flow_ends.specs.declared.board.Receiving.{Receiving}
 use Rattle.flow_ends.specs.declared.board.View.{View}
-use Rattle.flow_ends.specs.Ends.{Sender, Receiver, receiving_at, sending_of, receiving_of, capacities_of, Sends, Receives, HasWithdrawn, MayDraw}
+use Rattle.flow_ends.specs.Ends.{Sender, Receiver, receiving_at, sending_of, receiving_of, capacities_of, Sends, Receives, HasWithdrawn, MayDraw, MayPlace}
 use Rattle.flow_ends.specs.Law.{CountLies, Lies, LiesSo}
 use Rattle.flow_ends.specs.Pending.{AllMay}
 use Rattle.flow_ends.specs.Plays.{Sat, placed_count, drawn_count, placed, filled, drew, emptied}
@@ -40,6 +40,11 @@ use Rattle.flow_ends.proofs.Would.{would-be, would-hold}
 pub draw-here : (c : ℕ) (o : Option Receiving) → MayDraw c o → (unwrap_or o (receiving_at c)).connection ≡ c
 draw-here c None may = refl
 draw-here c (Some y) may = may.0
+
+-- A seat that may place is at a sending end.
+pub place-here : (c : ℕ) (o : Option Sending) → MayPlace c o → (x : Sending) × (o ≡ Some x) × (x.connection ≡ c) × (x.out ≡ None) × (x.unpublished ≡ 0)
+place-here c None may = absurd may
+place-here c (Some x) may = (x, refl, may.0, may.1, may.2)
 
 module _ {K : Type 0} (rules : Rules K) (lawful : Lawful rules)
     (start : NetValue K) where

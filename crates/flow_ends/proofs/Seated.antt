@@ -65,3 +65,15 @@ module _ {K : Type 0} (z : TableId) (n : ℕ) where
     held = ap (λ (x : View K). x.held) is ∙ held ∙ q.held;
     slots = slots;
   }
+
+  -- Another body of that process is held.
+  pub seated-out : (w : Worker K) (h h' : Held K) → h'.process ≡ h.process → IsSeated z n w h → IsSeated z n w h'
+  seated-out w h h' e q = record {
+    table = q.table;
+    share = q.share;
+    spare = q.spare;
+    below = subst (λ p. p < n) (sym e) q.below;
+    base = q.base;
+    held = q.held ∙ (λ i. Some (sym e i, q.base));
+    slots = q.slots ∙ (λ i. (sym e i, slot.Vacant) ∷ []);
+  }

@@ -52,3 +52,11 @@ pub(crate) enum Drawn {
     /// The oldest packet that wasn't drawn, out of its cell, with its place.
     Packet(u64, Packet),
 }
+
+/// What a look to send came to.
+pub(crate) enum Placed {
+    /// The connection is full; the word that the call read.
+    Full(u64),
+    /// The packet is in the cell behind all others.
+    Put,
+}

@@ -1,15 +1,17 @@
 //! Packets go out of their cells and into them, by two steps each, between which the cell is the worker's.
-ghost use Rattle.std.specs.Prelude.{◌≡◌, ◌+◌, ◌<◌, ◌≤◌};
+ghost use Rattle.std.specs.Prelude.{◌≡◌, ℕ, ◌+◌, ◌<◌, ◌≤◌, slice_index, None, Some};
+ghost use Rattle.flow_machine.specs.Effects.{WishesSend};
+ghost use Rattle.flow_machine.specs.Nets.{packet_wished};
 ghost use Rattle.flow_ring.specs.Words.{level_in};
-ghost use Rattle.flow_ends.specs.Ends.{capacities_of, MayDraw, Receives};
+ghost use Rattle.flow_ends.specs.Ends.{capacities_of, HasWithdrawn, MayDraw, MayPlace, Receives};
 ghost use Rattle.flow_ends.specs.Pending.{AllMay};
-ghost use Rattle.flow_ends.specs.Plays.{drawn_count, WouldBeThere};
-ghost use Rattle.flow_ends.specs.Views.{drawing, emptying, seeing};
-ghost use Rattle.flow_ends.specs.Workers.{connection_count, opened_net, process_count, view, IsSeatedAt, MatchDrawn};
+ghost use Rattle.flow_ends.specs.Plays.{drawn_count, placed_count, WouldBeThere, WouldHold};
+ghost use Rattle.flow_ends.specs.Views.{drawing, emptying, filling, placing, seeing};
+ghost use Rattle.flow_ends.specs.Workers.{connection_count, opened_net, process_count, view, HandsOut, IsSeatedAt, MatchDrawn, MatchPlaced};
 
 use crate::board::Slot;
-use crate::floor::{Drawn, Floor, Held, Worker};
-use crate::plays::{Deed, Draw, Empty, Spot};
+use crate::floor::{Drawn, Floor, Held, Placed, Worker};
+use crate::plays::{Deed, Draw, Empty, Fill, Parcel, Place, Spot};
 use flow_component::Component;
 use flow_ring::level;
 
@@ -57,5 +59,56 @@ impl<K: Component> Floor<K> {
         worker.seat.turn();
         shared.load::<Empty>(&mut worker.seat, word_at);
         Drawn::Packet(place, packet)
+    }
+
+    /// Places the packet of the body's wish behind all packets, where there is room: the worker has placed so many that aren't stamped, and has these pending turns.
+    pub(crate) fn place<S: Spot, D: Deed<K>, B: Parcel>(
+        &self,
+        worker: &mut Worker<K>,
+        held: &mut Held<K>,
+        connection: usize,
+        most: u32,
+        placed: u32,
+    ) -> Placed
+        requires spot { (S.processes ≡ process_count self.now) × (S.capacities ≡ capacities_of (opened_net self.now)) × (S.connection ≡ connection) × (S.most ≡ most) }
+        requires parcel { packet_wished held.old.body.process ≡ Some B.packet }
+        requires most { most ≡ slice_index (capacities_of (opened_net self.now)) connection }
+        requires seated { IsSeatedAt self.now worker.old held.old }
+        requires range { connection < connection_count self.now }
+        requires withdrawn { HasWithdrawn (view worker.old).receiving }
+        requires may { MayPlace connection (view worker.old).sending }
+        requires count { placed_count (view worker.old).sending ≡ placed }
+        requires fits { placed ≤ most }
+        requires whole { held.old.body.leaving ≡ None }
+        requires wishes { WishesSend held.old.body.process.stage }
+        requires pending { AllMay K.rules (process_count self.now) (connection_count self.now) (view worker.old) D.turns }
+        ensures seated { IsSeatedAt self.now worker.new held.new }
+        ensures placed { MatchPlaced result (λ word. (most ≤ level_in word + placed) × (held.new ≡ held.old) × (view worker.new ≡ seeing (view worker.old) (self.now.layout.processes + connection) word)) ((placed < most) × (puts : ℕ) × (view worker.new ≡ filling (placing (view worker.old) puts B.packet)) × HandsOut held.old held.new B.packet × WouldHold K.rules (view worker.old) D.turns) }
+    {
+        let shared = &self.table.shared;
+        let word_at = self.layout.level_word(connection);
+        let word = shared.load::<Place<S, D, B>>(&mut worker.seat, word_at);
+        if level(word) >= most - placed {
+            return Placed::Full(word);
+        }
+        let (slot, _) = self.layout.end_slots(connection);
+        let old = shared.exchange(&mut worker.seat, slot, Slot::Vacant);
+        let Slot::Count(place) = old else {
+            unreachable!()
+        };
+        let old = shared.exchange(&mut worker.seat, slot, Slot::Count(place + 1));
+        let Slot::Vacant = old else { unreachable!() };
+        worker.seat.turn();
+        let cell = self.layout.cell(connection, place);
+        let packet = held.body.outgoing();
+        let old = shared.exchange(&mut worker.seat, cell, Slot::Cell(Some(packet)));
+        let Slot::Cell(found) = old else {
+            unreachable!()
+        };
+        let None = found else { unreachable!() };
+        worker.seat.turn();
+        worker.seat.turn();
+        shared.load::<Fill>(&mut worker.seat, word_at);
+        Placed::Put
     }
 }
