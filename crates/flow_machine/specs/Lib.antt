@@ -18,3 +18,4 @@ pub mod Starts
 pub mod Solo
 pub mod Wires
 pub mod Quiet
+pub mod Stamps

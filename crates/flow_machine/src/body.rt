@@ -25,6 +25,7 @@ use std::marker::Model;
 mod begin;
 mod effect;
 mod idle;
+mod restamp;
 mod think;
 
 /// A process: it runs a component.
