@@ -86,13 +86,15 @@ impl Known {
         if !self.written.is_empty() {
             return Ok(());
         }
-        if let Some(journal) = &self.journal {
-            self.admit_as(Kept::Journal, Identity::of(rt.metadata(journal.as_str())))?;
+        self.admit_named(rt, Kept::Journal, &self.journal)?;
+        self.admit_named(rt, Kept::Tapes, &self.tapes)
+    }
+
+    fn admit_named<R: Files>(&self, rt: &R, kept: Kept, name: &Option<String>) -> io::Result<()> {
+        match name {
+            Some(name) => self.admit_as(kept, Identity::of(rt.metadata(name.as_str()))),
+            None => Ok(()),
         }
-        if let Some(tapes) = &self.tapes {
-            self.admit_as(Kept::Tapes, Identity::of(rt.metadata(tapes.as_str())))?;
-        }
-        Ok(())
     }
 
     fn admit_as(&self, kept: Kept, file: Option<Identity>) -> io::Result<()> {
@@ -116,16 +118,13 @@ impl Known {
         if let Some(kept) = self.kept_as(name) {
             self.admit_as(kept, file)?;
         }
-        match self.part_of(file) {
-            None => {}
+        let told = match self.part_of(file) {
+            None => return Ok(()),
             Some(Part::Network) => return Err(refused("this file is the network file")),
-            Some(Part::Input) => {
-                let _ = eprintln!(rt; "{name:?} is an input too, and is written over");
-            }
-            Some(Part::Output) => {
-                let _ = eprintln!(rt; "{name:?} is written twice, and keeps what comes last");
-            }
-        }
+            Some(Part::Input) => "is an input too, and is written over",
+            Some(Part::Output) => "is written twice, and keeps what comes last",
+        };
+        let _ = eprintln!(rt; "{name:?} {told}");
         Ok(())
     }
 

@@ -4,7 +4,7 @@ use std::alloc::Global;
 use std::fs::{File, Files};
 use std::io;
 use std::io::ErrorKind;
-use std::path::PathBuf;
+use std::path::{Path, PathBuf};
 
 /// A chain of more symbolic links than this isn't followed, as in the system's own calls.
 const LINKS: u32 = 40;
@@ -60,20 +60,25 @@ fn is_of_system<R: Files<File = File>>(
     rt: &R,
     path: &PathBuf,
 ) -> Result<bool, OutputError> {
-    let mut folder = PathBuf::from_str(alloc, path.as_str())?;
-    folder.pop();
-    if folder.as_str().is_empty() {
-        folder.push(".")?;
-    }
-    match rt.canonicalize(alloc, folder.as_str()) {
-        Ok(folder) => {
-            let folder = folder.as_str();
-            Ok(folder.starts_with(PROCESSES) || folder == DEVICES)
-        }
+    match rt.canonicalize(alloc, folder_of(path.as_str())) {
+        Ok(folder) => Ok(is_folder_of_system(folder.as_str())),
         Err(error) if error.kind() == ErrorKind::OutOfMemory => Err(OutputError::NoMemory),
         // What can't be found is no folder of the system's.
         Err(_) => Ok(false),
     }
+}
+
+fn is_folder_of_system(folder: &str) -> bool {
+    folder.starts_with(PROCESSES) || folder == DEVICES
+}
+
+/// The folder in which a name stands.
+pub fn folder_of(name: &str) -> &str {
+    let folder = match Path::new(name).parent() {
+        Some(folder) => folder.as_str(),
+        None => name,
+    };
+    if folder.is_empty() { "." } else { folder }
 }
 
 fn or_no_memory(error: io::Error) -> OutputError {

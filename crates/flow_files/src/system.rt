@@ -4,7 +4,7 @@ ghost use Rattle.std.specs.Io.{WritesAtMost};
 
 use crate::access::keep_access;
 use crate::known::Known;
-use crate::place::{Place, place_of};
+use crate::place::{Place, folder_of, place_of};
 use crate::streams::Stream;
 use std::alloc::{AllocError, Global};
 use std::fs::{File, Files, Metadata, OpenOptions};
@@ -32,14 +32,14 @@ pub struct Output {
 /// The file that is written has a temporary name until it is whole.
 #[derive(Drop)]
 struct Replacing {
-    temporary: PathBuf,
+    temporary: String,
     target: PathBuf,
     /// What has the name so far, open for writing.
     old: Option<File>,
 }
 
 /// Why a file isn't begun.
-#[derive(Clone, Copy, Debug)]
+#[derive(Clone, Copy)]
 pub enum OutputError {
     Io(io::Error),
     NoMemory,
@@ -135,17 +135,33 @@ fn beside<R: Files<File = File>>(
     old: Option<File>,
 ) -> Result<Output, OutputError> {
     let mode = if old.is_some() { PRIVATE } else { SHARED };
+    let Temporary { name, first } = create_temporary(alloc, rt, target.as_str(), mode)?;
+    let replacing = Replacing {
+        temporary: name,
+        target,
+        old,
+    };
+    moved(rt, first, replacing)
+}
+
+/// A file that was created under a temporary name.
+#[derive(Drop)]
+struct Temporary {
+    name: String,
+    first: File,
+}
+
+/// Creates a file of this mode under the first temporary name that is left in the folder of its target.
+fn create_temporary<R: Files<File = File>>(
+    alloc: Global,
+    rt: &R,
+    target: &str,
+    mode: u32,
+) -> Result<Temporary, OutputError> {
     for number in 0..TEMPORARY_NAMES {
-        let temporary = temporary_name(alloc, &target, number)?;
-        match create_new(rt, temporary.as_str(), mode) {
-            Ok(first) => {
-                let replacing = Replacing {
-                    temporary,
-                    target,
-                    old,
-                };
-                return moved(rt, first, replacing);
-            }
+        let name = temporary_name(alloc, target, number)?;
+        match create_new(rt, name.as_str(), mode) {
+            Ok(first) => return Ok(Temporary { name, first }),
             Err(error) if error.kind() == ErrorKind::AlreadyExists => {}
             Err(error) => return Err(OutputError::Io(error)),
         }
@@ -185,25 +201,14 @@ fn moved<R: Files<File = File>>(
 }
 
 /// A name in the folder of this file.
-fn temporary_name(alloc: Global, target: &PathBuf, number: u32) -> Result<PathBuf, AllocError> {
-    let mut path = PathBuf::from_str(alloc, target.as_str())?;
-    path.pop();
-    path.push(format!(in alloc; ".flow-{number}.tmp")?.as_str())?;
-    Ok(path)
+fn temporary_name(alloc: Global, target: &str, number: u32) -> Result<String, AllocError> {
+    let folder = folder_of(target);
+    format!(in alloc; "{folder}/.flow-{number}.tmp")
 }
 
 /// Opens the folder of a file, where it may be read.
-fn open_folder<R: Files<File = File>>(
-    alloc: Global,
-    rt: &R,
-    file: &PathBuf,
-) -> io::Result<Option<File>> {
-    let mut folder = PathBuf::from_str(alloc, file.as_str())?;
-    folder.pop();
-    if folder.as_str().is_empty() {
-        folder.push(".")?;
-    }
-    match File::open(rt, folder.as_str()) {
+fn open_folder<R: Files<File = File>>(rt: &R, file: &PathBuf) -> io::Result<Option<File>> {
+    match File::open(rt, folder_of(file.as_str())) {
         Ok(folder) => Ok(Some(folder)),
         Err(error) if error.kind() == ErrorKind::PermissionDenied => Ok(None),
         Err(error) => Err(error),
@@ -223,27 +228,52 @@ fn sync_folder(folder: Option<File>) -> io::Result<()> {
 
 /// Gives a whole file its name, and what it replaces is gone. Answers the folder, which is still to be kept.
 fn give_name<R: Files<File = File>>(
-    alloc: Global,
     rt: &R,
     file: &File,
     replacing: &Replacing,
 ) -> io::Result<Option<File>> {
+    settle(file, replacing)?;
+    let folder = open_folder(rt, &replacing.target)?;
+    take_name(rt, file, replacing)?;
+    Ok(folder)
+}
+
+/// Gives a whole file the access of what it replaces, and has it kept.
+fn settle(file: &File, replacing: &Replacing) -> io::Result<()> {
     if let Some(old) = &replacing.old {
         keep_access(file, old)?;
     }
-    file.sync_all()?;
-    let folder = open_folder(alloc, rt, &replacing.target)?;
-    let temporary = replacing.temporary.as_str();
-    match rt.rename(temporary, replacing.target.as_str()) {
-        Ok(()) => Ok(folder),
-        Err(error) => match &replacing.old {
-            Some(old) if error.kind() == ErrorKind::ResourceBusy => {
-                pour(file, old)?;
-                rt.remove_file(temporary)?;
-                Ok(folder)
-            }
-            _ => Err(error),
-        },
+    file.sync_all()
+}
+
+/// Puts a file in the place of what it replaces.
+fn take_name<R: Files<File = File>>(rt: &R, file: &File, replacing: &Replacing) -> io::Result<()> {
+    let renamed = rt.rename(replacing.temporary.as_str(), replacing.target.as_str());
+    match &replacing.old {
+        Some(old) if is_busy(renamed) => {
+            pour(file, old)?;
+            rt.remove_file(replacing.temporary.as_str())
+        }
+        _ => renamed,
+    }
+}
+
+/// Whether the system says that a name can't be given to another file.
+fn is_busy(renamed: io::Result<()>) -> bool {
+    match renamed {
+        Err(error) => error.kind() == ErrorKind::ResourceBusy,
+        Ok(()) => false,
+    }
+}
+
+/// Has a whole file take its name for good. At a fault it is removed.
+fn take_place<R: Files<File = File>>(rt: &R, file: File, replacing: Replacing) -> io::Result<()> {
+    match give_name(rt, &file, &replacing) {
+        Ok(folder) => sync_folder(folder),
+        Err(error) => {
+            let _ = rt.remove_file(replacing.temporary.as_str());
+            Err(error)
+        }
     }
 }
 
@@ -271,17 +301,11 @@ impl Output {
     /// Closes the file. One with a temporary name is given the access of what it replaces, is flushed to the disk, and
     /// takes its own name; at a fault it is removed instead. What stood under its own name is whole at all times, but
     /// where that is mounted.
-    pub fn finish<R: Files<File = File>>(self, alloc: Global, rt: &R) -> io::Result<()> {
+    pub fn finish<R: Files<File = File>>(self, rt: &R) -> io::Result<()> {
         let Output { file, replacing } = self;
-        let Some(replacing) = replacing else {
-            return Ok(());
-        };
-        match give_name(alloc, rt, &file, &replacing) {
-            Ok(folder) => sync_folder(folder),
-            Err(error) => {
-                let _ = rt.remove_file(replacing.temporary.as_str());
-                Err(error)
-            }
+        match replacing {
+            Some(replacing) => take_place(rt, file, replacing),
+            None => Ok(()),
         }
     }
 
