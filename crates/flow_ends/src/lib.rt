@@ -6,11 +6,14 @@
 
 mod board;
 mod floor;
+mod held;
 mod layout;
 mod packets;
 mod plays;
+mod roll;
 mod steps;
 mod tells;
+mod wake;
 
 pub use board::{Lawful, Slot, View};
-pub use floor::{Floor, Held, Worker};
+pub use floor::{Claim, Floor, Held, Turned, Worker};
