@@ -9,3 +9,4 @@ pub mod Views
 pub mod Pending
 pub mod Plays
 pub mod Workers
+pub mod InHand
