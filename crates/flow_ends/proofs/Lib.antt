@@ -24,3 +24,6 @@ pub mod Seated
 pub mod Slots
 pub mod Rolls
 pub mod Holding
+pub mod Further
+pub mod Ahead
+pub mod Passing

@@ -12,3 +12,4 @@ pub mod Workers
 pub mod Looks
 pub mod Crew
 pub mod Floors
+pub mod InHand
