@@ -24,3 +24,4 @@ pub mod Seated
 pub mod Slots
 pub mod Rolls
 pub mod Holding
+pub mod Crews
