@@ -27,3 +27,4 @@ pub mod Holding
 pub mod Further
 pub mod Ahead
 pub mod Passing
+pub mod Crews
