@@ -59,13 +59,13 @@ fn told<T>(made: &Result<T, PlanStop>) -> &'static str {
 }
 
 /// Checks what a call came to, in a word.
-pub fn comes_to<T>(rt: &impl Abort, made: &Result<T, PlanStop>, wanted: &str) {
-    assert_eq!(rt; told(made), wanted);
+pub fn comes_to<T: Drop>(rt: &impl Abort, made: Result<T, PlanStop>, wanted: &str) {
+    assert_eq!(rt; told(&made), wanted);
 }
 
 /// Checks that the call of this number was accepted.
-pub fn accepted(rt: &impl Abort, made: &Result<(), PlanStop>, number: u32) {
-    assert_eq!(rt; told(made), "accepted", "at {number}");
+pub fn accepted(rt: &impl Abort, made: Result<(), PlanStop>, number: u32) {
+    assert_eq!(rt; told(&made), "accepted", "at {number}");
 }
 
 /// A builder without processes.
@@ -121,7 +121,7 @@ fn make(
 
 fn accept(rt: &impl Abort, net: &mut PlanBuilder, alloc: Global, call: &Call) {
     let made = make(rt, net, alloc, call);
-    comes_to(rt, &made, "accepted");
+    comes_to(rt, made, "accepted");
 }
 
 fn accept_all(rt: &impl Abort, net: &mut PlanBuilder, alloc: Global, calls: &[Call]) {
@@ -145,12 +145,12 @@ pub fn planned(rt: &impl Abort, alloc: Global, calls: &[Call]) -> Plan {
 /// Checks what the plan of these calls comes to, each of which is accepted.
 pub fn check_plan(rt: &impl Abort, alloc: Global, calls: &[Call], wanted: &str) {
     let finished = made(rt, alloc, calls).finish();
-    comes_to(rt, &finished, wanted);
+    comes_to(rt, finished, wanted);
 }
 
 fn check_row(rt: &impl Abort, net: &mut PlanBuilder, alloc: Global, (call, wanted): &Row) {
     let made = make(rt, net, alloc, call);
-    comes_to(rt, &made, *wanted);
+    comes_to(rt, made, *wanted);
 }
 
 /// Checks what these calls come to, one behind the other.

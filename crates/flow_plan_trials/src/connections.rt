@@ -95,7 +95,7 @@ fn join(
 fn check_join(rt: &impl Abort, net: &mut PlanBuilder, alloc: Global, row: &Joined) {
     let (output, capacity, input, wanted) = *row;
     let made = join(rt, net, alloc, output, capacity, input);
-    comes_to(rt, &made, wanted);
+    comes_to(rt, made, wanted);
 }
 
 fn check_joins(rt: &impl Abort, net: &mut PlanBuilder, alloc: Global, rows: &[Joined]) {
@@ -152,7 +152,7 @@ const LAST: &[Row] = &[
 
 fn join_element(rt: &impl Abort, net: &mut PlanBuilder, alloc: Global, element: u32) {
     let made = join(rt, net, alloc, element, None, element);
-    accepted(rt, &made, element);
+    accepted(rt, made, element);
 }
 
 fn join_elements(rt: &impl Abort, net: &mut PlanBuilder, alloc: Global) {

@@ -53,7 +53,7 @@ fn loop_back(rt: &impl Abort, net: &mut PlanBuilder, alloc: Global, element: u32
     let out = (b"S".as_slice(), b"OUT".as_slice(), Some(element));
     let into = (b"S".as_slice(), b"IN".as_slice(), Some(element));
     let made = connect(rt, net, alloc, out, Some(capacity), into);
-    accepted(rt, &made, element);
+    accepted(rt, made, element);
 }
 
 // So many of those: 64 have the capacity 1,024, and one more has the capacity 1.
@@ -68,7 +68,7 @@ fn check_full(rt: &impl Abort, alloc: Global, count: u32, wanted: &str) {
     let mut net = made(rt, alloc, SIZED);
     loop_all(rt, &mut net, alloc, count);
     let finished = net.finish();
-    comes_to(rt, &finished, wanted);
+    comes_to(rt, finished, wanted);
 }
 
 #[test]

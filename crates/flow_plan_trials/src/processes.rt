@@ -18,7 +18,7 @@ fn a_process_has_a_new_name_and_a_known_kind(rt: HostRuntime) {
 
 fn begin(rt: &impl Abort, net: &mut PlanBuilder, number: u8) {
     let made = net.process(&[number], b"Pass");
-    accepted(rt, &made, u32::from(number));
+    accepted(rt, made, u32::from(number));
 }
 
 fn begin_all(rt: &impl Abort, net: &mut PlanBuilder) {
@@ -32,5 +32,5 @@ fn a_network_has_128_processes(rt: HostRuntime) {
     let mut net = empty(&rt, rt.alloc());
     begin_all(&rt, &mut net);
     let made = net.process(b"last", b"Pass");
-    comes_to(&rt, &made, "too many processes");
+    comes_to(&rt, made, "too many processes");
 }
