@@ -1,75 +1,89 @@
 // Automatic ports: each process has them, and they take no text and no element.
-use crate::calls::{begun, connect, empty, give, told};
-use flow_net::PlanStop;
-use flow_plan::Plan;
-use std::alloc::Global;
+use crate::calls::{Call, Row, check_begun, planned};
+use crate::checks::same;
+use flow_plan::{Connection, Plan};
+use std::process::Abort;
+
+const ELEMENTS: &[Row] = &[
+    (
+        Call::Connect((b"P", b"*OUT", Some(0)), None, (b"Q", b"*IN", None)),
+        "unknown port",
+    ),
+    (
+        Call::Connect((b"P", b"*OUT", None), None, (b"Q", b"*IN", Some(0))),
+        "unknown port",
+    ),
+    (
+        Call::Connect((b"P", b"*IN", None), None, (b"Q", b"*IN", None)),
+        "unknown port",
+    ),
+    (
+        Call::Connect((b"P", b"*OUT", None), None, (b"Q", b"*OUT", None)),
+        "unknown port",
+    ),
+    (
+        Call::Connect((b"P", b"*OUT", None), None, (b"Q", b"*IN", None)),
+        "accepted",
+    ),
+    (
+        Call::Connect((b"P", b"*OUT", None), None, (b"Q", b"IN", None)),
+        "port taken",
+    ),
+    (
+        Call::Connect((b"P", b"OUT", None), None, (b"Q", b"*IN", None)),
+        "accepted",
+    ),
+];
 
 #[test]
-fn an_automatic_port_has_no_element(rt: HostRuntime) -> Result<(), PlanStop> {
-    let alloc = rt.alloc();
-    let mut net = begun(alloc)?;
-    for (out, output, into, input, wanted) in [
-        (
-            b"*OUT".as_slice(),
-            Some(0),
-            b"*IN".as_slice(),
-            None,
-            "unknown port",
-        ),
-        (b"*OUT", None, b"*IN", Some(0), "unknown port"),
-        (b"*IN", None, b"*IN", None, "unknown port"),
-        (b"*OUT", None, b"*OUT", None, "unknown port"),
-        (b"*OUT", None, b"*IN", None, "accepted"),
-        (b"*OUT", None, b"IN", None, "port taken"),
-        (b"OUT", None, b"*IN", None, "accepted"),
-    ] {
-        let made = connect(&mut net, alloc, (b"P", out), output, (b"Q", into), input);
-        assert_eq!(rt; told(&made), wanted);
-    }
-    Ok(())
+fn an_automatic_port_has_no_element(rt: HostRuntime) {
+    check_begun(&rt, rt.alloc(), ELEMENTS);
 }
 
+const TEXTS: &[Row] = &[
+    (Call::Give(b"go", (b"P", b"*IN", None)), "unknown port"),
+    (
+        Call::Connect((b"P", b"OUT", None), None, (b"Q", b"*IN", None)),
+        "accepted",
+    ),
+    (Call::Give(b"go", (b"Q", b"*IN", None)), "unknown port"),
+];
+
 #[test]
-fn an_automatic_input_takes_no_text(rt: HostRuntime) -> Result<(), PlanStop> {
-    let alloc = rt.alloc();
-    let mut net = begun(alloc)?;
-    assert_eq!(rt;
-        told(&give(&mut net, alloc, b"go", b"P", b"*IN")),
-        "unknown port"
-    );
-    connect(&mut net, alloc, (b"P", b"OUT"), None, (b"Q", b"*IN"), None)?;
-    assert_eq!(rt;
-        told(&give(&mut net, alloc, b"go", b"Q", b"*IN")),
-        "unknown port"
-    );
-    Ok(())
+fn an_automatic_input_takes_no_text(rt: HostRuntime) {
+    check_begun(&rt, rt.alloc(), TEXTS);
 }
 
 // P passes on to Q, and Q to P; as P ends, Q may begin.
-fn waiting(alloc: Global) -> Result<Plan, PlanStop> {
-    let mut net = empty(alloc)?;
-    net.process(b"P", b"Pass")?;
-    net.process(b"Q", b"Pass")?;
-    connect(&mut net, alloc, (b"P", b"OUT"), None, (b"Q", b"IN"), None)?;
-    connect(&mut net, alloc, (b"P", b"*OUT"), None, (b"Q", b"*IN"), None)?;
-    connect(&mut net, alloc, (b"Q", b"OUT"), None, (b"P", b"IN"), None)?;
-    net.finish()
+const WAITING: &[Call] = &[
+    Call::Process(b"P", b"Pass"),
+    Call::Process(b"Q", b"Pass"),
+    Call::Connect((b"P", b"OUT", None), None, (b"Q", b"IN", None)),
+    Call::Connect((b"P", b"*OUT", None), None, (b"Q", b"*IN", None)),
+    Call::Connect((b"Q", b"OUT", None), None, (b"P", b"IN", None)),
+];
+
+fn check_processes(rt: &impl Abort, plan: &Plan) {
+    for process in plan.processes() {
+        same(rt, "ports", (process.inputs, process.outputs), (1, 1));
+    }
+}
+
+fn check_ended(rt: &impl Abort, ended: &Connection) {
+    same(rt, "receiver", (ended.receiver, ended.input), (1, 1));
+    match ended.senders.as_slice() {
+        [sender] => same(rt, "sender", (sender.process, sender.output), (0, 1)),
+        _ => panic!(rt; "not one sender"),
+    }
 }
 
 // An automatic port has the number behind those of its process, and needn't be connected.
 #[test]
-fn an_automatic_port_has_the_last_number(rt: HostRuntime) -> Result<(), PlanStop> {
-    let plan = waiting(rt.alloc())?;
-    for process in plan.processes() {
-        assert_eq!(rt; (process.inputs, process.outputs), (1, 1));
+fn an_automatic_port_has_the_last_number(rt: HostRuntime) {
+    let plan = planned(&rt, rt.alloc(), WAITING);
+    check_processes(&rt, &plan);
+    match plan.connections() {
+        [_, ended, _] => check_ended(&rt, ended),
+        _ => panic!(rt; "not three connections"),
     }
-    let connections = plan.connections();
-    assert_eq!(rt; connections.len(), 3);
-    let ended = &connections[1];
-    assert_eq!(rt; (ended.receiver, ended.input), (1, 1));
-    let senders = ended.senders.as_slice();
-    assert_eq!(rt; senders.len(), 1);
-    let sender = senders[0];
-    assert_eq!(rt; (sender.process, sender.output), (0, 1));
-    Ok(())
 }

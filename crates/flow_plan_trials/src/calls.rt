@@ -1,11 +1,34 @@
-// The calls of a builder, and what they come to.
-ghost use Rattle.std.specs.Prelude.{◌≤◌, length};
-
+// The calls of a builder, as rows of tables, and what they come to.
 use crate::kinds::kinds;
 use flow_items::Text;
 use flow_net::{Many, PlanBuilder, PlanFault, PlanStop};
-use flow_plan::PortRef;
-use std::alloc::{AllocError, Global};
+use flow_plan::{Plan, PortRef};
+use std::alloc::Global;
+use std::process::Abort;
+
+/// A port of a process, and its element where there is one.
+pub type End = (&'static [u8], &'static [u8], Option<u32>);
+
+/// A call of a builder.
+pub enum Call {
+    /// A process of this name, of this kind.
+    Process(&'static [u8], &'static [u8]),
+    /// A connection from one port to another, of a capacity where there is one.
+    Connect(End, Option<u32>, End),
+    /// A text for an input.
+    Give(&'static [u8], End),
+}
+
+/// A call, and what it comes to, in a word.
+pub type Row = (Call, &'static str);
+
+/// The processes S and T, which split, and P and Q, which pass on.
+pub const BEGUN: &[Call] = &[
+    Call::Process(b"S", b"Split"),
+    Call::Process(b"T", b"Split"),
+    Call::Process(b"P", b"Pass"),
+    Call::Process(b"Q", b"Pass"),
+];
 
 fn named(fault: &PlanFault) -> &'static str {
     match fault {
@@ -27,7 +50,7 @@ fn named(fault: &PlanFault) -> &'static str {
 }
 
 // What a call came to, in a word.
-pub fn told<T>(made: &Result<T, PlanStop>) -> &'static str {
+fn told<T>(made: &Result<T, PlanStop>) -> &'static str {
     match made {
         Ok(_) => "accepted",
         Err(PlanStop::Fault(fault)) => named(fault),
@@ -35,62 +58,109 @@ pub fn told<T>(made: &Result<T, PlanStop>) -> &'static str {
     }
 }
 
-pub fn empty(alloc: Global) -> Result<PlanBuilder, AllocError> {
-    let kinds = kinds(alloc)?;
-    Ok(PlanBuilder::new(alloc, kinds))
+/// Checks what a call came to, in a word.
+pub fn comes_to<T: Drop>(rt: &impl Abort, made: Result<T, PlanStop>, wanted: &str) {
+    assert_eq!(rt; told(&made), wanted);
 }
 
-// A builder with the processes S and T, which split, and P and Q, which pass on.
-pub fn begun(alloc: Global) -> Result<PlanBuilder, PlanStop> {
-    let mut net = empty(alloc)?;
-    net.process(b"S", b"Split")?;
-    net.process(b"T", b"Split")?;
-    net.process(b"P", b"Pass")?;
-    net.process(b"Q", b"Pass")?;
-    Ok(net)
+/// Checks that the call of this number was accepted.
+pub fn accepted(rt: &impl Abort, made: Result<(), PlanStop>, number: u32) {
+    assert_eq!(rt; told(&made), "accepted", "at {number}");
 }
 
-pub fn port(alloc: Global, name: &[u8], element: Option<u32>) -> Result<PortRef, AllocError> {
-    let name = Text::from_slice(alloc, name)?;
-    Ok(PortRef { name, element })
+/// A builder without processes.
+pub fn empty(rt: &impl Abort, alloc: Global) -> PlanBuilder {
+    PlanBuilder::new(alloc, kinds(rt, alloc))
 }
 
-// A connection from a port of one process to a port of another.
+fn port(rt: &impl Abort, alloc: Global, end: End) -> PortRef {
+    PortRef {
+        name: Text::from_slice(alloc, end.1).expect(rt, "no memory"),
+        element: end.2,
+    }
+}
+
+/// A connection from one port to another.
 pub fn connect(
+    rt: &impl Abort,
     net: &mut PlanBuilder,
     alloc: Global,
-    (from, out): (&[u8], &[u8]),
-    output: Option<u32>,
-    (to, into): (&[u8], &[u8]),
-    input: Option<u32>,
-) -> Result<(), PlanStop> {
-    let out = port(alloc, out, output)?;
-    let into = port(alloc, into, input)?;
-    net.connect(from, &out, None, to, &into)
-}
-
-// A connection from an element of S to one of T.
-pub fn join(
-    net: &mut PlanBuilder,
-    alloc: Global,
-    output: u32,
+    from: End,
     capacity: Option<u32>,
-    input: u32,
+    to: End,
 ) -> Result<(), PlanStop> {
-    let out = port(alloc, b"OUT", Some(output))?;
-    let into = port(alloc, b"IN", Some(input))?;
-    net.connect(b"S", &out, capacity, b"T", &into)
+    let out = port(rt, alloc, from);
+    let into = port(rt, alloc, to);
+    net.connect(from.0, &out, capacity, to.0, &into)
 }
 
-pub fn give(
+fn give(
+    rt: &impl Abort,
     net: &mut PlanBuilder,
     alloc: Global,
     text: &[u8],
-    to: &[u8],
-    into: &[u8],
-) -> Result<(), PlanStop>
-    requires { length text.now ≤ 1048576 }
-{
-    let into = port(alloc, into, None)?;
-    net.initial(text, to, &into)
+    to: End,
+) -> Result<(), PlanStop> {
+    assert!(rt; text.len() <= 1_048_576);
+    let into = port(rt, alloc, to);
+    net.initial(text, to.0, &into)
+}
+
+fn make(
+    rt: &impl Abort,
+    net: &mut PlanBuilder,
+    alloc: Global,
+    call: &Call,
+) -> Result<(), PlanStop> {
+    match call {
+        Call::Process(name, kind) => net.process(*name, *kind),
+        Call::Connect(from, capacity, to) => connect(rt, net, alloc, *from, *capacity, *to),
+        Call::Give(text, to) => give(rt, net, alloc, *text, *to),
+    }
+}
+
+fn accept(rt: &impl Abort, net: &mut PlanBuilder, alloc: Global, call: &Call) {
+    let made = make(rt, net, alloc, call);
+    comes_to(rt, made, "accepted");
+}
+
+fn accept_all(rt: &impl Abort, net: &mut PlanBuilder, alloc: Global, calls: &[Call]) {
+    for call in calls {
+        accept(rt, net, alloc, call);
+    }
+}
+
+/// A builder with these calls behind it, each of which is accepted.
+pub fn made(rt: &impl Abort, alloc: Global, calls: &[Call]) -> PlanBuilder {
+    let mut net = empty(rt, alloc);
+    accept_all(rt, &mut net, alloc, calls);
+    net
+}
+
+/// The plan of these calls, each of which is accepted.
+pub fn planned(rt: &impl Abort, alloc: Global, calls: &[Call]) -> Plan {
+    made(rt, alloc, calls).finish().expect(rt, "no plan")
+}
+
+/// Checks what the plan of these calls comes to, each of which is accepted.
+pub fn check_plan(rt: &impl Abort, alloc: Global, calls: &[Call], wanted: &str) {
+    let finished = made(rt, alloc, calls).finish();
+    comes_to(rt, finished, wanted);
+}
+
+fn check_row(rt: &impl Abort, net: &mut PlanBuilder, alloc: Global, (call, wanted): &Row) {
+    let made = make(rt, net, alloc, call);
+    comes_to(rt, made, *wanted);
+}
+
+/// Checks what these calls come to, one behind the other.
+pub fn check(rt: &impl Abort, net: &mut PlanBuilder, alloc: Global, rows: &[Row]) {
+    for row in rows {
+        check_row(rt, net, alloc, row);
+    }
+}
+
+/// Checks what these calls come to, behind those with which the processes S, T, P and Q begin.
+pub fn check_begun(rt: &impl Abort, alloc: Global, rows: &[Row]) {
+    check(rt, &mut made(rt, alloc, BEGUN), alloc, rows);
 }

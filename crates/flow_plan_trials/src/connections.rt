@@ -1,94 +1,169 @@
 // Connections that are refused, and their neighbours.
-use crate::calls::{begun, connect, join, told};
-use flow_net::PlanStop;
+use crate::calls::{BEGUN, Call, Row, accepted, check, check_begun, comes_to, connect, made};
+use flow_net::{PlanBuilder, PlanStop};
+use std::alloc::Global;
+use std::process::Abort;
+
+const PORTS: &[Row] = &[
+    (
+        Call::Connect((b"X", b"OUT", Some(0)), None, (b"T", b"IN", Some(0))),
+        "unknown process",
+    ),
+    (
+        Call::Connect((b"S", b"OUT", Some(0)), None, (b"X", b"IN", Some(0))),
+        "unknown process",
+    ),
+    (
+        Call::Connect((b"S", b"OUT", Some(512)), None, (b"T", b"IN", Some(0))),
+        "unknown port",
+    ),
+    (
+        Call::Connect((b"S", b"OUT", Some(0)), None, (b"T", b"IN", Some(512))),
+        "unknown port",
+    ),
+    (
+        Call::Connect((b"S", b"OUT", Some(511)), None, (b"T", b"IN", Some(511))),
+        "accepted",
+    ),
+    (
+        Call::Connect((b"S", b"OUT", Some(0)), None, (b"P", b"IN", Some(0))),
+        "unknown port",
+    ),
+    (
+        Call::Connect((b"P", b"OUT", Some(0)), None, (b"S", b"IN", Some(0))),
+        "unknown port",
+    ),
+    (
+        Call::Connect((b"S", b"OUT", Some(0)), None, (b"P", b"IN", None)),
+        "accepted",
+    ),
+    (
+        Call::Connect((b"P", b"OUT", None), None, (b"S", b"IN", None)),
+        "accepted",
+    ),
+];
 
 #[test]
-fn a_connection_is_between_ports_that_are_there(rt: HostRuntime) -> Result<(), PlanStop> {
-    let alloc = rt.alloc();
-    let mut net = begun(alloc)?;
-    for (from, output, to, input, wanted) in [
-        (b"X", Some(0), b"T", Some(0), "unknown process"),
-        (b"S", Some(0), b"X", Some(0), "unknown process"),
-        (b"S", Some(512), b"T", Some(0), "unknown port"),
-        (b"S", Some(0), b"T", Some(512), "unknown port"),
-        (b"S", Some(511), b"T", Some(511), "accepted"),
-        (b"S", Some(0), b"P", Some(0), "unknown port"),
-        (b"P", Some(0), b"S", Some(0), "unknown port"),
-        (b"S", Some(0), b"P", None, "accepted"),
-        (b"P", None, b"S", None, "accepted"),
-    ] {
-        let made = connect(&mut net, alloc, (from, b"OUT"), output, (to, b"IN"), input);
-        assert_eq!(rt; told(&made), wanted);
-    }
-    Ok(())
+fn a_connection_is_between_ports_that_are_there(rt: HostRuntime) {
+    check_begun(&rt, rt.alloc(), PORTS);
 }
 
-#[test]
-fn a_connection_is_from_an_output_to_a_stream(rt: HostRuntime) -> Result<(), PlanStop> {
-    let alloc = rt.alloc();
-    let mut net = begun(alloc)?;
-    for (out, into, wanted) in [
-        (b"NONE".as_slice(), b"IN".as_slice(), "unknown port"),
-        (b"IN", b"IN", "unknown port"),
-        (b"OUT", b"OUT", "unknown port"),
-        (b"OUT", b"SIZE", "needs a text"),
-        (b"OUT", b"IN", "accepted"),
-    ] {
-        let made = connect(&mut net, alloc, (b"S", out), None, (b"T", into), None);
-        assert_eq!(rt; told(&made), wanted);
-    }
-    Ok(())
-}
+const STREAMS: &[Row] = &[
+    (
+        Call::Connect((b"S", b"NONE", None), None, (b"T", b"IN", None)),
+        "unknown port",
+    ),
+    (
+        Call::Connect((b"S", b"IN", None), None, (b"T", b"IN", None)),
+        "unknown port",
+    ),
+    (
+        Call::Connect((b"S", b"OUT", None), None, (b"T", b"OUT", None)),
+        "unknown port",
+    ),
+    (
+        Call::Connect((b"S", b"OUT", None), None, (b"T", b"SIZE", None)),
+        "needs a text",
+    ),
+    (
+        Call::Connect((b"S", b"OUT", None), None, (b"T", b"IN", None)),
+        "accepted",
+    ),
+];
 
 #[test]
-fn a_capacity_is_from_1_to_4096_and_stays(rt: HostRuntime) -> Result<(), PlanStop> {
-    let alloc = rt.alloc();
-    let mut net = begun(alloc)?;
-    for (output, capacity, input, wanted) in [
-        (0, Some(0), 0, "capacity"),
-        (0, Some(4097), 0, "capacity"),
-        (0, Some(4096), 0, "accepted"),
-        (1, Some(1), 1, "accepted"),
-        (2, Some(4095), 0, "capacity"),
-        (2, Some(4096), 0, "accepted"),
-        (3, None, 0, "accepted"),
-        (4, None, 2, "accepted"),
-        (5, Some(7), 2, "accepted"),
-        (6, Some(8), 2, "capacity"),
-    ] {
-        let made = join(&mut net, alloc, output, capacity, input);
-        assert_eq!(rt; told(&made), wanted);
-    }
-    Ok(())
+fn a_connection_is_from_an_output_to_a_stream(rt: HostRuntime) {
+    check_begun(&rt, rt.alloc(), STREAMS);
 }
 
-#[test]
-fn an_output_is_connected_once(rt: HostRuntime) -> Result<(), PlanStop> {
-    let alloc = rt.alloc();
-    let mut net = begun(alloc)?;
-    for (output, input, wanted) in [
-        (0, 0, "accepted"),
-        (0, 1, "port taken"),
-        (0, 0, "port taken"),
-        (1, 0, "accepted"),
-    ] {
-        let made = join(&mut net, alloc, output, None, input);
-        assert_eq!(rt; told(&made), wanted);
-    }
-    Ok(())
+// A connection from an element of S to one of T: the elements and the capacity, and what it comes to.
+type Joined = (u32, Option<u32>, u32, &'static str);
+
+fn join(
+    rt: &impl Abort,
+    net: &mut PlanBuilder,
+    alloc: Global,
+    output: u32,
+    capacity: Option<u32>,
+    input: u32,
+) -> Result<(), PlanStop> {
+    let out = (b"S".as_slice(), b"OUT".as_slice(), Some(output));
+    let into = (b"T".as_slice(), b"IN".as_slice(), Some(input));
+    connect(rt, net, alloc, out, capacity, into)
 }
 
+fn check_join(rt: &impl Abort, net: &mut PlanBuilder, alloc: Global, row: &Joined) {
+    let (output, capacity, input, wanted) = *row;
+    let made = join(rt, net, alloc, output, capacity, input);
+    comes_to(rt, made, wanted);
+}
+
+fn check_joins(rt: &impl Abort, net: &mut PlanBuilder, alloc: Global, rows: &[Joined]) {
+    for row in rows {
+        check_join(rt, net, alloc, row);
+    }
+}
+
+fn check_joined(rt: &impl Abort, alloc: Global, rows: &[Joined]) {
+    let mut net = made(rt, alloc, BEGUN);
+    check_joins(rt, &mut net, alloc, rows);
+}
+
+const CAPACITIES: &[Joined] = &[
+    (0, Some(0), 0, "capacity"),
+    (0, Some(4097), 0, "capacity"),
+    (0, Some(4096), 0, "accepted"),
+    (1, Some(1), 1, "accepted"),
+    (2, Some(4095), 0, "capacity"),
+    (2, Some(4096), 0, "accepted"),
+    (3, None, 0, "accepted"),
+    (4, None, 2, "accepted"),
+    (5, Some(7), 2, "accepted"),
+    (6, Some(8), 2, "capacity"),
+];
+
 #[test]
-fn a_network_has_512_connections(rt: HostRuntime) -> Result<(), PlanStop> {
-    let alloc = rt.alloc();
-    let mut net = begun(alloc)?;
+fn a_capacity_is_from_1_to_4096_and_stays(rt: HostRuntime) {
+    check_joined(&rt, rt.alloc(), CAPACITIES);
+}
+
+const OUTPUTS: &[Joined] = &[
+    (0, None, 0, "accepted"),
+    (0, None, 1, "port taken"),
+    (0, None, 0, "port taken"),
+    (1, None, 0, "accepted"),
+];
+
+#[test]
+fn an_output_is_connected_once(rt: HostRuntime) {
+    check_joined(&rt, rt.alloc(), OUTPUTS);
+}
+
+const LAST: &[Row] = &[
+    (
+        Call::Connect((b"P", b"OUT", None), None, (b"Q", b"IN", None)),
+        "too many connections",
+    ),
+    (
+        Call::Connect((b"P", b"OUT", None), None, (b"T", b"IN", None)),
+        "accepted",
+    ),
+];
+
+fn join_element(rt: &impl Abort, net: &mut PlanBuilder, alloc: Global, element: u32) {
+    let made = join(rt, net, alloc, element, None, element);
+    accepted(rt, made, element);
+}
+
+fn join_elements(rt: &impl Abort, net: &mut PlanBuilder, alloc: Global) {
     for element in 0..512 {
-        let made = join(&mut net, alloc, element, None, element);
-        assert_eq!(rt; told(&made), "accepted", "at {element}");
+        join_element(rt, net, alloc, element);
     }
-    for (to, wanted) in [(b"Q", "too many connections"), (b"T", "accepted")] {
-        let made = connect(&mut net, alloc, (b"P", b"OUT"), None, (to, b"IN"), None);
-        assert_eq!(rt; told(&made), wanted);
-    }
-    Ok(())
+}
+
+#[test]
+fn a_network_has_512_connections(rt: HostRuntime) {
+    let mut net = made(&rt, rt.alloc(), BEGUN);
+    join_elements(&rt, &mut net, rt.alloc());
+    check(&rt, &mut net, rt.alloc(), LAST);
 }

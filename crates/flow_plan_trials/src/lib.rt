@@ -8,6 +8,8 @@ mod automatic;
 #[cfg(test)]
 mod calls;
 #[cfg(test)]
+mod checks;
+#[cfg(test)]
 mod connections;
 #[cfg(test)]
 mod kinds;

@@ -1,31 +1,36 @@
 // Processes that are refused, and their neighbours.
-use crate::calls::{begun, empty, told};
-use flow_net::PlanStop;
+use crate::calls::{Call, Row, accepted, check_begun, comes_to, empty};
+use flow_net::PlanBuilder;
+use std::process::Abort;
+
+const NAMES: &[Row] = &[
+    (Call::Process(b"S", b"Pass"), "same name"),
+    (Call::Process(b"U", b"None"), "unknown kind"),
+    (Call::Process(b"S", b"None"), "same name"),
+    (Call::Process(b"U", b"Pass"), "accepted"),
+    (Call::Process(b"s", b"Pass"), "accepted"),
+];
 
 #[test]
-fn a_process_has_a_new_name_and_a_known_kind(rt: HostRuntime) -> Result<(), PlanStop> {
-    let mut net = begun(rt.alloc())?;
-    for (name, kind, wanted) in [
-        (b"S", b"Pass", "same name"),
-        (b"U", b"None", "unknown kind"),
-        (b"S", b"None", "same name"),
-        (b"U", b"Pass", "accepted"),
-        (b"s", b"Pass", "accepted"),
-    ] {
-        let made = net.process(name, kind);
-        assert_eq!(rt; told(&made), wanted);
+fn a_process_has_a_new_name_and_a_known_kind(rt: HostRuntime) {
+    check_begun(&rt, rt.alloc(), NAMES);
+}
+
+fn begin(rt: &impl Abort, net: &mut PlanBuilder, number: u8) {
+    let made = net.process(&[number], b"Pass");
+    accepted(rt, made, u32::from(number));
+}
+
+fn begin_all(rt: &impl Abort, net: &mut PlanBuilder) {
+    for number in 0..128u8 {
+        begin(rt, net, number);
     }
-    Ok(())
 }
 
 #[test]
-fn a_network_has_128_processes(rt: HostRuntime) -> Result<(), PlanStop> {
-    let mut net = empty(rt.alloc())?;
-    for number in 0..128u8 {
-        let made = net.process(&[number], b"Pass");
-        assert_eq!(rt; told(&made), "accepted", "at {number}");
-    }
+fn a_network_has_128_processes(rt: HostRuntime) {
+    let mut net = empty(&rt, rt.alloc());
+    begin_all(&rt, &mut net);
     let made = net.process(b"last", b"Pass");
-    assert_eq!(rt; told(&made), "too many processes");
-    Ok(())
+    comes_to(&rt, made, "too many processes");
 }
