@@ -22,3 +22,6 @@ pub mod Quiet
 pub mod Spacing
 pub mod Seated
 pub mod Slots
+pub mod Refilling
+pub mod Closing
+pub mod Shutting

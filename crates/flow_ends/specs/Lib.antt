@@ -9,3 +9,7 @@ pub mod Views
 pub mod Pending
 pub mod Plays
 pub mod Workers
+pub mod Opening
+pub mod Rooms
+pub mod Shut
+pub mod Still

@@ -9,8 +9,13 @@ mod floor;
 mod layout;
 mod packets;
 mod plays;
+mod refill;
+mod rooms;
+mod shut;
 mod steps;
+mod still;
 mod tells;
 
 pub use board::{Lawful, Slot, View};
 pub use floor::{Floor, Held, Worker};
+pub use still::no_process_moves_once_a_worker_has_read_zero;

@@ -1,0 +1,90 @@
+//! How a floor is taken apart.
+ghost use Rattle.std.specs.Prelude.{◌≡◌, ℕ, ◌<◌, ◌≤◌, length, true, vec_capacity, slice_index_or, false};
+ghost use Rattle.std.specs.Mem.Slots.{slots_items, slots_filled, slots_len, IsFull};
+ghost use Rattle.flow_limits.specs.declared.TheConstants.{PROCESS_LIMIT};
+ghost use Rattle.flow_ring.specs.Spaced.{ranked};
+ghost use Rattle.flow_floor.specs.Shut.{ListsStarved, starves, listed};
+ghost use Rattle.flow_ends.specs.Places.{word_count};
+ghost use Rattle.flow_ends.specs.Shut.{HasBodies, BodiesIn};
+
+use crate::board::Slot;
+use crate::layout::Layout;
+use atomic_table::Closed;
+use flow_component::Component;
+use flow_machine::Body;
+use std::alloc::Global;
+
+const DONE: u64 = 4;
+
+const DONE_POKED: u64 = 6;
+
+/// Takes the bodies out of the first slots.
+fn take_bodies<K: Component>(
+    closed: &mut Closed<Slot<K>, Global>,
+    count: usize,
+    mut bodies: Vec<Body<K>>,
+) -> Vec<Body<K>>
+    requires full { IsFull closed.old.slots }
+    requires stocked { HasBodies count (slots_items closed.old.slots) }
+    requires range { count ≤ slots_len closed.old.slots }
+    requires room { (length bodies.items ≡ 0) × (count ≤ vec_capacity bodies) }
+    ensures bodies { BodiesIn count (slots_items closed.old.slots) result.items }
+    ensures same { (slots_items closed.new.slots ≡ slots_items closed.old.slots) × (slots_len closed.new.slots ≡ slots_len closed.old.slots) }
+    ensures words { closed.new.words ≡ closed.old.words }
+    ensures gone { (k : ℕ) → k < count → slice_index_or (slots_filled closed.new.slots) k false ≡ false }
+    ensures left { (k : ℕ) → count ≤ k → k < slots_len closed.old.slots → slice_index_or (slots_filled closed.new.slots) k false ≡ true }
+{
+    for p in 0..count {
+        let slot = closed.take(p);
+        let Slot::Body(body) = slot else {
+            unreachable!()
+        };
+        bodies.push_reserved(body);
+    }
+    bodies
+}
+
+/// A process with this word is done, and not over. One that is ready isn't starved: a floor may be paused.
+fn starves<K: Component>(word: u64, body: &Body<K>) -> bool
+    ensures { result ≡ starves word body.now.process.stage }
+{
+    if word == DONE || word == DONE_POKED {
+        !body.stage().is_over()
+    } else {
+        false
+    }
+}
+
+/// Lists the process, if it is to be listed.
+fn with_starved(mut starved: Vec<u32>, process: u32, is: bool) -> Vec<u32>
+    requires room { length starved.items < vec_capacity starved }
+    ensures items { result.items ≡ listed starved.items process is }
+    ensures room { vec_capacity result ≡ vec_capacity starved }
+{
+    if is {
+        starved.push_reserved(process);
+    }
+    starved
+}
+
+/// The processes that are done and not over.
+fn list_starved<K: Component>(
+    closed: &Closed<Slot<K>, Global>,
+    layout: &Layout,
+    bodies: &[Body<K>],
+    mut starved: Vec<u32>,
+) -> Vec<u32>
+    requires full { IsFull closed.now.words }
+    requires bodies { length bodies.now ≡ layout.now.processes }
+    requires range { slots_len closed.now.words ≡ word_count layout.now.processes layout.now.connections }
+    requires few { length bodies.now ≤ PROCESS_LIMIT }
+    requires room { (length starved.items ≡ 0) × (length bodies.now ≤ vec_capacity starved) }
+    ensures { ListsStarved (ranked (slots_items closed.now.words)) bodies.now (length bodies.now) result.items }
+{
+    for process in 0..bodies.len() {
+        let word = closed.word(layout.process_word(process));
+        let is = starves(word, &bodies[process]);
+        starved = with_starved(starved, process as u32, is);
+    }
+    starved
+}
