@@ -3,7 +3,7 @@ use Rattle.std.proofs.lemmas.List.{length-map}
 use Rattle.std.specs.Prelude.{not, ◌||◌}
 use Rattle.flow_limits.specs.declared.TheConstants.{RUN_LIMIT, WORKER_LIMIT}
 use Rattle.std.proofs.lemmas.Bool.Decides.{nat_tests}
-use Rattle.std.proofs.Common.{◌≡◌, ℕ, zero, suc, ◌+◌, ◌<◌, nat_eq, cond, Bool, true, false, All, List, [], ◌∷◌, length, arith, map, get_or, refl, ap, sym, subst, ◌∙◌, Some, None, slice_get, ◌⊎◌, inl, inr, Contains}
+use Rattle.std.proofs.Common.{◌≡◌, ℕ, zero, suc, ◌+◌, ◌<◌, ◌≤◌, nat_eq, cond, Bool, true, false, All, List, [], ◌∷◌, length, arith, map, get_or, refl, ap, sym, subst, ◌∙◌, Some, None, slice_get, ◌⊎◌, inl, inr, Contains}
 use lib.ListN.{get_elem?}
 use mathlib.Core.Option.{some}
 use Rattle.atomic_table.specs.Table.{Final, Seen}
@@ -238,14 +238,14 @@ module _ {K : Type 0} (rules : Rules K) (start : NetValue K) where
 
   -- Where some seat has read 0, nobody has anything to do.
   pub still-at-zero : (s : St K) (r : Law rules start s) (j : ℕ) (v : View K) → get_elem? s.views j ≡ some v → v.read_zero ≡ true → IsAllStill s.words s.views r.beside.now
-  still-at-zero s r j v at zero = record {
+  still-at-zero s r j v at once = record {
     idle = λ i u there. none-held-at-zero rules start s r live i u there;
     still = λ q b there. by q b there (free-at-zero rules start s r live q b there);
     told = told-at-zero rules start s r live;
   }
     where
       live : get_or s.words (live_rank P (length caps)) 0 ≡ 0
-      live = (r.wakes.each j v at).zero zero
+      live = (r.wakes.each j v at).zero once
 
       done : (q : ℕ) (b : BodyValue K) → IsDoneWord (get_or s.words q 0) → IsRetired b → IsStill r.beside.now b ⊎ (IsDoneWord (get_or s.words q 0) × IsUnset b)
       done q b is (inl told) = inl (over-still r.beside.now.channels b b.process.stage refl told.0)

@@ -55,9 +55,9 @@ returns-clause-channel g c = λ k rests. (
     let sends = c.senders.ensures.word ∙ ap senders_in (sym word) ∙ rests.senders in
     let took : number ≡ k.takes = count-is (slot.Count number) number k.takes refl (some-injective (slot.Count number) (slot.Count k.takes) (sym c.take_number-takes.ensures.number ∙ (λ j. get_elem? (same1.0 j) (at.takes j)) ∙ rests.lies.takes)) in
     let same = ap (λ x. x.takes) c.restart.ensures ∙ took in
-    let holds : HoldsPackets l.processes l.capacities.items (slots_items c.take_number-takes.new.closed.slots) c.args.connection c.restart.new.channel.takes k.packets =
+    let holds : HoldsPackets l.processes l.capacities.items (slots_items c.take_number-takes.new.closed.slots) c.args.connection c.restart.new.self.takes k.packets =
     ((λ i low. (λ j. get_elem? ((same2.0 ∙ same1.0) j) (place_slot l.processes l.capacities.items c.args.connection (same j + i))) ∙ rests.lies.cells i low), omega (arith, rests.level, rests.size)) in
-    refilled l.processes l.capacities.items (ranked words) (slots_items c.args.closed.now.slots) c.args.connection c.senders.result number c.args.channel.now c.restart.new.channel c.take_packets.new.channel k
+    refilled l.processes l.capacities.items (ranked words) (slots_items c.args.closed.now.slots) c.args.connection c.senders.result number c.args.channel.now c.restart.new.self c.take_packets.new.channel k
     rests c.requires.empty.1 sends took c.restart.ensures (c.take_packets.ensures.packets k.packets holds))
 
 pub returns-clause-left : goal.returns-clause-left

@@ -28,7 +28,7 @@ low-of : (g : _) (c : After-cell-cell g) → c.loop-i.i < get_or c.args.layout.n
 low-of g c = omega (arith, c.loop-i-test.true, c.capacity-i-end.ensures, c.requires.size)
 
 here-of : (g : _) (c : After-cell-cell g) → c.cell-cell.result ≡ place_slot c.args.layout.now.processes c.args.layout.now.capacities.items c.args.connection (c.args.channel.now.takes + c.loop-i.i)
-here-of g c = let l = c.args.layout.now in c.cell-cell.ensures ∙ ap (λ t. place_slot l.processes l.capacities.items c.args.connection (t + c.loop-i.i)) c.takes-oldest.ensures
+here-of g c = subst (λ t. c.cell-cell.result ≡ place_slot c.args.layout.now.processes c.args.layout.now.capacities.items c.args.connection (t + c.loop-i.i)) c.takes-oldest.ensures c.cell-cell.ensures
 
 pub take-slot-requires : goal.take-slot-requires
 take-slot-requires g c =
