@@ -31,9 +31,11 @@ use Rattle.flow_machine.proofs.JoinPieces.{joins-pieces}
 use Rattle.flow_model.specs.Wires.{Wires}
 use Rattle.flow_model.proofs.Lists.{map-found}
 use Rattle.flow_ring.specs.declared.TheConstants.{FIELD}
+use Rattle.flow_ring.specs.Spaced.{ranked}
 use Rattle.flow_ring.specs.Words.{senders_in}
 use Rattle.flow_ring.proofs.Words.{senders-of}
 use Rattle.flow_floor.specs.Made.{numbered}
+use Rattle.flow_floor.specs.Rule.{in_order}
 use Rattle.flow_floor.specs.Waking.{IsWiredAs, IsDoneWord, IsRetired, AllRetired}
 use Rattle.flow_floor.specs.Shut.{IsShut, ListsStarved, starves}
 use Rattle.flow_floor.specs.Still.{IsStill}
@@ -45,7 +47,7 @@ use Rattle.flow_ends.specs.declared.board.Slot.TheVariants as slot
 use Rattle.flow_ends.specs.declared.board.View.{View}
 use Rattle.flow_ends.specs.Ends.{capacities_of}
 use Rattle.flow_ends.specs.Places.{live_rank, slot_count}
-use Rattle.flow_ends.specs.Rule.{Law}
+use Rattle.flow_ends.specs.Rule.{Law, TableLaw}
 use Rattle.flow_ends.specs.Still.{IsAllStill}
 use Rattle.flow_ends.specs.Opening.{emptied}
 use Rattle.flow_ends.specs.Shut.{HasBodies, BodiesIn, RestsAs, EachRests, ChannelsIn, AreEmpty}
@@ -236,6 +238,10 @@ module _ {K : Type 0} (rules : Rules K) (start : NetValue K) where
       thought p b there (inl parked) = c.thought zero_read p b there parked
       thought p b there (inr over) = (over-still c.now.channels b b.process.stage refl over).0
 
+  -- The end of the table, whose words lie apart, is that of its words in their order.
+  pub final-ranked : (id : ℕ) (v : View K) (ws : List ℕ) (xs : List (Slot K)) → Final (Seen (TableLaw rules start) id v) ws xs → Final (Seen (Law rules start) id v) (ranked ws) xs
+  final-ranked id v ws xs (s, seen, words, deep, homes) = (in_order s, seen, ap ranked words, deep, homes)
+
   -- Where some seat has read 0, nobody has anything to do.
   pub still-at-zero : (s : St K) (r : Law rules start s) (j : ℕ) (v : View K) → get_elem? s.views j ≡ some v → v.read_zero ≡ true → IsAllStill s.words s.views r.beside.now
   still-at-zero s r j v at once = record {
@@ -267,3 +273,12 @@ emptied-empty ks = record { sizes = sizes ks; empty = empty ks }
     empty [] i d low = absurd (omega (arith, low))
     empty (k ∷ ks) zero d low = refl
     empty (k ∷ ks) (suc i) d low = empty ks i d (omega (arith, low))
+
+module _ {K : Type 0} where
+  -- Connections lie so wherever the numbers, the words and the slots are the same.
+  pub each-same : (n n' : ℕ) (capacities capacities' ws ws' : List ℕ) (xs xs' : List (Slot K)) → n ≡ n' → capacities ≡ capacities' → ws ≡ ws' → xs ≡ xs' → EachRests n capacities ws xs → EachRests n' capacities' ws' xs'
+  each-same n n' capacities capacities' ws ws' xs xs' count sizes words slots = subst (λ (z : (ℕ × List ℕ) × (List ℕ × List (Slot K))). EachRests z.0.0 z.0.1 z.1.0 z.1.1) (λ j. ((count j, sizes j), (words j, slots j)))
+
+  -- These are the channels as which they lie there, wherever that is so.
+  pub channels-same : (n n' : ℕ) (capacities capacities' ws ws' : List ℕ) (xs xs' : List (Slot K)) (ks : List ChannelShown) → n ≡ n' → capacities ≡ capacities' → ws ≡ ws' → xs ≡ xs' → ChannelsIn n capacities ws xs ks → ChannelsIn n' capacities' ws' xs' ks
+  channels-same n n' capacities capacities' ws ws' xs xs' ks count sizes words slots = subst (λ (z : (ℕ × List ℕ) × (List ℕ × List (Slot K))). ChannelsIn z.0.0 z.0.1 z.1.0 z.1.1 ks) (λ j. ((count j, sizes j), (words j, slots j)))

@@ -25,3 +25,6 @@ pub mod Slots
 pub mod Refilling
 pub mod Closing
 pub mod Shutting
+pub mod Rolls
+pub mod Holding
+pub mod Gathering

@@ -234,9 +234,3 @@ empty-there capacities channels empty c k is = (none channels c empty.empty is, 
     size [] c is = absurd (cc)
     size (x ∷ xs) zero is = ap (λ (y : ChannelShown). y.capacity) (let e : k ≡ x = cc in e)
     size (x ∷ xs) (suc c) is = size xs c is
-
--- The word that was read there is the one that stands there.
-pub word-there : (ws : List ℕ) (i x : ℕ) → get_elem? ws i ≡ some x → get_or ws i 0 ≡ x
-word-there [] i x is = absurd (cc)
-word-there (w ∷ ws) zero x is = some-injective w x is
-word-there (w ∷ ws) (suc i) x is = word-there ws i x is

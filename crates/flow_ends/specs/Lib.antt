@@ -13,3 +13,6 @@ pub mod Opening
 pub mod Rooms
 pub mod Shut
 pub mod Still
+pub mod Looks
+pub mod Crew
+pub mod Floors

@@ -1,17 +1,24 @@
 //! How a floor is taken apart.
-ghost use Rattle.std.specs.Prelude.{◌≡◌, ℕ, ◌<◌, ◌≤◌, length, true, vec_capacity, slice_index_or, false};
+ghost use Rattle.std.specs.Prelude.{◌≡◌, ℕ, ◌<◌, ◌≤◌, [], All, length, true, vec_capacity, slice_index_or, false};
 ghost use Rattle.std.specs.Mem.Slots.{slots_items, slots_filled, slots_len, IsFull};
-ghost use Rattle.flow_limits.specs.declared.TheConstants.{PROCESS_LIMIT};
+ghost use Rattle.flow_limits.specs.declared.TheConstants.{PROCESS_LIMIT, WORKER_LIMIT};
+ghost use Rattle.flow_machine.specs.Quiet.{AllUnset, EndedAreTold, IsQuietNet};
 ghost use Rattle.flow_ring.specs.Spaced.{ranked};
-ghost use Rattle.flow_floor.specs.Shut.{ListsStarved, starves, listed};
+ghost use Rattle.flow_floor.specs.Shut.{IsShut, ListsStarved, starves, listed};
+ghost use Rattle.flow_ends.specs.Crew.{made_by};
+ghost use Rattle.flow_ends.specs.Floors.{opened_net, HasReadZero, SomeReadZero, HasRoomsFor, IsCrewOf, IsIdleAt, turns_of};
 ghost use Rattle.flow_ends.specs.Places.{word_count};
 ghost use Rattle.flow_ends.specs.Shut.{HasBodies, BodiesIn};
+ghost use Rattle.flow_ends.specs.Workers.{view};
 
 use crate::board::Slot;
+use crate::floor::{Floor, Worker};
 use crate::layout::Layout;
+use crate::refill::refill_all;
+use crate::rooms::Rooms;
 use atomic_table::Closed;
 use flow_component::Component;
-use flow_machine::Body;
+use flow_machine::{Body, Closed as Shut, Parts};
 use std::alloc::Global;
 
 const DONE: u64 = 4;
@@ -87,4 +94,95 @@ fn list_starved<K: Component>(
         starved = with_starved(starved, process as u32, is);
     }
     starved
+}
+
+impl<K: Component> Floor<K> {
+    /// The net after all turns, from a worker that took in all others, and the processes that found no memory.
+    fn shut(self, worker: Worker<K>, rooms: Rooms<K>) -> Shut<K>
+        requires worker { IsIdleAt self worker }
+        requires all { (view worker).shares ≡ WORKER_LIMIT }
+        requires rooms { HasRoomsFor self rooms }
+        ensures net { IsShut K.rules (opened_net self) (turns_of worker) result.net }
+        ensures starved { AllUnset result.net result.starved.items }
+        ensures ended_are_told { HasReadZero worker → EndedAreTold result.net }
+        ensures quiet { HasReadZero worker → result.starved.items ≡ [] → IsQuietNet result.net }
+    {
+        let Worker { seat, woken: _ } = worker;
+        let Floor {
+            table,
+            layout,
+            plan,
+        } = self;
+        let Rooms {
+            bodies,
+            channels,
+            starved,
+        } = rooms;
+        let mut closed = table.close_with(seat);
+        let bodies = take_bodies(&mut closed, layout.processes, bodies);
+        let starved = list_starved(&closed, &layout, bodies.as_slice(), starved);
+        let channels = refill_all(&mut closed, &layout, channels);
+        closed.free();
+        let parts = Parts {
+            connections: plan,
+            bodies,
+            channels,
+        };
+        Shut {
+            net: parts.join(),
+            starved,
+        }
+    }
+
+    /// Puts the net together again, whether or not the workers read 0.
+    fn rejoin(self, workers: Vec<Worker<K>>, rooms: Rooms<K>) -> Shut<K>
+        requires crew { IsCrewOf self workers.items }
+        requires rooms { HasRoomsFor self rooms }
+        ensures net { IsShut K.rules (opened_net self) (made_by workers.items) result.net }
+        ensures starved { AllUnset result.net result.starved.items }
+        ensures ended_are_told { SomeReadZero workers.items → EndedAreTold result.net }
+        ensures quiet { SomeReadZero workers.items → result.starved.items ≡ [] → IsQuietNet result.net }
+    {
+        let mut workers = workers;
+        let Some(last) = workers.pop() else {
+            unreachable!()
+        };
+        let all = self.gather(last, workers);
+        self.shut(all, rooms)
+    }
+
+    /// Puts the net together again, from all workers, each of which read 0. The opened net goes on to it by their turns. It is quiet where no process
+    /// found no memory, and has no live component in a process that ended or failed. Takes no memory: the room for this was taken when the floor was opened.
+    pub fn close(self, workers: Vec<Worker<K>>, rooms: Rooms<K>) -> Shut<K>
+        requires crew { IsCrewOf self workers.items }
+        requires rooms { HasRoomsFor self rooms }
+        requires zero { All HasReadZero workers.items }
+        ensures net { IsShut K.rules (opened_net self) (made_by workers.items) result.net }
+        ensures starved { AllUnset result.net result.starved.items }
+        ensures ended_are_told { EndedAreTold result.net }
+        ensures quiet { result.starved.items ≡ [] → IsQuietNet result.net }
+    {
+        self.rejoin(workers, rooms)
+    }
+
+    /// Puts the net together again, from all workers, whether or not they read 0. The opened net goes on to it by their turns, and it may be opened again.
+    /// It is quiet where some worker read 0 and no process found no memory. Takes no memory.
+    pub fn pause(self, workers: Vec<Worker<K>>, rooms: Rooms<K>) -> Shut<K>
+        requires crew { IsCrewOf self workers.items }
+        requires rooms { HasRoomsFor self rooms }
+        ensures net { IsShut K.rules (opened_net self) (made_by workers.items) result.net }
+        ensures starved { AllUnset result.net result.starved.items }
+        ensures ended_are_told { SomeReadZero workers.items → EndedAreTold result.net }
+        ensures quiet { SomeReadZero workers.items → result.starved.items ≡ [] → IsQuietNet result.net }
+    {
+        self.rejoin(workers, rooms)
+    }
+
+    /// Gives the run up, and spends all that the floor holds. The workers needn't have read 0. Takes no memory.
+    pub fn discard(self, workers: Vec<Worker<K>>, rooms: Rooms<K>)
+        requires crew { IsCrewOf self workers.items }
+        requires rooms { HasRoomsFor self rooms }
+    {
+        self.rejoin(workers, rooms).discard();
+    }
 }

@@ -5,12 +5,13 @@ use Rattle.std.specs.Mem.Slots.{slots_items, slots_filled, slots_counts}
 use Rattle.flow_ring.specs.Spaced.{ranked}
 use Rattle.flow_ring.specs.Words.{senders_in}
 use Rattle.flow_ring.proofs.Spaced.{ranked-at}
+use Rattle.flow_floor.proofs.Shutting.{word-at}
 use Rattle.flow_ends.specs.declared.board.Slot.TheVariants as slot
 use Rattle.flow_ends.specs.Places.{puts, takes, level_rank, puts_slot, takes_slot, place_slot}
 use Rattle.flow_ends.specs.Shut.{HasItsCells, HoldsPackets, TakesCells}
 use Rattle.flow_ends.proofs.Cells.{own-within}
 use Rattle.flow_ends.proofs.Slots.{count-is}
-use Rattle.flow_ends.proofs.Refilling.{cells-left, left-next, refilled, word-there}
+use Rattle.flow_ends.proofs.Refilling.{cells-left, left-next, refilled}
 use Rattle.flow_ends.proofs.refill.refill.Goals as goal
 use Rattle.flow_ends.proofs.refill.refill.Goals.{After-take_number-takes}
 
@@ -51,7 +52,7 @@ returns-clause-channel g c = λ k rests. (
     let same1 = c.take_number-puts.ensures.same in
     let same2 = c.take_number-takes.ensures.same in
     let number = c.take_number-takes.result in
-    let word : get_or (ranked words) (level_rank l.processes c.args.connection) 0 ≡ c.word-word.result = ranked-at words (level_rank l.processes c.args.connection) ∙ ap (λ n. get_or words n 0) (sym c.level_word.ensures) ∙ word-there words c.level_word.result c.word-word.result c.word-word.ensures in
+    let word : get_or (ranked words) (level_rank l.processes c.args.connection) 0 ≡ c.word-word.result = ranked-at words (level_rank l.processes c.args.connection) ∙ ap (λ n. get_or words n 0) (sym c.level_word.ensures) ∙ word-at words c.level_word.result c.word-word.result c.word-word.ensures in
     let sends = c.senders.ensures.word ∙ ap senders_in (sym word) ∙ rests.senders in
     let took : number ≡ k.takes = count-is (slot.Count number) number k.takes refl (some-injective (slot.Count number) (slot.Count k.takes) (sym c.take_number-takes.ensures.number ∙ (λ j. get_elem? (same1.0 j) (at.takes j)) ∙ rests.lies.takes)) in
     let same = ap (λ x. x.takes) c.restart.ensures ∙ took in
