@@ -3,14 +3,12 @@ use Rattle.std.proofs.Common.{◌≡◌, ◌≢◌, ℕ, zero, suc, ◌+◌, ◌
 use Rattle.std.proofs.lemmas.Nat.{div-add-mod', mod-mul-add, mod_below}
 use mathlib.Core.Logic.{dite}
 use native.Mathlib.Decide.{ℕ_discrete, dec_lt}
-use mathlib.Core.Option.{some, some-injective}
-use lib.ListN.{get_elem?}
 use Rattle.flow_packet.specs.Tree.{Tree}
 use Rattle.flow_model.specs.Stands.{ChannelShown}
 use Rattle.flow_ends.specs.Places.{Slot as Place, body, puts, takes, cell, IsSlot, puts_slot, takes_slot, cell_slot, place_slot, slot_at, slot_count, cells_before}
 use Rattle.flow_ends.specs.declared.board.Slot.{Slot}
 use Rattle.flow_ends.specs.Shut.{packet_list, with_found, RestsAs, AreEmpty, HasItsCells, IsFullAt, IsGoneAt, TakesCells, IsFrom, AreLeft}
-use Rattle.flow_ends.proofs.Rounds.{cells-apart, cells-within, mod-apart, slots-within}
+use Rattle.flow_ends.proofs.Rounds.{cells-apart, slots-within}
 use Rattle.flow_ends.proofs.Cells.{place-else}
 
 -- Of no packets one takes none.

@@ -1,4 +1,4 @@
-use Rattle.std.proofs.Common.{◌≡◌, ◌+◌, ◌<◌, ◌≤◌, ℕ, List, Some, length, slice_get, arith, refl, sym, ap, ◌∙◌, subst, map, set, length-set, inl, inr}
+use Rattle.std.proofs.Common.{◌≡◌, ℕ, List, Some, length, slice_get, arith, refl, sym, ap, ◌∙◌, subst, map, set, length-set, inl, inr}
 use Rattle.std.proofs.lemmas.List.{length-map}
 use Rattle.std.proofs.lemmas.Option.{slice_get-get_or}
 use Rattle.std.specs.Mem.Slots.{slots_items, slots_filled}

@@ -1,8 +1,8 @@
-use Rattle.std.proofs.Common.{◌≡◌, ◌+◌, ◌<◌, ◌≤◌, ◌++◌, Some, None, false, get_or, set, slice_get, length, length-append, take, arith, refl, sym, ap, ◌∙◌, subst}
+use Rattle.std.proofs.Common.{◌≡◌, ◌+◌, ◌<◌, ◌++◌, false, get_or, set, slice_get, length, length-append, arith, refl, sym, ap, ◌∙◌, subst}
 use Rattle.std.proofs.lemmas.List.{take_all}
 use mathlib.Core.Option.{some-injective}
 use lib.ListN.{get_elem?}
-use Rattle.std.specs.Mem.Slots.{slots_items, slots_filled, slots_counts}
+use Rattle.std.specs.Mem.Slots.{slots_filled, slots_counts}
 use Rattle.flow_ends.specs.declared.board.Slot.TheVariants as slot
 use Rattle.flow_ends.specs.Places.{place_slot}
 use Rattle.flow_ends.specs.Shut.{packet_list}
@@ -39,8 +39,7 @@ take-slot-requires g c =
     let place = place_slot l.processes l.capacities.items c.args.connection (oldest + c.loop-i.i) in
     let low = low-of g at in
     let here = here-of g at in
-    let within = own-within l.processes l.capacities.items c.args.connection place (omega (arith, c.requires.range, l.counted)) (place-own l.processes l.capacities.items c.args.connection (oldest + c.loop-i.i) (omega (arith, low))) in
-    (
+    let within = own-within l.processes l.capacities.items c.args.connection place (omega (arith, c.requires.range, l.counted)) (place-own l.processes l.capacities.items c.args.connection (oldest + c.loop-i.i) (omega (arith, low))) in (
       omega (arith, here, within, inv.long, c.requires.deep),
       ap (λ x. get_or (slots_filled c.loop-i.closed.slots) x false) here ∙ inv.taking.left c.loop-i.i (omega arith) low,
     )
@@ -89,8 +88,8 @@ loop-i-preserved g c =
       few = omega (arith, ap (λ k. length k.packets) c.put_found.ensures, length-append old.packets (packet_list found), list-few found, inv.few);
       kept = kept-more c.args.channel.now old new found inv.kept c.put_found.ensures;
       packets = λ ps holds. (
-        let is : found ≡ slice_get ps i = cell-is c.take-slot.result found (slice_get ps i) c.in-Cell.is (some-injective c.take-slot.result (slot.Cell (slice_get ps i)) (sym c.take-slot.ensures.value ∙ (λ j. get_elem? (inv.same j) (here j)) ∙ holds.0 i low)) in
-        ap (λ k. k.packets) c.put_found.ensures ∙ (λ j. inv.packets ps holds j ++ packet_list (is j)) ∙ sym (take-more ps i));
+          let is : found ≡ slice_get ps i = cell-is c.take-slot.result found (slice_get ps i) c.in-Cell.is (some-injective c.take-slot.result (slot.Cell (slice_get ps i)) (sym c.take-slot.ensures.value ∙ (λ j. get_elem? (inv.same j) (here j)) ∙ holds.0 i low)) in
+          ap (λ k. k.packets) c.put_found.ensures ∙ (λ j. inv.packets ps holds j ++ packet_list (is j)) ∙ sym (take-more ps i));
     }
 
 pub returns-clause-packets : goal.returns-clause-packets
