@@ -27,4 +27,3 @@ pub mod Closing
 pub mod Shutting
 pub mod Rolls
 pub mod Holding
-pub mod Gathering

@@ -6,7 +6,6 @@
 
 mod board;
 mod floor;
-mod gather;
 mod held;
 mod layout;
 mod packets;

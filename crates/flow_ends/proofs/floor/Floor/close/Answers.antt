@@ -1,4 +1,4 @@
-use Rattle.flow_ends.proofs.Gathering.{zero-each}
+use Rattle.flow_ends.proofs.Crews.{zero-each}
 use Rattle.flow_ends.proofs.floor.Floor.close.Goals as goal
 
 pub returns-clause-ended_are_told : goal.returns-clause-ended_are_told
