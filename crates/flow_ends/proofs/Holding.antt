@@ -1,6 +1,7 @@
 -- What a worker has that holds a body or wakes others.
-use Rattle.std.proofs.Common.{◌≡◌, ℕ, ◌-◌, ◌<◌, true, false, cond, nat_eq, List, [], ◌∷◌, drop, Option, Some, None, ap, sym, subst, ◌∙◌, arith, inl, inr}
+use Rattle.std.proofs.Common.{◌≡◌, ℕ, ◌-◌, ◌<◌, true, false, cond, nat_eq, List, [], ◌∷◌, ◌++◌, drop, length, Option, Some, None, ap, sym, subst, ◌∙◌, arith, append-nil, inl, inr}
 use Rattle.std.proofs.lemmas.Bool.Decides.{nat_tests}
+use Rattle.std.proofs.lemmas.List.{drop_all}
 use Rattle.atomic_table.specs.Seated.{TableId}
 use Rattle.flow_component.specs.Laws.{Rules}
 use Rattle.flow_model.specs.Stages.{IsOverStage}
@@ -98,3 +99,14 @@ module _ {K : Type 0} (rules : Rules K) (z : TableId) (n : ℕ) where
   -- The same of a worker that is this one.
   pub waking-as : (w u : Worker K) (h : Held K) (notes : List ℕ) → w ≡ u → IsWaking rules z n u h notes → IsWaking rules z n w h notes
   waking-as w u h notes is = subst (λ (x : Worker K). IsWaking rules z n x h notes) (sym is)
+
+  -- No other process is noted behind all that are noted.
+  pub none-behind : (w : Worker K) (h : Held K) (notes : List ℕ) → IsWaking rules z n w h notes → drop (length notes) w.seat.me.0.noted ≡ []
+  none-behind w h notes q = ap (drop (length notes)) q.noted ∙ drop_all (length notes) notes (omega arith)
+
+  -- So they are the first that are noted, and once they are woken the worker owes nothing.
+  pub all-noted : (w : Worker K) (h : Held K) (notes : List ℕ) → IsWaking rules z n w h notes → IsWaking rules z n w h (notes ++ drop (length notes) w.seat.me.0.noted)
+  all-noted w h notes q = subst (IsWaking rules z n w h) (sym (append-nil notes) ∙ ap (λ (xs : List ℕ). notes ++ xs) (sym (none-behind w h notes q))) q
+
+  pub all-woken : (w w' : Worker K) (h : Held K) (notes : List ℕ) → IsWaking rules z n w h notes → IsWaking rules z n w' h (drop (length notes) w.seat.me.0.noted) → IsHeldBy rules z n w' h
+  all-woken w w' h notes q after = waking-none w' h (subst (IsWaking rules z n w' h) (none-behind w h notes q) after)

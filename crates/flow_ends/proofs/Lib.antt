@@ -27,3 +27,4 @@ pub mod Closing
 pub mod Shutting
 pub mod Rolls
 pub mod Holding
+pub mod Crews

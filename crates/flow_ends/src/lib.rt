@@ -5,6 +5,7 @@
 #![tactic(auto)]
 
 mod board;
+mod crew;
 mod floor;
 mod held;
 mod layout;

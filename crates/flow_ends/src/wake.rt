@@ -32,7 +32,8 @@ fn is_followed(senders: &[Sender], i: usize) -> bool
 }
 
 impl<K: Component> Floor<K> {
-    /// Counts live up by one, and pokes the process, which is the first that is noted. A parked one is ready then, and that uses the token up. Otherwise live is counted down again.
+    /// Counts live up by one, and pokes the process, which is the first that is noted. A parked one is ready then, and that uses the token up. Otherwise
+    /// live is counted down again.
     fn rouse(&self, worker: &mut Worker<K>, held: &Held<K>, process: usize)
         requires waking { IsWakingAt K.rules self.now worker.old held.now (process ∷ drop 1 (view worker.old).noted) }
         requires below { process < process_count self.now }
@@ -55,8 +56,8 @@ impl<K: Component> Floor<K> {
         }
     }
 
-    /// Wakes the process, which is the first that is noted. One that is ready, poked or done needs nothing. One that is held has its token, and is poked without another. Only one that is
-    /// parked, or was so between the two steps, is counted first.
+    /// Wakes the process, which is the first that is noted. One that is ready, poked or done needs nothing. One that is held has its token, and is poked
+    /// without another. Only one that is parked, or was so between the two steps, is counted first.
     pub(crate) fn wake(&self, worker: &mut Worker<K>, held: &Held<K>, process: usize)
         requires waking { IsWakingAt K.rules self.now worker.old held.now (process ∷ drop 1 (view worker.old).noted) }
         requires below { process < process_count self.now }
@@ -81,7 +82,8 @@ impl<K: Component> Floor<K> {
         self.rouse(worker, held, process);
     }
 
-    /// Wakes the processes of these senders, which are the first that are noted, in order. One that has several side by side is noted once.
+    /// Wakes the processes of these senders, which are the first that are noted, in order. One that has several side by side is noted once. Others may be
+    /// noted behind them, as a worker does that was at both ends of its process's connections.
     pub(crate) fn wake_all(&self, worker: &mut Worker<K>, held: &Held<K>, senders: &[Sender])
         requires waking { IsWakingAt K.rules self.now worker.old held.now (sending_processes senders.now ++ drop (length (sending_processes senders.now)) (view worker.old).noted) }
         requires below { All (λ (s : Sender). s.process < process_count self.now) senders.now }
