@@ -22,6 +22,9 @@ pub mod Quiet
 pub mod Spacing
 pub mod Seated
 pub mod Slots
+pub mod Refilling
+pub mod Closing
+pub mod Shutting
 pub mod Rolls
 pub mod Holding
 pub mod Further

@@ -15,8 +15,10 @@ use Rattle.flow_floor.specs.Wired.{IsWiredIn}
 use Rattle.flow_ends.specs.declared.floor.Floor.{Floor}
 use Rattle.flow_ends.specs.declared.floor.Held.{Held}
 use Rattle.flow_ends.specs.declared.floor.Worker.{Worker}
+use Rattle.flow_ends.specs.declared.rooms.Rooms.{Rooms}
 use Rattle.flow_ends.specs.Crew.{IsCrew}
 use Rattle.flow_ends.specs.Ends.{capacities_of}
+use Rattle.flow_ends.specs.Rooms.{HasRooms}
 use Rattle.flow_ends.specs.Views.{Move, stamping}
 use Rattle.flow_ends.specs.Workers.{view, woken_of as listed_by, IsDone, IsHeldBy, IsIdle, IsSameSeat, IsSeated, IsWaking, SeenBlocks}
 
@@ -32,6 +34,10 @@ module _ {K : Type 0} where
   -- How many connections it has.
   abbrev pub connection_count : Floor K → ℕ
   connection_count f = f.layout.connections
+
+  -- There is room for the bodies of the floor and for a list of its processes, and its connections are there, without their packets.
+  abbrev pub HasRoomsFor : Floor K → Rooms K → Type 0
+  HasRoomsFor f r = HasRooms (process_count f) (opened_net f).channels r
 
   -- The turns that the worker made: the stamp and the process of each.
   abbrev pub turns_of : Worker K → List (ℕ × ℕ)

@@ -9,6 +9,10 @@ pub mod Views
 pub mod Pending
 pub mod Plays
 pub mod Workers
+pub mod Opening
+pub mod Rooms
+pub mod Shut
+pub mod Still
 pub mod Looks
 pub mod Crew
 pub mod Floors

@@ -19,6 +19,7 @@ pub fn pack(level: u32, senders: u32) -> u64
 }
 
 /// Where the words and slots of a floor lie that has so many processes, and connections with these capacities.
+#[derive(Drop)]
 pub struct Layout {
     pub processes: usize,
     pub connections: usize,

@@ -11,10 +11,16 @@ mod held;
 mod layout;
 mod packets;
 mod plays;
+mod refill;
 mod roll;
+mod rooms;
+mod shut;
 mod steps;
+mod still;
 mod tells;
 mod wake;
 
 pub use board::{Lawful, Slot, View};
 pub use floor::{Claim, Floor, Held, Turned, Worker};
+pub use rooms::Rooms;
+pub use still::no_process_moves_once_a_worker_has_read_zero;
