@@ -22,3 +22,5 @@ pub mod Quiet
 pub mod Spacing
 pub mod Seated
 pub mod Slots
+pub mod Openings
+pub mod Filling

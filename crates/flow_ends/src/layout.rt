@@ -19,6 +19,7 @@ pub fn pack(level: u32, senders: u32) -> u64
 }
 
 /// Where the words and slots of a floor lie that has so many processes, and connections with these capacities.
+#[derive(Drop)]
 pub struct Layout {
     pub processes: usize,
     pub connections: usize,
@@ -113,7 +114,7 @@ impl Layout {
     }
 
     /// How many cells all connections have.
-    fn cells(&self) -> usize
+    pub(crate) fn cells(&self) -> usize
         ensures { result ≡ cells_before self.now.capacities.items self.now.connections }
     {
         self.firsts[self.connections]

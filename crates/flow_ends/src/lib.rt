@@ -4,13 +4,20 @@
 //! rule of `specs/Rule.antt`, which each kind of step is proved to keep.
 #![tactic(auto)]
 
+mod back;
 mod board;
 mod floor;
 mod layout;
+mod lays;
 mod packets;
 mod plays;
+mod rooms;
 mod steps;
 mod tells;
+mod words;
 
 pub use board::{Lawful, Slot, View};
+pub use back::join_again;
+pub use lays::first_slots;
+pub use words::first_words;
 pub use floor::{Floor, Held, Worker};

@@ -1,0 +1,4 @@
+use Rattle.flow_ends.proofs.lays.put_puts.Goals as goal
+
+pub loop-c-preserved : goal.loop-c-preserved
+loop-c-preserved g c = ?
