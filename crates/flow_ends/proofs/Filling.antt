@@ -1,30 +1,41 @@
 -- The slots with which a floor begins.
-use Rattle.std.proofs.Common.{◌≡◌, ◌≢◌, ℕ, zero, suc, ◌+◌, ◌%◌, ◌<◌, ◌≤◌, List, [], ◌∷◌, ◌++◌, length, map, take, drop, get_or, set, replicate, sym, refl, ap, ◌∙◌, subst, arith, Some, None, slice_get, length-append, length-take-le}
+use Rattle.std.proofs.Common.{◌≡◌, ◌≢◌, ℕ, zero, suc, ◌+◌, ◌-◌, ◌%◌, ◌<◌, ◌≤◌, List, [], ◌∷◌, ◌++◌, length, map, take, drop, get_or, set, replicate, sym, refl, ap, ◌∙◌, subst, arith, Some, None, slice_get, length-append, length-take-le}
 use Rattle.std.proofs.lemmas.List.{length-map, length-replicate}
 use Rattle.std.proofs.lemmas.Nat.{mod_below}
 use mathlib.Core.Logic.{dite}
-use mathlib.Core.Option.{some}
+use mathlib.Core.Option.{some, some-injective}
 use native.Mathlib.Decide.{ℕ_discrete}
 use lib.ListN.{get_elem?}
-use Rattle.atomic_table.proofs.Lists.{set_here, set_else}
+use Rattle.atomic_table.proofs.Lists.{at_index, set_here, set_else}
 use Rattle.flow_packet.specs.Tree.{Tree}
 use Rattle.flow_model.specs.Stands.{ChannelShown}
 use Rattle.flow_machine.specs.Values.{BodyValue}
-use Rattle.flow_floor.proofs.Seats.{some_Some, get-within}
+use Rattle.flow_floor.proofs.Seats.{some_Some, at_inside, get-within}
 use Rattle.flow_floor.proofs.Openings.{at-front, at-back}
 use Rattle.flow_ends.specs.Places.{puts_slot, takes_slot, cell_slot, place_slot, slot_count, cells_before}
 use Rattle.flow_ends.specs.declared.board.Slot.{Slot}
 use Rattle.flow_ends.specs.declared.board.Slot.TheVariants as slot
 use Rattle.flow_ends.specs.Opening.{AreSameButCells, HasCells, HasPackets, IsIn}
-use Rattle.flow_ends.specs.Laying.{AreLaid, AreSameBelow}
+use Rattle.flow_ends.specs.Laying.{AreLaid, AreLaidFrom, AreSameBelow, AreSameFrom}
 use Rattle.flow_ends.proofs.Rounds.{cells-apart, cells-within}
-use Rattle.flow_ends.proofs.Cells.{get-over, own-apart, own-within, place-own, place-else}
+use Rattle.flow_ends.proofs.Cells.{own-within, place-own, place-else, push-assoc-all}
 
 module _ {A : Type 0} where
   -- All of a list that are taken are the list.
   pub take-all : (xs : List A) → take (length xs) xs ≡ xs
   take-all [] = refl
   take-all (x ∷ xs) = ap (λ (ys : List A). x ∷ ys) (take-all xs)
+
+  pub take-few : (xs : List A) (j : ℕ) → length (take j xs) ≤ j
+  take-few [] zero = omega arith
+  take-few [] (suc j) = omega arith
+  take-few (x ∷ xs) zero = omega arith
+  take-few (x ∷ xs) (suc j) = let r = take-few xs j in omega (arith, r)
+
+  -- None is dropped.
+  pub drop-none : (xs : List A) → drop 0 xs ≡ xs
+  drop-none [] = refl
+  drop-none (x ∷ xs) = refl
 
   -- One more is taken, and the others stay.
   pub get-taken : (xs : List A) (j : ℕ) (x : A) → slice_get xs j ≡ Some x → slice_get (take (suc j) xs) j ≡ Some x
@@ -78,11 +89,46 @@ module _ {A : Type 0} where
   part-more f (y ∷ ys) zero x is = ap (λ z. f z ∷ ys) (sym (some_Some y x is))
   part-more f (y ∷ ys) (suc c) x is = ap (λ (zs : List A). f y ∷ zs) (part-more f ys c x is)
 
+  pub part-long : (f : A → A) (xs : List A) (c : ℕ) → length (map f (take c xs) ++ drop c xs) ≡ length xs
+  part-long f [] zero = refl
+  part-long f [] (suc c) = refl
+  part-long f (x ∷ xs) zero = refl
+  part-long f (x ∷ xs) (suc c) = ap suc (part-long f xs c)
+
   pub part-all : (f : A → A) (xs : List A) (c : ℕ) → length xs ≤ c → map f (take c xs) ++ drop c xs ≡ map f xs
   part-all f [] zero long = refl
   part-all f [] (suc c) long = refl
   part-all f (x ∷ xs) zero long = absurd (omega (arith, long))
   part-all f (x ∷ xs) (suc c) long = ap (λ (zs : List A). f x ∷ zs) (part-all f xs c (omega (arith, long)))
+
+  -- The same from behind: one more of a list whose last ones were changed is what it was.
+  pub rest-at : (f : A → A) (xs : List A) (c : ℕ) (x : A) → slice_get xs c ≡ Some x → slice_get (take c xs ++ map f (drop c xs)) c ≡ Some (f x)
+  rest-at f [] c x is = absurd (cc)
+  rest-at f (y ∷ ys) zero x is = ap (λ z. Some (f z)) (some_Some y x is)
+  rest-at f (y ∷ ys) (suc c) x is = rest-at f ys c x is
+
+  pub rest-more : (f : A → A) (xs : List A) (c : ℕ) (x : A) → slice_get xs c ≡ Some x → set (take c xs ++ map f (drop c xs)) c x ≡ take (suc c) xs ++ map f (drop (suc c) xs)
+  rest-more f [] c x is = absurd (cc)
+  rest-more f (y ∷ ys) zero x is = ap (λ z. z ∷ map f ys) (sym (some_Some y x is))
+  rest-more f (y ∷ ys) (suc c) x is = ap (λ (zs : List A). y ∷ zs) (rest-more f ys c x is)
+
+  pub rest-long : (f : A → A) (xs : List A) (c : ℕ) → length (take c xs ++ map f (drop c xs)) ≡ length xs
+  rest-long f [] zero = refl
+  rest-long f [] (suc c) = refl
+  rest-long f (x ∷ xs) zero = ap suc (length-map xs f)
+  rest-long f (x ∷ xs) (suc c) = ap suc (rest-long f xs c)
+
+  pub rest-all : (f : A → A) (xs : List A) (c : ℕ) → length xs ≤ c → take c xs ++ map f (drop c xs) ≡ xs
+  rest-all f [] zero long = refl
+  rest-all f [] (suc c) long = refl
+  rest-all f (x ∷ xs) zero long = absurd (omega (arith, long))
+  rest-all f (x ∷ xs) (suc c) long = ap (λ (zs : List A). x ∷ zs) (rest-all f xs c (omega (arith, long)))
+
+  -- One more is taken behind the others.
+  pub take-next : (xs : List A) (c : ℕ) (x : A) → slice_get xs c ≡ Some x → take c xs ++ x ∷ [] ≡ take (suc c) xs
+  take-next [] c x is = absurd (cc)
+  take-next (y ∷ ys) zero x is = ap (λ z. z ∷ []) (sym (some_Some y x is))
+  take-next (y ∷ ys) (suc c) x is = ap (λ (zs : List A). y ∷ zs) (take-next ys c x is)
 
   -- Each of equal ones.
   pub at-each : (m i : ℕ) (x : A) → i < m → get_elem? (replicate m x) i ≡ some x
@@ -90,30 +136,88 @@ module _ {A : Type 0} where
   at-each (suc m) zero x low = refl
   at-each (suc m) (suc i) x low = at-each m i x (omega (arith, low))
 
+map-next : {A B : Type 0} (f : A → B) (xs : List A) (c : ℕ) (x : A) → slice_get xs c ≡ Some x → map f (take c xs) ++ f x ∷ [] ≡ map f (take (suc c) xs)
+map-next f [] c x is = absurd (cc)
+map-next f (y ∷ ys) zero x is = ap (λ z. f z ∷ []) (sym (some_Some y x is))
+map-next {A} {B} f (y ∷ ys) (suc c) x is = ap (λ (zs : List B). f y ∷ zs) (map-next f ys c x is)
+
+-- One more of a list goes behind what was put.
+pub put-more : {A B : Type 0} (f : A → B) (xs : List A) (c : ℕ) (x : A) (zs ys new : List B) → slice_get xs c ≡ Some x → ys ≡ zs ++ map f (take c xs) → new ≡ ys ++ f x ∷ [] → new ≡ zs ++ map f (take (c + 1) xs)
+put-more f xs c x zs ys new there is more =
+    more ∙ ap (λ us. us ++ f x ∷ []) is ∙ sym (push-assoc-all zs (map f (take c xs)) (f x ∷ [])) ∙ ap (λ us. zs ++ us) (map-next f xs c x there) ∙ ap (λ n. zs ++ map f (take n xs)) (let e : suc c ≡ c + 1 = omega arith in e)
+
+-- Parts that were put one behind another.
+pub regroup : {A : Type 0} (bs ps ts : List A) (x : A) (m n : ℕ) (none b p t all : List A) → none ≡ [] → b ≡ none ++ bs → p ≡ b ++ ps → t ≡ p ++ ts → all ≡ t ++ replicate m x → m ≡ n → all ≡ bs ++ (ps ++ (ts ++ replicate n x))
+regroup bs ps ts x m n none b p t all none_is b_is p_is t_is all_is m_is =
+    let b_all : b ≡ bs = b_is ∙ ap (λ zs. zs ++ bs) none_is in
+    let p_all : p ≡ bs ++ ps = p_is ∙ ap (λ zs. zs ++ ps) b_all in
+    let t_all : t ≡ (bs ++ ps) ++ ts = t_is ∙ ap (λ zs. zs ++ ts) p_all in
+    all_is ∙ (λ j. t_all j ++ replicate (m_is j) x) ∙ sym (push-assoc-all (bs ++ ps) ts (replicate n x)) ∙ sym (push-assoc-all bs ps (ts ++ replicate n x))
+
+-- One packet more was taken out of a connection.
+pub taken-more : (old now new : ChannelShown) (place : ℕ) → old.takes ≤ place → now ≡ record old { packets = drop (place - old.takes) old.packets; takes = place } → new ≡ record now { packets = drop 1 now.packets; takes = now.takes + 1 } → new ≡ record old { packets = drop (place + 1 - old.takes) old.packets; takes = place + 1 }
+taken-more old now new place low is taken =
+    let packets : drop 1 (drop (place - old.takes) old.packets) ≡ drop (place + 1 - old.takes) old.packets =
+    drop-one old.packets (place - old.takes) ∙ ap (λ n. drop n old.packets) (let e : suc (place - old.takes) ≡ place + 1 - old.takes = omega (arith, low) in e) in
+    taken ∙ (λ j. record (is j) { packets = drop 1 (is j).packets; takes = (is j).takes + 1 }) ∙ (λ j. record old { packets = packets j; takes = place + 1 })
+
+-- One packet more was put back.
+pub put-next : (k now new : ChannelShown) (place : ℕ) (packet : Tree) → k.takes ≤ place → slice_get k.packets (place - k.takes) ≡ Some packet → now ≡ record k { packets = take (place - k.takes) k.packets; puts = place } → new ≡ record now { packets = now.packets ++ packet ∷ []; puts = now.puts + 1 }
+    → new ≡ record k { packets = take (place + 1 - k.takes) k.packets; puts = place + 1 }
+put-next k now new place packet low there is put =
+    let packets : take (place - k.takes) k.packets ++ packet ∷ [] ≡ take (place + 1 - k.takes) k.packets =
+    take-next k.packets (place - k.takes) packet there ∙ ap (λ n. take n k.packets) (let e : suc (place - k.takes) ≡ place + 1 - k.takes = omega (arith, low) in e) in
+    put ∙ (λ j. record (is j) { packets = (is j).packets ++ packet ∷ []; puts = (is j).puts + 1 }) ∙ (λ j. record k { packets = packets j; puts = place + 1 })
+
+-- What was found in a slot is what lies there.
+pub found-in : {K : Type 0} (xs : List (Slot K)) (at place : ℕ) (x y : Slot K) → at ≡ place → x ≡ get_or xs at x → IsIn xs place y → x ≡ y
+found-in xs at place x y same is there = some-injective x y (sym (at_index xs at x (omega (arith, same, at_inside xs place y there)) is) ∙ ap (get_elem? xs) same ∙ there)
+
+body-in : {K : Type 0} → BodyValue K → Slot K → BodyValue K
+body-in d (slot.Body b) = b
+body-in d slot.Vacant = d
+body-in d (slot.Count n) = d
+body-in d (slot.Cell packet) = d
+
+-- A slot has one body.
+pub body-is : {K : Type 0} (s : Slot K) (b d : BodyValue K) → s ≡ slot.Body b → s ≡ slot.Body d → b ≡ d
+unfolding body-in
+body-is s b d e f = ap (body-in b) (sym e ∙ f)
+
 module _ {K : Type 0} (n : ℕ) (capacities : List ℕ) where
   -- The cell of a place of connection c.
   abbrev cell : ℕ → ℕ → ℕ
   cell c place = place_slot n capacities c place
 
   -- The cell of the next packet is empty.
-  pub empty-cell : (xs : List (Slot K)) (c first j : ℕ) (packets : List Tree) → j < get_or capacities c 0 → HasCells n capacities xs c first (take j packets) → IsIn xs (cell c (first + j)) (slot.Cell None)
-  empty-cell xs c first j packets low cells = cells j low ∙ ap (λ z. some (slot.Cell z)) (get-untaken packets j)
+  pub empty-cell : (xs : List (Slot K)) (c first place : ℕ) (packets : List Tree) → first ≤ place → place - first < get_or capacities c 0 → HasCells n capacities xs c first (take (place - first) packets) → IsIn xs (cell c place) (slot.Cell None)
+  empty-cell xs c first place packets low below cells = ap (λ z. get_elem? xs (cell c z)) (let e : place ≡ first + (place - first) = omega (arith, low) in e) ∙ cells (place - first) below ∙ ap (λ z. some (slot.Cell z)) (get-untaken packets (place - first))
 
   -- The next packet lies in its cell.
-  pub cells-next : (xs ys : List (Slot K)) (c first j : ℕ) (packets : List Tree) (packet : Tree) → c < length capacities → length xs ≡ slot_count n capacities → j < get_or capacities c 0 → slice_get packets j ≡ Some packet → ys ≡ set xs (cell c (first + j)) (slot.Cell (Some packet))
-      → HasCells n capacities xs c first (take j packets) → HasCells n capacities ys c first (take (j + 1) packets)
-  cells-next xs ys c first j packets packet low deep below there is cells i i_below =
+  pub cells-next : (xs ys : List (Slot K)) (c first place : ℕ) (packets : List Tree) (packet : Tree) → c < length capacities → length xs ≡ slot_count n capacities → first ≤ place → place - first < get_or capacities c 0 → slice_get packets (place - first) ≡ Some packet → ys ≡ set xs (cell c place) (slot.Cell (Some packet))
+      → HasCells n capacities xs c first (take (place - first) packets) → HasCells n capacities ys c first (take (place + 1 - first) packets)
+  cells-next xs ys c first place packets packet low deep high below there is cells i i_below =
       let new : Slot K = slot.Cell (Some packet) in
-      let place = cell c (first + j) in
-      let more : suc j ≡ j + 1 = omega arith in
+      let j : ℕ = place - first in
+      let at : place ≡ first + j = omega (arith, high) in
+      let more : suc j ≡ place + 1 - first = omega (arith, high) in
       ap (λ zs. get_elem? zs (cell c (first + i))) is
       ∙ dite (ℕ_discrete i j)
-          (λ e. ap (λ z. get_elem? (set xs place new) (cell c (first + z))) e
-          ∙ set_here xs place new (omega (arith, deep, own-within n capacities c place low (place-own n capacities c (first + j) (omega (arith, below)))))
+          (λ e. ap (λ z. get_elem? (set xs (cell c place) new) (cell c z)) (let same : first + i ≡ place = omega (arith, e, at) in same)
+          ∙ set_here xs (cell c place) new (omega (arith, deep, own-within n capacities c (cell c place) low (place-own n capacities c place (omega (arith, below)))))
           ∙ ap (λ z. some (slot.Cell z)) (sym (ap (λ z. slice_get (take z packets) i) (sym more) ∙ ap (slice_get (take (suc j) packets)) e ∙ get-taken packets j packet there)))
-          (λ other. set_else xs place (cell c (first + i)) new (place-else n capacities c first i j i_below below other)
+          (λ other. set_else xs (cell c place) (cell c (first + i)) new (λ e. place-else n capacities c first i j i_below below other (e ∙ ap (cell c) at))
           ∙ cells i i_below
           ∙ ap (λ z. some (slot.Cell z)) (get-taken-else packets i j other ∙ ap (λ z. slice_get (take z packets) i) more))
+
+  -- The cell of a packet changes, and those of the packets behind it stay.
+  pub cells-left : (xs ys : List (Slot K)) (c first place : ℕ) (packets : List Tree) (new : Slot K) → first ≤ place → place - first < get_or capacities c 0 → ys ≡ set xs (cell c place) new
+      → ((j : ℕ) → place ≤ first + j → j < get_or capacities c 0 → IsIn xs (cell c (first + j)) (slot.Cell (slice_get packets j))) → (j : ℕ) → place + 1 ≤ first + j → j < get_or capacities c 0 → IsIn ys (cell c (first + j)) (slot.Cell (slice_get packets j))
+  cells-left xs ys c first place packets new low below is cells j high j_below =
+      let at : place ≡ first + (place - first) = omega (arith, low) in
+      ap (λ zs. get_elem? zs (cell c (first + j))) is
+      ∙ set_else xs (cell c place) (cell c (first + j)) new (λ e. place-else n capacities c first j (place - first) j_below below (λ same. omega (arith, same, high, low)) (e ∙ ap (cell c) at))
+      ∙ cells j (omega (arith, high)) j_below
 
   -- Only a cell of the connection changes.
   pub same-next : (xs ys zs : List (Slot K)) (c place : ℕ) (new : Slot K) → 0 < get_or capacities c 0 → zs ≡ set ys (cell c place) new → AreSameButCells n capacities c xs ys → AreSameButCells n capacities c xs zs
@@ -165,6 +269,14 @@ module _ {K : Type 0} (n : ℕ) (capacities : List ℕ) where
   pub bodies-kept : (xs ys : List (Slot K)) (c : ℕ) → AreSameButCells n capacities c xs ys → AreSameBelow n xs ys
   bodies-kept xs ys c same p low = same p (λ i below e. omega (arith, e, low))
 
+  -- Slots that changed among the bodies alone have the connections still.
+  pub laid-below : (channels : List ChannelShown) (xs ys : List (Slot K)) → AreSameFrom n xs ys → AreLaidFrom n capacities channels 0 xs → AreLaidFrom n capacities channels 0 ys
+  laid-below channels xs ys same laid c k at high = let has = laid c k at high in record {
+    puts = same (puts_slot n c) (omega arith) ∙ has.puts;
+    takes = same (takes_slot n (length capacities) c) (omega arith) ∙ has.takes;
+    cells = λ i below. same (cell c (k.takes + i)) (omega arith) ∙ has.cells i below;
+  }
+
   -- Slots that have the bodies, the numbers of puts, those of takes, and empty cells.
   module _ (bodies : List (BodyValue K)) (channels : List ChannelShown) where
     abbrev of_body : BodyValue K → Slot K
@@ -215,3 +327,9 @@ module _ {K : Type 0} (n : ℕ) (capacities : List ℕ) where
             behind count long (cells_before capacities c + within) (cells-within capacities c within (mod_below (k.takes + i) size (omega (arith, below)))));
       },
     )
+
+-- The connections lie as they did, whoever tells how many bodies there are and what the capacities are.
+pub laid-again : {K : Type 0} (n m : ℕ) (capacities sizes : List ℕ) (channels : List ChannelShown) (xs ys : List (Slot K)) → n ≡ m → capacities ≡ sizes → AreSameFrom n xs ys → ((c : ℕ) (k : ChannelShown) → slice_get channels c ≡ Some k → HasPackets m sizes xs c k k.packets)
+    → AreLaidFrom n capacities channels 0 ys
+laid-again {K} n m capacities sizes channels xs ys n_is is same laid = laid-below n capacities channels xs ys same
+    (λ c k at high. subst (λ (z : ℕ × List ℕ). HasPackets z.0 z.1 xs c k k.packets) (λ j. (sym n_is j, sym is j)) (laid c k at))

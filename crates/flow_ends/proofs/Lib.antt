@@ -24,3 +24,4 @@ pub mod Seated
 pub mod Slots
 pub mod Openings
 pub mod Filling
+pub mod Starting

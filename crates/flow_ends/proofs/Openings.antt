@@ -1,5 +1,5 @@
 -- The words with which a floor begins.
-use Rattle.std.proofs.Common.{◌≡◌, ◌≢◌, ℕ, ◌+◌, ◌<◌, ◌≤◌, ◌⊎◌, inl, inr, List, [], ◌∷◌, length, get_or, set, sym, ap, ◌∙◌, arith, Some, slice_get, length-set, get_or-set_same, get_or-set_other}
+use Rattle.std.proofs.Common.{◌≡◌, ◌≢◌, ℕ, zero, suc, ◌+◌, ◌<◌, ◌≤◌, ◌⊎◌, inl, inr, List, [], ◌∷◌, length, get_or, set, replicate, sym, refl, ap, ◌∙◌, arith, Some, slice_get, length-set, get_or-set_same, get_or-set_other}
 use Rattle.flow_model.proofs.Lists.{same_or_not}
 use Rattle.flow_model.specs.Stands.{ChannelShown}
 use Rattle.flow_machine.specs.Values.{NetValue}
@@ -17,6 +17,12 @@ placed-same ws r v below = get_or-set_same ws (spaced r) v 0 below
 
 placed-else : (ws : List ℕ) (r q v : ℕ) → q ≢ r → get_or (set ws (spaced r) v) (spaced q) 0 ≡ get_or ws (spaced q) 0
 placed-else ws r q v other = get_or-set_other ws (spaced r) (spaced q) v 0 (λ e. other (omega (arith, e)))
+
+-- Each of many zeros is one.
+pub zero-each : (m i : ℕ) → get_or (replicate m 0) i 0 ≡ 0
+zero-each zero i = refl
+zero-each (suc m) zero = refl
+zero-each (suc m) (suc i) = zero-each m i
 
 -- One process more is ready.
 pub ready-more : (ws vs : List ℕ) (i : ℕ) → vs ≡ set ws (spaced i) 2 → spaced i < length ws → AreReady i ws → AreReady (i + 1) vs

@@ -5,7 +5,7 @@ use Rattle.flow_ends.specs.declared.rooms.Rooms.{Rooms}
 use Rattle.flow_ends.specs.Opening.{emptied}
 
 -- Rooms for the bodies of a net with n processes, and for a list of its processes; and these connections, out of which all packets were taken.
-pub record HasRooms {K : Type 0} (n : ℕ) (channels : List ChannelShown) (r : Rooms K) : Type 0 where
+pub record HasRooms {K : Type 0} (n : ℕ) (connections : List ChannelShown) (r : Rooms K) : Type 0 where
   pub bodies : (length r.bodies.items ≡ 0) × (n ≤ vec_capacity r.bodies)
-  pub channels : r.channels.items ≡ map emptied channels
+  pub channels : r.channels.items ≡ map emptied connections
   pub starved : (length r.starved.items ≡ 0) × (n ≤ vec_capacity r.starved)

@@ -45,12 +45,12 @@ fn take_back_bodies<K: Component>(
     bodies
 }
 
-/// Takes this many packets of a connection out of its cells again, the oldest first, and puts them into its channel, which is empty.
+/// Takes the packets of a connection out of its cells again, the oldest first, and puts them into its channel, which is empty, until so many were put.
 fn put_back<K: Component>(
     about: &Snapshot<Net<K>>,
     layout: &Layout,
     connection: usize,
-    count: u64,
+    puts: u64,
     channel: &mut Channel,
     slots: &mut Vec<Slot<K>>,
 )
@@ -58,7 +58,7 @@ fn put_back<K: Component>(
     requires capacities { layout.now.capacities.items ≡ capacities_of about.now.value }
     requires sound { AreSound about.now.value.channels }
     requires deep { length slots.old.items ≡ slot_count layout.now.processes layout.now.capacities.items }
-    requires count { (k : ChannelShown) → slice_get about.now.value.channels connection ≡ Some k → count ≡ length k.packets }
+    requires puts { (k : ChannelShown) → slice_get about.now.value.channels connection ≡ Some k → puts ≡ k.puts }
     requires empty { (k : ChannelShown) → slice_get about.now.value.channels connection ≡ Some k → channel.old ≡ record k { packets = []; puts = k.takes } }
     requires cells { (k : ChannelShown) → slice_get about.now.value.channels connection ≡ Some k → HasCells layout.now.processes layout.now.capacities.items slots.old.items connection k.takes k.packets }
     ensures channel { slice_get about.now.value.channels connection ≡ Some channel.new }
@@ -67,9 +67,9 @@ fn put_back<K: Component>(
 {
     let _ = about;
     let first = channel.takes();
-    for i in 0..count {
-        let place = layout.cell(connection, first + i);
-        let cell = mem::replace(&mut slots[place], Slot::Cell(None));
+    for place in first..puts {
+        let at = layout.cell(connection, place);
+        let cell = mem::replace(&mut slots[at], Slot::Cell(None));
         let Slot::Cell(found) = cell else {
             unreachable!()
         };
@@ -111,10 +111,10 @@ fn take_back<K: Component>(
 {
     let (_, place) = layout.end_slots(connection);
     let takes = number_in(slots, place);
-    let count = channel.puts() - takes;
+    let puts = channel.puts();
     let senders = channel.open_senders();
     channel.restart(senders, takes);
-    put_back(about, layout, connection, count, channel, slots);
+    put_back(about, layout, connection, puts, channel, slots);
 }
 
 /// Makes all connections again what they were.

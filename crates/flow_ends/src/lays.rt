@@ -61,7 +61,7 @@ fn put_cells<K: Component>(count: usize, mut slots: Vec<Slot<K>>) -> Vec<Slot<K>
     slots
 }
 
-/// Moves the packets of a connection into its cells, all of which are empty.
+/// Moves the packets of a connection into its cells, all of which are empty: a packet's place is the number of those that were put before it.
 fn lay_packets<K: Component>(
     layout: &Layout,
     connection: usize,
@@ -80,10 +80,11 @@ fn lay_packets<K: Component>(
     ensures deep { length slots.new.items ≡ length slots.old.items }
 {
     let first = channel.takes();
-    for i in 0..channel.level() {
-        let place = layout.cell(connection, first + i as u64);
+    let end = channel.puts();
+    for place in first..end {
+        let at = layout.cell(connection, place);
         let packet = channel.take();
-        let cell = mem::replace(&mut slots[place], Slot::Cell(Some(packet)));
+        let cell = mem::replace(&mut slots[at], Slot::Cell(Some(packet)));
         let Slot::Cell(found) = cell else {
             unreachable!()
         };

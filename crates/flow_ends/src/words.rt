@@ -15,10 +15,11 @@ const READY: u64 = 2;
 const FREE: u64 = 0;
 
 /// Lays the words of the processes, all of which are ready.
-fn lay_processes(layout: &Layout, words: &mut [u64])
-    requires wide { length words.old ≡ word_count layout.now.processes layout.now.connections }
-    ensures ready { AreReady layout.now.processes words.new }
-    ensures others { AreSameBut 0 layout.now.processes words.old words.new }
+fn lay_processes(layout: &Layout, words: &mut Vec<u64>)
+    requires wide { length words.old.items ≡ word_count layout.now.processes layout.now.connections }
+    ensures ready { AreReady layout.now.processes words.new.items }
+    ensures others { AreSameBut 0 layout.now.processes words.old.items words.new.items }
+    ensures wide { length words.new.items ≡ length words.old.items }
 {
     for process in 0..layout.processes {
         words[layout.process_word(process)] = READY;
@@ -26,13 +27,14 @@ fn lay_processes(layout: &Layout, words: &mut [u64])
 }
 
 /// Lays the level words.
-fn lay_levels<K: Component>(layout: &Layout, net: &Net<K>, words: &mut [u64])
+fn lay_levels<K: Component>(layout: &Layout, net: &Net<K>, words: &mut Vec<u64>)
     requires count { layout.now.connections ≡ length net.now.channels }
     requires few { length net.now.channels ≤ CONNECTION_LIMIT }
     requires sound { AreSound net.now.channels }
-    requires wide { length words.old ≡ word_count layout.now.processes layout.now.connections }
-    ensures levels { HaveLevels layout.now.processes net.now.channels layout.now.connections words.new }
-    ensures others { AreSameBut layout.now.processes (layout.now.processes + layout.now.connections) words.old words.new }
+    requires wide { length words.old.items ≡ word_count layout.now.processes layout.now.connections }
+    ensures levels { HaveLevels layout.now.processes net.now.channels layout.now.connections words.new.items }
+    ensures others { AreSameBut layout.now.processes (layout.now.processes + layout.now.connections) words.old.items words.new.items }
+    ensures wide { length words.new.items ≡ length words.old.items }
 {
     for connection in 0..layout.connections {
         let channel = net.channel(connection as u32);
