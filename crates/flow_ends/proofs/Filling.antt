@@ -173,77 +173,81 @@ put-next k now new place packet low there is put =
 pub found-in : {K : Type 0} (xs : List (Slot K)) (at place : ℕ) (x y : Slot K) → at ≡ place → x ≡ get_or xs at x → IsIn xs place y → x ≡ y
 found-in xs at place x y same is there = some-injective x y (sym (at_index xs at x (omega (arith, same, at_inside xs place y there)) is) ∙ ap (get_elem? xs) same ∙ there)
 
-body-in : {K : Type 0} → BodyValue K → Slot K → BodyValue K
-body-in d (slot.Body b) = b
-body-in d slot.Vacant = d
-body-in d (slot.Count n) = d
-body-in d (slot.Cell packet) = d
-
--- A slot has one body.
-pub body-is : {K : Type 0} (s : Slot K) (b d : BodyValue K) → s ≡ slot.Body b → s ≡ slot.Body d → b ≡ d
-unfolding body-in
-body-is s b d e f = ap (body-in b) (sym e ∙ f)
-
-module _ {K : Type 0} (n : ℕ) (capacities : List ℕ) where
+module _ (n : ℕ) (capacities : List ℕ) where
   -- The cell of a place of connection c.
   abbrev cell : ℕ → ℕ → ℕ
   cell c place = place_slot n capacities c place
 
-  -- The cell of the next packet is empty.
-  pub empty-cell : (xs : List (Slot K)) (c first place : ℕ) (packets : List Tree) → first ≤ place → place - first < get_or capacities c 0 → HasCells n capacities xs c first (take (place - first) packets) → IsIn xs (cell c place) (slot.Cell None)
-  empty-cell xs c first place packets low below cells = ap (λ z. get_elem? xs (cell c z)) (let e : place ≡ first + (place - first) = omega (arith, low) in e) ∙ cells (place - first) below ∙ ap (λ z. some (slot.Cell z)) (get-untaken packets (place - first))
-
-  -- The next packet lies in its cell.
-  pub cells-next : (xs ys : List (Slot K)) (c first place : ℕ) (packets : List Tree) (packet : Tree) → c < length capacities → length xs ≡ slot_count n capacities → first ≤ place → place - first < get_or capacities c 0 → slice_get packets (place - first) ≡ Some packet → ys ≡ set xs (cell c place) (slot.Cell (Some packet))
-      → HasCells n capacities xs c first (take (place - first) packets) → HasCells n capacities ys c first (take (place + 1 - first) packets)
-  cells-next xs ys c first place packets packet low deep high below there is cells i i_below =
-      let new : Slot K = slot.Cell (Some packet) in
-      let j : ℕ = place - first in
-      let at : place ≡ first + j = omega (arith, high) in
-      let more : suc j ≡ place + 1 - first = omega (arith, high) in
-      ap (λ zs. get_elem? zs (cell c (first + i))) is
-      ∙ dite (ℕ_discrete i j)
-          (λ e. ap (λ z. get_elem? (set xs (cell c place) new) (cell c z)) (let same : first + i ≡ place = omega (arith, e, at) in same)
-          ∙ set_here xs (cell c place) new (omega (arith, deep, own-within n capacities c (cell c place) low (place-own n capacities c place (omega (arith, below)))))
-          ∙ ap (λ z. some (slot.Cell z)) (sym (ap (λ z. slice_get (take z packets) i) (sym more) ∙ ap (slice_get (take (suc j) packets)) e ∙ get-taken packets j packet there)))
-          (λ other. set_else xs (cell c place) (cell c (first + i)) new (λ e. place-else n capacities c first i j i_below below other (e ∙ ap (cell c) at))
-          ∙ cells i i_below
-          ∙ ap (λ z. some (slot.Cell z)) (get-taken-else packets i j other ∙ ap (λ z. slice_get (take z packets) i) more))
-
-  -- The cell of a packet changes, and those of the packets behind it stay.
-  pub cells-left : (xs ys : List (Slot K)) (c first place : ℕ) (packets : List Tree) (new : Slot K) → first ≤ place → place - first < get_or capacities c 0 → ys ≡ set xs (cell c place) new
-      → ((j : ℕ) → place ≤ first + j → j < get_or capacities c 0 → IsIn xs (cell c (first + j)) (slot.Cell (slice_get packets j))) → (j : ℕ) → place + 1 ≤ first + j → j < get_or capacities c 0 → IsIn ys (cell c (first + j)) (slot.Cell (slice_get packets j))
-  cells-left xs ys c first place packets new low below is cells j high j_below =
-      let at : place ≡ first + (place - first) = omega (arith, low) in
-      ap (λ zs. get_elem? zs (cell c (first + j))) is
-      ∙ set_else xs (cell c place) (cell c (first + j)) new (λ e. place-else n capacities c first j (place - first) j_below below (λ same. omega (arith, same, high, low)) (e ∙ ap (cell c) at))
-      ∙ cells j (omega (arith, high)) j_below
-
-  -- Only a cell of the connection changes.
-  pub same-next : (xs ys zs : List (Slot K)) (c place : ℕ) (new : Slot K) → 0 < get_or capacities c 0 → zs ≡ set ys (cell c place) new → AreSameButCells n capacities c xs ys → AreSameButCells n capacities c xs zs
-  same-next xs ys zs c place new some_cell is same x out =
-      ap (λ us. get_elem? us x) is ∙ set_else ys (cell c place) x new (λ e. out (place % get_or capacities c 0) (mod_below place (get_or capacities c 0) some_cell) e) ∙ same x out
-
-  -- A number's slot is no cell, and neither is a body's.
+  -- A number's slot is no cell.
   puts-out : (c d i : ℕ) → d < length capacities → puts_slot n d ≡ cell_slot n capacities c i → ⊥
   puts-out c d i low e = omega (arith, low, e)
 
   takes-out : (c d i : ℕ) → d < length capacities → takes_slot n (length capacities) d ≡ cell_slot n capacities c i → ⊥
   takes-out c d i low e = omega (arith, low, e)
 
+-- What is put into slots of a body, and of a connection.
+module _ {K : Type 0} where
+  abbrev pub of_body : BodyValue K → Slot K
+  of_body b = slot.Body b
+
+  abbrev pub of_puts : ChannelShown → Slot K
+  of_puts k = slot.Count k.puts
+
+  abbrev pub of_takes : ChannelShown → Slot K
+  of_takes k = slot.Count k.takes
+
+  abbrev pub no_packet : Slot K
+  no_packet = slot.Cell None
+
+module _ {K : Type 0} (n : ℕ) (capacities : List ℕ) where
+  -- The cell of the next packet is empty.
+  pub empty-cell : (xs : List (Slot K)) (c first place : ℕ) (packets : List Tree) → first ≤ place → place - first < get_or capacities c 0 → HasCells n capacities xs c first (take (place - first) packets) → IsIn xs (cell n capacities c place) (slot.Cell None)
+  empty-cell xs c first place packets low below cells = ap (λ z. get_elem? xs (cell n capacities c z)) (let e : place ≡ first + (place - first) = omega (arith, low) in e) ∙ cells (place - first) below ∙ ap (λ z. some (slot.Cell z)) (get-untaken packets (place - first))
+
+  -- The next packet lies in its cell.
+  pub cells-next : (xs ys : List (Slot K)) (c first place : ℕ) (packets : List Tree) (packet : Tree) → c < length capacities → length xs ≡ slot_count n capacities → first ≤ place → place - first < get_or capacities c 0 → slice_get packets (place - first) ≡ Some packet → ys ≡ set xs (cell n capacities c place) (slot.Cell (Some packet))
+      → HasCells n capacities xs c first (take (place - first) packets) → HasCells n capacities ys c first (take (place + 1 - first) packets)
+  cells-next xs ys c first place packets packet low deep high below there is cells i i_below =
+      let new : Slot K = slot.Cell (Some packet) in
+      let j : ℕ = place - first in
+      let at : place ≡ first + j = omega (arith, high) in
+      let more : suc j ≡ place + 1 - first = omega (arith, high) in
+      ap (λ zs. get_elem? zs (cell n capacities c (first + i))) is
+      ∙ dite (ℕ_discrete i j)
+          (λ e. ap (λ z. get_elem? (set xs (cell n capacities c place) new) (cell n capacities c z)) (let same : first + i ≡ place = omega (arith, e, at) in same)
+          ∙ set_here xs (cell n capacities c place) new (omega (arith, deep, own-within n capacities c (cell n capacities c place) low (place-own n capacities c place (omega (arith, below)))))
+          ∙ ap (λ z. some (slot.Cell z)) (sym (ap (λ z. slice_get (take z packets) i) (sym more) ∙ ap (slice_get (take (suc j) packets)) e ∙ get-taken packets j packet there)))
+          (λ other. set_else xs (cell n capacities c place) (cell n capacities c (first + i)) new (λ e. place-else n capacities c first i j i_below below other (e ∙ ap (cell n capacities c) at))
+          ∙ cells i i_below
+          ∙ ap (λ z. some (slot.Cell z)) (get-taken-else packets i j other ∙ ap (λ z. slice_get (take z packets) i) more))
+
+  -- The cell of a packet changes, and those of the packets behind it stay.
+  pub cells-left : (xs ys : List (Slot K)) (c first place : ℕ) (packets : List Tree) (new : Slot K) → first ≤ place → place - first < get_or capacities c 0 → ys ≡ set xs (cell n capacities c place) new
+      → ((j : ℕ) → place ≤ first + j → j < get_or capacities c 0 → IsIn xs (cell n capacities c (first + j)) (slot.Cell (slice_get packets j))) → (j : ℕ) → place + 1 ≤ first + j → j < get_or capacities c 0 → IsIn ys (cell n capacities c (first + j)) (slot.Cell (slice_get packets j))
+  cells-left xs ys c first place packets new low below is cells j high j_below =
+      let at : place ≡ first + (place - first) = omega (arith, low) in
+      ap (λ zs. get_elem? zs (cell n capacities c (first + j))) is
+      ∙ set_else xs (cell n capacities c place) (cell n capacities c (first + j)) new (λ e. place-else n capacities c first j (place - first) j_below below (λ same. omega (arith, same, high, low)) (e ∙ ap (cell n capacities c) at))
+      ∙ cells j (omega (arith, high)) j_below
+
+  -- Only a cell of the connection changes.
+  pub same-next : (xs ys zs : List (Slot K)) (c place : ℕ) (new : Slot K) → 0 < get_or capacities c 0 → zs ≡ set ys (cell n capacities c place) new → AreSameButCells n capacities c xs ys → AreSameButCells n capacities c xs zs
+  same-next xs ys zs c place new some_cell is same x out =
+      ap (λ us. get_elem? us x) is ∙ set_else ys (cell n capacities c place) x new (λ e. out (place % get_or capacities c 0) (mod_below place (get_or capacities c 0) some_cell) e) ∙ same x out
+
   -- A connection whose cells don't change lies as it did.
   pub packets-kept : (xs ys : List (Slot K)) (c d : ℕ) (k : ChannelShown) (packets : List Tree) → c < length capacities → d < length capacities → d ≢ c → AreSameButCells n capacities c xs ys → HasPackets n capacities xs d k packets → HasPackets n capacities ys d k packets
   packets-kept xs ys c d k packets c_low d_low other same has = record {
-    puts = same (puts_slot n d) (λ i below e. puts-out c d i d_low e) ∙ has.puts;
-    takes = same (takes_slot n (length capacities) d) (λ i below e. takes-out c d i d_low e) ∙ has.takes;
-    cells = λ i i_below. same (cell d (k.takes + i)) (λ j j_below e. other (cells-apart capacities d c ((k.takes + i) % get_or capacities d 0) j (mod_below (k.takes + i) (get_or capacities d 0) (omega (arith, i_below))) j_below (omega (arith, e))).0) ∙ has.cells i i_below;
+    puts = same (puts_slot n d) (λ i below e. puts-out n capacities c d i d_low e) ∙ has.puts;
+    takes = same (takes_slot n (length capacities) d) (λ i below e. takes-out n capacities c d i d_low e) ∙ has.takes;
+    cells = λ i i_below. same (cell n capacities d (k.takes + i)) (λ j j_below e. other (cells-apart capacities d c ((k.takes + i) % get_or capacities d 0) j (mod_below (k.takes + i) (get_or capacities d 0) (omega (arith, i_below))) j_below (omega (arith, e))).0) ∙ has.cells i i_below;
   }
 
   -- One whose cells changed has its numbers still.
   pub packets-laid : (xs ys : List (Slot K)) (c : ℕ) (k : ChannelShown) (old new : List Tree) → c < length capacities → AreSameButCells n capacities c xs ys → HasPackets n capacities xs c k old → HasCells n capacities ys c k.takes new → HasPackets n capacities ys c k new
   packets-laid xs ys c k old new low same has cells = record {
-    puts = same (puts_slot n c) (λ i below e. puts-out c c i low e) ∙ has.puts;
-    takes = same (takes_slot n (length capacities) c) (λ i below e. takes-out c c i low e) ∙ has.takes;
+    puts = same (puts_slot n c) (λ i below e. puts-out n capacities c c i low e) ∙ has.puts;
+    takes = same (takes_slot n (length capacities) c) (λ i below e. takes-out n capacities c c i low e) ∙ has.takes;
     cells = cells;
   }
 
@@ -274,23 +278,11 @@ module _ {K : Type 0} (n : ℕ) (capacities : List ℕ) where
   laid-below channels xs ys same laid c k at high = let has = laid c k at high in record {
     puts = same (puts_slot n c) (omega arith) ∙ has.puts;
     takes = same (takes_slot n (length capacities) c) (omega arith) ∙ has.takes;
-    cells = λ i below. same (cell c (k.takes + i)) (omega arith) ∙ has.cells i below;
+    cells = λ i below. same (cell n capacities c (k.takes + i)) (omega arith) ∙ has.cells i below;
   }
 
   -- Slots that have the bodies, the numbers of puts, those of takes, and empty cells.
   module _ (bodies : List (BodyValue K)) (channels : List ChannelShown) where
-    abbrev of_body : BodyValue K → Slot K
-    of_body b = slot.Body b
-
-    abbrev of_puts : ChannelShown → Slot K
-    of_puts k = slot.Count k.puts
-
-    abbrev of_takes : ChannelShown → Slot K
-    of_takes k = slot.Count k.takes
-
-    abbrev no_packet : Slot K
-    no_packet = slot.Cell None
-
     abbrev cell_count : ℕ
     cell_count = cells_before capacities (length capacities)
 

@@ -25,3 +25,6 @@ pub mod Slots
 pub mod Openings
 pub mod Filling
 pub mod Starting
+pub mod Rolls
+pub mod Holding
+pub mod Crews

@@ -19,7 +19,7 @@ placed-else : (ws : List ℕ) (r q v : ℕ) → q ≢ r → get_or (set ws (spac
 placed-else ws r q v other = get_or-set_other ws (spaced r) (spaced q) v 0 (λ e. other (omega (arith, e)))
 
 -- Each of many zeros is one.
-pub zero-each : (m i : ℕ) → get_or (replicate m 0) i 0 ≡ 0
+pub zero-each : (m i : ℕ) → ◌≡◌ {A = ℕ} (get_or (replicate m 0) i 0) 0
 zero-each zero i = refl
 zero-each (suc m) zero = refl
 zero-each (suc m) (suc i) = zero-each m i
@@ -54,7 +54,7 @@ same-more from to r v ws vs us low high is same q out = ap (λ (xs : List ℕ). 
 pub first-words : {K : Type 0} (start : NetValue K) (n m t : ℕ) (zs ps ls ts ws : List ℕ) → n ≡ length start.bodies → m ≡ length (capacities_of start) → m ≡ length start.channels → t ≡ turns_made start
     → length zs ≡ word_count n m → ((i : ℕ) → get_or zs i 0 ≡ 0) → length ps ≡ length zs → AreReady n ps → AreSameBut 0 n zs ps → length ls ≡ length ps → HaveLevels n start.channels m ls → AreSameBut n (n + m) ps ls
     → ts ≡ set ls (spaced (clock_rank n m)) t → ws ≡ set ts (spaced (live_rank n m)) n → FirstWords start ws
-first-words start n m t zs ps ls ts ws n_is m_is count t_is wide zero long_ps ready same_ps long_ls levels same_ls ts_is ws_is =
+first-words start n m t zs ps ls ts ws n_is m_is count t_is wide zeros long_ps ready same_ps long_ls levels same_ls ts_is ws_is =
     let long_ts : length ts ≡ word_count n m = ap (λ (xs : List ℕ). length xs) ts_is ∙ length-set ls (spaced (clock_rank n m)) t ∙ long_ls ∙ long_ps ∙ wide in
     let long : length ws ≡ word_count n m = ap (λ (xs : List ℕ). length xs) ws_is ∙ length-set ts (spaced (live_rank n m)) n ∙ long_ts in
     let old : (i : ℕ) → i < clock_rank n m → get_or ws (spaced i) 0 ≡ get_or ls (spaced i) 0 =
@@ -66,7 +66,7 @@ first-words start n m t zs ps ls ts ws n_is m_is count t_is wide zero long_ps re
       wide = long ∙ (λ j. word_count (n_is j) (m_is j));
       ready = λ p below. (let b : p < n = omega (arith, below, n_is) in old p (omega (arith, b)) ∙ same_ls p (inl b) ∙ ready p b);
       levels = λ c k at. (let b : c < m = omega (arith, get-within start.channels c k at, count) in ap (λ (i : ℕ). get_or ws (spaced (level_rank i c)) 0) (sym n_is) ∙ old (level_rank n c) (omega (arith, b)) ∙ levels c k b at);
-      gates = λ c below. (let b : c < m = omega (arith, below, m_is) in (λ j. get_or ws (spaced (gate_rank (sym n_is j) (sym m_is j) c)) 0) ∙ old (gate_rank n m c) (omega (arith, b)) ∙ same_ls (gate_rank n m c) (inr (omega arith)) ∙ same_ps (gate_rank n m c) (inr (omega arith)) ∙ zero (spaced (gate_rank n m c)));
+      gates = λ c below. (let b : c < m = omega (arith, below, m_is) in (λ j. get_or ws (spaced (gate_rank (sym n_is j) (sym m_is j) c)) 0) ∙ old (gate_rank n m c) (omega (arith, b)) ∙ same_ls (gate_rank n m c) (inr (omega arith)) ∙ same_ps (gate_rank n m c) (inr (omega arith)) ∙ zeros (spaced (gate_rank n m c)));
       clock = (λ j. get_or ws (spaced (clock_rank (sym n_is j) (sym m_is j))) 0) ∙ clock ∙ t_is;
       live = (λ j. get_or ws (spaced (live_rank (sym n_is j) (sym m_is j))) 0) ∙ live ∙ n_is;
     }

@@ -12,3 +12,6 @@ pub mod Workers
 pub mod Opening
 pub mod Rooms
 pub mod Laying
+pub mod Looks
+pub mod Crew
+pub mod Floors

@@ -1,5 +1,5 @@
 -- The room for a floor's end.
-use Rattle.std.specs.Prelude.{◌≡◌, ℕ, ◌≤◌, length, map, vec_capacity}
+use Rattle.std.specs.Prelude.{◌≡◌, ℕ, ◌≤◌, List, length, map, vec_capacity}
 use Rattle.flow_model.specs.Stands.{ChannelShown}
 use Rattle.flow_ends.specs.declared.rooms.Rooms.{Rooms}
 use Rattle.flow_ends.specs.Opening.{emptied}

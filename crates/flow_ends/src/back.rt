@@ -155,7 +155,7 @@ fn spend<K: Component>(mut slots: Vec<Slot<K>>) {
 }
 
 /// The net whose pieces lie in slots and rooms, as it was when it was `about`.
-pub fn join_again<K: Component>(
+pub(crate) fn join_again<K: Component>(
     about: &Snapshot<Net<K>>,
     layout: &Layout,
     slots: Vec<Slot<K>>,

@@ -136,7 +136,7 @@ fn put_all<K: Component>(
 }
 
 /// The slots at the start, and the connections without their packets.
-pub fn first_slots<K: Component>(
+pub(crate) fn first_slots<K: Component>(
     layout: &Layout,
     bodies: Vec<Body<K>>,
     channels: Vec<Channel>,

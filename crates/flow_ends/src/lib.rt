@@ -6,18 +6,22 @@
 
 mod back;
 mod board;
+mod crew;
 mod floor;
+mod held;
 mod layout;
 mod lays;
+mod open;
 mod packets;
 mod plays;
+mod roll;
 mod rooms;
 mod steps;
 mod tells;
+mod wake;
 mod words;
 
 pub use board::{Lawful, Slot, View};
-pub use back::join_again;
-pub use lays::first_slots;
-pub use words::first_words;
-pub use floor::{Floor, Held, Worker};
+pub use floor::{Claim, Floor, Held, Turned, Worker};
+pub use open::{OpenStop, Opened};
+pub use rooms::Rooms;

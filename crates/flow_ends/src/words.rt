@@ -44,7 +44,7 @@ fn lay_levels<K: Component>(layout: &Layout, net: &Net<K>, words: &mut Vec<u64>)
 }
 
 /// The words at the start.
-pub fn first_words<K: Component>(
+pub(crate) fn first_words<K: Component>(
     alloc: Global,
     layout: &Layout,
     net: &Net<K>,

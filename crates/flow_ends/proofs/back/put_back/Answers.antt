@@ -21,7 +21,7 @@ first-of g c k at = c.takes-first.ensures ∙ ap (λ x. x.takes) (c.requires.emp
 
 -- The place is that of one of its packets, whose cell this is.
 high-of : (g : _) (c : After-cell-at g) (k : ChannelShown) → slice_get c.args.about.now.value.channels c.args.connection ≡ Some k → k.takes ≤ c.loop-place.place
-high-of g c k at = omega (arith, first-of g c.After-takes-first k at, c.loop-place.auto)
+high-of g c k at = omega (arith, c.takes-first.ensures, ap (λ x. x.takes) (c.requires.empty k at), c.loop-place.auto)
 
 short-of : (g : _) (c : After-cell-at g) (k : ChannelShown) → slice_get c.args.about.now.value.channels c.args.connection ≡ Some k → c.loop-place.place - k.takes < length k.packets
 short-of g c k at = omega (arith, high-of g c k at, c.loop-place-test.true, c.requires.puts k at, (c.requires.sound c.args.connection k at).numbers)
@@ -30,11 +30,12 @@ below-of : (g : _) (c : After-cell-at g) (k : ChannelShown) → slice_get c.args
 below-of g c k at = omega (arith, short-of g c k at, (c.requires.sound c.args.connection k at).level, size-at c.args.about.now.value.channels c.args.connection k at, ap (λ zs. get_or zs c.args.connection 0) c.requires.capacities)
 
 -- This is in it.
-found-of : (g : _) (c : After-index_mut g) (k : ChannelShown) → slice_get c.args.about.now.value.channels c.args.connection ≡ Some k → c.index_mut.result.now ≡ slot.Cell (slice_get k.packets (c.loop-place.place - k.takes))
-found-of g c k at = let l = c.args.layout.now in let place = c.loop-place.place in let i : ℕ = place - k.takes in let high = high-of g c.After-cell-at k at in
+found-of : (g : _) (c : After-index_mut g) (k : ChannelShown) → slice_get c.args.about.now.value.channels c.args.connection ≡ Some k → k.takes ≤ c.loop-place.place → c.loop-place.place - k.takes < get_or c.args.layout.now.capacities.items c.args.connection 0
+    → c.index_mut.result.now ≡ slot.Cell (slice_get k.packets (c.loop-place.place - k.takes))
+found-of g c k at high below = let l = c.args.layout.now in let place = c.loop-place.place in let i : ℕ = place - k.takes in
     let here : place ≡ k.takes + i = omega (arith, high) in
     found-in c.loop-place.slots.items c.cell-at.result (place_slot l.processes l.capacities.items c.args.connection (k.takes + i)) c.index_mut.result.now (slot.Cell (slice_get k.packets i))
-    (c.cell-at.ensures ∙ ap (place_slot l.processes l.capacities.items c.args.connection) here) c.index_mut.ensures.value (c.loop-place.invariant.cells k at i (omega (arith, high)) (below-of g c.After-cell-at k at))
+    (c.cell-at.ensures ∙ ap (place_slot l.processes l.capacities.items c.args.connection) here) c.index_mut.ensures.value (c.loop-place.invariant.cells k at i (omega (arith, high)) below)
 
 pub loop-place-init : goal.loop-place-init
 loop-place-init g c = record {
@@ -47,44 +48,45 @@ loop-place-init g c = record {
 }
 
 pub index_mut-requires : goal.index_mut-requires
-index_mut-requires g c = let at = (goal.at.index_mut-requires g c).After-cell-at in let k = channel-of g at.After-takes-first in let l = c.args.layout.now in let place = c.loop-place.place in
-    let within = own-within l.processes l.capacities.items c.args.connection (place_slot l.processes l.capacities.items c.args.connection place) (omega (arith, c.requires.range, l.counted)) (place-own l.processes l.capacities.items c.args.connection place (omega (arith, below-of g at k.0 k.1))) in
+index_mut-requires g c = let all = goal.at.index_mut-requires g c in let k = channel-of g all.After-takes-first in let l = c.args.layout.now in let place = c.loop-place.place in
+    let within = own-within l.processes l.capacities.items c.args.connection (place_slot l.processes l.capacities.items c.args.connection place) (omega (arith, c.requires.range, l.counted)) (place-own l.processes l.capacities.items c.args.connection place (omega (arith, below-of g all.After-cell-at k.0 k.1))) in
     omega (arith, c.cell-at.ensures, within, c.loop-place.invariant.deep, c.requires.deep, c.loop-place.slots.ok.0)
 
 pub unreachable-requires : goal.unreachable-requires
-unreachable-requires g c = let at = (goal.at.unreachable-requires g c).After-index_mut in let k = channel-of g at.After-takes-first in
-    c.in_default.not-Cell (slice_get k.0.packets (c.loop-place.place - k.0.takes)) (c.replace-cell.ensures.value ∙ found-of g at k.0 k.1)
+unreachable-requires g c = let all = goal.at.unreachable-requires g c in let at = all.After-cell-at in let k = channel-of g all.After-takes-first in
+    c.in_default.not-Cell (slice_get k.0.packets (c.loop-place.place - k.0.takes)) (c.replace-cell.ensures.value ∙ found-of g all.After-index_mut k.0 k.1 (high-of g at k.0 k.1) (below-of g at k.0 k.1))
 
 pub unreachable-requires-in_default-found : goal.unreachable-requires-in_default-found
-unreachable-requires-in_default-found g c = let at = (goal.at.unreachable-requires-in_default-found g c).After-index_mut in let k = channel-of g at.After-takes-first in
+unreachable-requires-in_default-found g c = let all = goal.at.unreachable-requires-in_default-found g c in let at = all.After-cell-at in let k = channel-of g all.After-takes-first in
     let i : ℕ = c.loop-place.place - k.0.takes in
-    let packet = get-exists k.0.packets i (short-of g at.After-cell-at k.0 k.1) in
-    c.in_default-found.not-Some packet.0 (cell-is c.replace-cell.result c.in-Cell.found (slice_get k.0.packets i) c.in-Cell.is (c.replace-cell.ensures.value ∙ found-of g at k.0 k.1) ∙ packet.1)
+    let packet = get-exists k.0.packets i (short-of g at k.0 k.1) in
+    c.in_default-found.not-Some packet.0 (cell-is c.replace-cell.result c.in-Cell.found (slice_get k.0.packets i) c.in-Cell.is (c.replace-cell.ensures.value ∙ found-of g all.After-index_mut k.0 k.1 (high-of g at k.0 k.1) (below-of g at k.0 k.1)) ∙ packet.1)
 
 pub put-requires : goal.put-requires
-put-requires g c = let at = (goal.at.put-requires g c).After-index_mut in let k = channel-of g at.After-takes-first in
+put-requires g c = let all = goal.at.put-requires g c in let k = channel-of g all.After-takes-first in
     let back = c.loop-place.invariant.back k.0 k.1 in
     let few = take-few k.0.packets (c.loop-place.place - k.0.takes) in
     record {
-      room = omega (arith, ap (λ x. length x.packets) back, few, short-of g at.After-cell-at k.0 k.1, (c.requires.sound c.args.connection k.0 k.1).level, ap (λ x. x.capacity) back);
+      room = omega (arith, ap (λ x. length x.packets) back, few, short-of g all.After-cell-at k.0 k.1, (c.requires.sound c.args.connection k.0 k.1).level, ap (λ x. x.capacity) back);
       counted = omega (arith, ap (λ x. x.puts) back, c.loop-place-test.true, c.ranges.puts);
     }
 
 pub loop-place-preserved : goal.loop-place-preserved
 loop-place-preserved g c =
     let l = c.args.layout.now in
-    let at = (goal.at.loop-place-preserved g c).After-index_mut in
-    let k0 = channel-of g at.After-takes-first in
+    let all = goal.at.loop-place-preserved g c in
+    let at = all.After-cell-at in
+    let k0 = channel-of g all.After-takes-first in
     let inv = c.loop-place.invariant in
     let xs = c.loop-place.slots.items in
     let place = c.loop-place.place in
     let ys = set xs c.cell-at.result c.replace-cell.new.dest in
     let here : ys ≡ set xs (place_slot l.processes l.capacities.items c.args.connection place) (slot.Cell None) = (λ j. set xs (c.cell-at.ensures j) (c.replace-cell.ensures.after j)) in
     record {
-      back = λ k there. put-next k c.loop-place.channel c.put.new.self place c.in-Some.packet (high-of g at.After-cell-at k there)
-          (sym (cell-is c.replace-cell.result c.in-Cell.found (slice_get k.packets (place - k.takes)) c.in-Cell.is (c.replace-cell.ensures.value ∙ found-of g at k there)) ∙ c.in-Some.is) (inv.back k there) c.put.ensures;
-      cells = λ k there. cells-left l.processes l.capacities.items xs ys c.args.connection k.takes place k.packets (slot.Cell None) (high-of g at.After-cell-at k there) (below-of g at.After-cell-at k there) here (inv.cells k there);
-      others = same-next l.processes l.capacities.items c.args.slots.now.items xs ys c.args.connection place (slot.Cell None) (omega (arith, below-of g at.After-cell-at k0.0 k0.1)) here inv.others;
+      back = λ k there. put-next k c.loop-place.channel c.put.new.self place c.in-Some.packet (high-of g at k there)
+          (sym (cell-is c.replace-cell.result c.in-Cell.found (slice_get k.packets (place - k.takes)) c.in-Cell.is (c.replace-cell.ensures.value ∙ found-of g all.After-index_mut k there (high-of g at k there) (below-of g at k there))) ∙ c.in-Some.is) (inv.back k there) c.put.ensures;
+      cells = λ k there. cells-left l.processes l.capacities.items xs ys c.args.connection k.takes place k.packets (slot.Cell None) (high-of g at k there) (below-of g at k there) here (inv.cells k there);
+      others = same-next l.processes l.capacities.items c.args.slots.now.items xs ys c.args.connection place (slot.Cell None) (omega (arith, below-of g at k0.0 k0.1)) here inv.others;
       deep = length-set xs c.cell-at.result c.replace-cell.new.dest ∙ inv.deep;
     }
 

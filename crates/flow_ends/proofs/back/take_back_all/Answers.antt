@@ -16,9 +16,9 @@ low-of : (g : _) (c : In-loop-connection g) → c.loop-connection.connection < l
 low-of g c = omega (arith, count-of g c, c.loop-connection-test.true, ap (λ zs. length zs) c.loop-connection.invariant.channels, rest-long emptied c.args.about.now.value.channels c.loop-connection.connection)
 
 -- The channel at hand is still without its packets.
-now-of : (g : _) (c : After-index_mut g) (k : ChannelShown) → slice_get c.args.about.now.value.channels c.loop-connection.connection ≡ Some k → c.index_mut.result.now ≡ emptied k
-now-of g c k there = let d = c.loop-connection.connection in let x = c.index_mut.result.now in
-    some_Some x (emptied k) (sym (slice_get-get_or c.loop-connection.channels.items d x (low-of g c.In-loop-connection) ∙ ap (λ (y : ChannelShown). Some y) (sym c.index_mut.ensures.value)) ∙ ap (λ zs. slice_get zs d) c.loop-connection.invariant.channels ∙ rest-at emptied c.args.about.now.value.channels d k there)
+now-of : (g : _) (c : After-index_mut g) → c.loop-connection.connection < length c.loop-connection.channels.items → (k : ChannelShown) → slice_get c.args.about.now.value.channels c.loop-connection.connection ≡ Some k → c.index_mut.result.now ≡ emptied k
+now-of g c low k there = let d = c.loop-connection.connection in let x = c.index_mut.result.now in
+    some_Some x (emptied k) (sym (slice_get-get_or c.loop-connection.channels.items d x low ∙ ap (λ (y : ChannelShown). Some y) (sym c.index_mut.ensures.value)) ∙ ap (λ zs. slice_get zs d) c.loop-connection.invariant.channels ∙ rest-at emptied c.args.about.now.value.channels d k there)
 
 pub loop-connection-init : goal.loop-connection-init
 loop-connection-init g c = record { channels = c.requires.emptied; laid = c.requires.laid; deep = refl }
@@ -27,12 +27,12 @@ pub index_mut-requires : goal.index_mut-requires
 index_mut-requires g c = omega (arith, low-of g (goal.at.index_mut-requires g c).In-loop-connection, c.loop-connection.channels.ok.0)
 
 pub take_back-requires : goal.take_back-requires
-take_back-requires g c = let at = (goal.at.take_back-requires g c).After-index_mut in record {
+take_back-requires g c = let all = goal.at.take_back-requires g c in record {
   range = c.loop-connection-test.true;
   capacities = c.requires.capacities;
   sound = c.requires.sound;
   deep = c.loop-connection.invariant.deep ∙ c.requires.deep;
-  emptied = now-of g at;
+  emptied = now-of g all.After-index_mut (low-of g all.In-loop-connection);
   laid = λ k there. c.loop-connection.invariant.laid c.loop-connection.connection k there (omega arith);
 }
 

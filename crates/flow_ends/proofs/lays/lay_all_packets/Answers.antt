@@ -17,9 +17,9 @@ low-of : (g : _) (c : In-loop-connection g) → c.loop-connection.connection < l
 low-of g c = omega (arith, count-of g c, c.loop-connection-test.true, ap (λ zs. length zs) c.loop-connection.invariant.channels, part-long emptied c.args.channels.items c.loop-connection.connection)
 
 -- The channel at hand is still what it was.
-there-of : (g : _) (c : After-index_mut g) → slice_get c.args.channels.items c.loop-connection.connection ≡ Some c.index_mut.result.now
-there-of g c = let d = c.loop-connection.connection in let k = c.index_mut.result.now in
-    sym (part-at emptied c.args.channels.items d) ∙ ap (λ zs. slice_get zs d) (sym c.loop-connection.invariant.channels) ∙ slice_get-get_or c.loop-connection.channels.items d k (low-of g c.In-loop-connection) ∙ ap (λ (x : ChannelShown). Some x) (sym c.index_mut.ensures.value)
+there-of : (g : _) (c : After-index_mut g) → c.loop-connection.connection < length c.loop-connection.channels.items → slice_get c.args.channels.items c.loop-connection.connection ≡ Some c.index_mut.result.now
+there-of g c low = let d = c.loop-connection.connection in let k = c.index_mut.result.now in
+    sym (part-at emptied c.args.channels.items d) ∙ ap (λ zs. slice_get zs d) (sym c.loop-connection.invariant.channels) ∙ slice_get-get_or c.loop-connection.channels.items d k low ∙ ap (λ (x : ChannelShown). Some x) (sym c.index_mut.ensures.value)
 
 pub loop-connection-init : goal.loop-connection-init
 loop-connection-init g c = record { channels = refl; laid = c.requires.empty; bodies = λ x low. refl; deep = refl }
@@ -28,7 +28,7 @@ pub index_mut-requires : goal.index_mut-requires
 index_mut-requires g c = omega (arith, low-of g (goal.at.index_mut-requires g c).In-loop-connection, c.loop-connection.channels.ok.0)
 
 pub lay_packets-requires : goal.lay_packets-requires
-lay_packets-requires g c = let d = c.loop-connection.connection in let k = c.index_mut.result.now in let there = there-of g (goal.at.lay_packets-requires g c).After-index_mut in
+lay_packets-requires g c = let all = goal.at.lay_packets-requires g c in let d = c.loop-connection.connection in let k = c.index_mut.result.now in let there = there-of g all.After-index_mut (low-of g all.In-loop-connection) in
     let is = c.requires.sound d k there in
     record {
       range = c.loop-connection-test.true;
@@ -45,7 +45,7 @@ loop-connection-preserved g c =
     let all = goal.at.loop-connection-preserved g c in
     let d = c.loop-connection.connection in
     let k = c.index_mut.result.now in
-    let there = there-of g all.After-index_mut in
+    let there = there-of g all.After-index_mut (low-of g all.In-loop-connection) in
     let inv = c.loop-connection.invariant in
     let e = c.lay_packets.ensures in
     let more : suc d ≡ d + 1 = omega arith in

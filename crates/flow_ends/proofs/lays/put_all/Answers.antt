@@ -1,14 +1,12 @@
-use Rattle.std.proofs.Common.{◌≡◌, ◌+◌, ◌∙◌, ◌++◌, None, ap, sym, arith, get_or, length, length-append, map, replicate, subst}
+use Rattle.std.proofs.Common.{◌≡◌, ◌∙◌, ap, sym, arith, length, length-append, map, subst}
 use Rattle.std.proofs.lemmas.List.{length-map}
 use lib.ListN.{get_elem?}
 use Rattle.flow_model.specs.Stands.{ChannelShown}
-use Rattle.flow_machine.specs.Values.{BodyValue}
 use Rattle.flow_ends.specs.declared.board.Slot.{Slot}
-use Rattle.flow_ends.specs.declared.board.Slot.TheVariants as slot
 use Rattle.flow_ends.specs.Places.{cells_before}
 use Rattle.flow_ends.specs.Laying.{AreLaid}
 use Rattle.flow_ends.proofs.Cells.{push-assoc-all}
-use Rattle.flow_ends.proofs.Filling.{bare, bare-bodies, bare-deep, bare-laid, regroup}
+use Rattle.flow_ends.proofs.Filling.{bare, bare-bodies, bare-deep, bare-laid, no_packet, of_body, of_puts, of_takes, regroup}
 use Rattle.flow_ends.proofs.lays.put_all.Goals as goal
 use Rattle.flow_ends.proofs.lays.put_all.Goals.{After-put_cells}
 
@@ -18,23 +16,23 @@ put_bodies-slots-requires g c = let l = c.args.layout.now in omega (arith, ap (�
 
 pub put_puts-slots-requires : goal.put_puts-slots-requires
 put_puts-slots-requires g c = let l = c.args.layout.now in
-    omega (arith, ap (λ zs. length zs) c.requires.room.0, c.requires.room.1, c.requires.processes, c.requires.connections, l.counted, c.put_bodies-slots.ensures.room, ap (λ zs. length zs) c.put_bodies-slots.ensures.items, length-append c.args.slots.items (map slot.Body c.args.bodies.items), length-map c.args.bodies.items slot.Body)
+    omega (arith, ap (λ zs. length zs) c.requires.room.0, c.requires.room.1, c.requires.processes, c.requires.connections, l.counted, c.put_bodies-slots.ensures.room, ap (λ zs. length zs) c.put_bodies-slots.ensures.items, length-append c.args.slots.items (map (of_body {K = g.row.K.Denot}) c.args.bodies.items), length-map c.args.bodies.items (of_body {K = g.row.K.Denot}))
 
 pub put_takes-slots-requires : goal.put_takes-slots-requires
-put_takes-slots-requires g c = let l = c.args.layout.now in let puts = (λ (k : ChannelShown). slot.Count k.puts) in
-    omega (arith, ap (λ zs. length zs) c.requires.room.0, c.requires.room.1, c.requires.processes, c.requires.connections, l.counted, c.put_bodies-slots.ensures.room, ap (λ zs. length zs) c.put_bodies-slots.ensures.items, length-append c.args.slots.items (map slot.Body c.args.bodies.items), length-map c.args.bodies.items slot.Body,
+put_takes-slots-requires g c = let l = c.args.layout.now in let puts : ChannelShown → Slot g.row.K.Denot = of_puts in
+    omega (arith, ap (λ zs. length zs) c.requires.room.0, c.requires.room.1, c.requires.processes, c.requires.connections, l.counted, c.put_bodies-slots.ensures.room, ap (λ zs. length zs) c.put_bodies-slots.ensures.items, length-append c.args.slots.items (map (of_body {K = g.row.K.Denot}) c.args.bodies.items), length-map c.args.bodies.items (of_body {K = g.row.K.Denot}),
     c.put_puts-slots.ensures.room, ap (λ zs. length zs) c.put_puts-slots.ensures.items, length-append c.put_bodies-slots.result.items (map puts c.args.channels.now), length-map c.args.channels.now puts)
 
 pub put_cells-requires : goal.put_cells-requires
-put_cells-requires g c = let l = c.args.layout.now in let puts = (λ (k : ChannelShown). slot.Count k.puts) in let takes = (λ (k : ChannelShown). slot.Count k.takes) in
-    omega (arith, ap (λ zs. length zs) c.requires.room.0, c.requires.room.1, c.requires.processes, c.requires.connections, l.counted, c.put_bodies-slots.ensures.room, ap (λ zs. length zs) c.put_bodies-slots.ensures.items, length-append c.args.slots.items (map slot.Body c.args.bodies.items), length-map c.args.bodies.items slot.Body,
+put_cells-requires g c = let l = c.args.layout.now in let puts : ChannelShown → Slot g.row.K.Denot = of_puts in let takes : ChannelShown → Slot g.row.K.Denot = of_takes in
+    omega (arith, ap (λ zs. length zs) c.requires.room.0, c.requires.room.1, c.requires.processes, c.requires.connections, l.counted, c.put_bodies-slots.ensures.room, ap (λ zs. length zs) c.put_bodies-slots.ensures.items, length-append c.args.slots.items (map (of_body {K = g.row.K.Denot}) c.args.bodies.items), length-map c.args.bodies.items (of_body {K = g.row.K.Denot}),
     c.put_puts-slots.ensures.room, ap (λ zs. length zs) c.put_puts-slots.ensures.items, length-append c.put_bodies-slots.result.items (map puts c.args.channels.now), length-map c.args.channels.now puts,
     c.put_takes-slots.ensures.room, ap (λ zs. length zs) c.put_takes-slots.ensures.items, length-append c.put_puts-slots.result.items (map takes c.args.channels.now), length-map c.args.channels.now takes, c.cells.ensures, ap (cells_before l.capacities.items) l.counted)
 
 -- The slots are the bodies, the numbers of puts and of takes, and empty cells.
 bare-of : (g : _) (c : After-put_cells g) → c.put_cells.result.items ≡ bare c.args.layout.now.processes c.args.layout.now.capacities.items c.args.bodies.items c.args.channels.now
 bare-of g c = let l = c.args.layout.now in
-    regroup (map slot.Body c.args.bodies.items) (map (λ (k : ChannelShown). slot.Count k.puts) c.args.channels.now) (map (λ (k : ChannelShown). slot.Count k.takes) c.args.channels.now) (slot.Cell None) c.cells.result (cells_before l.capacities.items (length l.capacities.items))
+    regroup (map (of_body {K = g.row.K.Denot}) c.args.bodies.items) (map of_puts c.args.channels.now) (map of_takes c.args.channels.now) no_packet c.cells.result (cells_before l.capacities.items (length l.capacities.items))
     c.args.slots.items c.put_bodies-slots.result.items c.put_puts-slots.result.items c.put_takes-slots.result.items c.put_cells.result.items
     c.requires.room.0 c.put_bodies-slots.ensures.items c.put_puts-slots.ensures.items c.put_takes-slots.ensures.items c.put_cells.ensures (c.cells.ensures ∙ ap (cells_before l.capacities.items) (sym l.counted))
 
