@@ -1,5 +1,5 @@
 -- The slots with which a floor begins.
-use Rattle.std.proofs.Common.{◌≡◌, ◌≢◌, ℕ, zero, suc, ◌+◌, ◌-◌, ◌%◌, ◌<◌, ◌≤◌, List, [], ◌∷◌, ◌++◌, length, map, take, drop, get_or, set, replicate, sym, refl, ap, ◌∙◌, subst, arith, Some, None, slice_get, length-append, length-take-le}
+use Rattle.std.proofs.Common.{◌≡◌, ◌≢◌, ℕ, zero, suc, ◌+◌, ◌-◌, ◌%◌, ◌<◌, ◌≤◌, List, [], ◌∷◌, ◌++◌, length, map, take, drop, get_or, set, replicate, sym, refl, ap, ◌∙◌, subst, arith, Some, None, slice_get, length-append}
 use Rattle.std.proofs.lemmas.List.{length-map, length-replicate}
 use Rattle.std.proofs.lemmas.Nat.{mod_below}
 use mathlib.Core.Logic.{dite}
@@ -214,12 +214,12 @@ module _ {K : Type 0} (n : ℕ) (capacities : List ℕ) where
       let more : suc j ≡ place + 1 - first = omega (arith, high) in
       ap (λ zs. get_elem? zs (cell n capacities c (first + i))) is
       ∙ dite (ℕ_discrete i j)
-          (λ e. ap (λ z. get_elem? (set xs (cell n capacities c place) new) (cell n capacities c z)) (let same : first + i ≡ place = omega (arith, e, at) in same)
-          ∙ set_here xs (cell n capacities c place) new (omega (arith, deep, own-within n capacities c (cell n capacities c place) low (place-own n capacities c place (omega (arith, below)))))
-          ∙ ap (λ z. some (slot.Cell z)) (sym (ap (λ z. slice_get (take z packets) i) (sym more) ∙ ap (slice_get (take (suc j) packets)) e ∙ get-taken packets j packet there)))
-          (λ other. set_else xs (cell n capacities c place) (cell n capacities c (first + i)) new (λ e. place-else n capacities c first i j i_below below other (e ∙ ap (cell n capacities c) at))
-          ∙ cells i i_below
-          ∙ ap (λ z. some (slot.Cell z)) (get-taken-else packets i j other ∙ ap (λ z. slice_get (take z packets) i) more))
+      (λ e. ap (λ z. get_elem? (set xs (cell n capacities c place) new) (cell n capacities c z)) (let same : first + i ≡ place = omega (arith, e, at) in same)
+      ∙ set_here xs (cell n capacities c place) new (omega (arith, deep, own-within n capacities c (cell n capacities c place) low (place-own n capacities c place (omega (arith, below)))))
+      ∙ ap (λ z. some (slot.Cell z)) (sym (ap (λ z. slice_get (take z packets) i) (sym more) ∙ ap (slice_get (take (suc j) packets)) e ∙ get-taken packets j packet there)))
+      (λ other. set_else xs (cell n capacities c place) (cell n capacities c (first + i)) new (λ e. place-else n capacities c first i j i_below below other (e ∙ ap (cell n capacities c) at))
+      ∙ cells i i_below
+      ∙ ap (λ z. some (slot.Cell z)) (get-taken-else packets i j other ∙ ap (λ z. slice_get (take z packets) i) more))
 
   -- The cell of a packet changes, and those of the packets behind it stay.
   pub cells-left : (xs ys : List (Slot K)) (c first place : ℕ) (packets : List Tree) (new : Slot K) → first ≤ place → place - first < get_or capacities c 0 → ys ≡ set xs (cell n capacities c place) new
@@ -291,8 +291,14 @@ module _ {K : Type 0} (n : ℕ) (capacities : List ℕ) where
 
     pub bare-deep : length bodies ≡ n → length channels ≡ length capacities → length bare ≡ slot_count n capacities
     bare-deep count long =
-        omega (arith, count, long, length-append (map of_body bodies) (map of_puts channels ++ (map of_takes channels ++ replicate cell_count no_packet)), length-append (map of_puts channels) (map of_takes channels ++ replicate cell_count no_packet),
-        length-append (map of_takes channels) (replicate cell_count no_packet), length-map bodies of_body, length-map channels of_puts, length-map channels of_takes, length-replicate cell_count no_packet)
+        let bs : List (Slot K) = map of_body bodies in
+        let ps : List (Slot K) = map of_puts channels in
+        let ts : List (Slot K) = map of_takes channels in
+        let cs : List (Slot K) = replicate cell_count no_packet in
+        let parts = length-append bs (ps ++ (ts ++ cs)) in
+        let numbers = length-append ps (ts ++ cs) in
+        let behind = length-append ts cs in
+        omega (arith, count, long, parts, numbers, behind, length-map bodies (of_body {K = K}), length-map channels (of_puts {K = K}), length-map channels (of_takes {K = K}), length-replicate cell_count (no_packet {K = K}))
 
     pub bare-bodies : (p : ℕ) (b : BodyValue K) → slice_get bodies p ≡ Some b → IsIn bare p (slot.Body b)
     bare-bodies p b at = at-front of_body bodies (map of_puts channels ++ (map of_takes channels ++ replicate cell_count no_packet)) p b at
@@ -313,8 +319,8 @@ module _ {K : Type 0} (n : ℕ) (capacities : List ℕ) where
       λ _. record {
         puts = at-back of_body bodies (map of_puts channels ++ (map of_takes channels ++ replicate cell_count no_packet)) c (puts_slot n c) (omega (arith, count)) ∙ at-front of_puts channels (map of_takes channels ++ replicate cell_count no_packet) c k at;
         takes = at-back of_body bodies (map of_puts channels ++ (map of_takes channels ++ replicate cell_count no_packet)) (length capacities + c) (takes_slot n (length capacities) c) (omega (arith, count))
-        ∙ at-back of_puts channels (map of_takes channels ++ replicate cell_count no_packet) c (length capacities + c) (omega (arith, long))
-        ∙ at-front of_takes channels (replicate cell_count no_packet) c k at;
+            ∙ at-back of_puts channels (map of_takes channels ++ replicate cell_count no_packet) c (length capacities + c) (omega (arith, long))
+            ∙ at-front of_takes channels (replicate cell_count no_packet) c k at;
         cells = λ i below. (let size = get_or capacities c 0 in let within = (k.takes + i) % size in
             behind count long (cells_before capacities c + within) (cells-within capacities c within (mod_below (k.takes + i) size (omega (arith, below)))));
       },

@@ -1,5 +1,5 @@
 -- What a floor begins with obeys its rule.
-use Rattle.std.proofs.Common.{◌≡◌, ℕ, zero, suc, ◌+◌, ◌*◌, ◌<◌, ◌≤◌, List, [], ◌∷◌, All, length, map, get_or, sym, refl, ap, ◌∙◌, arith, Some, slice_get}
+use Rattle.std.proofs.Common.{◌≡◌, ℕ, zero, suc, ◌*◌, ◌<◌, ◌≤◌, List, [], ◌∷◌, All, length, map, get_or, sym, refl, ap, ◌∙◌, subst, arith, Some, slice_get}
 use Rattle.std.proofs.lemmas.List.{length-map}
 use Rattle.std.proofs.lemmas.List.Elements.{All-nil, All-cons}
 use Rattle.std.proofs.lemmas.List.Sums.{count_by-le-length}
@@ -8,8 +8,7 @@ use Rattle.flow_component.specs.Laws.{Rules}
 use Rattle.flow_plan.specs.declared.plan.Connection.{Connection}
 use Rattle.flow_plan.specs.declared.plan.Sender.{Sender}
 use Rattle.flow_model.specs.Stands.{ChannelShown}
-use Rattle.flow_machine.specs.Values.{NetValue}
-use Rattle.flow_machine.specs.FitNets.{FitNet}
+use Rattle.flow_machine.specs.Values.{BodyValue, NetValue, net_of}
 use Rattle.flow_machine.specs.Joins.{Joins, is_so_at, leaves_open, processes_of}
 use Rattle.flow_machine.proofs.Standings.{get-map}
 use Rattle.flow_floor.proofs.Seats.{some_Some, get-exists, get-within}
@@ -57,6 +56,12 @@ pub size-at : (channels : List ChannelShown) (c : ℕ) (k : ChannelShown) → sl
 size-at [] c k is = absurd (cc)
 size-at (x ∷ xs) zero k is = ap (λ (y : ChannelShown). y.capacity) (sym (some_Some x k is))
 size-at (x ∷ xs) (suc c) k is = size-at xs c k is
+
+-- The slots of a net's own bodies and channels are the net's.
+pub slots-of : {K : Type 0} (net : NetValue K) (bodies : List (BodyValue K)) (channels : List ChannelShown) (xs : List (Slot K)) → bodies ≡ net.bodies → channels ≡ net.channels → FirstSlots (net_of bodies channels) xs → FirstSlots net xs
+slots-of {K} net bodies channels xs bodies_is channels_is laid =
+    let same : FirstSlots (net_of net.bodies net.channels) xs = subst (λ (z : List (BodyValue K) × List ChannelShown). FirstSlots (net_of z.0 z.1) xs) (λ j. (bodies_is j, channels_is j)) laid in
+    record { deep = same.deep; bodies = same.bodies; connections = same.connections }
 
 -- A floor that begins with these words and slots obeys the rule.
 pub begins : {K : Type 0} (rules : Rules K) (start : NetValue K) (ws : List ℕ) (xs : List (Slot K)) → FirstWords start ws → AreSound start.channels → FirstSlots start xs → Begins rules start (ranked ws) xs

@@ -73,9 +73,7 @@ fn put_back<K: Component>(
         let Slot::Cell(found) = cell else {
             unreachable!()
         };
-        let Some(packet) = found else {
-            unreachable!()
-        };
+        let Some(packet) = found else { unreachable!() };
         channel.put(packet);
     }
 }

@@ -88,9 +88,7 @@ fn lay_packets<K: Component>(
         let Slot::Cell(found) = cell else {
             unreachable!()
         };
-        let None = found else {
-            unreachable!()
-        };
+        let None = found else { unreachable!() };
     }
 }
 

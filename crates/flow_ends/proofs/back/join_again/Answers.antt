@@ -1,6 +1,4 @@
-use Rattle.std.proofs.Common.{◌≡◌, ◌≤◌, ◌∙◌, ap, sym, arith, length, subst}
-use Rattle.std.proofs.lemmas.List.{length-map}
-use Rattle.flow_model.specs.Stands.{ChannelShown}
+use Rattle.std.proofs.Common.{◌∙◌, sym, arith, length, subst}
 use Rattle.flow_machine.specs.Joins.{Joins}
 use Rattle.flow_floor.proofs.Backs.{whole-net}
 use Rattle.flow_ends.specs.Places.{slot_count}

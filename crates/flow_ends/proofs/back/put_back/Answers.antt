@@ -1,6 +1,5 @@
 use Rattle.std.proofs.Common.{◌≡◌, ℕ, ◌+◌, ◌-◌, ◌<◌, ◌≤◌, ◌∙◌, [], Some, None, ap, refl, sym, arith, get_or, length, length-set, set, slice_get, take}
 use Rattle.std.proofs.lemmas.List.{length-map}
-use Rattle.flow_packet.specs.Tree.{Tree}
 use Rattle.flow_model.specs.Stands.{ChannelShown}
 use Rattle.flow_floor.proofs.Seats.{get-exists}
 use Rattle.flow_ends.specs.declared.board.Slot.TheVariants as slot

@@ -4,7 +4,7 @@ use Rattle.std.proofs.lemmas.Option.{slice_get-get_or}
 use Rattle.flow_model.specs.Stands.{ChannelShown}
 use Rattle.flow_floor.proofs.Seats.{some_Some, get-within}
 use Rattle.flow_ends.specs.Opening.{emptied}
-use Rattle.flow_ends.proofs.Filling.{drop-none, packets-kept, rest-all, rest-at, rest-long, rest-more}
+use Rattle.flow_ends.proofs.Filling.{packets-kept, rest-all, rest-at, rest-long, rest-more}
 use Rattle.flow_ends.proofs.back.take_back_all.Goals as goal
 use Rattle.flow_ends.proofs.back.take_back_all.Goals.{After-index_mut, In-loop-connection}
 

@@ -1,10 +1,10 @@
-use Rattle.std.proofs.Common.{◌≡◌, ◌+◌, ◌<◌, ◌∙◌, ◌++◌, ◌∷◌, [], suc, Some, ap, refl, sym, arith, length, length-set, slice_get, take}
+use Rattle.std.proofs.Common.{◌≡◌, ◌+◌, ◌∙◌, ◌++◌, ◌∷◌, [], suc, Some, ap, refl, arith, length, length-set, slice_get, take}
 use Rattle.atomic_table.proofs.Lists.{set_else}
 use Rattle.flow_machine.specs.Values.{BodyValue}
 use Rattle.flow_floor.proofs.Seats.{get-exists}
 use Rattle.flow_ends.specs.declared.board.Slot.TheVariants as slot
-use Rattle.flow_ends.specs.Opening.{IsIn}
-use Rattle.flow_ends.proofs.Filling.{body-is, found-in, take-all, take-next}
+use Rattle.flow_ends.proofs.Slots.{body-is}
+use Rattle.flow_ends.proofs.Filling.{found-in, take-all, take-next}
 use Rattle.flow_ends.proofs.back.take_back_bodies.Goals as goal
 use Rattle.flow_ends.proofs.back.take_back_bodies.Goals.{In-loop-p, After-index_mut}
 

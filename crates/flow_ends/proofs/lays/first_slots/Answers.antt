@@ -1,4 +1,4 @@
-use Rattle.std.proofs.Common.{◌≡◌, ℕ, ◌∙◌, List, ap, sym, arith, length, map, subst}
+use Rattle.std.proofs.Common.{ℕ, ◌∙◌, List, ap, arith, length, subst}
 use Rattle.std.proofs.lemmas.List.{length-map}
 use Rattle.flow_model.specs.Stands.{ChannelShown}
 use Rattle.flow_floor.proofs.Seats.{get-within}

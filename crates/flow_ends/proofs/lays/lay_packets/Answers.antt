@@ -1,4 +1,4 @@
-use Rattle.std.proofs.Common.{◌≡◌, ◌+◌, ◌-◌, ◌<◌, ◌≤◌, ◌∙◌, [], Some, None, ap, refl, sym, arith, get_or, length, length-drop, length-set, set, slice_get, subst, take, drop}
+use Rattle.std.proofs.Common.{◌≡◌, ◌-◌, ◌<◌, ◌≤◌, ◌∙◌, [], Some, None, ap, refl, sym, arith, get_or, length, length-drop, length-set, set, slice_get, subst, take, drop}
 use Rattle.flow_ends.specs.declared.board.Slot.TheVariants as slot
 use Rattle.flow_ends.specs.Places.{place_slot}
 use Rattle.flow_ends.specs.Opening.{HasCells, IsIn}

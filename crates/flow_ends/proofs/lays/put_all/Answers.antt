@@ -5,7 +5,6 @@ use Rattle.flow_model.specs.Stands.{ChannelShown}
 use Rattle.flow_ends.specs.declared.board.Slot.{Slot}
 use Rattle.flow_ends.specs.Places.{cells_before}
 use Rattle.flow_ends.specs.Laying.{AreLaid}
-use Rattle.flow_ends.proofs.Cells.{push-assoc-all}
 use Rattle.flow_ends.proofs.Filling.{bare, bare-bodies, bare-deep, bare-laid, no_packet, of_body, of_puts, of_takes, regroup}
 use Rattle.flow_ends.proofs.lays.put_all.Goals as goal
 use Rattle.flow_ends.proofs.lays.put_all.Goals.{After-put_cells}
@@ -20,14 +19,47 @@ put_puts-slots-requires g c = let l = c.args.layout.now in
 
 pub put_takes-slots-requires : goal.put_takes-slots-requires
 put_takes-slots-requires g c = let l = c.args.layout.now in let puts : ChannelShown → Slot g.row.K.Denot = of_puts in
-    omega (arith, ap (λ zs. length zs) c.requires.room.0, c.requires.room.1, c.requires.processes, c.requires.connections, l.counted, c.put_bodies-slots.ensures.room, ap (λ zs. length zs) c.put_bodies-slots.ensures.items, length-append c.args.slots.items (map (of_body {K = g.row.K.Denot}) c.args.bodies.items), length-map c.args.bodies.items (of_body {K = g.row.K.Denot}),
-    c.put_puts-slots.ensures.room, ap (λ zs. length zs) c.put_puts-slots.ensures.items, length-append c.put_bodies-slots.result.items (map puts c.args.channels.now), length-map c.args.channels.now puts)
+    omega (
+      arith,
+      ap (λ zs. length zs) c.requires.room.0,
+      c.requires.room.1,
+      c.requires.processes,
+      c.requires.connections,
+      l.counted,
+      c.put_bodies-slots.ensures.room,
+      ap (λ zs. length zs) c.put_bodies-slots.ensures.items,
+      length-append c.args.slots.items (map (of_body {K = g.row.K.Denot}) c.args.bodies.items),
+      length-map c.args.bodies.items (of_body {K = g.row.K.Denot}),
+      c.put_puts-slots.ensures.room,
+      ap (λ zs. length zs) c.put_puts-slots.ensures.items,
+      length-append c.put_bodies-slots.result.items (map puts c.args.channels.now),
+      length-map c.args.channels.now puts,
+    )
 
 pub put_cells-requires : goal.put_cells-requires
 put_cells-requires g c = let l = c.args.layout.now in let puts : ChannelShown → Slot g.row.K.Denot = of_puts in let takes : ChannelShown → Slot g.row.K.Denot = of_takes in
-    omega (arith, ap (λ zs. length zs) c.requires.room.0, c.requires.room.1, c.requires.processes, c.requires.connections, l.counted, c.put_bodies-slots.ensures.room, ap (λ zs. length zs) c.put_bodies-slots.ensures.items, length-append c.args.slots.items (map (of_body {K = g.row.K.Denot}) c.args.bodies.items), length-map c.args.bodies.items (of_body {K = g.row.K.Denot}),
-    c.put_puts-slots.ensures.room, ap (λ zs. length zs) c.put_puts-slots.ensures.items, length-append c.put_bodies-slots.result.items (map puts c.args.channels.now), length-map c.args.channels.now puts,
-    c.put_takes-slots.ensures.room, ap (λ zs. length zs) c.put_takes-slots.ensures.items, length-append c.put_puts-slots.result.items (map takes c.args.channels.now), length-map c.args.channels.now takes, c.cells.ensures, ap (cells_before l.capacities.items) l.counted)
+    omega (
+      arith,
+      ap (λ zs. length zs) c.requires.room.0,
+      c.requires.room.1,
+      c.requires.processes,
+      c.requires.connections,
+      l.counted,
+      c.put_bodies-slots.ensures.room,
+      ap (λ zs. length zs) c.put_bodies-slots.ensures.items,
+      length-append c.args.slots.items (map (of_body {K = g.row.K.Denot}) c.args.bodies.items),
+      length-map c.args.bodies.items (of_body {K = g.row.K.Denot}),
+      c.put_puts-slots.ensures.room,
+      ap (λ zs. length zs) c.put_puts-slots.ensures.items,
+      length-append c.put_bodies-slots.result.items (map puts c.args.channels.now),
+      length-map c.args.channels.now puts,
+      c.put_takes-slots.ensures.room,
+      ap (λ zs. length zs) c.put_takes-slots.ensures.items,
+      length-append c.put_puts-slots.result.items (map takes c.args.channels.now),
+      length-map c.args.channels.now takes,
+      c.cells.ensures,
+      ap (cells_before l.capacities.items) l.counted,
+    )
 
 -- The slots are the bodies, the numbers of puts and of takes, and empty cells.
 bare-of : (g : _) (c : After-put_cells g) → c.put_cells.result.items ≡ bare c.args.layout.now.processes c.args.layout.now.capacities.items c.args.bodies.items c.args.channels.now

@@ -1,4 +1,4 @@
-use Rattle.std.proofs.Common.{◌≡◌, ◌∙◌, ap, arith, get_or, length, set, refl}
+use Rattle.std.proofs.Common.{◌∙◌, ap, arith, get_or, set}
 use Rattle.std.proofs.lemmas.List.{length-map}
 use Rattle.flow_model.specs.Stands.{ChannelShown}
 use Rattle.flow_ends.proofs.Openings.{first-words, zero-each}
