@@ -25,6 +25,9 @@ pub mod Slots
 pub mod Refilling
 pub mod Closing
 pub mod Shutting
+pub mod Openings
+pub mod Filling
+pub mod Starting
 pub mod Rolls
 pub mod Holding
 pub mod Further

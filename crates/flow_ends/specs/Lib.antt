@@ -13,6 +13,7 @@ pub mod Opening
 pub mod Rooms
 pub mod Shut
 pub mod Still
+pub mod Laying
 pub mod Looks
 pub mod Crew
 pub mod Floors

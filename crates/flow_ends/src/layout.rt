@@ -114,7 +114,7 @@ impl Layout {
     }
 
     /// How many cells all connections have.
-    fn cells(&self) -> usize
+    pub(crate) fn cells(&self) -> usize
         ensures { result ≡ cells_before self.now.capacities.items self.now.connections }
     {
         self.firsts[self.connections]

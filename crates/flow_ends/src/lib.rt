@@ -4,11 +4,14 @@
 //! rule of `specs/Rule.antt`, which each kind of step is proved to keep.
 #![tactic(auto)]
 
+mod back;
 mod board;
 mod crew;
 mod floor;
 mod held;
 mod layout;
+mod lays;
+mod open;
 mod packets;
 mod plays;
 mod refill;
@@ -19,8 +22,10 @@ mod steps;
 mod still;
 mod tells;
 mod wake;
+mod words;
 
 pub use board::{Lawful, Slot, View};
 pub use floor::{Claim, Floor, Held, Turned, Worker};
+pub use open::{OpenStop, Opened};
 pub use rooms::Rooms;
 pub use still::no_process_moves_once_a_worker_has_read_zero;
