@@ -1,7 +1,7 @@
 //! Bytes of a network file that begin no token, and files that don't begin as one.
 use crate::kinds::{Side, automatic};
 use crate::pieces::{after_blanks, behind, first, is_word_byte, word};
-use crate::shown::Word;
+use crate::shown::put_word;
 use flow_parse::FIRST_VERSION;
 use std::alloc::AllocError;
 
@@ -10,34 +10,24 @@ const MARK: &[u8] = b"\xef\xbb\xbf";
 
 /// What is wrong with a first line that isn't the header.
 pub fn put_header(page: &mut String, line: &[u8]) -> Result<(), AllocError> {
-    let slip = header_slip(line);
-    write!(
-        page,
-        "{slip}The first line that is no remark has to be: flow 1, or flow 2\n"
-    )
-}
-
-// What a first line was meant for.
-fn header_slip(line: &[u8]) -> &'static str {
     let rest = after_blanks(line);
+    let is_wide = line.starts_with(b"\xff\xfe") || line.starts_with(b"\xfe\xff");
     if line.starts_with(MARK) {
-        "The file begins with a byte order mark: three bytes, which are to be left out.\n"
+        page.push_str(
+            "The file begins with a byte order mark: three bytes, which are to be left out.\n",
+        )?;
     } else if line.starts_with(b"FLOWJ001") {
-        "This is a journal: it stands behind --replay, and then the network file.\n"
-    } else if is_wide(line) {
-        "This isn't ASCII or UTF-8: it seems to have two bytes for each letter.\n"
+        page.push_str(
+            "This is a journal: it stands behind --replay, and then the network file.\n",
+        )?;
+    } else if is_wide || line.contains(&0) {
+        page.push_str("This isn't ASCII or UTF-8: it seems to have two bytes for each letter.\n")?;
     } else if rest.starts_with(b"flow") {
-        "Behind flow stands the version of the language alone, which is 1 or 2.\n"
+        page.push_str("Behind flow stands the version of the language alone, which is 1 or 2.\n")?;
     } else if first(rest, 4).eq_ignore_ascii_case(b"flow") {
-        "Upper and lower case differ.\n"
-    } else {
-        ""
+        page.push_str("Upper and lower case differ.\n")?;
     }
-}
-
-// Whether a line seems to have two bytes for each letter.
-fn is_wide(line: &[u8]) -> bool {
-    line.starts_with(b"\xff\xfe") || line.starts_with(b"\xfe\xff") || line.contains(&0)
+    page.push_str("The first line that is no remark has to be: flow 1, or flow 2\n")
 }
 
 // Whether this is the name of the automatic port of a side, but for upper and lower case.
@@ -94,66 +84,48 @@ fn begins_with_digit(bytes: &[u8]) -> bool {
     }
 }
 
-// The quotes of other alphabets, and their arrow and dash.
-const QUOTES: [&str; 5] = ["\u{2018}", "\u{2019}", "\u{201c}", "\u{201d}", "\u{201e}"];
-
-const ARROWS: [&str; 2] = ["\u{2192}", "\u{2013}"];
-
-fn begins_with_any(rest: &[u8], letters: &[&str]) -> bool {
-    for letter in letters {
-        if rest.starts_with(letter.as_bytes()) {
-            return true;
-        }
-    }
-    false
-}
-
 // What letters beyond ASCII were meant for.
 fn letters(rest: &[u8]) -> Option<&'static str> {
-    if begins_with_any(rest, &QUOTES) {
-        Some("A text stands between two quotes ', which is the one of ASCII.")
-    } else if begins_with_any(rest, &ARROWS) {
-        Some("The arrow is ->, with nothing within it.")
-    } else if rest.starts_with("\u{a0}".as_bytes()) {
-        Some("A blank is a space or a tab: this is another one, which doesn't break a line.")
-    } else if *rest.first()? >= 0x80 {
-        Some(
+    if rest.starts_with("\u{2018}".as_bytes())
+        || rest.starts_with("\u{2019}".as_bytes())
+        || rest.starts_with("\u{201c}".as_bytes())
+        || rest.starts_with("\u{201d}".as_bytes())
+        || rest.starts_with("\u{201e}".as_bytes())
+    {
+        return Some("A text stands between two quotes ', which is the one of ASCII.");
+    }
+    if rest.starts_with("\u{2192}".as_bytes()) || rest.starts_with("\u{2013}".as_bytes()) {
+        return Some("The arrow is ->, with nothing within it.");
+    }
+    if rest.starts_with("\u{a0}".as_bytes()) {
+        return Some(
+            "A blank is a space or a tab: this is another one, which doesn't break a line.",
+        );
+    }
+    if *rest.first()? >= 0x80 {
+        return Some(
             "A name has ASCII letters, digits and _; other letters stand in quoted texts and remarks.",
-        )
-    } else {
-        None
-    }
-}
-
-// Whether the line has a process and its port in capitals with a point between them, as A.OUT or A.*OUT.
-fn is_dotted(line: &[u8]) -> bool {
-    match behind_point(line) {
-        Some(part) if part.starts_with(b"*") => begins_with_capitals(behind(part, 1)),
-        Some(part) => begins_with_capitals(part),
-        None => false,
-    }
-}
-
-fn behind_point(line: &[u8]) -> Option<&[u8]> {
-    for (place, byte) in line.iter().enumerate() {
-        if *byte == b'.' {
-            return Some(behind(line, place.saturating_add(1)));
-        }
+        );
     }
     None
 }
 
-// Whether the word with which these bytes begin has a capital.
-fn begins_with_capitals(port: &[u8]) -> bool {
-    for byte in port {
-        if !is_word_byte(*byte) {
-            return false;
+// Whether the line has a process and its port in capitals with a point between them, as A.OUT or A.*OUT.
+fn is_dotted(line: &[u8]) -> bool {
+    let mut parts = line.split(|byte| *byte == b'.');
+    let _ = parts.next();
+    match parts.next() {
+        Some(part) => {
+            let port = if part.starts_with(b"*") {
+                behind(part, 1)
+            } else {
+                part
+            };
+            let mut word = port.iter().take_while(|byte| is_word_byte(**byte));
+            word.any(|byte| byte.is_ascii_uppercase())
         }
-        if byte.is_ascii_uppercase() {
-            return true;
-        }
+        None => false,
     }
-    false
 }
 
 /// What is wrong with a byte that begins no token in a file of this version. What is left of its line begins with it.
@@ -165,24 +137,23 @@ pub fn put_bad_byte(
 ) -> Result<(), AllocError> {
     let before = line.len().saturating_sub(rest.len());
     let column = before.saturating_add(1);
-    let letter = Word(first(rest, letter_width(rest)));
-    let (meant, end) = match meant(rest, line, version) {
-        Some(meant) => (meant, "\n"),
-        None => ("", ""),
-    };
-    write!(
-        page,
-        "At byte {column} of the line, {letter} begins no word, number or sign.\n{meant}{end}"
-    )
-}
-
-// How many bytes the letter has with which these bytes begin, or one where they begin with none.
-fn letter_width(rest: &[u8]) -> usize {
-    match rest.utf8_chunks().next() {
+    write!(page, "At byte {column} of the line, ")?;
+    let letter = rest.utf8_chunks().next();
+    let width = match letter {
         Some(chunk) => match chunk.valid().chars().next() {
             Some(letter) => letter.len_utf8(),
             None => 1,
         },
         None => 0,
+    };
+    put_word(page, first(rest, width))?;
+    page.push_str(" begins no word, number or sign.\n")?;
+    match meant(rest, line, version) {
+        Some(meant) => {
+            page.push_str(meant)?;
+            page.push('\n')?;
+            Ok(())
+        }
+        None => Ok(()),
     }
 }

@@ -26,22 +26,13 @@ pub fn expect_kept<R: Files<File = File> + Drop>(
     shelf: &mut FileShelf<R>,
     words: &[String],
 ) -> Result<(), AllocError> {
-    match command(alloc, words)? {
-        Some(Command::Run(asked)) => expect_files(alloc, shelf, asked.journal, asked.tapes),
-        _ => Ok(()),
-    }
-}
-
-fn expect_files<R: Files<File = File> + Drop>(
-    alloc: Global,
-    shelf: &mut FileShelf<R>,
-    journal: Option<&str>,
-    tapes: Option<&str>,
-) -> Result<(), AllocError> {
-    if let Some(name) = journal {
+    let Some(Command::Run(asked)) = command(alloc, words)? else {
+        return Ok(());
+    };
+    if let Some(name) = asked.journal {
         shelf.expect_journal(String::from_str(alloc, name)?);
     }
-    if let Some(name) = tapes {
+    if let Some(name) = asked.tapes {
         shelf.expect_tapes(String::from_str(alloc, name)?);
     }
     Ok(())

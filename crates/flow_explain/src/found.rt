@@ -10,12 +10,15 @@ use std::alloc::{AllocError, Global};
 /// What is looked for in the lines of a part.
 #[derive(Clone, Copy)]
 pub enum Wanted<'a> {
+    /// The line with this number.
+    Number(u64),
     /// A line that mentions this process.
     Process(&'a [u8]),
     /// One that gives it a kind.
     Kind(&'a [u8]),
-    /// One that mentions this port of it on this side of the arrow.
-    Port(Side, &'a [u8], &'a [u8]),
+    /// One that mentions this port of it before the arrow, or behind it.
+    Output(&'a [u8], &'a [u8]),
+    Input(&'a [u8], &'a [u8]),
     /// Another line than the one of this number, with the same element of a port on this side.
     Other(u64, Mention<'a>, Side),
     /// One that mentions an element of an array that is behind this one.
@@ -62,8 +65,7 @@ pub fn is_same_port(one: &Mention<'_>, other: &Mention<'_>) -> bool {
         && one.element.unwrap_or(b"0") == other.element.unwrap_or(b"0")
 }
 
-/// Whether this port of this process is mentioned.
-pub fn is_port(mention: Option<Mention<'_>>, process: &[u8], port: &[u8]) -> bool {
+fn is_port(mention: Option<Mention<'_>>, process: &[u8], port: &[u8]) -> bool {
     match mention {
         Some(mention) => mention.process == process && mention.port == port,
         None => false,
@@ -77,6 +79,13 @@ fn is_process(mention: Option<Mention<'_>>, process: &[u8]) -> bool {
     }
 }
 
+fn gives_kind(mention: Option<Mention<'_>>, process: &[u8]) -> bool {
+    match mention {
+        Some(mention) => mention.process == process && mention.kind.is_some(),
+        None => false,
+    }
+}
+
 fn is_same(mention: Option<Mention<'_>>, other: &Mention<'_>) -> bool {
     match mention {
         Some(mention) => is_same_port(&mention, other),
@@ -84,171 +93,147 @@ fn is_same(mention: Option<Mention<'_>>, other: &Mention<'_>) -> bool {
     }
 }
 
-// Whether an element behind this one is mentioned, of this port of this process.
 fn is_behind(mention: Option<Mention<'_>>, process: &[u8], port: &[u8], element: u32) -> bool {
-    match mention {
-        Some(mention) => {
-            mention.process == process
-                && mention.port == port
-                && is_element_behind(mention.element.unwrap_or(b"0"), element)
+    let Some(mention) = mention else {
+        return false;
+    };
+    match decimal(mention.element.unwrap_or(b"0"), 0, u64::from(LAST_ELEMENT)) {
+        Some(found) => {
+            mention.process == process && mention.port == port && found > u64::from(element)
         }
-        None => false,
-    }
-}
-
-fn is_element_behind(word: &[u8], element: u32) -> bool {
-    match decimal(word, 0, u64::from(LAST_ELEMENT)) {
-        Some(found) => found > u64::from(element),
         None => false,
     }
 }
 
 fn gives_capacity(said: &Said<'_>, input: &Mention<'_>) -> bool {
-    said.capacity.is_some() && is_same(said.to, input)
+    match (said.capacity, said.to) {
+        (Some(_), Some(to)) => is_same_port(&to, input),
+        _ => false,
+    }
 }
 
 fn is_wanted(found: &Found<'_>, wanted: &Wanted<'_>) -> bool {
     let said = &found.said;
     match wanted {
+        Wanted::Number(line) => found.number == *line,
         Wanted::Process(process) => {
             is_process(said.from, process) || is_process(said.to, process)
         }
-        Wanted::Kind(process) => kind_given(said, process).is_some(),
-        Wanted::Port(side, process, port) => is_port(said.mention(*side), process, port),
-        Wanted::Other(number, mention, side) => {
-            found.number != *number && is_same(said.mention(*side), mention)
+        Wanted::Kind(process) => gives_kind(said.from, process) || gives_kind(said.to, process),
+        Wanted::Output(process, port) => is_port(said.from, process, port),
+        Wanted::Input(process, port) => is_port(said.to, process, port),
+        Wanted::Other(number, mention, Side::Output) => {
+            found.number != *number && is_same(said.from, mention)
+        }
+        Wanted::Other(number, mention, Side::Input) => {
+            found.number != *number && is_same(said.to, mention)
         }
         Wanted::Behind(process, port, element) => {
             is_behind(said.from, process, port, *element)
                 || is_behind(said.to, process, port, *element)
         }
         Wanted::Text(process, port) => {
-            matches!(said.tag, Tag::Initial) && is_port(said.to, process, port)
+            said.tag == Tag::Initial && is_port(said.to, process, port)
         }
         Wanted::Capacity(input) => gives_capacity(said, input),
-        Wanted::Subnet(name) => matches!(said.tag, Tag::Subnet) && said.name == *name,
+        Wanted::Subnet(name) => said.tag == Tag::Subnet && said.name == *name,
     }
 }
 
 // The version of a file whose first line that is no remark says this. Where that is no header the file is refused for it.
 fn version_of(said: &Said<'_>) -> u32 {
-    match said.tag {
-        Tag::Header if said.name == b"2".as_slice() => SECOND_VERSION,
-        _ => FIRST_VERSION,
+    if said.tag == Tag::Header && said.name == b"2".as_slice() {
+        SECOND_VERSION
+    } else {
+        FIRST_VERSION
     }
 }
 
 /// A walk over the lines of a file. Its version is told by its first line that is no remark.
 #[derive(Drop)]
-struct Walk<'a> {
-    number: u64,
-    version: Option<u32>,
-    part: Option<&'a [u8]>,
+pub struct Walk<'a> {
+    pub number: u64,
+    pub version: Option<u32>,
+    pub part: Option<&'a [u8]>,
 }
 
 impl<'a> Walk<'a> {
-    // The next line, unless it is a remark.
-    fn next_line(
-        &mut self,
-        alloc: Global,
-        line: &'a [u8],
-    ) -> Result<Option<Found<'a>>, AllocError> {
-        self.number = self.number.saturating_add(1);
-        if is_remark(line) {
-            return Ok(None);
+    pub fn new() -> Self {
+        Walk {
+            number: 0,
+            version: None,
+            part: None,
         }
-        let said = said_by(alloc, self.version.unwrap_or(FIRST_VERSION), line)?;
-        Ok(Some(self.found(line, said)))
     }
 
-    // A line that says this. The lines that begin and end a subnet belong to it.
-    fn found(&mut self, line: &'a [u8], said: Said<'a>) -> Found<'a> {
-        let version = match self.version {
-            Some(version) => version,
-            None => version_of(&said),
-        };
-        let part = match said.tag {
-            Tag::Subnet => Some(said.name),
-            _ => self.part,
-        };
-        self.version = Some(version);
-        self.part = match said.tag {
-            Tag::End => None,
-            _ => part,
-        };
-        Found {
+    /// The next line. The lines that begin and end a subnet belong to it.
+    pub fn next_line(&mut self, alloc: Global, line: &'a [u8]) -> Result<Found<'a>, AllocError> {
+        self.number = self.number.saturating_add(1);
+        let line = bare(line);
+        let said = said_by(alloc, self.version.unwrap_or(FIRST_VERSION), line)?;
+        if self.version.is_none() && !is_remark(line) {
+            self.version = Some(version_of(&said));
+        }
+        if said.tag == Tag::Subnet {
+            self.part = Some(said.name);
+        }
+        let part = self.part;
+        if said.tag == Tag::End {
+            self.part = None;
+        }
+        Ok(Found {
             number: self.number,
-            version,
+            version: self.version.unwrap_or(FIRST_VERSION),
             part,
             line,
             said,
-        }
+        })
     }
-}
-
-/// The lines of a file that are no remarks.
-pub fn lines_of<'a>(alloc: Global, net: &'a [u8]) -> Result<Vec<Found<'a>>, AllocError> {
-    let mut walk = Walk {
-        number: 0,
-        version: None,
-        part: None,
-    };
-    let mut lines = Vec::new(alloc);
-    for line in net.split(|byte| *byte == b'\n') {
-        if let Some(found) = walk.next_line(alloc, bare(line))? {
-            lines.push(found)?;
-        }
-    }
-    Ok(lines)
-}
-
-/// The line of this number.
-pub fn numbered<'a>(lines: &'a [Found<'a>], number: u64) -> Option<&'a Found<'a>> {
-    for found in lines {
-        if found.number == number {
-            return Some(found);
-        }
-    }
-    None
 }
 
 /// The first line of a part that is wanted.
 pub fn find_in<'a>(
-    lines: &'a [Found<'a>],
+    alloc: Global,
+    net: &'a [u8],
     part: Option<&[u8]>,
     wanted: &Wanted<'_>,
-) -> Option<&'a Found<'a>> {
-    for found in lines {
-        if is_same_part(found.part, part) && is_wanted(found, wanted) {
-            return Some(found);
+) -> Result<Option<Found<'a>>, AllocError> {
+    let mut walk = Walk::new();
+    for line in net.split(|byte| *byte == b'\n') {
+        let found = walk.next_line(alloc, line)?;
+        if is_same_part(found.part, part) && is_wanted(&found, wanted) {
+            return Ok(Some(found));
         }
     }
-    None
+    Ok(None)
 }
 
 /// The first line of the file that is wanted, in whichever part.
-pub fn find<'a>(lines: &'a [Found<'a>], wanted: &Wanted<'_>) -> Option<&'a Found<'a>> {
-    for found in lines {
-        if is_wanted(found, wanted) {
-            return Some(found);
+pub fn find<'a>(
+    alloc: Global,
+    net: &'a [u8],
+    wanted: &Wanted<'_>,
+) -> Result<Option<Found<'a>>, AllocError> {
+    let mut walk = Walk::new();
+    for line in net.split(|byte| *byte == b'\n') {
+        let found = walk.next_line(alloc, line)?;
+        if is_wanted(&found, wanted) {
+            return Ok(Some(found));
         }
     }
-    None
-}
-
-// The kind that a mention gives a process.
-fn kind_in<'a>(mention: Option<Mention<'a>>, process: &[u8]) -> Option<&'a [u8]> {
-    match mention {
-        Some(mention) if mention.process == process => mention.kind,
-        _ => None,
-    }
+    Ok(None)
 }
 
 /// The kind that a line gives a process.
 pub fn kind_given<'a>(said: &Said<'a>, process: &[u8]) -> Option<&'a [u8]> {
-    match kind_in(said.from, process) {
-        Some(kind) => Some(kind),
-        None => kind_in(said.to, process),
+    if let Some(mention) = said.from {
+        if mention.process == process && mention.kind.is_some() {
+            return mention.kind;
+        }
+    }
+    match said.to {
+        Some(mention) if mention.process == process => mention.kind,
+        _ => None,
     }
 }
 
@@ -259,34 +244,29 @@ pub struct Home<'a> {
     pub process: &'a [u8],
 }
 
-/// The kind of a process.
-pub fn kind_of<'a>(lines: &'a [Found<'a>], home: &Home<'_>) -> Option<&'a [u8]> {
-    let found = find_in(lines, home.part, &Wanted::Kind(home.process))?;
-    kind_given(&found.said, home.process)
-}
-
-// The part in which the process of this name stands that is the next in a flat name.
-fn next_home<'a>(lines: &'a [Found<'a>], home: &Home<'a>, name: &'a [u8]) -> Home<'a> {
-    let part = if home.process.is_empty() {
-        home.part
-    } else {
-        kind_of(lines, home)
-    };
-    Home {
-        part,
-        process: name,
+// The kind of a process of a part.
+pub fn kind_of<'a>(
+    alloc: Global,
+    net: &'a [u8],
+    part: Option<&[u8]>,
+    process: &[u8],
+) -> Result<Option<&'a [u8]>, AllocError> {
+    match find_in(alloc, net, part, &Wanted::Kind(process))? {
+        Some(found) => Ok(kind_given(&found.said, process)),
+        None => Ok(None),
     }
 }
 
 /// The part in which a process stands that has this flat name, and its name there: the name begins with those of the
 /// subnet processes around it.
-pub fn home_of<'a>(lines: &'a [Found<'a>], flat: &'a [u8]) -> Home<'a> {
-    let mut home = Home {
-        part: None,
-        process: b"",
-    };
+pub fn home_of<'a>(alloc: Global, net: &'a [u8], flat: &'a [u8]) -> Result<Home<'a>, AllocError> {
+    let mut part = None;
+    let mut process: &'a [u8] = b"";
     for name in flat.split(|byte| *byte == b'.') {
-        home = next_home(lines, &home, name);
+        if !process.is_empty() {
+            part = kind_of(alloc, net, part, process)?;
+        }
+        process = name;
     }
-    home
+    Ok(Home { part, process })
 }

@@ -1,7 +1,7 @@
 //! Where a subnet stands inside itself.
-use crate::found::Found;
-use crate::kinds::Side;
+use crate::found::{Found, Walk};
 use crate::net::Net;
+use crate::said::Mention;
 use std::alloc::AllocError;
 
 /// So many kinds are followed at most, and the file is gone through so often.
@@ -10,7 +10,7 @@ const MOST_KINDS: usize = 64;
 const MOST_PASSES: usize = 16;
 
 /// The line that gives a process the kind of this subnet, in the subnet or in one that is met inside it.
-pub fn met_again<'a>(net: Net<'a>, subnet: &'a [u8]) -> Result<Option<&'a Found<'a>>, AllocError> {
+pub fn met_again<'a>(net: Net<'a>, subnet: &'a [u8]) -> Result<Option<Found<'a>>, AllocError> {
     let mut met = Vec::new(net.alloc);
     met.push(subnet)?;
     for _ in 0..MOST_PASSES {
@@ -26,36 +26,32 @@ fn pass<'a>(
     net: Net<'a>,
     subnet: &[u8],
     met: &mut Vec<&'a [u8]>,
-) -> Result<Option<&'a Found<'a>>, AllocError> {
-    for found in net.lines {
-        if is_in(met, found.part.unwrap_or(b"")) {
-            let from = kind(found, Side::Output);
-            let to = kind(found, Side::Input);
-            if from == subnet || to == subnet {
+) -> Result<Option<Found<'a>>, AllocError> {
+    let mut walk = Walk::new();
+    for line in net.bytes.split(|byte| *byte == b'\n') {
+        let found = walk.next_line(net.alloc, line)?;
+        let part = found.part.unwrap_or(b"");
+        if is_in(met, part) {
+            if kind(found.said.from) == subnet || kind(found.said.to) == subnet {
                 return Ok(Some(found));
             }
-            add(met, from)?;
-            add(met, to)?;
+            add(met, kind(found.said.from))?;
+            add(met, kind(found.said.to))?;
         }
     }
     Ok(None)
 }
 
-// The kind that a line gives a process on this side of the arrow, or no word.
-fn kind<'a>(found: &Found<'a>, side: Side) -> &'a [u8] {
-    match found.said.mention(side) {
+// The kind that a mention gives, or no word.
+fn kind(mention: Option<Mention<'_>>) -> &[u8] {
+    match mention {
         Some(mention) => mention.kind.unwrap_or(b""),
         None => b"",
     }
 }
 
 fn is_in(met: &[&[u8]], kind: &[u8]) -> bool {
-    for other in met {
-        if *other == kind {
-            return true;
-        }
-    }
-    false
+    met.iter().any(|other| *other == kind)
 }
 
 fn add<'a>(met: &mut Vec<&'a [u8]>, kind: &'a [u8]) -> Result<(), AllocError> {

@@ -1,20 +1,20 @@
 //! What the table of kinds says of a kind, its ports and their options, in sentences.
+use crate::found::Walk;
 use crate::near::nearest;
 use crate::net::Net;
 use crate::said::Tag;
-use crate::shown::Word;
+use crate::shown::put_word;
+use flow_items::Text;
 use flow_limits::{FILE_NAME_LIMIT, LAST_ELEMENT};
 use flow_parse::FIRST_VERSION;
 use flow_plan::{KindSpec, PortClass, PortSpec};
 use std::alloc::{AllocError, Global};
-use std::fmt;
-use std::fmt::{Display, Formatter};
 
 /// So many subnets of a file are named among the kinds.
 const MOST_SUBNETS: usize = 16;
 
 /// A side of a process, as the arrow of a connection tells it.
-#[derive(Clone, Copy)]
+#[derive(Clone, Copy, PartialEq, Eq)]
 pub enum Side {
     Input,
     Output,
@@ -47,12 +47,7 @@ pub fn other_side(side: Side) -> Side {
 
 /// The row of a kind in the table.
 pub fn row<'a>(kinds: &'a [KindSpec], name: &[u8]) -> Option<&'a KindSpec> {
-    for kind in kinds {
-        if kind.name.as_slice() == name {
-            return Some(kind);
-        }
-    }
-    None
+    kinds.iter().find(|kind| kind.name.as_slice() == name)
 }
 
 /// The ports of a kind on one side.
@@ -65,27 +60,20 @@ pub fn ports(kind: &KindSpec, side: Side) -> &[PortSpec] {
 
 /// A port of a kind on one side.
 pub fn port<'a>(kind: &'a KindSpec, side: Side, name: &[u8]) -> Option<&'a PortSpec> {
-    for port in ports(kind, side) {
-        if port.name.as_slice() == name {
-            return Some(port);
-        }
-    }
-    None
+    ports(kind, side)
+        .iter()
+        .find(|port| port.name.as_slice() == name)
 }
 
 /// Whether any kind of the table has a port of this name.
 pub fn is_port_name(kinds: &[KindSpec], name: &[u8]) -> bool {
-    for kind in kinds {
-        if port(kind, Side::Input, name).is_some() || port(kind, Side::Output, name).is_some() {
-            return true;
-        }
-    }
-    false
+    kinds.iter().any(|kind| port(kind, Side::Input, name).is_some()
+        || port(kind, Side::Output, name).is_some())
 }
 
 /// Whether a port takes a text, and no packets.
 pub fn is_option(port: &PortSpec) -> bool {
-    !matches!(port.class, PortClass::Stream)
+    port.class != PortClass::Stream
 }
 
 /// The names of the kinds, and of the first subnets of the file, which are kinds in it.
@@ -94,18 +82,16 @@ pub fn names(net: Net<'_>) -> Result<Vec<&[u8]>, AllocError> {
     for kind in net.kinds {
         names.push(kind.name.as_slice())?;
     }
-    add_subnets(net, &mut names)?;
-    Ok(names)
-}
-
-fn add_subnets<'a>(net: Net<'a>, names: &mut Vec<&'a [u8]>) -> Result<(), AllocError> {
-    let most = names.len().saturating_add(MOST_SUBNETS);
-    for found in net.lines {
-        if matches!(found.said.tag, Tag::Subnet) && names.len() < most {
+    let mut walk = Walk::new();
+    let mut left = MOST_SUBNETS;
+    for line in net.bytes.split(|byte| *byte == b'\n') {
+        let found = walk.next_line(net.alloc, line)?;
+        if found.said.tag == Tag::Subnet && left > 0 {
             names.push(found.said.name)?;
+            left = left.saturating_sub(1);
         }
     }
-    Ok(())
+    Ok(names)
 }
 
 /// The name of a port of a kind's side that is nearest to a wrong one, in a file of this version.
@@ -132,160 +118,104 @@ pub fn put_names(
     names: &[&[u8]],
     first: Option<&[u8]>,
 ) -> Result<(), AllocError> {
-    let mut before = "The kinds are ";
+    page.push_str("The kinds are ")?;
+    let mut between = "";
     if let Some(first) = first {
-        write!(page, "{before}{}", Word(first))?;
-        before = ", ";
+        put_word(page, first)?;
+        between = ", ";
     }
     for name in names {
         if first != Some(*name) {
-            write!(page, "{before}{}", Word(name))?;
-            before = ", ";
+            page.push_str(between)?;
+            put_word(page, name)?;
+            between = ", ";
         }
     }
     page.push_str(".\n")
 }
 
-// What stands behind the name of a port.
-fn remark(port: &PortSpec) -> &'static str {
-    match (is_option(port), port.needed) {
-        (true, true) => " (a text)",
-        (true, false) => " (a text, which may be left out)",
-        (false, true) => "",
-        (false, false) => " (may be left open)",
-    }
-}
-
 // A port with what stands behind its name.
-#[derive(Clone, Copy)]
-struct OnePort<'a>(&'a PortSpec);
-
-impl Display for OnePort<'_> {
-    fn fmt<W: fmt::Write>(&self, page: &mut Formatter<W>) -> fmt::Result {
-        let name = Word(self.0.name.as_slice());
-        let remark = remark(self.0);
-        if self.0.array {
-            write!(page, "{name}[0] to [{LAST_ELEMENT}]{remark}")
-        } else {
-            write!(page, "{name}{remark}")
-        }
+fn put_port(page: &mut String, port: &PortSpec) -> Result<(), AllocError> {
+    put_word(page, port.name.as_slice())?;
+    if port.array {
+        write!(page, "[0] to [{LAST_ELEMENT}]")?;
+    }
+    match (is_option(port), port.needed) {
+        (true, true) => page.push_str(" (a text)"),
+        (true, false) => page.push_str(" (a text, which may be left out)"),
+        (false, true) => Ok(()),
+        (false, false) => page.push_str(" (may be left open)"),
     }
 }
 
-// The ports of a kind on one side.
-#[derive(Clone, Copy)]
-struct SidePorts<'a> {
-    kind: &'a KindSpec,
-    side: Side,
-}
-
-impl Display for SidePorts<'_> {
-    fn fmt<W: fmt::Write>(&self, page: &mut Formatter<W>) -> fmt::Result {
-        let ports = ports(self.kind, self.side);
-        let word = self.side.word();
-        if ports.is_empty() {
-            return write!(page, "no {word}");
-        }
-        page.write_str(word)?;
-        let mut between = " ";
-        for port in ports {
-            write!(page, "{between}{}", OnePort(port))?;
-            between = ", ";
-        }
-        Ok(())
+fn put_side(page: &mut String, kind: &KindSpec, side: Side) -> Result<(), AllocError> {
+    let ports = ports(kind, side);
+    if ports.is_empty() {
+        return write!(page, "no {}", side.word());
     }
+    page.push_str(side.word())?;
+    let mut between = " ";
+    for port in ports {
+        page.push_str(between)?;
+        put_port(page, port)?;
+        between = ", ";
+    }
+    Ok(())
 }
 
 /// The ports of a kind, on both sides, in a file of this version.
 pub fn put_ports(page: &mut String, kind: &KindSpec, version: u32) -> Result<(), AllocError> {
-    let inputs = SidePorts {
-        kind,
-        side: Side::Input,
-    };
-    let outputs = SidePorts {
-        kind,
-        side: Side::Output,
-    };
-    let besides = if version == FIRST_VERSION {
-        ""
-    } else {
-        "Besides, every process has an automatic input *IN and an automatic output *OUT.\n"
-    };
-    let name = Word(kind.name.as_slice());
-    write!(
-        page,
-        "The ports of the kind {name}: {inputs}; {outputs}.\n{besides}"
+    page.push_str("The ports of the kind ")?;
+    put_word(page, kind.name.as_slice())?;
+    page.push_str(": ")?;
+    put_side(page, kind, Side::Input)?;
+    page.push_str("; ")?;
+    put_side(page, kind, Side::Output)?;
+    page.push_str(".\n")?;
+    if version == FIRST_VERSION {
+        return Ok(());
+    }
+    page.push_str(
+        "Besides, every process has an automatic input *IN and an automatic output *OUT.\n",
     )
 }
 
 /// What the text of an option may be.
-pub fn put_option(page: &mut String, option: &PortSpec) -> Result<(), AllocError> {
-    write!(
-        page,
-        "{}{}",
-        Word(option.name.as_slice()),
-        Allowed(option.class)
-    )
-}
-
-// What the text of an option may be, behind its name.
-#[derive(Clone, Copy)]
-struct Allowed(PortClass);
-
-impl Display for Allowed {
-    fn fmt<W: fmt::Write>(&self, page: &mut Formatter<W>) -> fmt::Result {
-        page.write_str(match self.0 {
-            PortClass::Number { least, most } => {
-                return write!(
-                    page,
-                    " is a number from {least} to {most}, in digits without zeros in front.\n"
-                );
-            }
-            PortClass::File => {
-                return write!(
-                    page,
-                    " is the name of a file: 1 to {FILE_NAME_LIMIT} bytes that are UTF-8, and no byte 0 among them.\n"
-                );
-            }
-            PortClass::Stream => " takes packets.\n",
-            PortClass::Fields =>
-                " is one to eight numbers from 1 to 255, with one space between two.\n",
-            PortClass::Pattern => " is a pattern: a regular expression, in UTF-8.\n",
-            PortClass::Text => " is any text.\n",
-        })
+pub fn put_option(page: &mut String, name: &Text, class: PortClass) -> Result<(), AllocError> {
+    put_word(page, name.as_slice())?;
+    match class {
+        PortClass::Stream => page.push_str(" takes packets.\n"),
+        PortClass::Number { least, most } => {
+            write!(
+                page,
+                " is a number from {least} to {most}, in digits without zeros in front.\n"
+            )
+        }
+        PortClass::Fields => page.push_str(
+            " is one to eight numbers from 1 to 255, with one space between two.\n",
+        ),
+        PortClass::File => {
+            write!(
+                page,
+                " is the name of a file: 1 to {FILE_NAME_LIMIT} bytes that are UTF-8, and no byte 0 among them.\n"
+            )
+        }
+        PortClass::Pattern => page.push_str(" is a pattern: a regular expression, in UTF-8.\n"),
+        PortClass::Text => page.push_str(" is any text.\n"),
     }
 }
 
 /// A text that such an option may be, as an example.
-#[derive(Clone, Copy)]
-pub struct Example(pub PortClass);
-
-impl Display for Example {
-    fn fmt<W: fmt::Write>(&self, page: &mut Formatter<W>) -> fmt::Result {
-        page.write_str(match self.0 {
-            PortClass::Number { least, most } => {
-                let number = least.max(20).min(most);
-                return write!(page, "{number}");
-            }
-            PortClass::Stream | PortClass::Text => "TEXT",
-            PortClass::Fields => "3 5",
-            PortClass::File => "in.txt",
-            PortClass::Pattern => "^[0-9]+",
-        })
+pub fn put_example(page: &mut String, class: PortClass) -> Result<(), AllocError> {
+    match class {
+        PortClass::Stream => page.push_str("TEXT"),
+        PortClass::Number { least, most } => {
+            let number = least.max(20).min(most);
+            write!(page, "{number}")
+        }
+        PortClass::Fields => page.push_str("3 5"),
+        PortClass::File => page.push_str("in.txt"),
+        PortClass::Pattern => page.push_str("^[0-9]+"),
+        PortClass::Text => page.push_str("TEXT"),
     }
-}
-
-/// Tells of a port or a kind that is nearest to a wrong one.
-pub fn put_near(
-    page: &mut String,
-    what: &str,
-    near: &[u8],
-    wrong: &[u8],
-) -> Result<(), AllocError> {
-    let how = if near.eq_ignore_ascii_case(wrong) {
-        "Upper and lower case differ: the"
-    } else {
-        "The nearest"
-    };
-    write!(page, "{how} {what} is {}.\n", Word(near))
 }

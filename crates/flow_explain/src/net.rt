@@ -1,22 +1,18 @@
 //! A network file that is explained, beside the table of kinds.
-use crate::found::{Found, Home, Wanted, find_in, home_of, is_port, is_same_part, kind_of};
+use crate::found::{Found, Home, Walk, Wanted, find_in, home_of, is_same_part, kind_of};
 use crate::kinds::{Side, row};
 use crate::own::OwnKinds;
 use crate::place::{Counted, canonical, fewest, statement};
-use crate::shown::Word;
+use crate::shown::put_line;
 use flow_flat::ExpandFault;
-use flow_parse::FIRST_VERSION;
 use flow_plan::KindSpec;
 use std::alloc::{AllocError, Global};
-use std::fmt;
-use std::fmt::{Display, Formatter};
 
-/// The bytes of a network file, the lines in it that are no remarks, and the rows of the table of kinds.
+/// The bytes of a network file, and the rows of the table of kinds.
 #[derive(Clone, Copy)]
 pub struct Net<'a> {
     pub alloc: Global,
     pub bytes: &'a [u8],
-    pub lines: &'a [Found<'a>],
     pub kinds: &'a [KindSpec],
     /// Those of them that are the caller's own.
     pub own: OwnKinds<'a>,
@@ -25,61 +21,82 @@ pub struct Net<'a> {
 /// The statement at fault, and the line that has the port which is at fault.
 #[derive(Clone, Copy)]
 pub struct AtFault<'a> {
-    pub statement: Option<&'a Found<'a>>,
-    pub port: Option<&'a Found<'a>>,
+    pub statement: Option<Found<'a>>,
+    pub port: Option<Found<'a>>,
 }
 
-/// A line with its number, or nothing where there is none.
-#[derive(Clone, Copy)]
-pub struct Line<'a>(pub Option<&'a Found<'a>>);
+/// Shows a line.
+pub fn put_found(page: &mut String, found: &Found<'_>) -> Result<(), AllocError> {
+    put_line(page, found.number, found.line, 0)
+}
 
-impl Display for Line<'_> {
-    fn fmt<W: fmt::Write>(&self, page: &mut Formatter<W>) -> fmt::Result {
-        match self.0 {
-            Some(found) => write!(page, "{} | {}\n", found.number, Word(found.line)),
-            None => Ok(()),
-        }
+/// Shows a line, where there is one.
+pub fn put_if_found(page: &mut String, found: Option<Found<'_>>) -> Result<(), AllocError> {
+    match found {
+        Some(found) => put_found(page, &found),
+        None => Ok(()),
+    }
+}
+
+/// Whether a line mentions this port of this process on this side.
+pub fn has_port(found: &Found<'_>, process: &[u8], port: &[u8], side: Side) -> bool {
+    let mention = match side {
+        Side::Output => found.said.from,
+        Side::Input => found.said.to,
+    };
+    match mention {
+        Some(mention) => mention.process == process && mention.port == port,
+        None => false,
     }
 }
 
 impl<'a> Net<'a> {
     /// The version of the file.
-    pub fn version(&self) -> u32 {
-        match self.lines.first() {
-            Some(found) => found.version,
-            None => FIRST_VERSION,
+    pub fn version(&self) -> Result<u32, AllocError> {
+        let mut walk = Walk::new();
+        for line in self.bytes.split(|byte| *byte == b'\n') {
+            let _ = walk.next_line(self.alloc, line)?;
+            if let Some(version) = walk.version {
+                return Ok(version);
+            }
         }
+        Ok(1)
     }
 
     /// The part and the name there of the process with this flat name.
-    pub fn home(&self, flat: &'a [u8]) -> Home<'a> {
-        home_of(self.lines, flat)
+    pub fn home(&self, flat: &'a [u8]) -> Result<Home<'a>, AllocError> {
+        home_of(self.alloc, self.bytes, flat)
     }
 
     /// The name of the kind that a process is given.
-    pub fn kind(&self, home: &Home<'_>) -> Option<&'a [u8]> {
-        kind_of(self.lines, home)
+    pub fn kind(&self, home: &Home<'a>) -> Result<Option<&'a [u8]>, AllocError> {
+        kind_of(self.alloc, self.bytes, home.part, home.process)
     }
 
     /// The row of the kind that a process is given.
-    pub fn row(&self, home: &Home<'_>) -> Option<&'a KindSpec> {
-        row(self.kinds, self.kind(home)?)
+    pub fn row(&self, home: &Home<'a>) -> Result<Option<&'a KindSpec>, AllocError> {
+        match self.kind(home)? {
+            Some(kind) => Ok(row(self.kinds, kind)),
+            None => Ok(None),
+        }
     }
 
     /// The first line of a process's part that is wanted.
-    pub fn find(&self, home: &Home<'_>, wanted: &Wanted<'_>) -> Option<&'a Found<'a>> {
-        find_in(self.lines, home.part, wanted)
+    pub fn find(
+        &self,
+        home: &Home<'a>,
+        wanted: &Wanted<'_>,
+    ) -> Result<Option<Found<'a>>, AllocError> {
+        find_in(self.alloc, self.bytes, home.part, wanted)
     }
 
     /// The statement at fault, where the fault is one of a statement.
-    pub fn statement(&self, fault: &ExpandFault) -> Result<Option<&'a Found<'a>>, AllocError> {
-        match canonical(self.alloc, self.bytes)? {
-            Some(spelling) => {
-                let number = fewest(self.alloc, &spelling, self.own, Counted::Statements, fault)?;
-                Ok(statement(self.lines, number))
-            }
-            None => Ok(None),
-        }
+    pub fn statement(&self, fault: &ExpandFault) -> Result<Option<Found<'a>>, AllocError> {
+        let Some(spelling) = canonical(self.alloc, self.bytes)? else {
+            return Ok(None);
+        };
+        let number = fewest(self.alloc, &spelling, self.own, Counted::Statements, fault)?;
+        statement(self.alloc, self.bytes, number)
     }
 
     /// Shows the statement at fault, and the line that has the port on this side where it is another one: inside a subnet
@@ -88,31 +105,29 @@ impl<'a> Net<'a> {
         &self,
         page: &mut String,
         fault: &ExpandFault,
-        home: &Home<'_>,
+        home: &Home<'a>,
         port: &[u8],
         side: Side,
     ) -> Result<AtFault<'a>, AllocError> {
         let statement = self.statement(fault)?;
-        if has_port(statement, home, port, side) {
-            write!(page, "{}", Line(statement))?;
-            return Ok(AtFault {
-                statement,
-                port: statement,
-            });
+        if let Some(found) = statement {
+            put_found(page, &found)?;
+            if is_same_part(found.part, home.part) && has_port(&found, home.process, port, side) {
+                return Ok(AtFault {
+                    statement,
+                    port: statement,
+                });
+            }
         }
-        let port = self.find(home, &Wanted::Port(side, home.process, port));
-        write!(page, "{}{}", Line(statement), Line(port))?;
-        Ok(AtFault { statement, port })
-    }
-}
-
-// Whether a line stands in the part of this process, and mentions this port of it on this side.
-fn has_port(found: Option<&Found<'_>>, home: &Home<'_>, port: &[u8], side: Side) -> bool {
-    match found {
-        Some(found) => {
-            is_same_part(found.part, home.part)
-                && is_port(found.said.mention(side), home.process, port)
-        }
-        None => false,
+        let wanted = match side {
+            Side::Output => Wanted::Output(home.process, port),
+            Side::Input => Wanted::Input(home.process, port),
+        };
+        let inner = self.find(home, &wanted)?;
+        put_if_found(page, inner)?;
+        Ok(AtFault {
+            statement,
+            port: inner,
+        })
     }
 }

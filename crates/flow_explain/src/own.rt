@@ -1,7 +1,7 @@
 //! Kinds of the caller's own, which a network file may name beside the standard ones.
 ghost use Rattle.flow_offer.specs.Kinds.{AreOwnKinds};
 
-use crate::shown::Word;
+use crate::shown::put_word;
 use flow_plan::{KindSpec, Plan};
 use std::alloc::AllocError;
 
@@ -14,13 +14,10 @@ pub struct OwnKinds<'a> {
 
 // How many processes of a plan are of the kind.
 fn processes_of(plan: &Plan, kind: &KindSpec) -> usize {
-    let mut count: usize = 0;
-    for process in plan.processes() {
-        if process.kind == kind.name {
-            count = count.saturating_add(1);
-        }
-    }
-    count
+    plan.processes()
+        .iter()
+        .filter(|process| process.kind == kind.name)
+        .count()
 }
 
 /// Tells of the first of these kinds of which a plan has more processes than there are parts for them.
@@ -33,10 +30,11 @@ pub fn put_no_part(
     for (kind, parts) in own.iter().zip(parts.iter()) {
         let processes = processes_of(plan, kind);
         if processes > *parts {
+            write!(page, "The network has {processes} processes of the kind ")?;
+            put_word(page, kind.name.as_slice())?;
             return write!(
                 page,
-                "The network has {processes} processes of the kind {}, and there are {parts} parts of it, one for each process.\nA program of your own may hand in more.\n",
-                Word(kind.name.as_slice())
+                ", and there are {parts} parts of it, one for each process.\nA program of your own may hand in more.\n"
             );
         }
     }

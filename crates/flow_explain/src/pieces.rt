@@ -23,53 +23,6 @@ pub enum Piece<'a> {
     Other(u8),
 }
 
-/// A word of the language, which is no name.
-#[derive(Clone, Copy)]
-pub enum Keyword {
-    Flow,
-    Subnet,
-    End,
-    Inport,
-    Outport,
-}
-
-const FLOW: &[u8] = b"flow";
-
-const SUBNET: &[u8] = b"subnet";
-
-const END: &[u8] = b"end";
-
-const INPORT: &[u8] = b"inport";
-
-const OUTPORT: &[u8] = b"outport";
-
-impl Keyword {
-    /// The word of the language that this one is, if it is one.
-    pub fn of(word: &[u8]) -> Option<Keyword> {
-        if word == FLOW {
-            Some(Keyword::Flow)
-        } else if word == SUBNET {
-            Some(Keyword::Subnet)
-        } else if word == END {
-            Some(Keyword::End)
-        } else if word == INPORT {
-            Some(Keyword::Inport)
-        } else if word == OUTPORT {
-            Some(Keyword::Outport)
-        } else {
-            None
-        }
-    }
-
-    /// The word of the language with which a line begins, if it begins with one.
-    pub fn first_of(pieces: &[Piece<'_>]) -> Option<Keyword> {
-        match pieces {
-            [Piece::Word(word), ..] => Keyword::of(word),
-            _ => None,
-        }
-    }
-}
-
 pub fn is_word_byte(byte: u8) -> bool {
     byte.is_ascii_alphanumeric() || byte == b'_'
 }
@@ -90,12 +43,10 @@ pub fn behind(line: &[u8], count: usize) -> &[u8] {
 
 /// What is left of a line behind its first blanks.
 pub fn after_blanks(line: &[u8]) -> &[u8] {
-    for (place, byte) in line.iter().enumerate() {
-        if !is_blank(*byte) {
-            return behind(line, place);
-        }
+    match line.iter().position(|byte| !is_blank(*byte)) {
+        Some(start) => behind(line, start),
+        None => b"",
     }
-    b""
 }
 
 /// Whether a line says nothing.
@@ -136,12 +87,10 @@ fn quoted(text: &[u8]) -> (Piece<'_>, &[u8]) {
 
 /// The word with which a text begins, and what is left of it.
 pub fn word(text: &[u8]) -> (&[u8], &[u8]) {
-    for (place, byte) in text.iter().enumerate() {
-        if !is_word_byte(*byte) {
-            return (first(text, place), behind(text, place));
-        }
+    match text.iter().position(|byte| !is_word_byte(*byte)) {
+        Some(end) => (first(text, end), behind(text, end)),
+        None => (text, b""),
     }
-    (text, b"")
 }
 
 // An automatic port behind its `*`, if it is one, and what is left.

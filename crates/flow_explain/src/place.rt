@@ -1,6 +1,6 @@
 //! Where the statement stands that is at fault: the last one of the shortest beginning of the file that is refused in
 //! the same way.
-use crate::found::Found;
+use crate::found::{Found, Walk};
 use crate::own::OwnKinds;
 use crate::refusal::{Opened, open_network};
 use crate::said::Tag;
@@ -8,14 +8,11 @@ use flow_flat::ExpandFault;
 use flow_parse::{parse, print};
 use std::alloc::{AllocError, Global};
 
-/// The line that ends a subnet.
-const END: &[u8] = b"end";
-
 /// A longer file isn't tried again and again.
 const MOST_TRIED: usize = 262_144;
 
 /// Which lines of a canonical spelling are counted, and left out from some place on.
-#[derive(Clone, Copy)]
+#[derive(Clone, Copy, PartialEq, Eq)]
 pub enum Counted {
     /// Connections and initial texts.
     Statements,
@@ -24,7 +21,7 @@ pub enum Counted {
 }
 
 // What a line of a canonical spelling is for a count.
-#[derive(Clone, Copy)]
+#[derive(Clone, Copy, PartialEq, Eq)]
 enum Line {
     Counted,
     LeftOut,
@@ -32,28 +29,20 @@ enum Line {
 }
 
 fn line_of(line: &[u8], counted: Counted) -> Line {
-    if is_frame(line) {
+    let is_frame = line.starts_with(b"flow ")
+        || line == b"end".as_slice()
+        || line.starts_with(b"subnet ");
+    if line.is_empty() || is_frame {
         return Line::Kept;
     }
+    let is_outer = line.starts_with(b"inport ") || line.starts_with(b"outport ");
     let is_process = line.ends_with(b")") && !line.contains(&b' ');
     match counted {
         Counted::Processes if is_process => Line::Counted,
         Counted::Processes => Line::LeftOut,
-        Counted::Statements if is_process || is_outer(line) => Line::Kept,
+        Counted::Statements if is_process || is_outer => Line::Kept,
         Counted::Statements => Line::Counted,
     }
-}
-
-fn is_frame(line: &[u8]) -> bool {
-    line.is_empty() || line == END || line.starts_with(b"flow ") || line.starts_with(b"subnet ")
-}
-
-fn is_outer(line: &[u8]) -> bool {
-    line.starts_with(b"inport ") || line.starts_with(b"outport ")
-}
-
-fn is_counted(line: &[u8], counted: Counted) -> bool {
-    matches!(line_of(line, counted), Line::Counted)
 }
 
 // The spelling with so many of the counted lines.
@@ -66,7 +55,15 @@ fn beginning(
     let mut kept = Vec::new(alloc);
     let mut left = most;
     for line in spelling.split(|byte| *byte == b'\n') {
-        if stays(line, counted, &mut left) {
+        let stays = match line_of(line, counted) {
+            Line::Kept => true,
+            Line::LeftOut => false,
+            Line::Counted => left > 0,
+        };
+        if line_of(line, counted) == Line::Counted {
+            left = left.saturating_sub(1);
+        }
+        if stays && !line.is_empty() {
             kept.extend_from_slice(line)?;
             kept.push(b'\n')?;
         }
@@ -74,48 +71,19 @@ fn beginning(
     Ok(kept)
 }
 
-// Whether a line stays where so many of the counted ones are left, of which it may be one.
-fn stays(line: &[u8], counted: Counted, left: &mut usize) -> bool {
-    match line_of(line, counted) {
-        Line::Kept => !line.is_empty(),
-        Line::LeftOut => false,
-        Line::Counted => {
-            let stays = *left > 0;
-            *left = left.saturating_sub(1);
-            stays
-        }
-    }
-}
-
 fn count(spelling: &[u8], counted: Counted) -> usize {
-    let mut count: usize = 0;
-    for line in spelling.split(|byte| *byte == b'\n') {
-        if is_counted(line, counted) {
-            count = count.saturating_add(1);
-        }
-    }
-    count
+    let lines = spelling.split(|byte| *byte == b'\n');
+    lines
+        .filter(|line| line_of(line, counted) == Line::Counted)
+        .count()
 }
 
 // Whether a network is refused for this fault.
 fn is_refused(alloc: Global, net: &[u8], own: OwnKinds<'_>, fault: &ExpandFault) -> bool {
-    match &open_network(alloc, net, own) {
-        Ok(Opened::Network(found)) => *found == *fault,
+    match open_network(alloc, net, own) {
+        Ok(Opened::Network(found)) => found == *fault,
         _ => false,
     }
-}
-
-// Whether the beginning of a spelling with so many of the counted lines is refused for this fault.
-fn is_refused_with(
-    alloc: Global,
-    spelling: &[u8],
-    own: OwnKinds<'_>,
-    tried: (Counted, usize),
-    fault: &ExpandFault,
-) -> Result<bool, AllocError> {
-    let (counted, most) = tried;
-    let beginning = beginning(alloc, spelling, counted, most)?;
-    Ok(is_refused(alloc, &beginning, own, fault))
 }
 
 /// The least number of counted lines with which the spelling is refused for this fault, as with all of them.
@@ -134,7 +102,8 @@ pub fn fewest(
             return Ok(refused);
         }
         let middle = fine.saturating_add(apart / 2);
-        if is_refused_with(alloc, spelling, own, (counted, middle), fault)? {
+        let tried = beginning(alloc, spelling, counted, middle)?;
+        if is_refused(alloc, &tried, own, fault) {
             refused = middle;
         } else {
             fine = middle;
@@ -154,56 +123,73 @@ pub fn canonical(alloc: Global, net: &[u8]) -> Result<Option<Vec<u8>>, AllocErro
     }
 }
 
-/// The process of this number among the lines of a canonical spelling, counted from 1.
-pub fn process<'a>(lines: &'a [Found<'a>], number: usize) -> Option<&'a Found<'a>> {
-    let mut left = number;
-    for found in lines {
-        if is_counted(found.line, Counted::Processes) {
-            if left == 1 {
-                return Some(found);
+/// The process of this number in a canonical spelling, counted from 1.
+pub fn process<'a>(
+    alloc: Global,
+    spelling: &'a [u8],
+    number: usize,
+) -> Result<Option<Found<'a>>, AllocError> {
+    let mut walk = Walk::new();
+    let mut count: usize = 0;
+    for line in spelling.split(|byte| *byte == b'\n') {
+        let found = walk.next_line(alloc, line)?;
+        if line_of(line, Counted::Processes) == Line::Counted {
+            count = count.saturating_add(1);
+            if count == number {
+                return Ok(Some(found));
             }
-            left = left.saturating_sub(1);
         }
     }
-    None
+    Ok(None)
 }
 
-// Whether a line is a statement of a subnet, or one of the main part.
-fn is_statement(found: &Found<'_>, is_inner: bool) -> bool {
-    matches!(found.said.tag, Tag::Connection | Tag::Initial) && found.part.is_some() == is_inner
+fn is_statement(tag: Tag) -> bool {
+    tag == Tag::Connection || tag == Tag::Initial
 }
 
 // How many statements the subnets have.
-fn inner_statements(lines: &[Found<'_>]) -> usize {
+fn inner_statements(alloc: Global, net: &[u8]) -> Result<usize, AllocError> {
+    let mut walk = Walk::new();
     let mut inner: usize = 0;
-    for found in lines {
-        if is_statement(found, true) {
+    for line in net.split(|byte| *byte == b'\n') {
+        let found = walk.next_line(alloc, line)?;
+        if is_statement(found.said.tag) && found.part.is_some() {
             inner = inner.saturating_add(1);
         }
     }
-    inner
+    Ok(inner)
 }
 
 /// The line of this statement, where statements are counted from 1, the subnets' before main's.
-pub fn statement<'a>(lines: &'a [Found<'a>], number: usize) -> Option<&'a Found<'a>> {
-    let inner = inner_statements(lines);
+pub fn statement<'a>(
+    alloc: Global,
+    net: &'a [u8],
+    number: usize,
+) -> Result<Option<Found<'a>>, AllocError> {
+    let inner = inner_statements(alloc, net)?;
     if number > inner {
-        nth(lines, number.saturating_sub(inner), false)
-    } else {
-        nth(lines, number, true)
+        return nth(alloc, net, number.saturating_sub(inner), false);
     }
+    nth(alloc, net, number, true)
 }
 
 // The statement of this number among those of the subnets, or among those of the main part.
-fn nth<'a>(lines: &'a [Found<'a>], number: usize, is_inner: bool) -> Option<&'a Found<'a>> {
-    let mut left = number;
-    for found in lines {
-        if is_statement(found, is_inner) {
-            if left == 1 {
-                return Some(found);
+fn nth<'a>(
+    alloc: Global,
+    net: &'a [u8],
+    number: usize,
+    is_inner: bool,
+) -> Result<Option<Found<'a>>, AllocError> {
+    let mut walk = Walk::new();
+    let mut count: usize = 0;
+    for line in net.split(|byte| *byte == b'\n') {
+        let found = walk.next_line(alloc, line)?;
+        if is_statement(found.said.tag) && found.part.is_some() == is_inner {
+            count = count.saturating_add(1);
+            if count == number {
+                return Ok(Some(found));
             }
-            left = left.saturating_sub(1);
         }
     }
-    None
+    Ok(None)
 }

@@ -1,12 +1,11 @@
 //! Ports that a network names, gives or leaves out wrongly.
-use crate::found::{Found, Home, Wanted, find_in};
+use crate::found::{Found, Wanted, find_in};
 use crate::kinds::{
-    Example, Side, automatic, is_option, nearest_port, other_side, port, put_near, put_option,
-    put_ports,
+    Side, automatic, is_option, nearest_port, other_side, port, put_example, put_option, put_ports,
 };
-use crate::net::{Line, Net};
+use crate::net::{Net, put_found, put_if_found};
 use crate::patterns::put_slip;
-use crate::shown::Word;
+use crate::shown::put_word;
 use flow_flat::ExpandFault;
 use flow_plan::{KindSpec, PortClass, PortRef, PortSpec};
 use std::alloc::AllocError;
@@ -19,16 +18,6 @@ fn is_unknown(kind: &KindSpec, side: Side, name: &PortRef) -> bool {
     }
 }
 
-// The side on which a kind hasn't the port that is named: an output only where a line has it before the arrow.
-fn unknown_side(net: Net<'_>, kind: &KindSpec, home: &Home<'_>, name: &PortRef) -> Side {
-    let wanted = Wanted::Port(Side::Output, home.process, name.name.as_slice());
-    if is_unknown(kind, Side::Output, name) && net.find(home, &wanted).is_some() {
-        Side::Output
-    } else {
-        Side::Input
-    }
-}
-
 /// A port that the process's kind hasn't.
 pub fn put_unknown(
     net: Net<'_>,
@@ -37,15 +26,24 @@ pub fn put_unknown(
     process: &[u8],
     name: &PortRef,
 ) -> Result<(), AllocError> {
-    let home = net.home(process);
-    let Some(kind) = net.row(&home) else {
+    let home = net.home(process)?;
+    let Some(kind) = net.row(&home)? else {
         return Ok(());
     };
     let wrong = name.name.as_slice();
-    let side = unknown_side(net, kind, &home, name);
+    let mut side = Side::Output;
+    if !is_unknown(kind, side, name) {
+        side = Side::Input;
+    } else if net
+        .find(&home, &Wanted::Output(home.process, wrong))?
+        .is_none()
+    {
+        side = Side::Input;
+    }
     net.put_statement(page, fault, &home, wrong, side)?;
-    put_hint(net, page, kind, side, wrong)?;
-    put_ports(page, kind, net.version())
+    let version = net.version()?;
+    put_hint(net, page, kind, side, version, wrong)?;
+    put_ports(page, kind, version)
 }
 
 // What may have been meant by an unknown port.
@@ -54,24 +52,31 @@ fn put_hint(
     page: &mut String,
     kind: &KindSpec,
     side: Side,
+    version: u32,
     wrong: &[u8],
 ) -> Result<(), AllocError> {
     if port(kind, side, wrong).is_some() {
-        return write!(page, "{} has no elements.\n", Word(wrong));
+        put_word(page, wrong)?;
+        return page.push_str(" has no elements.\n");
     }
-    let other = other_side(side);
-    if port(kind, other, wrong).is_some() {
+    if port(kind, other_side(side), wrong).is_some() {
+        put_word(page, wrong)?;
+        let word = other_side(side).word();
         return write!(
             page,
-            "{} is an {}: an output stands before the arrow, an input behind it.\n",
-            Word(wrong),
-            other.word()
+            " is an {word}: an output stands before the arrow, an input behind it.\n"
         );
     }
-    match nearest_port(net.alloc, kind, side, net.version(), wrong)? {
-        Some(near) => put_near(page, "port", near, wrong),
-        None => Ok(()),
-    }
+    let Some(near) = nearest_port(net.alloc, kind, side, version, wrong)? else {
+        return Ok(());
+    };
+    page.push_str(if near.eq_ignore_ascii_case(wrong) {
+        "Upper and lower case differ: the port is "
+    } else {
+        "The nearest port is "
+    })?;
+    put_word(page, near)?;
+    page.push_str(".\n")
 }
 
 /// A connection to a port that takes a text.
@@ -82,61 +87,54 @@ pub fn put_needs_initial(
     process: &[u8],
     name: &PortRef,
 ) -> Result<(), AllocError> {
-    let home = net.home(process);
+    let home = net.home(process)?;
     let wanted = name.name.as_slice();
     net.put_statement(page, fault, &home, wanted, Side::Input)?;
-    match input_of(net, &home, wanted) {
-        Some(option) => put_text_line(
-            page,
-            "This port takes a text and no packets, as",
-            option,
-            home.process,
-        ),
-        None => Ok(()),
-    }
+    let Some(kind) = net.row(&home)? else {
+        return Ok(());
+    };
+    let Some(option) = port(kind, Side::Input, wanted) else {
+        return Ok(());
+    };
+    page.push_str("This port takes a text and no packets, as ")?;
+    put_text_line(page, option, home.process)?;
+    put_option(page, &option.name, option.class)
 }
 
-// The input of this name of a process's kind.
-fn input_of<'a>(net: Net<'a>, home: &Home<'_>, name: &[u8]) -> Option<&'a PortSpec> {
-    port(net.row(home)?, Side::Input, name)
-}
-
-// A line that gives an option its text, and what the text may be.
-fn put_text_line(
-    page: &mut String,
-    before: &str,
-    option: &PortSpec,
-    process: &[u8],
-) -> Result<(), AllocError> {
-    write!(
-        page,
-        "{before} '{}' -> {} {}.\n",
-        Example(option.class),
-        Word(option.name.as_slice()),
-        Word(process)
-    )?;
-    put_option(page, option)
+// A line that gives an option its text.
+fn put_text_line(page: &mut String, option: &PortSpec, process: &[u8]) -> Result<(), AllocError> {
+    page.push('\'')?;
+    put_example(page, option.class)?;
+    page.push_str("' -> ")?;
+    put_word(page, option.name.as_slice())?;
+    page.push(' ')?;
+    put_word(page, process)?;
+    page.push_str(".\n")
 }
 
 // Another line of the same part that uses the port which this line uses on this side.
-fn other_use<'a>(net: Net<'a>, found: Option<&Found<'a>>, side: Side) -> Option<&'a Found<'a>> {
-    let found = found?;
-    let mention = found.said.mention(side)?;
-    find_in(
-        net.lines,
-        found.part,
-        &Wanted::Other(found.number, mention, side),
-    )
+fn other_use<'a>(
+    net: Net<'a>,
+    found: Option<Found<'a>>,
+    side: Side,
+) -> Result<Option<Found<'a>>, AllocError> {
+    let Some(found) = found else {
+        return Ok(None);
+    };
+    let mention = match side {
+        Side::Output => found.said.from,
+        Side::Input => found.said.to,
+    };
+    let Some(mention) = mention else {
+        return Ok(None);
+    };
+    let wanted = Wanted::Other(found.number, mention, side);
+    find_in(net.alloc, net.bytes, found.part, &wanted)
 }
 
-// The side of a port that has its connection or text already: that of an output, where a process of this kind has one of
-// this name.
-fn taken_side(kind: Option<&KindSpec>, name: &[u8]) -> Side {
-    match kind {
-        Some(kind) if name == automatic(Side::Output) || port(kind, Side::Output, name).is_some() =>
-            { Side::Output }
-        _ => Side::Input,
-    }
+// Whether a process of this kind has an output of this name.
+fn is_output(kind: &KindSpec, name: &[u8]) -> bool {
+    name == automatic(Side::Output) || port(kind, Side::Output, name).is_some()
 }
 
 /// A port that has its connection or text already.
@@ -147,23 +145,25 @@ pub fn put_taken(
     process: &[u8],
     name: &PortRef,
 ) -> Result<(), AllocError> {
-    let home = net.home(process);
+    let home = net.home(process)?;
     let taken = name.name.as_slice();
-    let side = taken_side(net.row(&home), taken);
-    let shown = net.put_statement(page, fault, &home, taken, side)?;
-    let other = match other_use(net, shown.port, side) {
-        Some(other) => Some(other),
-        None => other_use(net, shown.statement, side),
+    let side = match net.row(&home)? {
+        Some(kind) if is_output(kind, taken) => Side::Output,
+        _ => Side::Input,
     };
-    let rule = match side {
+    let shown = net.put_statement(page, fault, &home, taken, side)?;
+    let other = match other_use(net, shown.port, side)? {
+        Some(other) => Some(other),
+        None => other_use(net, shown.statement, side)?,
+    };
+    if let Some(other) = other {
+        write!(page, "Line {} has this port already. ", other.number)?;
+    }
+    page.push_str(match side {
         Side::Output =>
             "An output has one connection; a process of the kind Copy sends to several.\n",
         Side::Input => "An input has one text, or else connections.\n",
-    };
-    match other {
-        Some(other) => write!(page, "Line {} has this port already. {rule}", other.number),
-        None => page.push_str(rule),
-    }
+    })
 }
 
 /// A text that isn't one for its port.
@@ -174,15 +174,18 @@ pub fn put_bad_option(
     process: &[u8],
     name: &PortRef,
 ) -> Result<(), AllocError> {
-    let home = net.home(process);
+    let home = net.home(process)?;
     let wrong = name.name.as_slice();
     let shown = net.put_statement(page, fault, &home, wrong, Side::Input)?;
-    let Some(option) = input_of(net, &home, wrong) else {
+    let Some(kind) = net.row(&home)? else {
         return Ok(());
     };
-    put_option(page, option)?;
+    let Some(option) = port(kind, Side::Input, wrong) else {
+        return Ok(());
+    };
+    put_option(page, &option.name, option.class)?;
     match (option.class, shown.statement) {
-        (PortClass::Pattern, Some(found)) => put_slip(net.alloc, page, found),
+        (PortClass::Pattern, Some(found)) => put_slip(net.alloc, page, &found),
         _ => Ok(()),
     }
 }
@@ -194,60 +197,52 @@ pub fn put_missing(
     process: &[u8],
     name: &[u8],
 ) -> Result<(), AllocError> {
-    let home = net.home(process);
-    let line = Line(net.find(&home, &Wanted::Kind(home.process)));
-    let Some(kind) = net.row(&home) else {
-        return write!(page, "{line}");
+    let home = net.home(process)?;
+    put_if_found(page, net.find(&home, &Wanted::Kind(home.process))?)?;
+    let Some(kind) = net.row(&home)? else {
+        return Ok(());
     };
-    match port(kind, Side::Input, name) {
-        Some(option) if is_option(option) => {
-            put_other_text(net, page, line, &home, kind)?;
-            put_text_line(page, "This port wants a text, as", option, home.process)
+    if let Some(option) = port(kind, Side::Input, name) {
+        if is_option(option) {
+            put_other_text(net, page, process, kind)?;
+            page.push_str("This port wants a text, as ")?;
+            put_text_line(page, option, home.process)?;
+            return put_option(page, &option.name, option.class);
         }
-        Some(_) => write!(
-            page,
-            "{line}This input wants a line NAME PORT -> {} {}.\n",
-            Word(name),
-            Word(home.process)
-        ),
-        None => write!(
-            page,
-            "{line}This output wants a line {} {} -> PORT NAME; a process of the kind Discard takes what nobody wants.\n",
-            Word(home.process),
-            Word(name)
-        ),
+        page.push_str("This input wants a line NAME PORT -> ")?;
+        put_word(page, name)?;
+        page.push(' ')?;
+        put_word(page, home.process)?;
+        return page.push_str(".\n");
     }
+    page.push_str("This output wants a line ")?;
+    put_word(page, home.process)?;
+    page.push(' ')?;
+    put_word(page, name)?;
+    page.push_str(" -> PORT NAME; a process of the kind Discard takes what nobody wants.\n")
 }
 
-// A line, and the first text that a process without its option is given at a port for packets.
+// The first text that a process without its option is given at a port for packets.
 fn put_other_text(
     net: Net<'_>,
     page: &mut String,
-    line: Line<'_>,
-    home: &Home<'_>,
+    process: &[u8],
     kind: &KindSpec,
 ) -> Result<(), AllocError> {
+    let home = net.home(process)?;
     for port in kind.inputs.as_slice() {
-        let name = port.name.as_slice();
-        if let Some(found) = text_at(net, home, port) {
-            return write!(
-                page,
-                "{line}{}The text of line {} goes to {}, which takes packets. ",
-                Line(Some(found)),
-                found.number,
-                Word(name)
-            );
+        if is_option(port) {
+            continue;
+        }
+        let wanted = Wanted::Text(home.process, port.name.as_slice());
+        if let Some(found) = net.find(&home, &wanted)? {
+            put_found(page, &found)?;
+            write!(page, "The text of line {} goes to ", found.number)?;
+            put_word(page, port.name.as_slice())?;
+            return page.push_str(", which takes packets. ");
         }
     }
-    write!(page, "{line}")
-}
-
-// The line that gives a text to a port for packets.
-fn text_at<'a>(net: Net<'a>, home: &Home<'_>, port: &PortSpec) -> Option<&'a Found<'a>> {
-    if is_option(port) {
-        return None;
-    }
-    net.find(home, &Wanted::Text(home.process, port.name.as_slice()))
+    Ok(())
 }
 
 /// Elements of an array without one before them.
@@ -258,28 +253,14 @@ pub fn put_gap(
     name: &[u8],
     element: u32,
 ) -> Result<(), AllocError> {
-    let home = net.home(process);
-    let line = Line(net.find(&home, &Wanted::Behind(home.process, name, element)));
-    let name = Word(name);
-    let process = Word(home.process);
-    write!(
-        page,
-        "{line}Elements are counted from 0 without a gap: no line has {name}[{element}] of {process}.\n"
-    )
-}
-
-// What two capacities of one connection are at fault for.
-const ONE_CAPACITY: &str =
-    "The lines that lead to one input are one connection: they give the same capacity, or none.\n";
-
-// An earlier line than this one that gives its connection a capacity.
-fn earlier_capacity<'a>(net: Net<'a>, found: &Found<'a>) -> Option<&'a Found<'a>> {
-    let first = find_in(net.lines, found.part, &Wanted::Capacity(found.said.to?))?;
-    if first.number < found.number {
-        Some(first)
-    } else {
-        None
-    }
+    let home = net.home(process)?;
+    let wanted = Wanted::Behind(home.process, name, element);
+    put_if_found(page, net.find(&home, &wanted)?)?;
+    page.push_str("Elements are counted from 0 without a gap: no line has ")?;
+    put_word(page, name)?;
+    write!(page, "[{element}] of ")?;
+    put_word(page, home.process)?;
+    page.push_str(".\n")
 }
 
 /// A connection with two capacities.
@@ -291,14 +272,19 @@ pub fn put_capacity(
     let Some(found) = net.statement(fault)? else {
         return Ok(());
     };
-    let line = Line(Some(found));
-    match earlier_capacity(net, found) {
-        Some(first) => write!(
-            page,
-            "{line}Line {} gave this connection ({}). {ONE_CAPACITY}",
-            first.number,
-            Word(first.said.capacity.unwrap_or(b""))
-        ),
-        None => write!(page, "{line}{ONE_CAPACITY}"),
+    put_found(page, &found)?;
+    if let Some(to) = found.said.to {
+        let first = find_in(net.alloc, net.bytes, found.part, &Wanted::Capacity(to))?;
+        if let Some(first) = first {
+            if first.number < found.number {
+                write!(page, "Line {} gave this connection ", first.number)?;
+                page.push('(')?;
+                put_word(page, first.said.capacity.unwrap_or(b""))?;
+                page.push_str("). ")?;
+            }
+        }
     }
+    page.push_str(
+        "The lines that lead to one input are one connection: they give the same capacity, or none.\n",
+    )
 }

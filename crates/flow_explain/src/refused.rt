@@ -1,24 +1,40 @@
 //! A network that is refused: which line is at fault, and what would be right there.
-use crate::found::{Wanted, find_in, lines_of};
+use crate::found::{Found, Wanted, find_in};
 use crate::inside::met_again;
-use crate::kinds::{names, put_names, put_near};
+use crate::kinds::{names, put_names};
 use crate::near::nearest;
-use crate::net::{Line, Net};
+use crate::net::{Net, put_if_found};
 use crate::outer::put_outer_port;
+use crate::own::OwnKinds;
 use crate::place::{Counted, canonical, fewest, process};
 use crate::ports::{
     put_bad_option, put_capacity, put_gap, put_missing, put_needs_initial, put_taken, put_unknown,
 };
+use crate::shown::put_word;
 use flow_flat::ExpandFault;
 use flow_limits::{
     CAPACITY_SUM_LIMIT, CONNECTION_LIMIT, DEFAULT_CAPACITY, PROCESS_LIMIT, SENDER_LIMIT,
     SUBNET_PROCESS_LIMIT,
 };
 use flow_net::{Many, PlanFault};
-use std::alloc::AllocError;
+use flow_offer::table;
+use std::alloc::{AllocError, Global};
 
 /// Explains the fault of a network.
-pub fn put_refused(net: Net<'_>, page: &mut String, fault: &ExpandFault) -> Result<(), AllocError> {
+pub fn put_refused(
+    alloc: Global,
+    page: &mut String,
+    bytes: &[u8],
+    own: OwnKinds<'_>,
+    fault: &ExpandFault,
+) -> Result<(), AllocError> {
+    let table = table(alloc, own.kinds)?;
+    let net = Net {
+        alloc,
+        bytes,
+        kinds: &table,
+        own,
+    };
     match fault {
         ExpandFault::Recursive(name) => put_recursive(net, page, name.as_slice()),
         ExpandFault::Depth(name) => put_depth(net, page, name.as_slice()),
@@ -60,22 +76,15 @@ fn put_plan(
 }
 
 fn put_recursive(net: Net<'_>, page: &mut String, name: &[u8]) -> Result<(), AllocError> {
-    let line = Line(met_again(net, name)?);
-    write!(
-        page,
-        "{line}A subnet doesn't stand inside itself, nor inside one that stands in it.\n"
-    )
-}
-
-// The line that gives a process its kind.
-fn kind_line<'a>(net: Net<'a>, name: &'a [u8]) -> Line<'a> {
-    let home = net.home(name);
-    Line(net.find(&home, &Wanted::Kind(home.process)))
+    put_if_found(page, met_again(net, name)?)?;
+    page.push_str("A subnet doesn't stand inside itself, nor inside one that stands in it.\n")
 }
 
 fn put_depth(net: Net<'_>, page: &mut String, name: &[u8]) -> Result<(), AllocError> {
-    let line = kind_line(net, name);
-    write!(page, "{line}Subnets stand in subnets to eight levels.\n")
+    let home = net.home(name)?;
+    let found = net.find(&home, &Wanted::Kind(home.process))?;
+    put_if_found(page, found)?;
+    page.push_str("Subnets stand in subnets to eight levels.\n")
 }
 
 fn put_unknown_kind(
@@ -84,48 +93,43 @@ fn put_unknown_kind(
     name: &[u8],
     kind: &[u8],
 ) -> Result<(), AllocError> {
-    write!(page, "{}", kind_line(net, name))?;
+    let home = net.home(name)?;
+    let found = net.find(&home, &Wanted::Kind(home.process))?;
+    put_if_found(page, found)?;
     let names = names(net)?;
-    put_other_kinds(net, page, &names, kind)
-}
-
-// The names of the kinds, that which is nearest to a wrong one first.
-fn put_other_kinds(
-    net: Net<'_>,
-    page: &mut String,
-    names: &[&[u8]],
-    wrong: &[u8],
-) -> Result<(), AllocError> {
-    let near = nearest(net.alloc, wrong, names)?;
+    let near = nearest(net.alloc, kind, &names)?;
     if let Some(near) = near {
-        put_near(page, "kind", near, wrong)?;
+        let is_case = near.eq_ignore_ascii_case(kind);
+        page.push_str(if is_case {
+            "Upper and lower case differ: the kind is "
+        } else {
+            "The nearest kind is "
+        })?;
+        put_word(page, near)?;
+        page.push_str(".\n")?;
     }
-    put_names(page, names, near)
+    put_names(page, &names, near)
 }
 
 // The line of the process with which there are too many, if the file is short enough to try.
-fn last_process<'a>(net: Net<'a>, fault: &ExpandFault) -> Result<Line<'a>, AllocError> {
-    match canonical(net.alloc, net.bytes)? {
-        Some(spelling) => last_process_of(net, &spelling, fault),
-        None => Ok(Line(None)),
-    }
-}
-
-// The same, where this is the canonical spelling of the file.
-fn last_process_of<'a>(
-    net: Net<'a>,
-    spelling: &[u8],
+fn put_last_process(
+    net: Net<'_>,
+    page: &mut String,
     fault: &ExpandFault,
-) -> Result<Line<'a>, AllocError> {
-    let number = fewest(net.alloc, spelling, net.own, Counted::Processes, fault)?;
-    let lines = lines_of(net.alloc, spelling)?;
-    let Some(last) = process(&lines, number) else {
-        return Ok(Line(None));
+) -> Result<(), AllocError> {
+    let Some(spelling) = canonical(net.alloc, net.bytes)? else {
+        return Ok(());
     };
-    match last.said.from {
-        Some(from) => Ok(Line(find_in(net.lines, last.part, &Wanted::Process(from.process)))),
-        None => Ok(Line(None)),
-    }
+    let number = fewest(net.alloc, &spelling, net.own, Counted::Processes, fault)?;
+    let Some(last) = process(net.alloc, &spelling, number)? else {
+        return Ok(());
+    };
+    let Some(from) = last.said.from else {
+        return Ok(());
+    };
+    let wanted = Wanted::Process(from.process);
+    let found: Option<Found<'_>> = find_in(net.alloc, net.bytes, last.part, &wanted)?;
+    put_if_found(page, found)
 }
 
 fn put_too_many(
@@ -134,24 +138,28 @@ fn put_too_many(
     fault: &ExpandFault,
     many: Many,
 ) -> Result<(), AllocError> {
-    let line = match many {
-        Many::Processes | Many::Instances => last_process(net, fault)?,
-        Many::Connections => Line(net.statement(fault)?),
-        Many::CapacitySum => Line(None),
-    };
     match many {
-        Many::Processes => write!(
-            page,
-            "{line}A network has at most {PROCESS_LIMIT} processes, with all subnets written out.\n"
-        ),
-        Many::Instances => write!(
-            page,
-            "{line}At most {SUBNET_PROCESS_LIMIT} processes are subnets.\n"
-        ),
-        Many::Connections => write!(
-            page,
-            "{line}A network has at most {CONNECTION_LIMIT} connections, and a connection at most {SENDER_LIMIT} senders.\n"
-        ),
+        Many::Processes => {
+            put_last_process(net, page, fault)?;
+            write!(
+                page,
+                "A network has at most {PROCESS_LIMIT} processes, with all subnets written out.\n"
+            )
+        }
+        Many::Instances => {
+            put_last_process(net, page, fault)?;
+            write!(
+                page,
+                "At most {SUBNET_PROCESS_LIMIT} processes are subnets.\n"
+            )
+        }
+        Many::Connections => {
+            put_if_found(page, net.statement(fault)?)?;
+            write!(
+                page,
+                "A network has at most {CONNECTION_LIMIT} connections, and a connection at most {SENDER_LIMIT} senders.\n"
+            )
+        }
         Many::CapacitySum => write!(
             page,
             "All capacities come to at most {CAPACITY_SUM_LIMIT} packets; where no line gives one, a connection has room for {DEFAULT_CAPACITY}.\n"

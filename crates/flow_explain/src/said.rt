@@ -1,10 +1,10 @@
 //! What a line of a network file says, as far as a fault is about it: which processes and ports it mentions.
-use crate::kinds::{Side, automatic};
-use crate::pieces::{Keyword, Piece, pieces};
+use crate::kinds::automatic;
+use crate::pieces::{Piece, is_remark, pieces};
 use std::alloc::{AllocError, Global};
 
 /// Which form a line is.
-#[derive(Clone, Copy)]
+#[derive(Clone, Copy, PartialEq, Eq)]
 pub enum Tag {
     Header,
     Process,
@@ -36,16 +36,6 @@ pub struct Said<'a> {
     pub from: Option<Mention<'a>>,
     pub capacity: Option<&'a [u8]>,
     pub to: Option<Mention<'a>>,
-}
-
-impl<'a> Said<'a> {
-    /// The process on this side of the arrow.
-    pub fn mention(&self, side: Side) -> Option<Mention<'a>> {
-        match side {
-            Side::Output => self.from,
-            Side::Input => self.to,
-        }
-    }
 }
 
 // The pieces of a line that are left.
@@ -167,34 +157,6 @@ impl<'p, 'a> Rest<'p, 'a> {
         }
     }
 
-    // What stands behind a text.
-    fn text(&mut self) -> Said<'a> {
-        let _ = self.arrow();
-        Said {
-            tag: Tag::Initial,
-            to: self.receiver(),
-            ..NOTHING
-        }
-    }
-
-    // What stands behind a word of the language.
-    fn behind(&mut self, keyword: Keyword) -> Said<'a> {
-        match keyword {
-            Keyword::Flow => Said {
-                tag: Tag::Header,
-                name: self.word().unwrap_or(b""),
-                ..NOTHING
-            },
-            Keyword::Subnet => self.named(Tag::Subnet),
-            Keyword::End => Said {
-                tag: Tag::End,
-                ..NOTHING
-            },
-            Keyword::Inport => self.named(Tag::OuterInput),
-            Keyword::Outport => self.outer_output(),
-        }
-    }
-
     // A line that begins with a process.
     fn process(&mut self) -> Said<'a> {
         let from = self.sender();
@@ -227,18 +189,38 @@ fn said_of<'a>(pieces: &[Piece<'a>]) -> Said<'a> {
     let Some((first, left)) = pieces.split_first() else {
         return NOTHING;
     };
+    let mut rest = Rest { left };
     match first {
-        Piece::Word(word) => match Keyword::of(word) {
-            Some(keyword) => Rest { left }.behind(keyword),
-            None => Rest { left: pieces }.process(),
+        Piece::Word(b"flow") => Said {
+            tag: Tag::Header,
+            name: rest.word().unwrap_or(b""),
+            ..NOTHING
         },
-        Piece::Quoted(_) => Rest { left }.text(),
+        Piece::Word(b"subnet") => rest.named(Tag::Subnet),
+        Piece::Word(b"end") => Said {
+            tag: Tag::End,
+            ..NOTHING
+        },
+        Piece::Word(b"inport") => rest.named(Tag::OuterInput),
+        Piece::Word(b"outport") => rest.outer_output(),
+        Piece::Word(_) => Rest { left: pieces }.process(),
+        Piece::Quoted(_) => {
+            let _ = rest.arrow();
+            Said {
+                tag: Tag::Initial,
+                to: rest.receiver(),
+                ..NOTHING
+            }
+        }
         _ => NOTHING,
     }
 }
 
-/// What a line that is no remark says in a file of this version.
+/// What a line says in a file of this version.
 pub fn said_by(alloc: Global, version: u32, line: &[u8]) -> Result<Said<'_>, AllocError> {
+    if is_remark(line) {
+        return Ok(NOTHING);
+    }
     let pieces = pieces(alloc, version, line)?;
     Ok(said_of(pieces.as_slice()))
 }
