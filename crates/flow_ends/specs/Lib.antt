@@ -9,3 +9,6 @@ pub mod Views
 pub mod Pending
 pub mod Plays
 pub mod Workers
+pub mod Looks
+pub mod Crew
+pub mod Floors

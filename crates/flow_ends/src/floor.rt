@@ -7,9 +7,10 @@ ghost use Rattle.flow_ends.specs.Ends.{capacities_of};
 
 use crate::board::{Lawful, Slot, View};
 use crate::layout::Layout;
+use crate::roll::Roll;
 use atomic_table::{Seat, Table};
 use flow_component::Component;
-use flow_machine::{Body, Net};
+use flow_machine::{Block, Body, Net, Over};
 use flow_packet::Packet;
 use flow_plan::Connection;
 use std::alloc::Global;
@@ -35,6 +36,7 @@ pub struct Floor<K: Component> {
 #[derive(Drop)]
 pub struct Worker<K: Component> {
     pub(crate) seat: Seat<Slot<K>, View<K>>,
+    pub(crate) woken: Roll,
 }
 
 /// A body that a worker claimed. It must be spent.
@@ -43,6 +45,42 @@ pub struct Held<K: Component> {
     pub(crate) process: usize,
     /// Whether its last thought since the claim found no memory.
     pub(crate) starved: bool,
+}
+
+pub enum Claim<K: Component> {
+    Held(Held<K>),
+    /// The word that the exchange read.
+    NotReady(u64),
+}
+
+/// What a call for a turn came to. Nothing but `Made` changes the body.
+pub enum Turned {
+    /// One turn of the process was made, with this stamp, and every process that it may have unblocked was woken.
+    Made(u32),
+    /// Another worker is at the sending end of this connection, into which the turn sends, or which it closes or asks for its level; the word that the
+    /// call read at the gate.
+    Busy(u32, u64),
+    /// What the process waits for, and the word that the call read of that connection; of a dormant process, that of the lowest input that it watches
+    /// and that has an open sender.
+    Blocked(Block, u64),
+    /// It has ended or failed.
+    Over(Over),
+}
+
+/// What an idle process saw at its inputs: a packet; no packet, and this word of the lowest that has an open sender; or that all are over.
+pub(crate) enum Saw {
+    Packet,
+    Sender(u64),
+    Over,
+}
+
+/// What an idle process does by what it saw: it takes the packet at its automatic input, starts, goes to its end, or is dormant, with this word of the
+/// lowest input that it watches and that has an open sender.
+pub(crate) enum Idling {
+    Signal,
+    Start,
+    Finish,
+    Dormant(u64),
 }
 
 /// What a look to receive came to.

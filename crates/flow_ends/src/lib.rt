@@ -9,8 +9,9 @@ mod floor;
 mod layout;
 mod packets;
 mod plays;
+mod roll;
 mod steps;
 mod tells;
 
 pub use board::{Lawful, Slot, View};
-pub use floor::{Floor, Held, Worker};
+pub use floor::{Claim, Floor, Held, Turned, Worker};

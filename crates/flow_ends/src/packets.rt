@@ -7,7 +7,8 @@ ghost use Rattle.flow_ends.specs.Ends.{capacities_of, HasWithdrawn, MayDraw, May
 ghost use Rattle.flow_ends.specs.Pending.{AllMay};
 ghost use Rattle.flow_ends.specs.Plays.{drawn_count, placed_count, WouldBeThere, WouldHold};
 ghost use Rattle.flow_ends.specs.Views.{drawing, emptying, filling, placing, seeing};
-ghost use Rattle.flow_ends.specs.Workers.{connection_count, opened_net, process_count, view, HandsOut, IsSeatedAt, MatchDrawn, MatchPlaced};
+ghost use Rattle.flow_ends.specs.Floors.{connection_count, opened_net, process_count, woken_of, IsSeatedAt};
+ghost use Rattle.flow_ends.specs.Workers.{view, HandsOut, MatchDrawn, MatchPlaced};
 
 use crate::board::Slot;
 use crate::floor::{Drawn, Floor, Held, Placed, Worker};
@@ -33,6 +34,7 @@ impl<K: Component> Floor<K> {
         requires pending { AllMay K.rules (process_count self.now) (connection_count self.now) (view worker.old) D.turns }
         ensures seated { IsSeatedAt self.now worker.new held.now }
         ensures drawn { MatchDrawn result (λ word. (level_in word ≤ drawn) × (view worker.new ≡ seeing (view worker.old) (self.now.layout.processes + connection) word)) (λ place packet. WouldBeThere K.rules (view worker.old) D.turns connection packet × (view worker.new ≡ emptying (drawing (view worker.old) connection place packet))) }
+        ensures woken { woken_of worker.new ≡ woken_of worker.old }
     {
         let _ = held;
         let shared = &self.table.shared;
@@ -84,6 +86,7 @@ impl<K: Component> Floor<K> {
         requires pending { AllMay K.rules (process_count self.now) (connection_count self.now) (view worker.old) D.turns }
         ensures seated { IsSeatedAt self.now worker.new held.new }
         ensures placed { MatchPlaced result (λ word. (most ≤ level_in word + placed) × (held.new ≡ held.old) × (view worker.new ≡ seeing (view worker.old) (self.now.layout.processes + connection) word)) ((placed < most) × (puts : ℕ) × (view worker.new ≡ filling (placing (view worker.old) puts B.packet)) × HandsOut held.old held.new B.packet × WouldHold K.rules (view worker.old) D.turns) }
+        ensures woken { woken_of worker.new ≡ woken_of worker.old }
     {
         let shared = &self.table.shared;
         let word_at = self.layout.level_word(connection);

@@ -3,7 +3,8 @@ ghost use Rattle.std.specs.Prelude.{◌≡◌, ◌≢◌, ◌+◌, ◌<◌, ◌�
 ghost use Rattle.flow_ring.specs.Words.{level_in};
 ghost use Rattle.flow_ends.specs.Ends.{capacities_of, is_shared, HasWithdrawn, IsToldAt, IsWholeAt, Sends};
 ghost use Rattle.flow_ends.specs.Views.{entering, exiting, learning, looked, seeing};
-ghost use Rattle.flow_ends.specs.Workers.{connection_count, opened_net, view, IsSeatedAt};
+ghost use Rattle.flow_ends.specs.Floors.{connection_count, opened_net, woken_of, IsSeatedAt};
+ghost use Rattle.flow_ends.specs.Workers.{view};
 
 use crate::floor::{Floor, Held, Worker};
 use crate::plays::{Come, Enter, Exit, Learn, Look, Spot};
@@ -21,6 +22,7 @@ impl<K: Component> Floor<K> {
         requires withdrawn { HasWithdrawn (view worker.old).receiving }
         ensures seated { IsSeatedAt self.now worker.new held.now }
         ensures view { view worker.new ≡ seeing (view worker.old) (self.now.layout.processes + connection) result }
+        ensures woken { woken_of worker.new ≡ woken_of worker.old }
     {
         let _ = held;
         let place = self.layout.level_word(connection);
@@ -44,6 +46,7 @@ impl<K: Component> Floor<K> {
         ensures free { result ≡ 0 → view worker.new ≡ entering (view worker.old) connection }
         ensures taken { result ≢ 0 → view worker.new ≡ looked (view worker.old) (self.now.layout.processes + self.now.layout.connections + connection) result }
         ensures one { result ≢ 0 → result ≡ 1 }
+        ensures woken { woken_of worker.new ≡ woken_of worker.old }
     {
         let _ = held;
         let place = self.layout.gate_word(connection);
@@ -62,6 +65,7 @@ impl<K: Component> Floor<K> {
         requires nowhere { (view worker.old).sending ≡ None }
         ensures seated { IsSeatedAt self.now worker.new held.now }
         ensures view { view worker.new ≡ entering (view worker.old) connection }
+        ensures woken { woken_of worker.new ≡ woken_of worker.old }
     {
         let _ = held;
         let place = self.layout.gate_word(connection);
@@ -83,6 +87,7 @@ impl<K: Component> Floor<K> {
         ensures seated { IsSeatedAt self.now worker.new held.now }
         ensures view { view worker.new ≡ learning (view worker.old) (self.now.layout.processes + connection) result }
         ensures most { level_in result ≤ slice_index (capacities_of (opened_net self.now)) connection }
+        ensures woken { woken_of worker.new ≡ woken_of worker.old }
     {
         let _ = held;
         let place = self.layout.level_word(connection);
@@ -96,6 +101,7 @@ impl<K: Component> Floor<K> {
         requires told { IsToldAt connection (view worker.old).sending }
         ensures seated { IsSeatedAt self.now worker.new held.now }
         ensures view { view worker.new ≡ exiting (view worker.old) }
+        ensures woken { woken_of worker.new ≡ woken_of worker.old }
     {
         let _ = held;
         let place = self.layout.gate_word(connection);
@@ -112,6 +118,7 @@ impl<K: Component> Floor<K> {
         requires told { IsToldAt connection (view worker.old).sending }
         ensures seated { IsSeatedAt self.now worker.new held.now }
         ensures view { view worker.new ≡ exiting (view worker.old) }
+        ensures woken { woken_of worker.new ≡ woken_of worker.old }
     {
         let _ = held;
         let place = self.layout.gate_word(connection);

@@ -5,7 +5,8 @@ ghost use Rattle.flow_floor.specs.Made.{Below};
 ghost use Rattle.flow_ends.specs.Ends.{AllReceivers, AllSenders, HasClosedAt, HasPutAt, HasTakenAt};
 ghost use Rattle.flow_ends.specs.Pending.{AllMay, MachineTurns};
 ghost use Rattle.flow_ends.specs.Views.{publishing, stamping, subtracting, withdrawing};
-ghost use Rattle.flow_ends.specs.Workers.{connection_count, opened_net, process_count, view, IsSeatedAt};
+ghost use Rattle.flow_ends.specs.Floors.{connection_count, opened_net, process_count, woken_of, IsSeatedAt};
+ghost use Rattle.flow_ends.specs.Workers.{view};
 
 use crate::floor::{Floor, Held, Worker};
 use crate::plays::{Deed, Noting, Publish, Stamp, Subtract, Withdraw};
@@ -29,6 +30,7 @@ impl<K: Component> Floor<K> {
         ensures above { Below result (view worker.old).made }
         ensures most { result + turns ≤ RUN_LIMIT + 1 }
         ensures machine { MachineTurns K.rules (opened_net self.now) (view worker.old).made result (view worker.old).held D.turns }
+        ensures woken { woken_of worker.new ≡ woken_of worker.old }
     {
         let _ = held;
         let clock = self.layout.clock();
@@ -53,6 +55,7 @@ impl<K: Component> Floor<K> {
         requires noted { AllReceivers (opened_net self.now) connection N.notes }
         ensures seated { IsSeatedAt self.now worker.new held.now }
         ensures view { view worker.new ≡ publishing (view worker.old) N.notes }
+        ensures woken { woken_of worker.new ≡ woken_of worker.old }
     {
         let _ = held;
         let place = self.layout.level_word(connection);
@@ -74,6 +77,7 @@ impl<K: Component> Floor<K> {
         requires noted { AllReceivers (opened_net self.now) connection N.notes }
         ensures seated { IsSeatedAt self.now worker.new held.now }
         ensures view { view worker.new ≡ subtracting (view worker.old) N.notes }
+        ensures woken { woken_of worker.new ≡ woken_of worker.old }
     {
         let _ = held;
         let place = self.layout.level_word(connection);
@@ -96,6 +100,7 @@ impl<K: Component> Floor<K> {
         requires noted { AllSenders (opened_net self.now) connection N.notes }
         ensures seated { IsSeatedAt self.now worker.new held.now }
         ensures view { view worker.new ≡ withdrawing (view worker.old) N.notes }
+        ensures woken { woken_of worker.new ≡ woken_of worker.old }
     {
         let _ = held;
         let place = self.layout.level_word(connection);

@@ -20,7 +20,7 @@ load-requires g c = let f = c.args.self.now in let q = c.requires.seated in let 
 
 pub returns-clause-seated : goal.returns-clause-seated
 returns-clause-seated g c = let f = c.args.self.now in let e = c.load.ensures in
-    seated-next f.table.shared.table_id f.layout.processes c.args.worker.now (record { seat = c.load.new.seat }) c.args.held.now (entering (view c.args.worker.now) g.S.Spot.connection) c.requires.seated e.0 e.2 refl refl refl
+    seated-next f.table.shared.table_id f.layout.processes c.args.worker.now (record { seat = c.load.new.seat; woken = c.args.worker.now.woken }) c.args.held.now (entering (view c.args.worker.now) g.S.Spot.connection) c.requires.seated e.0 e.2 refl refl refl
 
 pub returns-clause-view : goal.returns-clause-view
 returns-clause-view g c = ap (λ m. m.0) c.load.ensures.2 ∙ ap (entering (view c.args.worker.now)) c.requires.spot

@@ -26,8 +26,8 @@ fetch_or-requires g c = let f = c.args.self.now in let q = c.requires.seated in 
 pub returns-clause-seated : goal.returns-clause-seated
 returns-clause-seated g c = let f = c.args.self.now in let e = c.fetch_or.ensures in
     dite (ℕ_discrete c.fetch_or.result 0)
-    (λ free. seated-next f.table.shared.table_id f.layout.processes c.args.worker.now (record { seat = c.fetch_or.new.seat }) c.args.held.now (entering (view c.args.worker.now) g.S.Spot.connection) c.requires.seated e.0 (e.2.0 free) refl refl refl)
-    (λ taken. seated-next f.table.shared.table_id f.layout.processes c.args.worker.now (record { seat = c.fetch_or.new.seat }) c.args.held.now (looked (view c.args.worker.now) (c.gate_word-place.result / SPACING) c.fetch_or.result) c.requires.seated e.0 (e.2.1 taken).1 refl refl refl)
+    (λ free. seated-next f.table.shared.table_id f.layout.processes c.args.worker.now (record { seat = c.fetch_or.new.seat; woken = c.args.worker.now.woken }) c.args.held.now (entering (view c.args.worker.now) g.S.Spot.connection) c.requires.seated e.0 (e.2.0 free) refl refl refl)
+    (λ taken. seated-next f.table.shared.table_id f.layout.processes c.args.worker.now (record { seat = c.fetch_or.new.seat; woken = c.args.worker.now.woken }) c.args.held.now (looked (view c.args.worker.now) (c.gate_word-place.result / SPACING) c.fetch_or.result) c.requires.seated e.0 (e.2.1 taken).1 refl refl refl)
 
 pub returns-clause-free : goal.returns-clause-free
 returns-clause-free g c free = ap (λ m. m.0) (c.fetch_or.ensures.2.0 free) ∙ ap (entering (view c.args.worker.now)) c.requires.spot

@@ -47,7 +47,7 @@ told-of g c = let f = c.args.self.now in let place = c.level_word-word_at.ensure
 pub returns-then-level-most-clause-seated : goal.returns-then-level-most-clause-seated
 returns-then-level-most-clause-seated g c = let f = c.args.self.now in
     let full = (told-of g (goal.at.returns-then-level-most-clause-seated g c).After-load-word).1 (omega (arith, c.level.ensures.word, c.requires.count, c.requires.fits, c.if-level-most.true)) in
-    seated-next f.table.shared.table_id f.layout.processes c.args.worker.now (record { seat = c.load-word.new.seat }) c.args.held.now (seeing (view c.args.worker.now) (f.layout.processes + c.args.connection) c.load-word.result) c.requires.seated c.load-word.ensures.0 full refl refl refl
+    seated-next f.table.shared.table_id f.layout.processes c.args.worker.now (record { seat = c.load-word.new.seat; woken = c.args.worker.now.woken }) c.args.held.now (seeing (view c.args.worker.now) (f.layout.processes + c.args.connection) c.load-word.result) c.requires.seated c.load-word.ensures.0 full refl refl refl
 
 pub exchange-old-requires : goal.exchange-old-requires
 exchange-old-requires g c = let f = c.args.self.now in
@@ -141,8 +141,8 @@ returns-clause-seated g c = let f = c.args.self.now in
     let o = out-of g all.After-outgoing-packet (told-of g all.After-load-word) in
     let k = back-of g all.After-turn-3 o in
     let e = c.load.ensures in
-    seated-out f.table.shared.table_id f.layout.processes (record { seat = c.load.new.seat }) c.args.held.now _ refl
-    (seated-with f.table.shared.table_id f.layout.processes c.args.worker.now (record { seat = c.load.new.seat }) c.args.held.now (filling (placing (view c.args.worker.now) o.puts g.B.Parcel.packet)) c.requires.seated
+    seated-out f.table.shared.table_id f.layout.processes (record { seat = c.load.new.seat; woken = c.args.worker.now.woken }) c.args.held.now _ refl
+    (seated-with f.table.shared.table_id f.layout.processes c.args.worker.now (record { seat = c.load.new.seat; woken = c.args.worker.now.woken }) c.args.held.now (filling (placing (view c.args.worker.now) o.puts g.B.Parcel.packet)) c.requires.seated
     (e.0 ∙ c.turn-3.ensures.0 ∙ c.turn-2.ensures.0 ∙ c.exchange-old-3.ensures.0 ∙ c.turn.ensures.0 ∙ c.exchange-old-2.ensures.0 ∙ c.exchange-old.ensures.0 ∙ c.load-word.ensures.0)
     (ap (λ m. m.0) e.2 ∙ ap filling k.view_is) (ap (λ m. m.1) e.2 ∙ ap (λ xs. rest (rest xs)) k.slots_are) refl refl refl)
 

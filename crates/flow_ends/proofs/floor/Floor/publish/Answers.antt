@@ -19,7 +19,7 @@ fetch_add-requires g c = let f = c.args.self.now in let q = c.requires.seated in
 
 pub returns-clause-seated : goal.returns-clause-seated
 returns-clause-seated g c = let f = c.args.self.now in let e = c.fetch_add.ensures in
-    seated-next f.table.shared.table_id f.layout.processes c.args.worker.now (record { seat = c.fetch_add.new.seat }) c.args.held.now (publishing (view c.args.worker.now) g.N.Noting.notes) c.requires.seated e.0 e.2 refl refl refl
+    seated-next f.table.shared.table_id f.layout.processes c.args.worker.now (record { seat = c.fetch_add.new.seat; woken = c.args.worker.now.woken }) c.args.held.now (publishing (view c.args.worker.now) g.N.Noting.notes) c.requires.seated e.0 e.2 refl refl refl
 
 pub returns-clause-view : goal.returns-clause-view
 returns-clause-view g c = ap (λ m. m.0) c.fetch_add.ensures.2

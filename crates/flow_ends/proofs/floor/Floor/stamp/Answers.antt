@@ -24,7 +24,7 @@ fetch_add-found-requires g c = let f = c.args.self.now in let q = c.requires.sea
 
 pub returns-clause-seated : goal.returns-clause-seated
 returns-clause-seated g c = let f = c.args.self.now in let e = c.fetch_add-found.ensures in
-    seated-stamped f.table.shared.table_id f.layout.processes c.args.worker.now (record { seat = c.fetch_add-found.new.seat }) c.args.held.now c.fetch_add-found.result g.D.Deed.turns c.requires.seated e.0 e.2.0
+    seated-stamped f.table.shared.table_id f.layout.processes c.args.worker.now (record { seat = c.fetch_add-found.new.seat; woken = c.args.worker.now.woken }) c.args.held.now c.fetch_add-found.result g.D.Deed.turns c.requires.seated e.0 e.2.0
 
 pub returns-clause-most : goal.returns-clause-most
 returns-clause-most g c = omega (arith, c.fetch_add-found.ensures.2.2, c.requires.count)
