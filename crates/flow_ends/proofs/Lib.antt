@@ -22,3 +22,9 @@ pub mod Quiet
 pub mod Spacing
 pub mod Seated
 pub mod Slots
+pub mod Midways
+pub mod Turnings
+pub mod Looking
+pub mod Idles
+pub mod Came
+pub mod Planned

@@ -10,5 +10,8 @@ pub mod Pending
 pub mod Plays
 pub mod Workers
 pub mod Looks
+pub mod Parcels
+pub mod Midway
+pub mod Turns
 pub mod Crew
 pub mod Floors

@@ -6,12 +6,21 @@
 
 mod board;
 mod floor;
+mod gates;
+mod idle;
+mod inputs;
 mod layout;
 mod packets;
 mod plays;
+mod receive;
 mod roll;
+mod send;
+mod solo;
 mod steps;
 mod tells;
+mod told;
+mod turn;
+mod wake;
 
 pub use board::{Lawful, Slot, View};
 pub use floor::{Claim, Floor, Held, Turned, Worker};
