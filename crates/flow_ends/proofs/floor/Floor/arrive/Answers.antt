@@ -24,16 +24,16 @@ returns-then-not-is_shared-clause-came g c = let f = c.args.self.now in let q = 
   e.view,
 )
 
-pub returns-then-word-eqFREE-clause-came : goal.returns-then-word-eqFREE-clause-came
-returns-then-word-eqFREE-clause-came g c = let f = c.args.self.now in let q = c.requires.held in let e = c.enter-word.ensures in let v = view c.args.worker.now in
+pub returns-then-word-eq-FREE-clause-came : goal.returns-then-word-eq-FREE-clause-came
+returns-then-word-eq-FREE-clause-came g c = let f = c.args.self.now in let q = c.requires.held in let e = c.enter-word.ensures in let v = view c.args.worker.now in
     let is = e.free c.if-word-eq-FREE.true in (
       midway-next g.K.Component.rules f.table.shared.table_id f.layout.processes c.args.worker.now c.enter-word.new.worker c.args.held.now None (Some (sending_at c.args.connection)) None None [] [] (entering v c.args.connection)
           (midway-held g.K.Component.rules f.table.shared.table_id f.layout.processes c.args.worker.now c.args.held.now q) e.seated is refl refl q.calm.receiving q.calm.noted,
       is,
     )
 
-pub returns-else-word-eqFREE-clause-came : goal.returns-else-word-eqFREE-clause-came
-returns-else-word-eqFREE-clause-came g c = let f = c.args.self.now in let q = c.requires.held in let e = c.enter-word.ensures in let v = view c.args.worker.now in
+pub returns-else-word-eq-FREE-clause-came : goal.returns-else-word-eq-FREE-clause-came
+returns-else-word-eq-FREE-clause-came g c = let f = c.args.self.now in let q = c.requires.held in let e = c.enter-word.ensures in let v = view c.args.worker.now in
     let is = e.taken c.if-word-eq-FREE.false in (
       held-looked g.K.Component.rules f.table.shared.table_id f.layout.processes c.args.worker.now c.enter-word.new.worker c.args.held.now (looked v (f.layout.processes + f.layout.connections + c.args.connection) c.enter-word.result) q e.seated is refl refl refl refl,
       sym c.is_shared.ensures ∙ c.if-not-is_shared.false,

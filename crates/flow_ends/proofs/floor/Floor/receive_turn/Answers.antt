@@ -52,7 +52,7 @@ end_as-requires-clause-held g c = let f = c.args.self.now in let e = c.in-Nothin
 
 pub got_as-stamp-requires-clause-held : goal.got_as-stamp-requires-clause-held
 got_as-stamp-requires-clause-held g c = let f = c.args.self.now in let e = c.in-Packet.ensures in
-    midway-drawn g.K.Component.rules f.table.shared.table_id f.layout.processes c.args.worker.now c.draw.new.worker c.args.held.now c.args.connection _ c.in-Packet.packet c.requires.held e.seated e.drawn.1
+    midway-drawn g.K.Component.rules f.table.shared.table_id f.layout.processes c.args.worker.now c.draw.new.worker c.args.held.now c.args.connection c.in-Packet.field-0 c.in-Packet.packet c.requires.held e.seated e.drawn.1
 
 pub got_as-stamp-requires-clause-sound : goal.got_as-stamp-requires-clause-sound
 got_as-stamp-requires-clause-sound g c = let q = c.requires.held in

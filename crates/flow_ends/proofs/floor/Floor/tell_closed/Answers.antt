@@ -1,4 +1,4 @@
-use Rattle.std.proofs.Common.{◌≡◌, ◌∙◌, ℕ, List, [], ◌∷◌, ◌++◌, None, Some, drop, slice_get, refl, sym, ap, subst, append-nil}
+use Rattle.std.proofs.Common.{◌≡◌, ◌∙◌, ℕ, List, [], ◌∷◌, ◌++◌, None, Some, drop, slice_get, refl, sym, ap, subst, arith, append-nil}
 use Rattle.std.specs.Option.{option_map}
 use Rattle.flow_floor.specs.Sending.{receiver_at}
 use Rattle.flow_floor.proofs.Planned.{receiver_at-is}
@@ -18,7 +18,7 @@ at : (g : _) (c : After-index g) → slice_get c.args.self.now.plan.items c.args
 at g c = connection-at c.args.self.now c.args.connection c.index.result.now c.requires.range c.index.ensures
 
 pub index-requires : goal.index-requires
-index-requires g c = connection-there c.args.self.now c.args.connection c.requires.range
+index-requires g c = omega (arith, connection-there c.args.self.now c.args.connection c.requires.range)
 
 pub subtract-requires-clause-seated : goal.subtract-requires-clause-seated
 subtract-requires-clause-seated g c = let f = c.args.self.now in midway-seated g.K.Component.rules f.table.shared.table_id f.layout.processes c.args.worker.now c.args.held.now _ _ _ c.requires.held

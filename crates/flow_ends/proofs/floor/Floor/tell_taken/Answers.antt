@@ -16,7 +16,7 @@ at : (g : _) (c : After-index g) → slice_get c.args.self.now.plan.items c.args
 at g c = connection-at c.args.self.now c.args.connection c.index.result.now c.requires.range c.index.ensures
 
 pub index-requires : goal.index-requires
-index-requires g c = connection-there c.args.self.now c.args.connection c.requires.range
+index-requires g c = omega (arith, connection-there c.args.self.now c.args.connection c.requires.range)
 
 pub withdraw-requires-clause-seated : goal.withdraw-requires-clause-seated
 withdraw-requires-clause-seated g c = let f = c.args.self.now in midway-seated g.K.Component.rules f.table.shared.table_id f.layout.processes c.args.worker.now c.args.held.now _ _ _ c.requires.held
