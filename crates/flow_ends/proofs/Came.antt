@@ -1,7 +1,6 @@
 -- What a call for a turn tells.
-use Rattle.std.proofs.Common.{◌≡◌, ℕ, zero, suc, ◌+◌, ◌<◌, ◌≤◌, true, All, List, [], ◌∷◌, ◌++◌, Option, Some, None, slice_get, append-nil, append_assoc, refl, ap, sym, subst, ◌∙◌, arith, inl, inr}
+use Rattle.std.proofs.Common.{◌≡◌, ℕ, zero, suc, ◌+◌, ◌<◌, ◌≤◌, true, List, [], ◌∷◌, ◌++◌, Option, Some, None, slice_get, refl, ap, sym, subst, ◌∙◌, arith, inl, inr}
 use Rattle.std.specs.Prelude.{is_some, option_and_then}
-use Rattle.std.proofs.lemmas.List.Elements.{All-append, All-nil}
 use Rattle.flow_component.specs.declared.Port.{Port}
 use Rattle.flow_component.specs.declared.Wish.TheVariants as wishes
 use Rattle.flow_component.specs.Laws.{Rules}
@@ -20,13 +19,11 @@ use Rattle.flow_floor.proofs.Turnings.{closed-is}
 use Rattle.flow_ends.specs.declared.board.Look.{Look}
 use Rattle.flow_ends.specs.declared.board.Sending.{Sending}
 use Rattle.flow_ends.specs.declared.board.View.{View}
-use Rattle.flow_ends.specs.declared.floor.Floor.{Floor}
 use Rattle.flow_ends.specs.declared.floor.Held.{Held}
 use Rattle.flow_ends.specs.declared.floor.Turned.{Turned}
 use Rattle.flow_ends.specs.declared.floor.Turned.TheVariants as turned
 use Rattle.flow_ends.specs.declared.floor.Worker.{Worker}
 use Rattle.flow_ends.specs.Ends.{is_shared}
-use Rattle.flow_ends.specs.Floors.{process_count, readied_of, woken_of, Readies, WakesOne}
 use Rattle.flow_ends.specs.Looks.{InSeen, IsLook}
 use Rattle.flow_ends.specs.Midway.{MakesTurn}
 use Rattle.flow_ends.specs.Turns.{output_of_case, IsBusy, IsMade, ToldLevel, Turns}
@@ -93,22 +90,3 @@ module _ {K : Type 0} (rules : Rules K) (n m : ℕ) (start : NetValue K) where
   wired-came many h h' w w' (turned.Busy c word) is wired = subst (λ (x : Held K). IsWiredIn many x.body) (sym is.0.0) wired
   wired-came many h h' w w' (turned.Blocked block word) is wired = subst (λ (x : Held K). IsWiredIn many x.body) (sym is.0.0) wired
   wired-came many h h' w w' (turned.Over over) is wired = subst (λ (x : Held K). IsWiredIn many x.body) (sym is.0.0) wired
-
-module _ {K : Type 0} (f : Floor K) where
-  -- Nobody is listed, and nobody was made ready.
-  pub ready-none : (old new : Worker K) → woken_of new ≡ [] → readied_of new ≡ readied_of old → Readies f old new
-  ready-none old new none same = record {
-    listed = same ∙ sym (append-nil (readied_of old)) ∙ ap (λ (xs : List ℕ). readied_of old ++ xs) (sym none);
-    below = subst (All (λ (p : ℕ). p < process_count f)) (sym none) (All-nil (λ (p : ℕ). p < process_count f));
-  }
-
-  -- What a call made ready that began with a worker who has made nobody ready since.
-  pub ready-after : (u v w : Worker K) → readied_of v ≡ readied_of u → Readies f v w → Readies f u w
-  ready-after u v w same r = record { listed = r.listed ∙ ap (λ (xs : List ℕ). xs ++ woken_of w) same; below = r.below }
-
-  -- Who was listed, and then who was woken.
-  pub ready-more : (u v w : Worker K) → Readies f u v → WakesOne f v w → Readies f u w
-  ready-more u v w r o = record {
-    listed = o.readied ∙ ap (λ (xs : List ℕ). xs ++ o.more) r.listed ∙ append_assoc (readied_of u) (woken_of v) o.more ∙ ap (λ (xs : List ℕ). readied_of u ++ xs) (sym o.woken);
-    below = subst (All (λ (p : ℕ). p < process_count f)) (sym o.woken) (All-append (λ (p : ℕ). p < process_count f) (woken_of v) o.more r.below o.below);
-  }

@@ -28,3 +28,5 @@ pub mod Looking
 pub mod Idles
 pub mod Came
 pub mod Planned
+pub mod Rolls
+pub mod Holding

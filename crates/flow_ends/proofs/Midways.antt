@@ -107,15 +107,8 @@ module _ {K : Type 0} (rules : Rules K) where
     pub waking-midway : (w : Worker K) (h : Held K) (notes : List ℕ) → IsMidway rules z n w h None None notes → IsWaking rules z n w h notes
     waking-midway w h notes q = record { table = q.table; share = q.share; sending = q.sends; receiving = q.receives; noted = q.noted; spare = q.spare; below = q.below; agrees = q.agrees; slots = q.slots }
 
-    -- Where nobody is noted it owes nothing.
-    pub held-waking : (w : Worker K) (h : Held K) → IsWaking rules z n w h [] → IsHeldBy rules z n w h
-    held-waking w h q = record { calm = record { table = q.table; share = q.share; sending = q.sending; receiving = q.receiving; noted = q.noted; spare = q.spare }; below = q.below; agrees = q.agrees; slots = q.slots }
-
     pub midway-seated : (w : Worker K) (h : Held K) (s : Option Sending) (r : Option Receiving) (notes : List ℕ) → IsMidway rules z n w h s r notes → IsSeated z n w h
     midway-seated w h s r notes q = record { table = q.table; share = q.share; spare = q.spare; below = q.below; base = q.agrees.base; held = q.agrees.held; slots = q.slots }
-
-    pub held-seated : (w : Worker K) (h : Held K) → IsHeldBy rules z n w h → IsSeated z n w h
-    held-seated w h q = midway-seated w h None None [] (midway-held w h q)
 
     -- A step made this of its view.
     pub midway-next : (w w' : Worker K) (h : Held K) (s s' : Option Sending) (r r' : Option Receiving) (notes notes' : List ℕ) (v : View K) → IsMidway rules z n w h s r notes → IsSeated z n w' h → view w' ≡ v

@@ -7,6 +7,7 @@
 mod board;
 mod floor;
 mod gates;
+mod held;
 mod idle;
 mod inputs;
 mod layout;

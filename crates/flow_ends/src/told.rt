@@ -21,7 +21,7 @@ impl<K: Component> Floor<K> {
     {
         let senders = self.plan[connection].senders.as_slice();
         self.withdraw::<Brand>(worker, held, connection, 1);
-        self.wake_senders(worker, held, senders);
+        self.wake_all(worker, held, senders);
     }
 
     /// Publishes the one packet that was put, goes from the sending end, and wakes the process that receives there.

@@ -1,8 +1,8 @@
 //! How noted processes are woken.
-ghost use Rattle.std.specs.Prelude.{◌≡◌, ◌+◌, ◌<◌, ◌≤◌, ◌∷◌, [], All, Some, length, drop, slice_get};
+ghost use Rattle.std.specs.Prelude.{◌≡◌, ◌+◌, ◌<◌, ◌≤◌, ◌∷◌, ◌++◌, [], All, Some, length, drop, slice_get};
 ghost use Rattle.flow_limits.specs.declared.TheConstants.{SENDER_LIMIT};
 ghost use Rattle.flow_plan.specs.declared.plan.Sender.{Sender};
-ghost use Rattle.flow_ends.specs.Floors.{process_count, woken_of, IsHeldAt, IsSameWorker, IsWakingAt, Readies, WakesOne};
+ghost use Rattle.flow_ends.specs.Floors.{process_count, woken_of, IsSameWorker, IsWakingAt, Readies, WakesOne};
 ghost use Rattle.flow_floor.specs.Sending.{is_followed, sending_processes};
 ghost use Rattle.flow_ends.specs.Workers.{view};
 
@@ -81,15 +81,16 @@ impl<K: Component> Floor<K> {
         self.rouse(worker, held, process);
     }
 
-    /// Wakes the processes of these senders, in order. One that has several side by side is woken once.
-    pub(crate) fn wake_senders(&self, worker: &mut Worker<K>, held: &Held<K>, senders: &[Sender])
-        requires waking { IsWakingAt K.rules self.now worker.old held.now (sending_processes senders.now) }
+    /// Wakes the processes of these senders, which are the first that are noted, in order. One that has several side by side is noted once.
+    pub(crate) fn wake_all(&self, worker: &mut Worker<K>, held: &Held<K>, senders: &[Sender])
+        requires waking { IsWakingAt K.rules self.now worker.old held.now (sending_processes senders.now ++ drop (length (sending_processes senders.now)) (view worker.old).noted) }
         requires below { All (λ (s : Sender). s.process < process_count self.now) senders.now }
         requires few { length senders.now ≤ SENDER_LIMIT }
         requires clear { woken_of worker.old ≡ [] }
-        ensures held { IsHeldAt K.rules self.now worker.new held.now }
+        ensures waking { IsWakingAt K.rules self.now worker.new held.now (drop (length (sending_processes senders.now)) (view worker.old).noted) }
         ensures made { (view worker.new).made ≡ (view worker.old).made }
         ensures seat { IsSameWorker worker.old worker.new }
+        ensures few { length (woken_of worker.new) ≤ length senders.now }
         ensures readies { Readies self.now worker.old worker.new }
     {
         for i in 0..senders.len() {

@@ -2,7 +2,8 @@ use Rattle.std.proofs.Common.{◌≡◌, ◌+◌, ◌∙◌, [], None, Some, ref
 use Rattle.flow_ends.specs.Ends.{sending_at}
 use Rattle.flow_ends.specs.Views.{entering, looked}
 use Rattle.flow_ends.specs.Workers.{view}
-use Rattle.flow_ends.proofs.Midways.{held-looked, held-seated, midway-held, midway-next, sends-held}
+use Rattle.flow_ends.proofs.Holding.{held-seated}
+use Rattle.flow_ends.proofs.Midways.{held-looked, midway-held, midway-next, sends-held}
 use Rattle.flow_ends.proofs.floor.Floor.arrive.Goals as goal
 
 pub come-requires-clause-seated : goal.come-requires-clause-seated

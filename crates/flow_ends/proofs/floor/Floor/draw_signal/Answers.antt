@@ -6,7 +6,8 @@ use Rattle.flow_ends.specs.Plays.{drawn_count}
 use Rattle.flow_ends.specs.Views.{drawing, emptying, seeing}
 use Rattle.flow_ends.specs.Workers.{view, IsHeldBy}
 use Rattle.flow_ends.proofs.Looking.{looks-one, looks-on, signal-none, signal-sender}
-use Rattle.flow_ends.proofs.Midways.{held-looked, held-seated, midway-drawn, midway-held, receives-held}
+use Rattle.flow_ends.proofs.Holding.{held-seated}
+use Rattle.flow_ends.proofs.Midways.{held-looked, midway-drawn, midway-held, receives-held}
 use Rattle.flow_ends.proofs.floor.Floor.draw_signal.Goals as goal
 use Rattle.flow_ends.proofs.floor.Floor.draw_signal.Goals.{In-Nothing}
 

@@ -2,7 +2,8 @@ use Rattle.std.proofs.Common.{◌∷◌, [], None, length, refl, ap}
 use Rattle.flow_model.specs.Events.{Hears_end}
 use Rattle.flow_machine.specs.declared.answers.Effect.TheVariants as effects
 use Rattle.flow_machine.proofs.Pairs.{body-turn}
-use Rattle.flow_ends.proofs.Midways.{held-midway, held-seated, makes-one, may-one, midway-held, midway-turned}
+use Rattle.flow_ends.proofs.Holding.{held-seated}
+use Rattle.flow_ends.proofs.Midways.{held-midway, makes-one, may-one, midway-held, midway-turned}
 use Rattle.flow_ends.proofs.Turnings.{end-happens}
 use Rattle.flow_ends.proofs.floor.Floor.end_as.Goals as goal
 

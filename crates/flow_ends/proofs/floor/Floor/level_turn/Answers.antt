@@ -7,7 +7,8 @@ use Rattle.flow_ends.specs.Ends.{sending_at, HasWithdrawn}
 use Rattle.flow_ends.specs.Midway.{learnt_at}
 use Rattle.flow_ends.specs.Views.{exiting, learning}
 use Rattle.flow_ends.specs.Workers.{view}
-use Rattle.flow_ends.proofs.Came.{at-level, is-busy, is-made, ready-none}
+use Rattle.flow_ends.proofs.Came.{at-level, is-busy, is-made}
+use Rattle.flow_ends.proofs.Rolls.{readies-none}
 use Rattle.flow_ends.proofs.Midways.{held-midway, midway-next, midway-seated}
 use Rattle.flow_ends.proofs.floor.Floor.level_turn.Goals as goal
 
@@ -55,4 +56,4 @@ returns-clause-turned g c = let f = c.args.self.now in let a = c.in_default.ensu
 
 pub returns-clause-readies : goal.returns-clause-readies
 returns-clause-readies g c = let a = c.in_default.ensures in let l = c.learn-word.ensures in let t = c.learn_as-stamp.ensures.turn in let d = c.depart.ensures in
-    ready-none c.args.self.now c.args.worker.now c.depart.new.worker (d.woken ∙ t.woken ∙ l.woken ∙ a.woken ∙ c.requires.clear) (ap (λ v. v.readied) d.view ∙ t.readied ∙ ap (λ v. v.readied) l.view ∙ ap (λ v. v.readied) a.came.1)
+    readies-none c.args.self.now c.args.worker.now c.depart.new.worker (d.woken ∙ t.woken ∙ l.woken ∙ a.woken ∙ c.requires.clear) (ap (λ v. v.readied) d.view ∙ t.readied ∙ ap (λ v. v.readied) l.view ∙ ap (λ v. v.readied) a.came.1)

@@ -9,7 +9,8 @@ use Rattle.flow_ends.specs.Looks.{Looked, first_open}
 use Rattle.flow_ends.specs.Views.{look_at, seeing}
 use Rattle.flow_ends.specs.Workers.{view, IsHeldBy, IsSameSeat, LooksOn}
 use Rattle.flow_ends.proofs.Looking.{looked-skip, looked-more, looks-one, looks-then}
-use Rattle.flow_ends.proofs.Midways.{held-looked, held-seated}
+use Rattle.flow_ends.proofs.Holding.{held-seated}
+use Rattle.flow_ends.proofs.Midways.{held-looked}
 use Rattle.flow_ends.proofs.floor.Floor.look_over.Goals as goal
 use Rattle.flow_ends.proofs.floor.Floor.look_over.Goals.{in-Some+else-level-ne0, in_default}
 

@@ -6,10 +6,12 @@ use Rattle.flow_ends.specs.Ends.{MayDraw}
 use Rattle.flow_ends.specs.Plays.{drawn_count}
 use Rattle.flow_ends.specs.Views.{seeing}
 use Rattle.flow_ends.specs.Workers.{view}
-use Rattle.flow_ends.proofs.Came.{is-made, kept-after, ready-after, ready-none}
+use Rattle.flow_ends.proofs.Came.{is-made, kept-after}
+use Rattle.flow_ends.proofs.Rolls.{readies-after, readies-none}
 use Rattle.flow_ends.proofs.Idles.{empty-seen}
 use Rattle.flow_ends.proofs.Looking.{not-none}
-use Rattle.flow_ends.proofs.Midways.{held-looked, held-seated, midway-drawn, receives-held}
+use Rattle.flow_ends.proofs.Holding.{held-seated}
+use Rattle.flow_ends.proofs.Midways.{held-looked, midway-drawn, receives-held}
 use Rattle.flow_ends.proofs.Turnings.{sound-drawn}
 use Rattle.flow_ends.proofs.floor.Floor.receive_turn.Goals as goal
 

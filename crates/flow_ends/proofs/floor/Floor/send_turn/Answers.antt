@@ -4,7 +4,8 @@ use Rattle.flow_floor.proofs.Came.{waits-full}
 use Rattle.flow_ends.specs.Ends.{sending_at}
 use Rattle.flow_ends.specs.Views.{exiting}
 use Rattle.flow_ends.specs.Workers.{view}
-use Rattle.flow_ends.proofs.Came.{at-send, is-busy, kept-after, ready-none, seen-there}
+use Rattle.flow_ends.proofs.Came.{at-send, is-busy, kept-after, seen-there}
+use Rattle.flow_ends.proofs.Rolls.{readies-none}
 use Rattle.flow_ends.proofs.Idles.{full-seen}
 use Rattle.flow_ends.proofs.Midways.{held-midway, midway-next, midway-seated}
 use Rattle.flow_ends.proofs.Planned.{channel-there}
@@ -49,4 +50,4 @@ returns-in-Full-clause-turned g c = let f = c.args.self.now in let b = c.args.he
 
 pub returns-in-Full-clause-readies : goal.returns-in-Full-clause-readies
 returns-in-Full-clause-readies g c = let a = c.in_default.ensures in let full = c.in-Full.ensures in let d = c.depart.ensures in
-    ready-none c.args.self.now c.args.worker.now c.depart.new.worker (d.woken ∙ full.woken ∙ a.woken ∙ c.requires.clear) (ap (λ v. v.readied) d.view ∙ ap (λ v. v.readied) full.sent.3 ∙ ap (λ v. v.readied) a.came.1)
+    readies-none c.args.self.now c.args.worker.now c.depart.new.worker (d.woken ∙ full.woken ∙ a.woken ∙ c.requires.clear) (ap (λ v. v.readied) d.view ∙ ap (λ v. v.readied) full.sent.3 ∙ ap (λ v. v.readied) a.came.1)

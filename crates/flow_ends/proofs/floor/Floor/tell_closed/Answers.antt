@@ -7,8 +7,9 @@ use Rattle.flow_ends.specs.Ends.{sending_at}
 use Rattle.flow_ends.specs.Midway.{closed_at, IsMidway}
 use Rattle.flow_ends.specs.Views.{exiting, subtracting}
 use Rattle.flow_ends.specs.Workers.{view, IsWaking}
-use Rattle.flow_ends.proofs.Came.{ready-more, ready-none}
-use Rattle.flow_ends.proofs.Midways.{held-waking, midway-next, midway-seated, waking-midway}
+use Rattle.flow_ends.proofs.Rolls.{readies-more, readies-none}
+use Rattle.flow_ends.proofs.Holding.{waking-none}
+use Rattle.flow_ends.proofs.Midways.{midway-next, midway-seated, waking-midway}
 use Rattle.flow_ends.proofs.Planned.{connection-at, connection-there, receiver-low, receivers-noted}
 use Rattle.flow_ends.proofs.floor.Floor.tell_closed.Goals as goal
 use Rattle.flow_ends.proofs.floor.Floor.tell_closed.Goals.{After-index, After-subtract, After-depart}
@@ -57,10 +58,10 @@ wake-requires-clause-below g c = receiver-low c.args.self.now c.args.connection 
 pub returns-clause-held : goal.returns-clause-held
 returns-clause-held g c = let f = c.args.self.now in let all = goal.at.returns-clause-held g c in
     let q = waking g all.After-depart (told g all.After-subtract) (at g all.After-index) in
-    held-waking g.K.Component.rules f.table.shared.table_id f.layout.processes c.wake.new.worker c.args.held.now
+    waking-none g.K.Component.rules f.table.shared.table_id f.layout.processes c.wake.new.worker c.args.held.now
     (subst (IsWaking g.K.Component.rules f.table.shared.table_id f.layout.processes c.wake.new.worker c.args.held.now) (ap (drop 1) q.noted) c.wake.ensures.waking)
 
 pub returns-clause-readies : goal.returns-clause-readies
 returns-clause-readies g c = let f = c.args.self.now in let e = c.subtract.ensures in let d = c.depart.ensures in
-    ready-more f c.args.worker.now c.depart.new.worker c.wake.new.worker
-    (ready-none f c.args.worker.now c.depart.new.worker (d.woken ∙ e.woken ∙ c.requires.clear) (ap (λ v. v.readied) d.view ∙ ap (λ v. v.readied) e.view)) c.wake.ensures.one
+    readies-more f c.args.worker.now c.depart.new.worker c.wake.new.worker
+    (readies-none f c.args.worker.now c.depart.new.worker (d.woken ∙ e.woken ∙ c.requires.clear) (ap (λ v. v.readied) d.view ∙ ap (λ v. v.readied) e.view)) c.wake.ensures.one

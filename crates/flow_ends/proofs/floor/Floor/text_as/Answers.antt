@@ -2,7 +2,8 @@ use Rattle.std.proofs.Common.{◌∷◌, [], None, length, refl, ap, slice_get}
 use Rattle.flow_model.specs.Events.{is_fresh}
 use Rattle.flow_machine.specs.Effects.{text_event}
 use Rattle.flow_floor.proofs.Texts.{text-deed}
-use Rattle.flow_ends.proofs.Midways.{held-midway, held-seated, makes-one, may-one, midway-held, midway-turned}
+use Rattle.flow_ends.proofs.Holding.{held-seated}
+use Rattle.flow_ends.proofs.Midways.{held-midway, makes-one, may-one, midway-held, midway-turned}
 use Rattle.flow_ends.proofs.Turnings.{text-alone, text-happens}
 use Rattle.flow_ends.proofs.floor.Floor.text_as.Goals as goal
 

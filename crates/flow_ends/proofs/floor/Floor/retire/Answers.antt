@@ -1,0 +1,18 @@
+use Rattle.std.proofs.Common.{◌<◌, ◌∷◌, arith, sym, ap, ◌∙◌, subst}
+use mathlib.Core.Option.{none}
+use Rattle.atomic_table.specs.Table.{rest, step}
+use Rattle.flow_ends.specs.declared.board.Slot.TheVariants as slot
+use Rattle.flow_ends.specs.Plays.{retired}
+use Rattle.flow_ends.proofs.Leaves.{retires}
+use Rattle.flow_ends.proofs.Spacing.{apart}
+use Rattle.flow_ends.proofs.Holding.{retires-as}
+use Rattle.flow_ends.proofs.floor.Floor.retire.Goals as goal
+
+pub swap-requires : goal.swap-requires
+swap-requires g c = let f = c.args.self.now in let q = c.requires.held in let s = c.exchange-old.new.seat in let place = c.process_word-place.ensures in let x = c.exchange-old.ensures in let h = c.args.held in let now = x.3 in let v = ap (λ m. m.0) now in
+    let carried = ap (λ m. m.1) now ∙ (λ j. (c.body_slot-slot.ensures j, slot.Body h.body) ∷ rest (q.slots j)) in (
+      x.0 ∙ q.calm.table,
+      omega (arith, f.words, place, q.below),
+      apart g.K.Component.rules f.table.shared.key.value f.table.shared.table_id.slots s.id s.me h.process c.process_word-place.result (λ _. 4) (λ i. retired (step f.table.shared.table_id.slots i 4 0 none) s.me) place
+          (retires g.K.Component.rules g.met.K.Component.lawful f.table.shared.key.value _ h.process _ _ q.agrees.base h.body _ (retires-as c.args.over h c.requires.over) (ap (λ y. y.held) v ∙ q.agrees.held) q.agrees.rests (ap (λ y. y.sending) v ∙ q.calm.sending) (ap (λ y. y.receiving) v ∙ q.calm.receiving) (ap (λ y. y.noted) v ∙ q.calm.noted) (ap (λ y. y.spare) v ∙ q.calm.spare) (subst (λ n. 0 < n) (sym (ap (λ y. y.shares) v)) q.calm.share) carried),
+    )
