@@ -28,6 +28,12 @@ pub mod Shutting
 pub mod Openings
 pub mod Filling
 pub mod Starting
+pub mod Midways
+pub mod Turnings
+pub mod Looking
+pub mod Idles
+pub mod Came
+pub mod Planned
 pub mod Rolls
 pub mod Holding
 pub mod Further

@@ -1,5 +1,5 @@
 -- What callers of other crates say of a floor, its workers and what they hold.
-use Rattle.std.specs.Prelude.{◌≡◌, ℕ, ◌<◌, ◌≤◌, true, false, List, [], ◌∷◌, ◌++◌, All, length, slice_index}
+use Rattle.std.specs.Prelude.{◌≡◌, ℕ, ◌<◌, ◌≤◌, true, false, List, [], ◌∷◌, ◌++◌, All, length, slice_index, Option}
 use Rattle.std.specs.List.{list_any}
 use Rattle.flow_component.specs.Laws.{Rules}
 use Rattle.flow_model.specs.Events.{Event}
@@ -12,13 +12,18 @@ use Rattle.flow_machine.specs.declared.answers.Over.TheVariants as overs
 use Rattle.flow_floor.specs.Made.{Below}
 use Rattle.flow_floor.specs.Turning.{MachineTurn}
 use Rattle.flow_floor.specs.Wired.{IsWiredIn}
+use Rattle.flow_ends.specs.declared.board.Receiving.{Receiving}
+use Rattle.flow_ends.specs.declared.board.Sending.{Sending}
 use Rattle.flow_ends.specs.declared.floor.Floor.{Floor}
 use Rattle.flow_ends.specs.declared.floor.Held.{Held}
+use Rattle.flow_ends.specs.declared.floor.Turned.{Turned}
 use Rattle.flow_ends.specs.declared.floor.Worker.{Worker}
 use Rattle.flow_ends.specs.declared.rooms.Rooms.{Rooms}
 use Rattle.flow_ends.specs.Crew.{IsCrew}
 use Rattle.flow_ends.specs.Ends.{capacities_of}
 use Rattle.flow_ends.specs.Rooms.{HasRooms}
+use Rattle.flow_ends.specs.Midway.{IsMidway}
+use Rattle.flow_ends.specs.Turns.{Turns}
 use Rattle.flow_ends.specs.Views.{Move, stamping}
 use Rattle.flow_ends.specs.Workers.{view, woken_of as listed_by, IsDone, IsHeldBy, IsIdle, IsSameSeat, IsSeated, IsWaking, SeenBlocks}
 
@@ -104,6 +109,10 @@ module _ {K : Type 0} where
   abbrev pub IsWakingAt : Rules K → Floor K → Worker K → Held K → List ℕ → Type 0
   IsWakingAt rules f w h notes = IsWaking rules f.table.shared.table_id (process_count f) w h notes
 
+  -- It holds this body, is at these ends of connections, and has still to wake these processes.
+  abbrev pub IsMidwayAt : Rules K → Floor K → Worker K → Held K → Option Sending → Option Receiving → List ℕ → Type 0
+  IsMidwayAt rules f w h sending receiving notes = IsMidway rules f.table.shared.table_id (process_count f) w h sending receiving notes
+
   -- The worker is one of this floor's, and holds nothing but so many tokens.
   abbrev pub IsDoneAt : Floor K → Worker K → ℕ → Type 0
   IsDoneAt f w tokens = IsDone f.table.shared.table_id w tokens
@@ -120,6 +129,10 @@ module _ {K : Type 0} where
   -- words still say so; and the body owes no work.
   abbrev pub IsStuckAt : Floor K → Worker K → Held K → Type 0
   IsStuckAt f w h = SeenBlocks (opened_net f) h.body (view w).seen
+
+  -- What a call for a turn tells, where the worker and the body that it holds were `w` and `h`, and now are `w'` and `h'`.
+  abbrev pub TurnsAt : Rules K → Floor K → Held K → Worker K → Held K → Worker K → Turned → Type 0
+  TurnsAt rules f h w h' w' turned = Turns rules (process_count f) (connection_count f) (opened_net f) h w h' w' turned
 
   -- The held body may be retired so: its process has ended, or has failed, and the body is set, which is that its component was told its end; or its
   -- last thought found no memory, and it isn't over and isn't set.

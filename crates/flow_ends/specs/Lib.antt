@@ -15,6 +15,9 @@ pub mod Shut
 pub mod Still
 pub mod Laying
 pub mod Looks
+pub mod Parcels
+pub mod Midway
+pub mod Turns
 pub mod Crew
 pub mod Floors
 pub mod InHand

@@ -6,6 +6,7 @@ use Rattle.flow_packet.specs.Held.{without_packet}
 use Rattle.flow_component.specs.Laws.{Rules}
 use Rattle.flow_model.specs.Stages.{IsThoughtStage}
 use Rattle.flow_machine.specs.Effects.{id_sent}
+use Rattle.flow_machine.specs.Nets.{packet_wished}
 use Rattle.flow_machine.specs.Values.{BodyValue, NetValue}
 use Rattle.flow_floor.specs.Law.{Rests}
 use Rattle.flow_floor.specs.Waking.{WordsBlock}
@@ -125,4 +126,4 @@ MatchPlaced placed.Put P Q = Q
 
 -- The packet of its wish has left the body that is held, and nothing else has changed.
 abbrev pub HandsOut : {K : Type 0} → Held K → Held K → Tree → Type 0
-HandsOut old new packet = (new.process ≡ old.process) × (new.starved ≡ old.starved) × IfSome (id_sent old.body.process.stage) (λ id. new.body ≡ record old.body { process = record old.body.process { held = without_packet old.body.process.held id }; leaving = Some (kind_of packet); places = old.body.places + 1 })
+HandsOut old new packet = (new.process ≡ old.process) × (new.starved ≡ old.starved) × (packet_wished old.body.process ≡ Some packet) × IfSome (id_sent old.body.process.stage) (λ id. new.body ≡ record old.body { process = record old.body.process { held = without_packet old.body.process.held id }; leaving = Some (kind_of packet); places = old.body.places + 1 })

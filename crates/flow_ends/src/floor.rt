@@ -67,17 +67,25 @@ pub enum Turned {
     Over(Over),
 }
 
-/// What an idle process saw at its inputs: a packet; no packet, and this word of the lowest that has an open sender; or that all are over.
+/// What an idle process saw at its stream inputs: a packet; no packet, and this word of the lowest that has an open sender; or that all are over.
 pub(crate) enum Saw {
     Packet,
     Sender(u64),
     Over,
 }
 
-/// What an idle process does by what it saw: it takes the packet at its automatic input, starts, goes to its end, or is dormant, with this word of the
-/// lowest input that it watches and that has an open sender.
+/// What an idle process found at its automatic input: a packet, which came out of this connection; no packet, and this word, with an open sender; or
+/// that it is over, or that there is none.
+pub(crate) enum Signalled {
+    Packet(u32, Packet),
+    Sender(u64),
+    Over,
+}
+
+/// What an idle process does by what it saw: it takes this packet, which came out of this connection, at its automatic input, starts, goes to its end, or
+/// is dormant, with this word of the lowest input that it watches and that has an open sender.
 pub(crate) enum Idling {
-    Signal,
+    Signal(u32, Packet),
     Start,
     Finish,
     Dormant(u64),
@@ -97,4 +105,12 @@ pub(crate) enum Placed {
     Full(u64),
     /// The packet is in the cell behind all others.
     Put,
+}
+
+/// What a send came to.
+pub(crate) enum Sent {
+    /// The connection is full; the word that the call read.
+    Full(u64),
+    /// The turn has this stamp.
+    Stamped(u32),
 }

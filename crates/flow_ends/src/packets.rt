@@ -1,5 +1,5 @@
 //! Packets go out of their cells and into them, by two steps each, between which the cell is the worker's.
-ghost use Rattle.std.specs.Prelude.{◌≡◌, ℕ, ◌+◌, ◌<◌, ◌≤◌, slice_index, None, Some};
+ghost use Rattle.std.specs.Prelude.{◌≡◌, ℕ, ◌+◌, ◌<◌, ◌≤◌, slice_index, IfSome, None};
 ghost use Rattle.flow_machine.specs.Effects.{WishesSend};
 ghost use Rattle.flow_machine.specs.Nets.{packet_wished};
 ghost use Rattle.flow_ring.specs.Words.{level_in};
@@ -73,7 +73,7 @@ impl<K: Component> Floor<K> {
         placed: u32,
     ) -> Placed
         requires spot { (S.processes ≡ process_count self.now) × (S.capacities ≡ capacities_of (opened_net self.now)) × (S.connection ≡ connection) × (S.most ≡ most) }
-        requires parcel { packet_wished held.old.body.process ≡ Some B.packet }
+        requires parcel { IfSome (packet_wished held.old.body.process) (λ packet. packet ≡ B.packet) }
         requires most { most ≡ slice_index (capacities_of (opened_net self.now)) connection }
         requires seated { IsSeatedAt self.now worker.old held.old }
         requires range { connection < connection_count self.now }

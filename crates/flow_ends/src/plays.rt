@@ -39,6 +39,12 @@ pub trait Parcel {
     ghost packet: { Tree };
 }
 
+impl Parcel for Brand {
+    ghost use Rattle.flow_ends.specs.Parcels.{no_packet};
+
+    ghost packet = { no_packet };
+}
+
 /// The pending turns of the process that is held, and the net that was opened. Each call picks them.
 pub trait Deed<T> {
     ghost use Rattle.std.specs.Prelude.{List};

@@ -7,6 +7,8 @@ use Rattle.flow_packet.specs.Tree.{Tree, kind_of}
 use Rattle.flow_packet.specs.Held.{without_packet}
 use Rattle.flow_packet.specs.Hands.{packet_at}
 use Rattle.flow_machine.specs.Effects.{id_sent}
+use Rattle.flow_machine.specs.Nets.{packet_wished}
+use Rattle.flow_machine.proofs.NetTurns.{if_some}
 use Rattle.flow_ends.specs.Places.{puts_slot, place_slot}
 use Rattle.flow_floor.proofs.Slots.{head-is}
 use Rattle.flow_floor.proofs.Spacing.{took, told}
@@ -88,13 +90,12 @@ pub exchange-old-requires-3 : goal.exchange-old-requires-3
 exchange-old-requires-3 g c = let all = goal.at.exchange-old-requires-3 g c in let o = out-of g all.After-outgoing-packet (told-of g all.After-load-word) in
     (c.turn.ensures.0 ∙ c.exchange-old-2.ensures.0 ∙ c.exchange-old.ensures.0 ∙ c.load-word.ensures.0 ∙ c.requires.seated.table, (slot.Cell None, took _ _ c.cell-cell.result c.cell-cell.result (slot.Cell None) refl o.slots_are))
 
-some-is : {A : Type 0} (x y : A) → Some x ≡ Some y → x ≡ y
-some-is x y e = cc
+-- The packet that is found is the one that is wished.
+found-there : (f : ℕ → Option Tree) (o : Option ℕ) (id : ℕ) (x : Tree) → o ≡ Some id → IfSome o (λ n. f n ≡ Some x) → option_and_then f o ≡ Some x
+found-there f o id x is found = ap (option_and_then f) is ∙ if_some o (λ n. f n ≡ Some x) id is found
 
--- A packet that is found where another is, is that one.
-agree : (f : ℕ → Option Tree) (o : Option ℕ) (x y : Tree) → IfSome o (λ id. f id ≡ Some x) → option_and_then f o ≡ Some y → x ≡ y
-agree f None x y found e = let gone : None ≡ Some y = e in absurd (cc)
-agree f (Some id) x y found e = some-is x y (sym found ∙ e)
+agree : (f : ℕ → Option Tree) (o : Option ℕ) (id : ℕ) (x y : Tree) → o ≡ Some id → IfSome o (λ n. f n ≡ Some x) → IfSome (option_and_then f o) (λ z. z ≡ y) → x ≡ y
+agree f o id x y is found wished = if_some (option_and_then f o) (λ z. z ≡ y) x (found-there f o id x is found) wished
 
 -- The cell has the packet, and the slots are as they came, the number first.
 record Back {K : Type 0} (v w : View K) (capacities : List ℕ) (n c p puts : ℕ) (packet came : Tree) (slots : List (ℕ × Slot K)) : Type 0 where
@@ -111,7 +112,8 @@ back-of g c o = let f = c.args.self.now in let x = c.exchange-old-3.ensures in
     let n = c.in-Count.place in
     let came = c.outgoing-packet.result in
     let body = c.args.held.now.body.process in
-    let packet_is : came ≡ g.B.Parcel.packet = agree (packet_at body.held.packets) (id_sent body.stage) came g.B.Parcel.packet c.outgoing-packet.ensures.packet c.requires.parcel in
+    let wish = c.requires.wishes in
+    let packet_is : came ≡ g.B.Parcel.packet = agree (packet_at body.held.packets) (id_sent body.stage) wish.1 came g.B.Parcel.packet (ap id_sent wish.2) c.outgoing-packet.ensures.packet c.requires.parcel in
     let l3 : c.exchange-old-3.new.seat.me.1 ≡ (cell, slot.Cell (Some came)) ∷ (p, slot.Vacant) ∷ (at, slot.Count (n + 1)) ∷ [] = ap (λ m. m.1) x.3 ∙ (λ j. (cell, slot.Cell (Some came)) ∷ rest (o.slots_are j)) in
     let l5 : c.turn-3.new.self.me.1 ≡ (at, slot.Count (n + 1)) ∷ (cell, slot.Cell (Some came)) ∷ (p, slot.Vacant) ∷ [] = ap (λ m. m.1) c.turn-3.ensures.2 ∙ ap turned (ap (λ m. m.1) c.turn-2.ensures.2 ∙ ap turned l3) in
     record {
@@ -156,10 +158,12 @@ returns-clause-placed g c =
     let all = goal.at.returns-clause-placed g c in
     let o = out-of g all.After-outgoing-packet (told-of g all.After-load-word) in
     let k = back-of g all.After-turn-3 o in
-    let old = c.args.held.now.body in (
+    let old = c.args.held.now.body in
+    let wish = c.requires.wishes in
+    let wished : packet_wished old.process ≡ Some g.B.Parcel.packet = found-there (packet_at old.process.held.packets) (id_sent old.process.stage) wish.1 c.outgoing-packet.result (ap id_sent wish.2) c.outgoing-packet.ensures.packet ∙ ap (λ (t : Tree). let r : Option Tree = Some t in r) k.packet_is in (
       omega (arith, c.requires.fits, c.if-level-most.false),
       o.puts,
       ap (λ m. m.0) c.load.ensures.2 ∙ ap filling k.view_is,
-      (refl, refl, subst (λ t. IfSome (id_sent old.process.stage) (λ id. c.outgoing-packet.new.self ≡ record old { process = record old.process { held = without_packet old.process.held id }; leaving = Some (kind_of t); places = old.places + 1 })) k.packet_is c.outgoing-packet.ensures.left),
+      (refl, refl, wished, subst (λ t. IfSome (id_sent old.process.stage) (λ id. c.outgoing-packet.new.self ≡ record old { process = record old.process { held = without_packet old.process.held id }; leaving = Some (kind_of t); places = old.places + 1 })) k.packet_is c.outgoing-packet.ensures.left),
       o.would,
     )
