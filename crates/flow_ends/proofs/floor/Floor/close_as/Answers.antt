@@ -16,7 +16,7 @@ pub stamp-stamp-requires-clause-seated : goal.stamp-stamp-requires-clause-seated
 stamp-stamp-requires-clause-seated g c = let f = c.args.self.now in midway-seated g.K.Component.rules f.table.shared.table_id f.layout.processes c.args.worker.now c.args.held.now _ _ _ c.requires.held
 
 pub stamp-stamp-requires-clause-pending : goal.stamp-stamp-requires-clause-pending
-stamp-stamp-requires-clause-pending g c = let f = c.args.self.now in let h = c.args.held.now in 
+stamp-stamp-requires-clause-pending g c = let f = c.args.self.now in let h = c.args.held.now in
     may-one g.K.Component.rules f.table.shared.table_id f.layout.processes f.layout.connections c.args.worker.now h (Some (sending_at c.args.connection)) None [] (closed_event (slice_get (outlets h.body.process) c.args.place)) g.D.Deed.turns c.requires.held c.requires.deed.0 (close-may (slice_get (outlets h.body.process) c.args.place) c.args.connection None c.requires.outlet)
     (close-happens _ _ _ _ h.body (Some (sending_at c.args.connection)) None _ c.args.connection c.args.place c.requires.stage c.requires.outlet)
 

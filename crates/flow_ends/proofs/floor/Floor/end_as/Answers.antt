@@ -14,7 +14,7 @@ pub stamp-stamp-requires-clause-seated : goal.stamp-stamp-requires-clause-seated
 stamp-stamp-requires-clause-seated g c = let f = c.args.self.now in held-seated g.K.Component.rules f.table.shared.table_id f.layout.processes c.args.worker.now c.args.held.now c.requires.held
 
 pub stamp-stamp-requires-clause-pending : goal.stamp-stamp-requires-clause-pending
-stamp-stamp-requires-clause-pending g c = let f = c.args.self.now in let h = c.args.held.now in 
+stamp-stamp-requires-clause-pending g c = let f = c.args.self.now in let h = c.args.held.now in
     may-one g.K.Component.rules f.table.shared.table_id f.layout.processes f.layout.connections c.args.worker.now h None None [] (Hears_end c.args.port.0) g.D.Deed.turns (midway-held g.K.Component.rules f.table.shared.table_id f.layout.processes c.args.worker.now h c.requires.held) c.requires.deed.0 tt
     (end-happens _ _ _ _ h.body None None _ c.args.connection 0 c.args.port c.requires.range c.requires.stage c.requires.input c.requires.over)
 

@@ -14,7 +14,7 @@ pub stamp-stamp-requires-clause-seated : goal.stamp-stamp-requires-clause-seated
 stamp-stamp-requires-clause-seated g c = let f = c.args.self.now in midway-seated g.K.Component.rules f.table.shared.table_id f.layout.processes c.args.worker.now c.args.held.now _ _ _ c.requires.held
 
 pub stamp-stamp-requires-clause-pending : goal.stamp-stamp-requires-clause-pending
-stamp-stamp-requires-clause-pending g c = let f = c.args.self.now in let h = c.args.held.now in 
+stamp-stamp-requires-clause-pending g c = let f = c.args.self.now in let h = c.args.held.now in
     may-one g.K.Component.rules f.table.shared.table_id f.layout.processes f.layout.connections c.args.worker.now h None (Some (drawn_at c.args.connection c.args.packet)) [] (Gets c.args.port.0 c.args.connection c.args.packet) g.D.Deed.turns c.requires.held c.requires.deed.0 (drawn_at c.args.connection c.args.packet, refl, refl, (let some_drawn : 0 < length (c.args.packet ∷ []) = omega arith in some_drawn), refl)
     (got-happens _ _ _ _ c.args.connection c.args.port h.body _ c.args.packet None c.requires.stage c.requires.input)
 
