@@ -1,5 +1,5 @@
 //! What a worker does with one process.
-ghost use Rattle.flow_floor.specs.Floors.{IsHeldAt, IsIdleAt, IsSameWorker, IsWiredAt, HasSameShare, Readies, TurnsAt, asked_of, process_count, turns_of};
+ghost use Rattle.flow_ends.specs.Floors.{IsHeldAt, IsIdleAt, IsSameWorker, IsWiredAt, HasSameShare, Readies, TurnsAt, asked_of, process_count, turns_of};
 ghost use Rattle.flow_machine.specs.Thoughts.{IsSet, PassesFirst};
 ghost use Rattle.flow_runner.specs.Attempts.{Adds, MayGo, Spends};
 ghost use Rattle.flow_runner.specs.Lines.{IsPassAt};
@@ -9,7 +9,7 @@ ghost use Rattle.std.specs.Prelude.{◌≡◌, ◌<◌, ◌++◌, [], ◌∷◌}
 use crate::line::{Line, LinePass};
 use crate::readied::push_woken;
 use flow_component::{Component, Gate};
-use flow_floor::{Claim, Floor, Held, Turned, Worker};
+use flow_ends::{Claim, Floor, Held, Turned, Worker};
 use flow_limits::RUN_LIMIT;
 use flow_machine::{Over, Thought};
 use std::sync::Wait;
@@ -18,7 +18,7 @@ use std::sync::Wait;
 pub(crate) enum Attempt {
     /// The turn was made.
     Made,
-    /// Another worker holds the connection of the turn.
+    /// Another worker is at the sending end of the turn's connection.
     Busy,
     /// The process waits for others.
     Blocked,
@@ -137,7 +137,7 @@ fn let_go<K: Component>(floor: &Floor<K>, worker: &mut Worker<K>, held: Held<K>,
     }
 }
 
-/// Claims the process, which was popped, and makes turns of it; whoever is ready by that is pushed. False: it was left to the worker that holds its connection.
+/// Claims the process, which was popped, and makes turns of it; whoever is ready by that is pushed. False: it was left, since another worker is at its sending end.
 pub(crate) fn tend<K: Component, G: Gate, R: Wait>(
     rt: &R,
     floor: &Floor<K>,
