@@ -1,13 +1,13 @@
 use Rattle.std.proofs.Common.{sym, subst}
 use Rattle.flow_ends.specs.Floors.{IsOverAs}
 use Rattle.flow_runner.proofs.Attempts.{over-as, stuck-still}
-use Rattle.flow_runner.proofs.work.try_turn.Goals as goal
+use Rattle.flow_runner.proofs.work.try_turns.Goals as goal
 
-pub make_turn-requires-clause-held : goal.make_turn-requires-clause-held
-make_turn-requires-clause-held g c = c.think.ensures.held c.args.floor.now c.args.worker.now c.requires.held
+pub make_burst-requires-clause-held : goal.make_burst-requires-clause-held
+make_burst-requires-clause-held g c = c.think.ensures.held c.args.floor.now c.args.worker.now c.requires.held
 
 pub returns-in-Blocked-clause-may : goal.returns-in-Blocked-clause-may
-returns-in-Blocked-clause-may g c = let t = c.in-Blocked.ensures.turned in stuck-still c.args.floor.now c.make_turn.new.worker c.think.new.self c.make_turn.new.held t.0.0 t.1.stays
+returns-in-Blocked-clause-may g c = let t = c.in-Blocked.ensures.burst in stuck-still c.args.floor.now c.make_burst.new.worker c.think.new.self c.make_burst.new.held t.0.0 t.1.stays
 
 pub returns-in-Failed-clause-held : goal.returns-in-Failed-clause-held
 returns-in-Failed-clause-held g c = c.think.ensures.held c.args.floor.now c.args.worker.now c.requires.held
@@ -17,5 +17,5 @@ returns-in-NoMemory-clause-held g c = c.think.ensures.held c.args.floor.now c.ar
 
 -- what is over was told its end by the thought before
 pub returns-in-Over-clause-may : goal.returns-in-Over-clause-may
-returns-in-Over-clause-may g c = let t = c.in-Over.ensures.turned in
+returns-in-Over-clause-may g c = let t = c.in-Over.ensures.burst in
     subst (IsOverAs c.in-Over.over) (sym t.0.0) (over-as c.in-Over.over c.think.new.self c.in-Wishing.ensures.thinks.1 t.1)
