@@ -118,8 +118,8 @@ module _ {K : Type 0} (rules : Rules K) (lawful : Lawful rules)
   next-of xs i low = get-exists xs i low
 
   -- A level is looked at to receive: where it counts a packet that wasn't drawn, the oldest such one comes out, with the number of takes.
-  pub draws : (slots i id p c : ℕ) (me : Sat K) (b : BodyValue K) (turns : List (Move K)) → i ≡ P + c → c < C → me.0.held ≡ Some (p, b) → Receives me.0.held c → MayDraw c me.0.receiving → AllMay rules P C me.0 turns → Allows Rule slots id me i (λ n. n) (drew rules P caps c turns (step slots i 0 0 none) me)
-  draws slots i id p c me b turns place below holds receives may pending s r deep at fits =
+  pub draws : (slots i id p c : ℕ) (me : Sat K) (b : BodyValue K) → i ≡ P + c → c < C → me.0.held ≡ Some (p, b) → Receives me.0.held c → MayDraw c me.0.receiving → Allows Rule slots id me i (λ n. n) (drew rules P caps c (step slots i 0 0 none) me)
+  draws slots i id p c me b place below holds receives may s r deep at fits =
       let v = me.0 in
       let input = input-in rules lawful start v p c b holds receives in
       let x_is : get_or s.words i 0 ≡ get_or s.words (P + c) 0 = ap (λ n. get_or s.words n 0) place in
@@ -158,7 +158,7 @@ module _ {K : Type 0} (rules : Rules K) (lawful : Lawful rules)
         chain (takes cell (slot.Cell (Some packet))) (takes count (slot.Count spot)),
         (cell-oldest start s c k x y packet l next.1, set_else s.homes cell count none (λ e. place-takes P caps c c spot below (sym e)) ∙ home),
         unread rules lawful start s hs' vs' i law,
-        (λ _. (spot, omega (arith, l.numbers, puts-most s r c k there.1, in_level, l.counted, withdrawn, l.room), packet, would-be rules lawful start s r id p c v b k packet turns at holds input below there.1 (draw-own c v.receiving may) came.inside withdrawn l pending in_level next.1, refl), λ few. absurd (omega (arith, few, more))),
+        (λ _. (spot, omega (arith, l.numbers, puts-most s r c k there.1, in_level, l.counted, withdrawn, l.room), packet, (λ turns pending. would-be rules lawful start s r id p c v b k packet turns at holds input below there.1 (draw-own c v.receiving may) came.inside withdrawn l pending in_level next.1), refl), λ few. absurd (omega (arith, few, more))),
       )))
       (λ few. (
         seeing v i (get_or s.words i 0),
@@ -202,9 +202,9 @@ module _ {K : Type 0} (rules : Rules K) (lawful : Lawful rules)
       )
 
   -- A level is looked at to send: where there is room the cell behind all packets comes out, with the number of puts.
-  pub places : (slots i id p c most : ℕ) (me : Sat K) (b : BodyValue K) (x : Sending) (turns : List (Move K)) (packet : Tree) → i ≡ P + c → c < C → most ≡ get_or caps c 0 → me.0.held ≡ Some (p, b) → HasWithdrawn me.0.receiving → me.0.sending ≡ Some x → x.connection ≡ c → x.out ≡ None → x.unpublished ≡ 0 → AllMay rules P C me.0 turns
-      → Allows Rule slots id me i (λ n. n) (placed rules P caps c most turns packet (step slots i 0 0 none) me)
-  places slots i id p c most me b x turns packet place below is_most holds all mine here inside published pending s r deep at fits =
+  pub places : (slots i id p c most : ℕ) (me : Sat K) (b : BodyValue K) (x : Sending) (packet : Tree) → i ≡ P + c → c < C → most ≡ get_or caps c 0 → me.0.held ≡ Some (p, b) → HasWithdrawn me.0.receiving → me.0.sending ≡ Some x → x.connection ≡ c → x.out ≡ None → x.unpublished ≡ 0
+      → Allows Rule slots id me i (λ n. n) (placed rules P caps c most packet (step slots i 0 0 none) me)
+  places slots i id p c most me b x packet place below is_most holds all mine here inside published s r deep at fits =
       let v = me.0 in
       let x_is : get_or s.words i 0 ≡ get_or s.words (P + c) 0 = ap (λ n. get_or s.words n 0) place in
       let there = get-exists r.beside.now.channels c (omega (arith, below, r.flow.same.1)) in
@@ -238,7 +238,7 @@ module _ {K : Type 0} (rules : Rules K) (lawful : Lawful rules)
         chain (takes cell (slot.Cell None)) (takes count (slot.Count spot)),
         (cell-behind start s c k x y l inside (omega (arith, some_room)), set_else s.homes cell count none (λ e. place-puts P caps c c spot below (sym e)) ∙ home),
         unread rules lawful start s hs' vs' i law,
-        (λ _. (spot, omega (arith, puts-most s r c k there.1, some_room, l.few.0), would-hold rules lawful start s r id v turns at pending, refl), λ full. absurd (omega (arith, room, full))),
+        (λ _. (spot, omega (arith, puts-most s r c k there.1, some_room, l.few.0), (λ turns pending. would-hold rules lawful start s r id v turns at pending), refl), λ full. absurd (omega (arith, room, full))),
       )))
       (λ full. (
         seeing v i (get_or s.words i 0),

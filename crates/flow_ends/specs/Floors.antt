@@ -6,7 +6,7 @@ use Rattle.flow_model.specs.Events.{Event}
 use Rattle.flow_model.specs.declared.Stage.TheVariants as stages
 use Rattle.flow_machine.specs.Nets.{BodyTurn, HasFailed}
 use Rattle.flow_machine.specs.Thoughts.{IsNotOver, IsSet, IsUnset}
-use Rattle.flow_machine.specs.Values.{NetValue}
+use Rattle.flow_machine.specs.Values.{BodyValue, NetValue}
 use Rattle.flow_machine.specs.declared.answers.Over.{Over}
 use Rattle.flow_machine.specs.declared.answers.Over.TheVariants as overs
 use Rattle.flow_floor.specs.Made.{Below}
@@ -14,11 +14,15 @@ use Rattle.flow_floor.specs.Turning.{MachineTurn}
 use Rattle.flow_floor.specs.Wired.{IsWiredIn}
 use Rattle.flow_ends.specs.declared.board.Receiving.{Receiving}
 use Rattle.flow_ends.specs.declared.board.Sending.{Sending}
+use Rattle.flow_ends.specs.declared.ends.Ends.{Ends}
+use Rattle.flow_ends.specs.declared.floor.Burst.{Burst}
 use Rattle.flow_ends.specs.declared.floor.Floor.{Floor}
 use Rattle.flow_ends.specs.declared.floor.Held.{Held}
 use Rattle.flow_ends.specs.declared.floor.Turned.{Turned}
 use Rattle.flow_ends.specs.declared.floor.Worker.{Worker}
 use Rattle.flow_ends.specs.declared.rooms.Rooms.{Rooms}
+use Rattle.flow_ends.specs.Bursting.{IsInBurst}
+use Rattle.flow_ends.specs.Bursts.{Bursts}
 use Rattle.flow_ends.specs.Crew.{IsCrew}
 use Rattle.flow_ends.specs.Ends.{capacities_of}
 use Rattle.flow_ends.specs.Rooms.{HasRooms}
@@ -113,6 +117,10 @@ module _ {K : Type 0} where
   abbrev pub IsMidwayAt : Rules K → Floor K → Worker K → Held K → Option Sending → Option Receiving → List ℕ → Type 0
   IsMidwayAt rules f w h sending receiving notes = IsMidway rules f.table.shared.table_id (process_count f) w h sending receiving notes
 
+  -- It is at these ends in the midst of a burst, of which the first turn was made by the body `began`.
+  abbrev pub IsInBurstAt : Rules K → Floor K → BodyValue K → Worker K → Held K → Ends → Type 0
+  IsInBurstAt rules f began w h ends = IsInBurst rules f.table.shared.table_id (process_count f) (connection_count f) began w h ends
+
   -- The worker is one of this floor's, and holds nothing but so many tokens.
   abbrev pub IsDoneAt : Floor K → Worker K → ℕ → Type 0
   IsDoneAt f w tokens = IsDone f.table.shared.table_id w tokens
@@ -133,6 +141,10 @@ module _ {K : Type 0} where
   -- What a call for a turn tells, where the worker and the body that it holds were `w` and `h`, and now are `w'` and `h'`.
   abbrev pub TurnsAt : Rules K → Floor K → Held K → Worker K → Held K → Worker K → Turned → Type 0
   TurnsAt rules f h w h' w' turned = Turns rules (process_count f) (connection_count f) (opened_net f) h w h' w' turned
+
+  -- What a call for a burst of so many turns at most tells, where the worker and the body that it holds were `w` and `h`, and now are `w'` and `h'`.
+  abbrev pub BurstsAt : Rules K → Floor K → ℕ → Held K → Worker K → Held K → Worker K → Burst → Type 0
+  BurstsAt rules f most h w h' w' burst = Bursts rules (process_count f) (connection_count f) (opened_net f) most h w h' w' burst
 
   -- The held body may be retired so: its process has ended, or has failed, and the body is set, which is that its component was told its end; or its
   -- last thought found no memory, and it isn't over and isn't set.

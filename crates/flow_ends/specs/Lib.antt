@@ -19,5 +19,7 @@ pub mod Parcels
 pub mod Midway
 pub mod Turns
 pub mod Crew
-pub mod Floors
 pub mod InHand
+pub mod Bursts
+pub mod Bursting
+pub mod Floors

@@ -19,7 +19,7 @@ use Rattle.flow_ends.specs.declared.board.Slot.TheVariants as slot
 use Rattle.flow_ends.specs.declared.board.Sending.{Sending}
 use Rattle.flow_ends.specs.declared.board.Receiving.{Receiving}
 use Rattle.flow_ends.specs.declared.board.View.{View}
-use Rattle.flow_ends.specs.Pending.{MachineTurns}
+use Rattle.flow_ends.specs.Pending.{AllMay, MachineTurns}
 use Rattle.flow_ends.specs.Views.{Move, all_turned, claiming, counting, drawing, emptying, entering, exiting, filling, learning, leaving, looked, lowering, parking, placing, poking, publishing, raising, reading, refusing, seeing, stamping, striking, subtracting, withdrawing}
 
 -- A worker's seat at the table.
@@ -52,6 +52,13 @@ module _ {K : Type 0} where
   abbrev pub WouldBeThere : Rules K → View K → List (Move K) → ℕ → Tree → Type 0
   WouldBeThere rules v turns c packet = (r : ℕ) × WasThere rules (all_turned v r turns).held c (drawn_count (all_turned v r turns).receiving) packet
 
+  -- So it is whatever turns of the seat are pending. Here n is the number of processes, m that of connections.
+  abbrev pub WouldAlwaysHold : Rules K → ℕ → ℕ → View K → Type 0
+  WouldAlwaysHold rules n m v = (turns : List (Move K)) → AllMay rules n m v turns → WouldHold rules v turns
+
+  abbrev pub WouldAlwaysBeThere : Rules K → ℕ → ℕ → View K → ℕ → Tree → Type 0
+  WouldAlwaysBeThere rules n m v c packet = (turns : List (Move K)) → AllMay rules n m v turns → WouldBeThere rules v turns c packet
+
   abbrev pub claimed : ℕ → Step (Slot K) → Sat K → ℕ → Sat K → Type 0
   claimed n st m r m' = (r ≡ 2 → (b : BodyValue K) × (b.leaving ≡ None) × IsWiredIn n b × (m' ≡ (claiming m.0 st.word b, (st.word, slot.Body b) ∷ m.1))) × (r ≢ 2 → m' ≡ (refusing m.0 st.word r, m.1))
 
@@ -71,22 +78,22 @@ module _ {K : Type 0} where
   abbrev pub learned : ℕ → Step (Slot K) → Sat K → ℕ → Sat K → Type 0
   learned most st m r m' = (m' ≡ (learning m.0 st.word r, m.1)) × (level_in r ≤ most)
 
-  -- A level was read at the sending end of connection c, to place this packet, by a seat with these pending turns: where there is room, the number of puts
-  -- is the seat's, and so is the cell behind all packets, which is empty.
-  abbrev pub placed : Rules K → ℕ → List ℕ → ℕ → ℕ → List (Move K) → Tree → Step (Slot K) → Sat K → ℕ → Sat K → Type 0
-  placed rules n capacities c most turns packet st m r m' =
-      (level_in r + placed_count m.0.sending < most → (puts : ℕ) × (puts < RUN_LIMIT + FIELD) × WouldHold rules m.0 turns × (m' ≡ (placing m.0 puts packet, (puts_slot n c, slot.Count puts) ∷ (place_slot n capacities c puts, slot.Cell None) ∷ m.1)))
+  -- A level was read at the sending end of connection c, to place this packet: where there is room, the number of puts is the seat's, and so is the cell
+  -- behind all packets, which is empty.
+  abbrev pub placed : Rules K → ℕ → List ℕ → ℕ → ℕ → Tree → Step (Slot K) → Sat K → ℕ → Sat K → Type 0
+  placed rules n capacities c most packet st m r m' =
+      (level_in r + placed_count m.0.sending < most → (puts : ℕ) × (puts < RUN_LIMIT + FIELD) × WouldAlwaysHold rules n (length capacities) m.0 × (m' ≡ (placing m.0 puts packet, (puts_slot n c, slot.Count puts) ∷ (place_slot n capacities c puts, slot.Cell None) ∷ m.1)))
       × (most ≤ level_in r + placed_count m.0.sending → m' ≡ (seeing m.0 st.word r, m.1))
 
   -- The cell is back with the packet, and so is the number of puts.
   abbrev pub filled : Step (Slot K) → Sat K → ℕ → Sat K → Type 0
   filled st m r m' = m' ≡ (filling m.0, rest (rest m.1))
 
-  -- A level was read to receive at connection c, by a seat with these pending turns: where it counts a packet that wasn't drawn, the number of takes is
-  -- the seat's, and so is the cell of the oldest such packet.
-  abbrev pub drew : Rules K → ℕ → List ℕ → ℕ → List (Move K) → Step (Slot K) → Sat K → ℕ → Sat K → Type 0
-  drew rules n capacities c turns st m r m' =
-      (drawn_count m.0.receiving < level_in r → (takes : ℕ) × (takes < RUN_LIMIT + FIELD) × (packet : Tree) × WouldBeThere rules m.0 turns c packet
+  -- A level was read to receive at connection c: where it counts a packet that wasn't drawn, the number of takes is the seat's, and so is the cell of the
+  -- oldest such packet.
+  abbrev pub drew : Rules K → ℕ → List ℕ → ℕ → Step (Slot K) → Sat K → ℕ → Sat K → Type 0
+  drew rules n capacities c st m r m' =
+      (drawn_count m.0.receiving < level_in r → (takes : ℕ) × (takes < RUN_LIMIT + FIELD) × (packet : Tree) × WouldAlwaysBeThere rules n (length capacities) m.0 c packet
       × (m' ≡ (drawing m.0 c takes packet, (takes_slot n (length capacities) c, slot.Count takes) ∷ (place_slot n capacities c takes, slot.Cell (Some packet)) ∷ m.1)))
       × (level_in r ≤ drawn_count m.0.receiving → m' ≡ (seeing m.0 st.word r, m.1))
 
@@ -97,6 +104,17 @@ module _ {K : Type 0} where
   -- These turns were stamped, the first with the number that was read.
   abbrev pub stamped : Rules K → NetValue K → List (Move K) → Step (Slot K) → Sat K → ℕ → Sat K → Type 0
   stamped rules start turns st m r m' = (m' ≡ (stamping m.0 r turns, m.1)) × Below r m.0.made × (r + length turns ≤ RUN_LIMIT + 1) × MachineTurns rules start m.0.made r m.0.held turns
+
+  -- A seat stamped turns of which this is known, the first with this stamp, and each is the machine's turn of its stamp.
+  pub record StampsAll (rules : Rules K) (start : NetValue K) (are : List (Move K) → Type 0) (old new : View K) (first : ℕ) : Type 0 where
+    pub turns : List (Move K)
+    pub known : are turns
+    pub view : new ≡ stamping old first turns
+    pub machine : MachineTurns rules start old.made first old.held turns
+
+  -- Turns of which this is known were stamped so.
+  abbrev pub all_stamped : Rules K → NetValue K → (List (Move K) → Type 0) → Step (Slot K) → Sat K → ℕ → Sat K → Type 0
+  all_stamped rules start are st m r m' = (turns : List (Move K)) × are turns × stamped rules start turns st m r m'
 
   abbrev pub published : List ℕ → Step (Slot K) → Sat K → ℕ → Sat K → Type 0
   published notes st m r m' = m' ≡ (publishing m.0 notes, m.1)

@@ -67,6 +67,18 @@ pub enum Turned {
     Over(Over),
 }
 
+/// What a call for a burst came to. Nothing but `Made` changes the body.
+pub enum Burst {
+    /// So many turns of the process were made, with the stamps from this first one on, and every process that they may have unblocked was woken.
+    Made { first: u32, count: u32 },
+    /// As `Turned::Busy`.
+    Busy(u32, u64),
+    /// As `Turned::Blocked`.
+    Blocked(Block, u64),
+    /// As `Turned::Over`.
+    Over(Over),
+}
+
 /// What an idle process saw at its stream inputs: a packet; no packet, and this word of the lowest that has an open sender; or that all are over.
 pub(crate) enum Saw {
     Packet,

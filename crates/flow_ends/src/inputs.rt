@@ -61,7 +61,7 @@ impl<K: Component> Floor<K> {
         let Some(connection) = held.body.signal() else {
             return Signalled::Over;
         };
-        match self.draw::<Brand, Brand>(worker, held, connection as usize, 0) {
+        match self.draw::<Brand>(worker, held, connection as usize, 0) {
             Drawn::Packet(_, packet) => Signalled::Packet(connection, packet),
             Drawn::Nothing(word) => match first_open(None, word) {
                 Some(word) => Signalled::Sender(word),

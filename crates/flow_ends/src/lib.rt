@@ -6,7 +6,9 @@
 
 mod back;
 mod board;
+mod burst;
 mod crew;
+mod ends;
 mod floor;
 mod gates;
 mod held;
@@ -22,6 +24,7 @@ mod refill;
 mod roll;
 mod rooms;
 mod send;
+mod settle;
 mod shut;
 mod solo;
 mod steps;
@@ -33,7 +36,7 @@ mod wake;
 mod words;
 
 pub use board::{Lawful, Slot, View};
-pub use floor::{Claim, Floor, Held, Turned, Worker};
+pub use floor::{Burst, Claim, Floor, Held, Turned, Worker};
 pub use open::{OpenStop, Opened};
 pub use rooms::Rooms;
 pub use still::no_process_moves_once_a_worker_has_read_zero;

@@ -4,21 +4,20 @@ ghost use Rattle.flow_machine.specs.Effects.{WishesSend};
 ghost use Rattle.flow_machine.specs.Nets.{packet_wished};
 ghost use Rattle.flow_ring.specs.Words.{level_in};
 ghost use Rattle.flow_ends.specs.Ends.{capacities_of, HasWithdrawn, MayDraw, MayPlace, Receives};
-ghost use Rattle.flow_ends.specs.Pending.{AllMay};
-ghost use Rattle.flow_ends.specs.Plays.{drawn_count, placed_count, WouldBeThere, WouldHold};
+ghost use Rattle.flow_ends.specs.Plays.{drawn_count, placed_count, WouldAlwaysBeThere, WouldAlwaysHold};
 ghost use Rattle.flow_ends.specs.Views.{drawing, emptying, filling, placing, seeing};
 ghost use Rattle.flow_ends.specs.Floors.{connection_count, opened_net, process_count, woken_of, IsSeatedAt};
 ghost use Rattle.flow_ends.specs.Workers.{view, HandsOut, MatchDrawn, MatchPlaced};
 
 use crate::board::Slot;
 use crate::floor::{Drawn, Floor, Held, Placed, Worker};
-use crate::plays::{Deed, Draw, Empty, Fill, Parcel, Place, Spot};
+use crate::plays::{Draw, Empty, Fill, Parcel, Place, Spot};
 use flow_component::Component;
 use flow_ring::level;
 
 impl<K: Component> Floor<K> {
-    /// Draws the oldest packet that the worker hasn't drawn, where the level counts one: it has drawn so many, and has these pending turns.
-    pub(crate) fn draw<S: Spot, D: Deed<K>>(
+    /// Draws the oldest packet that the worker hasn't drawn, where the level counts one: it has drawn so many.
+    pub(crate) fn draw<S: Spot>(
         &self,
         worker: &mut Worker<K>,
         held: &Held<K>,
@@ -31,15 +30,14 @@ impl<K: Component> Floor<K> {
         requires receives { Receives (view worker.old).held connection }
         requires may { MayDraw connection (view worker.old).receiving }
         requires count { drawn_count (view worker.old).receiving ≡ drawn }
-        requires pending { AllMay K.rules (process_count self.now) (connection_count self.now) (view worker.old) D.turns }
         ensures seated { IsSeatedAt self.now worker.new held.now }
-        ensures drawn { MatchDrawn result (λ word. (level_in word ≤ drawn) × (view worker.new ≡ seeing (view worker.old) (self.now.layout.processes + connection) word)) (λ place packet. WouldBeThere K.rules (view worker.old) D.turns connection packet × (view worker.new ≡ emptying (drawing (view worker.old) connection place packet))) }
+        ensures drawn { MatchDrawn result (λ word. (level_in word ≤ drawn) × (view worker.new ≡ seeing (view worker.old) (self.now.layout.processes + connection) word)) (λ place packet. WouldAlwaysBeThere K.rules (process_count self.now) (connection_count self.now) (view worker.old) connection packet × (view worker.new ≡ emptying (drawing (view worker.old) connection place packet))) }
         ensures woken { woken_of worker.new ≡ woken_of worker.old }
     {
         let _ = held;
         let shared = &self.table.shared;
         let word_at = self.layout.level_word(connection);
-        let word = shared.load::<Draw<S, D>>(&mut worker.seat, word_at);
+        let word = shared.load::<Draw<S>>(&mut worker.seat, word_at);
         if level(word) <= drawn {
             return Drawn::Nothing(word);
         }
@@ -63,8 +61,8 @@ impl<K: Component> Floor<K> {
         Drawn::Packet(place, packet)
     }
 
-    /// Places the packet of the body's wish behind all packets, where there is room: the worker has placed so many that aren't stamped, and has these pending turns.
-    pub(crate) fn place<S: Spot, D: Deed<K>, B: Parcel>(
+    /// Places the packet of the body's wish behind all packets, where there is room: the worker has placed so many that aren't stamped.
+    pub(crate) fn place<S: Spot, B: Parcel>(
         &self,
         worker: &mut Worker<K>,
         held: &mut Held<K>,
@@ -83,14 +81,13 @@ impl<K: Component> Floor<K> {
         requires fits { placed ≤ most }
         requires whole { held.old.body.leaving ≡ None }
         requires wishes { WishesSend held.old.body.process.stage }
-        requires pending { AllMay K.rules (process_count self.now) (connection_count self.now) (view worker.old) D.turns }
         ensures seated { IsSeatedAt self.now worker.new held.new }
-        ensures placed { MatchPlaced result (λ word. (most ≤ level_in word + placed) × (held.new ≡ held.old) × (view worker.new ≡ seeing (view worker.old) (self.now.layout.processes + connection) word)) ((placed < most) × (puts : ℕ) × (view worker.new ≡ filling (placing (view worker.old) puts B.packet)) × HandsOut held.old held.new B.packet × WouldHold K.rules (view worker.old) D.turns) }
+        ensures placed { MatchPlaced result (λ word. (most ≤ level_in word + placed) × (held.new ≡ held.old) × (view worker.new ≡ seeing (view worker.old) (self.now.layout.processes + connection) word)) ((placed < most) × (puts : ℕ) × (view worker.new ≡ filling (placing (view worker.old) puts B.packet)) × HandsOut held.old held.new B.packet × WouldAlwaysHold K.rules (process_count self.now) (connection_count self.now) (view worker.old)) }
         ensures woken { woken_of worker.new ≡ woken_of worker.old }
     {
         let shared = &self.table.shared;
         let word_at = self.layout.level_word(connection);
-        let word = shared.load::<Place<S, D, B>>(&mut worker.seat, word_at);
+        let word = shared.load::<Place<S, B>>(&mut worker.seat, word_at);
         if level(word) >= most - placed {
             return Placed::Full(word);
         }

@@ -1,5 +1,5 @@
 //! What each step tells.
-ghost use Rattle.flow_ends.specs.Plays.{ordered, claimed, gated, came, saw, learned, placed, filled, drew, emptied, stamped, published, subtracted, withdrew, exited, left, parked, retired, glanced, nudged, raised, poked, lowered, told_live};
+ghost use Rattle.flow_ends.specs.Plays.{ordered, claimed, gated, came, saw, learned, placed, filled, drew, emptied, stamped, all_stamped, published, subtracted, withdrew, exited, left, parked, retired, glanced, nudged, raised, poked, lowered, told_live};
 
 use crate::board::{Slot, View};
 use atomic_table::{Join, Play, Split};
@@ -65,6 +65,25 @@ impl<T> Deed<T> for Brand {
     ghost start = { net_of [] [] };
 }
 
+/// What is known of the pending turns of the process that is held, and the net that was opened. Each call picks them.
+pub trait Deeds<T> {
+    ghost use Rattle.std.specs.Prelude.{List};
+    ghost use Rattle.flow_machine.specs.Values.{NetValue};
+    ghost use Rattle.flow_ends.specs.Views.{Move};
+
+    ghost are: { List (Move T) → Type 0 };
+
+    ghost start: { NetValue T };
+}
+
+impl<T> Deeds<T> for Brand {
+    ghost use Rattle.flow_machine.specs.Values.{net_of};
+
+    ghost are = { λ _. Unit {0} };
+
+    ghost start = { net_of [] [] };
+}
+
 /// Whom a step notes for waking. Each call picks it.
 pub trait Noting {
     ghost use Rattle.std.specs.Prelude.{ℕ, List};
@@ -120,12 +139,12 @@ impl<K: Component, S: Spot> Play<Slot<K>, View<K>> for Learn<S> {
 }
 
 /// Looks at the level, to place a packet.
-pub struct Place<S: Spot, D, B: Parcel> {
-    spot: PhantomData<(S, D, B)>,
+pub struct Place<S: Spot, B: Parcel> {
+    spot: PhantomData<(S, B)>,
 }
 
-impl<K: Component, S: Spot, D: Deed<K>, B: Parcel> Play<Slot<K>, View<K>> for Place<S, D, B> {
-    ghost then = { λ st. placed K.rules S.processes S.capacities S.connection S.most D.turns B.packet (ordered st) };
+impl<K: Component, S: Spot, B: Parcel> Play<Slot<K>, View<K>> for Place<S, B> {
+    ghost then = { λ st. placed K.rules S.processes S.capacities S.connection S.most B.packet (ordered st) };
 }
 
 /// Gives a cell back with the packet that was placed.
@@ -136,12 +155,12 @@ impl<K: Component> Play<Slot<K>, View<K>> for Fill {
 }
 
 /// Looks at the level, to draw a packet.
-pub struct Draw<S: Spot, D> {
-    spot: PhantomData<(S, D)>,
+pub struct Draw<S: Spot> {
+    spot: PhantomData<S>,
 }
 
-impl<K: Component, S: Spot, D: Deed<K>> Play<Slot<K>, View<K>> for Draw<S, D> {
-    ghost then = { λ st. drew K.rules S.processes S.capacities S.connection D.turns (ordered st) };
+impl<K: Component, S: Spot> Play<Slot<K>, View<K>> for Draw<S> {
+    ghost then = { λ st. drew K.rules S.processes S.capacities S.connection (ordered st) };
 }
 
 /// Gives a cell back from which the packet was drawn.
@@ -158,6 +177,15 @@ pub struct Stamp<D> {
 
 impl<K: Component, D: Deed<K>> Play<Slot<K>, View<K>> for Stamp<D> {
     ghost then = { stamped K.rules D.start D.turns };
+}
+
+/// Stamps pending turns of which something is known.
+pub struct StampAll<D> {
+    deeds: PhantomData<D>,
+}
+
+impl<K: Component, D: Deeds<K>> Play<Slot<K>, View<K>> for StampAll<D> {
+    ghost then = { all_stamped K.rules D.start D.are };
 }
 
 pub struct Publish<N: Noting> {

@@ -114,7 +114,7 @@ impl<K: Component> Floor<K> {
         ensures readies { Readies self.now worker.old worker.new }
     {
         let c = connection as usize;
-        match self.draw::<Brand, Brand>(worker, held, c, 0) {
+        match self.draw::<Brand>(worker, held, c, 0) {
             Drawn::Nothing(word) => {
                 if senders(word) != 0 {
                     return Turned::Blocked(Block::Empty { connection, port }, word);

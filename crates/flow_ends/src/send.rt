@@ -45,7 +45,7 @@ impl<K: Component> Floor<K> {
     {
         let _ = port;
         let most = self.layout.capacities[connection];
-        match self.place::<S, Brand, B>(worker, held, connection, most, 0) {
+        match self.place::<S, B>(worker, held, connection, most, 0) {
             Placed::Full(word) => Sent::Full(word),
             Placed::Put => {
                 let stamp = self.stamp::<D>(worker, held, 1);

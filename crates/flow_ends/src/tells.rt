@@ -1,15 +1,16 @@
 //! The step that stamps turns, and those that tell the level word of what was stamped. Each keeps the rule of the table.
-ghost use Rattle.std.specs.Prelude.{◌≡◌, ◌+◌, ◌≤◌, ◌<◌, ◌^◌, length};
+ghost use Rattle.std.specs.Prelude.{◌≡◌, ◌+◌, ◌≤◌, ◌<◌, ◌^◌, List, length};
 ghost use Rattle.flow_limits.specs.declared.TheConstants.{RUN_LIMIT};
 ghost use Rattle.flow_floor.specs.Made.{Below};
 ghost use Rattle.flow_ends.specs.Ends.{AllReceivers, AllSenders, HasClosedAt, HasPutAt, HasTakenAt};
 ghost use Rattle.flow_ends.specs.Pending.{AllMay, MachineTurns};
-ghost use Rattle.flow_ends.specs.Views.{publishing, stamping, subtracting, withdrawing};
+ghost use Rattle.flow_ends.specs.Plays.{StampsAll};
+ghost use Rattle.flow_ends.specs.Views.{Move, publishing, stamping, subtracting, withdrawing};
 ghost use Rattle.flow_ends.specs.Floors.{connection_count, opened_net, process_count, woken_of, IsSeatedAt};
 ghost use Rattle.flow_ends.specs.Workers.{view};
 
 use crate::floor::{Floor, Held, Worker};
-use crate::plays::{Deed, Noting, Publish, Stamp, Subtract, Withdraw};
+use crate::plays::{Deed, Deeds, Noting, Publish, Stamp, StampAll, Subtract, Withdraw};
 use flow_component::Component;
 use flow_ring::FIELD;
 
@@ -38,6 +39,32 @@ impl<K: Component> Floor<K> {
             .table
             .shared
             .fetch_add::<Stamp<D>>(&mut worker.seat, clock, turns as u64);
+        found as u32
+    }
+
+    /// Stamps the pending turns of which something is known, as many as is known, by one step.
+    pub(crate) fn stamp_all<D: Deeds<K>>(
+        &self,
+        worker: &mut Worker<K>,
+        held: &Held<K>,
+        turns: u32,
+    ) -> u32
+        requires deeds { D.start ≡ opened_net self.now }
+        requires count { (ts : List (Move K)) → D.are ts → length ts ≡ turns }
+        requires seated { IsSeatedAt self.now worker.old held.now }
+        requires pending { (ts : List (Move K)) × D.are ts × AllMay K.rules (process_count self.now) (connection_count self.now) (view worker.old) ts }
+        ensures seated { IsSeatedAt self.now worker.new held.now }
+        ensures stamps { StampsAll K.rules (opened_net self.now) D.are (view worker.old) (view worker.new) result }
+        ensures above { Below result (view worker.old).made }
+        ensures most { result + turns ≤ RUN_LIMIT + 1 }
+        ensures woken { woken_of worker.new ≡ woken_of worker.old }
+    {
+        let _ = held;
+        let clock = self.layout.clock();
+        let found = self
+            .table
+            .shared
+            .fetch_add::<StampAll<D>>(&mut worker.seat, clock, turns as u64);
         found as u32
     }
 

@@ -37,7 +37,7 @@ impl<K: Component> Floor<K> {
     fn rouse(&self, worker: &mut Worker<K>, held: &Held<K>, process: usize)
         requires waking { IsWakingAt K.rules self.now worker.old held.now (process ∷ drop 1 (view worker.old).noted) }
         requires below { process < process_count self.now }
-        requires room { length (woken_of worker.old) < SENDER_LIMIT }
+        requires room { length (woken_of worker.old) ≤ SENDER_LIMIT }
         ensures waking { IsWakingAt K.rules self.now worker.new held.now (drop 1 (view worker.old).noted) }
         ensures made { (view worker.new).made ≡ (view worker.old).made }
         ensures seat { IsSameWorker worker.old worker.new }
@@ -61,7 +61,7 @@ impl<K: Component> Floor<K> {
     pub(crate) fn wake(&self, worker: &mut Worker<K>, held: &Held<K>, process: usize)
         requires waking { IsWakingAt K.rules self.now worker.old held.now (process ∷ drop 1 (view worker.old).noted) }
         requires below { process < process_count self.now }
-        requires room { length (woken_of worker.old) < SENDER_LIMIT }
+        requires room { length (woken_of worker.old) ≤ SENDER_LIMIT }
         ensures waking { IsWakingAt K.rules self.now worker.new held.now (drop 1 (view worker.old).noted) }
         ensures made { (view worker.new).made ≡ (view worker.old).made }
         ensures seat { IsSameWorker worker.old worker.new }

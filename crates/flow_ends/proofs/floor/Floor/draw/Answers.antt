@@ -10,8 +10,8 @@ use Rattle.flow_ends.specs.declared.board.Slot.{Slot}
 use Rattle.flow_ends.specs.declared.board.Slot.TheVariants as slot
 use Rattle.flow_ends.specs.declared.board.View.{View}
 use Rattle.flow_ends.specs.Ends.{capacities_of}
-use Rattle.flow_ends.specs.Plays.{drew, emptied, WouldBeThere}
-use Rattle.flow_ends.specs.Views.{Move, drawing, emptying, received_at, seeing}
+use Rattle.flow_ends.specs.Plays.{drew, emptied, WouldAlwaysBeThere}
+use Rattle.flow_ends.specs.Views.{drawing, emptying, received_at, seeing}
 use Rattle.flow_ends.specs.Workers.{view}
 use Rattle.flow_ends.proofs.Drawing.{draws, empties, draw-here}
 use Rattle.flow_ends.proofs.Seated.{seated-next, seated-with}
@@ -24,16 +24,16 @@ pub load-word-requires : goal.load-word-requires
 load-word-requires g c = let f = c.args.self.now in let q = c.requires.seated in let s = c.args.worker.now.seat in let place = c.level_word-word_at.ensures in let b = c.requires.spot in (
   q.table,
   omega (arith, f.words, place, c.requires.range),
-  apart g.K.Component.rules f.table.shared.key.value f.table.shared.table_id.slots s.id s.me (f.layout.processes + c.args.connection) c.level_word-word_at.result (λ n. n) (λ i. drew g.K.Component.rules g.S.Spot.processes g.S.Spot.capacities g.S.Spot.connection g.D.Deed.turns (step f.table.shared.table_id.slots i 0 0 none) s.me) (omega (arith, place))
+  apart g.K.Component.rules f.table.shared.key.value f.table.shared.table_id.slots s.id s.me (f.layout.processes + c.args.connection) c.level_word-word_at.result (λ n. n) (λ i. drew g.K.Component.rules g.S.Spot.processes g.S.Spot.capacities g.S.Spot.connection (step f.table.shared.table_id.slots i 0 0 none) s.me) (omega (arith, place))
       (rw (b.0, b.1, b.2, ← f.bodies)
-      (draws g.K.Component.rules g.met.K.Component.lawful f.table.shared.key.value _ _ _ c.args.held.now.process c.args.connection _ q.base g.D.Deed.turns refl (omega (arith, f.channels, c.requires.range)) q.held c.requires.receives c.requires.may (rw (f.bodies, f.channels) c.requires.pending))),
+      (draws g.K.Component.rules g.met.K.Component.lawful f.table.shared.key.value _ _ _ c.args.held.now.process c.args.connection _ q.base refl (omega (arith, f.channels, c.requires.range)) q.held c.requires.receives c.requires.may)),
 )
 
 -- what the step told, of the level's number
-told-of : (g : _) (c : After-load-word g) → drew g.K.Component.rules c.args.self.now.layout.processes (capacities_of c.args.self.now.table.shared.key.value) c.args.connection g.D.Deed.turns (step c.args.self.now.table.shared.table_id.slots (c.args.self.now.layout.processes + c.args.connection) 0 0 none) c.args.worker.now.seat.me c.load-word.result c.load-word.new.seat.me
+told-of : (g : _) (c : After-load-word g) → drew g.K.Component.rules c.args.self.now.layout.processes (capacities_of c.args.self.now.table.shared.key.value) c.args.connection (step c.args.self.now.table.shared.table_id.slots (c.args.self.now.layout.processes + c.args.connection) 0 0 none) c.args.worker.now.seat.me c.load-word.result c.load-word.new.seat.me
 told-of g c = let f = c.args.self.now in let place = c.level_word-word_at.ensures in let b = c.requires.spot in
-    subst (λ (z : ℕ × (List ℕ × ℕ)). drew g.K.Component.rules z.0 z.1.0 z.1.1 g.D.Deed.turns (step f.table.shared.table_id.slots (f.layout.processes + c.args.connection) 0 0 none) c.args.worker.now.seat.me c.load-word.result c.load-word.new.seat.me) (λ j. (b.0 j, (b.1 j, b.2 j)))
-    (told (λ i. drew g.K.Component.rules g.S.Spot.processes g.S.Spot.capacities g.S.Spot.connection g.D.Deed.turns (step f.table.shared.table_id.slots i 0 0 none) c.args.worker.now.seat.me c.load-word.result c.load-word.new.seat.me)
+    subst (λ (z : ℕ × (List ℕ × ℕ)). drew g.K.Component.rules z.0 z.1.0 z.1.1 (step f.table.shared.table_id.slots (f.layout.processes + c.args.connection) 0 0 none) c.args.worker.now.seat.me c.load-word.result c.load-word.new.seat.me) (λ j. (b.0 j, (b.1 j, b.2 j)))
+    (told (λ i. drew g.K.Component.rules g.S.Spot.processes g.S.Spot.capacities g.S.Spot.connection (step f.table.shared.table_id.slots i 0 0 none) c.args.worker.now.seat.me c.load-word.result c.load-word.new.seat.me)
     (f.layout.processes + c.args.connection) c.level_word-word_at.result (omega (arith, place)) c.load-word.ensures.2)
 
 pub returns-then-level-drawn-clause-seated : goal.returns-then-level-drawn-clause-seated
@@ -49,18 +49,18 @@ exchange-old-requires g c = let f = c.args.self.now in
     (c.load-word.ensures.0 ∙ c.requires.seated.table, (slot.Count t.0, took _ _ ts c.end_slots-slot.result.1 (slot.Count t.0) at (ap (λ m. m.1) t.4)))
 
 -- What came out: the number of takes and the packet; what the step told; and the slots, the packet's first.
-record Out {K : Type 0} (rules : Rules K) (v w : View K) (turns : List (Move K)) (capacities : List ℕ) (n c p place cell at : ℕ) (slots : List (ℕ × Slot K)) : Type 0 where
+record Out {K : Type 0} (rules : Rules K) (v w : View K) (capacities : List ℕ) (n c p place cell at : ℕ) (slots : List (ℕ × Slot K)) : Type 0 where
   takes : ℕ
   packet : Tree
   takes_is : takes ≡ place
-  would : WouldBeThere rules v turns c packet
+  would : WouldAlwaysBeThere rules n (length capacities) v c packet
   view_is : w ≡ drawing v c takes packet
   slots_are : slots ≡ (cell, slot.Cell (Some packet)) ∷ (p, slot.Vacant) ∷ (at, slot.Count (place + 1)) ∷ []
   cell_is : cell ≡ place_slot n capacities c takes
   at_is : at ≡ takes_slot n (length capacities) c
 
-out-of : (g : _) (c : After-cell-cell g) → drew g.K.Component.rules c.args.self.now.layout.processes (capacities_of c.args.self.now.table.shared.key.value) c.args.connection g.D.Deed.turns (step c.args.self.now.table.shared.table_id.slots (c.args.self.now.layout.processes + c.args.connection) 0 0 none) c.args.worker.now.seat.me c.load-word.result c.load-word.new.seat.me
-    → Out g.K.Component.rules c.args.worker.now.seat.me.0 c.turn.new.self.me.0 g.D.Deed.turns (capacities_of c.args.self.now.table.shared.key.value) c.args.self.now.layout.processes c.args.connection c.args.held.now.process c.in-Count.place c.cell-cell.result c.end_slots-slot.result.1 c.turn.new.self.me.1
+out-of : (g : _) (c : After-cell-cell g) → drew g.K.Component.rules c.args.self.now.layout.processes (capacities_of c.args.self.now.table.shared.key.value) c.args.connection (step c.args.self.now.table.shared.table_id.slots (c.args.self.now.layout.processes + c.args.connection) 0 0 none) c.args.worker.now.seat.me c.load-word.result c.load-word.new.seat.me
+    → Out g.K.Component.rules c.args.worker.now.seat.me.0 c.turn.new.self.me.0 (capacities_of c.args.self.now.table.shared.key.value) c.args.self.now.layout.processes c.args.connection c.args.held.now.process c.in-Count.place c.cell-cell.result c.end_slots-slot.result.1 c.turn.new.self.me.1
 out-of g c found = let f = c.args.self.now in let q = c.requires.seated in let x = c.exchange-old.ensures in let x2 = c.exchange-old-2.ensures in let n = c.in-Count.place in
     let p = c.args.held.now.process in
     let at_slot = c.end_slots-slot.result.1 in
@@ -91,7 +91,7 @@ record Back {K : Type 0} (v w : View K) (capacities : List ℕ) (n c p takes : �
   view_is : w ≡ drawing v c takes drawn
   slots_are : slots ≡ (takes_slot n (length capacities) c, slot.Count (takes + 1)) ∷ (place_slot n capacities c takes, slot.Cell None) ∷ (p, slot.Vacant) ∷ []
 
-back-of : (g : _) (c : After-turn-3 g) (o : Out g.K.Component.rules c.args.worker.now.seat.me.0 c.turn.new.self.me.0 g.D.Deed.turns (capacities_of c.args.self.now.table.shared.key.value) c.args.self.now.layout.processes c.args.connection c.args.held.now.process c.in-Count.place c.cell-cell.result c.end_slots-slot.result.1 c.turn.new.self.me.1)
+back-of : (g : _) (c : After-turn-3 g) (o : Out g.K.Component.rules c.args.worker.now.seat.me.0 c.turn.new.self.me.0 (capacities_of c.args.self.now.table.shared.key.value) c.args.self.now.layout.processes c.args.connection c.args.held.now.process c.in-Count.place c.cell-cell.result c.end_slots-slot.result.1 c.turn.new.self.me.1)
     → Back c.args.worker.now.seat.me.0 c.turn-3.new.self.me.0 (capacities_of c.args.self.now.table.shared.key.value) c.args.self.now.layout.processes c.args.connection c.args.held.now.process o.takes o.packet c.in-Some.packet c.turn-3.new.self.me.1
 back-of g c o = let f = c.args.self.now in let x = c.exchange-old-3.ensures in
     let cell = c.cell-cell.result in

@@ -26,9 +26,6 @@ draw-requires-clause-may g c = subst (λ (o : Option Receiving). MayDraw c.in-So
 pub draw-requires-clause-count : goal.draw-requires-clause-count
 draw-requires-clause-count g c = ap drawn_count c.requires.held.calm.receiving
 
-pub draw-requires-clause-pending : goal.draw-requires-clause-pending
-draw-requires-clause-pending g c = λ r. tt
-
 pub returns-in-Packet-clause-held : goal.returns-in-Packet-clause-held
 returns-in-Packet-clause-held g c = let f = c.args.self.now in let e = c.in-Packet.ensures in
     midway-drawn g.K.Component.rules f.table.shared.table_id f.layout.processes c.args.worker.now c.draw.new.worker c.args.held.now c.in-Some.connection c.in-Packet.field-0 c.in-Packet.packet c.requires.held e.seated e.drawn.1

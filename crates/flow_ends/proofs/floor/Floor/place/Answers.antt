@@ -18,8 +18,8 @@ use Rattle.flow_ends.specs.declared.board.Slot.{Slot}
 use Rattle.flow_ends.specs.declared.board.Slot.TheVariants as slot
 use Rattle.flow_ends.specs.declared.board.View.{View}
 use Rattle.flow_ends.specs.Ends.{capacities_of}
-use Rattle.flow_ends.specs.Plays.{placed, filled, WouldHold}
-use Rattle.flow_ends.specs.Views.{Move, placing, filling, seeing}
+use Rattle.flow_ends.specs.Plays.{placed, filled, WouldAlwaysHold}
+use Rattle.flow_ends.specs.Views.{placing, filling, seeing}
 use Rattle.flow_ends.specs.Workers.{view}
 use Rattle.flow_ends.proofs.Drawing.{places, fills, place-here}
 use Rattle.flow_ends.proofs.Seated.{seated-next, seated-with, seated-out}
@@ -34,16 +34,16 @@ load-word-requires g c = let f = c.args.self.now in let q = c.requires.seated in
     let h = place-here c.args.connection (view c.args.worker.now).sending c.requires.may in (
       q.table,
       omega (arith, f.words, place, c.requires.range),
-      apart g.K.Component.rules f.table.shared.key.value f.table.shared.table_id.slots s.id s.me (f.layout.processes + c.args.connection) c.level_word-word_at.result (λ n. n) (λ i. placed g.K.Component.rules g.S.Spot.processes g.S.Spot.capacities g.S.Spot.connection g.S.Spot.most g.D.Deed.turns g.B.Parcel.packet (step f.table.shared.table_id.slots i 0 0 none) s.me) (omega (arith, place))
+      apart g.K.Component.rules f.table.shared.key.value f.table.shared.table_id.slots s.id s.me (f.layout.processes + c.args.connection) c.level_word-word_at.result (λ n. n) (λ i. placed g.K.Component.rules g.S.Spot.processes g.S.Spot.capacities g.S.Spot.connection g.S.Spot.most g.B.Parcel.packet (step f.table.shared.table_id.slots i 0 0 none) s.me) (omega (arith, place))
           (rw (b.0, b.1, b.2, b.3, ← f.bodies)
-          (places g.K.Component.rules g.met.K.Component.lawful f.table.shared.key.value _ _ _ c.args.held.now.process c.args.connection c.args.most _ q.base h.0 g.D.Deed.turns g.B.Parcel.packet refl (omega (arith, f.channels, c.requires.range)) c.requires.most q.held c.requires.withdrawn h.1 h.2 h.3 h.4 (rw (f.bodies, f.channels) c.requires.pending))),
+          (places g.K.Component.rules g.met.K.Component.lawful f.table.shared.key.value _ _ _ c.args.held.now.process c.args.connection c.args.most _ q.base h.0 g.B.Parcel.packet refl (omega (arith, f.channels, c.requires.range)) c.requires.most q.held c.requires.withdrawn h.1 h.2 h.3 h.4)),
     )
 
 -- what the step told, of the level's number
-told-of : (g : _) (c : After-load-word g) → placed g.K.Component.rules c.args.self.now.layout.processes (capacities_of c.args.self.now.table.shared.key.value) c.args.connection c.args.most g.D.Deed.turns g.B.Parcel.packet (step c.args.self.now.table.shared.table_id.slots (c.args.self.now.layout.processes + c.args.connection) 0 0 none) c.args.worker.now.seat.me c.load-word.result c.load-word.new.seat.me
+told-of : (g : _) (c : After-load-word g) → placed g.K.Component.rules c.args.self.now.layout.processes (capacities_of c.args.self.now.table.shared.key.value) c.args.connection c.args.most g.B.Parcel.packet (step c.args.self.now.table.shared.table_id.slots (c.args.self.now.layout.processes + c.args.connection) 0 0 none) c.args.worker.now.seat.me c.load-word.result c.load-word.new.seat.me
 told-of g c = let f = c.args.self.now in let place = c.level_word-word_at.ensures in let b = c.requires.spot in
-    subst (λ (z : ℕ × (List ℕ × (ℕ × ℕ))). placed g.K.Component.rules z.0 z.1.0 z.1.1.0 z.1.1.1 g.D.Deed.turns g.B.Parcel.packet (step f.table.shared.table_id.slots (f.layout.processes + c.args.connection) 0 0 none) c.args.worker.now.seat.me c.load-word.result c.load-word.new.seat.me) (λ j. (b.0 j, (b.1 j, (b.2 j, b.3 j))))
-    (told (λ i. placed g.K.Component.rules g.S.Spot.processes g.S.Spot.capacities g.S.Spot.connection g.S.Spot.most g.D.Deed.turns g.B.Parcel.packet (step f.table.shared.table_id.slots i 0 0 none) c.args.worker.now.seat.me c.load-word.result c.load-word.new.seat.me)
+    subst (λ (z : ℕ × (List ℕ × (ℕ × ℕ))). placed g.K.Component.rules z.0 z.1.0 z.1.1.0 z.1.1.1 g.B.Parcel.packet (step f.table.shared.table_id.slots (f.layout.processes + c.args.connection) 0 0 none) c.args.worker.now.seat.me c.load-word.result c.load-word.new.seat.me) (λ j. (b.0 j, (b.1 j, (b.2 j, b.3 j))))
+    (told (λ i. placed g.K.Component.rules g.S.Spot.processes g.S.Spot.capacities g.S.Spot.connection g.S.Spot.most g.B.Parcel.packet (step f.table.shared.table_id.slots i 0 0 none) c.args.worker.now.seat.me c.load-word.result c.load-word.new.seat.me)
     (f.layout.processes + c.args.connection) c.level_word-word_at.result (omega (arith, place)) c.load-word.ensures.2)
 
 pub returns-then-level-most-clause-seated : goal.returns-then-level-most-clause-seated
@@ -58,17 +58,17 @@ exchange-old-requires g c = let f = c.args.self.now in
     (c.load-word.ensures.0 ∙ c.requires.seated.table, (slot.Count t.0, took _ _ ps c.end_slots-slot.result.0 (slot.Count t.0) c.end_slots-slot.ensures.puts (ap (λ m. m.1) t.3)))
 
 -- What came out: the number of puts, and an empty cell; what the step told; and the slots, the cell's first.
-record Out {K : Type 0} (rules : Rules K) (v w : View K) (turns : List (Move K)) (capacities : List ℕ) (n c p place cell at : ℕ) (packet : Tree) (slots : List (ℕ × Slot K)) : Type 0 where
+record Out {K : Type 0} (rules : Rules K) (v w : View K) (capacities : List ℕ) (n c p place cell at : ℕ) (packet : Tree) (slots : List (ℕ × Slot K)) : Type 0 where
   puts : ℕ
   puts_is : puts ≡ place
-  would : WouldHold rules v turns
+  would : WouldAlwaysHold rules n (length capacities) v
   view_is : w ≡ placing v puts packet
   slots_are : slots ≡ (cell, slot.Cell None) ∷ (p, slot.Vacant) ∷ (at, slot.Count (place + 1)) ∷ []
   cell_is : cell ≡ place_slot n capacities c puts
   at_is : at ≡ puts_slot n c
 
-out-of : (g : _) (c : After-outgoing-packet g) → placed g.K.Component.rules c.args.self.now.layout.processes (capacities_of c.args.self.now.table.shared.key.value) c.args.connection c.args.most g.D.Deed.turns g.B.Parcel.packet (step c.args.self.now.table.shared.table_id.slots (c.args.self.now.layout.processes + c.args.connection) 0 0 none) c.args.worker.now.seat.me c.load-word.result c.load-word.new.seat.me
-    → Out g.K.Component.rules c.args.worker.now.seat.me.0 c.turn.new.self.me.0 g.D.Deed.turns (capacities_of c.args.self.now.table.shared.key.value) c.args.self.now.layout.processes c.args.connection c.args.held.now.process c.in-Count.place c.cell-cell.result c.end_slots-slot.result.0 g.B.Parcel.packet c.turn.new.self.me.1
+out-of : (g : _) (c : After-outgoing-packet g) → placed g.K.Component.rules c.args.self.now.layout.processes (capacities_of c.args.self.now.table.shared.key.value) c.args.connection c.args.most g.B.Parcel.packet (step c.args.self.now.table.shared.table_id.slots (c.args.self.now.layout.processes + c.args.connection) 0 0 none) c.args.worker.now.seat.me c.load-word.result c.load-word.new.seat.me
+    → Out g.K.Component.rules c.args.worker.now.seat.me.0 c.turn.new.self.me.0 (capacities_of c.args.self.now.table.shared.key.value) c.args.self.now.layout.processes c.args.connection c.args.held.now.process c.in-Count.place c.cell-cell.result c.end_slots-slot.result.0 g.B.Parcel.packet c.turn.new.self.me.1
 out-of g c found = let f = c.args.self.now in let q = c.requires.seated in let x = c.exchange-old.ensures in let x2 = c.exchange-old-2.ensures in let n = c.in-Count.place in
     let p = c.args.held.now.process in
     let at_slot = c.end_slots-slot.result.0 in
@@ -103,7 +103,7 @@ record Back {K : Type 0} (v w : View K) (capacities : List ℕ) (n c p puts : �
   view_is : w ≡ placing v puts packet
   slots_are : slots ≡ (puts_slot n c, slot.Count (puts + 1)) ∷ (place_slot n capacities c puts, slot.Cell (Some packet)) ∷ (p, slot.Vacant) ∷ []
 
-back-of : (g : _) (c : After-turn-3 g) (o : Out g.K.Component.rules c.args.worker.now.seat.me.0 c.turn.new.self.me.0 g.D.Deed.turns (capacities_of c.args.self.now.table.shared.key.value) c.args.self.now.layout.processes c.args.connection c.args.held.now.process c.in-Count.place c.cell-cell.result c.end_slots-slot.result.0 g.B.Parcel.packet c.turn.new.self.me.1)
+back-of : (g : _) (c : After-turn-3 g) (o : Out g.K.Component.rules c.args.worker.now.seat.me.0 c.turn.new.self.me.0 (capacities_of c.args.self.now.table.shared.key.value) c.args.self.now.layout.processes c.args.connection c.args.held.now.process c.in-Count.place c.cell-cell.result c.end_slots-slot.result.0 g.B.Parcel.packet c.turn.new.self.me.1)
     → Back c.args.worker.now.seat.me.0 c.turn-3.new.self.me.0 (capacities_of c.args.self.now.table.shared.key.value) c.args.self.now.layout.processes c.args.connection c.args.held.now.process o.puts g.B.Parcel.packet c.outgoing-packet.result c.turn-3.new.self.me.1
 back-of g c o = let f = c.args.self.now in let x = c.exchange-old-3.ensures in
     let cell = c.cell-cell.result in
@@ -165,5 +165,5 @@ returns-clause-placed g c =
       o.puts,
       ap (λ m. m.0) c.load.ensures.2 ∙ ap filling k.view_is,
       (refl, refl, wished, subst (λ t. IfSome (id_sent old.process.stage) (λ id. c.outgoing-packet.new.self ≡ record old { process = record old.process { held = without_packet old.process.held id }; leaving = Some (kind_of t); places = old.places + 1 })) k.packet_is c.outgoing-packet.ensures.left),
-      o.would,
+      (let f = c.args.self.now in subst (λ (m : ℕ). WouldAlwaysHold g.K.Component.rules f.layout.processes m (view c.args.worker.now)) f.channels o.would),
     )

@@ -27,9 +27,6 @@ draw-requires-clause-may g c = subst (λ (o : Option Receiving). MayDraw c.args.
 pub draw-requires-clause-count : goal.draw-requires-clause-count
 draw-requires-clause-count g c = ap drawn_count c.requires.held.calm.receiving
 
-pub draw-requires-clause-pending : goal.draw-requires-clause-pending
-draw-requires-clause-pending g c = λ r. tt
-
 pub returns-then-senders-ne0-clause-held : goal.returns-then-senders-ne0-clause-held
 returns-then-senders-ne0-clause-held g c = let f = c.args.self.now in let e = c.in-Nothing.ensures in
     held-looked g.K.Component.rules f.table.shared.table_id f.layout.processes c.args.worker.now c.draw.new.worker c.args.held.now (seeing (view c.args.worker.now) (f.layout.processes + c.args.connection) c.in-Nothing.word) c.requires.held e.seated e.drawn.1 refl refl refl refl
@@ -58,4 +55,4 @@ got_as-stamp-requires-clause-held g c = let f = c.args.self.now in let e = c.in-
 
 pub got_as-stamp-requires-clause-sound : goal.got_as-stamp-requires-clause-sound
 got_as-stamp-requires-clause-sound g c = let q = c.requires.held in
-    sound-drawn g.K.Component.rules g.met.K.Component.lawful (view c.args.worker.now) c.args.held.now.process c.args.connection c.args.port q.agrees.base c.args.held.now.body c.in-Packet.packet c.in-Packet.ensures.drawn.0 q.calm.receiving q.agrees.held q.agrees.rests c.requires.stage c.requires.input
+    sound-drawn g.K.Component.rules g.met.K.Component.lawful (view c.args.worker.now) c.args.held.now.process c.args.connection c.args.port q.agrees.base c.args.held.now.body c.in-Packet.packet (c.in-Packet.ensures.drawn.0 [] (λ r. tt)) q.calm.receiving q.agrees.held q.agrees.rests c.requires.stage c.requires.input

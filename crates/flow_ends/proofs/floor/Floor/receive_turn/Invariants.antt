@@ -4,8 +4,8 @@ use Rattle.flow_ends.specs.Ends.{capacities_of}
 use Rattle.flow_ends.proofs.floor.Floor.receive_turn.Given as goal
 
 -- the connection
-abbrev pub ghosts-draw-S-Spot : goal.ghosts-draw-S-Spot
-ghosts-draw-S-Spot g a = record { processes = a.self.now.layout.processes; capacities = capacities_of a.self.now.table.shared.key.value; connection = a.connection; most = 0 }
+abbrev pub ghosts-draw : goal.ghosts-draw
+ghosts-draw g a = record { processes = a.self.now.layout.processes; capacities = capacities_of a.self.now.table.shared.key.value; connection = a.connection; most = 0 }
 
 -- it hears the end
 abbrev pub ghosts-end_as : goal.ghosts-end_as

@@ -43,9 +43,6 @@ place-requires-clause-may g c = subst (λ (o : Option Sending). MayPlace c.args.
 pub place-requires-clause-count : goal.place-requires-clause-count
 place-requires-clause-count g c = ap placed_count c.requires.held.sends
 
-pub place-requires-clause-pending : goal.place-requires-clause-pending
-place-requires-clause-pending g c = λ r. tt
-
 pub returns-in-Full-clause-sent : goal.returns-in-Full-clause-sent
 returns-in-Full-clause-sent g c = let f = c.args.self.now in let q = c.requires.held in let e = c.in-Full.ensures in let full = e.placed in
     let most = most-is g (goal.at.returns-in-Full-clause-sent g c).After-index-most in
