@@ -2,7 +2,6 @@
 ghost use Rattle.flow_ends.specs.Floors.{BurstsAt, IsHeldAt, IsIdleAt, IsSameWorker, IsWiredAt, HasSameShare, Readies, asked_of, process_count, turns_of};
 ghost use Rattle.flow_machine.specs.Thoughts.{IsSet, PassesFirst};
 ghost use Rattle.flow_runner.specs.Attempts.{Adds, MayGo, Spends};
-ghost use Rattle.flow_runner.specs.declared.work.TheConstants.{BURST_LIMIT};
 ghost use Rattle.flow_runner.specs.Lines.{IsPassAt};
 ghost use Rattle.flow_runner.specs.Serving.{IsLineFor, Pushes};
 ghost use Rattle.std.specs.Prelude.{◌≡◌, ◌<◌, ◌≤◌, ◌++◌, [], ◌∷◌};
