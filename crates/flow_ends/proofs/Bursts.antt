@@ -18,15 +18,13 @@ use Rattle.flow_ends.specs.declared.board.View.{View}
 use Rattle.flow_ends.specs.declared.floor.Burst.{Burst}
 use Rattle.flow_ends.specs.declared.floor.Burst.TheVariants as burst
 use Rattle.flow_ends.specs.declared.floor.Held.{Held}
-use Rattle.flow_ends.specs.declared.floor.Turned.{Turned}
-use Rattle.flow_ends.specs.declared.floor.Turned.TheVariants as turned
 use Rattle.flow_ends.specs.declared.floor.Worker.{Worker}
 use Rattle.flow_ends.specs.Bursting.{GoesOn, IsPassed, MakesBurst}
 use Rattle.flow_ends.specs.Bursts.{turns_from, Bursts, IsBurst}
 use Rattle.flow_ends.specs.InHand.{IsHeldAs}
 use Rattle.flow_ends.specs.Looks.{AllSaw, FirstOpen, InSeen, IsDormant, IsLook, SawEnd, SawNone, SawOver, SawReleased, WaitsAlone, Watches}
 use Rattle.flow_ends.specs.Pending.{MachineTurns}
-use Rattle.flow_ends.specs.Turns.{IsBlocked, IsBusy, IsMade, ReadBlocks, ToldLevel, Turns}
+use Rattle.flow_ends.specs.Turns.{IsBlocked, IsBusy, IsMade, ReadBlocks, ToldLevel}
 use Rattle.flow_ends.specs.Views.{Move, all_turned, held_after, moved}
 use Rattle.flow_ends.specs.Workers.{view, Agrees}
 use Rattle.flow_ends.proofs.Looking.{in-so}
@@ -46,6 +44,17 @@ over-since n since late c seen later = in-so (SawOver n late c) (SawOver n since
 end-since : (n since late m : ℕ) (inputs : List Input) (seen : List Look) → since ≤ late → AllSaw (SawOver n late) m inputs seen → AllSaw (SawOver n since) m inputs seen
 end-since n since late m inputs seen later all i c below at = over-since n since late c seen later (all i c below at)
 
+first-since : (n since late : ℕ) (inputs : List Input) (seen : List Look) (w : ℕ) → since ≤ late → FirstOpen n late inputs seen w → FirstOpen n since inputs seen w
+first-since n since late inputs seen w later first = record {
+  input = first.input;
+  connection = first.connection;
+  at = first.at;
+  look = look-since n since late first.connection w seen later first.look;
+  none_in = first.none_in;
+  opened = first.opened;
+  below = end-since n since late first.input inputs seen later first.below;
+}
+
 module _ {K : Type 0} where
   released-since : (n since late : ℕ) (x : Process K) (seen : List Look) → since ≤ late → SawReleased n late x seen → SawReleased n since x seen
   released-since n since late x seen later (inl before) = inl before
@@ -58,17 +67,6 @@ module _ {K : Type 0} where
   watches-since : (n since late : ℕ) (x : Process K) (seen : List Look) (inputs : List Input) → since ≤ late → Watches n late x seen inputs → Watches n since x seen inputs
   watches-since n since late x seen inputs later (inl alone) = inl (alone.0, alone-since n since late x seen later alone.1)
   watches-since n since late x seen inputs later (inr released) = inr (released.0, released-since n since late x seen later released.1)
-
-  first-since : (n since late : ℕ) (inputs : List Input) (seen : List Look) (w : ℕ) → since ≤ late → FirstOpen n late inputs seen w → FirstOpen n since inputs seen w
-  first-since n since late inputs seen w later first = record {
-    input = first.input;
-    connection = first.connection;
-    at = first.at;
-    look = look-since n since late first.connection w seen later first.look;
-    none_in = first.none_in;
-    opened = first.opened;
-    below = end-since n since late first.input inputs seen later first.below;
-  }
 
   blocks-since : (n since late : ℕ) (capacities : List ℕ) (x : Process K) (seen : List Look) (block : Block) (w : ℕ) → since ≤ late → ReadBlocks n late capacities x seen block w → ReadBlocks n since capacities x seen block w
   blocks-since n since late capacities x seen (blocks.Empty c port) w later read = (look-since n since late c w seen later read.0, read.1, read.2)
@@ -113,7 +111,7 @@ module _ {K : Type 0} where
 
 module _ {K : Type 0} (rules : Rules K) (n m : ℕ) (start : NetValue K) where
   -- One whole turn is a burst of its own.
-  one-made : (limit : ℕ) (h : Held K) (w : Worker K) (h' : Held K) (w' : Worker K) (stamp : ℕ) → Agrees rules w h → 1 ≤ limit → IsMade rules n start h w h' w' stamp → IsBurst rules n start limit h w h' w' stamp 1
+  pub one-made : (limit : ℕ) (h : Held K) (w : Worker K) (h' : Held K) (w' : Worker K) (stamp : ℕ) → Agrees rules w h → 1 ≤ limit → IsMade rules n start h w h' w' stamp → IsBurst rules n start limit h w h' w' stamp 1
   one-made limit h w h' w' stamp a least made =
       let t = move_of h made.event in
       let same = moved-same rules a.base h.body a.rests in
@@ -134,19 +132,6 @@ module _ {K : Type 0} (rules : Rules K) (n m : ℕ) (start : NetValue K) where
         above = made.above;
         levels = All-one (λ (u : Move K). ToldLevel n u.body (view w) (view w') u.event) t made.level;
       }
-
-  -- What an answer to a call for one turn says of a burst.
-  abbrev as_burst : Turned → Burst
-  as_burst (turned.Made stamp) = burst.Made stamp 1
-  as_burst (turned.Busy c word) = burst.Busy c word
-  as_burst (turned.Blocked block word) = burst.Blocked block word
-  as_burst (turned.Over over) = burst.Over over
-
-  pub one-turn : (limit : ℕ) (h : Held K) (w : Worker K) (h' : Held K) (w' : Worker K) (t : Turned) → Agrees rules w h → 1 ≤ limit → Turns rules n m start h w h' w' t → Bursts rules n m start limit h w h' w' (as_burst t)
-  one-turn limit h w h' w' (turned.Made stamp) a least turns = one-made limit h w h' w' stamp a least turns
-  one-turn limit h w h' w' (turned.Busy c word) a least turns = turns
-  one-turn limit h w h' w' (turned.Blocked block word) a least turns = turns
-  one-turn limit h w h' w' (turned.Over over) a least turns = turns
 
   -- It is so of a call that had made no turn before.
   busy-after : (b : BodyValue K) (u v w : View K) (c r : ℕ) → u.steps ≤ v.steps → IsBusy n m start b v w c r → IsBusy n m start b u w c r

@@ -41,5 +41,6 @@ pub mod Ahead
 pub mod Passing
 pub mod Bursting
 pub mod Settling
+pub mod AllStamps
 pub mod Bursts
 pub mod Crews

@@ -1,9 +1,11 @@
 -- The turns of a burst are stamped: what a worker has of them then.
-use Rattle.std.proofs.Common.{◌≡◌, ℕ, suc, ◌+◌, ◌<◌, ◌≤◌, List, [], ◌∷◌, ◌++◌, All, length, append-nil, append_assoc, drop, Option, Some, None, refl, sym, ap, ◌∙◌, subst, arith}
+use Rattle.std.proofs.Common.{◌≡◌, ℕ, suc, Bool, true, false, cond, nat_lt, ◌+◌, ◌<◌, ◌≤◌, List, [], ◌∷◌, ◌++◌, All, length, append-nil, append_assoc, drop, Option, Some, None, refl, sym, ap, ◌∙◌, subst, arith}
 use Rattle.std.specs.Option.{option_map}
+use Rattle.std.proofs.lemmas.Bool.Decides.{nat_tests}
 use Rattle.std.proofs.lemmas.List.Elements.{All-head, All-tail}
 use Rattle.atomic_table.specs.Seated.{TableId}
 use Rattle.flow_packet.specs.Tree.{Tree}
+use Rattle.flow_plan.specs.declared.plan.Connection.{Connection}
 use Rattle.flow_component.specs.Laws.{Rules}
 use Rattle.flow_model.specs.Events.{Event, Starts, Finishes, Gets, Takes_text, Hears_end, Sends, Learns, Sleeps, Closes, Signals}
 use Rattle.flow_model.specs.Turns.{change_of}
@@ -11,6 +13,7 @@ use Rattle.flow_machine.specs.Stamps.{restamped}
 use Rattle.flow_machine.specs.Values.{BodyValue, NetValue}
 use Rattle.flow_floor.specs.Ahead.{turned_body}
 use Rattle.flow_floor.specs.Made.{Below}
+use Rattle.flow_floor.specs.Sending.{receiver_at}
 use Rattle.flow_floor.proofs.Seats.{some_Some}
 use Rattle.flow_ends.specs.declared.board.Receiving.{Receiving}
 use Rattle.flow_ends.specs.declared.board.Sending.{Sending}
@@ -20,7 +23,7 @@ use Rattle.flow_ends.specs.declared.ends.End.{End}
 use Rattle.flow_ends.specs.declared.ends.Ends.{Ends}
 use Rattle.flow_ends.specs.declared.floor.Held.{Held}
 use Rattle.flow_ends.specs.declared.floor.Worker.{Worker}
-use Rattle.flow_ends.specs.Bursting.{put_by, taken_by, ArePassed, IsAtInput, IsAtOutput, IsInBurst, IsPassed, MakesBurst}
+use Rattle.flow_ends.specs.Bursting.{put_by, receivers_of, taken_by, ArePassed, IsAtInput, IsAtOutput, IsInBurst, IsPassed, MakesBurst}
 use Rattle.flow_ends.specs.Bursts.{turns_from}
 use Rattle.flow_ends.specs.Ends.{receiving_at, sending_at}
 use Rattle.flow_ends.specs.InHand.{HasNoneLeft, IsHeldAs, IsPending}
@@ -97,6 +100,22 @@ sends-so Sleeps c count s o one may so = absurd one
 sends-so (Closes output d) c count s o one may so = absurd one
 sends-so (Signals d packet) c count s o one may so = absurd one
 
+-- Whom the puts may unblock: nobody where there are none, and else who receives there.
+pub receivers-none : (plan : List Connection) (o : Option End) (end : End) → o ≡ Some end → end.packets ≡ 0 → receivers_of plan o ≡ []
+receivers-none plan o end is none = ap (receivers_of plan) is ∙ (let z : nat_lt 0 end.packets ≡ false = grind (arith, nat_tests) in ap (λ (b : Bool). cond b (receiver_at plan end.connection) []) z)
+
+pub receivers-some : (plan : List Connection) (o : Option End) (end : End) → o ≡ Some end → (end.packets ≡ 0 → ⊥) → receivers_of plan o ≡ receiver_at plan end.connection
+receivers-some plan o end is some_put = ap (receivers_of plan) is ∙ (let z : nat_lt 0 end.packets ≡ true = grind (arith, nat_tests) in ap (λ (b : Bool). cond b (receiver_at plan end.connection) []) z)
+
+-- Once the puts are published nothing is left to tell at the sending end.
+pub put-told : (o : Option End) (end : End) (s : Option Sending) → o ≡ Some end → s ≡ put_by o → option_map (λ (x : Sending). record x { unpublished = 0 }) s ≡ Some (sending_at end.connection)
+put-told o end s is at = ap (option_map (λ (x : Sending). record x { unpublished = 0 })) (at ∙ ap put_by is)
+
+-- The first part of a list goes.
+pub drop-front : (xs ys : List ℕ) → drop (length xs) (xs ++ ys) ≡ ys
+drop-front [] ys = refl
+drop-front (x ∷ xs) ys = drop-front xs ys
+
 module _ {K : Type 0} where
   abbrev Passed : List (Move K) → Type 0
   Passed turns = All (λ (t : Move K). IsPassed t.event) turns
@@ -167,13 +186,13 @@ module _ {K : Type 0} (rules : Rules K) (n m : ℕ) where
       let count : z.unpublished ≡ end.packets = omega (arith, after.4, gone) in
       after.1 ∙ (λ i. let o : Option Sending = Some (record { connection = after.2 i; placed = placed i; out = after.3 i; unpublished = count i; unsubtracted = after.5 i; learnt = after.6 i }) in o)
 
-module _ {K : Type 0} (rules : Rules K) (z : TableId) (n m : ℕ) (start : NetValue K) (began : BodyValue K) where
+module _ {K : Type 0} (rules : Rules K) (z : TableId) (n m : ℕ) (capacities : List ℕ) (start : NetValue K) (began : BodyValue K) where
   -- What is known of the turns that are stamped.
   abbrev pub Known : Worker K → Held K → ℕ → List (Move K) → Type 0
   Known w h count turns = (length turns ≡ count) × ArePassed began turns × IsPending rules n m (view w) turns h.process h.body
 
   -- The turns of the burst are stamped, and the body has their stamps: the worker has still to tell of them at both ends.
-  pub burst-settled : (w w' : Worker K) (h h' : Held K) (ends : Ends) (count stamp : ℕ) → IsInBurst rules z n m began w h ends → IsSeated z n w' h → StampsAll rules start (Known w h count) (view w) (view w') stamp → h'.process ≡ h.process
+  pub burst-settled : (w w' : Worker K) (h h' : Held K) (ends : Ends) (count stamp : ℕ) → IsInBurst rules z n m capacities began w h ends → IsSeated z n w' h → StampsAll rules start (Known w h count) (view w) (view w') stamp → h'.process ≡ h.process
       → h'.body ≡ record h.body { stamps = restamped count stamp h.body.stamps } → IsMidway rules z n w' h' (put_by ends.output) (taken_by ends.input) []
   burst-settled w w' h h' ends count stamp q seat s process body =
       let v = view w in
