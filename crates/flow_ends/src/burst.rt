@@ -172,7 +172,9 @@ impl<K: Component> Floor<K> {
         ensures wired { IsWiredAt self.now held.new }
     {
         match held.body.case() {
-            Case::Receive { connection, port } => self.receive_on(worker, held, ends, connection, port),
+            Case::Receive { connection, port } => self.receive_on(
+                worker, held, ends, connection, port,
+            ),
             Case::Send { connection, port } => self.send_on(worker, held, ends, connection, port),
             _ => false,
         }
