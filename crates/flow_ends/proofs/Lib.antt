@@ -39,4 +39,8 @@ pub mod Holding
 pub mod Further
 pub mod Ahead
 pub mod Passing
+pub mod Bursting
+pub mod Settling
+pub mod AllStamps
+pub mod Bursts
 pub mod Crews

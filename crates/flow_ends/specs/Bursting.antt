@@ -1,5 +1,5 @@
 -- A worker in the midst of a burst.
-use Rattle.std.specs.Prelude.{◌≡◌, ℕ, ◌+◌, ◌<◌, ◌≤◌, nat_lt, if◌then◌else◌, List, [], ◌++◌, All, length, Option, None, Some}
+use Rattle.std.specs.Prelude.{◌≡◌, ℕ, ◌+◌, ◌<◌, ◌≤◌, nat_lt, if◌then◌else◌, List, [], ◌++◌, All, length, slice_index, Option, None, Some}
 use Rattle.atomic_table.specs.Seated.{TableId}
 use Rattle.flow_plan.specs.declared.plan.Connection.{Connection}
 use Rattle.flow_component.specs.Laws.{Rules}
@@ -34,6 +34,11 @@ turns_at ends = packets_at ends.input + packets_at ends.output
 abbrev pub IsEndBelow : ℕ → Option End → Type 0
 IsEndBelow m (Some end) = end.connection < m
 IsEndBelow m None = Unit {0}
+
+-- The packets at the end are no more than its connection takes, where these are the capacities.
+abbrev pub FitsIn : List ℕ → Option End → Type 0
+FitsIn capacities (Some end) = end.packets ≤ slice_index capacities end.connection
+FitsIn capacities None = Unit {0}
 
 -- Where the seat receives, no cell is out, and what it drew there, which is something, waits for the stamps of its turns.
 abbrev pub IsAtInput : Option End → Option Receiving → Type 0
@@ -81,14 +86,16 @@ module _ {K : Type 0} where
     pub passed : All (λ (t : Move K). IsPassed t.event) turns
 
   -- The worker holds this body, and is at these ends of connections. Its pending turns are those of a burst, of which the first was made by the body
-  -- `began`, and as many as it drew and placed packets. Here n is the number of processes, m that of connections.
-  pub record IsInBurst (rules : Rules K) (z : TableId) (n m : ℕ) (began : BodyValue K) (w : Worker K) (h : Held K) (ends : Ends) : Type 0 where
+  -- `began`, and as many as it drew and placed packets. Here n is the number of processes, m that of connections, and these
+  -- are their capacities.
+  pub record IsInBurst (rules : Rules K) (z : TableId) (n m : ℕ) (capacities : List ℕ) (began : BodyValue K) (w : Worker K) (h : Held K) (ends : Ends) : Type 0 where
     pub seated : IsSeated z n w h
     pub noted : (view w).noted ≡ []
     pub input : IsAtInput ends.input (view w).receiving
     pub output : IsAtOutput ends.output (view w).sending
     pub input_below : IsEndBelow m ends.input
     pub output_below : IsEndBelow m ends.output
+    pub fits : FitsIn capacities ends.output
     pub turns : List (Move K)
     pub many : length turns ≡ turns_at ends
     pub passed : ArePassed began turns

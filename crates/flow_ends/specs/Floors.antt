@@ -119,7 +119,7 @@ module _ {K : Type 0} where
 
   -- It is at these ends in the midst of a burst, of which the first turn was made by the body `began`.
   abbrev pub IsInBurstAt : Rules K → Floor K → BodyValue K → Worker K → Held K → Ends → Type 0
-  IsInBurstAt rules f began w h ends = IsInBurst rules f.table.shared.table_id (process_count f) (connection_count f) began w h ends
+  IsInBurstAt rules f began w h ends = IsInBurst rules f.table.shared.table_id (process_count f) (connection_count f) (capacities_of (opened_net f)) began w h ends
 
   -- The worker is one of this floor's, and holds nothing but so many tokens.
   abbrev pub IsDoneAt : Floor K → Worker K → ℕ → Type 0

@@ -98,17 +98,19 @@ impl<K: Component> Floor<K> {
         ensures same { turns_at ends.new ≡ turns_at ends.old }
     {
         let _ = port;
-        if ends.output.is_some() {
-            return may_come_to(ends.output, connection);
+        match ends.output {
+            Some(end) => end.connection == connection,
+            None => {
+                if !self.reach::<Brand>(worker, held, connection as usize) {
+                    return false;
+                }
+                ends.output = Some(End {
+                    connection,
+                    packets: 0,
+                });
+                true
+            }
         }
-        if !self.reach::<Brand>(worker, held, connection as usize) {
-            return false;
-        }
-        ends.output = Some(End {
-            connection,
-            packets: 0,
-        });
-        true
     }
 
     /// Sends at the output at which the burst is, or comes to it. There is no turn where the burst is at another output, another worker is there, or the
@@ -170,7 +172,9 @@ impl<K: Component> Floor<K> {
         ensures wired { IsWiredAt self.now held.new }
     {
         match held.body.case() {
-            Case::Receive { connection, port } => self.receive_on(worker, held, ends, connection, port),
+            Case::Receive { connection, port } => self.receive_on(
+                worker, held, ends, connection, port,
+            ),
             Case::Send { connection, port } => self.send_on(worker, held, ends, connection, port),
             _ => false,
         }

@@ -77,6 +77,7 @@ pub trait Deeds<T> {
 }
 
 impl<T> Deeds<T> for Brand {
+    ghost use Rattle.std.specs.Prelude.{[]};
     ghost use Rattle.flow_machine.specs.Values.{net_of};
 
     ghost are = { λ _. Unit {0} };

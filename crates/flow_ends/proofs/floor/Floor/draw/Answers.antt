@@ -131,3 +131,13 @@ returns-clause-seated g c = let f = c.args.self.now in
     seated-with f.table.shared.table_id f.layout.processes c.args.worker.now (record { seat = c.load.new.seat; woken = c.args.worker.now.woken }) c.args.held.now (emptying (drawing (view c.args.worker.now) c.args.connection o.takes o.packet)) c.requires.seated
     (e.0 ∙ c.turn-3.ensures.0 ∙ c.turn-2.ensures.0 ∙ c.exchange-old-3.ensures.0 ∙ c.turn.ensures.0 ∙ c.exchange-old-2.ensures.0 ∙ c.exchange-old.ensures.0 ∙ c.load-word.ensures.0)
     (ap (λ m. m.0) e.2 ∙ ap emptying k.view_is) (ap (λ m. m.1) e.2 ∙ ap (λ xs. rest (rest xs)) k.slots_are) refl refl refl
+
+pub returns-clause-drawn : goal.returns-clause-drawn
+returns-clause-drawn g c = let f = c.args.self.now in
+    let all = goal.at.returns-clause-drawn g c in
+    let o = out-of g all.After-cell-cell (told-of g all.After-load-word) in
+    let k = back-of g all.After-turn-3 o in
+    let v = view c.args.worker.now in (
+      subst (λ (m : ℕ). WouldAlwaysBeThere g.K.Component.rules f.layout.processes m v c.args.connection c.in-Some.packet) f.channels (subst (WouldAlwaysBeThere g.K.Component.rules f.layout.processes (length (capacities_of f.table.shared.key.value)) v c.args.connection) k.packet_is o.would),
+      ap (λ m. m.0) c.load.ensures.2 ∙ ap emptying (k.view_is ∙ (λ j. drawing v c.args.connection (o.takes_is j) (k.packet_is j))),
+    )
