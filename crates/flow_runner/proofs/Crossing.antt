@@ -73,7 +73,7 @@ connections-sync : IsSync (Vec.the_row Connection.the_row Heap.the_row ghosts)
 connections-sync = search (sendable, crosses, connection-sync) depth 20
 
 -- Where words and slots lie.
-layout-sync : IsSync Layout.the_row
+layout-sync : IsSync (Layout.the_field).row
 layout-sync = search (sendable, crosses) depth 20
 
 -- A floor has the table, where its words and slots lie, and the plan's connections.
