@@ -1,5 +1,5 @@
 -- What a call for a burst tells.
-use Rattle.std.proofs.Common.{◌≡◌, ℕ, ◌+◌, ◌<◌, ◌≤◌, List, [], ◌∷◌, ◌++◌, All, length, Option, Some, refl, sym, ap, ◌∙◌, subst, arith, inl, inr}
+use Rattle.std.proofs.Common.{◌≡◌, ℕ, ◌<◌, ◌≤◌, List, [], ◌∷◌, ◌++◌, All, length, Option, Some, refl, sym, ap, ◌∙◌, subst, arith, inl, inr}
 use Rattle.std.proofs.lemmas.List.Elements.{All-cons, All-head, All-nil, All-tail}
 use Rattle.flow_component.specs.Laws.{Rules}
 use Rattle.flow_model.specs.Events.{Event, Starts, Finishes, Gets, Takes_text, Hears_end, Sends, Learns, Sleeps, Closes, Signals}
@@ -22,10 +22,10 @@ use Rattle.flow_ends.specs.declared.floor.Worker.{Worker}
 use Rattle.flow_ends.specs.Bursting.{GoesOn, IsPassed, MakesBurst}
 use Rattle.flow_ends.specs.Bursts.{turns_from, Bursts, IsBurst}
 use Rattle.flow_ends.specs.InHand.{IsHeldAs}
-use Rattle.flow_ends.specs.Looks.{AllSaw, FirstOpen, InSeen, IsDormant, IsLook, SawEnd, SawNone, SawOver, SawReleased, WaitsAlone, Watches}
+use Rattle.flow_ends.specs.Looks.{AllSaw, FirstOpen, InSeen, IsLook, SawNone, SawOver, SawReleased, WaitsAlone, Watches}
 use Rattle.flow_ends.specs.Pending.{MachineTurns}
 use Rattle.flow_ends.specs.Turns.{IsBlocked, IsBusy, IsMade, ReadBlocks, ToldLevel}
-use Rattle.flow_ends.specs.Views.{Move, all_turned, held_after, moved}
+use Rattle.flow_ends.specs.Views.{Move, all_turned, held_after}
 use Rattle.flow_ends.specs.Workers.{view, Agrees}
 use Rattle.flow_ends.proofs.Looking.{in-so}
 use Rattle.flow_ends.proofs.Midways.{move_of, moved-same}

@@ -1,12 +1,12 @@
 -- What a call for a turn tells.
-use Rattle.std.proofs.Common.{◌≡◌, ℕ, zero, suc, ◌+◌, ◌<◌, ◌≤◌, true, List, [], ◌∷◌, ◌++◌, Option, Some, None, slice_get, refl, ap, sym, subst, ◌∙◌, arith, inl, inr}
+use Rattle.std.proofs.Common.{◌≡◌, ℕ, zero, suc, ◌+◌, ◌<◌, ◌≤◌, true, List, [], ◌∷◌, ◌++◌, Option, Some, None, slice_get, refl, ap, sym, subst, ◌∙◌, arith, inl}
 use Rattle.std.specs.Prelude.{is_some, option_and_then}
 use Rattle.flow_component.specs.declared.Port.{Port}
 use Rattle.flow_component.specs.declared.Wish.TheVariants as wishes
 use Rattle.flow_component.specs.Laws.{Rules}
 use Rattle.flow_model.specs.declared.Stage.TheVariants as stages
 use Rattle.flow_model.specs.Events.{Event}
-use Rattle.flow_model.specs.States.{Process, Outlet, outlets, outlets_from, output_at}
+use Rattle.flow_model.specs.States.{Process, outlets, outlets_from, output_at}
 use Rattle.flow_machine.specs.Answers.{case_of, close_case, level_case, send_case, stage_case}
 use Rattle.flow_machine.specs.Nets.{SendsAt}
 use Rattle.flow_machine.specs.Outlets.{connection_at}

@@ -3,7 +3,7 @@ use Rattle.std.proofs.lemmas.List.{length-map}
 use Rattle.std.specs.Prelude.{not, ◌||◌}
 use Rattle.flow_limits.specs.declared.TheConstants.{RUN_LIMIT, WORKER_LIMIT}
 use Rattle.std.proofs.lemmas.Bool.Decides.{nat_tests}
-use Rattle.std.proofs.Common.{◌≡◌, ℕ, zero, suc, ◌+◌, ◌<◌, ◌≤◌, nat_eq, cond, Bool, true, false, All, List, [], ◌∷◌, length, arith, map, get_or, refl, ap, sym, subst, ◌∙◌, Some, None, slice_get, ◌⊎◌, inl, inr, Contains}
+use Rattle.std.proofs.Common.{◌≡◌, ℕ, zero, suc, ◌+◌, ◌≤◌, nat_eq, cond, Bool, true, false, All, List, [], ◌∷◌, length, arith, map, get_or, refl, ap, sym, subst, ◌∙◌, Some, None, slice_get, ◌⊎◌, inl, inr, Contains}
 use lib.ListN.{get_elem?}
 use mathlib.Core.Option.{some}
 use Rattle.atomic_table.specs.Table.{Final, Seen}
@@ -30,7 +30,6 @@ use Rattle.flow_machine.proofs.Planning.{body_wires, capacity_of, planned-kept}
 use Rattle.flow_machine.proofs.JoinPieces.{joins-pieces}
 use Rattle.flow_model.specs.Wires.{Wires}
 use Rattle.flow_model.proofs.Lists.{map-found}
-use Rattle.flow_ring.specs.declared.TheConstants.{FIELD}
 use Rattle.flow_ring.specs.Spaced.{ranked}
 use Rattle.flow_ring.specs.Words.{senders_in}
 use Rattle.flow_ring.proofs.Words.{senders-of}

@@ -25,10 +25,9 @@ use Rattle.flow_ends.specs.declared.board.Receiving.{Receiving}
 use Rattle.flow_ends.specs.declared.board.View.{View}
 use Rattle.flow_ends.specs.Ends.{Sender, Receiver, receiving_at, sending_of, receiving_of, capacities_of, Sends, Receives, HasWithdrawn, MayDraw, MayPlace}
 use Rattle.flow_ends.specs.Law.{CountLies, Lies, LiesSo}
-use Rattle.flow_ends.specs.Pending.{AllMay}
 use Rattle.flow_ends.specs.Plays.{Sat, placed_count, drawn_count, placed, filled, drew, emptied}
 use Rattle.flow_ends.specs.Rule.{Law}
-use Rattle.flow_ends.specs.Views.{Move, drawing, emptying, filling, placing, received_at, seeing}
+use Rattle.flow_ends.specs.Views.{drawing, emptying, filling, placing, received_at, seeing}
 use Rattle.flow_ends.proofs.Cells.{St, state, Own, place-own, place-puts, place-takes}
 use Rattle.flow_ends.proofs.Lying.{cell-oldest, cell-behind, drawn-short, so-drawn, so-emptied, so-placed, so-filled}
 use Rattle.flow_ends.proofs.Seats.{seated}

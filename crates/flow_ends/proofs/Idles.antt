@@ -10,7 +10,7 @@ use Rattle.flow_component.specs.declared.Port.{Port}
 use Rattle.flow_component.specs.declared.Wish.TheVariants as wishes
 use Rattle.flow_model.specs.declared.Stage.TheVariants as stages
 use Rattle.flow_model.specs.States.{Input, From, Text, Process, output_at}
-use Rattle.flow_model.specs.Events.{Event, Starts, Finishes, Signals, stage_event, event_from, idle_event, rest_event, signal_event, signalled_from, signalled_by, takes_signal, signal_over, is_released, is_woken, can_start, can_finish, has_packet, has_ended, is_connected, passes, holds_packet, is_over, is_empty}
+use Rattle.flow_model.specs.Events.{Starts, Finishes, Signals, stage_event, idle_event, rest_event, signal_event, signalled_from, signalled_by, takes_signal, signal_over, is_released, is_woken, can_start, can_finish, has_packet, has_ended, is_connected, passes, holds_packet, is_over, is_empty}
 use Rattle.flow_model.specs.Events.{Look as Seen}
 use Rattle.flow_model.specs.Stages.{IsThoughtStage}
 use Rattle.flow_model.specs.Stands.{ChannelShown}
@@ -20,7 +20,7 @@ use Rattle.flow_machine.specs.Nets.{looks_of, SendsAt}
 use Rattle.flow_ends.specs.declared.board.Look.{Look}
 use Rattle.flow_ends.specs.declared.floor.Idling.TheVariants as idling
 use Rattle.flow_floor.specs.Law.{IsOver}
-use Rattle.flow_ends.specs.Law.{SeenTrue, AllSeen}
+use Rattle.flow_ends.specs.Law.{AllSeen}
 use Rattle.flow_floor.specs.Wired.{IsInput, IsWiredIn}
 use Rattle.flow_ends.specs.Ends.{capacities_of}
 use Rattle.flow_ends.specs.Midway.{drawn_at}

@@ -1,12 +1,11 @@
 -- What a worker has in the midst of a turn.
-use Rattle.std.proofs.Common.{◌≡◌, ℕ, ◌+◌, ◌<◌, List, [], ◌∷◌, ◌++◌, Option, None, Some, slice_get, refl, sym, ap, ◌∙◌, subst}
+use Rattle.std.proofs.Common.{◌≡◌, ℕ, ◌<◌, List, [], ◌∷◌, ◌++◌, Option, None, Some, slice_get, refl, sym, ap, ◌∙◌, subst}
 use Rattle.std.specs.Prelude.{option_and_then, unwrap_or}
 use Rattle.std.specs.Option.{option_map}
 use Rattle.atomic_table.specs.Seated.{TableId}
 use Rattle.flow_packet.specs.Tree.{Tree}
 use Rattle.flow_component.specs.Laws.{Rules, Lawful}
 use Rattle.flow_model.specs.Events.{Event}
-use Rattle.flow_model.specs.States.{Input}
 use Rattle.flow_model.specs.Turns.{change_of}
 use Rattle.flow_machine.specs.FitNets.{FitNet}
 use Rattle.flow_machine.specs.Nets.{BodyTurn}

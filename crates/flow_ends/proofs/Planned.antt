@@ -5,9 +5,7 @@ use Rattle.std.proofs.lemmas.Option.{slice_get_read}
 use Rattle.flow_plan.specs.declared.plan.Connection.{Connection}
 use Rattle.flow_plan.specs.declared.plan.Sender.{Sender}
 use Rattle.flow_model.specs.Stands.{ChannelShown}
-use Rattle.flow_machine.specs.Values.{BodyValue}
 use Rattle.flow_floor.specs.Sending.{receiver_at, senders_at}
-use Rattle.flow_floor.specs.Wired.{IsInput, IsOutput}
 use Rattle.flow_floor.proofs.Numbers.{contains-here}
 use Rattle.flow_floor.proofs.Planned.{connection-count, receiver-below, receiver-is, receiver_at-is, senders-below, senders_at-is, sends-there}
 use Rattle.flow_ends.specs.declared.floor.Floor.{Floor}

@@ -1,5 +1,5 @@
 -- The turns of a burst are stamped: what a worker has of them then.
-use Rattle.std.proofs.Common.{◌≡◌, ℕ, suc, Bool, true, false, cond, nat_lt, ◌+◌, ◌<◌, ◌≤◌, List, [], ◌∷◌, ◌++◌, All, length, append-nil, append_assoc, drop, Option, Some, None, refl, sym, ap, ◌∙◌, subst, arith}
+use Rattle.std.proofs.Common.{◌≡◌, ℕ, Bool, true, false, cond, nat_lt, ◌+◌, ◌<◌, List, [], ◌∷◌, ◌++◌, All, length, append-nil, append_assoc, drop, Option, Some, None, refl, sym, ap, ◌∙◌, subst, arith}
 use Rattle.std.specs.Option.{option_map}
 use Rattle.std.proofs.lemmas.Bool.Decides.{nat_tests}
 use Rattle.std.proofs.lemmas.List.Elements.{All-head, All-tail}
@@ -25,13 +25,13 @@ use Rattle.flow_ends.specs.declared.floor.Held.{Held}
 use Rattle.flow_ends.specs.declared.floor.Worker.{Worker}
 use Rattle.flow_ends.specs.Bursting.{put_by, receivers_of, taken_by, ArePassed, IsAtInput, IsAtOutput, IsInBurst, IsPassed, MakesBurst}
 use Rattle.flow_ends.specs.Bursts.{turns_from}
-use Rattle.flow_ends.specs.Ends.{receiving_at, sending_at}
+use Rattle.flow_ends.specs.Ends.{sending_at}
 use Rattle.flow_ends.specs.InHand.{HasNoneLeft, IsHeldAs, IsPending}
 use Rattle.flow_ends.specs.Midway.{IsMidway}
-use Rattle.flow_ends.specs.Pending.{MachineTurns, MayFrom}
+use Rattle.flow_ends.specs.Pending.{MayFrom}
 use Rattle.flow_ends.specs.Plays.{drawn_count, placed_count, StampsAll}
 use Rattle.flow_ends.specs.Turning.{received_after, receiving_after, sending_after, sent_after, MayChange}
-use Rattle.flow_ends.specs.Views.{Move, all_turned, counting, held_after, moved, stamping, turning, turn_of}
+use Rattle.flow_ends.specs.Views.{Move, all_turned, counting, held_after, moved, turning, turn_of}
 use Rattle.flow_ends.specs.Workers.{view, woken_of, IsSeated}
 use Rattle.flow_ends.proofs.Ahead.{pending-further, stamped-held}
 use Rattle.flow_ends.proofs.Further.{counting-further}

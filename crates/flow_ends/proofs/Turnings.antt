@@ -1,23 +1,22 @@
 -- Which turn a process has, by what its worker did at the ends of connections.
-use Rattle.std.proofs.Common.{◌≡◌, ℕ, ◌+◌, ◌<◌, Bool, true, false, cond, nat_lt, List, [], ◌∷◌, ◌++◌, length, Option, None, Some, slice_get, refl, sym, ap, ◌∙◌, subst, arith, inl, inr}
+use Rattle.std.proofs.Common.{◌≡◌, ℕ, ◌+◌, ◌<◌, Bool, true, false, cond, nat_lt, List, [], ◌∷◌, length, Option, None, Some, slice_get, refl, sym, ap, ◌∙◌, subst, arith, inl, inr}
 use Rattle.std.proofs.lemmas.Bool.Decides.{nat_tests}
 use Rattle.std.specs.Prelude.{IfSome, unwrap_or, option_and_then}
 use Rattle.std.specs.Option.{option_map}
-use Rattle.flow_packet.specs.Held.{Sound, with_packet, without_packet}
+use Rattle.flow_packet.specs.Held.{Sound, with_packet}
 use Rattle.flow_packet.specs.Hands.{packet_at}
-use Rattle.flow_packet.specs.Tree.{Tree, kind_of}
+use Rattle.flow_packet.specs.Tree.{Tree}
 use Rattle.flow_component.specs.declared.Port.{Port}
 use Rattle.flow_component.specs.declared.Wish.TheVariants as wishes
 use Rattle.flow_component.specs.Laws.{Rules, Lawful}
 use Rattle.flow_model.specs.declared.Stage.TheVariants as stages
-use Rattle.flow_model.specs.Events.{Event, Closes, Gets, Hears_end, Learns, Sends, Sleeps, Takes_text, is_fresh, receive_event, received, sent, stage_event}
+use Rattle.flow_model.specs.Events.{Event, Gets, Hears_end, Learns, Sends, Sleeps, Takes_text, is_fresh, receive_event, received, sent, stage_event}
 use Rattle.flow_model.specs.Stands.{ChannelShown, look_shown}
 use Rattle.flow_model.specs.States.{From, Input, Outlet, Process, Text, outlets, output_at}
 use Rattle.flow_model.specs.Turns.{change_of}
 use Rattle.flow_model.proofs.Lists.{slice_get-set_same}
 use Rattle.flow_machine.specs.declared.answers.Effect.TheVariants as effects
 use Rattle.flow_machine.specs.Effects.{id_sent, text_event, IsEffectFor, TakesTurn}
-use Rattle.flow_machine.specs.FitNets.{FitNet}
 use Rattle.flow_machine.specs.Nets.{looks_of, BodyTurn, GetsSound, SendsAt, packet_wished}
 use Rattle.flow_machine.specs.Outlets.{connection_at}
 use Rattle.flow_machine.specs.Thoughts.{next_text, HasRoom}
@@ -25,7 +24,7 @@ use Rattle.flow_machine.specs.Values.{BodyValue, NetValue}
 use Rattle.flow_machine.proofs.FitLemmas.{sound-got}
 use Rattle.flow_machine.proofs.NetTurns.{close-turn, if_some, learns, receives, sends, some_if}
 use Rattle.flow_machine.proofs.Pairs.{left_behind, may-finish, told-some}
-use Rattle.flow_floor.specs.Law.{IsOver, Rests}
+use Rattle.flow_floor.specs.Law.{Rests}
 use Rattle.flow_floor.specs.Plays.{HeldIn}
 use Rattle.flow_floor.specs.Turning.{closed_event, sent_event, with_body}
 use Rattle.flow_floor.proofs.Going.{rest-fit}

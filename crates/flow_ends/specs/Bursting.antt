@@ -9,7 +9,6 @@ use Rattle.flow_floor.specs.Made.{Below}
 use Rattle.flow_floor.specs.Sending.{receiver_at}
 use Rattle.flow_ends.specs.declared.board.Receiving.{Receiving}
 use Rattle.flow_ends.specs.declared.board.Sending.{Sending}
-use Rattle.flow_ends.specs.declared.board.View.{View}
 use Rattle.flow_ends.specs.declared.ends.End.{End}
 use Rattle.flow_ends.specs.declared.ends.Ends.{Ends}
 use Rattle.flow_ends.specs.declared.floor.Held.{Held}

@@ -1,11 +1,11 @@
 -- A worker in the midst of a turn.
-use Rattle.std.specs.Prelude.{◌≡◌, ℕ, ◌+◌, ◌<◌, List, [], ◌∷◌, ◌++◌, Option, None, Some}
+use Rattle.std.specs.Prelude.{◌≡◌, ℕ, ◌<◌, List, [], ◌∷◌, ◌++◌, Option, None, Some}
 use Rattle.atomic_table.specs.Seated.{TableId}
 use Rattle.flow_packet.specs.Tree.{Tree}
 use Rattle.flow_component.specs.Laws.{Rules}
 use Rattle.flow_model.specs.Events.{Event}
 use Rattle.flow_machine.specs.Nets.{BodyTurn}
-use Rattle.flow_machine.specs.Values.{BodyValue, NetValue}
+use Rattle.flow_machine.specs.Values.{NetValue}
 use Rattle.flow_floor.specs.Made.{Below}
 use Rattle.flow_floor.specs.Turning.{MachineTurn}
 use Rattle.flow_ends.specs.declared.board.Receiving.{Receiving}

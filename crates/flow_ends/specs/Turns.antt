@@ -1,6 +1,6 @@
 -- What a call for a turn tells. Here n is the number of processes, m that of connections, `start` the net that was opened, and `old` and `new` are the
 -- worker's view before and after the call.
-use Rattle.std.specs.Prelude.{◌≡◌, ℕ, ◌+◌, ◌<◌, ◌≤◌, true, false, List, [], ◌∷◌, ◌++◌, Option, Some, None, slice_index}
+use Rattle.std.specs.Prelude.{◌≡◌, ℕ, ◌<◌, ◌≤◌, true, false, List, [], ◌∷◌, ◌++◌, Option, Some, None, slice_index}
 use Rattle.flow_component.specs.Laws.{Rules}
 use Rattle.flow_model.specs.declared.Block.{Block}
 use Rattle.flow_model.specs.declared.Block.TheVariants as blocks

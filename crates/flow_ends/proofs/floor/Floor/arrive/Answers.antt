@@ -1,4 +1,4 @@
-use Rattle.std.proofs.Common.{◌≡◌, ◌+◌, ◌∙◌, [], None, Some, refl, sym, subst}
+use Rattle.std.proofs.Common.{◌+◌, ◌∙◌, [], None, Some, refl, sym}
 use Rattle.flow_ends.specs.Ends.{sending_at}
 use Rattle.flow_ends.specs.Views.{entering, looked}
 use Rattle.flow_ends.specs.Workers.{view}

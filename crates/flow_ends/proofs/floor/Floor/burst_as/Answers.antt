@@ -1,10 +1,9 @@
-use Rattle.std.proofs.Common.{◌≡◌, ◌≤◌, ◌∙◌, arith, refl, subst, sym}
+use Rattle.std.proofs.Common.{◌≤◌, arith, refl, subst}
 use Rattle.flow_machine.specs.Values.{BodyValue}
 use Rattle.flow_ends.specs.declared.floor.Held.{Held}
 use Rattle.flow_ends.specs.Bursting.{MakesBurst}
 use Rattle.flow_ends.specs.Bursts.{Bursts}
 use Rattle.flow_ends.specs.Ends.{capacities_of}
-use Rattle.flow_ends.specs.Workers.{view}
 use Rattle.flow_ends.proofs.Bursting.{burst-begun, goes-then}
 use Rattle.flow_ends.proofs.Bursts.{burst-told, bursts-after}
 use Rattle.flow_ends.proofs.floor.Floor.burst_as.Goals as goal

@@ -1,4 +1,4 @@
-use Rattle.std.proofs.Common.{◌-◌, ◌∷◌, [], Option, None, Some, length, refl, ap, slice_get, subst}
+use Rattle.std.proofs.Common.{◌-◌, [], Option, None, Some, length, refl, ap, slice_get, subst}
 use Rattle.flow_model.specs.States.{outlets}
 use Rattle.flow_floor.specs.Turning.{closed_event}
 use Rattle.flow_floor.proofs.Turnings.{close-deed}

@@ -1,7 +1,6 @@
-use Rattle.std.proofs.Common.{◌∙◌, refl, ap}
+use Rattle.std.proofs.Common.{refl, ap}
 use Rattle.flow_ends.specs.Workers.{view}
 use Rattle.flow_ends.proofs.Came.{at-close, close-output, is-busy}
-use Rattle.flow_ends.proofs.Rolls.{readies-none}
 use Rattle.flow_ends.proofs.floor.Floor.close_turn.Goals as goal
 
 pub arrive-requires-clause-output : goal.arrive-requires-clause-output

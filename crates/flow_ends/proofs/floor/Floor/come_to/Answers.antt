@@ -1,7 +1,4 @@
-use Rattle.std.proofs.Common.{◌≡◌, ◌+◌, Option, None, refl, subst}
-use Rattle.flow_ends.specs.declared.board.Sending.{Sending}
-use Rattle.flow_ends.specs.declared.ends.End.{End}
-use Rattle.flow_ends.specs.Bursting.{IsAtOutput}
+use Rattle.std.proofs.Common.{◌+◌, refl}
 use Rattle.flow_ends.specs.Ends.{capacities_of}
 use Rattle.flow_ends.specs.Views.{looked}
 use Rattle.flow_ends.specs.Workers.{view}

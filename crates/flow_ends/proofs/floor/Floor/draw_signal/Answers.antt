@@ -1,5 +1,4 @@
-use Rattle.std.proofs.Common.{◌≡◌, ◌+◌, ◌≤◌, ◌∙◌, refl, sym, ap, subst, arith, inr, Option}
-use Rattle.flow_ring.specs.Words.{level_in}
+use Rattle.std.proofs.Common.{◌+◌, ◌≤◌, ◌∙◌, refl, sym, ap, subst, arith, inr, Option}
 use Rattle.flow_ends.specs.declared.board.Receiving.{Receiving}
 use Rattle.flow_ends.specs.Ends.{MayDraw}
 use Rattle.flow_ends.specs.Plays.{drawn_count}

@@ -1,4 +1,4 @@
-use Rattle.std.proofs.Common.{◌∷◌, [], None, length, refl, ap}
+use Rattle.std.proofs.Common.{[], None, length, refl, ap}
 use Rattle.flow_model.specs.Events.{Hears_end}
 use Rattle.flow_machine.specs.declared.answers.Effect.TheVariants as effects
 use Rattle.flow_machine.proofs.Pairs.{body-turn}

@@ -1,4 +1,4 @@
-use Rattle.std.proofs.Common.{◌∙◌, refl, ap}
+use Rattle.std.proofs.Common.{refl, ap}
 use Rattle.flow_model.specs.Verdicts.{waits_for}
 use Rattle.flow_machine.specs.FitNets.{FitNet}
 use Rattle.flow_ends.specs.Workers.{view}

@@ -1,4 +1,4 @@
-use Rattle.std.proofs.Common.{◌≡◌, None, refl, subst}
+use Rattle.std.proofs.Common.{refl}
 use Rattle.flow_ends.specs.Ends.{capacities_of}
 use Rattle.flow_ends.specs.Views.{exiting}
 use Rattle.flow_ends.specs.Workers.{view}

@@ -1,4 +1,4 @@
-use Rattle.std.proofs.Common.{◌≡◌, ◌+◌, ◌<◌, ◌≤◌, ◌∙◌, ◌∷◌, [], None, Some, refl, sym, ap, subst, arith, Option}
+use Rattle.std.proofs.Common.{◌+◌, ◌∙◌, [], None, Some, refl, sym, ap, subst, arith, Option}
 use Rattle.std.specs.Option.{option_map}
 use Rattle.flow_ring.specs.Words.{level_in}
 use Rattle.flow_ends.specs.declared.board.Receiving.{Receiving}

@@ -1,4 +1,4 @@
-use Rattle.std.proofs.Common.{◌∙◌, sym, inl}
+use Rattle.std.proofs.Common.{◌∙◌, sym}
 use Rattle.flow_ends.specs.Workers.{view}
 use Rattle.flow_ends.proofs.Looking.{finds-held, looks-none}
 use Rattle.flow_ends.proofs.Midways.{midway-held}

@@ -1,4 +1,4 @@
-use Rattle.std.proofs.Common.{◌≡◌, ◌+◌, ◌∙◌, ap, arith}
+use Rattle.std.proofs.Common.{◌+◌, ◌∙◌, ap, arith}
 use Rattle.flow_ends.specs.Ends.{capacities_of}
 use Rattle.flow_ends.proofs.Bursting.{burst-thought, goes-then}
 use Rattle.flow_ends.proofs.floor.Floor.pass.Goals as goal

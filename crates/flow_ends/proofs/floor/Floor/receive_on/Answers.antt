@@ -1,4 +1,4 @@
-use Rattle.std.proofs.Common.{◌≡◌, ◌+◌, Some, inl, refl, sym, subst}
+use Rattle.std.proofs.Common.{◌+◌, Some, inl, refl, sym, subst}
 use Rattle.flow_ends.specs.declared.floor.Held.{Held}
 use Rattle.flow_ends.specs.Bursting.{IsInBurst}
 use Rattle.flow_ends.specs.Ends.{capacities_of}

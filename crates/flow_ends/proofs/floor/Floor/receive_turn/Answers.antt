@@ -1,4 +1,4 @@
-use Rattle.std.proofs.Common.{◌≡◌, ◌+◌, ◌<◌, ◌≤◌, ◌∙◌, ◌∷◌, [], None, Some, refl, sym, ap, subst, arith, inl, Option}
+use Rattle.std.proofs.Common.{◌≡◌, ◌+◌, ◌<◌, ◌∙◌, [], refl, sym, ap, subst, arith, inl, Option}
 use Rattle.flow_ring.specs.Words.{level_in, senders_in}
 use Rattle.flow_floor.proofs.Came.{waits-empty}
 use Rattle.flow_ends.specs.declared.board.Receiving.{Receiving}
@@ -6,8 +6,7 @@ use Rattle.flow_ends.specs.Ends.{MayDraw}
 use Rattle.flow_ends.specs.Plays.{drawn_count}
 use Rattle.flow_ends.specs.Views.{seeing}
 use Rattle.flow_ends.specs.Workers.{view}
-use Rattle.flow_ends.proofs.Came.{is-made, kept-after}
-use Rattle.flow_ends.proofs.Rolls.{readies-after, readies-none}
+use Rattle.flow_ends.proofs.Came.{kept-after}
 use Rattle.flow_ends.proofs.Idles.{empty-seen}
 use Rattle.flow_ends.proofs.Looking.{not-none}
 use Rattle.flow_ends.proofs.Holding.{held-seated}

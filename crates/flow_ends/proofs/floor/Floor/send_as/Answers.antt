@@ -1,7 +1,5 @@
-use Rattle.std.proofs.Common.{◌≡◌, ◌+◌, ◌<◌, ◌≤◌, ◌∷◌, [], None, Some, get_or, length, refl, sym, ap, ◌∙◌, subst, arith, ℕ, List, Option}
+use Rattle.std.proofs.Common.{◌≡◌, ◌+◌, [], None, Some, get_or, length, refl, sym, ap, ◌∙◌, subst, arith, ℕ, List, Option}
 use Rattle.flow_model.specs.Events.{Sends}
-use Rattle.flow_machine.specs.Nets.{BodyTurn}
-use Rattle.flow_ring.specs.Words.{level_in}
 use Rattle.flow_ends.specs.declared.board.Receiving.{Receiving}
 use Rattle.flow_ends.specs.declared.board.Sending.{Sending}
 use Rattle.flow_ends.specs.declared.floor.Held.{Held}

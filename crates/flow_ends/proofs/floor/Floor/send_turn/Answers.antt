@@ -1,4 +1,4 @@
-use Rattle.std.proofs.Common.{◌≡◌, ◌+◌, ◌≤◌, ◌∙◌, ◌∷◌, [], None, Some, refl, ap, arith}
+use Rattle.std.proofs.Common.{◌∙◌, [], None, Some, refl, ap, arith}
 use Rattle.flow_machine.specs.Nets.{packet_wished}
 use Rattle.flow_floor.proofs.Came.{waits-full}
 use Rattle.flow_ends.specs.Ends.{sending_at}

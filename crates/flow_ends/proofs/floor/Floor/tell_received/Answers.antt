@@ -1,4 +1,4 @@
-use Rattle.std.proofs.Common.{◌≡◌, ◌<◌, ◌≤◌, ◌∙◌, ℕ, List, [], ◌++◌, All, Option, None, Some, ap, arith, drop, length, refl, slice_get, subst, sym}
+use Rattle.std.proofs.Common.{◌≡◌, ◌<◌, ◌∙◌, ℕ, List, ◌++◌, All, Option, None, Some, ap, arith, drop, length, refl, slice_get, subst, sym}
 use Rattle.flow_plan.specs.declared.plan.Sender.{Sender}
 use Rattle.flow_floor.specs.Sending.{sending_processes, senders_at}
 use Rattle.flow_floor.proofs.Planned.{senders-few, senders_at-is}

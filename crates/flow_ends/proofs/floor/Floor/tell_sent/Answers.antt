@@ -1,4 +1,4 @@
-use Rattle.std.proofs.Common.{◌≡◌, ◌<◌, ◌∙◌, ℕ, List, [], ◌++◌, Option, None, Some, ap, append-nil, refl, subst, sym}
+use Rattle.std.proofs.Common.{◌∙◌, ℕ, List, [], ◌++◌, Option, None, Some, ap, append-nil, refl, subst, sym}
 use Rattle.flow_floor.specs.Sending.{receiver_at}
 use Rattle.flow_floor.proofs.Seats.{get-exists}
 use Rattle.flow_ends.specs.declared.ends.End.{End}

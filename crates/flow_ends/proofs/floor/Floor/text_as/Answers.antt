@@ -1,4 +1,4 @@
-use Rattle.std.proofs.Common.{◌∷◌, [], None, length, refl, ap, slice_get}
+use Rattle.std.proofs.Common.{[], None, length, refl, ap, slice_get}
 use Rattle.flow_model.specs.Events.{is_fresh}
 use Rattle.flow_machine.specs.Effects.{text_event}
 use Rattle.flow_floor.proofs.Texts.{text-deed}

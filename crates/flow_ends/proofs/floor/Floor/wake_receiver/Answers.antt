@@ -1,8 +1,7 @@
-use Rattle.std.proofs.Common.{◌≡◌, ◌<◌, ◌∙◌, [], ◌∷◌, Option, Some, refl, slice_get, subst}
+use Rattle.std.proofs.Common.{◌≡◌, ◌∙◌, [], ◌∷◌, Option, Some, slice_get, subst}
 use Rattle.flow_floor.proofs.Planned.{receiver_at-is}
 use Rattle.flow_ends.specs.declared.ends.End.{End}
 use Rattle.flow_ends.specs.Bursting.{receivers_of, IsEndBelow}
-use Rattle.flow_ends.specs.Workers.{view}
 use Rattle.flow_ends.proofs.Holding.{first-noted}
 use Rattle.flow_ends.proofs.Planned.{connection-at, receiver-low}
 use Rattle.flow_ends.proofs.Settling.{receivers-some}
