@@ -7,13 +7,13 @@ use Rattle.flow_machine.specs.declared.answers.Over.TheVariants as overs
 use Rattle.flow_machine.specs.declared.answers.Case.TheVariants as cases
 use Rattle.flow_machine.specs.Thoughts.{IsSet}
 use Rattle.flow_machine.proofs.NetTurns.{case-is}
-use Rattle.flow_ends.specs.declared.board.View.{View}
-use Rattle.flow_ends.specs.declared.floor.Floor.{Floor}
-use Rattle.flow_ends.specs.declared.floor.Worker.{Worker}
-use Rattle.flow_ends.specs.declared.floor.Held.{Held}
-use Rattle.flow_ends.specs.Bursts.{turns_from}
-use Rattle.flow_ends.specs.Floors.{IsOverAs, IsStuckAt}
-use Rattle.flow_ends.specs.Workers.{IsSameSeat}
+use Rattle.flow_floor.specs.declared.board.View.{View}
+use Rattle.flow_floor.specs.declared.floor.Floor.{Floor}
+use Rattle.flow_floor.specs.declared.floor.Worker.{Worker}
+use Rattle.flow_floor.specs.declared.floor.Held.{Held}
+use Rattle.flow_floor.specs.Bursts.{turns_from}
+use Rattle.flow_floor.specs.Floors.{IsOverAs, IsStuckAt}
+use Rattle.flow_floor.specs.Workers.{IsSameSeat}
 
 -- A process that has no further turn, and whose body is set, is over and was told its end, and may be retired as such.
 pub over-as : {K : Type 0} (over : Over) (h : Held K) → IsSet h.body → case_of h.body.process ≡ Some (cases.Over over) → IsOverAs over h

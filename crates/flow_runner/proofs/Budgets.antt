@@ -6,9 +6,9 @@ use Rattle.std.proofs.lemmas.List.Sums.{sum_by-cons}
 use Rattle.flow_component.specs.Laws.{Rules}
 use Rattle.flow_machine.specs.Values.{NetValue}
 use Rattle.flow_machine.specs.Logs.{Logged, turns_made}
-use Rattle.flow_ends.specs.declared.floor.Worker.{Worker}
-use Rattle.flow_ends.specs.Crew.{made_by}
-use Rattle.flow_ends.specs.Floors.{SomeReadZero, IsNewWorker, turns_of}
+use Rattle.flow_floor.specs.declared.floor.Worker.{Worker}
+use Rattle.flow_floor.specs.Crew.{made_by}
+use Rattle.flow_floor.specs.Floors.{SomeReadZero, IsNewWorker, turns_of}
 use Rattle.flow_floor.specs.Made.{numbered, insert, merge}
 use Rattle.flow_floor.specs.Shut.{IsShut}
 use Rattle.flow_runner.specs.Attempts.{HasMade, HasSpent}

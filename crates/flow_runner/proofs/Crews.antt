@@ -4,12 +4,12 @@ use Rattle.std.proofs.Math.Seq.{take-append_seam}
 use Rattle.flow_component.specs.Laws.{Rules}
 use Rattle.flow_machine.specs.Values.{NetValue}
 use Rattle.flow_machine.specs.Solo.{ReachesNet}
-use Rattle.flow_ends.specs.declared.floor.Floor.{Floor}
-use Rattle.flow_ends.specs.declared.floor.Worker.{Worker}
-use Rattle.flow_ends.specs.Floors.{IsCrewOf, IsIdleAt, HasSameShare, HasReadZero}
+use Rattle.flow_floor.specs.declared.floor.Floor.{Floor}
+use Rattle.flow_floor.specs.declared.floor.Worker.{Worker}
+use Rattle.flow_floor.specs.Floors.{IsCrewOf, IsIdleAt, HasSameShare, HasReadZero}
 use Rattle.flow_floor.specs.Shut.{IsShut}
 use Rattle.flow_floor.specs.Made.{merge}
-use Rattle.flow_ends.proofs.Crews.{crew-each}
+use Rattle.flow_floor.proofs.Crews.{crew-each}
 use Rattle.flow_runner.specs.Crews.{MergeToAll}
 
 -- What a slice of a whole list was written back.

@@ -1,9 +1,9 @@
 -- What workers who served came to, each by itself and together.
 use Rattle.std.proofs.Common.{◌≡◌, ℕ, zero, suc, ◌<◌, List, [], ◌∷◌, ◌++◌, All, refl, length, get_or, map, ap, subst, ◌∙◌, arith, inl, inr, Option, Some, None, sym}
 use Rattle.std.proofs.lemmas.List.{length-map}
-use Rattle.flow_ends.specs.declared.floor.Floor.{Floor}
-use Rattle.flow_ends.specs.declared.floor.Worker.{Worker}
-use Rattle.flow_ends.specs.Floors.{turns_of, HasReadZero, IsIdleAt, IsNewWorker}
+use Rattle.flow_floor.specs.declared.floor.Floor.{Floor}
+use Rattle.flow_floor.specs.declared.floor.Worker.{Worker}
+use Rattle.flow_floor.specs.Floors.{turns_of, HasReadZero, IsIdleAt, IsNewWorker}
 use Rattle.flow_runner.specs.declared.server.Server.{Server}
 use Rattle.flow_runner.specs.declared.line.Line.{Line}
 use Rattle.flow_runner.specs.Lines.{IsPassAt}

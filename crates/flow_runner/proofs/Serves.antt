@@ -1,8 +1,8 @@
 -- What a worker asked for and made ready, and what it popped and pushed.
 use Rattle.std.proofs.Common.{◌≡◌, ℕ, ◌<◌, List, [], ◌∷◌, ◌++◌, All, sym, ap, subst, ◌∙◌, append-nil, append_assoc}
-use Rattle.flow_ends.specs.declared.floor.Floor.{Floor}
-use Rattle.flow_ends.specs.declared.floor.Worker.{Worker}
-use Rattle.flow_ends.specs.Floors.{asked_of, process_count, readied_of, woken_of, Readies}
+use Rattle.flow_floor.specs.declared.floor.Floor.{Floor}
+use Rattle.flow_floor.specs.declared.floor.Worker.{Worker}
+use Rattle.flow_floor.specs.Floors.{asked_of, process_count, readied_of, woken_of, Readies}
 use Rattle.flow_runner.specs.declared.line.Line.{Line}
 use Rattle.flow_runner.specs.declared.line.LinePass.{LinePass}
 use Rattle.flow_runner.specs.Lines.{line_room, pops_of, pushes_of, IsPassAt}

@@ -1,9 +1,9 @@
 -- What an attempt at turns says of the process.
 use Rattle.std.specs.Prelude.{◌≡◌, ℕ, ◌+◌, ◌≤◌, ◌⊎◌, List, length}
-use Rattle.flow_ends.specs.declared.floor.Floor.{Floor}
-use Rattle.flow_ends.specs.declared.floor.Worker.{Worker}
-use Rattle.flow_ends.specs.declared.floor.Held.{Held}
-use Rattle.flow_ends.specs.Floors.{IsStuckAt, IsOverAs, HasReadZero, turns_of}
+use Rattle.flow_floor.specs.declared.floor.Floor.{Floor}
+use Rattle.flow_floor.specs.declared.floor.Worker.{Worker}
+use Rattle.flow_floor.specs.declared.floor.Held.{Held}
+use Rattle.flow_floor.specs.Floors.{IsStuckAt, IsOverAs, HasReadZero, turns_of}
 use Rattle.flow_runner.specs.declared.work.Attempt.{Attempt}
 use Rattle.flow_runner.specs.declared.work.Attempt.TheVariants as attempts
 

@@ -1,7 +1,7 @@
 -- The workers of a run that is over, and the turns that each of them made.
 use Rattle.std.specs.Prelude.{◌≡◌, ℕ, ◌+◌, List, [], ◌∷◌, map, length}
-use Rattle.flow_ends.specs.declared.floor.Worker.{Worker}
-use Rattle.flow_ends.specs.Crew.{made_by}
+use Rattle.flow_floor.specs.declared.floor.Worker.{Worker}
+use Rattle.flow_floor.specs.Crew.{made_by}
 use Rattle.flow_floor.specs.Made.{merge}
 use Rattle.flow_runner.specs.declared.worked.Crew.{Crew}
 

@@ -1,8 +1,8 @@
 -- What a worker that serves a line has done: what it asked for is what it popped, and what it made ready is what it pushed.
 use Rattle.std.specs.Prelude.{◌≡◌, ℕ, List, ◌++◌, map, Option, Some, None}
-use Rattle.flow_ends.specs.declared.floor.Floor.{Floor}
-use Rattle.flow_ends.specs.declared.floor.Worker.{Worker}
-use Rattle.flow_ends.specs.Floors.{asked_of, readied_of, process_count, HasReadZero, IsIdleAt}
+use Rattle.flow_floor.specs.declared.floor.Floor.{Floor}
+use Rattle.flow_floor.specs.declared.floor.Worker.{Worker}
+use Rattle.flow_floor.specs.Floors.{asked_of, readied_of, process_count, HasReadZero, IsIdleAt}
 use Rattle.flow_runner.specs.declared.line.Line.{Line}
 use Rattle.flow_runner.specs.declared.line.LinePass.{LinePass}
 use Rattle.flow_runner.specs.declared.server.Server.{Server}

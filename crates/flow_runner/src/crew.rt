@@ -10,7 +10,7 @@ use crate::together::make_turns;
 use crate::turns::Turns;
 use crate::worked::{Crew, Worked};
 use flow_component::{Component, Gate};
-use flow_ends::{Floor, OpenStop, Opened, Worker};
+use flow_floor::{Floor, OpenStop, Opened, Worker};
 use flow_limits::WORKER_LIMIT;
 use flow_machine::{Closed, Net};
 use std::alloc::Global;

@@ -8,7 +8,7 @@ ghost use Rattle.std.specs.Prelude.{◌≡◌, ◌+◌, ◌*◌, ◌≤◌, ◌�
 use crate::crew::RunStop;
 use crate::together::make_turns;
 use flow_component::{Component, Gate};
-use flow_ends::{Floor, OpenStop, Opened};
+use flow_floor::{Floor, OpenStop, Opened};
 use flow_limits::WORKER_LIMIT;
 use flow_machine::{Closed, Net};
 use std::alloc::Global;

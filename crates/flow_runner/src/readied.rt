@@ -1,12 +1,12 @@
 //! How a worker tells the line whom it made ready.
-ghost use Rattle.flow_ends.specs.Floors.{woken_of};
+ghost use Rattle.flow_floor.specs.Floors.{woken_of};
 ghost use Rattle.flow_runner.specs.Lines.{IsPassAt, line_room, pops_of, pushes_of};
 ghost use Rattle.flow_runner.specs.Serving.{KeepsPass};
 ghost use Rattle.std.specs.Prelude.{◌≡◌, ◌<◌, ◌++◌, [], ◌∷◌, All};
 
 use crate::line::{Line, LinePass};
 use flow_component::Component;
-use flow_ends::Worker;
+use flow_floor::Worker;
 use std::sync::Wait;
 
 /// Pushes the process, again and again until it is in the line.

@@ -2,7 +2,7 @@
 
 use crate::line::LinePass;
 use flow_component::Component;
-use flow_ends::Worker;
+use flow_floor::Worker;
 
 /// A worker, with its pass of the line.
 #[derive(Drop)]

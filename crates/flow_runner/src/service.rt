@@ -1,5 +1,5 @@
 //! What one worker does.
-ghost use Rattle.flow_ends.specs.Floors.{HasReadZero, HasSameShare, IsIdleAt, process_count, turns_of};
+ghost use Rattle.flow_floor.specs.Floors.{HasReadZero, HasSameShare, IsIdleAt, process_count, turns_of};
 ghost use Rattle.flow_runner.specs.Attempts.{HasSpent, Spends};
 ghost use Rattle.flow_runner.specs.Lines.{IsPassAt};
 ghost use Rattle.flow_runner.specs.Serving.{Follows, HasServed, IsLineFor};
@@ -9,7 +9,7 @@ use crate::line::{Line, LinePass};
 use crate::rest::Rest;
 use crate::work::tend;
 use flow_component::{Component, Gate};
-use flow_ends::{Floor, Worker};
+use flow_floor::{Floor, Worker};
 use std::sync::Wait;
 
 /// Tends the first process of the line. Where there is none, or it had to be left, the worker rests; but true, and no rest: it read 0, so no process will

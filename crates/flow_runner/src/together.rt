@@ -1,5 +1,5 @@
 //! All workers of a floor, each in a thread of its own.
-ghost use Rattle.flow_ends.specs.Floors.{HasReadZero, HasSameShare, IsCrewOf, IsIdleAt, IsNewWorker, process_count, turns_of};
+ghost use Rattle.flow_floor.specs.Floors.{HasReadZero, HasSameShare, IsCrewOf, IsIdleAt, IsNewWorker, process_count, turns_of};
 ghost use Rattle.flow_limits.specs.declared.TheConstants.{PROCESS_LIMIT, WORKER_LIMIT};
 ghost use Rattle.flow_runner.specs.Lines.{IsPassAt, line_room};
 ghost use Rattle.flow_runner.specs.Serving.{HasDone, HasServed, IsAtLine, IsLineFor, workers_at};
@@ -10,7 +10,7 @@ use crate::readied::push_surely;
 use crate::server::Server;
 use crate::service::serve;
 use flow_component::{Component, Gate};
-use flow_ends::{Floor, Worker};
+use flow_floor::{Floor, Worker};
 use std::alloc::{AllocError, Global};
 use std::sync::Wait;
 use std::thread;

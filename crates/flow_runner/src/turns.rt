@@ -2,7 +2,7 @@
 ghost use Rattle.std.specs.Prelude.{ℕ, List};
 
 use flow_component::Component;
-use flow_ends::Worker;
+use flow_floor::Worker;
 use std::marker::Model;
 
 /// The turns that each of some workers made, in the order of the workers: each turn by its stamp and its process. It has no bytes, and says nothing of the

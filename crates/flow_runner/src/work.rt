@@ -1,5 +1,5 @@
 //! What a worker does with one process.
-ghost use Rattle.flow_ends.specs.Floors.{BurstsAt, IsHeldAt, IsIdleAt, IsSameWorker, IsWiredAt, HasSameShare, Readies, asked_of, process_count, turns_of};
+ghost use Rattle.flow_floor.specs.Floors.{BurstsAt, IsHeldAt, IsIdleAt, IsSameWorker, IsWiredAt, HasSameShare, Readies, asked_of, process_count, turns_of};
 ghost use Rattle.flow_machine.specs.Thoughts.{IsSet, PassesFirst};
 ghost use Rattle.flow_runner.specs.Attempts.{Adds, MayGo, Spends};
 ghost use Rattle.flow_runner.specs.Lines.{IsPassAt};
@@ -9,7 +9,7 @@ ghost use Rattle.std.specs.Prelude.{◌≡◌, ◌<◌, ◌≤◌, ◌++◌, [],
 use crate::line::{Line, LinePass};
 use crate::readied::push_woken;
 use flow_component::{Component, Gate};
-use flow_ends::{Burst, Claim, Floor, Held, Worker};
+use flow_floor::{Burst, Claim, Floor, Held, Worker};
 use flow_limits::RUN_LIMIT;
 use flow_machine::{Over, Thought};
 use std::sync::Wait;

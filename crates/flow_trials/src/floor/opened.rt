@@ -1,9 +1,9 @@
 //! A reader and a writer on a floor, with two workers.
-ghost use Rattle.flow_ends.specs.Floors.{HasRoomsFor, IsCrewOf, IsIdleAt, process_count};
+ghost use Rattle.flow_floor.specs.Floors.{HasRoomsFor, IsCrewOf, IsIdleAt, process_count};
 ghost use Rattle.std.specs.Prelude.{◌≡◌, ◌∷◌, []};
 
 use flow_catalogue::Std;
-use flow_ends::{Floor, OpenStop, Opened, Rooms, Worker};
+use flow_floor::{Floor, OpenStop, Opened, Rooms, Worker};
 use flow_rig::started;
 use std::alloc::Global;
 use std::process::Abort;

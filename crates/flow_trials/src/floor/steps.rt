@@ -1,9 +1,9 @@
 //! The floor's calls, each with the answer that is wanted of it.
-ghost use Rattle.flow_ends.specs.Floors.{HasSameShare, IsHeldAt, IsIdleAt, IsStuckAt, IsWiredAt, process_count};
+ghost use Rattle.flow_floor.specs.Floors.{HasSameShare, IsHeldAt, IsIdleAt, IsStuckAt, IsWiredAt, process_count};
 ghost use Rattle.std.specs.Prelude.{◌≡◌, ◌<◌};
 
 use flow_component::{Component, NoGate};
-use flow_ends::{Claim, Floor, Held, Turned, Worker};
+use flow_floor::{Claim, Floor, Held, Turned, Worker};
 use flow_machine::{Block, Thought};
 use std::process::Abort;
 

@@ -1,6 +1,6 @@
 use Rattle.std.proofs.Common.{sym, ap, ◌∙◌, subst}
 use Rattle.flow_machine.specs.Solo.{ReachesNet}
-use Rattle.flow_ends.specs.Floors.{opened_net}
+use Rattle.flow_floor.specs.Floors.{opened_net}
 use Rattle.flow_floor.specs.Shut.{IsShut}
 use Rattle.flow_runner.specs.Crews.{HasWorkers, merged, turns_of_crew}
 use Rattle.flow_runner.proofs.Crews.{merge-to-all, shut-reaches}

@@ -1,5 +1,5 @@
 use Rattle.std.proofs.Common.{◌≡◌, ◌++◌, take}
-use Rattle.flow_ends.specs.Floors.{woken_of}
+use Rattle.flow_floor.specs.Floors.{woken_of}
 use Rattle.flow_runner.specs.Lines.{pops_of, pushes_of}
 use Rattle.flow_runner.specs.Serving.{KeepsPass}
 use Rattle.flow_runner.proofs.readied.push_woken.Given as goal

@@ -1,4 +1,4 @@
-use Rattle.flow_ends.specs.Floors.{IsIdleAt, HasSameShare, turns_of}
+use Rattle.flow_floor.specs.Floors.{IsIdleAt, HasSameShare, turns_of}
 use Rattle.flow_runner.specs.Attempts.{Spends}
 use Rattle.flow_runner.specs.Serving.{Follows}
 use Rattle.flow_runner.proofs.service.serve_for.Given as goal

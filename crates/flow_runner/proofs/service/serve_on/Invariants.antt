@@ -1,4 +1,4 @@
-use Rattle.flow_ends.specs.Floors.{IsIdleAt, HasSameShare}
+use Rattle.flow_floor.specs.Floors.{IsIdleAt, HasSameShare}
 use Rattle.flow_runner.specs.Serving.{Follows}
 use Rattle.flow_runner.proofs.service.serve_on.Given as goal
 

@@ -1,6 +1,6 @@
 use denote.Param.Send.{sendable}
 use Rattle.std.proofs.Common.{◌<◌, length, get_or, arith}
-use Rattle.flow_ends.proofs.Crews.{crew-each}
+use Rattle.flow_floor.proofs.Crews.{crew-each}
 use Rattle.flow_runner.proofs.Crews.{has-kept}
 use Rattle.flow_runner.proofs.Served.{served-as, served-idle, served-new}
 use Rattle.flow_runner.proofs.Crossing.{worker-send, floor-sync}

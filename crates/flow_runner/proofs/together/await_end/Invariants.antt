@@ -1,5 +1,5 @@
 use Rattle.std.proofs.Common.{◌≡◌}
-use Rattle.flow_ends.specs.Floors.{HasSameShare, IsIdleAt, turns_of}
+use Rattle.flow_floor.specs.Floors.{HasSameShare, IsIdleAt, turns_of}
 use Rattle.flow_runner.proofs.together.await_end.Given as goal
 
 -- the worker holds nothing, has its share, and makes no turn

@@ -1,5 +1,5 @@
 use Rattle.std.proofs.Common.{◌∙◌, length, rules, sym, ap, subst}
-use Rattle.flow_ends.specs.Floors.{IsCrewOf}
+use Rattle.flow_floor.specs.Floors.{IsCrewOf}
 use Rattle.flow_runner.proofs.Crews.{written}
 use Rattle.flow_runner.proofs.together.make_turns.Goals as goal
 

@@ -1,8 +1,8 @@
 use denote.Param.Send.{sendable}
 use Rattle.std.proofs.Common.{◌<◌, length, get_or, arith, ap, sym, subst}
 use Rattle.std.proofs.lemmas.List.{length-map}
-use Rattle.flow_ends.proofs.Crews.{crew-each}
-use Rattle.flow_ends.specs.Floors.{IsIdleAt, HasSameShare}
+use Rattle.flow_floor.proofs.Crews.{crew-each}
+use Rattle.flow_floor.specs.Floors.{IsIdleAt, HasSameShare}
 use Rattle.flow_runner.specs.Serving.{HasServed, workers_at}
 use Rattle.flow_runner.proofs.Crews.{has-kept}
 use Rattle.flow_runner.proofs.Served.{each-worker, same-count, served-as, served-new}

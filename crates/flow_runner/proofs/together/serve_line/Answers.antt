@@ -1,5 +1,5 @@
 use Rattle.std.proofs.Common.{◌∙◌, All, length, length-append, rules, sym, ap, subst}
-use Rattle.flow_ends.specs.Floors.{IsCrewOf, IsNewWorker}
+use Rattle.flow_floor.specs.Floors.{IsCrewOf, IsNewWorker}
 use Rattle.flow_runner.specs.Serving.{HasDone, IsAtLine, workers_at}
 use Rattle.flow_runner.proofs.Crews.{written}
 use Rattle.flow_runner.proofs.Served.{each-at, same-count}

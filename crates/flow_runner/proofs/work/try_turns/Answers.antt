@@ -1,5 +1,5 @@
 use Rattle.std.proofs.Common.{sym, subst}
-use Rattle.flow_ends.specs.Floors.{IsOverAs}
+use Rattle.flow_floor.specs.Floors.{IsOverAs}
 use Rattle.flow_runner.proofs.Attempts.{burst-adds, over-as, stuck-still}
 use Rattle.flow_runner.proofs.work.try_turns.Goals as goal
 

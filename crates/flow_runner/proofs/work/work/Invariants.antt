@@ -1,4 +1,4 @@
-use Rattle.flow_ends.specs.Floors.{IsHeldAt, IsWiredAt, IsSameWorker, turns_of}
+use Rattle.flow_floor.specs.Floors.{IsHeldAt, IsWiredAt, IsSameWorker, turns_of}
 use Rattle.flow_runner.specs.Attempts.{Spends}
 use Rattle.flow_runner.specs.Serving.{Pushes}
 use Rattle.flow_runner.proofs.work.work.Given as goal

@@ -1,5 +1,5 @@
 use Rattle.std.proofs.Common.{arith, ◌∙◌, [], ◌∷◌, All, sym, ap, subst, sum_by, length, length-append}
-use Rattle.flow_ends.proofs.Crews.{all-push}
+use Rattle.flow_floor.proofs.Crews.{all-push}
 use Rattle.flow_runner.specs.Lines.{IsPassAt, IsNewPass, parts_of}
 use Rattle.flow_runner.proofs.Fairs.{forks}
 use Rattle.flow_runner.proofs.Lined.{sum-push}

@@ -1,5 +1,5 @@
 use Rattle.std.proofs.Common.{◌≡◌, ℕ, ◌+◌, List, [], ◌∷◌, ◌++◌, length, length-append, refl, sym, ap, ◌∙◌, subst, arith}
-use Rattle.flow_ends.specs.Floors.{IsCrewOf}
+use Rattle.flow_floor.specs.Floors.{IsCrewOf}
 use Rattle.flow_trials.proofs.floor.opened.opened.Goals as goal
 
 -- a list of two that ends with these

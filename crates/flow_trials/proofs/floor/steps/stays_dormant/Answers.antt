@@ -1,5 +1,5 @@
 use Rattle.std.proofs.Common.{sym, subst}
-use Rattle.flow_ends.specs.Floors.{IsStuckAt}
+use Rattle.flow_floor.specs.Floors.{IsStuckAt}
 use Rattle.flow_trials.proofs.floor.steps.stays_dormant.Goals as goal
 
 pub turn-requires-clause-held : goal.turn-requires-clause-held
