@@ -4,7 +4,7 @@ ghost use Rattle.flow_component.specs.declared.Wish.TheVariants.{Receive};
 ghost use Rattle.flow_model.specs.States.{From, output_at};
 ghost use Rattle.flow_model.specs.declared.Stage.TheVariants.{Wishing};
 ghost use Rattle.flow_machine.specs.Nets.{SendsAt};
-ghost use Rattle.flow_machine.specs.Thoughts.{HasRoom, IsSet};
+ghost use Rattle.flow_machine.specs.Thoughts.{HasRoom, IsSet, PassesFirst};
 ghost use Rattle.flow_machine.specs.Values.{BodyValue};
 ghost use Rattle.flow_floor.specs.Law.{Rests};
 ghost use Rattle.flow_floor.specs.Bursting.{turns_at, GoesOn, IsEndAt};
@@ -28,6 +28,7 @@ impl<K: Component> Held<K> {
         ensures rests { Rests K.rules self.old.body self.new.body }
         ensures process { self.new.process ≡ self.old.process }
         ensures wired { (f : Floor _) → IsWiredAt f self.old → IsWiredAt f self.new }
+        ensures passed { PassesFirst (G.has_passed gate.now) self.old.body }
     {
         match self.think(gate) {
             Thought::Wishing => true,
