@@ -24,8 +24,9 @@ over-as overs.Starved h set is = absurd (case-is h.body.process (cases.Over over
 -- The turns of a burst are as many turns more.
 pub burst-adds : (p first count : ℕ) (old new : List (ℕ × ℕ)) → new ≡ old ++ turns_from p first count → length new ≡ length old + count
 burst-adds p first count old new is =
-    let more : length (turns_from p first count) ≡ count = length-map-range_with_len {X = ℕ × ℕ} (λ (stamp : ℕ). (stamp, p)) first count in
-    omega (arith, ap (λ (xs : List (ℕ × ℕ)). length xs) is, length-append old (turns_from p first count), more)
+    let at : ℕ → ℕ × ℕ = λ stamp. (stamp, p) in
+    let many : length (turns_from p first count) ≡ count = length-map-range_with_len at first count in
+    omega (arith, ap (λ (xs : List (ℕ × ℕ)). length xs) is, length-append old (turns_from p first count), many)
 
 module _ {K : Type 0} where
   -- What blocked a body still does after a call that left the body as it was.
