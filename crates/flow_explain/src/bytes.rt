@@ -76,7 +76,7 @@ fn meant(rest: &[u8], line: &[u8], version: u32) -> Option<&'static str> {
         b'*' => meant_star(rest, version),
         b',' => Some(meant_comma(behind(rest, 1))),
         b'.' | b'/' | b'\\' | b'~' => Some(meant_point(line)),
-        0x80.. => Some(meant_letter(rest)),
+        0x80..=0xff => Some(meant_letter(rest)),
         _ => meant_sign(byte),
     }
 }

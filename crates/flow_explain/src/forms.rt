@@ -222,13 +222,7 @@ fn sender_slip(word: &[u8], left: &[Piece<'_>]) -> Option<&'static str> {
     }
     match left {
         [Piece::Arrow, ..] => Some(lone_slip(word)),
-        [
-            Piece::Open,
-            Piece::Word(_),
-            Piece::Close,
-            Piece::Arrow,
-            ..
-        ] => Some(NO_OUTPUT),
+        [Piece::Open, Piece::Word(_), Piece::Close, Piece::Arrow, ..] => Some(NO_OUTPUT),
         _ => None,
     }
 }

@@ -154,9 +154,7 @@ fn is_said(said: &Said<'_>, wanted: &Wanted<'_>) -> bool {
         Wanted::Process(process) => mentions(said, process),
         Wanted::Kind(process) => mentions_kind(said, process),
         Wanted::Port(side, process, port) => is_port(said.mention(*side), process, port),
-        Wanted::Behind(process, port, element) => {
-            mentions_behind(said, process, port, *element)
-        }
+        Wanted::Behind(process, port, element) => { mentions_behind(said, process, port, *element) }
         Wanted::Text(process, port) => gives_text(said, process, port),
         Wanted::Capacity(input) => gives_capacity(said, input),
         Wanted::Subnet(name) => begins_subnet(said, name),

@@ -39,12 +39,9 @@ fn pass<'a>(
 }
 
 // Whether a line gives the kind of this subnet; another kind that it gives is met.
-fn meets<'a>(
-    met: &mut Vec<&'a [u8]>,
-    subnet: &[u8],
-    said: &Said<'a>,
-) -> Result<bool, AllocError> {
-    let (from, to) = (kind(said.from), kind(said.to));
+fn meets<'a>(met: &mut Vec<&'a [u8]>, subnet: &[u8], said: &Said<'a>) -> Result<bool, AllocError> {
+    let from = kind(said.from);
+    let to = kind(said.to);
     if from == subnet || to == subnet {
         return Ok(true);
     }

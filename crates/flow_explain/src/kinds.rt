@@ -136,11 +136,7 @@ pub fn put_names(
 }
 
 // The names but for the one that was put first.
-fn put_others(
-    page: &mut String,
-    names: &[&[u8]],
-    first: Option<&[u8]>,
-) -> Result<(), AllocError> {
+fn put_others(page: &mut String, names: &[&[u8]], first: Option<&[u8]>) -> Result<(), AllocError> {
     let mut between = if first.is_some() { ", " } else { "" };
     for name in names {
         if first != Some(*name) {

@@ -117,7 +117,7 @@ fn count(spelling: &[u8], counted: Counted) -> usize {
 fn is_refused(alloc: Global, net: &[u8], own: OwnKinds<'_>, fault: &ExpandFault) -> bool {
     match open_network(alloc, net, own) {
         Ok(opened) => has_fault(&opened, fault),
-        Err(AllocError) => false,
+        Err(_) => false,
     }
 }
 

@@ -389,10 +389,7 @@ fn put_second_capacity<'a>(
 }
 
 // The line before this one that gave the same connection a capacity.
-fn first_capacity<'a>(
-    net: Net<'a>,
-    found: &Found<'a>,
-) -> Result<Option<Found<'a>>, AllocError> {
+fn first_capacity<'a>(net: Net<'a>, found: &Found<'a>) -> Result<Option<Found<'a>>, AllocError> {
     let Some(to) = found.said.to else {
         return Ok(None);
     };

@@ -89,12 +89,7 @@ struct Room {
 
 impl Room {
     // Text, and bytes behind it that are none.
-    fn put_chunk(
-        &mut self,
-        page: &mut String,
-        text: &str,
-        bytes: &[u8],
-    ) -> Result<(), AllocError> {
+    fn put_chunk(&mut self, page: &mut String, text: &str, bytes: &[u8]) -> Result<(), AllocError> {
         self.put_text(page, text)?;
         self.put_bytes(page, bytes)
     }
