@@ -213,18 +213,16 @@ const NOTHING: Said<'static> = Said {
     to: None,
 };
 
-const END: Said<'static> = Said {
-    tag: Tag::End,
-    ..NOTHING
-};
-
 // What a line says that begins with this word of the language.
 fn said_behind<'a>(word: Reserved, left: &[Piece<'a>]) -> Said<'a> {
     let mut rest = Rest { left };
     match word {
         Reserved::Flow => rest.header(),
         Reserved::Subnet => rest.named(Tag::Subnet),
-        Reserved::End => END,
+        Reserved::End => Said {
+            tag: Tag::End,
+            ..NOTHING
+        },
         Reserved::Inport => rest.named(Tag::OuterInput),
         Reserved::Outport => rest.outer_output(),
     }
