@@ -103,7 +103,8 @@ fn keep(kept: &mut Vec<u8>, line: &[u8]) -> Result<(), AllocError> {
         return Ok(());
     }
     kept.extend_from_slice(line)?;
-    kept.push(b'\n')
+    kept.push(b'\n')?;
+    Ok(())
 }
 
 fn count(spelling: &[u8], counted: Counted) -> usize {

@@ -35,7 +35,11 @@ pub fn put_refusal<R: Files<File = File> + Eprint + Drop>(
 }
 
 // The bytes of the file of this name, where it is a regular one that can be read.
-fn bytes_of<R: Files<File = File> + Drop>(alloc: Global, rt: &R, name: &str) -> Option<Vec<u8>> {
+fn bytes_of<R: Files<File = File> + Eprint + Drop>(
+    alloc: Global,
+    rt: &R,
+    name: &str,
+) -> Option<Vec<u8>> {
     if !is_regular(rt, name) {
         return None;
     }
