@@ -1,15 +1,13 @@
 // Calls over files in memory: runs and checks to their last byte, refusals, and stops.
-use flow_cli::{Outcome, OwnKind, needs_workers, network, plain_top};
-use flow_own::Part;
-use flow_text::{MemShelf, MemSink, Shelf, Sink};
-use std::alloc::{AllocError, Global};
+use crate::called::{Called, call, check_call, check_file};
+use crate::checks::same;
+use crate::memory::{put, put_owned, shelf, sink, words};
+use flow_text::MemShelf;
+use std::alloc::Global;
 use std::process::Abort;
-use std::test::Fail;
 
 mod automatic;
 mod journal_files;
-
-const ROOM: usize = 33_554_432;
 
 const CHAIN: &[u8] =
     b"flow 1\n'in' -> FILE Read(ReadLines)\nRead OUT -> IN Pass(Passthru)\nPass OUT -> IN Write(WriteLines)\n'out' -> FILE Write\n";
@@ -43,16 +41,12 @@ const BALANCE: &[u8] =
 const USAGE: &[u8] =
     b"usage: flow [--workers N] [--journal FILE] [--check] [--determinate] [--kinds] [--replay FILE] [--make N] [--tapes FILE] [NETFILE]\n";
 
-fn file(alloc: Global, name: &str, bytes: &[u8]) -> Result<(String, Vec<u8>), AllocError> {
-    Ok((String::from_str(alloc, name)?, bytes.to_vec(alloc)?))
-}
-
 /// A call on the network file `net`, whose input files are `in` and `b` and whose output file is `out`.
 #[derive(Clone, Copy)]
 struct Row {
     net: &'static [u8],
-    /// The flag that stands before the network file's name, where there is one.
-    flag: &'static str,
+    /// The words of the call.
+    line: &'static [&'static str],
     input: &'static [u8],
     second: &'static [u8],
     piece: usize,
@@ -68,7 +62,7 @@ struct Row {
 
 const ROW: Row = Row {
     net: CHAIN,
-    flag: "",
+    line: &["net"],
     input: b"x\n",
     second: b"",
     piece: 65_536,
@@ -88,397 +82,373 @@ const STILL: Row = Row {
     ..ROW
 };
 
-fn words(alloc: Global, flag: &str) -> Result<Vec<String>, AllocError> {
-    let mut words = Vec::new(alloc);
-    if !flag.is_empty() {
-        words.push(String::from_str(alloc, flag)?)?;
-    }
-    words.push(String::from_str(alloc, "net")?)?;
-    Ok(words)
+/// A network file that is checked.
+const CHECKED: Row = Row {
+    line: &["--check", "net"],
+    ..STILL
+};
+
+/// A network file that is judged.
+const JUDGED: Row = Row {
+    line: &["--determinate", "net"],
+    status: 0,
+    ..STILL
+};
+
+fn shelf_of(rt: &impl Abort, alloc: Global, row: &Row) -> MemShelf {
+    let mut files = Vec::new(alloc);
+    put(rt, alloc, &mut files, "net", row.net);
+    put(rt, alloc, &mut files, "in", row.input);
+    put(rt, alloc, &mut files, "b", row.second);
+    shelf(rt, alloc, files, row.piece, row.read_fail, row.write_fail)
 }
 
-fn run_row(rt: &impl Abort, alloc: Global, row: Row) -> Result<(), Fail> {
-    assert!(rt; row.piece >= 1);
-    let files = vec![in alloc;
-        file(alloc, "net", row.net)?,
-        file(alloc, "in", row.input)?,
-        file(alloc, "b", row.second)?,
-    ]?;
-    let read_fails = vec![in alloc; row.read_fail]?;
-    let write_fails = vec![in alloc; row.write_fail]?;
-    let mut shelf = MemShelf::new(alloc, files, row.piece, ROOM, read_fails, write_fails);
-    let mut out = MemSink::new(alloc, row.piece, ROOM, Vec::new(alloc))?;
-    let words = words(alloc, row.flag)?;
-    let outcome = call(rt, alloc, &words, &mut shelf, &mut out)?;
-    assert_eq!(rt; out.bytes(), row.printed);
-    assert_eq!(rt; outcome.status.code(), row.status);
-    assert_eq!(rt; outcome.journal.turns.len(), row.turns);
-    assert!(rt; shelf.file("out") == row.output);
-    Ok(())
+fn call_row(rt: &impl Abort, alloc: Global, row: &Row) -> Called {
+    let words = words(rt, alloc, row.line);
+    let shelf = shelf_of(rt, alloc, row);
+    let out = sink(rt, alloc, row.piece, 0);
+    call(rt, alloc, &words, shelf, out)
 }
 
-#[test]
-fn networks_run(rt: HostRuntime) -> Result<(), Fail> {
-    let rows = [
-        ROW,
-        Row {
-            net: OTHER_NAMES,
-            input: b"x\r\nyy",
-            piece: 1,
-            output: Some(b"x\nyy\n"),
-            printed: b"verdict finished\nprocess A1 ReadLines ended turns 6 made 2 dropped 0 left 0\nprocess b_2 Passthru ended turns 9 made 0 dropped 0 left 0\nprocess C WriteLines ended turns 6 made 0 dropped 2 left 0\nconnection b_2.IN capacity 10 puts 2 takes 2 left 0\nconnection C.IN capacity 10 puts 2 takes 2 left 0\ntotal turns 21 made 2 dropped 2 left 0\n",
-            turns: 21,
-            ..ROW
-        },
-        Row {
-            input: b"",
-            output: Some(b""),
-            printed: b"verdict finished\nprocess Read ReadLines ended turns 4 made 0 dropped 0 left 0\nprocess Pass Passthru ended turns 2 made 0 dropped 0 left 0\nprocess Write WriteLines ended turns 1 made 0 dropped 0 left 0\nconnection Pass.IN capacity 10 puts 0 takes 0 left 0\nconnection Write.IN capacity 10 puts 0 takes 0 left 0\ntotal turns 7 made 0 dropped 0 left 0\n",
-            turns: 7,
-            ..ROW
-        },
-        // The call behind the last read of the inputs would fail, and none comes.
-        Row {
-            read_fail: 7,
-            ..ROW
-        },
-        Row {
-            net: MERGE,
-            input: b"a1\na2\n",
-            second: b"b1\nb2\n",
-            output: Some(b"a1\na2\nb1\nb2\n"),
-            printed: b"verdict finished\nprocess A ReadLines ended turns 6 made 2 dropped 0 left 0\nprocess B ReadLines ended turns 6 made 2 dropped 0 left 0\nprocess W WriteLines ended turns 8 made 0 dropped 4 left 0\nconnection W.IN capacity 10 puts 4 takes 4 left 0\ntotal turns 20 made 4 dropped 4 left 0\n",
-            turns: 20,
-            ..ROW
-        },
-        Row {
-            net: CIRCLE,
-            status: 4,
-            output: None,
-            printed: b"verdict deadlock\nprocess A Passthru idle turns 0 made 0 dropped 0 left 0\nprocess B Passthru idle turns 0 made 0 dropped 0 left 0\nconnection B.IN capacity 10 puts 0 takes 0 left 0\nconnection A.IN capacity 10 puts 0 takes 0 left 0\nblocked A dormant\nblocked B dormant\nwaits A for B at A.IN\nwaits B for A at B.IN\ntotal turns 0 made 0 dropped 0 left 0\n",
-            turns: 0,
-            ..ROW
-        },
-        Row {
-            net: b"flow 1\n",
-            output: None,
-            printed: b"verdict finished\ntotal turns 0 made 0 dropped 0 left 0\n",
-            turns: 0,
-            ..ROW
-        },
-    ];
+fn run_row(rt: &impl Abort, alloc: Global, row: &Row) {
+    let called = call_row(rt, alloc, row);
+    check_call(rt, &called, row.printed, row.status);
+    same(rt, "turns", called.turns, row.turns);
+    check_file(rt, &called, "out", row.output);
+}
+
+fn run_rows(rt: &impl Abort, alloc: Global, rows: &[Row]) {
     for row in rows {
-        run_row(&rt, rt.alloc(), row)?;
+        run_row(rt, alloc, row);
     }
-    Ok(())
+}
+
+const RUNS: &[Row] = &[
+    ROW,
+    Row {
+        net: OTHER_NAMES,
+        input: b"x\r\nyy",
+        piece: 1,
+        output: Some(b"x\nyy\n"),
+        printed: b"verdict finished\nprocess A1 ReadLines ended turns 6 made 2 dropped 0 left 0\nprocess b_2 Passthru ended turns 9 made 0 dropped 0 left 0\nprocess C WriteLines ended turns 6 made 0 dropped 2 left 0\nconnection b_2.IN capacity 10 puts 2 takes 2 left 0\nconnection C.IN capacity 10 puts 2 takes 2 left 0\ntotal turns 21 made 2 dropped 2 left 0\n",
+        turns: 21,
+        ..ROW
+    },
+    Row {
+        input: b"",
+        output: Some(b""),
+        printed: b"verdict finished\nprocess Read ReadLines ended turns 4 made 0 dropped 0 left 0\nprocess Pass Passthru ended turns 2 made 0 dropped 0 left 0\nprocess Write WriteLines ended turns 1 made 0 dropped 0 left 0\nconnection Pass.IN capacity 10 puts 0 takes 0 left 0\nconnection Write.IN capacity 10 puts 0 takes 0 left 0\ntotal turns 7 made 0 dropped 0 left 0\n",
+        turns: 7,
+        ..ROW
+    },
+    // The call behind the last read of the inputs would fail, and none comes.
+    Row {
+        read_fail: 7,
+        ..ROW
+    },
+    Row {
+        net: MERGE,
+        input: b"a1\na2\n",
+        second: b"b1\nb2\n",
+        output: Some(b"a1\na2\nb1\nb2\n"),
+        printed: b"verdict finished\nprocess A ReadLines ended turns 6 made 2 dropped 0 left 0\nprocess B ReadLines ended turns 6 made 2 dropped 0 left 0\nprocess W WriteLines ended turns 8 made 0 dropped 4 left 0\nconnection W.IN capacity 10 puts 4 takes 4 left 0\ntotal turns 20 made 4 dropped 4 left 0\n",
+        turns: 20,
+        ..ROW
+    },
+    Row {
+        net: CIRCLE,
+        status: 4,
+        output: None,
+        printed: b"verdict deadlock\nprocess A Passthru idle turns 0 made 0 dropped 0 left 0\nprocess B Passthru idle turns 0 made 0 dropped 0 left 0\nconnection B.IN capacity 10 puts 0 takes 0 left 0\nconnection A.IN capacity 10 puts 0 takes 0 left 0\nblocked A dormant\nblocked B dormant\nwaits A for B at A.IN\nwaits B for A at B.IN\ntotal turns 0 made 0 dropped 0 left 0\n",
+        turns: 0,
+        ..ROW
+    },
+    Row {
+        net: b"flow 1\n",
+        output: None,
+        printed: b"verdict finished\ntotal turns 0 made 0 dropped 0 left 0\n",
+        turns: 0,
+        ..ROW
+    },
+];
+
+#[test]
+fn networks_run(rt: HostRuntime) {
+    run_rows(&rt, rt.alloc(), RUNS);
+}
+
+const CHECKS: &[Row] = &[
+    Row {
+        net: COPY,
+        status: 0,
+        printed: COPY_SPELLED,
+        ..CHECKED
+    },
+    Row {
+        net: b"flow 1\nP(X)\n",
+        printed: b"network refused: unknown kind X of P\n",
+        ..CHECKED
+    },
+];
+
+#[test]
+fn checks_spell_the_network_file(rt: HostRuntime) {
+    run_rows(&rt, rt.alloc(), CHECKS);
+}
+
+const JUDGEMENTS: &[Row] = &[
+    Row {
+        net: TELEGRAM,
+        printed: b"determinate yes\n",
+        ..JUDGED
+    },
+    Row {
+        net: COPY,
+        printed: b"determinate yes\n",
+        ..JUDGED
+    },
+    Row {
+        net: MERGE,
+        printed: b"determinate no\n",
+        ..JUDGED
+    },
+    Row {
+        net: BALANCE,
+        printed: b"determinate no\n",
+        ..JUDGED
+    },
+    Row {
+        net: b"flow 1\nP(X)\n",
+        status: 3,
+        printed: b"network refused: unknown kind X of P\n",
+        ..JUDGED
+    },
+];
+
+#[test]
+fn judges_tell_what_is_determinate(rt: HostRuntime) {
+    run_rows(&rt, rt.alloc(), JUDGEMENTS);
+}
+
+/// The page of kinds over a shelf that gives nothing, where this write fails; 0 where none does.
+fn kinds_printed(rt: &impl Abort, alloc: Global, print_fail: u64) -> Called {
+    let words = words(rt, alloc, &["--kinds"]);
+    let shelf = shelf(rt, alloc, Vec::new(alloc), 64, 1, 0);
+    let out = sink(rt, alloc, 64, print_fail);
+    call(rt, alloc, &words, shelf, out)
+}
+
+fn begins(called: &Called, bytes: &[u8]) -> bool {
+    called.out.bytes().starts_with(bytes)
 }
 
 #[test]
-fn checks_spell_the_network_file(rt: HostRuntime) -> Result<(), Fail> {
-    let rows = [
-        Row {
-            net: COPY,
-            flag: "--check",
-            status: 0,
-            printed: COPY_SPELLED,
-            ..STILL
-        },
-        Row {
-            net: b"flow 1\nP(X)\n",
-            flag: "--check",
-            printed: b"network refused: unknown kind X of P\n",
-            ..STILL
-        },
-    ];
-    for row in rows {
-        run_row(&rt, rt.alloc(), row)?;
-    }
-    Ok(())
+fn the_page_of_kinds_touches_no_file(rt: HostRuntime) {
+    let called = kinds_printed(&rt, rt.alloc(), 0);
+    same(&rt, "status", called.status, 0);
+    assert!(rt; begins(&called, b"ReadLines: sends the lines of a file\n"));
 }
 
 #[test]
-fn judges_tell_what_is_determinate(rt: HostRuntime) -> Result<(), Fail> {
-    let rows: [(&[u8], u8, &[u8]); 5] = [
-        (TELEGRAM, 0, b"determinate yes\n"),
-        (COPY, 0, b"determinate yes\n"),
-        (MERGE, 0, b"determinate no\n"),
-        (BALANCE, 0, b"determinate no\n"),
-        (
-            b"flow 1\nP(X)\n",
-            3,
-            b"network refused: unknown kind X of P\n",
-        ),
-    ];
-    for (net, status, printed) in rows {
-        let row = Row {
-            net,
-            flag: "--determinate",
-            status,
-            printed,
-            ..STILL
-        };
-        run_row(&rt, rt.alloc(), row)?;
-    }
-    Ok(())
-}
-
-/// The page of kinds over a shelf that gives nothing, where these writes fail: the status, and whether what was printed begins with the first kind.
-fn kinds_printed(rt: &impl Abort, alloc: Global, fails: Vec<u64>) -> Result<(u8, bool), Fail> {
-    let words = vec![in alloc; String::from_str(alloc, "--kinds")?]?;
-    let none = Vec::new(alloc);
-    let read_fails = vec![in alloc; 1]?;
-    let mut shelf = MemShelf::new(alloc, none, 64, ROOM, read_fails, Vec::new(alloc));
-    let mut out = MemSink::new(alloc, 64, ROOM, fails)?;
-    let outcome = call(rt, alloc, &words, &mut shelf, &mut out)?;
-    let begins = out
-        .bytes()
-        .starts_with(b"ReadLines: sends the lines of a file\n");
-    Ok((outcome.status.code(), begins))
-}
-
-#[test]
-fn the_page_of_kinds_touches_no_file(rt: HostRuntime) -> Result<(), Fail> {
-    let (status, begins) = kinds_printed(&rt, rt.alloc(), Vec::new(rt.alloc()))?;
-    assert_eq!(rt; status, 0);
-    assert!(rt; begins);
-    Ok(())
-}
-
-#[test]
-fn a_page_of_kinds_that_is_not_printed_is_a_write_fault(rt: HostRuntime) -> Result<(), Fail> {
-    let fails = vec![in rt.alloc(); 1]?;
-    let (status, _) = kinds_printed(&rt, rt.alloc(), fails)?;
-    assert_eq!(rt; status, 7);
-    Ok(())
+fn a_page_of_kinds_that_is_not_printed_is_a_write_fault(rt: HostRuntime) {
+    let called = kinds_printed(&rt, rt.alloc(), 1);
+    same(&rt, "status", called.status, 7);
 }
 
 /// A network file, and what is said of its refusal.
-fn refuse(
-    rt: &impl Abort,
-    alloc: Global,
-    net: &'static [u8],
-    printed: &'static [u8],
-) -> Result<(), Fail> {
-    run_row(
-        rt,
-        alloc,
-        Row {
-            net,
-            printed,
-            ..STILL
-        },
-    )
+type Refusal = (&'static [u8], &'static [u8]);
+
+fn refuse(rt: &impl Abort, alloc: Global, (net, printed): &Refusal) {
+    let row = Row {
+        net: *net,
+        printed: *printed,
+        ..STILL
+    };
+    run_row(rt, alloc, &row);
 }
 
-#[test]
-fn lines_are_refused(rt: HostRuntime) -> Result<(), Fail> {
-    let rows: [(&[u8], &[u8]); 9] = [
-        (b"", b"network refused: line 1: header\n"),
-        (
-            b"flow 1\nA OUT -> -> IN B",
-            b"network refused: line 2: form\n",
-        ),
-        (
-            b"flow 1\nA OUT -> (03) IN B\n",
-            b"network refused: line 2: number\n",
-        ),
-        (
-            b"flow 1\nAaaaaaaaaaaaaaaaaaaaaaaaaaaaaaaaaaaaaaaaaaaaaaaaaaaaaaaaaaaaaaaaa(X)\n",
-            b"network refused: line 2: name\n",
-        ),
-        (
-            b"flow 1\n'in -> FILE A\n",
-            b"network refused: line 2: quote\n",
-        ),
-        (b"flow 1\nA;B\n", b"network refused: line 2: byte\n"),
-        (b"flow 1\nsubnet S\n", b"network refused: line 2: subnet\n"),
-        (
-            b"flow 1\n'in' -> FILE A(ReadLines)\nA OUT -> IN A(Passthru)\n",
-            b"network refused: line 3: kind\n",
-        ),
-        (
-            b"flow 1\nM(S)\nsubnet S\nP(S)\nend\n",
-            b"network refused: recursive subnet S\n",
-        ),
-    ];
-    for (net, printed) in rows {
-        refuse(&rt, rt.alloc(), net, printed)?;
-    }
-    Ok(())
-}
-
-#[test]
-fn networks_are_refused(rt: HostRuntime) -> Result<(), Fail> {
-    let rows: [(&[u8], &[u8]); 4] = [
-        (
-            b"flow 1\nR(ReadLines) OUT -> IN W(WriteLines)\nR OUT -> IN W\n",
-            b"network refused: port taken R.OUT\n",
-        ),
-        (
-            b"flow 1\n'in' -> FILE R(ReadLines)\nR OUT -> IN W(WriteLines)\n",
-            b"network refused: port missing W.FILE\n",
-        ),
-        (b"flow 1\nP(X)\n", b"network refused: unknown kind X of P\n"),
-        (
-            b"flow 1\nR(ReadLines) OUT[1] -> IN W(WriteLines)\n",
-            b"network refused: unknown port R.OUT[1]\n",
-        ),
-    ];
-    for (net, printed) in rows {
-        refuse(&rt, rt.alloc(), net, printed)?;
-    }
-    Ok(())
-}
-
-#[test]
-fn stops_leave_their_text(rt: HostRuntime) -> Result<(), Fail> {
-    let rows = [
-        Row {
-            input: b"hello world\n",
-            piece: 5,
-            write_fail: 3,
-            status: 7,
-            output: Some(b"hello"),
-            printed: b"write fault: out\n",
-            ..ROW
-        },
-        Row {
-            read_fail: 6,
-            status: 6,
-            printed: b"read fault: in\n",
-            ..STILL
-        },
-    ];
+fn refuse_all(rt: &impl Abort, alloc: Global, rows: &[Refusal]) {
     for row in rows {
-        run_row(&rt, rt.alloc(), row)?;
+        refuse(rt, alloc, row);
     }
-    Ok(())
+}
+
+const LINES: &[Refusal] = &[
+    (b"", b"network refused: line 1: header\n"),
+    (
+        b"flow 1\nA OUT -> -> IN B",
+        b"network refused: line 2: form\n",
+    ),
+    (
+        b"flow 1\nA OUT -> (03) IN B\n",
+        b"network refused: line 2: number\n",
+    ),
+    (
+        b"flow 1\nAaaaaaaaaaaaaaaaaaaaaaaaaaaaaaaaaaaaaaaaaaaaaaaaaaaaaaaaaaaaaaaaa(X)\n",
+        b"network refused: line 2: name\n",
+    ),
+    (
+        b"flow 1\n'in -> FILE A\n",
+        b"network refused: line 2: quote\n",
+    ),
+    (b"flow 1\nA;B\n", b"network refused: line 2: byte\n"),
+    (b"flow 1\nsubnet S\n", b"network refused: line 2: subnet\n"),
+    (
+        b"flow 1\n'in' -> FILE A(ReadLines)\nA OUT -> IN A(Passthru)\n",
+        b"network refused: line 3: kind\n",
+    ),
+    (
+        b"flow 1\nM(S)\nsubnet S\nP(S)\nend\n",
+        b"network refused: recursive subnet S\n",
+    ),
+];
+
+#[test]
+fn lines_are_refused(rt: HostRuntime) {
+    refuse_all(&rt, rt.alloc(), LINES);
+}
+
+const NETWORKS: &[Refusal] = &[
+    (
+        b"flow 1\nR(ReadLines) OUT -> IN W(WriteLines)\nR OUT -> IN W\n",
+        b"network refused: port taken R.OUT\n",
+    ),
+    (
+        b"flow 1\n'in' -> FILE R(ReadLines)\nR OUT -> IN W(WriteLines)\n",
+        b"network refused: port missing W.FILE\n",
+    ),
+    (b"flow 1\nP(X)\n", b"network refused: unknown kind X of P\n"),
+    (
+        b"flow 1\nR(ReadLines) OUT[1] -> IN W(WriteLines)\n",
+        b"network refused: unknown port R.OUT[1]\n",
+    ),
+];
+
+#[test]
+fn networks_are_refused(rt: HostRuntime) {
+    refuse_all(&rt, rt.alloc(), NETWORKS);
+}
+
+const STOPS: &[Row] = &[
+    Row {
+        input: b"hello world\n",
+        piece: 5,
+        write_fail: 3,
+        status: 7,
+        output: Some(b"hello"),
+        printed: b"write fault: out\n",
+        ..ROW
+    },
+    Row {
+        read_fail: 6,
+        status: 6,
+        printed: b"read fault: in\n",
+        ..STILL
+    },
+];
+
+#[test]
+fn stops_leave_their_text(rt: HostRuntime) {
+    run_rows(&rt, rt.alloc(), STOPS);
+}
+
+fn two_chains(rt: &impl Abort, alloc: Global) -> MemShelf {
+    let mut files = Vec::new(alloc);
+    put(rt, alloc, &mut files, "net", TWO_CHAINS);
+    put(rt, alloc, &mut files, "in", b"x\n");
+    shelf(rt, alloc, files, 64, 0, 1)
 }
 
 #[test]
-fn no_file_is_begun_behind_one_that_fails(rt: HostRuntime) -> Result<(), Fail> {
-    let alloc = rt.alloc();
-    let files = vec![in alloc; file(alloc, "net", TWO_CHAINS)?, file(alloc, "in", b"x\n")?]?;
-    let none = Vec::new(alloc);
-    let fails = vec![in alloc; 1]?;
-    let mut shelf = MemShelf::new(alloc, files, 64, ROOM, none, fails);
-    let mut out = MemSink::new(alloc, 64, ROOM, Vec::new(alloc))?;
-    let words = words(alloc, "")?;
-    let outcome = call(&rt, alloc, &words, &mut shelf, &mut out)?;
-    assert_eq!(rt; outcome.status.code(), 7);
-    assert_eq!(rt; out.bytes(), b"write fault: out\n".as_slice());
-    assert!(rt; shelf.file("last").is_none());
-    Ok(())
+fn no_file_is_begun_behind_one_that_fails(rt: HostRuntime) {
+    let words = words(&rt, rt.alloc(), &["net"]);
+    let shelf = two_chains(&rt, rt.alloc());
+    let out = sink(&rt, rt.alloc(), 64, 0);
+    let called = call(&rt, rt.alloc(), &words, shelf, out);
+    check_call(&rt, &called, b"write fault: out\n", 7);
+    check_file(&rt, &called, "last", None);
 }
 
-// What the program does with words that ask for no workers.
-fn call<F: Shelf, O: Sink>(
-    rt: &impl Abort,
-    alloc: Global,
-    words: &[String],
-    shelf: &mut F,
-    out: &mut O,
-) -> Result<Outcome, AllocError> {
-    assert!(rt; !needs_workers(alloc, words)?);
-    let own: Vec<OwnKind<Box<dyn Part + Send>>> = Vec::new(alloc);
-    Ok(plain_top(alloc, words, shelf, out, own))
+fn call_long(rt: &impl Abort, alloc: Global, net: &[u8], input: Vec<u8>) -> Called {
+    let mut files = Vec::new(alloc);
+    put(rt, alloc, &mut files, "net", net);
+    put_owned(rt, alloc, &mut files, "in", input);
+    let words = words(rt, alloc, &["net"]);
+    let shelf = shelf(rt, alloc, files, 1_048_576, 0, 0);
+    let out = sink(rt, alloc, 64, 0);
+    call(rt, alloc, &words, shelf, out)
 }
 
-// Runs a network on this input.
-fn run_long(
-    rt: &impl Abort,
-    alloc: Global,
-    net: &[u8],
-    input: Vec<u8>,
-    status: u8,
-    output: Option<&[u8]>,
-    printed: &[u8],
-) -> Result<(), Fail> {
-    let mut files = vec![in alloc; file(alloc, "net", net)?]?;
-    files.push((String::from_str(alloc, "in")?, input))?;
-    let none = Vec::new(alloc);
-    let mut shelf = MemShelf::new(alloc, files, 1_048_576, ROOM, none, Vec::new(alloc));
-    let mut out = MemSink::new(alloc, 64, ROOM, Vec::new(alloc))?;
-    let words = words(alloc, "")?;
-    let outcome = call(rt, alloc, &words, &mut shelf, &mut out)?;
-    assert_eq!(rt; out.bytes(), printed);
-    assert_eq!(rt; outcome.status.code(), status);
-    assert!(rt; shelf.file("out") == output);
-    Ok(())
+// A line that is longer than a text may be.
+fn long_line(rt: &impl Abort, alloc: Global) -> Vec<u8> {
+    vec![in alloc; b'a'; 1_048_577].expect(rt, "no memory")
 }
+
+// Runs a network on that line: its reader fails.
+fn fail_long(rt: &impl Abort, alloc: Global, net: &[u8], printed: &[u8]) {
+    let called = call_long(rt, alloc, net, long_line(rt, alloc));
+    check_call(rt, &called, printed, 5);
+    check_file(rt, &called, "out", Some(b""));
+}
+
+const CHAIN_FAILED: &[u8] =
+    b"verdict failed\nprocess Read ReadLines failed turns 1 made 0 dropped 0 left 0\nprocess Pass Passthru idle turns 0 made 0 dropped 0 left 0\nprocess Write WriteLines idle turns 0 made 0 dropped 0 left 0\nconnection Pass.IN capacity 10 puts 0 takes 0 left 0\nconnection Write.IN capacity 10 puts 0 takes 0 left 0\nblocked Pass dormant\nblocked Write dormant\nfailed Read text limit 1048577\ntotal turns 1 made 0 dropped 0 left 0\n";
+
+const WRITE_FAILED: &[u8] =
+    b"verdict failed\nprocess Read ReadLines failed turns 1 made 0 dropped 0 left 0\nprocess Write WriteLines idle turns 0 made 0 dropped 0 left 0\nconnection Write.IN capacity 10 puts 0 takes 0 left 0\nblocked Write dormant\nfailed Read text limit 1048577\ntotal turns 1 made 0 dropped 0 left 0\n";
 
 #[test]
-fn long_lines_fail_their_reader(rt: HostRuntime) -> Result<(), Fail> {
-    let alloc = rt.alloc();
-    let rows: [(&[u8], &[u8]); 2] = [
-        (
-            CHAIN,
-            b"verdict failed\nprocess Read ReadLines failed turns 1 made 0 dropped 0 left 0\nprocess Pass Passthru idle turns 0 made 0 dropped 0 left 0\nprocess Write WriteLines idle turns 0 made 0 dropped 0 left 0\nconnection Pass.IN capacity 10 puts 0 takes 0 left 0\nconnection Write.IN capacity 10 puts 0 takes 0 left 0\nblocked Pass dormant\nblocked Write dormant\nfailed Read text limit 1048577\ntotal turns 1 made 0 dropped 0 left 0\n",
-        ),
-        (
-            READ_TO_WRITE,
-            b"verdict failed\nprocess Read ReadLines failed turns 1 made 0 dropped 0 left 0\nprocess Write WriteLines idle turns 0 made 0 dropped 0 left 0\nconnection Write.IN capacity 10 puts 0 takes 0 left 0\nblocked Write dormant\nfailed Read text limit 1048577\ntotal turns 1 made 0 dropped 0 left 0\n",
-        ),
-    ];
-    for (net, printed) in rows {
-        let line = vec![in alloc; b'a'; 1_048_577]?;
-        run_long(&rt, alloc, net, line, 5, Some(b""), printed)?;
-    }
-    Ok(())
+fn long_lines_fail_their_reader(rt: HostRuntime) {
+    fail_long(&rt, rt.alloc(), CHAIN, CHAIN_FAILED);
+    fail_long(&rt, rt.alloc(), READ_TO_WRITE, WRITE_FAILED);
 }
+
+const LINE: &[u8] = b"abcdefghijklmnopqrstuvwxyz0123456789ABCDEFGHIJKLMNOPQRSTUVWXYZ.\n";
 
 // So many lines of 63 bytes, each with its line feed.
-fn many_lines(alloc: Global, count: usize) -> Result<Vec<u8>, AllocError> {
+fn many_lines(rt: &impl Abort, alloc: Global, count: usize) -> Vec<u8> {
     let mut bytes = Vec::new(alloc);
     for _ in 0..count {
-        bytes.extend_from_slice(
-            b"abcdefghijklmnopqrstuvwxyz0123456789ABCDEFGHIJKLMNOPQRSTUVWXYZ.\n",
-        )?;
+        bytes.extend_from_slice(LINE).expect(rt, "no memory");
     }
-    Ok(bytes)
+    bytes
+}
+
+const LONGEST_FINISHED: &[u8] =
+    b"verdict finished\nprocess Read ReadLines ended turns 262148 made 262144 dropped 0 left 0\nprocess Write WriteLines ended turns 262148 made 0 dropped 262144 left 0\nconnection Write.IN capacity 10 puts 262144 takes 262144 left 0\ntotal turns 524296 made 262144 dropped 262144 left 0\n";
+
+fn run_longest(rt: &impl Abort, alloc: Global) {
+    let lines = many_lines(rt, alloc, 262_144);
+    let called = call_long(rt, alloc, READ_TO_WRITE, many_lines(rt, alloc, 262_144));
+    check_call(rt, &called, LONGEST_FINISHED, 0);
+    check_file(rt, &called, "out", Some(&lines));
+}
+
+fn refuse_longer(rt: &impl Abort, alloc: Global) {
+    let mut longer = many_lines(rt, alloc, 262_144);
+    longer.push(b'a').expect(rt, "no memory");
+    let called = call_long(rt, alloc, READ_TO_WRITE, longer);
+    check_call(rt, &called, b"too long: in\n", 9);
+    check_file(rt, &called, "out", None);
 }
 
 #[test]
-fn the_longest_file_runs_and_a_longer_one_is_refused(rt: HostRuntime) -> Result<(), Fail> {
-    let alloc = rt.alloc();
-    let mut longest = many_lines(alloc, 262_144)?;
-    let output = many_lines(alloc, 262_144)?;
-    run_long(
-        &rt,
-        alloc,
-        READ_TO_WRITE,
-        many_lines(alloc, 262_144)?,
-        0,
-        Some(&output),
-        b"verdict finished\nprocess Read ReadLines ended turns 262148 made 262144 dropped 0 left 0\nprocess Write WriteLines ended turns 262148 made 0 dropped 262144 left 0\nconnection Write.IN capacity 10 puts 262144 takes 262144 left 0\ntotal turns 524296 made 262144 dropped 262144 left 0\n",
-    )?;
-    longest.push(b'a')?;
-    run_long(
-        &rt,
-        alloc,
-        READ_TO_WRITE,
-        longest,
-        9,
-        None,
-        b"too long: in\n",
-    )
+fn the_longest_file_runs_and_a_longer_one_is_refused(rt: HostRuntime) {
+    run_longest(&rt, rt.alloc());
+    refuse_longer(&rt, rt.alloc());
+}
+
+fn refuse_words(rt: &impl Abort, alloc: Global, line: &[&str]) {
+    let words = words(rt, alloc, line);
+    let shelf = shelf(rt, alloc, Vec::new(alloc), 1, 0, 0);
+    let out = sink(rt, alloc, 9, 0);
+    let called = call(rt, alloc, &words, shelf, out);
+    check_call(rt, &called, USAGE, 2);
 }
 
 #[test]
-fn other_words_are_refused(rt: HostRuntime) -> Result<(), Fail> {
-    let alloc = rt.alloc();
-    let two = vec![in alloc;
-        String::from_str(alloc, "net")?,
-        String::from_str(alloc, "net")?,
-    ]?;
-    let flag = vec![in alloc; String::from_str(alloc, "-x")?]?;
-    for words in [&Vec::new(alloc), &two, &flag] {
-        let none = Vec::new(alloc);
-        let mut shelf = MemShelf::new(alloc, none, 1, ROOM, Vec::new(alloc), Vec::new(alloc));
-        let mut out = MemSink::new(alloc, 9, ROOM, Vec::new(alloc))?;
-        let outcome = call(&rt, alloc, words, &mut shelf, &mut out)?;
-        assert_eq!(rt; outcome.status.code(), 2);
-        assert_eq!(rt; out.bytes(), USAGE);
-    }
-    Ok(())
+fn other_words_are_refused(rt: HostRuntime) {
+    refuse_words(&rt, rt.alloc(), &[]);
+    refuse_words(&rt, rt.alloc(), &["net", "net"]);
+    refuse_words(&rt, rt.alloc(), &["-x"]);
 }

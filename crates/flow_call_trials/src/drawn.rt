@@ -1,12 +1,11 @@
 //! Drawings over files in memory, to their last byte, and what stops one.
-use flow_draw::{DrawCommand, command, draw_top};
+use crate::checks::same;
+use crate::memory::{put, put_word, shelf, sink};
+use flow_draw::{DrawCommand, DrawStatus, command, draw_top};
 use flow_drawing::Form;
 use flow_text::{MemShelf, MemSink};
-use std::alloc::{AllocError, Global};
+use std::alloc::Global;
 use std::process::Abort;
-use std::test::Fail;
-
-const ROOM: usize = 33_554_432;
 
 const CHAIN: &[u8] =
     b"flow 1\n'in' -> FILE Read(ReadLines)\nRead OUT -> (3) IN Write(WriteLines)\n'out' -> FILE Write\n";
@@ -45,188 +44,210 @@ const ROW: Row = Row {
     told: b"",
 };
 
-fn file(alloc: Global, name: &str, bytes: &[u8]) -> Result<(String, Vec<u8>), AllocError> {
-    Ok((String::from_str(alloc, name)?, bytes.to_vec(alloc)?))
-}
-
 // The words of a line, cut at its blanks.
-fn cut(alloc: Global, line: &str) -> Result<Vec<String>, AllocError> {
+fn cut(rt: &impl Abort, alloc: Global, line: &str) -> Vec<String> {
     let mut words = Vec::new(alloc);
     for word in line.split_whitespace() {
-        words.push(String::from_str(alloc, word)?)?;
+        put_word(rt, alloc, &mut words, word);
     }
-    Ok(words)
+    words
 }
 
-fn run_row(rt: &impl Abort, alloc: Global, row: Row) -> Result<(), Fail> {
-    let files = vec![in alloc;
-        file(alloc, "net", row.net)?,
-        file(alloc, "in", b"x\n")?,
-        file(alloc, "kept", row.kept)?,
-    ]?;
-    let read_fails = vec![in alloc; row.read_fail]?;
-    let print_fails = vec![in alloc; row.print_fail]?;
-    let mut shelf = MemShelf::new(alloc, files, 65_536, ROOM, read_fails, Vec::new(alloc));
-    let mut out = MemSink::new(alloc, 65_536, ROOM, print_fails)?;
-    let words = cut(alloc, row.line)?;
-    let drawn = draw_top(alloc, &words, &mut shelf, &mut out);
-    assert_eq!(rt; drawn.status().code(), row.status);
-    assert_eq!(rt; out.bytes(), row.printed);
-    let told = drawn.text(alloc)?;
-    assert_eq!(rt; told.as_slice(), row.told);
-    Ok(())
+fn shelf_of(rt: &impl Abort, alloc: Global, row: &Row) -> MemShelf {
+    let mut files = Vec::new(alloc);
+    put(rt, alloc, &mut files, "net", row.net);
+    put(rt, alloc, &mut files, "in", b"x\n");
+    put(rt, alloc, &mut files, "kept", row.kept);
+    shelf(rt, alloc, files, 65_536, row.read_fail, 0)
 }
 
-#[test]
-fn networks_and_states_are_drawn(rt: HostRuntime) -> Result<(), Fail> {
-    let rows = [
-        Row {
-            printed: b"graph LR\n\
-                p0[\"Read: ReadLines\"]\n\
-                p1[\"Write: WriteLines\"]\n\
-                o0_0([\"'in'\"]) -->|\"FILE\"| p0\n\
-                o1_0([\"'out'\"]) -->|\"FILE\"| p1\n\
-                p0 -->|\"OUT, IN, capacity 3\"| p1\n",
-            ..ROW
-        },
-        Row {
-            line: "--dot net",
-            printed: b"digraph {\n\
-                rankdir=LR\n\
-                node [shape=box]\n\
-                p0 [label=\"Read: ReadLines\"]\n\
-                p1 [label=\"Write: WriteLines\"]\n\
-                o0_0 [shape=oval, label=\"'in'\"]\n\
-                o0_0 -> p0 [label=\"FILE\"]\n\
-                o1_0 [shape=oval, label=\"'out'\"]\n\
-                o1_0 -> p1 [label=\"FILE\"]\n\
-                p0 -> p1 [label=\"OUT, IN, capacity 3\"]\n\
-                }\n",
-            ..ROW
-        },
-        Row {
-            line: "--journal kept net",
-            net: CIRCLE,
-            printed: b"graph LR\n\
-                p0[\"A: Passthru<br>idle, dormant\"]\n\
-                style p0 stroke:red,stroke-width:3px\n\
-                p1[\"B: Passthru<br>idle, dormant\"]\n\
-                style p1 stroke:red,stroke-width:3px\n\
-                p0 ==>|\"OUT, IN<br>level 0 of 10\"| p1\n\
-                p1 ==>|\"OUT, IN<br>level 0 of 10\"| p0\n",
-            ..ROW
-        },
-        Row {
-            line: "net --journal=kept --dot",
-            kept: ONE,
-            printed: b"digraph {\n\
-                rankdir=LR\n\
-                node [shape=box]\n\
-                p0 [label=\"Read: ReadLines\\nactive\"]\n\
-                p1 [label=\"Write: WriteLines\\nidle, dormant\", style=dashed]\n\
-                o0_0 [shape=oval, label=\"'in'\"]\n\
-                o0_0 -> p0 [label=\"FILE\"]\n\
-                o1_0 [shape=oval, label=\"'out'\"]\n\
-                o1_0 -> p1 [label=\"FILE\"]\n\
-                p0 -> p1 [label=\"OUT, IN, capacity 3\\nlevel 0 of 3\"]\n\
-                }\n",
-            ..ROW
-        },
-    ];
+fn draw(rt: &impl Abort, alloc: Global, row: &Row, out: &mut MemSink) -> DrawStatus {
+    let words = cut(rt, alloc, row.line);
+    let mut shelf = shelf_of(rt, alloc, row);
+    draw_top(alloc, &words, &mut shelf, out)
+}
+
+fn check_drawn(rt: &impl Abort, alloc: Global, row: &Row, drawn: &DrawStatus) {
+    same(rt, "status", drawn.status().code(), row.status);
+    let told = drawn.text(alloc).expect(rt, "no memory");
+    same(rt, "told", told.as_slice(), row.told);
+}
+
+fn run_row(rt: &impl Abort, alloc: Global, row: &Row) {
+    let mut out = sink(rt, alloc, 65_536, row.print_fail);
+    let drawn = draw(rt, alloc, row, &mut out);
+    same(rt, "printed", out.bytes(), row.printed);
+    check_drawn(rt, alloc, row, &drawn);
+}
+
+fn run_rows(rt: &impl Abort, alloc: Global, rows: &[Row]) {
     for row in rows {
-        run_row(&rt, rt.alloc(), row)?;
+        run_row(rt, alloc, row);
     }
-    Ok(())
 }
 
+const DRAWN: &[Row] = &[
+    Row {
+        printed: b"graph LR\n\
+            p0[\"Read: ReadLines\"]\n\
+            p1[\"Write: WriteLines\"]\n\
+            o0_0([\"'in'\"]) -->|\"FILE\"| p0\n\
+            o1_0([\"'out'\"]) -->|\"FILE\"| p1\n\
+            p0 -->|\"OUT, IN, capacity 3\"| p1\n",
+        ..ROW
+    },
+    Row {
+        line: "--dot net",
+        printed: b"digraph {\n\
+            rankdir=LR\n\
+            node [shape=box]\n\
+            p0 [label=\"Read: ReadLines\"]\n\
+            p1 [label=\"Write: WriteLines\"]\n\
+            o0_0 [shape=oval, label=\"'in'\"]\n\
+            o0_0 -> p0 [label=\"FILE\"]\n\
+            o1_0 [shape=oval, label=\"'out'\"]\n\
+            o1_0 -> p1 [label=\"FILE\"]\n\
+            p0 -> p1 [label=\"OUT, IN, capacity 3\"]\n\
+            }\n",
+        ..ROW
+    },
+    Row {
+        line: "--journal kept net",
+        net: CIRCLE,
+        printed: b"graph LR\n\
+            p0[\"A: Passthru<br>idle, dormant\"]\n\
+            style p0 stroke:red,stroke-width:3px\n\
+            p1[\"B: Passthru<br>idle, dormant\"]\n\
+            style p1 stroke:red,stroke-width:3px\n\
+            p0 ==>|\"OUT, IN<br>level 0 of 10\"| p1\n\
+            p1 ==>|\"OUT, IN<br>level 0 of 10\"| p0\n",
+        ..ROW
+    },
+    Row {
+        line: "net --journal=kept --dot",
+        kept: ONE,
+        printed: b"digraph {\n\
+            rankdir=LR\n\
+            node [shape=box]\n\
+            p0 [label=\"Read: ReadLines\\nactive\"]\n\
+            p1 [label=\"Write: WriteLines\\nidle, dormant\", style=dashed]\n\
+            o0_0 [shape=oval, label=\"'in'\"]\n\
+            o0_0 -> p0 [label=\"FILE\"]\n\
+            o1_0 [shape=oval, label=\"'out'\"]\n\
+            o1_0 -> p1 [label=\"FILE\"]\n\
+            p0 -> p1 [label=\"OUT, IN, capacity 3\\nlevel 0 of 3\"]\n\
+            }\n",
+        ..ROW
+    },
+];
+
 #[test]
-fn what_stops_a_drawing_is_told(rt: HostRuntime) -> Result<(), Fail> {
-    let rows = [
-        Row {
-            line: "--png net",
-            status: 2,
-            told: b"usage: draw [--dot] [--journal FILE] NETFILE\n",
-            ..ROW
-        },
-        Row {
-            net: b"flow 1\nA(Passthru) OUT -> IN B(Pasthru)\n",
-            status: 3,
-            told: b"network refused: unknown kind Pasthru of B\n",
-            ..ROW
-        },
-        Row {
-            line: "--journal net net",
-            status: 10,
-            told: b"journal refused: byte 0\n",
-            ..ROW
-        },
-        Row {
-            line: "--journal kept net",
-            net: CIRCLE,
-            kept: ONE,
-            status: 10,
-            told: b"journal refused: entry 0: process 0 blocked\n",
-            ..ROW
-        },
-        Row {
-            line: "absent",
-            status: 6,
-            told: b"read fault: absent\n",
-            ..ROW
-        },
-        Row {
-            read_fail: 2,
-            status: 6,
-            told: b"read fault: net\n",
-            ..ROW
-        },
-        Row {
-            print_fail: 1,
-            status: 7,
-            told: b"write fault: the output\n",
-            ..ROW
-        },
-    ];
+fn networks_and_states_are_drawn(rt: HostRuntime) {
+    run_rows(&rt, rt.alloc(), DRAWN);
+}
+
+const STOPPED: &[Row] = &[
+    Row {
+        line: "--png net",
+        status: 2,
+        told: b"usage: draw [--dot] [--journal FILE] NETFILE\n",
+        ..ROW
+    },
+    Row {
+        net: b"flow 1\nA(Passthru) OUT -> IN B(Pasthru)\n",
+        status: 3,
+        told: b"network refused: unknown kind Pasthru of B\n",
+        ..ROW
+    },
+    Row {
+        line: "--journal net net",
+        status: 10,
+        told: b"journal refused: byte 0\n",
+        ..ROW
+    },
+    Row {
+        line: "--journal kept net",
+        net: CIRCLE,
+        kept: ONE,
+        status: 10,
+        told: b"journal refused: entry 0: process 0 blocked\n",
+        ..ROW
+    },
+    Row {
+        line: "absent",
+        status: 6,
+        told: b"read fault: absent\n",
+        ..ROW
+    },
+    Row {
+        read_fail: 2,
+        status: 6,
+        told: b"read fault: net\n",
+        ..ROW
+    },
+    Row {
+        print_fail: 1,
+        status: 7,
+        told: b"write fault: the output\n",
+        ..ROW
+    },
+];
+
+#[test]
+fn what_stops_a_drawing_is_told(rt: HostRuntime) {
+    run_rows(&rt, rt.alloc(), STOPPED);
+}
+
+const NET: DrawCommand<'static> = DrawCommand {
+    form: Form::Mermaid,
+    net: "net",
+    journal: None,
+};
+
+const DOT: DrawCommand<'static> = DrawCommand {
+    form: Form::Dot,
+    ..NET
+};
+
+const KEPT: DrawCommand<'static> = DrawCommand {
+    journal: Some("j"),
+    ..NET
+};
+
+/// A line, and what it asks for, if anything.
+type Line = (&'static str, Option<DrawCommand<'static>>);
+
+const READ: &[Line] = &[
+    ("net", Some(NET)),
+    ("-- net", Some(NET)),
+    ("--dot net", Some(DOT)),
+    ("net --dot", Some(DOT)),
+    ("--journal j net", Some(KEPT)),
+    ("--journal=j net", Some(KEPT)),
+    ("", None),
+    ("--dot", None),
+    ("net net", None),
+    ("--help", None),
+    ("net --journal", None),
+    ("--dot=yes net", None),
+    ("--dot --dot net", None),
+    ("--replay j net", None),
+];
+
+fn check_line(rt: &impl Abort, alloc: Global, row: &Line) {
+    let (line, wanted) = *row;
+    let words = cut(rt, alloc, line);
+    let read = command(alloc, &words).expect(rt, "no memory");
+    same(rt, line, read, wanted);
+}
+
+fn check_lines(rt: &impl Abort, alloc: Global, rows: &[Line]) {
     for row in rows {
-        run_row(&rt, rt.alloc(), row)?;
+        check_line(rt, alloc, row);
     }
-    Ok(())
 }
 
 #[test]
-fn lines_are_read(rt: HostRuntime) -> Result<(), Fail> {
-    let net = DrawCommand {
-        form: Form::Mermaid,
-        net: "net",
-        journal: None,
-    };
-    let dot = DrawCommand {
-        form: Form::Dot,
-        ..net
-    };
-    let kept = DrawCommand {
-        journal: Some("j"),
-        ..net
-    };
-    let rows = [
-        ("net", Some(net)),
-        ("-- net", Some(net)),
-        ("--dot net", Some(dot)),
-        ("net --dot", Some(dot)),
-        ("--journal j net", Some(kept)),
-        ("--journal=j net", Some(kept)),
-        ("", None),
-        ("--dot", None),
-        ("net net", None),
-        ("--help", None),
-        ("net --journal", None),
-        ("--dot=yes net", None),
-        ("--dot --dot net", None),
-        ("--replay j net", None),
-    ];
-    for (line, want) in rows {
-        let words = cut(rt.alloc(), line)?;
-        assert_eq!(rt; command(rt.alloc(), &words)?, want, "at {line}");
-    }
-    Ok(())
+fn lines_are_read(rt: HostRuntime) {
+    check_lines(&rt, rt.alloc(), READ);
 }

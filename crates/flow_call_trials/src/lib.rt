@@ -4,6 +4,12 @@
 #![tactic(auto)]
 
 #[cfg(test)]
+mod called;
+#[cfg(test)]
 mod calls;
 #[cfg(test)]
+mod checks;
+#[cfg(test)]
 mod drawn;
+#[cfg(test)]
+mod memory;
