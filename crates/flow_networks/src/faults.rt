@@ -1,78 +1,126 @@
 //! The telegram where each call on the outside fails in turn: a fault is named, and what stands behind it is known.
-use crate::run::{NONE, Row, run_refused, run_row};
-use crate::worked::TELEGRAM;
-use std::test::Fail;
+use crate::run::{Row, run_refused, run_row, run_rows};
+use crate::worked::{TELEGRAM, TELEGRAM_INPUT};
+use flow_rig::File;
+use std::alloc::Global;
+use std::process::Abort;
 
 const FILLED: &[u8] = b"To be or not\nto be that\nis the\nquestion\n";
 
-#[test]
-fn each_read_that_fails_names_its_file(rt: HostRuntime) -> Result<(), Fail> {
-    let faults: [&[u8]; 2] = [b"read fault: net\n", b"read fault: in.txt\n"];
-    for (call, printed) in [
-        (1, faults[0]),
-        (2, faults[0]),
-        (3, faults[0]),
-        (4, faults[1]),
-        (5, faults[1]),
-        (6, faults[1]),
-    ] {
-        let row = Row {
-            read_fail: call,
-            status: 6,
-            printed: Some(printed),
-            absent: "out.txt",
-            ..TELEGRAM
-        };
-        run_row(&rt, rt.alloc(), row)?;
-    }
+/// The file in which the telegram is left whole.
+const WHOLE: &[File<'static>] = &[("out.txt", FILLED)];
+
+/// The read call that fails, and what is printed.
+type ReadFault = (u64, &'static [u8]);
+
+const READ_FAULTS: &[ReadFault] = &[
+    (1, b"read fault: net\n"),
+    (2, b"read fault: net\n"),
+    (3, b"read fault: net\n"),
+    (4, b"read fault: in.txt\n"),
+    (5, b"read fault: in.txt\n"),
+    (6, b"read fault: in.txt\n"),
+];
+
+fn fail_read(rt: &impl Abort, alloc: Global, (call, printed): &ReadFault) {
     let row = Row {
-        read_fail: 7,
-        outputs: [("out.txt", FILLED), NONE],
+        read_fail: *call,
+        status: 6,
+        printed: Some(*printed),
+        absent: "out.txt",
         ..TELEGRAM
     };
-    run_row(&rt, rt.alloc(), row)?;
-    Ok(())
+    run_row(rt, alloc, &row);
 }
 
-#[test]
-fn each_write_that_fails_leaves_what_was_taken(rt: HostRuntime) -> Result<(), Fail> {
-    let left: [(u64, &[u8]); 7] = [
-        (1, b"as before\n"),
-        (2, b""),
-        (3, b"To be o"),
-        (4, b"To be or not\nt"),
-        (5, b"To be or not\nto be th"),
-        (6, b"To be or not\nto be that\nis t"),
-        (7, b"To be or not\nto be that\nis the\nques"),
-    ];
-    for (call, bytes) in left {
-        let row = Row {
-            inputs: [TELEGRAM.inputs[0], ("out.txt", b"as before\n"), NONE],
-            piece: 7,
-            write_fail: call,
-            status: 7,
-            printed: Some(b"write fault: out.txt\n"),
-            outputs: [("out.txt", bytes), NONE],
-            ..TELEGRAM
-        };
-        run_row(&rt, rt.alloc(), row)?;
+fn fail_reads(rt: &impl Abort, alloc: Global, rows: &[ReadFault]) {
+    for row in rows {
+        fail_read(rt, alloc, row);
     }
-    let row = Row {
-        piece: 7,
-        write_fail: 8,
-        outputs: [("out.txt", FILLED), NONE],
-        ..TELEGRAM
-    };
-    run_row(&rt, rt.alloc(), row)?;
-    Ok(())
 }
 
+/// A read call that there isn't.
+const READ: Row = Row {
+    read_fail: 7,
+    outputs: WHOLE,
+    ..TELEGRAM
+};
+
 #[test]
-fn an_output_that_fails_leaves_the_files_whole(rt: HostRuntime) -> Result<(), Fail> {
-    let row = Row {
-        status: 7,
-        outputs: [("out.txt", FILLED), NONE],
-        ..TELEGRAM
-    };
-    run_refused(&rt, rt.alloc(), row)
+fn each_read_that_fails_names_its_file(rt: HostRuntime) {
+    fail_reads(&rt, rt.alloc(), READ_FAULTS);
+    run_row(&rt, rt.alloc(), &READ);
+}
+
+/// The write call that fails, and what the file is left with.
+const LEFT: &[Row] = &[
+    Row {
+        write_fail: 1,
+        outputs: &[("out.txt", b"as before\n")],
+        ..UNWRITTEN
+    },
+    Row {
+        write_fail: 2,
+        outputs: &[("out.txt", b"")],
+        ..UNWRITTEN
+    },
+    Row {
+        write_fail: 3,
+        outputs: &[("out.txt", b"To be o")],
+        ..UNWRITTEN
+    },
+    Row {
+        write_fail: 4,
+        outputs: &[("out.txt", b"To be or not\nt")],
+        ..UNWRITTEN
+    },
+    Row {
+        write_fail: 5,
+        outputs: &[("out.txt", b"To be or not\nto be th")],
+        ..UNWRITTEN
+    },
+    Row {
+        write_fail: 6,
+        outputs: &[("out.txt", b"To be or not\nto be that\nis t")],
+        ..UNWRITTEN
+    },
+    Row {
+        write_fail: 7,
+        outputs: &[("out.txt", b"To be or not\nto be that\nis the\nques")],
+        ..UNWRITTEN
+    },
+];
+
+/// A file that is there before, and a write that fails.
+const UNWRITTEN: Row = Row {
+    inputs: &[TELEGRAM_INPUT, ("out.txt", b"as before\n")],
+    piece: 7,
+    status: 7,
+    printed: Some(b"write fault: out.txt\n"),
+    ..TELEGRAM
+};
+
+/// A write call that there isn't.
+const WRITTEN: Row = Row {
+    piece: 7,
+    write_fail: 8,
+    outputs: WHOLE,
+    ..TELEGRAM
+};
+
+#[test]
+fn each_write_that_fails_leaves_what_was_taken(rt: HostRuntime) {
+    run_rows(&rt, rt.alloc(), LEFT);
+    run_row(&rt, rt.alloc(), &WRITTEN);
+}
+
+const UNPRINTED: Row = Row {
+    status: 7,
+    outputs: WHOLE,
+    ..TELEGRAM
+};
+
+#[test]
+fn an_output_that_fails_leaves_the_files_whole(rt: HostRuntime) {
+    run_refused(&rt, rt.alloc(), &UNPRINTED);
 }

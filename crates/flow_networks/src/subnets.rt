@@ -1,52 +1,39 @@
 //! Networks that are written in pieces, and what is against them.
-use crate::run::{NONE, ROW, Row, run_row};
-use std::test::Fail;
+use crate::run::{ROW, Row, run_row, run_rows};
+use std::alloc::Global;
+use std::process::Abort;
+
+const SUBNETS: &[Row] = &[
+    Row {
+        net: b"flow 1\n'in.txt' -> FILE Read(ReadLines)\nRead OUT -> IN T(Tele)\nT OUT -> IN Write(WriteLines)\n'out.txt' -> FILE Write\nsubnet Tele\ninport IN -> IN W(Words)\nW OUT->(20) IN F(Fill)\n'12' -> SIZE F\noutport F OUT -> OUT\nend\n",
+        inputs: &[("in.txt", b"To be or not to be\nthat is the question\n")],
+        printed: Some(
+            b"verdict finished\nprocess Read ReadLines ended turns 6 made 2 dropped 0 left 0\nprocess T.W Words ended turns 17 made 10 dropped 2 left 0\nprocess T.F Fill ended turns 19 made 4 dropped 10 left 0\nprocess Write WriteLines ended turns 8 made 0 dropped 4 left 0\nconnection T.W.IN capacity 10 puts 2 takes 2 left 0\nconnection Write.IN capacity 10 puts 4 takes 4 left 0\nconnection T.F.IN capacity 20 puts 10 takes 10 left 0\ntotal turns 50 made 16 dropped 16 left 0\n",
+        ),
+        outputs: &[("out.txt", b"To be or not\nto be that\nis the\nquestion\n")],
+        ..ROW
+    },
+    // The same with another subnet round it.
+    Row {
+        net: b"flow 1\n'in.txt' -> FILE Read(ReadLines)\nRead OUT -> IN A(Wrap)\nA OUT -> IN Write(WriteLines)\n'out.txt' -> FILE Write\nsubnet Wrap\ninport IN -> IN T(Tele)\noutport T OUT -> OUT\nend\nsubnet Tele\ninport IN -> IN W(Words)\nW OUT->(20) IN F(Fill)\n'12' -> SIZE F\noutport F OUT -> OUT\nend\n",
+        inputs: &[("in.txt", b"To be or not to be\nthat is the question\n")],
+        printed: Some(
+            b"verdict finished\nprocess Read ReadLines ended turns 6 made 2 dropped 0 left 0\nprocess A.T.W Words ended turns 17 made 10 dropped 2 left 0\nprocess A.T.F Fill ended turns 19 made 4 dropped 10 left 0\nprocess Write WriteLines ended turns 8 made 0 dropped 4 left 0\nconnection A.T.W.IN capacity 10 puts 2 takes 2 left 0\nconnection Write.IN capacity 10 puts 4 takes 4 left 0\nconnection A.T.F.IN capacity 20 puts 10 takes 10 left 0\ntotal turns 50 made 16 dropped 16 left 0\n",
+        ),
+        outputs: &[("out.txt", b"To be or not\nto be that\nis the\nquestion\n")],
+        ..ROW
+    },
+];
 
 #[test]
-fn a_subnet_stands_for_its_processes(rt: HostRuntime) -> Result<(), Fail> {
-    let rows = [
-        Row {
-            net: b"flow 1\n'in.txt' -> FILE Read(ReadLines)\nRead OUT -> IN T(Tele)\nT OUT -> IN Write(WriteLines)\n'out.txt' -> FILE Write\nsubnet Tele\ninport IN -> IN W(Words)\nW OUT->(20) IN F(Fill)\n'12' -> SIZE F\noutport F OUT -> OUT\nend\n",
-            inputs: [
-                ("in.txt", b"To be or not to be\nthat is the question\n"),
-                NONE,
-                NONE,
-            ],
-            printed: Some(
-                b"verdict finished\nprocess Read ReadLines ended turns 6 made 2 dropped 0 left 0\nprocess T.W Words ended turns 17 made 10 dropped 2 left 0\nprocess T.F Fill ended turns 19 made 4 dropped 10 left 0\nprocess Write WriteLines ended turns 8 made 0 dropped 4 left 0\nconnection T.W.IN capacity 10 puts 2 takes 2 left 0\nconnection Write.IN capacity 10 puts 4 takes 4 left 0\nconnection T.F.IN capacity 20 puts 10 takes 10 left 0\ntotal turns 50 made 16 dropped 16 left 0\n",
-            ),
-            outputs: [
-                ("out.txt", b"To be or not\nto be that\nis the\nquestion\n"),
-                NONE,
-            ],
-            ..ROW
-        },
-        // The same with another subnet round it.
-        Row {
-            net: b"flow 1\n'in.txt' -> FILE Read(ReadLines)\nRead OUT -> IN A(Wrap)\nA OUT -> IN Write(WriteLines)\n'out.txt' -> FILE Write\nsubnet Wrap\ninport IN -> IN T(Tele)\noutport T OUT -> OUT\nend\nsubnet Tele\ninport IN -> IN W(Words)\nW OUT->(20) IN F(Fill)\n'12' -> SIZE F\noutport F OUT -> OUT\nend\n",
-            inputs: [
-                ("in.txt", b"To be or not to be\nthat is the question\n"),
-                NONE,
-                NONE,
-            ],
-            printed: Some(
-                b"verdict finished\nprocess Read ReadLines ended turns 6 made 2 dropped 0 left 0\nprocess A.T.W Words ended turns 17 made 10 dropped 2 left 0\nprocess A.T.F Fill ended turns 19 made 4 dropped 10 left 0\nprocess Write WriteLines ended turns 8 made 0 dropped 4 left 0\nconnection A.T.W.IN capacity 10 puts 2 takes 2 left 0\nconnection Write.IN capacity 10 puts 4 takes 4 left 0\nconnection A.T.F.IN capacity 20 puts 10 takes 10 left 0\ntotal turns 50 made 16 dropped 16 left 0\n",
-            ),
-            outputs: [
-                ("out.txt", b"To be or not\nto be that\nis the\nquestion\n"),
-                NONE,
-            ],
-            ..ROW
-        },
-    ];
-    for row in rows {
-        run_row(&rt, rt.alloc(), row)?;
-    }
-    Ok(())
+fn a_subnet_stands_for_its_processes(rt: HostRuntime) {
+    run_rows(&rt, rt.alloc(), SUBNETS);
 }
 
-// A network file and the line that refuses it.
-const REFUSED: [(&[u8], &[u8]); 10] = [
+/// A network file, and the line that refuses it.
+type Refusal = (&'static [u8], &'static [u8]);
+
+const REFUSED: &[Refusal] = &[
     // The inner names have the outer ones before them.
     (
         b"flow 1\n'in.txt' -> FILE Read(ReadLines)\nRead OUT -> IN A(Wrap)\nA OUT -> IN Write(WriteLines)\n'out.txt' -> FILE Write\nsubnet Wrap\ninport IN -> IN T(Tele)\noutport T OUT -> OUT\nend\nsubnet Tele\ninport IN -> IN W(Words)\nW OUT -> IN F(Fill)\noutport F OUT -> OUT\nend\n",
@@ -94,31 +81,38 @@ const REFUSED: [(&[u8], &[u8]); 10] = [
     ),
 ];
 
-#[test]
-fn what_is_against_a_network_in_pieces(rt: HostRuntime) -> Result<(), Fail> {
-    for (net, printed) in REFUSED {
-        let row = Row {
-            net,
-            status: 3,
-            printed: Some(printed),
-            ..ROW
-        };
-        run_row(&rt, rt.alloc(), row)?;
+fn refuse(rt: &impl Abort, alloc: Global, (net, printed): &Refusal) {
+    let row = Row {
+        net: *net,
+        status: 3,
+        printed: Some(*printed),
+        ..ROW
+    };
+    run_row(rt, alloc, &row);
+}
+
+fn refuse_all(rt: &impl Abort, alloc: Global, rows: &[Refusal]) {
+    for row in rows {
+        refuse(rt, alloc, row);
     }
-    Ok(())
 }
 
 #[test]
-fn a_check_prints_a_network_in_pieces(rt: HostRuntime) -> Result<(), Fail> {
-    let row = Row {
-        net: b"flow 1\n# a copy, in two steps\n'in.txt' -> FILE A(ReadLines)\nA OUT->( 3 )IN B ( Twice )\nsubnet Twice\n  inport IN -> IN W(Passthru)\n  outport W OUT -> OUT\nend\nB OUT -> IN C(WriteLines)\n'out.txt' -> FILE C\n",
-        check: true,
-        printed: Some(
-            b"flow 1\nsubnet Twice\nW(Passthru)\ninport IN -> IN W\noutport W OUT -> OUT\nend\nA(ReadLines)\nB(Twice)\nC(WriteLines)\n'in.txt' -> FILE A\nA OUT -> (3) IN B\nB OUT -> IN C\n'out.txt' -> FILE C\n",
-        ),
-        absent: "out.txt",
-        ..ROW
-    };
-    run_row(&rt, rt.alloc(), row)?;
-    Ok(())
+fn what_is_against_a_network_in_pieces(rt: HostRuntime) {
+    refuse_all(&rt, rt.alloc(), REFUSED);
+}
+
+const PIECES: Row = Row {
+    net: b"flow 1\n# a copy, in two steps\n'in.txt' -> FILE A(ReadLines)\nA OUT->( 3 )IN B ( Twice )\nsubnet Twice\n  inport IN -> IN W(Passthru)\n  outport W OUT -> OUT\nend\nB OUT -> IN C(WriteLines)\n'out.txt' -> FILE C\n",
+    line: &["--check", "net"],
+    printed: Some(
+        b"flow 1\nsubnet Twice\nW(Passthru)\ninport IN -> IN W\noutport W OUT -> OUT\nend\nA(ReadLines)\nB(Twice)\nC(WriteLines)\n'in.txt' -> FILE A\nA OUT -> (3) IN B\nB OUT -> IN C\n'out.txt' -> FILE C\n",
+    ),
+    absent: "out.txt",
+    ..ROW
+};
+
+#[test]
+fn a_check_prints_a_network_in_pieces(rt: HostRuntime) {
+    run_row(&rt, rt.alloc(), &PIECES);
 }
