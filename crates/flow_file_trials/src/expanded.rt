@@ -1,107 +1,115 @@
 // Faults of texts with subnets that come before any kind is looked for.
+use crate::checks::same;
 use flow_expand::{ExpandStop, expand, put_fault, put_net_fault};
 use flow_flat::ExpandFault;
 use flow_items::Text;
 use flow_net::{Many, PlanFault};
 use flow_parse::{NetFault, Reason, parse};
-use flow_plan::PortRef;
+use flow_plan::{Plan, PortRef};
 use std::alloc::Global;
 use std::process::Abort;
-use std::test::Fail;
 
-fn check_words(
-    rt: &impl Abort,
-    alloc: Global,
-    fault: PlanFault,
-    wanted: &[u8],
-) -> Result<(), Fail> {
-    let mut out = Vec::new(alloc);
-    put_fault(&mut out, &ExpandFault::Plan(fault))?;
-    assert!(rt; out.as_slice() == wanted);
-    Ok(())
+fn text(rt: &impl Abort, alloc: Global, bytes: &[u8]) -> Text {
+    Text::from_slice(alloc, bytes).expect(rt, "no memory")
 }
 
-fn check_line(rt: &impl Abort, alloc: Global, fault: &NetFault, wanted: &[u8]) -> Result<(), Fail> {
-    let mut out = Vec::new(alloc);
-    put_net_fault(&mut out, fault)?;
-    assert!(rt; out.as_slice() == wanted);
-    Ok(())
-}
-
-#[test]
-fn a_fault_is_told_in_words(rt: HostRuntime) -> Result<(), Fail> {
-    let alloc = rt.alloc();
+fn taken(rt: &impl Abort, alloc: Global) -> PlanFault {
     let port = PortRef {
-        name: Text::from_slice(alloc, b"IN")?,
+        name: text(rt, alloc, b"IN"),
         element: Some(7),
     };
-    let fault = PlanFault::PortTaken(Text::from_slice(alloc, b"Sort")?, port);
-    check_words(&rt, alloc, fault, b"port taken Sort.IN[7]")?;
-    let name = Text::from_slice(alloc, b"Sort")?;
-    let fault = PlanFault::ElementGap(name, Text::from_slice(alloc, b"IN")?, 12);
-    check_words(&rt, alloc, fault, b"element gap Sort.IN[12]")?;
-    let name = Text::from_slice(alloc, b"Sort")?;
-    let fault = PlanFault::PortMissing(name, Text::from_slice(alloc, b"IN")?);
-    check_words(&rt, alloc, fault, b"port missing Sort.IN")?;
-    check_words(&rt, alloc, PlanFault::Capacity(1025), b"capacity 1025")?;
-    let fault = PlanFault::TooMany(Many::CapacitySum);
-    check_words(&rt, alloc, fault, b"capacity sum")?;
-    let fault = NetFault {
-        line: 10,
-        reason: Reason::Quote,
-    };
-    check_line(&rt, alloc, &fault, b"line 10: quote")
+    PlanFault::PortTaken(text(rt, alloc, b"Sort"), port)
 }
 
-// The first fault of a text over no kinds, by a word and the name that it tells.
-fn check_fault(
-    rt: &impl Abort,
-    alloc: Global,
-    bytes: &[u8],
-    word: &[u8],
-    wanted: &[u8],
-) -> Result<(), Fail> {
-    let text = match parse(alloc, bytes) {
-        Ok(text) => text,
-        Err(_) => return Err("the file is refused".into()),
+fn gap(rt: &impl Abort, alloc: Global) -> PlanFault {
+    let name = text(rt, alloc, b"Sort");
+    PlanFault::ElementGap(name, text(rt, alloc, b"IN"), 12)
+}
+
+fn missing(rt: &impl Abort, alloc: Global) -> PlanFault {
+    let name = text(rt, alloc, b"Sort");
+    PlanFault::PortMissing(name, text(rt, alloc, b"IN"))
+}
+
+fn check_words(rt: &impl Abort, alloc: Global, fault: PlanFault, wanted: &[u8]) {
+    let mut out = Vec::new(alloc);
+    put_fault(&mut out, &ExpandFault::Plan(fault)).expect(rt, "no memory");
+    same(rt, "the words", out.as_slice(), wanted);
+}
+
+fn check_line(rt: &impl Abort, alloc: Global, fault: &NetFault, wanted: &[u8]) {
+    let mut out = Vec::new(alloc);
+    put_net_fault(&mut out, fault).expect(rt, "no memory");
+    same(rt, "the words", out.as_slice(), wanted);
+}
+
+const QUOTE: NetFault = NetFault {
+    line: 10,
+    reason: Reason::Quote,
+};
+
+#[test]
+fn a_fault_is_told_in_words(rt: HostRuntime) {
+    let alloc = rt.alloc();
+    check_words(&rt, alloc, taken(&rt, alloc), b"port taken Sort.IN[7]");
+    check_words(&rt, alloc, gap(&rt, alloc), b"element gap Sort.IN[12]");
+    check_words(&rt, alloc, missing(&rt, alloc), b"port missing Sort.IN");
+    check_words(&rt, alloc, PlanFault::Capacity(1025), b"capacity 1025");
+    let sum = PlanFault::TooMany(Many::CapacitySum);
+    check_words(&rt, alloc, sum, b"capacity sum");
+    check_line(&rt, alloc, &QUOTE, b"line 10: quote");
+}
+
+// A fault, by a word and the name that it tells.
+fn check_told(rt: &impl Abort, fault: &ExpandFault, word: &str, wanted: &[u8]) {
+    let (told, name) = match fault {
+        ExpandFault::Recursive(name) => ("recursive", name),
+        ExpandFault::Depth(name) => ("depth", name),
+        ExpandFault::OuterPort(name, _) => ("outer", name),
+        _ => panic!(rt; "another fault"),
     };
-    match expand(alloc, &text, Vec::new(alloc)) {
-        Err(ExpandStop::Fault(ExpandFault::Recursive(name))) => {
-            assert!(rt; word == b"recursive".as_slice() && name.as_slice() == wanted);
-            Ok(())
-        }
-        Err(ExpandStop::Fault(ExpandFault::Depth(name))) => {
-            assert!(rt; word == b"depth".as_slice() && name.as_slice() == wanted);
-            Ok(())
-        }
-        Err(ExpandStop::Fault(ExpandFault::OuterPort(name, _))) => {
-            assert!(rt; word == b"outer".as_slice() && name.as_slice() == wanted);
-            Ok(())
-        }
-        _ => Err("another answer".into()),
+    same(rt, "the fault", told, word);
+    same(rt, "the name", name.as_slice(), wanted);
+}
+
+fn check_stop(rt: &impl Abort, made: &Result<Plan, ExpandStop>, word: &str, wanted: &[u8]) {
+    match made {
+        Err(ExpandStop::Fault(fault)) => check_told(rt, fault, word, wanted),
+        _ => panic!(rt; "another answer"),
     }
 }
 
-#[test]
-fn a_subnet_inside_itself_is_refused(rt: HostRuntime) -> Result<(), Fail> {
-    let alloc = rt.alloc();
-    let text =
-        b"flow 1\nM(A)\nsubnet A\nP(B)\nend\nsubnet B\nP(C)\nQ(A)\nend\nsubnet C\nP(K)\nend\n";
-    check_fault(&rt, alloc, text, b"recursive", b"A")
+// The first fault of a text over no kinds.
+fn check_fault(rt: &impl Abort, alloc: Global, bytes: &[u8], word: &str, wanted: &[u8]) {
+    match parse(alloc, bytes) {
+        Ok(text) => {
+            let made = expand(alloc, &text, Vec::new(alloc));
+            check_stop(rt, &made, word, wanted);
+        }
+        Err(_) => panic!(rt; "the file is refused"),
+    }
 }
 
-#[test]
-fn nine_levels_are_too_deep(rt: HostRuntime) -> Result<(), Fail> {
-    let alloc = rt.alloc();
-    let text =
-        b"flow 1\nM(S1)\nsubnet S1\nP(S2)\nend\nsubnet S2\nP(S3)\nend\nsubnet S3\nP(S4)\nend\nsubnet S4\nP(S5)\nend\nsubnet S5\nP(S6)\nend\nsubnet S6\nP(S7)\nend\nsubnet S7\nP(S8)\nend\nsubnet S8\nP(S9)\nend\nsubnet S9\nP(Hoard)\nend\n";
-    check_fault(&rt, alloc, text, b"depth", b"M.P.P.P.P.P.P.P.P.P")
-}
+const RECURSIVE: &[u8] =
+    b"flow 1\nM(A)\nsubnet A\nP(B)\nend\nsubnet B\nP(C)\nQ(A)\nend\nsubnet C\nP(K)\nend\n";
 
 #[test]
-fn an_outer_port_is_given_once(rt: HostRuntime) -> Result<(), Fail> {
-    let alloc = rt.alloc();
-    let text =
-        b"flow 1\nT(Tele)\nsubnet Tele\ninport IN -> IN W(Words)\ninport IN -> IN F(Fill)\nend\n";
-    check_fault(&rt, alloc, text, b"outer", b"T")
+fn a_subnet_inside_itself_is_refused(rt: HostRuntime) {
+    check_fault(&rt, rt.alloc(), RECURSIVE, "recursive", b"A");
+}
+
+const DEEP: &[u8] =
+    b"flow 1\nM(S1)\nsubnet S1\nP(S2)\nend\nsubnet S2\nP(S3)\nend\nsubnet S3\nP(S4)\nend\nsubnet S4\nP(S5)\nend\nsubnet S5\nP(S6)\nend\nsubnet S6\nP(S7)\nend\nsubnet S7\nP(S8)\nend\nsubnet S8\nP(S9)\nend\nsubnet S9\nP(Hoard)\nend\n";
+
+#[test]
+fn nine_levels_are_too_deep(rt: HostRuntime) {
+    check_fault(&rt, rt.alloc(), DEEP, "depth", b"M.P.P.P.P.P.P.P.P.P");
+}
+
+const GIVEN_TWICE: &[u8] =
+    b"flow 1\nT(Tele)\nsubnet Tele\ninport IN -> IN W(Words)\ninport IN -> IN F(Fill)\nend\n";
+
+#[test]
+fn an_outer_port_is_given_once(rt: HostRuntime) {
+    check_fault(&rt, rt.alloc(), GIVEN_TWICE, "outer", b"T");
 }

@@ -1,11 +1,13 @@
 //! Inputs as another program makes them from the rule.
+use crate::checks::same;
 use flow_make::make;
-use std::test::Fail;
+use std::alloc::Global;
+use std::process::Abort;
 
 // What a row has of an input: its number, how many bytes it has, their sum, and how it begins and ends.
 type Row = (u32, usize, u64, &'static [u8], &'static [u8]);
 
-const ROWS: [Row; 3] = [
+const ROWS: &[Row] = &[
     (
         1,
         60_022,
@@ -29,20 +31,37 @@ const ROWS: [Row; 3] = [
     ),
 ];
 
-#[test]
-fn inputs_are_those_of_the_rule(rt: HostRuntime) -> Result<(), Fail> {
-    for (number, length, sum, begin, end) in ROWS {
-        let made = make(rt.alloc(), number)?;
-        let input = made.input.as_slice();
-        let added = input
-            .iter()
-            .fold(0u64, |sum, byte| sum.wrapping_add(u64::from(*byte)));
-        assert_eq!(rt; input.len(), length, "at {number}");
-        assert_eq!(rt; added, sum, "at {number}");
-        assert!(rt;
-            input.starts_with(begin) && input.ends_with(end),
-            "at {number}"
-        );
+fn sum_of(bytes: &[u8]) -> u64 {
+    let mut sum = 0u64;
+    for byte in bytes {
+        sum = sum.wrapping_add(u64::from(*byte));
     }
-    Ok(())
+    sum
+}
+
+fn check_input(rt: &impl Abort, input: &[u8], row: &Row) {
+    let (number, length, sum, begin, end) = *row;
+    same(rt, "the length", input.len(), length);
+    same(rt, "the sum", sum_of(input), sum);
+    assert!(rt; input.starts_with(begin), "at {number}");
+    assert!(rt; input.ends_with(end), "at {number}");
+}
+
+fn check_row(rt: &impl Abort, alloc: Global, row: &Row) {
+    let number = row.0;
+    assert!(rt; number >= 1);
+    assert!(rt; number <= 100);
+    let made = make(alloc, number).expect(rt, "no memory");
+    check_input(rt, made.input.as_slice(), row);
+}
+
+fn check_rows(rt: &impl Abort, alloc: Global, rows: &[Row]) {
+    for row in rows {
+        check_row(rt, alloc, row);
+    }
+}
+
+#[test]
+fn inputs_are_those_of_the_rule(rt: HostRuntime) {
+    check_rows(&rt, rt.alloc(), ROWS);
 }
