@@ -1,9 +1,13 @@
 //! Networks side by side, whose readers wait for one another at a gate: one thread alone can't bring them all there.
+use crate::calls::same;
 use flow_component::Gate;
-use flow_rig::{File, call_by_workers};
+use flow_rig::{Called, File, call_by_workers};
+use std::alloc::Global;
+use std::process::Abort;
+use std::sync::Wait;
 use std::sync::atomic::{AtomicU64, Ordering};
-use std::test::Fail;
 use std::thread;
+use std::thread::Threads;
 
 /// How often a process that waits looks whether the others have come.
 const LOOKS: u32 = 1_000_000;
@@ -84,28 +88,40 @@ const FOUR: &[File<'static>] = &[
     ("i", b"x\ny\n"),
 ];
 
-#[test]
-fn gate_holds_two(rt: HostRuntime) -> Result<(), Fail> {
-    let gate = Meeting::new(2);
-    let called = call_by_workers(&rt, rt.alloc(), &["--workers", "2", "net"], TWO, &gate)?;
-    assert_eq!(rt; called.status, 0);
+fn check_gate(rt: &impl Abort, gate: &Meeting) {
     assert!(rt; gate.is_full());
-    assert_eq!(rt; gate.alone.load(Ordering::SeqCst), 0);
-    for name in ["v", "w"] {
-        assert!(rt; called.shelf.file(name) == Some(b"x\ny\n".as_slice()));
+    same(rt, "alone", gate.alone.load(Ordering::SeqCst), 0);
+}
+
+// A call whose readers, so many, are held at a gate until all have come.
+fn held<R: Threads + Wait + Sync + Abort>(
+    rt: &R,
+    alloc: Global,
+    line: &[&str],
+    files: &[File],
+    readers: u64,
+) -> Called {
+    let gate = Meeting::new(readers);
+    let called = call_by_workers(rt, alloc, line, files, &gate).expect(rt, "not called");
+    check_gate(rt, &gate);
+    called
+}
+
+fn check_written(rt: &impl Abort, called: &Called, names: &[&str]) {
+    same(rt, "the status", called.status, 0);
+    for name in names {
+        same(rt, *name, called.shelf.file(*name), Some(b"x\ny\n".as_slice()));
     }
-    Ok(())
 }
 
 #[test]
-fn gate_holds_four(rt: HostRuntime) -> Result<(), Fail> {
-    let gate = Meeting::new(4);
-    let called = call_by_workers(&rt, rt.alloc(), &["--workers", "4", "net"], FOUR, &gate)?;
-    assert_eq!(rt; called.status, 0);
-    assert!(rt; gate.is_full());
-    assert_eq!(rt; gate.alone.load(Ordering::SeqCst), 0);
-    for name in ["v", "w", "x", "y"] {
-        assert!(rt; called.shelf.file(name) == Some(b"x\ny\n".as_slice()));
-    }
-    Ok(())
+fn gate_holds_two(rt: HostRuntime) {
+    let called = held(&rt, rt.alloc(), &["--workers", "2", "net"], TWO, 2);
+    check_written(&rt, &called, &["v", "w"]);
+}
+
+#[test]
+fn gate_holds_four(rt: HostRuntime) {
+    let called = held(&rt, rt.alloc(), &["--workers", "4", "net"], FOUR, 4);
+    check_written(&rt, &called, &["v", "w", "x", "y"]);
 }

@@ -1,6 +1,6 @@
 //! The ready line, and the order in which it has processes served.
-use flow_component::NoGate;
-use flow_rig::{File, call_alone, call_by_workers};
+use crate::calls::{Printed, Trial, alone, bytes_of, check_by_workers};
+use flow_rig::File;
 use flow_runner::Line;
 use std::test::Fail;
 
@@ -35,28 +35,34 @@ const COPIED: &[File<'static>] = &[
 const IN_LINE: &[u8] =
     b"FLOWJ001\x18\0\0\0\0\0\0\0\x02\x02\x02\x02\x02\x03\x03\x03\x03\x03\x03\x03\x03\x03\x01\x01\x01\x01\x01\0\0\0\0\0";
 
+const SERVED: &Trial = &Trial {
+    files: COPIED,
+    status: 0,
+    turns: None,
+    printed: Printed::Other,
+    left: &[("j", IN_LINE), ("v", b"x\n"), ("w", b"x\n")],
+};
+
+#[test]
+fn a_worker_serves_first_who_was_woken_first(rt: HostRuntime) {
+    let line = &["--workers", "1", "--journal", "j", "net"];
+    check_by_workers(&rt, rt.alloc(), line, SERVED);
+}
+
 /// The last ten turns of one thread, which goes by the numbers: W comes before V.
 const IN_TURN: &[u8] = b"\0\0\0\0\0\x01\x01\x01\x01\x01";
 
-#[test]
-fn a_worker_serves_first_who_was_woken_first(rt: HostRuntime) -> Result<(), Fail> {
-    let line = &["--workers", "1", "--journal", "j", "net"];
-    let called = call_by_workers(&rt, rt.alloc(), line, COPIED, &NoGate)?;
-    assert_eq!(rt; called.status, 0);
-    assert!(rt; called.shelf.file("j") == Some(IN_LINE));
-    assert!(rt; called.shelf.file("v") == Some(b"x\n".as_slice()));
-    assert!(rt; called.shelf.file("w") == Some(b"x\n".as_slice()));
-    Ok(())
-}
+const COUNTED: &Trial = &Trial {
+    files: COPIED,
+    status: 0,
+    turns: None,
+    printed: Printed::Other,
+    left: &[],
+};
 
 #[test]
-fn one_thread_goes_by_the_numbers(rt: HostRuntime) -> Result<(), Fail> {
-    let called = call_alone(
-        rt.alloc(),
-        &["--workers", "0", "--journal", "j", "net"],
-        COPIED,
-    )?;
-    assert_eq!(rt; called.status, 0);
-    assert!(rt; called.shelf.file("j").unwrap_or(b"").ends_with(IN_TURN));
-    Ok(())
+fn one_thread_goes_by_the_numbers(rt: HostRuntime) {
+    let line = &["--workers", "0", "--journal", "j", "net"];
+    let called = alone(&rt, rt.alloc(), line, COUNTED);
+    assert!(rt; bytes_of(&rt, &called, "j").ends_with(IN_TURN));
 }
