@@ -1,8 +1,10 @@
 //! Calls on one network, and what the program leaves.
 use crate::kinds::numbers;
 use flow_component::NoGate;
-use flow_rig::{CallStop, Called, File, call_alone_with, call_by_workers_with};
-use std::alloc::{AllocError, Global};
+use flow_rig::{Called, File, call_alone_with, call_by_workers_with};
+use std::alloc::Global;
+use std::fmt::Debug;
+use std::process::Abort;
 use std::sync::Wait;
 use std::thread::Threads;
 
@@ -23,36 +25,54 @@ pub const REPORT: &[u8] =
 /// The network file and what it reads.
 const FILES: &[File<'static>] = &[("net", NUMBERING), ("in", LINES)];
 
+/// Stops the trial where what was found is another value than the wanted one, and names what that is.
+pub fn same<T: PartialEq + Debug + Copy>(rt: &impl Abort, what: &str, found: T, wanted: T) {
+    assert_eq!(rt; found, wanted, "{what}");
+}
+
+/// Checks that a call has left a file with these bytes.
+pub fn check_file(rt: &impl Abort, called: &Called, name: &str, wanted: &[u8]) {
+    same(rt, name, called.shelf.file(name), Some(wanted));
+}
+
+/// Checks what a call has printed, and its status.
+pub fn check_printed(rt: &impl Abort, called: &Called, printed: &[u8], status: u8) {
+    same(rt, "what is printed", called.printed.as_slice(), printed);
+    same(rt, "the status", called.status, status);
+}
+
 /// A run on one thread with these words, with one part.
-pub fn run_alone(alloc: Global, line: &[&str]) -> Result<Called, CallStop> {
-    call_alone_with(alloc, line, FILES, numbers(alloc, 1)?)
+pub fn run_alone(rt: &impl Abort, alloc: Global, line: &[&str]) -> Called {
+    let own = numbers(alloc, 1).expect(rt, "no memory");
+    call_alone_with(alloc, line, FILES, own).expect(rt, "not called")
 }
 
 /// A run by workers with these words, with one part.
-pub fn run_by_workers<R: Threads + Wait + Sync>(
+pub fn run_by_workers<R: Threads + Wait + Sync + Abort>(
     rt: &R,
     alloc: Global,
     line: &[&str],
-) -> Result<Called, CallStop> {
-    call_by_workers_with(rt, alloc, line, FILES, &NoGate, numbers(alloc, 1)?)
+) -> Called {
+    let own = numbers(alloc, 1).expect(rt, "no memory");
+    call_by_workers_with(rt, alloc, line, FILES, &NoGate, own).expect(rt, "not called")
 }
 
 /// The bytes of a file that a call has left, and none where it has left no such file.
-pub fn left(alloc: Global, called: &Called, name: &str) -> Result<Vec<u8>, AllocError> {
+pub fn left(rt: &impl Abort, alloc: Global, called: &Called, name: &str) -> Vec<u8> {
     match called.shelf.file(name) {
-        Some(bytes) => bytes.to_vec(alloc),
-        None => Ok(Vec::new(alloc)),
+        Some(bytes) => bytes.to_vec(alloc).expect(rt, "no memory"),
+        None => Vec::new(alloc),
     }
 }
 
 /// A replay of this journal, with this file of tapes where it has bytes. The kind is handed in without parts.
 pub fn replay<'a>(
+    rt: &impl Abort,
     alloc: Global,
     line: &[&str],
     journal: &'a [u8],
     tapes: &'a [u8],
-) -> Result<Called, CallStop> {
-    let own = numbers(alloc, 0)?;
+) -> Called {
     let files: [File<'a>; 4] = [
         ("net", NUMBERING),
         ("in", LINES),
@@ -60,5 +80,6 @@ pub fn replay<'a>(
         ("t", tapes),
     ];
     let count = if tapes.is_empty() { 3 } else { 4 };
-    call_alone_with(alloc, line, &files[..count], own)
+    let own = numbers(alloc, 0).expect(rt, "no memory");
+    call_alone_with(alloc, line, &files[..count], own).expect(rt, "not called")
 }
