@@ -1,7 +1,7 @@
 //! Bytes of a network file that begin no token, and files that don't begin as one.
 use crate::kinds::{Side, automatic};
-use crate::pieces::{after_blanks, behind, first, is_word_byte, word};
-use crate::shown::put_word;
+use crate::pieces::{after_blanks, behind, first, is_point, word};
+use crate::shown::put_between;
 use flow_parse::FIRST_VERSION;
 use std::alloc::AllocError;
 
@@ -10,24 +10,42 @@ const MARK: &[u8] = b"\xef\xbb\xbf";
 
 /// What is wrong with a first line that isn't the header.
 pub fn put_header(page: &mut String, line: &[u8]) -> Result<(), AllocError> {
-    let rest = after_blanks(line);
-    let is_wide = line.starts_with(b"\xff\xfe") || line.starts_with(b"\xfe\xff");
-    if line.starts_with(MARK) {
-        page.push_str(
-            "The file begins with a byte order mark: three bytes, which are to be left out.\n",
-        )?;
-    } else if line.starts_with(b"FLOWJ001") {
-        page.push_str(
-            "This is a journal: it stands behind --replay, and then the network file.\n",
-        )?;
-    } else if is_wide || line.contains(&0) {
-        page.push_str("This isn't ASCII or UTF-8: it seems to have two bytes for each letter.\n")?;
-    } else if rest.starts_with(b"flow") {
-        page.push_str("Behind flow stands the version of the language alone, which is 1 or 2.\n")?;
-    } else if first(rest, 4).eq_ignore_ascii_case(b"flow") {
-        page.push_str("Upper and lower case differ.\n")?;
+    if let Some(slip) = header_slip(line) {
+        page.push_str(slip)?;
     }
     page.push_str("The first line that is no remark has to be: flow 1, or flow 2\n")
+}
+
+// What a first line was meant for that isn't the header.
+fn header_slip(line: &[u8]) -> Option<&'static str> {
+    if line.starts_with(MARK) {
+        return Some(
+            "The file begins with a byte order mark: three bytes, which are to be left out.\n",
+        );
+    }
+    if line.starts_with(b"FLOWJ001") {
+        return Some("This is a journal: it stands behind --replay, and then the network file.\n");
+    }
+    if is_wide(line) {
+        return Some("This isn't ASCII or UTF-8: it seems to have two bytes for each letter.\n");
+    }
+    flow_slip(after_blanks(line))
+}
+
+// Whether a line seems to have two bytes for each letter.
+fn is_wide(line: &[u8]) -> bool {
+    line.starts_with(b"\xff\xfe") || line.starts_with(b"\xfe\xff") || line.contains(&0)
+}
+
+// A first line that nearly begins as the header does.
+fn flow_slip(rest: &[u8]) -> Option<&'static str> {
+    if rest.starts_with(b"flow") {
+        return Some("Behind flow stands the version of the language alone, which is 1 or 2.\n");
+    }
+    if first(rest, 4).eq_ignore_ascii_case(b"flow") {
+        return Some("Upper and lower case differ.\n");
+    }
+    None
 }
 
 // Whether this is the name of the automatic port of a side, but for upper and lower case.
@@ -53,27 +71,51 @@ fn meant_star(rest: &[u8], version: u32) -> Option<&'static str> {
 
 // What a byte that begins no token was meant for, by those who write it most often. Lines with it go on like this.
 fn meant(rest: &[u8], line: &[u8], version: u32) -> Option<&'static str> {
-    let byte = rest.first()?;
-    match *byte {
+    let byte = *rest.first()?;
+    match byte {
+        b'*' => meant_star(rest, version),
+        b',' => Some(meant_comma(behind(rest, 1))),
+        b'.' | b'/' | b'\\' | b'~' => Some(meant_point(line)),
+        0x80..=0xff => Some(meant_letter(rest)),
+        _ => meant_sign(byte),
+    }
+}
+
+// What a sign was meant for, wherever it stands.
+fn meant_sign(byte: u8) -> Option<&'static str> {
+    match byte {
         b'#' => Some("A remark stands in a line of its own."),
         b'"' | b'`' => Some("A text stands between two quotes '."),
-        b'-' | b'=' | b'>' | b'<' => Some("The arrow is ->, with nothing within it."),
-        b',' if begins_with_digit(behind(rest, 1)) => {
-            Some("A number is written in digits alone, as 4096.")
-        }
-        b',' | b';' => Some("A statement ends with its line, and no sign stands behind it."),
+        b'-' | b'=' | b'>' | b'<' => Some(ARROW),
+        b';' => Some(STATEMENT_END),
         b'\r' => Some(
             "Lines end with byte 10; a byte 13 may stand before it, and nowhere else outside of a quoted text.",
         ),
-        b'*' => meant_star(rest, version),
         b'{' | b'}' => Some("The parentheses are ( and ), the brackets [ and ]."),
         0 => Some("This seems to be no text, or one with two bytes for each letter."),
-        b'.' | b'/' | b'\\' | b'~' => Some(if is_dotted(line) {
-            "A process and its port stand side by side, with a blank between them."
-        } else {
-            "A text, as the name of a file, stands in quotes."
-        }),
-        _ => letters(rest),
+        _ => None,
+    }
+}
+
+const ARROW: &str = "The arrow is ->, with nothing within it.";
+
+const STATEMENT_END: &str = "A statement ends with its line, and no sign stands behind it.";
+
+// What a comma was meant for behind which this stands.
+fn meant_comma(after: &[u8]) -> &'static str {
+    if begins_with_digit(after) {
+        "A number is written in digits alone, as 4096."
+    } else {
+        STATEMENT_END
+    }
+}
+
+// What a point was meant for, or a sign as it stands in the names of files.
+fn meant_point(line: &[u8]) -> &'static str {
+    if is_dotted(line) {
+        "A process and its port stand side by side, with a blank between them."
+    } else {
+        "A text, as the name of a file, stands in quotes."
     }
 }
 
@@ -84,48 +126,52 @@ fn begins_with_digit(bytes: &[u8]) -> bool {
     }
 }
 
-// What letters beyond ASCII were meant for.
-fn letters(rest: &[u8]) -> Option<&'static str> {
-    if rest.starts_with("\u{2018}".as_bytes())
-        || rest.starts_with("\u{2019}".as_bytes())
-        || rest.starts_with("\u{201c}".as_bytes())
-        || rest.starts_with("\u{201d}".as_bytes())
-        || rest.starts_with("\u{201e}".as_bytes())
-    {
-        return Some("A text stands between two quotes ', which is the one of ASCII.");
-    }
-    if rest.starts_with("\u{2192}".as_bytes()) || rest.starts_with("\u{2013}".as_bytes()) {
-        return Some("The arrow is ->, with nothing within it.");
-    }
-    if rest.starts_with("\u{a0}".as_bytes()) {
-        return Some(
-            "A blank is a space or a tab: this is another one, which doesn't break a line.",
-        );
-    }
-    if *rest.first()? >= 0x80 {
-        return Some(
+// What a byte beyond ASCII was meant for: a letter, or a part of one.
+fn meant_letter(rest: &[u8]) -> &'static str {
+    match first_letter(rest) {
+        Some('\u{2018}' | '\u{2019}' | '\u{201c}' | '\u{201d}' | '\u{201e}') => {
+            "A text stands between two quotes ', which is the one of ASCII."
+        }
+        Some('\u{2192}' | '\u{2013}') => ARROW,
+        Some('\u{a0}') => {
+            "A blank is a space or a tab: this is another one, which doesn't break a line."
+        }
+        _ =>
             "A name has ASCII letters, digits and _; other letters stand in quoted texts and remarks.",
-        );
     }
-    None
+}
+
+// The letter with which bytes begin, where they begin as UTF-8.
+fn first_letter(bytes: &[u8]) -> Option<char> {
+    bytes.utf8_chunks().next()?.valid().chars().next()
+}
+
+// The bytes of the first letter, or else the first byte.
+fn first_bytes(bytes: &[u8]) -> &[u8] {
+    match first_letter(bytes) {
+        Some(letter) => first(bytes, letter.len_utf8()),
+        None => first(bytes, 1),
+    }
 }
 
 // Whether the line has a process and its port in capitals with a point between them, as A.OUT or A.*OUT.
 fn is_dotted(line: &[u8]) -> bool {
-    let mut parts = line.split(|byte| *byte == b'.');
+    let mut parts = line.split(is_point);
     let _ = parts.next();
     match parts.next() {
-        Some(part) => {
-            let port = if part.starts_with(b"*") {
-                behind(part, 1)
-            } else {
-                part
-            };
-            let mut word = port.iter().take_while(|byte| is_word_byte(**byte));
-            word.any(|byte| byte.is_ascii_uppercase())
-        }
+        Some(part) => begins_in_capitals(part),
         None => false,
     }
+}
+
+// Whether the word, or automatic port, with which a text begins has a capital.
+fn begins_in_capitals(text: &[u8]) -> bool {
+    let port = if text.starts_with(b"*") {
+        behind(text, 1)
+    } else {
+        text
+    };
+    word(port).0.iter().any(|byte| byte.is_ascii_uppercase())
 }
 
 /// What is wrong with a byte that begins no token in a file of this version. What is left of its line begins with it.
@@ -135,25 +181,21 @@ pub fn put_bad_byte(
     rest: &[u8],
     version: u32,
 ) -> Result<(), AllocError> {
-    let before = line.len().saturating_sub(rest.len());
-    let column = before.saturating_add(1);
+    let column = line.len().saturating_sub(rest.len()).saturating_add(1);
     write!(page, "At byte {column} of the line, ")?;
-    let letter = rest.utf8_chunks().next();
-    let width = match letter {
-        Some(chunk) => match chunk.valid().chars().next() {
-            Some(letter) => letter.len_utf8(),
-            None => 1,
-        },
-        None => 0,
-    };
-    put_word(page, first(rest, width))?;
-    page.push_str(" begins no word, number or sign.\n")?;
+    put_between(
+        page,
+        "",
+        first_bytes(rest),
+        " begins no word, number or sign.\n",
+    )?;
     match meant(rest, line, version) {
-        Some(meant) => {
-            page.push_str(meant)?;
-            page.push('\n')?;
-            Ok(())
-        }
+        Some(meant) => put_sentence(page, meant),
         None => Ok(()),
     }
+}
+
+fn put_sentence(page: &mut String, sentence: &str) -> Result<(), AllocError> {
+    page.push_str(sentence)?;
+    page.push('\n')
 }

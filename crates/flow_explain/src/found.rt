@@ -1,6 +1,6 @@
 //! Lines of a network file that are looked for, each in its part: the main part, or a subnet.
 use crate::kinds::Side;
-use crate::pieces::is_remark;
+use crate::pieces::{is_line_end, is_point, is_remark};
 use crate::said::{Mention, Said, Tag, said_by};
 use flow_limits::LAST_ELEMENT;
 use flow_parse::{FIRST_VERSION, SECOND_VERSION};
@@ -16,9 +16,8 @@ pub enum Wanted<'a> {
     Process(&'a [u8]),
     /// One that gives it a kind.
     Kind(&'a [u8]),
-    /// One that mentions this port of it before the arrow, or behind it.
-    Output(&'a [u8], &'a [u8]),
-    Input(&'a [u8], &'a [u8]),
+    /// One that mentions this port of it on this side.
+    Port(Side, &'a [u8], &'a [u8]),
     /// Another line than the one of this number, with the same element of a port on this side.
     Other(u64, Mention<'a>, Side),
     /// One that mentions an element of an array that is behind this one.
@@ -65,7 +64,8 @@ pub fn is_same_port(one: &Mention<'_>, other: &Mention<'_>) -> bool {
         && one.element.unwrap_or(b"0") == other.element.unwrap_or(b"0")
 }
 
-fn is_port(mention: Option<Mention<'_>>, process: &[u8], port: &[u8]) -> bool {
+/// Whether this port of a process is mentioned.
+pub fn is_port(mention: Option<Mention<'_>>, process: &[u8], port: &[u8]) -> bool {
     match mention {
         Some(mention) => mention.process == process && mention.port == port,
         None => false,
@@ -93,50 +93,73 @@ fn is_same(mention: Option<Mention<'_>>, other: &Mention<'_>) -> bool {
     }
 }
 
+// Whether an element of an array is mentioned that is behind this one.
 fn is_behind(mention: Option<Mention<'_>>, process: &[u8], port: &[u8], element: u32) -> bool {
-    let Some(mention) = mention else {
-        return false;
-    };
-    match decimal(mention.element.unwrap_or(b"0"), 0, u64::from(LAST_ELEMENT)) {
-        Some(found) => {
-            mention.process == process && mention.port == port && found > u64::from(element)
+    match mention {
+        Some(mention) => {
+            mention.process == process
+                && mention.port == port
+                && is_greater(mention.element.unwrap_or(b"0"), element)
         }
         None => false,
     }
 }
 
-fn gives_capacity(said: &Said<'_>, input: &Mention<'_>) -> bool {
-    match (said.capacity, said.to) {
-        (Some(_), Some(to)) => is_same_port(&to, input),
-        _ => false,
+// Whether a word is an element behind this one.
+fn is_greater(word: &[u8], element: u32) -> bool {
+    match decimal(word, 0, u64::from(LAST_ELEMENT)) {
+        Some(found) => found > u64::from(element),
+        None => false,
     }
+}
+
+fn mentions(said: &Said<'_>, process: &[u8]) -> bool {
+    is_process(said.from, process) || is_process(said.to, process)
+}
+
+fn mentions_kind(said: &Said<'_>, process: &[u8]) -> bool {
+    gives_kind(said.from, process) || gives_kind(said.to, process)
+}
+
+fn mentions_behind(said: &Said<'_>, process: &[u8], port: &[u8], element: u32) -> bool {
+    is_behind(said.from, process, port, element) || is_behind(said.to, process, port, element)
+}
+
+fn gives_text(said: &Said<'_>, process: &[u8], port: &[u8]) -> bool {
+    said.tag == Tag::Initial && is_port(said.to, process, port)
+}
+
+fn gives_capacity(said: &Said<'_>, input: &Mention<'_>) -> bool {
+    said.capacity.is_some() && is_same(said.to, input)
+}
+
+fn begins_subnet(said: &Said<'_>, name: &[u8]) -> bool {
+    said.tag == Tag::Subnet && said.name == name
 }
 
 fn is_wanted(found: &Found<'_>, wanted: &Wanted<'_>) -> bool {
     let said = &found.said;
     match wanted {
-        Wanted::Number(line) => found.number == *line,
-        Wanted::Process(process) => {
-            is_process(said.from, process) || is_process(said.to, process)
+        Wanted::Number(number) => found.number == *number,
+        Wanted::Other(number, mention, side) => {
+            found.number != *number && is_same(said.mention(*side), mention)
         }
-        Wanted::Kind(process) => gives_kind(said.from, process) || gives_kind(said.to, process),
-        Wanted::Output(process, port) => is_port(said.from, process, port),
-        Wanted::Input(process, port) => is_port(said.to, process, port),
-        Wanted::Other(number, mention, Side::Output) => {
-            found.number != *number && is_same(said.from, mention)
-        }
-        Wanted::Other(number, mention, Side::Input) => {
-            found.number != *number && is_same(said.to, mention)
-        }
-        Wanted::Behind(process, port, element) => {
-            is_behind(said.from, process, port, *element)
-                || is_behind(said.to, process, port, *element)
-        }
-        Wanted::Text(process, port) => {
-            said.tag == Tag::Initial && is_port(said.to, process, port)
-        }
+        _ => is_said(said, wanted),
+    }
+}
+
+// Whether a line is wanted for what it says.
+fn is_said(said: &Said<'_>, wanted: &Wanted<'_>) -> bool {
+    match wanted {
+        Wanted::Process(process) => mentions(said, process),
+        Wanted::Kind(process) => mentions_kind(said, process),
+        Wanted::Port(side, process, port) => is_port(said.mention(*side), process, port),
+        Wanted::Behind(process, port, element) => { mentions_behind(said, process, port, *element) }
+        Wanted::Text(process, port) => gives_text(said, process, port),
         Wanted::Capacity(input) => gives_capacity(said, input),
-        Wanted::Subnet(name) => said.tag == Tag::Subnet && said.name == *name,
+        Wanted::Subnet(name) => begins_subnet(said, name),
+        // These are wanted for their number.
+        Wanted::Number(_) | Wanted::Other(_, _, _) => false,
     }
 }
 
@@ -166,14 +189,36 @@ impl<'a> Walk<'a> {
         }
     }
 
+    // The version by which a line is read.
+    fn reads(&self) -> u32 {
+        self.version.unwrap_or(FIRST_VERSION)
+    }
+
     /// The next line. The lines that begin and end a subnet belong to it.
     pub fn next_line(&mut self, alloc: Global, line: &'a [u8]) -> Result<Found<'a>, AllocError> {
-        self.number = self.number.saturating_add(1);
         let line = bare(line);
-        let said = said_by(alloc, self.version.unwrap_or(FIRST_VERSION), line)?;
+        let said = said_by(alloc, self.reads(), line)?;
+        self.number = self.number.saturating_add(1);
+        self.see_version(line, &said);
+        let part = self.see_part(&said);
+        Ok(Found {
+            number: self.number,
+            version: self.reads(),
+            part,
+            line,
+            said,
+        })
+    }
+
+    // The first line that is no remark tells the version.
+    fn see_version(&mut self, line: &[u8], said: &Said<'a>) {
         if self.version.is_none() && !is_remark(line) {
-            self.version = Some(version_of(&said));
+            self.version = Some(version_of(said));
         }
+    }
+
+    // The part of a line that says this.
+    fn see_part(&mut self, said: &Said<'a>) -> Option<&'a [u8]> {
         if said.tag == Tag::Subnet {
             self.part = Some(said.name);
         }
@@ -181,13 +226,7 @@ impl<'a> Walk<'a> {
         if said.tag == Tag::End {
             self.part = None;
         }
-        Ok(Found {
-            number: self.number,
-            version: self.version.unwrap_or(FIRST_VERSION),
-            part,
-            line,
-            said,
-        })
+        part
     }
 }
 
@@ -199,7 +238,7 @@ pub fn find_in<'a>(
     wanted: &Wanted<'_>,
 ) -> Result<Option<Found<'a>>, AllocError> {
     let mut walk = Walk::new();
-    for line in net.split(|byte| *byte == b'\n') {
+    for line in net.split(is_line_end) {
         let found = walk.next_line(alloc, line)?;
         if is_same_part(found.part, part) && is_wanted(&found, wanted) {
             return Ok(Some(found));
@@ -215,7 +254,7 @@ pub fn find<'a>(
     wanted: &Wanted<'_>,
 ) -> Result<Option<Found<'a>>, AllocError> {
     let mut walk = Walk::new();
-    for line in net.split(|byte| *byte == b'\n') {
+    for line in net.split(is_line_end) {
         let found = walk.next_line(alloc, line)?;
         if is_wanted(&found, wanted) {
             return Ok(Some(found));
@@ -262,7 +301,7 @@ pub fn kind_of<'a>(
 pub fn home_of<'a>(alloc: Global, net: &'a [u8], flat: &'a [u8]) -> Result<Home<'a>, AllocError> {
     let mut part = None;
     let mut process: &'a [u8] = b"";
-    for name in flat.split(|byte| *byte == b'.') {
+    for name in flat.split(is_point) {
         if !process.is_empty() {
             part = kind_of(alloc, net, part, process)?;
         }

@@ -1,7 +1,8 @@
 //! Where a subnet stands inside itself.
 use crate::found::{Found, Walk};
 use crate::net::Net;
-use crate::said::Mention;
+use crate::pieces::is_line_end;
+use crate::said::{Mention, Said};
 use std::alloc::AllocError;
 
 /// So many kinds are followed at most, and the file is gone through so often.
@@ -28,18 +29,25 @@ fn pass<'a>(
     met: &mut Vec<&'a [u8]>,
 ) -> Result<Option<Found<'a>>, AllocError> {
     let mut walk = Walk::new();
-    for line in net.bytes.split(|byte| *byte == b'\n') {
+    for line in net.bytes.split(is_line_end) {
         let found = walk.next_line(net.alloc, line)?;
-        let part = found.part.unwrap_or(b"");
-        if is_in(met, part) {
-            if kind(found.said.from) == subnet || kind(found.said.to) == subnet {
-                return Ok(Some(found));
-            }
-            add(met, kind(found.said.from))?;
-            add(met, kind(found.said.to))?;
+        if is_in(met, found.part.unwrap_or(b"")) && meets(met, subnet, &found.said)? {
+            return Ok(Some(found));
         }
     }
     Ok(None)
+}
+
+// Whether a line gives the kind of this subnet; another kind that it gives is met.
+fn meets<'a>(met: &mut Vec<&'a [u8]>, subnet: &[u8], said: &Said<'a>) -> Result<bool, AllocError> {
+    let from = kind(said.from);
+    let to = kind(said.to);
+    if from == subnet || to == subnet {
+        return Ok(true);
+    }
+    add(met, from)?;
+    add(met, to)?;
+    Ok(false)
 }
 
 // The kind that a mention gives, or no word.

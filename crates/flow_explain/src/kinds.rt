@@ -2,8 +2,9 @@
 use crate::found::Walk;
 use crate::near::nearest;
 use crate::net::Net;
+use crate::pieces::is_line_end;
 use crate::said::Tag;
-use crate::shown::put_word;
+use crate::shown::{put_behind, put_between, put_word};
 use flow_items::Text;
 use flow_limits::{FILE_NAME_LIMIT, LAST_ELEMENT};
 use flow_parse::FIRST_VERSION;
@@ -67,8 +68,11 @@ pub fn port<'a>(kind: &'a KindSpec, side: Side, name: &[u8]) -> Option<&'a PortS
 
 /// Whether any kind of the table has a port of this name.
 pub fn is_port_name(kinds: &[KindSpec], name: &[u8]) -> bool {
-    kinds.iter().any(|kind| port(kind, Side::Input, name).is_some()
-        || port(kind, Side::Output, name).is_some())
+    kinds.iter().any(|kind| has_port(kind, name))
+}
+
+fn has_port(kind: &KindSpec, name: &[u8]) -> bool {
+    port(kind, Side::Input, name).is_some() || port(kind, Side::Output, name).is_some()
 }
 
 /// Whether a port takes a text, and no packets.
@@ -82,16 +86,21 @@ pub fn names(net: Net<'_>) -> Result<Vec<&[u8]>, AllocError> {
     for kind in net.kinds {
         names.push(kind.name.as_slice())?;
     }
+    add_subnets(&mut names, net)?;
+    Ok(names)
+}
+
+fn add_subnets<'a>(names: &mut Vec<&'a [u8]>, net: Net<'a>) -> Result<(), AllocError> {
     let mut walk = Walk::new();
     let mut left = MOST_SUBNETS;
-    for line in net.bytes.split(|byte| *byte == b'\n') {
+    for line in net.bytes.split(is_line_end) {
         let found = walk.next_line(net.alloc, line)?;
         if found.said.tag == Tag::Subnet && left > 0 {
             names.push(found.said.name)?;
             left = left.saturating_sub(1);
         }
     }
-    Ok(names)
+    Ok(())
 }
 
 /// The name of a port of a kind's side that is nearest to a wrong one, in a file of this version.
@@ -119,19 +128,23 @@ pub fn put_names(
     first: Option<&[u8]>,
 ) -> Result<(), AllocError> {
     page.push_str("The kinds are ")?;
-    let mut between = "";
     if let Some(first) = first {
         put_word(page, first)?;
-        between = ", ";
     }
+    put_others(page, names, first)?;
+    page.push_str(".\n")
+}
+
+// The names but for the one that was put first.
+fn put_others(page: &mut String, names: &[&[u8]], first: Option<&[u8]>) -> Result<(), AllocError> {
+    let mut between = if first.is_some() { ", " } else { "" };
     for name in names {
         if first != Some(*name) {
-            page.push_str(between)?;
-            put_word(page, name)?;
+            put_behind(page, between, name)?;
             between = ", ";
         }
     }
-    page.push_str(".\n")
+    Ok(())
 }
 
 // A port with what stands behind its name.
@@ -140,20 +153,35 @@ fn put_port(page: &mut String, port: &PortSpec) -> Result<(), AllocError> {
     if port.array {
         write!(page, "[0] to [{LAST_ELEMENT}]")?;
     }
-    match (is_option(port), port.needed) {
-        (true, true) => page.push_str(" (a text)"),
-        (true, false) => page.push_str(" (a text, which may be left out)"),
-        (false, true) => Ok(()),
-        (false, false) => page.push_str(" (may be left open)"),
+    page.push_str(use_of(is_option(port), port.needed))
+}
+
+// What is said of the use of a port, where it isn't one for packets that has to be connected.
+fn use_of(is_option: bool, needed: bool) -> &'static str {
+    match (is_option, needed) {
+        (true, true) => " (a text)",
+        (true, false) => " (a text, which may be left out)",
+        (false, true) => "",
+        (false, false) => " (may be left open)",
     }
 }
 
 fn put_side(page: &mut String, kind: &KindSpec, side: Side) -> Result<(), AllocError> {
     let ports = ports(kind, side);
     if ports.is_empty() {
-        return write!(page, "no {}", side.word());
+        return put_no_port(page, side);
     }
     page.push_str(side.word())?;
+    put_listed(page, ports)
+}
+
+/// Says that there is no port on a side.
+pub fn put_no_port(page: &mut String, side: Side) -> Result<(), AllocError> {
+    write!(page, "no {}", side.word())
+}
+
+// Ports, each behind a comma, and the first behind a blank.
+fn put_listed(page: &mut String, ports: &[PortSpec]) -> Result<(), AllocError> {
     let mut between = " ";
     for port in ports {
         page.push_str(between)?;
@@ -165,19 +193,20 @@ fn put_side(page: &mut String, kind: &KindSpec, side: Side) -> Result<(), AllocE
 
 /// The ports of a kind, on both sides, in a file of this version.
 pub fn put_ports(page: &mut String, kind: &KindSpec, version: u32) -> Result<(), AllocError> {
-    page.push_str("The ports of the kind ")?;
-    put_word(page, kind.name.as_slice())?;
-    page.push_str(": ")?;
+    put_between(page, "The ports of the kind ", kind.name.as_slice(), ": ")?;
     put_side(page, kind, Side::Input)?;
     page.push_str("; ")?;
     put_side(page, kind, Side::Output)?;
-    page.push_str(".\n")?;
+    page.push_str(automatic_ports(version))
+}
+
+// The end of the sentence on a kind's ports, and what is said behind it of the automatic ones.
+fn automatic_ports(version: u32) -> &'static str {
     if version == FIRST_VERSION {
-        return Ok(());
+        ".\n"
+    } else {
+        ".\nBesides, every process has an automatic input *IN and an automatic output *OUT.\n"
     }
-    page.push_str(
-        "Besides, every process has an automatic input *IN and an automatic output *OUT.\n",
-    )
 }
 
 /// What the text of an option may be.
@@ -185,24 +214,28 @@ pub fn put_option(page: &mut String, name: &Text, class: PortClass) -> Result<()
     put_word(page, name.as_slice())?;
     match class {
         PortClass::Stream => page.push_str(" takes packets.\n"),
-        PortClass::Number { least, most } => {
-            write!(
-                page,
-                " is a number from {least} to {most}, in digits without zeros in front.\n"
-            )
-        }
+        PortClass::Number { least, most } => put_range(page, least, most),
         PortClass::Fields => page.push_str(
             " is one to eight numbers from 1 to 255, with one space between two.\n",
         ),
-        PortClass::File => {
-            write!(
-                page,
-                " is the name of a file: 1 to {FILE_NAME_LIMIT} bytes that are UTF-8, and no byte 0 among them.\n"
-            )
-        }
+        PortClass::File => put_file_rule(page),
         PortClass::Pattern => page.push_str(" is a pattern: a regular expression, in UTF-8.\n"),
         PortClass::Text => page.push_str(" is any text.\n"),
     }
+}
+
+fn put_range(page: &mut String, least: u64, most: u64) -> Result<(), AllocError> {
+    write!(
+        page,
+        " is a number from {least} to {most}, in digits without zeros in front.\n"
+    )
+}
+
+fn put_file_rule(page: &mut String) -> Result<(), AllocError> {
+    write!(
+        page,
+        " is the name of a file: 1 to {FILE_NAME_LIMIT} bytes that are UTF-8, and no byte 0 among them.\n"
+    )
 }
 
 /// A text that such an option may be, as an example.

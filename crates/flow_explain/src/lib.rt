@@ -22,6 +22,7 @@ mod refusal;
 mod refused;
 mod said;
 mod shown;
+mod words;
 
 pub use called::{expect_kept, words_of};
 pub use near::nearest;

@@ -7,7 +7,7 @@ use crate::net::{Net, put_found};
 use crate::own::OwnKinds;
 use crate::pieces::{Piece, bad_rest, pieces};
 use crate::said::Mention;
-use crate::shown::{put_line, put_word};
+use crate::shown::{put_behind, put_between, put_line};
 use flow_limits::{
     CAPACITY_LIMIT, FIRST_CAPACITY_LIMIT, LAST_ELEMENT, NAME_LIMIT, STATEMENT_LIMIT, TEXT_LIMIT,
 };
@@ -31,7 +31,11 @@ pub fn put_fault(
         kinds: &table,
         own,
     };
-    match find(alloc, bytes, &Wanted::Number(fault.line))? {
+    put_line_fault(net, page, fault)
+}
+
+fn put_line_fault(net: Net<'_>, page: &mut String, fault: NetFault) -> Result<(), AllocError> {
+    match find(net.alloc, net.bytes, &Wanted::Number(fault.line))? {
         Some(found) => put_reason(net, page, &found, fault.reason),
         None => put_header(page, b""),
     }
@@ -43,34 +47,50 @@ fn put_reason<'a>(
     found: &Found<'a>,
     reason: Reason,
 ) -> Result<(), AllocError> {
-    let rest = match reason {
-        Reason::Byte => bad_rest(found.version, found.line),
-        _ => None,
-    };
-    let place = match rest {
-        Some(rest) => found.line.len().saturating_sub(rest.len()),
-        None => 0,
-    };
-    if !found.line.is_empty() {
-        put_line(page, found.number, found.line, place)?;
-    }
+    put_at_fault(page, found, reason)?;
     match reason {
         Reason::Header => put_header(page, found.line),
-        Reason::Byte => put_bad_byte(page, found.line, rest.unwrap_or(b""), found.version),
+        Reason::Byte => put_byte(page, found),
         Reason::Quote => page.push_str(
             "A quoted text isn't closed in its line; two quotes stand for one in it.\n",
         ),
-        Reason::Form => {
-            let pieces = pieces(net.alloc, found.version, found.line)?;
-            page.push_str(slip(found, &pieces))?;
-            put_forms(page, found.version)
-        }
+        Reason::Form => put_form(net, page, found),
         Reason::Name => put_name(net, page, found),
         Reason::Number => put_number(net, page, found),
         Reason::Kind => put_kind(net, page, found),
         Reason::Subnet => put_subnet(net, page, found),
         Reason::Limit => put_limit(page, found),
     }
+}
+
+// Shows the line, if it isn't empty, with the place in it that is at fault.
+fn put_at_fault(page: &mut String, found: &Found<'_>, reason: Reason) -> Result<(), AllocError> {
+    if found.line.is_empty() {
+        return Ok(());
+    }
+    put_line(page, found.number, found.line, place_of(found, reason))
+}
+
+// The place in a line that is at fault: that of a byte, or else the beginning.
+fn place_of(found: &Found<'_>, reason: Reason) -> usize {
+    match reason {
+        Reason::Byte => match bad_rest(found.version, found.line) {
+            Some(rest) => found.line.len().saturating_sub(rest.len()),
+            None => 0,
+        },
+        _ => 0,
+    }
+}
+
+fn put_byte(page: &mut String, found: &Found<'_>) -> Result<(), AllocError> {
+    let rest = bad_rest(found.version, found.line).unwrap_or(b"");
+    put_bad_byte(page, found.line, rest, found.version)
+}
+
+fn put_form(net: Net<'_>, page: &mut String, found: &Found<'_>) -> Result<(), AllocError> {
+    let pieces = pieces(net.alloc, found.version, found.line)?;
+    page.push_str(slip(found, &pieces))?;
+    put_forms(page, found.version)
 }
 
 fn is_name(word: &[u8]) -> bool {
@@ -134,55 +154,89 @@ fn wrong_word<'a>(pieces: &[Piece<'a>], numbers: bool, version: u32) -> Option<(
     None
 }
 
+// The first word of a found line that isn't what it is to be: a name, or else a number.
+fn wrong_in<'a>(
+    alloc: Global,
+    found: &Found<'a>,
+    numbers: bool,
+) -> Result<Option<(&'a [u8], Role)>, AllocError> {
+    let pieces = pieces(alloc, found.version, found.line)?;
+    Ok(wrong_word(&pieces, numbers, found.version))
+}
+
 fn put_name(net: Net<'_>, page: &mut String, found: &Found<'_>) -> Result<(), AllocError> {
-    let pieces = pieces(net.alloc, found.version, found.line)?;
-    if let Some((word, role)) = wrong_word(&pieces, false, found.version) {
-        put_word(page, word)?;
-        page.push_str(" is no name. ")?;
-        if role == Role::Kind && is_digits(word) {
-            page.push_str("A capacity stands directly behind the arrow. ")?;
-        }
+    if let Some((word, role)) = wrong_in(net.alloc, found, false)? {
+        put_no_name(page, word, role)?;
     }
+    put_name_rule(page)
+}
+
+fn put_no_name(page: &mut String, word: &[u8], role: Role) -> Result<(), AllocError> {
+    put_between(page, "", word, " is no name. ")?;
+    if role == Role::Kind && is_digits(word) {
+        return page.push_str("A capacity stands directly behind the arrow. ");
+    }
+    Ok(())
+}
+
+// What a name is.
+fn put_name_rule(page: &mut String) -> Result<(), AllocError> {
     write!(
         page,
         "A name begins with a letter, has letters, digits and _, at most {NAME_LIMIT} of them, and is none of the words"
     )?;
-    let mut between = " ";
-    for reserved in &RESERVED {
-        page.push_str(between)?;
-        put_word(page, reserved)?;
-        between = ", ";
-    }
+    put_reserved(page)?;
     page.push_str(".\n")
 }
 
+fn put_reserved(page: &mut String) -> Result<(), AllocError> {
+    let mut between = " ";
+    for reserved in &RESERVED {
+        put_behind(page, between, reserved)?;
+        between = ", ";
+    }
+    Ok(())
+}
+
 fn put_number(net: Net<'_>, page: &mut String, found: &Found<'_>) -> Result<(), AllocError> {
-    let pieces = pieces(net.alloc, found.version, found.line)?;
-    let (word, role) = match wrong_word(&pieces, true, found.version) {
-        Some((word, role)) => (word, role),
+    let (word, role) = match wrong_in(net.alloc, found, true)? {
+        Some(wrong) => wrong,
         None => (b"".as_slice(), Role::Capacity),
     };
-    if !word.is_empty() {
-        put_word(page, word)?;
-        page.push_str(" is none: ")?;
+    put_no_number(page, word)?;
+    put_number_rule(page, role, most_capacity(found.version))?;
+    put_second_version(page, word, role)
+}
+
+fn put_no_number(page: &mut String, word: &[u8]) -> Result<(), AllocError> {
+    if word.is_empty() {
+        return Ok(());
     }
-    let most = most_capacity(found.version);
+    put_between(page, "", word, " is none: ")
+}
+
+// What a number in this role is, where a capacity is this one at most.
+fn put_number_rule(page: &mut String, role: Role, most: u32) -> Result<(), AllocError> {
     if role == Role::Element {
         write!(page, "an element is a number from 0 to {LAST_ELEMENT}")?;
     } else {
         write!(page, "a capacity is a number from 1 to {most}")?;
     }
-    page.push_str(", in digits without zeros in front.\n")?;
+    page.push_str(", in digits without zeros in front.\n")
+}
+
+// Tells of a capacity that a file of version 2 may give.
+fn put_second_version(page: &mut String, word: &[u8], role: Role) -> Result<(), AllocError> {
     if role == Role::Capacity && is_fine(word, role, SECOND_VERSION) {
-        write!(
+        return write!(
             page,
             "In a file that begins with flow 2 it may be up to {CAPACITY_LIMIT}.\n"
-        )?;
+        );
     }
     Ok(())
 }
 
-// Whether a mention gives its process another kind than a mention before it, and where that stands.
+// A mention that gives its process another kind than a mention before it, and where that stands.
 fn second_kind<'a>(
     net: Net<'a>,
     found: &Found<'a>,
@@ -192,14 +246,27 @@ fn second_kind<'a>(
         return Ok(None);
     };
     let wanted = Wanted::Kind(mention.process);
-    let Some(first) = find_in(net.alloc, net.bytes, found.part, &wanted)? else {
-        return Ok(None);
-    };
-    let given = kind_given(&first.said, mention.process);
-    if mention.kind.is_some() && mention.kind != given && first.number <= found.number {
-        return Ok(Some((mention, first.number)));
+    match find_in(net.alloc, net.bytes, found.part, &wanted)? {
+        Some(first) if differs(found, &first, &mention) => Ok(Some((mention, first.number))),
+        _ => Ok(None),
     }
-    Ok(None)
+}
+
+// Whether a line mentions a process with another kind than the first line that gives it one.
+fn differs(found: &Found<'_>, first: &Found<'_>, mention: &Mention<'_>) -> bool {
+    let given = kind_given(&first.said, mention.process);
+    mention.kind.is_some() && mention.kind != given && first.number <= found.number
+}
+
+// Such a mention on either side of the arrow.
+fn any_second_kind<'a>(
+    net: Net<'a>,
+    found: &Found<'a>,
+) -> Result<Option<(Mention<'a>, u64)>, AllocError> {
+    match second_kind(net, found, found.said.from)? {
+        Some(second) => Ok(Some(second)),
+        None => second_kind(net, found, found.said.to),
+    }
 }
 
 // The process of a mention, where no line of its part gives it a kind.
@@ -218,45 +285,55 @@ fn kindless<'a>(
     }
 }
 
-fn put_kind<'a>(net: Net<'a>, page: &mut String, found: &Found<'a>) -> Result<(), AllocError> {
-    let second = match second_kind(net, found, found.said.from)? {
-        Some(second) => Some(second),
-        None => second_kind(net, found, found.said.to)?,
-    };
-    if let Some((mention, number)) = second {
-        page.push_str("The process ")?;
-        put_word(page, mention.process)?;
-        write!(page, " has another kind by line {number}. ")?;
-        return page.push_str("A process has one kind in its part.\n");
+// Such a process on either side of the arrow.
+fn any_kindless<'a>(net: Net<'a>, found: &Found<'a>) -> Result<Option<&'a [u8]>, AllocError> {
+    match kindless(net, found, found.said.from)? {
+        Some(process) => Ok(Some(process)),
+        None => kindless(net, found, found.said.to),
     }
-    let process = match kindless(net, found, found.said.from)? {
-        Some(process) => Some(process),
-        None => kindless(net, found, found.said.to)?,
-    };
-    if let Some(process) = process {
-        page.push_str("The process ")?;
-        put_word(page, process)?;
-        page.push_str(" has no kind. ")?;
-        if is_port_name(net.kinds, process) {
-            page.push_str(
-                "That is the name of a port: before the arrow a port stands behind its process, behind the arrow before it. ",
-            )?;
-        }
+}
+
+fn put_kind<'a>(net: Net<'a>, page: &mut String, found: &Found<'a>) -> Result<(), AllocError> {
+    if let Some((mention, number)) = any_second_kind(net, found)? {
+        return put_second_kind(page, mention.process, number);
+    }
+    if let Some(process) = any_kindless(net, found)? {
+        put_kindless(net, page, process)?;
     }
     page.push_str(
         "One of a process's mentions at least gives its kind, in parentheses behind its name.\n",
     )
 }
 
+fn put_second_kind(page: &mut String, process: &[u8], number: u64) -> Result<(), AllocError> {
+    put_behind(page, "The process ", process)?;
+    write!(
+        page,
+        " has another kind by line {number}. A process has one kind in its part.\n"
+    )
+}
+
+fn put_kindless(net: Net<'_>, page: &mut String, process: &[u8]) -> Result<(), AllocError> {
+    put_between(page, "The process ", process, " has no kind. ")?;
+    if is_port_name(net.kinds, process) {
+        return page.push_str(
+            "That is the name of a port: before the arrow a port stands behind its process, behind the arrow before it. ",
+        );
+    }
+    Ok(())
+}
+
 fn put_subnet(net: Net<'_>, page: &mut String, found: &Found<'_>) -> Result<(), AllocError> {
     let first = find(net.alloc, net.bytes, &Wanted::Subnet(found.said.name))?;
     match first {
-        Some(first) if first.number < found.number => {
-            put_found(page, &first)?;
-            page.push_str("Two subnets have this name.\n")
-        }
+        Some(first) if first.number < found.number => put_same_name(page, &first),
         _ => page.push_str("This subnet has no line end.\n"),
     }
+}
+
+fn put_same_name(page: &mut String, first: &Found<'_>) -> Result<(), AllocError> {
+    put_found(page, first)?;
+    page.push_str("Two subnets have this name.\n")
 }
 
 fn put_limit(page: &mut String, found: &Found<'_>) -> Result<(), AllocError> {

@@ -1,7 +1,8 @@
 //! A network file that is explained, beside the table of kinds.
-use crate::found::{Found, Home, Walk, Wanted, find_in, home_of, is_same_part, kind_of};
+use crate::found::{Found, Home, Walk, Wanted, find_in, home_of, is_port, is_same_part, kind_of};
 use crate::kinds::{Side, row};
 use crate::own::OwnKinds;
+use crate::pieces::is_line_end;
 use crate::place::{Counted, canonical, fewest, statement};
 use crate::shown::put_line;
 use flow_flat::ExpandFault;
@@ -38,14 +39,13 @@ pub fn put_if_found(page: &mut String, found: Option<Found<'_>>) -> Result<(), A
     }
 }
 
-/// Whether a line mentions this port of this process on this side.
-pub fn has_port(found: &Found<'_>, process: &[u8], port: &[u8], side: Side) -> bool {
-    let mention = match side {
-        Side::Output => found.said.from,
-        Side::Input => found.said.to,
-    };
-    match mention {
-        Some(mention) => mention.process == process && mention.port == port,
+// Whether a line of this process's part mentions this port of it on this side.
+fn reaches(statement: Option<Found<'_>>, home: &Home<'_>, port: &[u8], side: Side) -> bool {
+    match statement {
+        Some(found) => {
+            is_same_part(found.part, home.part)
+                && is_port(found.said.mention(side), home.process, port)
+        }
         None => false,
     }
 }
@@ -54,7 +54,7 @@ impl<'a> Net<'a> {
     /// The version of the file.
     pub fn version(&self) -> Result<u32, AllocError> {
         let mut walk = Walk::new();
-        for line in self.bytes.split(|byte| *byte == b'\n') {
+        for line in self.bytes.split(is_line_end) {
             let _ = walk.next_line(self.alloc, line)?;
             if let Some(version) = walk.version {
                 return Ok(version);
@@ -110,24 +110,24 @@ impl<'a> Net<'a> {
         side: Side,
     ) -> Result<AtFault<'a>, AllocError> {
         let statement = self.statement(fault)?;
-        if let Some(found) = statement {
-            put_found(page, &found)?;
-            if is_same_part(found.part, home.part) && has_port(&found, home.process, port, side) {
-                return Ok(AtFault {
-                    statement,
-                    port: statement,
-                });
-            }
+        put_if_found(page, statement)?;
+        if reaches(statement, home, port, side) {
+            return Ok(AtFault {
+                statement,
+                port: statement,
+            });
         }
-        let wanted = match side {
-            Side::Output => Wanted::Output(home.process, port),
-            Side::Input => Wanted::Input(home.process, port),
-        };
-        let inner = self.find(home, &wanted)?;
+        let inner = self.find(home, &Wanted::Port(side, home.process, port))?;
         put_if_found(page, inner)?;
         Ok(AtFault {
             statement,
             port: inner,
         })
+    }
+
+    /// Shows the line that gives a process its kind.
+    pub fn put_process(&self, page: &mut String, home: &Home<'a>) -> Result<(), AllocError> {
+        let found = self.find(home, &Wanted::Kind(home.process))?;
+        put_if_found(page, found)
     }
 }

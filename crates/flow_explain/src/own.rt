@@ -30,13 +30,22 @@ pub fn put_no_part(
     for (kind, parts) in own.iter().zip(parts.iter()) {
         let processes = processes_of(plan, kind);
         if processes > *parts {
-            write!(page, "The network has {processes} processes of the kind ")?;
-            put_word(page, kind.name.as_slice())?;
-            return write!(
-                page,
-                ", and there are {parts} parts of it, one for each process.\nA program of your own may hand in more.\n"
-            );
+            return put_too_few(page, kind, processes, *parts);
         }
     }
     Ok(())
+}
+
+fn put_too_few(
+    page: &mut String,
+    kind: &KindSpec,
+    processes: usize,
+    parts: usize,
+) -> Result<(), AllocError> {
+    write!(page, "The network has {processes} processes of the kind ")?;
+    put_word(page, kind.name.as_slice())?;
+    write!(
+        page,
+        ", and there are {parts} parts of it, one for each process.\nA program of your own may hand in more.\n"
+    )
 }

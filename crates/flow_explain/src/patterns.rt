@@ -1,16 +1,21 @@
 //! Where a text that was given for a pattern stops being one.
 use crate::found::Found;
-use crate::pieces::{Piece, pieces};
-use crate::shown::put_word;
+use crate::pieces::{Piece, behind, pieces};
+use crate::shown::put_behind;
 use flow_pattern::slip_in;
 use std::alloc::{AllocError, Global};
 
-// The text that a line gives, without the quotes that are doubled in it; none where it gives none.
-fn text_of(alloc: Global, found: &Found<'_>) -> Result<Option<Vec<u8>>, AllocError> {
-    let found = pieces(alloc, found.version, found.line)?;
-    let Some(Piece::Quoted(spelled)) = found.first().copied() else {
-        return Ok(None);
-    };
+// The text that a line gives, as it is spelled between its quotes; none where it gives none.
+fn spelled<'a>(alloc: Global, found: &Found<'a>) -> Result<Option<&'a [u8]>, AllocError> {
+    let pieces = pieces(alloc, found.version, found.line)?;
+    match pieces.first().copied() {
+        Some(Piece::Quoted(spelled)) => Ok(Some(spelled)),
+        _ => Ok(None),
+    }
+}
+
+// A text without the quotes that are doubled in its spelling.
+fn text_of(alloc: Global, spelled: &[u8]) -> Result<Vec<u8>, AllocError> {
     let mut text = Vec::new(alloc);
     let mut is_second = false;
     for byte in spelled {
@@ -21,26 +26,35 @@ fn text_of(alloc: Global, found: &Found<'_>) -> Result<Option<Vec<u8>>, AllocErr
         is_second = *byte == b'\'';
         text.push(*byte)?;
     }
-    Ok(Some(text))
+    Ok(text)
 }
 
 /// Tells where the text of a line goes wrong as a pattern, and why.
 pub fn put_slip(alloc: Global, page: &mut String, found: &Found<'_>) -> Result<(), AllocError> {
-    let Some(text) = text_of(alloc, found)? else {
+    let Some(spelled) = spelled(alloc, found)? else {
         return Ok(());
     };
-    let Some(slip) = slip_in(alloc, text.as_slice())? else {
-        return Ok(());
-    };
-    let rest = text.split_at(slip.place).1;
-    page.push_str("It goes wrong ")?;
-    if rest.is_empty() {
-        page.push_str("at its end")?;
-    } else {
-        page.push_str("at ")?;
-        put_word(page, rest)?;
+    let text = text_of(alloc, spelled)?;
+    put_slip_in(alloc, page, &text)
+}
+
+fn put_slip_in(alloc: Global, page: &mut String, text: &[u8]) -> Result<(), AllocError> {
+    match slip_in(alloc, text)? {
+        Some(slip) => put_wrong(page, behind(text, slip.place), slip.why),
+        None => Ok(()),
     }
-    page.push_str(": ")?;
-    page.push_str(slip.why)?;
-    page.push_str(".\n")
+}
+
+// Tells why a pattern goes wrong where so much of it is left.
+fn put_wrong(page: &mut String, rest: &[u8], why: &str) -> Result<(), AllocError> {
+    page.push_str("It goes wrong ")?;
+    put_place(page, rest)?;
+    write!(page, ": {why}.\n")
+}
+
+fn put_place(page: &mut String, rest: &[u8]) -> Result<(), AllocError> {
+    if rest.is_empty() {
+        return page.push_str("at its end");
+    }
+    put_behind(page, "at ", rest)
 }

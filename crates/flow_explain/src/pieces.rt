@@ -27,6 +27,16 @@ pub fn is_word_byte(byte: u8) -> bool {
     byte.is_ascii_alphanumeric() || byte == b'_'
 }
 
+/// Whether a byte ends a line.
+pub fn is_line_end(byte: &u8) -> bool {
+    *byte == b'\n'
+}
+
+/// Whether a byte is a point.
+pub fn is_point(byte: &u8) -> bool {
+    *byte == b'.'
+}
+
 fn is_blank(byte: u8) -> bool {
     byte == b' ' || byte == b'\t'
 }
@@ -93,43 +103,56 @@ pub fn word(text: &[u8]) -> (&[u8], &[u8]) {
     }
 }
 
-// An automatic port behind its `*`, if it is one, and what is left.
-fn starred(text: &[u8]) -> Option<(Piece<'_>, &[u8])> {
+// The piece that a `*` begins in a file of version 2, and what is left of what stands behind it.
+fn starred(text: &[u8]) -> (Piece<'_>, &[u8]) {
     let (name, after) = word(text);
     if name == behind(automatic(Side::Input), 1) {
-        return Some((Piece::Automatic(Side::Input), after));
+        return (Piece::Automatic(Side::Input), after);
     }
     if name == behind(automatic(Side::Output), 1) {
-        return Some((Piece::Automatic(Side::Output), after));
+        return (Piece::Automatic(Side::Output), after);
     }
-    None
+    (Piece::Other(b'*'), text)
+}
+
+// The piece that a `-` begins, and what is left of what stands behind it.
+fn dashed(text: &[u8]) -> (Piece<'_>, &[u8]) {
+    match text.split_first() {
+        Some((b'>', after)) => (Piece::Arrow, after),
+        _ => (Piece::Other(b'-'), text),
+    }
+}
+
+// The piece that a byte is by itself.
+fn sign(byte: u8) -> Piece<'static> {
+    match byte {
+        b'(' => Piece::Open,
+        b')' => Piece::Close,
+        b'[' => Piece::OpenBracket,
+        b']' => Piece::CloseBracket,
+        _ => Piece::Other(byte),
+    }
+}
+
+// The piece that a byte begins which is in no word, in a file of this version, and what is left of what stands behind it.
+fn cut_sign(version: u32, byte: u8, more: &[u8]) -> (Piece<'_>, &[u8]) {
+    match byte {
+        b'\'' => quoted(more),
+        b'-' => dashed(more),
+        b'*' if version == SECOND_VERSION => starred(more),
+        _ => (sign(byte), more),
+    }
 }
 
 // The first piece of a line behind its blanks, in a file of this version, and what is left of it.
 fn cut(version: u32, line: &[u8]) -> Option<(Piece<'_>, &[u8])> {
     let rest = after_blanks(line);
     let (byte, more) = rest.split_first()?;
-    let byte = *byte;
-    if is_word_byte(byte) {
+    if is_word_byte(*byte) {
         let (word, after) = word(rest);
         return Some((Piece::Word(word), after));
     }
-    match byte {
-        b'(' => Some((Piece::Open, more)),
-        b')' => Some((Piece::Close, more)),
-        b'[' => Some((Piece::OpenBracket, more)),
-        b']' => Some((Piece::CloseBracket, more)),
-        b'\'' => Some(quoted(more)),
-        b'-' => Some(match more.split_first() {
-            Some((b'>', after)) => (Piece::Arrow, after),
-            _ => (Piece::Other(byte), more),
-        }),
-        b'*' if version == SECOND_VERSION => match starred(more) {
-            Some(cut) => Some(cut),
-            None => Some((Piece::Other(byte), more)),
-        },
-        _ => Some((Piece::Other(byte), more)),
-    }
+    Some(cut_sign(version, *byte, more))
 }
 
 /// The first pieces of a line in a file of this version, as many as a form can have and some more.

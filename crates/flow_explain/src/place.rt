@@ -2,6 +2,7 @@
 //! the same way.
 use crate::found::{Found, Walk};
 use crate::own::OwnKinds;
+use crate::pieces::is_line_end;
 use crate::refusal::{Opened, open_network};
 use crate::said::Tag;
 use flow_flat::ExpandFault;
@@ -29,19 +30,41 @@ enum Line {
 }
 
 fn line_of(line: &[u8], counted: Counted) -> Line {
-    let is_frame = line.starts_with(b"flow ")
-        || line == b"end".as_slice()
-        || line.starts_with(b"subnet ");
-    if line.is_empty() || is_frame {
+    if line.is_empty() || is_frame(line) {
         return Line::Kept;
     }
-    let is_outer = line.starts_with(b"inport ") || line.starts_with(b"outport ");
-    let is_process = line.ends_with(b")") && !line.contains(&b' ');
     match counted {
-        Counted::Processes if is_process => Line::Counted,
-        Counted::Processes => Line::LeftOut,
-        Counted::Statements if is_process || is_outer => Line::Kept,
-        Counted::Statements => Line::Counted,
+        Counted::Statements => among_statements(line),
+        Counted::Processes => among_processes(line),
+    }
+}
+
+// Whether a line is the header, or begins or ends a subnet.
+fn is_frame(line: &[u8]) -> bool {
+    line.starts_with(b"flow ") || line == b"end".as_slice() || line.starts_with(b"subnet ")
+}
+
+fn is_outer(line: &[u8]) -> bool {
+    line.starts_with(b"inport ") || line.starts_with(b"outport ")
+}
+
+fn is_process(line: &[u8]) -> bool {
+    line.ends_with(b")") && !line.contains(&b' ')
+}
+
+fn among_statements(line: &[u8]) -> Line {
+    if is_process(line) || is_outer(line) {
+        Line::Kept
+    } else {
+        Line::Counted
+    }
+}
+
+fn among_processes(line: &[u8]) -> Line {
+    if is_process(line) {
+        Line::Counted
+    } else {
+        Line::LeftOut
     }
 }
 
@@ -54,25 +77,38 @@ fn beginning(
 ) -> Result<Vec<u8>, AllocError> {
     let mut kept = Vec::new(alloc);
     let mut left = most;
-    for line in spelling.split(|byte| *byte == b'\n') {
-        let stays = match line_of(line, counted) {
-            Line::Kept => true,
-            Line::LeftOut => false,
-            Line::Counted => left > 0,
-        };
-        if line_of(line, counted) == Line::Counted {
-            left = left.saturating_sub(1);
-        }
-        if stays && !line.is_empty() {
-            kept.extend_from_slice(line)?;
-            kept.push(b'\n')?;
+    for line in spelling.split(is_line_end) {
+        if stays(line_of(line, counted), &mut left) {
+            keep(&mut kept, line)?;
         }
     }
     Ok(kept)
 }
 
+// Whether a line stays, where so many counted ones are left.
+fn stays(line: Line, left: &mut usize) -> bool {
+    match line {
+        Line::Kept => true,
+        Line::LeftOut => false,
+        Line::Counted => {
+            let is_one = *left > 0;
+            *left = left.saturating_sub(1);
+            is_one
+        }
+    }
+}
+
+fn keep(kept: &mut Vec<u8>, line: &[u8]) -> Result<(), AllocError> {
+    if line.is_empty() {
+        return Ok(());
+    }
+    kept.extend_from_slice(line)?;
+    kept.push(b'\n')?;
+    Ok(())
+}
+
 fn count(spelling: &[u8], counted: Counted) -> usize {
-    let lines = spelling.split(|byte| *byte == b'\n');
+    let lines = spelling.split(is_line_end);
     lines
         .filter(|line| line_of(line, counted) == Line::Counted)
         .count()
@@ -81,7 +117,14 @@ fn count(spelling: &[u8], counted: Counted) -> usize {
 // Whether a network is refused for this fault.
 fn is_refused(alloc: Global, net: &[u8], own: OwnKinds<'_>, fault: &ExpandFault) -> bool {
     match open_network(alloc, net, own) {
-        Ok(Opened::Network(found)) => found == *fault,
+        Ok(opened) => has_fault(&opened, fault),
+        Err(_) => false,
+    }
+}
+
+fn has_fault(opened: &Opened, fault: &ExpandFault) -> bool {
+    match opened {
+        Opened::Network(found) => *found == *fault,
         _ => false,
     }
 }
@@ -131,29 +174,34 @@ pub fn process<'a>(
 ) -> Result<Option<Found<'a>>, AllocError> {
     let mut walk = Walk::new();
     let mut count: usize = 0;
-    for line in spelling.split(|byte| *byte == b'\n') {
+    for line in spelling.split(is_line_end) {
         let found = walk.next_line(alloc, line)?;
-        if line_of(line, Counted::Processes) == Line::Counted {
-            count = count.saturating_add(1);
-            if count == number {
-                return Ok(Some(found));
-            }
+        if line_of(line, Counted::Processes) == Line::Counted && is_last(&mut count, number) {
+            return Ok(Some(found));
         }
     }
     Ok(None)
 }
 
-fn is_statement(tag: Tag) -> bool {
-    tag == Tag::Connection || tag == Tag::Initial
+// Counts one more, and tells whether it is the one of this number.
+fn is_last(count: &mut usize, number: usize) -> bool {
+    *count = count.saturating_add(1);
+    *count == number
+}
+
+// Whether a line is a statement, of a subnet or else of the main part.
+fn is_statement_of(found: &Found<'_>, is_inner: bool) -> bool {
+    let tag = found.said.tag;
+    (tag == Tag::Connection || tag == Tag::Initial) && found.part.is_some() == is_inner
 }
 
 // How many statements the subnets have.
 fn inner_statements(alloc: Global, net: &[u8]) -> Result<usize, AllocError> {
     let mut walk = Walk::new();
     let mut inner: usize = 0;
-    for line in net.split(|byte| *byte == b'\n') {
+    for line in net.split(is_line_end) {
         let found = walk.next_line(alloc, line)?;
-        if is_statement(found.said.tag) && found.part.is_some() {
+        if is_statement_of(&found, true) {
             inner = inner.saturating_add(1);
         }
     }
@@ -182,13 +230,10 @@ fn nth<'a>(
 ) -> Result<Option<Found<'a>>, AllocError> {
     let mut walk = Walk::new();
     let mut count: usize = 0;
-    for line in net.split(|byte| *byte == b'\n') {
+    for line in net.split(is_line_end) {
         let found = walk.next_line(alloc, line)?;
-        if is_statement(found.said.tag) && found.part.is_some() == is_inner {
-            count = count.saturating_add(1);
-            if count == number {
-                return Ok(Some(found));
-            }
+        if is_statement_of(&found, is_inner) && is_last(&mut count, number) {
+            return Ok(Some(found));
         }
     }
     Ok(None)

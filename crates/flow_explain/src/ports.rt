@@ -1,11 +1,12 @@
 //! Ports that a network names, gives or leaves out wrongly.
-use crate::found::{Found, Wanted, find_in};
+use crate::found::{Found, Home, Wanted, find_in};
 use crate::kinds::{
     Side, automatic, is_option, nearest_port, other_side, port, put_example, put_option, put_ports,
 };
-use crate::net::{Net, put_found, put_if_found};
+use crate::near::put_nearest;
+use crate::net::{AtFault, Net, put_found};
 use crate::patterns::put_slip;
-use crate::shown::put_word;
+use crate::shown::{put_between, put_word};
 use flow_flat::ExpandFault;
 use flow_plan::{KindSpec, PortClass, PortRef, PortSpec};
 use std::alloc::AllocError;
@@ -31,16 +32,36 @@ pub fn put_unknown(
         return Ok(());
     };
     let wrong = name.name.as_slice();
-    let mut side = Side::Output;
-    if !is_unknown(kind, side, name) {
-        side = Side::Input;
-    } else if net
-        .find(&home, &Wanted::Output(home.process, wrong))?
-        .is_none()
-    {
-        side = Side::Input;
-    }
+    let side = unknown_side(net, &home, kind, name)?;
     net.put_statement(page, fault, &home, wrong, side)?;
+    put_right_ports(net, page, kind, side, wrong)
+}
+
+// The side on which a port is unknown.
+fn unknown_side(
+    net: Net<'_>,
+    home: &Home<'_>,
+    kind: &KindSpec,
+    name: &PortRef,
+) -> Result<Side, AllocError> {
+    if !is_unknown(kind, Side::Output, name) {
+        return Ok(Side::Input);
+    }
+    let wanted = Wanted::Port(Side::Output, home.process, name.name.as_slice());
+    match find_in(net.alloc, net.bytes, home.part, &wanted)? {
+        Some(_) => Ok(Side::Output),
+        None => Ok(Side::Input),
+    }
+}
+
+// The ports that there are in the place of a wrong one, and what may have been meant by it.
+fn put_right_ports(
+    net: Net<'_>,
+    page: &mut String,
+    kind: &KindSpec,
+    side: Side,
+    wrong: &[u8],
+) -> Result<(), AllocError> {
     let version = net.version()?;
     put_hint(net, page, kind, side, version, wrong)?;
     put_ports(page, kind, version)
@@ -56,27 +77,38 @@ fn put_hint(
     wrong: &[u8],
 ) -> Result<(), AllocError> {
     if port(kind, side, wrong).is_some() {
-        put_word(page, wrong)?;
-        return page.push_str(" has no elements.\n");
+        return put_between(page, "", wrong, " has no elements.\n");
     }
-    if port(kind, other_side(side), wrong).is_some() {
-        put_word(page, wrong)?;
-        let word = other_side(side).word();
-        return write!(
-            page,
-            " is an {word}: an output stands before the arrow, an input behind it.\n"
-        );
+    let other = other_side(side);
+    if port(kind, other, wrong).is_some() {
+        return put_other_side(page, other, wrong);
     }
-    let Some(near) = nearest_port(net.alloc, kind, side, version, wrong)? else {
-        return Ok(());
-    };
-    page.push_str(if near.eq_ignore_ascii_case(wrong) {
-        "Upper and lower case differ: the port is "
-    } else {
-        "The nearest port is "
-    })?;
-    put_word(page, near)?;
-    page.push_str(".\n")
+    match nearest_port(net.alloc, kind, side, version, wrong)? {
+        Some(near) => put_nearest(page, "port", near, wrong),
+        None => Ok(()),
+    }
+}
+
+// Tells of a port that is one of this side.
+fn put_other_side(page: &mut String, side: Side, name: &[u8]) -> Result<(), AllocError> {
+    put_word(page, name)?;
+    write!(
+        page,
+        " is an {}: an output stands before the arrow, an input behind it.\n",
+        side.word()
+    )
+}
+
+// The input of this name that a process's kind has.
+fn input<'a>(
+    net: Net<'a>,
+    home: &Home<'a>,
+    name: &[u8],
+) -> Result<Option<&'a PortSpec>, AllocError> {
+    match net.row(home)? {
+        Some(kind) => Ok(port(kind, Side::Input, name)),
+        None => Ok(None),
+    }
 }
 
 /// A connection to a port that takes a text.
@@ -90,14 +122,16 @@ pub fn put_needs_initial(
     let home = net.home(process)?;
     let wanted = name.name.as_slice();
     net.put_statement(page, fault, &home, wanted, Side::Input)?;
-    let Some(kind) = net.row(&home)? else {
-        return Ok(());
-    };
-    let Some(option) = port(kind, Side::Input, wanted) else {
+    let Some(option) = input(net, &home, wanted)? else {
         return Ok(());
     };
     page.push_str("This port takes a text and no packets, as ")?;
-    put_text_line(page, option, home.process)?;
+    put_text_for(page, option, home.process)
+}
+
+// A line that gives an option its text, and what that may be.
+fn put_text_for(page: &mut String, option: &PortSpec, process: &[u8]) -> Result<(), AllocError> {
+    put_text_line(page, option, process)?;
     put_option(page, &option.name, option.class)
 }
 
@@ -105,11 +139,8 @@ pub fn put_needs_initial(
 fn put_text_line(page: &mut String, option: &PortSpec, process: &[u8]) -> Result<(), AllocError> {
     page.push('\'')?;
     put_example(page, option.class)?;
-    page.push_str("' -> ")?;
-    put_word(page, option.name.as_slice())?;
-    page.push(' ')?;
-    put_word(page, process)?;
-    page.push_str(".\n")
+    put_between(page, "' -> ", option.name.as_slice(), " ")?;
+    put_between(page, "", process, ".\n")
 }
 
 // Another line of the same part that uses the port which this line uses on this side.
@@ -121,15 +152,31 @@ fn other_use<'a>(
     let Some(found) = found else {
         return Ok(None);
     };
-    let mention = match side {
-        Side::Output => found.said.from,
-        Side::Input => found.said.to,
-    };
-    let Some(mention) = mention else {
+    let Some(mention) = found.said.mention(side) else {
         return Ok(None);
     };
     let wanted = Wanted::Other(found.number, mention, side);
     find_in(net.alloc, net.bytes, found.part, &wanted)
+}
+
+// Another line that uses the port at fault, or else that of the statement.
+fn other_at<'a>(
+    net: Net<'a>,
+    shown: &AtFault<'a>,
+    side: Side,
+) -> Result<Option<Found<'a>>, AllocError> {
+    match other_use(net, shown.port, side)? {
+        Some(other) => Ok(Some(other)),
+        None => other_use(net, shown.statement, side),
+    }
+}
+
+// The side of a port of a process that is taken.
+fn taken_side(net: Net<'_>, home: &Home<'_>, name: &[u8]) -> Result<Side, AllocError> {
+    match net.row(home)? {
+        Some(kind) if is_output(kind, name) => Ok(Side::Output),
+        _ => Ok(Side::Input),
+    }
 }
 
 // Whether a process of this kind has an output of this name.
@@ -147,23 +194,21 @@ pub fn put_taken(
 ) -> Result<(), AllocError> {
     let home = net.home(process)?;
     let taken = name.name.as_slice();
-    let side = match net.row(&home)? {
-        Some(kind) if is_output(kind, taken) => Side::Output,
-        _ => Side::Input,
-    };
+    let side = taken_side(net, &home, taken)?;
     let shown = net.put_statement(page, fault, &home, taken, side)?;
-    let other = match other_use(net, shown.port, side)? {
-        Some(other) => Some(other),
-        None => other_use(net, shown.statement, side)?,
-    };
-    if let Some(other) = other {
+    if let Some(other) = other_at(net, &shown, side)? {
         write!(page, "Line {} has this port already. ", other.number)?;
     }
-    page.push_str(match side {
+    page.push_str(most_uses(side))
+}
+
+// How often a port of a side is used.
+fn most_uses(side: Side) -> &'static str {
+    match side {
         Side::Output =>
             "An output has one connection; a process of the kind Copy sends to several.\n",
         Side::Input => "An input has one text, or else connections.\n",
-    })
+    }
 }
 
 /// A text that isn't one for its port.
@@ -177,14 +222,21 @@ pub fn put_bad_option(
     let home = net.home(process)?;
     let wrong = name.name.as_slice();
     let shown = net.put_statement(page, fault, &home, wrong, Side::Input)?;
-    let Some(kind) = net.row(&home)? else {
-        return Ok(());
-    };
-    let Some(option) = port(kind, Side::Input, wrong) else {
-        return Ok(());
-    };
+    match input(net, &home, wrong)? {
+        Some(option) => put_bad_text(net, page, option, shown.statement),
+        None => Ok(()),
+    }
+}
+
+// What the text of an option may be, and where the one of a statement goes wrong as a pattern.
+fn put_bad_text(
+    net: Net<'_>,
+    page: &mut String,
+    option: &PortSpec,
+    statement: Option<Found<'_>>,
+) -> Result<(), AllocError> {
     put_option(page, &option.name, option.class)?;
-    match (option.class, shown.statement) {
+    match (option.class, statement) {
         (PortClass::Pattern, Some(found)) => put_slip(net.alloc, page, &found),
         _ => Ok(()),
     }
@@ -198,51 +250,87 @@ pub fn put_missing(
     name: &[u8],
 ) -> Result<(), AllocError> {
     let home = net.home(process)?;
-    put_if_found(page, net.find(&home, &Wanted::Kind(home.process))?)?;
-    let Some(kind) = net.row(&home)? else {
-        return Ok(());
-    };
-    if let Some(option) = port(kind, Side::Input, name) {
-        if is_option(option) {
-            put_other_text(net, page, process, kind)?;
-            page.push_str("This port wants a text, as ")?;
-            put_text_line(page, option, home.process)?;
-            return put_option(page, &option.name, option.class);
-        }
-        page.push_str("This input wants a line NAME PORT -> ")?;
-        put_word(page, name)?;
-        page.push(' ')?;
-        put_word(page, home.process)?;
-        return page.push_str(".\n");
+    net.put_process(page, &home)?;
+    match net.row(&home)? {
+        Some(kind) => put_missing_port(net, page, &home, kind, name),
+        None => Ok(()),
     }
-    page.push_str("This output wants a line ")?;
-    put_word(page, home.process)?;
-    page.push(' ')?;
-    put_word(page, name)?;
-    page.push_str(" -> PORT NAME; a process of the kind Discard takes what nobody wants.\n")
+}
+
+// A port of a process of this kind that has neither.
+fn put_missing_port<'a>(
+    net: Net<'a>,
+    page: &mut String,
+    home: &Home<'a>,
+    kind: &KindSpec,
+    name: &[u8],
+) -> Result<(), AllocError> {
+    match port(kind, Side::Input, name) {
+        Some(option) if is_option(option) => put_missing_text(net, page, home, kind, option),
+        Some(_) => put_missing_input(page, home.process, name),
+        None => put_missing_output(page, home.process, name),
+    }
+}
+
+fn put_missing_text<'a>(
+    net: Net<'a>,
+    page: &mut String,
+    home: &Home<'a>,
+    kind: &KindSpec,
+    option: &PortSpec,
+) -> Result<(), AllocError> {
+    put_other_text(net, page, home, kind)?;
+    page.push_str("This port wants a text, as ")?;
+    put_text_for(page, option, home.process)
+}
+
+fn put_missing_input(page: &mut String, process: &[u8], name: &[u8]) -> Result<(), AllocError> {
+    put_between(page, "This input wants a line NAME PORT -> ", name, " ")?;
+    put_between(page, "", process, ".\n")
+}
+
+fn put_missing_output(page: &mut String, process: &[u8], name: &[u8]) -> Result<(), AllocError> {
+    put_between(page, "This output wants a line ", process, " ")?;
+    put_between(
+        page,
+        "",
+        name,
+        " -> PORT NAME; a process of the kind Discard takes what nobody wants.\n",
+    )
 }
 
 // The first text that a process without its option is given at a port for packets.
-fn put_other_text(
-    net: Net<'_>,
+fn put_other_text<'a>(
+    net: Net<'a>,
     page: &mut String,
-    process: &[u8],
+    home: &Home<'a>,
     kind: &KindSpec,
 ) -> Result<(), AllocError> {
-    let home = net.home(process)?;
     for port in kind.inputs.as_slice() {
-        if is_option(port) {
-            continue;
-        }
-        let wanted = Wanted::Text(home.process, port.name.as_slice());
-        if let Some(found) = net.find(&home, &wanted)? {
-            put_found(page, &found)?;
-            write!(page, "The text of line {} goes to ", found.number)?;
-            put_word(page, port.name.as_slice())?;
-            return page.push_str(", which takes packets. ");
+        if let Some(found) = text_at(net, home, port)? {
+            return put_misled(page, &found, port);
         }
     }
     Ok(())
+}
+
+// The line that gives a text to a process at a port for packets.
+fn text_at<'a>(
+    net: Net<'a>,
+    home: &Home<'a>,
+    port: &PortSpec,
+) -> Result<Option<Found<'a>>, AllocError> {
+    if is_option(port) {
+        return Ok(None);
+    }
+    net.find(home, &Wanted::Text(home.process, port.name.as_slice()))
+}
+
+// Shows a line that gives a text to a port for packets.
+fn put_misled(page: &mut String, found: &Found<'_>, port: &PortSpec) -> Result<(), AllocError> {
+    put_found(page, found)?;
+    write!(page, "The text of line {} goes to ", found.number)?;
+    put_between(page, "", port.name.as_slice(), ", which takes packets. ")
 }
 
 /// Elements of an array without one before them.
@@ -255,12 +343,22 @@ pub fn put_gap(
 ) -> Result<(), AllocError> {
     let home = net.home(process)?;
     let wanted = Wanted::Behind(home.process, name, element);
-    put_if_found(page, net.find(&home, &wanted)?)?;
+    if let Some(found) = net.find(&home, &wanted)? {
+        put_found(page, &found)?;
+    }
+    put_no_element(page, home.process, name, element)
+}
+
+fn put_no_element(
+    page: &mut String,
+    process: &[u8],
+    name: &[u8],
+    element: u32,
+) -> Result<(), AllocError> {
     page.push_str("Elements are counted from 0 without a gap: no line has ")?;
     put_word(page, name)?;
     write!(page, "[{element}] of ")?;
-    put_word(page, home.process)?;
-    page.push_str(".\n")
+    put_between(page, "", process, ".\n")
 }
 
 /// A connection with two capacities.
@@ -269,22 +367,39 @@ pub fn put_capacity(
     page: &mut String,
     fault: &ExpandFault,
 ) -> Result<(), AllocError> {
-    let Some(found) = net.statement(fault)? else {
-        return Ok(());
-    };
-    put_found(page, &found)?;
-    if let Some(to) = found.said.to {
-        let first = find_in(net.alloc, net.bytes, found.part, &Wanted::Capacity(to))?;
-        if let Some(first) = first {
-            if first.number < found.number {
-                write!(page, "Line {} gave this connection ", first.number)?;
-                page.push('(')?;
-                put_word(page, first.said.capacity.unwrap_or(b""))?;
-                page.push_str("). ")?;
-            }
-        }
+    match net.statement(fault)? {
+        Some(found) => put_second_capacity(net, page, &found),
+        None => Ok(()),
+    }
+}
+
+// A line that gives a connection its second capacity.
+fn put_second_capacity<'a>(
+    net: Net<'a>,
+    page: &mut String,
+    found: &Found<'a>,
+) -> Result<(), AllocError> {
+    put_found(page, found)?;
+    if let Some(first) = first_capacity(net, found)? {
+        put_first_capacity(page, &first)?;
     }
     page.push_str(
         "The lines that lead to one input are one connection: they give the same capacity, or none.\n",
     )
+}
+
+// The line before this one that gave the same connection a capacity.
+fn first_capacity<'a>(net: Net<'a>, found: &Found<'a>) -> Result<Option<Found<'a>>, AllocError> {
+    let Some(to) = found.said.to else {
+        return Ok(None);
+    };
+    match find_in(net.alloc, net.bytes, found.part, &Wanted::Capacity(to))? {
+        Some(first) if first.number < found.number => Ok(Some(first)),
+        _ => Ok(None),
+    }
+}
+
+fn put_first_capacity(page: &mut String, first: &Found<'_>) -> Result<(), AllocError> {
+    write!(page, "Line {} gave this connection (", first.number)?;
+    put_between(page, "", first.said.capacity.unwrap_or(b""), "). ")
 }

@@ -1,5 +1,6 @@
 //! A network file that is refused is read once more, and its fault explained.
 ghost use Rattle.flow_offer.specs.Kinds.{AreOwnKinds};
+ghost use Rattle.flow_parse.specs.Values.{IsNetText};
 
 use crate::line::put_fault;
 use crate::own::{OwnKinds, put_no_part};
@@ -9,7 +10,7 @@ use flow_files::FileShelf;
 use flow_flat::ExpandFault;
 use flow_limits::FILE_LIMIT;
 use flow_offer::{own_kinds_make_a_table, table};
-use flow_parse::{NetFault, ParseStop, parse};
+use flow_parse::{NetFault, NetText, ParseStop, parse};
 use flow_plan::{KindSpec, Plan};
 use flow_text::{Shelf, read_all};
 use std::alloc::{AllocError, Global};
@@ -27,21 +28,51 @@ pub fn put_refusal<R: Files<File = File> + Eprint + Drop>(
 ) -> Result<(), AllocError>
     requires { AreOwnKinds own.now }
 {
-    match rt.metadata(name) {
-        Ok(found) if found.is_file() => {}
-        _ => return Ok(()),
+    match bytes_of(alloc, rt, name) {
+        Some(net) => put_opened(alloc, page, &net, OwnKinds { kinds: own }, parts),
+        None => Ok(()),
+    }
+}
+
+// The bytes of the file of this name, where it is a regular one that can be read.
+fn bytes_of<R: Files<File = File> + Eprint + Drop>(
+    alloc: Global,
+    rt: &R,
+    name: &str,
+) -> Option<Vec<u8>> {
+    if !is_regular(rt, name) {
+        return None;
     }
     let mut shelf = FileShelf::new(alloc, rt);
-    if shelf.open(name).is_err() {
-        return Ok(());
+    read_named(alloc, &mut shelf, name)
+}
+
+fn is_regular<R: Files<File = File>>(rt: &R, name: &str) -> bool {
+    match rt.metadata(name) {
+        Ok(found) => found.is_file(),
+        Err(_) => false,
     }
-    let Ok(net) = read_all(alloc, &mut shelf, FILE_LIMIT) else {
-        return Ok(());
-    };
-    let own = OwnKinds { kinds: own };
-    match open_network(alloc, &net, own)? {
-        Opened::Line(fault) => put_fault(alloc, page, &net, own, fault),
-        Opened::Network(fault) => put_refused(alloc, page, &net, own, &fault),
+}
+
+// What the file of this name holds, where it can be read.
+fn read_named<S: Shelf>(alloc: Global, shelf: &mut S, name: &str) -> Option<Vec<u8>> {
+    if shelf.open(name).is_err() {
+        return None;
+    }
+    read_all(alloc, shelf, FILE_LIMIT).ok()
+}
+
+// Explains why a file with these bytes is refused.
+fn put_opened(
+    alloc: Global,
+    page: &mut String,
+    net: &[u8],
+    own: OwnKinds<'_>,
+    parts: &[usize],
+) -> Result<(), AllocError> {
+    match open_network(alloc, net, own)? {
+        Opened::Line(fault) => put_fault(alloc, page, net, own, fault),
+        Opened::Network(fault) => put_refused(alloc, page, net, own, &fault),
         Opened::Plan(plan) => put_no_part(page, &plan, own.kinds, parts),
     }
 }
@@ -59,14 +90,20 @@ pub enum Opened {
 
 /// What a network file's bytes are.
 pub fn open_network(alloc: Global, net: &[u8], own: OwnKinds<'_>) -> Result<Opened, AllocError> {
-    let text = match parse(alloc, net) {
-        Ok(text) => text,
-        Err(ParseStop::Fault(fault)) => return Ok(Opened::Line(fault)),
-        Err(ParseStop::NoMemory) => return Err(AllocError),
-    };
+    match parse(alloc, net) {
+        Ok(text) => open_text(alloc, &text, own),
+        Err(ParseStop::Fault(fault)) => Ok(Opened::Line(fault)),
+        Err(ParseStop::NoMemory) => Err(AllocError),
+    }
+}
+
+// What a text is that a network file spells.
+fn open_text(alloc: Global, text: &NetText, own: OwnKinds<'_>) -> Result<Opened, AllocError>
+    requires { IsNetText text.now }
+{
     own_kinds_make_a_table();
     let kinds = table(alloc, own.kinds)?;
-    match expand(alloc, &text, kinds) {
+    match expand(alloc, text, kinds) {
         Ok(plan) => Ok(Opened::Plan(plan)),
         Err(ExpandStop::Fault(fault)) => Ok(Opened::Network(fault)),
         Err(ExpandStop::NoMemory) => Err(AllocError),

@@ -2,7 +2,7 @@
 use crate::found::{Found, Wanted, find_in};
 use crate::inside::met_again;
 use crate::kinds::{names, put_names};
-use crate::near::nearest;
+use crate::near::{nearest, put_nearest};
 use crate::net::{Net, put_if_found};
 use crate::outer::put_outer_port;
 use crate::own::OwnKinds;
@@ -10,7 +10,6 @@ use crate::place::{Counted, canonical, fewest, process};
 use crate::ports::{
     put_bad_option, put_capacity, put_gap, put_missing, put_needs_initial, put_taken, put_unknown,
 };
-use crate::shown::put_word;
 use flow_flat::ExpandFault;
 use flow_limits::{
     CAPACITY_SUM_LIMIT, CONNECTION_LIMIT, DEFAULT_CAPACITY, PROCESS_LIMIT, SENDER_LIMIT,
@@ -35,6 +34,14 @@ pub fn put_refused(
         kinds: &table,
         own,
     };
+    put_network_fault(net, page, fault)
+}
+
+fn put_network_fault(
+    net: Net<'_>,
+    page: &mut String,
+    fault: &ExpandFault,
+) -> Result<(), AllocError> {
     match fault {
         ExpandFault::Recursive(name) => put_recursive(net, page, name.as_slice()),
         ExpandFault::Depth(name) => put_depth(net, page, name.as_slice()),
@@ -82,8 +89,7 @@ fn put_recursive(net: Net<'_>, page: &mut String, name: &[u8]) -> Result<(), All
 
 fn put_depth(net: Net<'_>, page: &mut String, name: &[u8]) -> Result<(), AllocError> {
     let home = net.home(name)?;
-    let found = net.find(&home, &Wanted::Kind(home.process))?;
-    put_if_found(page, found)?;
+    net.put_process(page, &home)?;
     page.push_str("Subnets stand in subnets to eight levels.\n")
 }
 
@@ -94,21 +100,23 @@ fn put_unknown_kind(
     kind: &[u8],
 ) -> Result<(), AllocError> {
     let home = net.home(name)?;
-    let found = net.find(&home, &Wanted::Kind(home.process))?;
-    put_if_found(page, found)?;
+    net.put_process(page, &home)?;
     let names = names(net)?;
-    let near = nearest(net.alloc, kind, &names)?;
+    put_kinds(net.alloc, page, &names, kind)
+}
+
+// The kinds that there are, and the nearest to a wrong one.
+fn put_kinds(
+    alloc: Global,
+    page: &mut String,
+    names: &[&[u8]],
+    wrong: &[u8],
+) -> Result<(), AllocError> {
+    let near = nearest(alloc, wrong, names)?;
     if let Some(near) = near {
-        let is_case = near.eq_ignore_ascii_case(kind);
-        page.push_str(if is_case {
-            "Upper and lower case differ: the kind is "
-        } else {
-            "The nearest kind is "
-        })?;
-        put_word(page, near)?;
-        page.push_str(".\n")?;
+        put_nearest(page, "kind", near, wrong)?;
     }
-    put_names(page, &names, near)
+    put_names(page, names, near)
 }
 
 // The line of the process with which there are too many, if the file is short enough to try.
@@ -117,13 +125,28 @@ fn put_last_process(
     page: &mut String,
     fault: &ExpandFault,
 ) -> Result<(), AllocError> {
-    let Some(spelling) = canonical(net.alloc, net.bytes)? else {
-        return Ok(());
-    };
-    let number = fewest(net.alloc, &spelling, net.own, Counted::Processes, fault)?;
-    let Some(last) = process(net.alloc, &spelling, number)? else {
-        return Ok(());
-    };
+    match canonical(net.alloc, net.bytes)? {
+        Some(spelling) => put_last_of(net, page, &spelling, fault),
+        None => Ok(()),
+    }
+}
+
+// The same, by the file's canonical spelling.
+fn put_last_of(
+    net: Net<'_>,
+    page: &mut String,
+    spelling: &[u8],
+    fault: &ExpandFault,
+) -> Result<(), AllocError> {
+    let number = fewest(net.alloc, spelling, net.own, Counted::Processes, fault)?;
+    match process(net.alloc, spelling, number)? {
+        Some(last) => put_mentioned(net, page, &last),
+        None => Ok(()),
+    }
+}
+
+// The line of the file that mentions the process of a line of its canonical spelling.
+fn put_mentioned(net: Net<'_>, page: &mut String, last: &Found<'_>) -> Result<(), AllocError> {
     let Some(from) = last.said.from else {
         return Ok(());
     };
@@ -139,27 +162,28 @@ fn put_too_many(
     many: Many,
 ) -> Result<(), AllocError> {
     match many {
-        Many::Processes => {
-            put_last_process(net, page, fault)?;
-            write!(
-                page,
-                "A network has at most {PROCESS_LIMIT} processes, with all subnets written out.\n"
-            )
-        }
-        Many::Instances => {
-            put_last_process(net, page, fault)?;
-            write!(
-                page,
-                "At most {SUBNET_PROCESS_LIMIT} processes are subnets.\n"
-            )
-        }
-        Many::Connections => {
-            put_if_found(page, net.statement(fault)?)?;
-            write!(
-                page,
-                "A network has at most {CONNECTION_LIMIT} connections, and a connection at most {SENDER_LIMIT} senders.\n"
-            )
-        }
+        Many::Processes | Many::Instances => put_last_process(net, page, fault)?,
+        Many::Connections => put_if_found(page, net.statement(fault)?)?,
+        Many::CapacitySum => {}
+    }
+    put_most(page, many)
+}
+
+// How many there may be.
+fn put_most(page: &mut String, many: Many) -> Result<(), AllocError> {
+    match many {
+        Many::Processes => write!(
+            page,
+            "A network has at most {PROCESS_LIMIT} processes, with all subnets written out.\n"
+        ),
+        Many::Instances => write!(
+            page,
+            "At most {SUBNET_PROCESS_LIMIT} processes are subnets.\n"
+        ),
+        Many::Connections => write!(
+            page,
+            "A network has at most {CONNECTION_LIMIT} connections, and a connection at most {SENDER_LIMIT} senders.\n"
+        ),
         Many::CapacitySum => write!(
             page,
             "All capacities come to at most {CAPACITY_SUM_LIMIT} packets; where no line gives one, a connection has room for {DEFAULT_CAPACITY}.\n"

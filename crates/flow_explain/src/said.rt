@@ -1,6 +1,7 @@
 //! What a line of a network file says, as far as a fault is about it: which processes and ports it mentions.
-use crate::kinds::automatic;
+use crate::kinds::{Side, automatic};
 use crate::pieces::{Piece, is_remark, pieces};
+use crate::words::{Reserved, reserved_word};
 use std::alloc::{AllocError, Global};
 
 /// Which form a line is.
@@ -36,6 +37,16 @@ pub struct Said<'a> {
     pub from: Option<Mention<'a>>,
     pub capacity: Option<&'a [u8]>,
     pub to: Option<Mention<'a>>,
+}
+
+impl<'a> Said<'a> {
+    /// What the line mentions on a side of its arrow.
+    pub fn mention(&self, side: Side) -> Option<Mention<'a>> {
+        match side {
+            Side::Output => self.from,
+            Side::Input => self.to,
+        }
+    }
 }
 
 // The pieces of a line that are left.
@@ -144,6 +155,24 @@ impl<'p, 'a> Rest<'p, 'a> {
         }
     }
 
+    fn header(&mut self) -> Said<'a> {
+        Said {
+            tag: Tag::Header,
+            name: self.word().unwrap_or(b""),
+            ..NOTHING
+        }
+    }
+
+    // A line that begins with a text.
+    fn initial(&mut self) -> Said<'a> {
+        let _ = self.arrow();
+        Said {
+            tag: Tag::Initial,
+            to: self.receiver(),
+            ..NOTHING
+        }
+    }
+
     fn outer_output(&mut self) -> Said<'a> {
         let from = self.sender();
         let _ = self.arrow();
@@ -184,34 +213,29 @@ const NOTHING: Said<'static> = Said {
     to: None,
 };
 
-// What the pieces of a line say.
-fn said_of<'a>(pieces: &[Piece<'a>]) -> Said<'a> {
-    let Some((first, left)) = pieces.split_first() else {
-        return NOTHING;
-    };
+// What a line says that begins with this word of the language.
+fn said_behind<'a>(word: Reserved, left: &[Piece<'a>]) -> Said<'a> {
     let mut rest = Rest { left };
-    match first {
-        Piece::Word(b"flow") => Said {
-            tag: Tag::Header,
-            name: rest.word().unwrap_or(b""),
-            ..NOTHING
-        },
-        Piece::Word(b"subnet") => rest.named(Tag::Subnet),
-        Piece::Word(b"end") => Said {
+    match word {
+        Reserved::Flow => rest.header(),
+        Reserved::Subnet => rest.named(Tag::Subnet),
+        Reserved::End => Said {
             tag: Tag::End,
             ..NOTHING
         },
-        Piece::Word(b"inport") => rest.named(Tag::OuterInput),
-        Piece::Word(b"outport") => rest.outer_output(),
-        Piece::Word(_) => Rest { left: pieces }.process(),
-        Piece::Quoted(_) => {
-            let _ = rest.arrow();
-            Said {
-                tag: Tag::Initial,
-                to: rest.receiver(),
-                ..NOTHING
-            }
-        }
+        Reserved::Inport => rest.named(Tag::OuterInput),
+        Reserved::Outport => rest.outer_output(),
+    }
+}
+
+// What the pieces of a line say.
+fn said_of<'a>(pieces: &[Piece<'a>]) -> Said<'a> {
+    match pieces {
+        [Piece::Word(word), left @ ..] => match reserved_word(word) {
+            Some(word) => said_behind(word, left),
+            None => Rest { left: pieces }.process(),
+        },
+        [Piece::Quoted(_), left @ ..] => Rest { left }.initial(),
         _ => NOTHING,
     }
 }

@@ -16,20 +16,40 @@ pub fn put_line(
     place: usize,
 ) -> Result<(), AllocError> {
     write!(page, "{number} | ")?;
+    put_around(page, line, place)?;
+    page.push('\n')
+}
+
+// As much of a line as is shown, with this place in it.
+fn put_around(page: &mut String, line: &[u8], place: usize) -> Result<(), AllocError> {
     if place < WIDTH {
-        put_within(page, line, WIDTH)?;
-    } else {
-        page.push_str("...")?;
-        let rest = behind(line, place.saturating_sub(BEFORE));
-        put_within(page, from_letter(rest), WIDTH)?;
+        return put_within(page, line, WIDTH);
     }
-    page.push('\n')?;
-    Ok(())
+    page.push_str("...")?;
+    let rest = behind(line, place.saturating_sub(BEFORE));
+    put_within(page, from_letter(rest), WIDTH)
 }
 
 /// A word, or a name: all of it, or its beginning where it is long.
 pub fn put_word(page: &mut String, word: &[u8]) -> Result<(), AllocError> {
     put_within(page, word, WIDTH)
+}
+
+/// A word behind what a sentence says before it.
+pub fn put_behind(page: &mut String, before: &str, word: &[u8]) -> Result<(), AllocError> {
+    page.push_str(before)?;
+    put_word(page, word)
+}
+
+/// A word between what a sentence says before it and after it.
+pub fn put_between(
+    page: &mut String,
+    before: &str,
+    word: &[u8],
+    after: &str,
+) -> Result<(), AllocError> {
+    put_behind(page, before, word)?;
+    page.push_str(after)
 }
 
 /// A text, all of it.
@@ -52,8 +72,7 @@ fn put_within(page: &mut String, bytes: &[u8], width: usize) -> Result<(), Alloc
         quoted: false,
     };
     for chunk in bytes.utf8_chunks() {
-        room.put_text(page, chunk.valid())?;
-        room.put_bytes(page, chunk.invalid())?;
+        room.put_chunk(page, chunk.valid(), chunk.invalid())?;
         if room.left == 0 {
             return page.push_str("...");
         }
@@ -69,6 +88,12 @@ struct Room {
 }
 
 impl Room {
+    // Text, and bytes behind it that are none.
+    fn put_chunk(&mut self, page: &mut String, text: &str, bytes: &[u8]) -> Result<(), AllocError> {
+        self.put_text(page, text)?;
+        self.put_bytes(page, bytes)
+    }
+
     fn put_text(&mut self, page: &mut String, text: &str) -> Result<(), AllocError> {
         for letter in text.chars() {
             if self.left == 0 {
@@ -91,26 +116,43 @@ impl Room {
         Ok(())
     }
 
-    // A letter, or its number where it would be unseen. A tab outside of quotes says no more than a space.
     fn put_letter(&mut self, page: &mut String, letter: char) -> Result<(), AllocError> {
         if letter == '\'' {
             self.quoted = !self.quoted;
         }
-        if letter == '\t' && !self.quoted {
-            page.push(' ')?;
-        } else if letter == '\t' {
-            page.push_str("\\t")?;
-        } else if (letter as u32) < 256 && is_unseen(letter) {
-            write!(page, "\\x{:02x}", letter as u32)?;
-        } else if is_unseen(letter) {
-            write!(page, "\\u{{{:x}}}", letter as u32)?;
-        } else {
-            page.push(letter)?;
-        }
-        let columns = if is_unseen(letter) { 4 } else { 1 };
-        self.left = self.left.saturating_sub(columns);
+        put_seen(page, letter, self.quoted)?;
+        self.left = self.left.saturating_sub(columns(letter));
         Ok(())
     }
+}
+
+// The columns that are counted for a letter.
+fn columns(letter: char) -> usize {
+    if is_unseen(letter) { 4 } else { 1 }
+}
+
+// A letter, or its number where it would be unseen.
+fn put_seen(page: &mut String, letter: char, quoted: bool) -> Result<(), AllocError> {
+    if letter == '\t' {
+        return put_tab(page, quoted);
+    }
+    if is_unseen(letter) {
+        return put_number(page, letter as u32);
+    }
+    page.push(letter)
+}
+
+// A tab outside of quotes says no more than a space.
+fn put_tab(page: &mut String, quoted: bool) -> Result<(), AllocError> {
+    page.push_str(if quoted { "\\t" } else { " " })
+}
+
+// The number of a letter that would be unseen.
+fn put_number(page: &mut String, number: u32) -> Result<(), AllocError> {
+    if number < 256 {
+        return write!(page, "\\x{number:02x}");
+    }
+    write!(page, "\\u{{{number:x}}}")
 }
 
 // Whether a letter drives a terminal or hides from its reader: controls, and what changes the direction or has no width.

@@ -4,13 +4,13 @@ use Rattle.flow_component.specs.Laws.{Rules}
 use Rattle.flow_model.specs.States.{Input, Channel}
 use Rattle.flow_model.specs.Events.{Event, event_from}
 use Rattle.flow_model.specs.Stands.{ChannelShown, all_shown_after}
+use Rattle.flow_model.proofs.Moves.{Moves, one-taker, channel-moves as moves}
+use Rattle.flow_model.proofs.Stages.{same-found}
 use Rattle.flow_machine.specs.Values.{BodyValue, NetValue}
 use Rattle.flow_machine.specs.Nets.{looks_of}
 use Rattle.flow_machine.specs.FitNets.{FitNet}
 use Rattle.flow_machine.proofs.Standings.{process-in, channel-in, happens-in}
 use Rattle.flow_floor.specs.Wired.{IsInput}
-use Rattle.flow_model.proofs.Moves.{Moves, one-taker, channel-moves as moves}
-use Rattle.flow_model.proofs.Stages.{same-found}
 
 -- The inputs of a body are those of another, the automatic one too.
 abbrev pub SameInputs : {K : Type 0} → BodyValue K → BodyValue K → Type 0

@@ -1,9 +1,9 @@
 -- What a floor leaves when it is closed.
 use Rattle.std.proofs.lemmas.List.{length-map}
 use Rattle.std.specs.Prelude.{not, ◌||◌}
-use Rattle.flow_limits.specs.declared.TheConstants.{WORKER_LIMIT}
+use Rattle.flow_limits.specs.declared.TheConstants.{RUN_LIMIT, WORKER_LIMIT}
 use Rattle.std.proofs.lemmas.Bool.Decides.{nat_tests}
-use Rattle.std.proofs.Common.{◌≡◌, ℕ, ◌+◌, nat_eq, cond, Bool, true, false, List, [], length, arith, map, get_or, refl, ap, sym, subst, ◌∙◌, Some, None, slice_get, ◌⊎◌, inl, inr, Contains}
+use Rattle.std.proofs.Common.{◌≡◌, ℕ, zero, suc, ◌+◌, ◌≤◌, nat_eq, cond, Bool, true, false, All, List, [], ◌∷◌, length, arith, map, get_or, refl, ap, sym, subst, ◌∙◌, Some, None, slice_get, ◌⊎◌, inl, inr, Contains}
 use lib.ListN.{get_elem?}
 use mathlib.Core.Option.{some}
 use Rattle.atomic_table.specs.Table.{Final, Seen}
@@ -23,24 +23,31 @@ use Rattle.flow_machine.specs.FitNets.{FitNet}
 use Rattle.flow_machine.specs.Solo.{GoesBy, reached}
 use Rattle.flow_machine.specs.Thoughts.{IsUnset}
 use Rattle.flow_machine.specs.Joins.{IsPlanned, Joins}
+use Rattle.flow_machine.specs.Quiet.{AllUnset, EndedAreTold, IsQuietNet}
+use Rattle.flow_machine.proofs.FitLemmas.{turns-most}
 use Rattle.flow_machine.proofs.Standings.{get-map}
 use Rattle.flow_machine.proofs.Planning.{body_wires, capacity_of, planned-kept}
 use Rattle.flow_machine.proofs.JoinPieces.{joins-pieces}
 use Rattle.flow_model.specs.Wires.{Wires}
 use Rattle.flow_model.proofs.Lists.{map-found}
+use Rattle.flow_ring.specs.Spaced.{ranked}
+use Rattle.flow_ring.specs.Words.{senders_in}
+use Rattle.flow_ring.proofs.Words.{senders-of}
+use Rattle.flow_floor.specs.Made.{numbered}
+use Rattle.flow_floor.specs.Rule.{in_order, Law, TableLaw}
+use Rattle.flow_floor.specs.Waking.{IsWiredAs, IsDoneWord, IsRetired, AllRetired}
+use Rattle.flow_floor.specs.Shut.{IsShut, ListsStarved, starves, HasBodies, BodiesIn, RestsAs, EachRests, ChannelsIn, AreEmpty}
+use Rattle.flow_floor.specs.Still.{IsStill, IsAllStill}
+use Rattle.flow_floor.proofs.Numbers.{contains-none}
+use Rattle.flow_floor.proofs.Lists.{same-lists, get-exists, get-within}
 use Rattle.flow_floor.specs.declared.board.Slot.{Slot}
 use Rattle.flow_floor.specs.declared.board.Slot.TheVariants as slot
 use Rattle.flow_floor.specs.declared.board.View.{View}
-use Rattle.flow_floor.specs.Rule.{Law}
-use Rattle.flow_floor.specs.Made.{numbered}
-use Rattle.flow_floor.specs.Waking.{IsWiredAs, IsDoneWord, IsRetired, AllRetired}
-use Rattle.flow_machine.specs.Quiet.{AllUnset, EndedAreTold, IsQuietNet}
-use Rattle.flow_floor.specs.Shut.{IsShut, ListsStarved, starves, HasBodies, HasChannels, BodiesIn, ChannelsIn}
-use Rattle.flow_floor.proofs.Numbers.{contains-none}
-use Rattle.flow_floor.proofs.Shutting.{same-lists}
-use Rattle.flow_floor.proofs.Seats.{St, get-exists, get-within}
-use Rattle.flow_floor.proofs.Ends.{closes}
-use Rattle.flow_floor.specs.Still.{IsStill, IsAllStill}
+use Rattle.flow_floor.specs.Ends.{capacities_of}
+use Rattle.flow_floor.specs.Places.{live_rank, slot_count}
+use Rattle.flow_floor.specs.Opening.{emptied}
+use Rattle.flow_floor.proofs.Cells.{St}
+use Rattle.flow_floor.proofs.Begins.{closes, LiesFree}
 use Rattle.flow_floor.proofs.Quiet.{quiet-at-zero, free-at-zero, parked-at-zero, told-at-zero, none-held-at-zero}
 
 over-still : {K : Type 0} (channels : List ChannelShown) (b : BodyValue K) (stage : Stage) → b.process.stage ≡ stage → IsOverStage stage → IsThoughtStage stage × ((m : ℕ) → event_from (looks_of channels) b.process m ≡ None)
@@ -91,6 +98,12 @@ module _ {K : Type 0} (rules : Rules K) (start : NetValue K) where
   abbrev Rule : St K → Type 0
   Rule = Law rules start
 
+  abbrev P : ℕ
+  P = length start.bodies
+
+  abbrev caps : List ℕ
+  caps = capacities_of start
+
   -- its connections are still the plan's
   planned-now : (now : NetValue K) → IsWiredAs start now → (length now.bodies ≡ length start.bodies) × (length now.channels ≡ length start.channels) → now.connections ≡ start.connections → IsPlanned start → IsPlanned now
   planned-now now wired sizes connections planned =
@@ -107,8 +120,19 @@ module _ {K : Type 0} (rules : Rules K) (start : NetValue K) where
       get-map capacity_of now.channels i k.0 k.1 ∙ ap (λ (n : ℕ). Some n) (wired.capacities i k.0 k0.0 k.1 k0.1 ∙ k0.2))) in
       planned-kept start now connections wires_same capacities_same planned
 
-  -- The net at the end: it is well; the net of the opening goes on to it by the turns of all workers, in the order of their stamps; each body and each
-  -- channel is in its slot; and where no process is left that was starved, it is quiet.
+  -- A connection at whose ends nobody is lies as the machine has it.
+  rests-as : (ws : List ℕ) (xs : List (Slot K)) (c : ℕ) (k : ChannelShown) → LiesFree rules start ws xs c k → k.capacity ≡ get_or caps c 0 → k.puts ≤ RUN_LIMIT → RestsAs P caps ws xs c k
+  rests-as ws xs c k l size few = record {
+    senders = ap senders_in l.level ∙ senders-of (length k.packets) k.open_senders (omega (arith, l.low.0, l.low.1)) l.few;
+    size = size;
+    level = l.low.0;
+    numbers = l.numbers;
+    few = few;
+    lies = record { puts = l.puts; takes = l.takes; cells = λ i low. l.cells i (omega (arith, low, size)) };
+  }
+
+  -- The net at the end: it is well; the net of the opening goes on to it by the turns of all workers, in the order of their stamps; each body is in its
+  -- slot, and each connection lies as the machine has it; and where no process is left that was starved, it is quiet.
   pub record Closes (v : View K) (ws : List ℕ) (xs : List (Slot K)) : Type 0 where
     pub now : NetValue K
     pub log : List Logged
@@ -116,10 +140,10 @@ module _ {K : Type 0} (rules : Rules K) (start : NetValue K) where
     pub goes : GoesBy rules (reached rules) start (turns_made start) log now
     pub turns : v.made ≡ numbered (turns_made start) log
     pub total : turns_made now ≡ turns_made start + length log
-    pub sizes : (length now.bodies ≡ length start.bodies) × (length now.channels ≡ length start.channels)
+    pub sizes : (length now.bodies ≡ length start.bodies) × (length now.channels ≡ length caps)
     pub bodies : (p : ℕ) (b : BodyValue K) → slice_get now.bodies p ≡ Some b → get_elem? xs p ≡ some (slot.Body b)
-    pub channels : (c : ℕ) (k : ChannelShown) → slice_get now.channels c ≡ Some k → get_elem? xs (length start.bodies + c) ≡ some (slot.Channel k)
-    pub slots : length xs ≡ length start.bodies + length start.channels
+    pub connections : (c : ℕ) (k : ChannelShown) → slice_get now.channels c ≡ Some k → RestsAs P caps ws xs c k
+    pub slots : length xs ≡ slot_count P caps
     pub planned : IsPlanned now
     pub done : AllRetired ws now.bodies
     pub words : v.read_zero ≡ true → (p : ℕ) (b : BodyValue K) → slice_get now.bodies p ≡ Some b → (get_or ws p 0 ≡ 0) ⊎ IsDoneWord (get_or ws p 0)
@@ -140,9 +164,9 @@ module _ {K : Type 0} (rules : Rules K) (start : NetValue K) where
         total = r.flow.total;
         sizes = r.flow.same;
         bodies = ended.bodies;
-        channels = ended.channels;
+        connections = λ c k there. rests-as ws xs c k (ended.connections c k there) (r.flow.each_connection c k there).so.size (omega (arith, r.flow.fit.puts c k there, r.flow.fit.total, turns-most rules r.beside.now r.flow.fit));
         slots = sym deep ∙ r.flow.deep;
-        planned = planned-now r.beside.now r.wakes.wired r.flow.same r.flow.goes.connections r.planned;
+        planned = planned-now r.beside.now r.wakes.wired (r.flow.same.0, r.flow.same.1 ∙ length-map start.channels (λ (k : ChannelShown). k.capacity)) r.flow.goes.connections r.planned;
         done = subst (λ (l : List ℕ). AllRetired l r.beside.now.bodies) words r.done;
         words = λ zero_read p b there. subst (λ (l : List ℕ). (get_or l p 0 ≡ 0) ⊎ IsDoneWord (get_or l p 0)) words (free-at-zero rules start s r ((r.wakes.each id v seen.1).zero zero_read) p b there);
         thought = λ zero_read p b there parked. (parked-at-zero rules start s r ((r.wakes.each id v seen.1).zero zero_read) p b there (ap (λ (l : List ℕ). get_or l p 0) words ∙ parked)).0;
@@ -157,14 +181,14 @@ module _ {K : Type 0} (rules : Rules K) (start : NetValue K) where
   pub has-bodies : (v : View K) (ws : List ℕ) (xs : List (Slot K)) → Closes v ws xs → HasBodies (length start.bodies) xs
   has-bodies v ws xs c p below = let b = get-exists c.now.bodies p (omega (arith, below, c.sizes.0)) in (b.0, c.bodies p b.0 b.1)
 
-  pub has-channels : (v : View K) (ws : List ℕ) (xs : List (Slot K)) → Closes v ws xs → HasChannels (length start.bodies) (length start.channels) xs
-  has-channels v ws xs c p below = let k = get-exists c.now.channels p (omega (arith, below, c.sizes.1)) in (k.0, c.channels p k.0 k.1)
+  pub each-rests : (v : View K) (ws : List ℕ) (xs : List (Slot K)) → Closes v ws xs → EachRests P caps ws xs
+  each-rests v ws xs c p below = let k = get-exists c.now.channels p (omega (arith, below, c.sizes.1)) in (k.0, c.connections p k.0 k.1)
 
   -- the pieces are the net
-  pub pieces : (v : View K) (ws : List ℕ) (xs : List (Slot K)) (cs : List Connection) (bs : List (BodyValue K)) (ks : List ChannelShown) (c : Closes v ws xs) → cs ≡ start.connections → BodiesIn (length start.bodies) xs bs → ChannelsIn (length start.bodies) (length start.channels) xs ks → c.now ≡ net_with cs bs ks
+  pub pieces : (v : View K) (ws : List ℕ) (xs : List (Slot K)) (cs : List Connection) (bs : List (BodyValue K)) (ks : List ChannelShown) (c : Closes v ws xs) → cs ≡ start.connections → BodiesIn (length start.bodies) xs bs → ChannelsIn P caps ws xs ks → c.now ≡ net_with cs bs ks
   pieces v ws xs cs bs ks c wired have have' =
       let bodies : bs ≡ c.now.bodies = same-lists bs c.now.bodies (have.0 ∙ sym c.sizes.0) (λ i y is. have.1 i y (omega (arith, get-within c.now.bodies i y is, c.sizes.0)) (c.bodies i y is)) in
-      let channels : ks ≡ c.now.channels = same-lists ks c.now.channels (have'.0 ∙ sym c.sizes.1) (λ i y is. have'.1 i y (omega (arith, get-within c.now.channels i y is, c.sizes.1)) (c.channels i y is)) in
+      let channels : ks ≡ c.now.channels = same-lists ks c.now.channels (have'.0 ∙ sym c.sizes.1) (λ i y is. have'.1 i y (omega (arith, get-within c.now.channels i y is, c.sizes.1)) (c.connections i y is)) in
       λ i. net_with ((c.goes.connections ∙ sym wired) i) (sym bodies i) (sym channels i)
 
   -- the pieces may be joined
@@ -209,16 +233,20 @@ module _ {K : Type 0} (rules : Rules K) (start : NetValue K) where
       thought p b there (inl parked) = c.thought zero_read p b there parked
       thought p b there (inr over) = (over-still c.now.channels b b.process.stage refl over).0
 
+  -- The end of the table, whose words lie apart, is that of its words in their order.
+  pub final-ranked : (id : ℕ) (v : View K) (ws : List ℕ) (xs : List (Slot K)) → Final (Seen (TableLaw rules start) id v) ws xs → Final (Seen (Law rules start) id v) (ranked ws) xs
+  final-ranked id v ws xs (s, seen, words, deep, homes) = (in_order s, seen, ap ranked words, deep, homes)
+
   -- Where some seat has read 0, nobody has anything to do.
   pub still-at-zero : (s : St K) (r : Law rules start s) (j : ℕ) (v : View K) → get_elem? s.views j ≡ some v → v.read_zero ≡ true → IsAllStill s.words s.views r.beside.now
-  still-at-zero s r j v at zero = record {
+  still-at-zero s r j v at once = record {
     idle = λ i u there. none-held-at-zero rules start s r live i u there;
     still = λ q b there. by q b there (free-at-zero rules start s r live q b there);
     told = told-at-zero rules start s r live;
   }
     where
-      live : get_or s.words (length start.bodies + length start.channels + 1) 0 ≡ 0
-      live = (r.wakes.each j v at).zero zero
+      live : get_or s.words (live_rank P (length caps)) 0 ≡ 0
+      live = (r.wakes.each j v at).zero once
 
       done : (q : ℕ) (b : BodyValue K) → IsDoneWord (get_or s.words q 0) → IsRetired b → IsStill r.beside.now b ⊎ (IsDoneWord (get_or s.words q 0) × IsUnset b)
       done q b is (inl told) = inl (over-still r.beside.now.channels b b.process.stage refl told.0)
@@ -227,3 +255,25 @@ module _ {K : Type 0} (rules : Rules K) (start : NetValue K) where
       by : (q : ℕ) (b : BodyValue K) → slice_get r.beside.now.bodies q ≡ Some b → (get_or s.words q 0 ≡ 0) ⊎ IsDoneWord (get_or s.words q 0) → IsStill r.beside.now b ⊎ (IsDoneWord (get_or s.words q 0) × IsUnset b)
       by q b there (inl parked) = inl (parked-at-zero rules start s r live q b there parked)
       by q b there (inr is) = done q b is (r.done q b there is)
+
+-- Channels out of which all packets were taken have the same capacities, and nothing in them.
+pub emptied-empty : (ks : List ChannelShown) → AreEmpty (map (λ (k : ChannelShown). k.capacity) ks) (map emptied ks)
+emptied-empty ks = record { sizes = sizes ks; empty = empty ks }
+  where
+    sizes : (ks : List ChannelShown) → map (λ (k : ChannelShown). k.capacity) (map emptied ks) ≡ map (λ (k : ChannelShown). k.capacity) ks
+    sizes [] = refl
+    sizes (k ∷ ks) = ap (λ (xs : List ℕ). k.capacity ∷ xs) (sizes ks)
+
+    empty : (ks : List ChannelShown) → All (λ (k : ChannelShown). k.packets ≡ []) (map emptied ks)
+    empty [] i d low = absurd (omega (arith, low))
+    empty (k ∷ ks) zero d low = refl
+    empty (k ∷ ks) (suc i) d low = empty ks i d (omega (arith, low))
+
+module _ {K : Type 0} where
+  -- Connections lie so wherever the numbers, the words and the slots are the same.
+  pub each-same : (n n' : ℕ) (capacities capacities' ws ws' : List ℕ) (xs xs' : List (Slot K)) → n ≡ n' → capacities ≡ capacities' → ws ≡ ws' → xs ≡ xs' → EachRests n capacities ws xs → EachRests n' capacities' ws' xs'
+  each-same n n' capacities capacities' ws ws' xs xs' count sizes words slots = subst (λ (z : (ℕ × List ℕ) × (List ℕ × List (Slot K))). EachRests z.0.0 z.0.1 z.1.0 z.1.1) (λ j. ((count j, sizes j), (words j, slots j)))
+
+  -- These are the channels as which they lie there, wherever that is so.
+  pub channels-same : (n n' : ℕ) (capacities capacities' ws ws' : List ℕ) (xs xs' : List (Slot K)) (ks : List ChannelShown) → n ≡ n' → capacities ≡ capacities' → ws ≡ ws' → xs ≡ xs' → ChannelsIn n capacities ws xs ks → ChannelsIn n' capacities' ws' xs' ks
+  channels-same n n' capacities capacities' ws ws' xs xs' ks count sizes words slots = subst (λ (z : (ℕ × List ℕ) × (List ℕ × List (Slot K))). ChannelsIn z.0.0 z.0.1 z.1.0 z.1.1 ks) (λ j. ((count j, sizes j), (words j, slots j)))

@@ -13,7 +13,7 @@ use Rattle.flow_floor.specs.Views.{cut}
 use Rattle.flow_floor.specs.Made.{merge}
 use Rattle.flow_floor.specs.Seats.{newcomer}
 use Rattle.flow_floor.specs.Crew.{IsCrew, made_by}
-use Rattle.flow_floor.proofs.Shutting.{All-one, All-front, All-last}
+use Rattle.flow_floor.proofs.Lists.{All-one, All-front, All-last}
 
 -- One more of which it holds.
 pub all-push : {X : Type 0} (P : X → Type 0) (xs : List X) (x : X) → All P xs → P x → All P (xs ++ x ∷ [])

@@ -1,24 +1,22 @@
 -- The net of the rule goes on by works and turns.
 use Rattle.std.proofs.Common.{◌≡◌, ℕ, ◌+◌, List, [], ◌∷◌, ◌++◌, length, Some, refl, sym, subst, ◌∙◌, slice_get, slice_set, length-set, append-nil, ◌⊎◌, inl, inr}
 use Rattle.flow_component.specs.Laws.{Rules, Lawful}
-use Rattle.flow_model.specs.States.{State}
 use Rattle.flow_model.specs.Events.{Event, event_from, seen_by}
-use Rattle.flow_model.specs.Schedules.{Step, Turned, Worked, then_turns}
-use Rattle.flow_model.specs.Schedules.{journal_of as steps_journal}
+use Rattle.flow_model.specs.States.{State}
+use Rattle.flow_model.specs.Schedules.{Step, Turned, Worked, then_turns, journal_of as steps_journal}
 use Rattle.flow_model.specs.Stands.{StandsForOpen}
 use Rattle.flow_model.specs.Fit.{Fit}
 use Rattle.flow_machine.specs.Values.{BodyValue, NetValue, shown_net}
 use Rattle.flow_machine.specs.Nets.{looks_of, NetTurn}
-use Rattle.flow_machine.specs.Thoughts.{SameBody, WorkedBody}
 use Rattle.flow_machine.specs.Logs.{Logged, journal_of, turns_made, Remembers}
-use Rattle.flow_machine.specs.FitNets.{FitNet}
 use Rattle.flow_machine.specs.Solo.{GoesBy, reached}
+use Rattle.flow_machine.specs.FitNets.{FitNet}
+use Rattle.flow_machine.specs.Thoughts.{SameBody, WorkedBody}
 use Rattle.flow_machine.proofs.FitLemmas.{goes-by, goes-same, goes-work, fit-rest}
 use Rattle.flow_machine.proofs.SoloLemmas.{journal_of-append, remember-then, count-rest}
 use Rattle.flow_machine.proofs.Reaching.{reaches-append, steps-append, remember-one, remember-kept}
 use Rattle.flow_floor.specs.Law.{Rests}
-use Rattle.flow_floor.specs.Turning.{with_body, turned_net, logged}
-use Rattle.flow_floor.specs.Ahead.{turned_body}
+use Rattle.flow_floor.specs.Turning.{with_body, turned_net, logged, turned_body}
 
 -- a body that hasn't changed rests
 pub rests-same : {K : Type 0} (rules : Rules K) (b d : BodyValue K) → b ≡ d → Rests rules b d

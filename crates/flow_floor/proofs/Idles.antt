@@ -1,6 +1,8 @@
 -- The turns of an idle process, by what was seen at its inputs.
 use Rattle.std.proofs.Common.{◌≡◌, ◌+◌, ◌≤◌, Option, ℕ, zero, suc, ◌<◌, Bool, true, false, cond, List, [], ◌∷◌, length, refl, ap, sym, subst, ◌∙◌, arith, Some, None, slice_get, ◌⊎◌, inl, inr, nat_eq}
-use Rattle.std.specs.Prelude.{◌&&◌, ◌||◌, not, unwrap_or}
+use Rattle.std.specs.Prelude.{◌&&◌, ◌||◌, not, slice_index}
+use Rattle.std.proofs.lemmas.Option.{get_or_from_slice_get}
+use Rattle.flow_machine.proofs.Standings.{get-map}
 use Rattle.std.specs.List.{list_any, list_all}
 use Rattle.std.proofs.lemmas.Bool.Decides.{nat_tests}
 use Rattle.flow_packet.specs.Tree.{Tree}
@@ -8,7 +10,7 @@ use Rattle.flow_component.specs.declared.Port.{Port}
 use Rattle.flow_component.specs.declared.Wish.TheVariants as wishes
 use Rattle.flow_model.specs.declared.Stage.TheVariants as stages
 use Rattle.flow_model.specs.States.{Input, From, Text, Process, output_at}
-use Rattle.flow_model.specs.Events.{Event, Starts, Finishes, Signals, stage_event, event_from, idle_event, rest_event, signal_event, signalled_from, signalled_by, takes_signal, signal_over, is_released, is_woken, can_start, can_finish, has_packet, has_ended, is_connected, passes, holds_packet, is_over, is_empty}
+use Rattle.flow_model.specs.Events.{Starts, Finishes, Signals, stage_event, idle_event, rest_event, signal_event, signalled_from, signalled_by, takes_signal, signal_over, is_released, is_woken, can_start, can_finish, has_packet, has_ended, is_connected, passes, holds_packet, is_over, is_empty}
 use Rattle.flow_model.specs.Events.{Look as Seen}
 use Rattle.flow_model.specs.Stages.{IsThoughtStage}
 use Rattle.flow_model.specs.Stands.{ChannelShown}
@@ -17,22 +19,18 @@ use Rattle.flow_machine.specs.Values.{BodyValue, NetValue}
 use Rattle.flow_machine.specs.Nets.{looks_of, SendsAt}
 use Rattle.flow_floor.specs.declared.board.Look.{Look}
 use Rattle.flow_floor.specs.declared.floor.Idling.TheVariants as idling
-use Rattle.flow_floor.specs.Law.{IsOver, SeenTrue, AllSeen}
+use Rattle.flow_floor.specs.Law.{IsOver, AllSeen}
 use Rattle.flow_floor.specs.Wired.{IsInput, IsWiredIn}
-use Rattle.flow_floor.specs.Turning.{Happens, GrabIn, signalled_event}
-use Rattle.flow_floor.specs.Waking.{StillBlocks, AllBlock, WordsBlock, BlockSignal, BlockStreams, IsEmptyAt, IsOpenAt, HasWorked, capacity_at}
-use Rattle.std.specs.Option.{option_map}
+use Rattle.flow_floor.specs.Ends.{capacities_of}
+use Rattle.flow_floor.specs.Midway.{drawn_at}
+use Rattle.flow_floor.specs.Turning.{Happens}
+use Rattle.flow_floor.specs.Waking.{WordsBlock, BlockSignal, BlockStreams, IsEmptyAt, IsOpenAt, HasWorked, StillBlocks, AllBlock}
 use Rattle.flow_ring.specs.Words.{level_in, senders_in}
 use Rattle.flow_floor.specs.Looks.{InSeen, IsLook, SawPacket, SawNone, SawOver, SawOne, AllSaw, SawEnd, SawReleased, WaitsAlone, Watches, IsDormant, Idles, FirstOpen}
 use Rattle.flow_floor.specs.Workers.{SeenBlocks}
-use Rattle.flow_floor.proofs.Seats.{some_Some, get-exists, get-within}
-use Rattle.flow_floor.proofs.Quiet.{look-of, no-packets, none-held}
-
--- A look that was taken so is true.
-pub seen-in : {K : Type 0} (n : ℕ) (now : NetValue K) (held : ℕ × BodyValue K) (seen : List Look) (is : Look → Type 0) → AllSeen n now (Some held) seen → InSeen is seen → (look : Look) × is look × SeenTrue n now held.1 look
-seen-in n now held [] is all there = absurd there
-seen-in n now held (look ∷ seen) is all (inl here) = (look, here, all.0)
-seen-in n now held (look ∷ seen) is all (inr there) = seen-in n now held seen is all.1 there
+use Rattle.flow_floor.proofs.Lists.{some_Some, get-exists, get-within}
+use Rattle.flow_floor.proofs.Blocks.{look-of, no-packets, none-held, and-false}
+use Rattle.flow_floor.proofs.Turnings.{seen-in}
 
 block-in : {K : Type 0} (n : ℕ) (channels : List ChannelShown) (ws : List ℕ) (b : BodyValue K) (seen : List Look) (is : Look → Type 0) → AllBlock n channels ws b seen → InSeen is seen → (look : Look) × is look × StillBlocks n channels ws b look
 block-in n channels ws b [] is all there = absurd there
@@ -85,10 +83,6 @@ saw-signal is signal c seen at all =
 or-true : (a b : Bool) → b ≡ true → (a || b) ≡ true
 or-true true b is = refl
 or-true false b is = is
-
-and-false : (a b : Bool) → b ≡ false → (a && b) ≡ false
-and-false true b is = is
-and-false false b is = refl
 
 -- What was seen at the inputs of an idle process, and is so.
 module _ {K : Type 0} (n m p since : ℕ) (d : BodyValue K) (seen : List Look) (wired : IsWiredIn m d) (now : NetValue K) (len : length now.channels ≡ m) (all : AllSeen n now (Some (p, d)) seen) where
@@ -177,14 +171,14 @@ module _ {K : Type 0} (n m p since : ℕ) (d : BodyValue K) (seen : List Look) (
 
 module _ {K : Type 0} (fits : NetValue K → Type 0) (n m p since : ℕ) (d : BodyValue K) (seen : List Look) (wired : IsWiredIn m d) (idle : d.process.stage ≡ stages.Idle) where
   -- It starts where it is released, and something wakes it.
-  pub starts-seen : Idles n since d.process seen idling.Start → Happens fits n m p d None seen Starts
-  starts-seen saw now fit at grab all len =
+  pub starts-seen : Idles n since d.process seen idling.Start → Happens fits n m p d None None seen Starts
+  starts-seen saw now fit at sends_in draws_in all len =
       let ls = looks_of now.channels in
       (0, ap (stage_event ls d.process 0) idle ∙ ap (λ b. cond b (Some Starts) (cond (can_finish ls d.process) (Some Finishes) (rest_event ls d.process))) (starts-now n m p since d seen wired now len all saw.0 saw.1))
 
   -- It goes to its end where all its inputs were seen over.
-  pub finishes-seen : Idles n since d.process seen idling.Finish → Happens fits n m p d None seen Finishes
-  finishes-seen saw now fit at grab all len =
+  pub finishes-seen : Idles n since d.process seen idling.Finish → Happens fits n m p d None None seen Finishes
+  finishes-seen saw now fit at sends_in draws_in all len =
       let ls = looks_of now.channels in
       let cannot = cannot-start n m p since d seen wired now len all (unwoken n m p since d seen wired now len all (streams-empty n m p since d seen wired now len all saw.0) saw.2) in
       let over = streams-over n m p since d seen wired now len all saw.0 in
@@ -192,20 +186,10 @@ module _ {K : Type 0} (fits : NetValue K → Type 0) (n m p since : ℕ) (d : Bo
       let can : can_finish ls d.process ≡ true = (λ i. over i && none i) in
       (0, ap (stage_event ls d.process 0) idle ∙ ap (λ b. cond b (Some Starts) (cond (can_finish ls d.process) (Some Finishes) (rest_event ls d.process))) cannot ∙ ap (λ b. cond b (Some Finishes) (rest_event ls d.process)) can)
 
-  -- It takes the packet at its automatic input that its worker holds.
-  pub signals-seen : (grab : Option (ℕ × ChannelShown)) (c : ℕ) (k : ChannelShown) (e : Event) → grab ≡ Some (c, k) → e ≡ signalled_event c k.packets → d.process.signal ≡ Some c → 0 < length k.packets → WaitsAlone n since d.process seen
-      → Happens fits n m p d grab seen e
-  signals-seen grab c k e is e_is signal some_packet alone now fit at grabs all len = by k.packets refl
-    where
-      ls : List Seen
-      ls = looks_of now.channels
-
-      by : (ps : List Tree) → k.packets ≡ ps → (level : ℕ) × (event_from (looks_of now.channels) d.process level ≡ Some e)
-      by [] none = absurd (let l : length k.packets ≡ 0 = ap (λ (xs : List Tree). length xs) none in omega (arith, l, some_packet))
-      by (packet ∷ rest) has =
-          let event : e ≡ Signals c packet = e_is ∙ ap (signalled_event c) has in
-          let there : slice_get now.channels c ≡ Some k = subst (GrabIn now) is grabs in
-          (0, ap (stage_event (looks_of now.channels) d.process 0) idle ∙ signals-now n m p since d seen wired now len all c k packet rest signal there has alone ∙ ap (λ (y : Event). let t : Option Event = Some y in t) (sym event))
+  -- It takes the packet that its worker drew at its automatic input.
+  pub signals-seen : (c : ℕ) (packet : Tree) → Idles n since d.process seen (idling.Signal c packet) → Happens fits n m p d None (Some (drawn_at c packet)) seen (Signals c packet)
+  signals-seen c packet (signal, alone) now fit at sends_in (k, there, (others, are)) all len =
+      (0, ap (stage_event (looks_of now.channels) d.process 0) idle ∙ signals-now n m p since d seen wired now len all c k packet others signal there are alone)
 
 -- What was seen blocks a dormant process, as long as the words still do.
 module _ {K : Type 0} (start : NetValue K) (d : BodyValue K) (seen : List Look) (since : ℕ) (ws : List ℕ) (all : AllBlock (length start.bodies) start.channels ws d seen) where
@@ -277,14 +261,18 @@ empty-seen start d seen n since c w port size stage is there none_in opened = (
       let b = (s.2 c (s.1.0 ∙ ap (λ m. m + c) (sym size))).0 (inl (port.0, is)) in (c, is, b.0 (ap level_in s.1.1 ∙ none_in), b.1 (subst (λ m. 0 < senders_in m) (sym s.1.1) opened))),
 )
 
+-- the capacity of a connection, among those of all
+capacity-is : {K : Type 0} (start : NetValue K) (c : ℕ) (k : ChannelShown) → slice_get start.channels c ≡ Some k → slice_index (capacities_of start) c ≡ k.capacity
+capacity-is start c k at = get_or_from_slice_get (capacities_of start) c k.capacity 0 (get-map (λ (x : ChannelShown). x.capacity) start.channels c k at)
+
 -- what was seen blocks a process that wishes to send
 pub full-seen : {K : Type 0} (start : NetValue K) (d : BodyValue K) (seen : List Look) (n since c w : ℕ) (port : Port) → length start.bodies ≡ n → c < length start.channels → SendsAt d.process.stage port → output_at d.process port.0 ≡ Some c
-    → InSeen (IsLook n since c w) seen → capacity_at start.channels c ≤ level_in w → SeenBlocks start d seen
+    → InSeen (IsLook n since c w) seen → slice_index (capacities_of start) c ≤ level_in w → SeenBlocks start d seen
 full-seen start d seen n since c w port size below stage is there full = (
   subst IsThoughtStage (sym stage.1) tt,
   λ ws all. subst (WordsBlock (length start.bodies) start.channels ws d) (sym stage.1)
       (let s = block-in (length start.bodies) start.channels ws d seen (IsLook n since c w) all there in
       let k = get-exists start.channels c below in
-      let most : capacity_at start.channels c ≡ k.0.capacity = ap (λ (o : Option ChannelShown). unwrap_or (option_map (λ (x : ChannelShown). x.capacity) o) 0) k.1 in
+      let most = capacity-is start c k.0 k.1 in
       (c, k.0, is, k.1, (s.2 c (s.1.0 ∙ ap (λ m. m + c) (sym size))).1 (port.0, is) k.0 k.1 (omega (arith, ap level_in s.1.1, full, most)))),
 )

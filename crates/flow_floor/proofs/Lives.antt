@@ -14,14 +14,16 @@ use Rattle.flow_ring.specs.Words.{level_in, senders_in}
 use Rattle.flow_floor.specs.declared.board.View.{View}
 use Rattle.flow_floor.specs.declared.board.Look.{Look}
 use Rattle.flow_floor.specs.Law.{IsTaken, IsFree, Stands, AllSeen}
+use Rattle.flow_floor.specs.Ends.{capacities_of}
 use Rattle.flow_floor.specs.Waking.{counts, IsDoneWord, AllBlock, Keeps}
 use Rattle.flow_floor.specs.Rule.{Law}
 use Rattle.flow_floor.specs.Plays.{Sat, raised, poked, lowered, told_live}
 use Rattle.flow_floor.specs.Views.{raising, poking, lowering, reading}
-use Rattle.flow_floor.proofs.Seats.{get-exists, St, state}
+use Rattle.flow_floor.proofs.Lists.{get-exists}
+use Rattle.flow_floor.proofs.Cells.{St, state}
 use Rattle.flow_floor.proofs.Flows.{mine-holds, flow-view}
 use Rattle.flow_floor.proofs.Retires.{low-undone, done-set, done-beyond}
-use Rattle.flow_floor.proofs.Wakes.{total_le, total_one, live-one, live-most, live-other}
+use Rattle.flow_floor.proofs.Wakes.{live-one, live-most, live-other, total_le, total_one}
 use Rattle.flow_floor.proofs.Wakings.{word-taken, body-below, wakes-view, wakes-poke}
 
 module _ {K : Type 0} (rules : Rules K) (lawful : Lawful rules)
@@ -33,15 +35,15 @@ module _ {K : Type 0} (rules : Rules K) (lawful : Lawful rules)
   P = length start.bodies
 
   abbrev C : ℕ
-  C = length start.channels
+  C = length (capacities_of start)
 
   abbrev L : ℕ
-  L = P + C + 1
+  L = P + C + C + 1
 
   -- the live word and the seat's tokens change together
-  law-live : (s : St K) (id y : ℕ) (v w : View K) → Rule s → get_elem? s.views id ≡ some v → y + v.spare ≡ get_or s.words L 0 + w.spare → (get_or s.words L 0 ≡ 0 → y ≡ 0) → w.held ≡ v.held → w.grab ≡ v.grab → w.word ≡ v.word → w.found ≡ v.found → w.made ≡ v.made → w.seen ≡ v.seen
+  law-live : (s : St K) (id y : ℕ) (v w : View K) → Rule s → get_elem? s.views id ≡ some v → y + v.spare ≡ get_or s.words L 0 + w.spare → (get_or s.words L 0 ≡ 0 → y ≡ 0) → w.held ≡ v.held → w.sending ≡ v.sending → w.receiving ≡ v.receiving → w.made ≡ v.made → w.seen ≡ v.seen
       → w.shares ≡ v.shares → w.spare ≤ w.shares → w.noted ≡ v.noted → (w.read_zero ≡ true → y ≡ 0) → Rule (state (set s.words L y) s.homes (set s.views id w))
-  law-live s id y v w r at live falls held grab word found made seen shares few noted zeros =
+  law-live s id y v w r at live falls held sending receiving made seen shares few noted zeros =
       let f = r.flow in
       let g = r.beside in
       let ws' = set s.words L y in
@@ -51,7 +53,7 @@ module _ {K : Type 0} (rules : Rules K) (lawful : Lawful rules)
       let other = λ (q : ℕ) (low : q < L). get_or-set_other s.words L q y 0 (λ e. omega (arith, low, e)) in
       record {
         beside = g;
-        flow = flow-view rules lawful start s g id v w ws' f at (length-set s.words L y) (λ q below. (let e = other q (omega arith) in (subst IsFree (sym e), subst IsTaken (sym e)))) (λ q a b. other q (omega arith)) held grab word found made
+        flow = flow-view rules lawful start s g id v w ws' f at (length-set s.words L y) (λ q below. (let e = other q (omega arith) in (subst IsFree (sym e), subst IsTaken (sym e)))) (λ q a b. other q (omega arith)) held sending receiving made
             (subst (λ (z : Option (ℕ × BodyValue K) × List Look). AllSeen P g.now z.0 z.1) (λ j. (sym held j, sym seen j)) (f.each_seat id v at).seen);
         planned = r.planned;
         wakes = wakes-view rules lawful start s g g ws' s.homes id v w f r.wakes at refl (λ q below. other q (omega arith)) (live-other P L y s.words (omega arith))
@@ -94,7 +96,7 @@ module _ {K : Type 0} (rules : Rules K) (lawful : Lawful rules)
         keeps,
         tt,
         subst (λ (z : ℕ × ℕ). Rule (state (set s.words z.0 z.1) s.homes (set s.views id w))) (λ j. (sym place j, sym up j))
-            (law-live s id (x + 1) v w r at (omega (arith, x_is)) (λ e. absurd (omega (arith, e, some_live))) refl refl refl refl refl refl refl (omega (arith, none_spare, share)) refl (λ e. absurd (omega (arith, ks.zero e, some_live)))),
+            (law-live s id (x + 1) v w r at (omega (arith, x_is)) (λ e. absurd (omega (arith, e, some_live))) refl refl refl refl refl refl (omega (arith, none_spare, share)) refl (λ e. absurd (omega (arith, ks.zero e, some_live)))),
         refl,
       )
 
@@ -114,7 +116,7 @@ module _ {K : Type 0} (rules : Rules K) (lawful : Lawful rules)
         keeps,
         tt,
         subst (λ (z : ℕ × ℕ). Rule (state (set s.words z.0 z.1) s.homes (set s.views id w))) (λ j. (sym place j, sym down j))
-            (law-live s id (x - 1) v w r at (omega (arith, x_is, some_live, some_spare)) (λ e. omega (arith, e, x_is)) refl refl refl refl refl refl refl (omega (arith, ks.spare)) refl (λ e. omega (arith, ks.zero e, x_is))),
+            (law-live s id (x - 1) v w r at (omega (arith, x_is, some_live, some_spare)) (λ e. omega (arith, e, x_is)) refl refl refl refl refl refl (omega (arith, ks.spare)) refl (λ e. omega (arith, ks.zero e, x_is))),
         refl,
       )
 
@@ -129,7 +131,7 @@ module _ {K : Type 0} (rules : Rules K) (lawful : Lawful rules)
         keeps,
         tt,
         subst (λ (n : ℕ). Rule (state (set s.words n x) s.homes (set s.views id w))) (sym place)
-            (law-live s id x v w r at (omega (arith, x_is)) (λ e. x_is ∙ e) refl refl refl refl refl refl refl ks.spare refl (λ e. by v.read_zero refl (nat_eq x 0) refl ks e x_is)),
+            (law-live s id x v w r at (omega (arith, x_is)) (λ e. x_is ∙ e) refl refl refl refl refl refl ks.spare refl (λ e. by v.read_zero refl (nat_eq x 0) refl ks e x_is)),
         refl,
       )
     where
@@ -215,7 +217,7 @@ module _ {K : Type 0} (rules : Rules K) (lawful : Lawful rules)
                 λ t. subst IsTaken (sym (ap (λ n. get_or ws' n 0) e ∙ here)) (k.taken (subst (λ n. IsTaken (get_or s.words n 0)) e t)),
               ))
               (λ other. (let e = get_or-set_other s.words i q y 0 other in (subst IsFree (sym e), subst IsTaken (sym e)))))
-              (λ q a b. get_or-set_other s.words i q y 0 (λ e. omega (arith, e, below, a))) refl refl refl refl refl ks.seen;
+              (λ q a b. get_or-set_other s.words i q y 0 (λ e. omega (arith, e, below, a))) refl refl refl refl ks.seen;
           planned = r.planned;
           wakes = wakes-poke rules lawful start s g g id p i y s.homes v w b f r.wakes at holds refl below k.high (notes ∙ ap (λ (l : List ℕ). i ∷ l) (sym rest_is)) (omega (arith, spent, k.spare, one_spare)) (omega (arith, spent, low, share)) refl refl refl refl;
           done = done-set s.words i y g.now.bodies (omega (arith, below, wide)) (λ z at_i is. r.done i z at_i (k.done is)) r.done;

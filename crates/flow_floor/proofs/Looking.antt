@@ -10,10 +10,12 @@ use Rattle.flow_floor.specs.declared.board.Look.{Look}
 use Rattle.flow_floor.specs.declared.board.View.{View}
 use Rattle.flow_floor.specs.declared.floor.Saw.{Saw}
 use Rattle.flow_floor.specs.declared.floor.Saw.TheVariants as saw
-use Rattle.flow_floor.specs.Looks.{InSeen, IsLook, SawPacket, SawNone, SawOver, SawEnd, SawReleased, WaitsAlone, MaySignal, AllSaw, Saws, FoundOpen, Looked, first_open}
+use Rattle.flow_floor.specs.declared.floor.Signalled.{Signalled}
+use Rattle.flow_floor.specs.declared.floor.Signalled.TheVariants as signalled
+use Rattle.flow_floor.specs.Looks.{InSeen, IsLook, SawPacket, SawNone, SawOver, SawEnd, SawReleased, AllSaw, Saws, Finds, FindsHeld, FoundOpen, Looked, first_open}
 use Rattle.flow_floor.specs.Views.{look_at, seeing}
 use Rattle.flow_floor.specs.Workers.{LooksOn}
-use Rattle.flow_floor.proofs.Seats.{some_Some}
+use Rattle.flow_floor.proofs.Lists.{some_Some}
 
 pub saw-begin : (saw : ℕ → Look → Type 0) (inputs : List Input) (seen : List Look) → AllSaw saw 0 inputs seen
 saw-begin saw inputs seen i c below is = absurd (omega (arith, below))
@@ -98,14 +100,6 @@ pub released-on : {K : Type 0} (n since : ℕ) (x : Process K) (more seen : List
 released-on n since x more seen (inl signalled) = inl signalled
 released-on n since x more seen (inr saw) = inr (end-on n since (signal_input x.signal) more seen saw)
 
--- And what lets it take a packet from its automatic input.
-pub alone-on : {K : Type 0} (n since : ℕ) (x : Process K) (more seen : List Look) → WaitsAlone n since x seen → WaitsAlone n since x (more ++ seen)
-alone-on n since x more seen (inl unsignalled) = inl unsignalled
-alone-on n since x more seen (inr (saw, worked)) = inr (end-on n since x.inputs more seen saw, worked)
-
-pub signal-on : {K : Type 0} (n since : ℕ) (x : Process K) (more seen : List Look) → MaySignal n since x seen → MaySignal n since x (more ++ seen)
-signal-on n since x more seen ((i, c, at, there), alone) = ((i, c, at, in-more (SawPacket n since c) more seen there), alone-on n since x more seen alone)
-
 -- What was seen after more steps was seen after fewer.
 pub saws-since : (n since late : ℕ) (inputs : List Input) (seen : List Look) (s : Saw) → since ≤ late → Saws n late inputs seen s → Saws n since inputs seen s
 saws-since n since late inputs seen s le is = by s is
@@ -146,9 +140,6 @@ module _ {K : Type 0} (n c r : ℕ) (signal : Option ℕ) (v w : View K) (at : s
   looked : level_in r ≡ 0 → Looked n v.steps 1 (From c ∷ []) (look_at v (n + c) r ∷ v.seen) (first_open None r)
   looked none_in = looked-more n v.steps 0 c (From c ∷ []) (look_at v (n + c) r) v.seen None (looked-begin n v.steps (From c ∷ []) v.seen) refl refl (omega arith) none_in
 
-  pub signal-packet : 0 < level_in r → Saws n v.steps (signal_input signal) w.seen saw.Packet
-  signal-packet some_packet = there saw.Packet (0, c, refl, inl (refl, some_packet, omega arith))
-
   pub signal-sender : (o : ℕ) → level_in r ≡ 0 → first_open None r ≡ Some o → Saws n v.steps (signal_input signal) w.seen (saw.Sender o)
   signal-sender o none_in found = let l = looked none_in in there (saw.Sender o) (l.none_in, subst (FoundOpen n v.steps 1 (From c ∷ []) (look_at v (n + c) r ∷ v.seen)) found l.opened)
 
@@ -162,6 +153,10 @@ signal-absent n since signal seen gone = subst (λ (z : Option ℕ). Saws n sinc
 -- Looks and nothing else.
 pub looks-none : {K : Type 0} (v : View K) → LooksOn v v
 looks-none v = record { made = refl; steps = (let l : v.steps ≤ v.steps = omega arith in l); more = []; seen = refl }
+
+-- Steps that looked at nothing.
+pub looks-on : {K : Type 0} (v w u : View K) → w ≡ u → u.made ≡ v.made → v.steps ≤ u.steps → u.seen ≡ v.seen → LooksOn v w
+looks-on v w u is made steps seen = record { made = ap (λ (x : View _). x.made) is ∙ made; steps = (let e = ap (λ (x : View _). x.steps) is in omega (arith, e, steps)); more = []; seen = ap (λ (x : View _). x.seen) is ∙ seen }
 
 pub looks-then : {K : Type 0} (u v w : View K) → LooksOn u v → LooksOn v w → LooksOn u w
 looks-then u v w first then = record {
@@ -185,3 +180,9 @@ end-later n since inputs v w on saw = subst (SawEnd n since inputs) (sym on.seen
 
 pub released-later : {K L : Type 0} (n since : ℕ) (x : Process L) (v w : View K) → LooksOn v w → SawReleased n since x v.seen → SawReleased n since x w.seen
 released-later n since x v w on saw = subst (SawReleased n since x) (sym on.seen) (released-on n since x on.more v.seen saw)
+
+-- What was found at the automatic input of a process to which no packet came there before.
+pub finds-held : {K : Type 0} (n since : ℕ) (x : Process K) (seen : List Look) (s : Signalled) → x.signalled ≡ false → Finds n since x.signal seen s → FindsHeld n since x seen s
+finds-held n since x seen (signalled.Packet c packet) un found = (un, found)
+finds-held n since x seen (signalled.Sender w) un found = (un, found)
+finds-held n since x seen signalled.Over un found = inr found

@@ -5,13 +5,8 @@ use native.Mathlib.Decide.{ℕ_discrete}
 use Rattle.flow_model.proofs.Lists.{slice_get-set_other}
 use Rattle.flow_machine.specs.Values.{BodyValue}
 use Rattle.flow_floor.specs.Law.{IsTaken}
-use Rattle.flow_machine.specs.declared.answers.Over.{Over}
-use Rattle.flow_machine.specs.declared.answers.Over.TheVariants as overs
-use Rattle.flow_model.specs.Stages.{IsOverStage}
-use Rattle.flow_floor.specs.declared.floor.Held.{Held}
 use Rattle.flow_floor.specs.Waking.{IsDoneWord, IsRetired, AllRetired}
-use Rattle.flow_floor.specs.Floors.{IsOverAs}
-use Rattle.flow_floor.proofs.Seats.{get-within}
+use Rattle.flow_floor.proofs.Lists.{get-within}
 
 -- A process that a seat holds isn't done.
 pub taken-undone : (w : ℕ) → IsTaken w → IsDoneWord w → ⊥
@@ -24,12 +19,6 @@ taken-undone w (inr a) (inr b) = omega (arith, a, b)
 pub low-undone : (w : ℕ) → w ≤ 3 → IsDoneWord w → ⊥
 low-undone w low (inl e) = omega (arith, low, e)
 low-undone w low (inr e) = omega (arith, low, e)
-
--- Who may be retired is.
-pub retires-as : {K : Type 0} (over : Over) (h : Held K) → IsOverAs over h → IsRetired h.body
-retires-as overs.Ended h is = inl (subst IsOverStage (sym is.0) tt, is.1)
-retires-as overs.Failed h is = inl (subst IsOverStage (sym is.0.1) tt, is.1)
-retires-as overs.Starved h is = inr (is.1, is.2)
 
 module _ {K : Type 0} where
   -- The word of one process changes.

@@ -1,13 +1,13 @@
 -- Whom a worker's last call made ready, and its list of them.
-use Rattle.std.proofs.Common.{◌≡◌, ℕ, ◌+◌, ◌<◌, ◌≤◌, List, [], ◌∷◌, Bool, true, false, ◌++◌, All, length, take, cond, nat_eq, sym, ap, ◌∙◌, subst, arith, append-nil, append_assoc, length-append}
+use Rattle.std.proofs.Common.{◌≡◌, ℕ, ◌+◌, ◌<◌, ◌≤◌, List, [], ◌∷◌, true, false, ◌++◌, All, length, take, cond, nat_eq, sym, ap, ◌∙◌, subst, arith, append-nil, append_assoc, length-append}
 use Rattle.std.proofs.lemmas.Bool.Decides.{nat_tests}
 use Rattle.std.proofs.lemmas.List.Elements.{All-append, All-nil}
 use Rattle.flow_floor.specs.declared.board.View.{View}
 use Rattle.flow_floor.specs.declared.floor.Floor.{Floor}
 use Rattle.flow_floor.specs.declared.floor.Worker.{Worker}
-use Rattle.flow_floor.specs.Floors.{process_count, readied_of, woken_of, Readies, WakesNone, WakesOne}
+use Rattle.flow_floor.specs.Floors.{process_count, readied_of, woken_of, Readies, WakesOne}
 use Rattle.flow_floor.specs.Views.{poking}
-use Rattle.flow_floor.proofs.Shutting.{All-one}
+use Rattle.flow_floor.proofs.Lists.{All-one}
 
 module _ {K : Type 0} (f : Floor K) where
   abbrev Low : List ℕ → Type 0

@@ -1,15 +1,21 @@
 -- The table's words lie apart: what a step there owes comes of what it owes of the words in their order.
-use Rattle.std.proofs.Common.{◌≡◌, ℕ, ◌*◌, ◌/◌, List, ◌∷◌, get_or, set, sym, ap, ◌∙◌, subst, arith}
-use Rattle.atomic_table.specs.Table.{State, Me, Allows, Final, Seen, homes_after, carried_after, rest}
+use Rattle.std.proofs.Common.{◌≡◌, ℕ, ◌*◌, ◌/◌, List, get_or, set, sym, ap, ◌∙◌, subst, arith, ◌∷◌}
+use Rattle.atomic_table.specs.Table.{State, Me, Allows, homes_after, carried_after, rest}
 use Rattle.flow_component.specs.Laws.{Rules}
 use Rattle.flow_machine.specs.Values.{NetValue}
 use Rattle.flow_ring.specs.declared.layout.TheConstants.{SPACING}
 use Rattle.flow_ring.specs.Spaced.{ranked}
 use Rattle.flow_ring.proofs.Spaced.{ranked-at, ranked-set}
-use Rattle.flow_floor.specs.declared.board.Slot.{Slot}
-use Rattle.flow_floor.specs.declared.board.View.{View}
+use Rattle.flow_floor.specs.Rule.{in_order, Law, TableLaw}
 use Rattle.flow_floor.specs.Plays.{Sat}
-use Rattle.flow_floor.specs.Rule.{Law, TableLaw, in_order}
+
+-- A seat that took i, which is slot, last has slot.
+pub took : {S : Type 0} (xs more : List (ℕ × S)) (i slot : ℕ) (y : S) → slot ≡ i → xs ≡ (i, y) ∷ more → xs ≡ (slot, y) ∷ rest xs
+took xs more i slot y is e = e ∙ (λ j. (sym is j, y) ∷ rest (sym e j))
+
+-- What is told of the word at the i-th place is told of the i-th.
+pub told : (then : ℕ → Type 0) (i place : ℕ) → place ≡ i * SPACING → then (place / SPACING) → then i
+told then i place is t = let order : place / SPACING ≡ i = omega (arith, is) in subst then order t
 
 module _ {S V : Type 0} (holds : State S V → Type 0) where
   -- A step on the word at the i-th place keeps a rule of the words in their order, where the step on the i-th of these does.
@@ -32,15 +38,3 @@ module _ {K : Type 0} (rules : Rules K) (start : NetValue K) where
   -- The same of the floor's rule.
   pub apart : (slots id : ℕ) (me : Sat K) (i place : ℕ) (f : ℕ → ℕ) (then : ℕ → ℕ → Sat K → Type 0) → place ≡ i * SPACING → Allows (Law rules start) slots id me i f (then i) → Allows (TableLaw rules start) slots id me place f (then (place / SPACING))
   apart = spaced (Law rules start)
-
-  -- So is the table's end.
-  pub final-ranked : (id : ℕ) (v : View K) (ws : List ℕ) (xs : List (Slot K)) → Final (Seen (TableLaw rules start) id v) ws xs → Final (Seen (Law rules start) id v) (ranked ws) xs
-  final-ranked id v ws xs (s, seen, words, deep, homes) = (in_order s, seen, ap ranked words, deep, homes)
-
--- A seat that took i, which is slot, last has slot.
-pub took : {S : Type 0} (xs more : List (ℕ × S)) (i slot : ℕ) (y : S) → slot ≡ i → xs ≡ (i, y) ∷ more → xs ≡ (slot, y) ∷ rest xs
-took xs more i slot y is e = e ∙ (λ j. (sym is j, y) ∷ rest (sym e j))
-
--- What is told of the word at the i-th place is told of the i-th.
-pub told : (then : ℕ → Type 0) (i place : ℕ) → place ≡ i * SPACING → then (place / SPACING) → then i
-told then i place is t = let order : place / SPACING ≡ i = omega (arith, is) in subst then order t

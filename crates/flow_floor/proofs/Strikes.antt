@@ -15,11 +15,12 @@ use Rattle.flow_floor.specs.Waking.{counts, IsDoneWord}
 use Rattle.flow_floor.specs.Rule.{Law}
 use Rattle.flow_floor.specs.Plays.{Sat, glanced, nudged}
 use Rattle.flow_floor.specs.Views.{counting, striking}
-use Rattle.flow_floor.proofs.Seats.{St, state}
+use Rattle.flow_floor.proofs.Cells.{St, state}
 use Rattle.flow_floor.proofs.Flows.{flow-view}
 use Rattle.flow_floor.proofs.Retires.{low-undone, done-set}
 use Rattle.flow_floor.proofs.Wakings.{wakes-poke}
-use Rattle.flow_floor.proofs.Keeps.{hit, miss, law-look}
+use Rattle.flow_floor.proofs.Functions.{hit, miss}
+use Rattle.flow_floor.proofs.Laws.{law-counting}
 
 -- A process word x, and one that says the same of the process beside that it is ready, poked or done.
 record Poked (x y : ℕ) : Type 0 where
@@ -67,15 +68,11 @@ module _ {K : Type 0} (rules : Rules K) (lawful : Lawful rules)
               λ t. subst IsTaken (sym (ap (λ n. get_or ws' n 0) e ∙ here)) (k.taken (subst (λ n. IsTaken (get_or s.words n 0)) e t)),
             ))
             (λ other. (let e = get_or-set_other s.words q x y 0 other in (subst IsFree (sym e), subst IsTaken (sym e)))))
-            (λ x a b. get_or-set_other s.words q x y 0 (λ e. omega (arith, e, below, a))) refl refl refl refl refl (f.each_seat id v at).seen;
+            (λ x a b. get_or-set_other s.words q x y 0 (λ e. omega (arith, e, below, a))) refl refl refl refl (f.each_seat id v at).seen;
         planned = r.planned;
         wakes = wakes-poke rules lawful start s g g id p q y s.homes v w b f r.wakes at holds refl below k.high (notes ∙ ap (λ (l : List ℕ). q ∷ l) (sym (ap (drop 1) notes))) (omega (arith, k.counted)) (r.wakes.each id v at).spare refl refl refl refl;
         done = done-set s.words q y g.now.bodies (omega (arith, below, wide)) (λ z at_q is. r.done q z at_q (k.done is)) r.done;
       }
-
-  -- a step that only counts
-  law-counting : (s : St K) (id : ℕ) (v : View K) → Rule s → get_elem? s.views id ≡ some v → Rule (state s.words s.homes (set s.views id (counting v)))
-  law-counting s id v r at = law-look rules lawful start s id v (counting v) r at refl refl refl refl refl refl refl refl refl (r.flow.each_seat id v at).seen (λ q b h all. all)
 
   -- The word of the first noted process is read.
   pub glances : (slots i id p : ℕ) (me : Sat K) (b : BodyValue K) (more : List ℕ) → i < P → me.0.held ≡ Some (p, b) → me.0.noted ≡ i ∷ more → Allows Rule slots id me i (λ n. n) (glanced (step slots i 0 0 none) me)
@@ -84,7 +81,7 @@ module _ {K : Type 0} (rules : Rules K) (lawful : Lawful rules)
       let x = get_or s.words i 0 in
       dite (dec_lt 1 x)
       (λ high. (striking v, keeps, tt, law-strike s id p i x v b more r at holds below notes (poked-already x high), ((λ _. refl), λ low. absurd (omega (arith, low, high)))))
-      (λ low. (counting v, keeps, tt, subst (λ (ws : List ℕ). Rule (state ws s.homes (set s.views id (counting v)))) (sym (set-get_or s.words i 0)) (law-counting s id v r at), ((λ high. absurd (low high)), λ _. refl)))
+      (λ low. (counting v, keeps, tt, subst (λ (ws : List ℕ). Rule (state ws s.homes (set s.views id (counting v)))) (sym (set-get_or s.words i 0)) (law-counting rules lawful start s id v r at), ((λ high. absurd (low high)), λ _. refl)))
 
   -- The first noted process is poked if it is held.
   pub nudges : (slots i id p : ℕ) (me : Sat K) (b : BodyValue K) (more : List ℕ) → i < P → me.0.held ≡ Some (p, b) → me.0.noted ≡ i ∷ more → Allows Rule slots id me i (λ n. either (n == 1) 3 n) (nudged (step slots i 1 3 none) me)
@@ -104,7 +101,7 @@ module _ {K : Type 0} (rules : Rules K) (lawful : Lawful rules)
         counting v,
         keeps,
         tt,
-        subst (λ (ws : List ℕ). Rule (state ws s.homes (set s.views id (counting v)))) (sym (ap (set s.words i) (miss x 1 3 other) ∙ set-get_or s.words i 0)) (law-counting s id v r at),
+        subst (λ (ws : List ℕ). Rule (state ws s.homes (set s.views id (counting v)))) (sym (ap (set s.words i) (miss x 1 3 other) ∙ set-get_or s.words i 0)) (law-counting rules lawful start s id v r at),
         ((λ some_there. absurd (some_there none_there)), λ _. refl),
       ))
       (λ some_there. (

@@ -1,27 +1,22 @@
--- A held body that thinks still agrees with what the machine has.
-use Rattle.std.proofs.Common.{◌≡◌, ℕ, ◌<◌, List, [], ◌∷◌, Option, Some, slice_get, ap, sym, subst, ◌∙◌, ◌⊎◌, inl, inr}
+-- A body that thinks still agrees with what the machine has, and has the same connections; so it has after a turn.
+use Rattle.std.proofs.Common.{◌≡◌, ℕ, List, Option, slice_get, ap, sym, subst, ◌∙◌, ◌⊎◌, inl, inr}
 use Rattle.std.specs.Prelude.{option_and_then}
-use Rattle.atomic_table.specs.Seated.{TableId}
 use Rattle.flow_component.specs.Laws.{Rules, held_after}
 use Rattle.flow_component.specs.Resumes.{drops_between, dropped_count}
 use Rattle.flow_model.specs.States.{Input, Process}
 use Rattle.flow_model.specs.Works.{worked}
 use Rattle.flow_model.specs.Stages.{IsThoughtStage}
-use Rattle.flow_machine.specs.Values.{BodyValue}
-use Rattle.flow_machine.specs.declared.answers.Thought.{Thought}
-use Rattle.flow_machine.specs.Thoughts.{Thinks, SameBody, WorkedBody, KeepsTurns}
-use Rattle.flow_machine.proofs.FitLemmas.{thinks-step}
-use Rattle.flow_machine.specs.Nets.{BodyTurn}
 use Rattle.flow_model.specs.Events.{Event}
+use Rattle.flow_model.proofs.Stages.{thought-worked}
 use Rattle.flow_model.proofs.Order.{inputs-after, outputs-after, signal-after, inputs-worked, outputs-worked, signal-worked}
+use Rattle.flow_machine.specs.Values.{BodyValue}
+use Rattle.flow_machine.specs.Thoughts.{Thinks, SameBody, WorkedBody, KeepsTurns}
+use Rattle.flow_machine.specs.declared.answers.Thought.{Thought}
+use Rattle.flow_machine.specs.Nets.{BodyTurn}
+use Rattle.flow_machine.proofs.FitLemmas.{thinks-step}
 use Rattle.flow_machine.proofs.Thinking.{keeps-then}
-use Rattle.flow_floor.specs.declared.board.Slot.TheVariants as slot
-use Rattle.flow_floor.specs.declared.floor.Worker.{Worker}
-use Rattle.flow_floor.specs.declared.floor.Held.{Held}
 use Rattle.flow_floor.specs.Law.{Rests}
 use Rattle.flow_floor.specs.Wired.{IsWiredIn}
-use Rattle.flow_floor.specs.Workers.{IsHeldBy}
-use Rattle.flow_model.proofs.Stages.{thought-worked}
 
 module _ {K : Type 0} (rules : Rules K) where
   same-worked : (a b c : BodyValue K) → SameBody a b → WorkedBody rules b c → WorkedBody rules a c
@@ -48,19 +43,6 @@ module _ {K : Type 0} (rules : Rules K) where
       by (inr work) (inr again) =
           let thought : IsThoughtStage h.process.stage = subst IsThoughtStage (sym (ap (λ (x : Process K). x.stage) work.process)) (thought-worked b.process work.outcome) in
           absurd (subst IsThoughtStage again.told thought)
-
-  pub held-think : (z : TableId) (n : ℕ) (w : Worker K) (h h' : Held K) (t : Thought) → IsHeldBy rules z n w h → Thinks rules h.body t h'.body → KeepsTurns h.body h'.body → h'.process ≡ h.process → IsHeldBy rules z n w h'
-  held-think z n w h h' t q thinks keeps process = record {
-    calm = q.calm;
-    below = subst (λ m. m < n) (sym process) q.below;
-    agrees = record {
-      base = q.agrees.base;
-      held = q.agrees.held ∙ ap (λ m. let r : Option (ℕ × BodyValue K) = Some (m, q.agrees.base) in r) (sym process);
-      rests = rests-think q.agrees.base h.body h'.body t q.agrees.rests thinks keeps;
-      whole = keeps.leaving ∙ q.agrees.whole;
-    };
-    slots = q.slots ∙ ap (λ m. (m, slot.Vacant) ∷ []) (sym process);
-  }
 
 -- A body with the ports of another has its connections.
 wired-as : {K : Type 0} (m : ℕ) (h h' : BodyValue K) → h'.process.inputs ≡ h.process.inputs → h'.process.outputs ≡ h.process.outputs → h'.process.signal ≡ h.process.signal → IsWiredIn m h → IsWiredIn m h'

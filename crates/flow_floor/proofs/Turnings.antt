@@ -1,343 +1,169 @@
--- A turn of a held body at the connection that its worker holds.
-use Rattle.std.proofs.Common.{◌≡◌, ℕ, ◌+◌, ◌-◌, ◌<◌, ◌≤◌, true, false, cond, nat_eq, List, [], ◌∷◌, ◌++◌, append-nil, length-append, nat_lt, length, drop, Option, Some, None, refl, ap, sym, subst, ◌∙◌, arith, slice_get, ◌⊎◌, inl, inr, Contains}
+-- Which turn a process has, by what its worker did at the ends of connections.
+use Rattle.std.proofs.Common.{◌≡◌, ℕ, ◌+◌, ◌<◌, Bool, true, false, cond, nat_lt, List, [], ◌∷◌, length, Option, None, Some, slice_get, refl, sym, ap, ◌∙◌, subst, arith, inl, inr}
 use Rattle.std.proofs.lemmas.Bool.Decides.{nat_tests}
-use Rattle.std.specs.Prelude.{IsSome, IfSome, option_and_then}
+use Rattle.std.specs.Prelude.{IfSome, unwrap_or, option_and_then}
 use Rattle.std.specs.Option.{option_map}
+use Rattle.flow_packet.specs.Held.{Sound, with_packet}
 use Rattle.flow_packet.specs.Hands.{packet_at}
-use Rattle.flow_machine.specs.Effects.{id_sent}
-use Rattle.flow_model.specs.declared.Block.TheVariants.{Dormant}
-use Rattle.std.proofs.lemmas.List.Elements.{Contains-append_left}
-use Rattle.flow_plan.specs.declared.plan.Connection.{Connection}
-use Rattle.flow_machine.specs.Joins.{IsPlanned}
-use Rattle.flow_floor.proofs.Seats.{some_Some}
-use Rattle.atomic_table.specs.Seated.{TableId}
 use Rattle.flow_packet.specs.Tree.{Tree}
 use Rattle.flow_component.specs.declared.Port.{Port}
 use Rattle.flow_component.specs.declared.Wish.TheVariants as wishes
-use Rattle.flow_component.specs.Laws.{Rules}
+use Rattle.flow_component.specs.Laws.{Rules, Lawful}
 use Rattle.flow_model.specs.declared.Stage.TheVariants as stages
-use Rattle.flow_model.specs.States.{From, Outlet, outlets, output_at}
-use Rattle.flow_model.specs.Events.{Event, Hears_end, Gets, Sleeps, Sends, Learns, Closes, Signals, stage_event, received, sent}
-use Rattle.flow_model.specs.Stands.{ChannelShown, look_shown, shown_after, all_shown_after}
-use Rattle.flow_machine.specs.Values.{BodyValue, NetValue}
-use Rattle.flow_machine.specs.Nets.{looks_of, BodyTurn, SendsAt, packet_wished}
-use Rattle.flow_machine.specs.Effects.{TakesTurn}
+use Rattle.flow_model.specs.Events.{Event, Gets, Hears_end, Learns, Sends, Sleeps, Takes_text, is_fresh, receive_event, received, sent, stage_event}
+use Rattle.flow_model.specs.Stands.{ChannelShown, look_shown}
+use Rattle.flow_model.specs.States.{From, Input, Outlet, Process, Text, outlets, output_at}
+use Rattle.flow_model.specs.Turns.{change_of}
+use Rattle.flow_model.proofs.Lists.{slice_get-set_same}
 use Rattle.flow_machine.specs.declared.answers.Effect.TheVariants as effects
-use Rattle.flow_machine.proofs.NetTurns.{IsOn, receives, sends, learns, close-turn}
-use Rattle.flow_machine.proofs.Pairs.{body-turn, sent-off, told-some, left_behind}
-use Rattle.flow_floor.specs.declared.board.View.{View}
+use Rattle.flow_machine.specs.Effects.{id_sent, text_event, IsEffectFor, TakesTurn}
+use Rattle.flow_machine.specs.Nets.{looks_of, BodyTurn, GetsSound, SendsAt, packet_wished}
+use Rattle.flow_machine.specs.Outlets.{connection_at}
+use Rattle.flow_machine.specs.Thoughts.{next_text, HasRoom}
+use Rattle.flow_machine.specs.Values.{BodyValue, NetValue}
+use Rattle.flow_machine.proofs.FitLemmas.{sound-got}
+use Rattle.flow_machine.proofs.NetTurns.{close-turn, if_some, learns, receives, sends, some_if}
+use Rattle.flow_machine.proofs.Pairs.{left_behind, may-finish, told-some}
+use Rattle.flow_floor.specs.Law.{Rests, AllSeen, SeenTrue}
+use Rattle.flow_floor.specs.Plays.{HeldIn, drawn_count, WouldBeThere}
+use Rattle.flow_floor.specs.Turning.{closed_event, sent_event, with_body, sending_after, Happens, MayChange}
+use Rattle.flow_floor.proofs.Going.{rest-fit}
+use Rattle.flow_floor.proofs.Blocks.{no-packets}
+use Rattle.flow_floor.proofs.Lists.{some_Some, get-exists}
+use Rattle.flow_floor.proofs.Deeds.{closed-is, send-deed}
 use Rattle.flow_floor.specs.declared.board.Look.{Look}
-use Rattle.flow_floor.specs.declared.board.Slot.TheVariants as slot
-use Rattle.flow_floor.specs.declared.floor.Worker.{Worker}
+use Rattle.flow_floor.specs.declared.board.Receiving.{Receiving}
+use Rattle.flow_floor.specs.declared.board.Sending.{Sending}
+use Rattle.flow_floor.specs.declared.board.View.{View}
 use Rattle.flow_floor.specs.declared.floor.Held.{Held}
-use Rattle.flow_floor.specs.Law.{Rests}
-use Rattle.flow_floor.specs.Ahead.{turned_body}
-use Rattle.flow_floor.specs.Turning.{grab_after, GrabIn, Happens, At, received_event, signalled_event, sent_event, closed_event}
-use Rattle.flow_floor.specs.Sending.{receiver_at, senders_at}
-use Rattle.flow_floor.specs.Waking.{Notes}
-use Rattle.flow_ring.proofs.Words.{level-of, senders-of}
-use Rattle.flow_floor.proofs.Numbers.{contains-here}
-use Rattle.flow_floor.proofs.Planned.{receiver-is, receiver_at-is, senders_at-is, sends-there}
-use Rattle.flow_ring.specs.declared.TheConstants.{FIELD}
-use Rattle.flow_ring.specs.Words.{level_in, senders_in, free_word}
-use Rattle.flow_floor.specs.Views.{counting, striking, stamping, releasing, poking, held_after}
-use Rattle.flow_floor.specs.Workers.{Agrees, IsHeldBy, IsGrabbing, IsWaking}
+use Rattle.flow_floor.specs.Ends.{sending_at}
+use Rattle.flow_floor.specs.Looks.{InSeen, SawOver}
+use Rattle.flow_floor.specs.Midway.{closed_at, drawn_at, learnt_at, placed_at}
+use Rattle.flow_floor.specs.Parcels.{no_packet}
+use Rattle.flow_floor.specs.Workers.{HandsOut}
 
-module _ {K : Type 0} (rules : Rules K) where
-  -- a body after its turn agrees with what the machine has of it
-  pub rests-turned : (b d : BodyValue K) (e : Event) (r : ℕ) → BodyTurn b e r d → Rests rules (turned_body e r b) d
-  rests-turned b d e r turn = (inl (record { process = turn.process; dropped = turn.dropped }), record { stamps = turn.stamps; levels = turn.levels; leaving = turn.leaving })
+-- A look that was taken so is true.
+pub seen-in : {K : Type 0} (n : ℕ) (now : NetValue K) (held : ℕ × BodyValue K) (seen : List Look) (is : Look → Type 0) → AllSeen n now (Some held) seen → InSeen is seen → (look : Look) × is look × SeenTrue n now held.1 look
+seen-in n now held [] is all there = absurd there
+seen-in n now held (look ∷ seen) is all (inl here) = (look, here, all.0)
+seen-in n now held (look ∷ seen) is all (inr there) = seen-in n now held seen is all.1 there
 
-  pub agrees-turned : (w w' : Worker K) (h h' : Held K) (r : ℕ) (e : Event) (f : BodyValue K → BodyValue K) → Agrees rules w h → w'.seat.me.0 ≡ stamping w.seat.me.0 r e f → ((b : BodyValue K) → f b ≡ h.body) → BodyTurn h.body e r h'.body → h'.process ≡ h.process → Agrees rules w' h'
-  agrees-turned w w' h h' r e f a view after turn process = record {
-    base = turned_body e r h.body;
-    held = ap (λ (v : View K). v.held) view ∙ ap (held_after e f r) a.held ∙ (λ j. let t : Option (ℕ × BodyValue K) = Some (sym process j, turned_body e r (after a.base j)) in t);
-    rests = rests-turned h.body h'.body e r turn;
-    whole = turn.leaving;
-  }
+module _ {K : Type 0} (fits : NetValue K → Type 0) (n m p : ℕ) (d : BodyValue K) (s : Option Sending) (r : Option Receiving) (seen : List Look) where
+  -- A process that wishes to receive where its worker saw the end hears the end.
+  pub end-happens : (c since : ℕ) (port : Port) → c < m → d.process.stage ≡ stages.Wishing (wishes.Receive port) → slice_get d.process.inputs port.0 ≡ Some (From c) → InSeen (SawOver n since c) seen → Happens fits n m p d s r seen (Hears_end port.0)
+  end-happens c since port below stage input over now fit there sends_in draws_in all len =
+      let k = get-exists now.channels c (subst (λ (l : ℕ). c < l) (sym len) below) in
+      let saw = seen-in n now (p, d) seen (SawOver n since c) all over in
+      let o = (saw.2 c k.0 saw.1.0 k.1 (inl (port.0, input))).1 saw.1.1 saw.1.2 in
+      (0, receives now.channels d.process 0 c port k.0 stage input k.1 ∙ (λ i. received port.0 c (no-packets k.0.packets o.0 i) (o.1 i)))
 
-  pub grabbing-turned : (z : TableId) (n : ℕ) (w w' : Worker K) (h h' : Held K) (c : ℕ) (k k' : ChannelShown) (r : ℕ) (e : Event) (f : BodyValue K → BodyValue K) → IsGrabbing rules z n w h c k → w'.seat.table_id ≡ w.seat.table_id
-      → w'.seat.me.0 ≡ stamping w.seat.me.0 r e f → w'.seat.me.1 ≡ w.seat.me.1 → ((b : BodyValue K) → f b ≡ h.body) → BodyTurn h.body e r h'.body → h'.process ≡ h.process → k' ≡ shown_after e k → length k'.packets < FIELD → k'.open_senders < FIELD → IsGrabbing rules z n w' h' c k'
-  grabbing-turned z n w w' h h' c k k' r e f g table view slots after turn process channel level senders = record {
-    table = table ∙ g.table;
-    share = subst (λ m. 0 < m) (sym (ap (λ (v : View K). v.shares) view)) g.share;
-    noted = ap (λ (v : View K). v.noted) view ∙ g.noted;
-    spare = ap (λ (v : View K). v.spare) view ∙ g.spare;
-    below = subst (λ m. m < n) (sym process) g.below;
-    agrees = agrees-turned w w' h h' r e f g.agrees view after turn process;
-    grab = ap (λ (v : View K). v.grab) view ∙ ap (grab_after e) g.grab ∙ ap (λ (x : ChannelShown). let t : Option (ℕ × ChannelShown) = Some (c, x) in t) (sym channel);
-    slots = slots ∙ g.slots ∙ ap (λ m. (n + c, slot.Vacant) ∷ (m, slot.Vacant) ∷ []) (sym process);
-    level = level;
-    senders = senders;
-  }
+  -- One that wishes to close closes.
+  pub close-happens : (c i : ℕ) → d.process.stage ≡ stages.Closing i → connection_at (outlets d.process) i ≡ Some c → Happens fits n m p d s r seen (closed_event (slice_get (outlets d.process) i))
+  close-happens c i stage outlet now fit there sends_in draws_in all len =
+      let o = closed-is (slice_get (outlets d.process) i) c outlet in
+      (0, close-turn now.channels d.process 0 o.0.connection i o.0 stage o.1 refl ∙ ap (λ (x : Event). let t : Option Event = Some x in t) (sym (ap closed_event o.1)))
 
--- a receive that may be made is this event
-received-is : (port c : ℕ) (packets : List Tree) (senders : ℕ) → (0 < length packets) ⊎ (senders ≡ 0) → received port c packets senders ≡ Some (received_event port c packets)
-received-is port c [] senders (inl some_packet) = absurd (omega (arith, some_packet))
-received-is port c [] senders (inr over) = ap (λ m. received port c [] m) over
-received-is port c (packet ∷ packets) senders may = refl
+  -- One that wishes its deactivation has it.
+  pub sleeps-happens : d.process.stage ≡ stages.Wishing wishes.Deactivate → Happens fits n m p d s r seen Sleeps
+  sleeps-happens stage now fit there sends_in draws_in all len = (0, ap (stage_event (looks_of now.channels) d.process 0) stage)
 
-pub receive-at : (grab : Option (ℕ × ChannelShown)) (port c : ℕ) (k : ChannelShown) (e : Event) → grab ≡ Some (c, k) → e ≡ received_event port c k.packets → At e grab
-receive-at grab port c k e is e_is = subst (At e) (sym is) (subst (IsOn c) (sym e_is) (on k.packets))
-  where
-    on : (packets : List Tree) → IsOn c (received_event port c packets)
-    on [] = tt
-    on (packet ∷ packets) = refl
+  -- One that wishes to receive where it has an initial text takes that, or hears its end.
+  pub text-happens : (port : Port) (text : List ℕ) → d.process.stage ≡ stages.Wishing (wishes.Receive port) → slice_get d.process.inputs port.0 ≡ Some (Text text)
+      → Happens fits n m p d s r seen (text_event port.0 (is_fresh d.process port.0) (slice_get d.process.inputs port.0))
+  text-happens port text stage input now fit there sends_in draws_in all len = (
+    0,
+    ap (stage_event (looks_of now.channels) d.process 0) stage ∙ ap (receive_event (looks_of now.channels) d.process port.0) input ∙ by (is_fresh d.process port.0)
+        ∙ ap (λ (x : Option Input). let t : Option Event = Some (text_event port.0 (is_fresh d.process port.0) x) in t) (sym input),
+  )
+    where
+      by : (fresh : Bool) → cond fresh (Some (Takes_text port.0 text)) (Some (Hears_end port.0)) ≡ Some (text_event port.0 fresh (Some (Text text)))
+      by true = refl
+      by false = refl
 
-pub receive-happens : {K : Type 0} (fits : NetValue K → Type 0) (n m p c : ℕ) (port : Port) (d : BodyValue K) (grab : Option (ℕ × ChannelShown)) (seen : List Look) (k : ChannelShown) (e : Event) → grab ≡ Some (c, k) → e ≡ received_event port.0 c k.packets
-    → d.process.stage ≡ stages.Wishing (wishes.Receive port) → slice_get d.process.inputs port.0 ≡ Some (From c) → (0 < length k.packets) ⊎ (k.open_senders ≡ 0) → Happens fits n m p d grab seen e
-receive-happens fits n m p c port d grab seen k e is e_is stage input may now fit there grabs all len =
-    let at : slice_get now.channels c ≡ Some k = subst (GrabIn now) is grabs in
-    (0, receives now.channels d.process 0 c port k stage input at ∙ received-is port.0 c k.packets k.open_senders may ∙ ap (λ (x : Event). let t : Option Event = Some x in t) (sym e_is))
+-- Where there is room the packet is sent.
+pub sent-room : (port c : ℕ) (found : Option Tree) (packet : Tree) (k : ChannelShown) → found ≡ Some packet → length k.packets < k.capacity → sent port c found (Some (look_shown k)) ≡ Some (Sends port c packet)
+sent-room port c found packet k is room = let z : nat_lt (length k.packets) k.capacity ≡ true = grind (arith, nat_tests) in ap (λ (o : Option Tree). sent port c o (Some (look_shown k))) is ∙ ap (λ (b : Bool). cond b (Some (Sends port c packet)) None) z
 
-pub got-turn : {K : Type 0} (b d : BodyValue K) (port c stamp : ℕ) (k : ChannelShown) (packet : Tree) (rest : List Tree) → k.packets ≡ packet ∷ rest → TakesTurn b (effects.Got packet) stamp d → BodyTurn b (received_event port c k.packets) stamp d
-got-turn b d port c stamp k packet rest is takes = subst (λ (ps : List Tree). BodyTurn b (received_event port c ps) stamp d) (sym is) (body-turn b d (effects.Got packet) stamp (Gets port c packet) takes refl refl refl)
+module _ {K : Type 0} (fits : NetValue K → Type 0) (n m p c : ℕ) (port : Port) (d : BodyValue K) (seen : List Look) where
+  -- One that wishes to receive gets the packet that its worker drew.
+  pub got-happens : (packet : Tree) (s : Option Sending) → d.process.stage ≡ stages.Wishing (wishes.Receive port) → slice_get d.process.inputs port.0 ≡ Some (From c) → Happens fits n m p d s (Some (drawn_at c packet)) seen (Gets port.0 c packet)
+  got-happens packet s stage input now fit there sends_in (k, at, (others, are)) all len = (0, receives now.channels d.process 0 c port k stage input at ∙ ap (λ (ps : List Tree). received port.0 c ps k.open_senders) are)
 
-pub end-turn : {K : Type 0} (b d : BodyValue K) (port c stamp : ℕ) (packets : List Tree) → packets ≡ [] → TakesTurn b effects.End stamp d → BodyTurn b (received_event port c packets) stamp d
-end-turn b d port c stamp packets is takes = subst (λ (ps : List Tree). BodyTurn b (received_event port c ps) stamp d) (sym is) (body-turn b d effects.End stamp (Hears_end port) takes refl refl refl)
+  -- One that wishes to send sends the packet that its worker placed.
+  pub send-happens : (packet : Tree) (r : Option Receiving) → SendsAt d.process.stage port → output_at d.process port.0 ≡ Some c → packet_wished d.process ≡ Some packet → Happens fits n m p d (Some (placed_at c packet)) r seen (Sends port.0 c packet)
+  send-happens packet r stage output wished now fit there (k, at, room, learnt) draws_in all len =
+      (0, sends now.channels d.process 0 c port stage.0 k stage.1 output at ∙ sent-room port.0 c (packet_wished d.process) packet k wished (let few : length k.packets < k.capacity = omega (arith, room) in few))
 
--- Hearing an end changes the body as that event does, and no connection.
-pub end-deed : {K : Type 0} (b d : BodyValue K) (port c r : ℕ) (k : ChannelShown) (e : Event) → e ≡ received_event port c k.packets → length k.packets ≡ 0 → TakesTurn b effects.End r d → BodyTurn b e r d × (k ≡ shown_after e k)
-end-deed {K} b d port c r k e e_is none_in takes = by k.packets e_is none_in
-  where
-    by : (ps : List Tree) → e ≡ received_event port c ps → length ps ≡ 0 → BodyTurn b e r d × (k ≡ shown_after e k)
-    by [] is none_in = subst (λ (x : Event). BodyTurn b x r d × (k ≡ shown_after x k)) (sym is) (body-turn b d effects.End r (Hears_end port) takes refl refl refl, refl)
-    by (p ∷ ps) is none_in = absurd (omega (arith, none_in))
+  -- One that wishes to learn a level is told the one that its worker learnt.
+  pub learn-happens : (level : ℕ) (r : Option Receiving) → d.process.stage ≡ stages.Wishing (wishes.Level port) → output_at d.process port.0 ≡ Some c → Happens fits n m p d (Some (learnt_at c level)) r seen (Learns port.0 level)
+  learn-happens level r stage output now fit there (k, at, room, learnt) draws_in all len = (level, learns now.channels d.process level c port k stage output at ∙ told-some port.0 level k learnt.0 learnt.1)
 
--- Getting a packet changes body and connection as that event does.
-pub got-deed : {K : Type 0} (b d : BodyValue K) (port c r : ℕ) (k k' : ChannelShown) (packet : Tree) (e : Event) → e ≡ received_event port c k.packets → k.packets ≡ packet ∷ k'.packets → k' ≡ record k { packets = drop 1 k.packets; takes = k.takes + 1 }
-    → TakesTurn b (effects.Got packet) r d → BodyTurn b e r d × (k' ≡ shown_after e k) × (length k'.packets ≤ length k.packets) × (k'.open_senders ≡ k.open_senders)
-got-deed {K} b d port c r k k' packet e e_is first rest takes =
-    let is : e ≡ Gets port c packet = e_is ∙ ap (received_event port c) first in
-    subst (λ (x : Event). BodyTurn b x r d × (k' ≡ shown_after x k) × (length k'.packets ≤ length k.packets) × (k'.open_senders ≡ k.open_senders)) (sym is)
-    (body-turn b d (effects.Got packet) r (Gets port c packet) takes refl refl refl, rest, omega (arith, ap (λ (xs : List Tree). length xs) first), ap (λ (x : ChannelShown). x.open_senders) rest)
+-- Taking an initial text is at no connection.
+pub text-alone : (port : ℕ) (fresh : Bool) (input : Option Input) (s : Option Sending) (r : Option Receiving) → MayChange (change_of (text_event port fresh input)) s r
+text-alone port true (Some (Text text)) s r = tt
+text-alone port true (Some (From c)) s r = tt
+text-alone port true None s r = tt
+text-alone port false input s r = tt
 
--- Taking a packet from the automatic input happens at the connection that is held.
-pub signalled-at : (grab : Option (ℕ × ChannelShown)) (c : ℕ) (k : ChannelShown) (e : Event) → grab ≡ Some (c, k) → e ≡ signalled_event c k.packets → At e grab
-signalled-at grab c k e is e_is = subst (At e) (sym is) (subst (IsOn c) (sym e_is) (on k.packets))
-  where
-    on : (packets : List Tree) → IsOn c (signalled_event c packets)
-    on [] = tt
-    on (packet ∷ packets) = refl
+-- What is told of a wish, if there is one, is the packet of the wish.
+pub parcel-is : (o : Option Tree) → IfSome o (λ packet. packet ≡ unwrap_or o no_packet)
+parcel-is None = tt
+parcel-is (Some packet) = refl
 
--- It changes the body as that event does.
-pub signalled-turn : {K : Type 0} (b d : BodyValue K) (c stamp : ℕ) (k : ChannelShown) (packet : Tree) (rest : List Tree) → k.packets ≡ packet ∷ rest → TakesTurn b (effects.Signal packet) stamp d → BodyTurn b (signalled_event c k.packets) stamp d
-signalled-turn b d c stamp k packet rest is takes = subst (λ (ps : List Tree). BodyTurn b (signalled_event c ps) stamp d) (sym is) (body-turn b d (effects.Signal packet) stamp (Signals c packet) takes refl refl refl)
+-- A close is a turn at the sending end of its connection.
+pub close-may : (found : Option Outlet) (c : ℕ) (r : Option Receiving) → option_map (λ (o : Outlet). o.connection) found ≡ Some c → MayChange (change_of (closed_event found)) (Some (sending_at c)) r
+close-may None c r is = absurd (cc)
+close-may (Some o) c r is = (sending_at c, refl, sym (some_Some o.connection c is), refl)
 
--- It changes body and connection so.
-pub signalled-deed : {K : Type 0} (b d : BodyValue K) (c r : ℕ) (k k' : ChannelShown) (packet : Tree) (e : Event) → e ≡ signalled_event c k.packets → k.packets ≡ packet ∷ k'.packets → k' ≡ record k { packets = drop 1 k.packets; takes = k.takes + 1 }
-    → TakesTurn b (effects.Signal packet) r d → BodyTurn b e r d × (k' ≡ shown_after e k) × (length k'.packets ≤ length k.packets) × (k'.open_senders ≡ k.open_senders)
-signalled-deed {K} b d c r k k' packet e e_is first rest takes =
-    let is : e ≡ Signals c packet = e_is ∙ ap (signalled_event c) first in
-    subst (λ (x : Event). BodyTurn b x r d × (k' ≡ shown_after x k) × (length k'.packets ≤ length k.packets) × (k'.open_senders ≡ k.open_senders)) (sym is)
-    (body-turn b d (effects.Signal packet) r (Signals c packet) takes refl refl refl, rest, omega (arith, ap (λ (xs : List Tree). length xs) first), ap (λ (x : ChannelShown). x.open_senders) rest)
+-- It leaves a sender that isn't subtracted.
+pub close-after : (found : Option Outlet) (c : ℕ) → option_map (λ (o : Outlet). o.connection) found ≡ Some c → sending_after (closed_event found) (Some (sending_at c)) ≡ Some (closed_at c)
+close-after None c is = absurd (cc)
+close-after (Some o) c is = refl
 
--- a connection was given back, and these processes are noted
-pub waking-after : {K : Type 0} (rules : Rules K) (z : TableId) (n : ℕ) (w w' : Worker K) (h : Held K) (c : ℕ) (k : ChannelShown) (notes more : List ℕ) → IsGrabbing rules z n w h c k → w'.seat.table_id ≡ w.seat.table_id → w'.seat.me.0 ≡ releasing w.seat.me.0 notes
-    → w'.seat.me.1 ≡ (h.process, slot.Vacant) ∷ [] → notes ≡ more → IsWaking rules z n w' h more
-waking-after {K} rules z n w w' h c k notes more g table view slots told = record {
-  table = table ∙ g.table;
-  share = subst (λ m. 0 < m) (sym (ap (λ (v : View K). v.shares) view)) g.share;
-  grab = ap (λ (v : View K). v.grab) view;
-  noted = ap (λ (v : View K). v.noted) view ∙ ap (λ (xs : List ℕ). notes ++ xs) g.noted ∙ append-nil notes ∙ told;
-  spare = ap (λ (v : View K). v.spare) view ∙ g.spare;
-  below = g.below;
-  agrees = record { base = g.agrees.base; held = ap (λ (v : View K). v.held) view ∙ g.agrees.held; rests = g.agrees.rests; whole = g.agrees.whole };
-  slots = slots;
-}
+-- A connection for lemmas that speak of one.
+abbrev pub any_channel : ChannelShown
+any_channel = record { packets = []; capacity = 1; open_senders = 0; puts = 0; takes = 0 }
 
--- what a poke leaves of the seat's tokens
-pub poked-spare : {K : Type 0} (v w : View K) (r : ℕ) → w ≡ poking v r → (r ≡ 0 → ⊥) → w.spare ≡ v.spare
-poked-spare {K} v w r is other = ap (λ (x : View K). x.spare) is ∙ (let z : nat_eq r 0 ≡ false = grind (arith, nat_tests) in ap (λ b. cond b (v.spare - 1) v.spare) z)
+-- The packet that left the hands is that of the wish.
+left-wished : (f : ℕ → Option Tree) (o : Option ℕ) (id : ℕ) (packet : Tree) → o ≡ Some id → option_and_then f o ≡ Some packet → IfSome o (λ n. f n ≡ Some packet)
+left-wished f o id packet is wished = some_if o (λ n. f n ≡ Some packet) id is (sym (ap (option_and_then f) is) ∙ wished)
 
--- A poke that read 0 spends one of the spare counts.
-pub poked-spent : {K : Type 0} (v w : View K) (r : ℕ) → w ≡ poking v r → r ≡ 0 → w.spare ≡ v.spare - 1
-poked-spent {K} v w r is none_there = ap (λ (x : View K). x.spare) is ∙ (let z : nat_eq r 0 ≡ true = grind (arith, nat_tests) in ap (λ b. cond b (v.spare - 1) v.spare) z)
+module _ {K : Type 0} where
+  -- A send whose packet has left the hands may be finished.
+  pub sent-may : (h h' : Held K) (port : Port) (packet : Tree) → SendsAt h.body.process.stage port → HandsOut h h' packet → IsEffectFor h'.body.process h'.body.leaving effects.Sent
+  sent-may h h' port packet stage out = may-finish h.body h'.body port stage.0 packet stage.1 out.3
 
--- one noted process was woken
-pub woken : {K : Type 0} (rules : Rules K) (z : TableId) (n : ℕ) (w w' : Worker K) (h : Held K) (notes more : List ℕ) → IsWaking rules z n w h notes → w'.seat.table_id ≡ w.seat.table_id → w'.seat.me.1 ≡ w.seat.me.1
-    → w'.seat.me.0.shares ≡ w.seat.me.0.shares → w'.seat.me.0.grab ≡ w.seat.me.0.grab → w'.seat.me.0.held ≡ w.seat.me.0.held → w'.seat.me.0.noted ≡ more → w'.seat.me.0.spare ≡ 0 → IsWaking rules z n w' h more
-woken rules z n w w' h notes more q table slots shares grab held noted spare = record {
-  table = table ∙ q.table;
-  share = subst (λ m. 0 < m) (sym shares) q.share;
-  grab = grab ∙ q.grab;
-  noted = noted;
-  spare = spare;
-  below = q.below;
-  agrees = record { base = q.agrees.base; held = held ∙ q.agrees.held; rests = q.agrees.rests; whole = q.agrees.whole };
-  slots = slots ∙ q.slots;
-}
+  -- It has the room of its turn still.
+  pub sent-roomy : (h h' : Held K) (port : Port) (packet : Tree) → SendsAt h.body.process.stage port → HandsOut h h' packet → HasRoom h.body → HasRoom h'.body
+  sent-roomy h h' port packet stage out room =
+      let b = h.body in
+      let mid = left_behind b packet stage.0 in
+      let is : h'.body ≡ mid = if_some (id_sent b.process.stage) (λ (id : ℕ). h'.body ≡ left_behind b packet id) stage.0 (ap id_sent stage.1) out.3 in
+      subst HasRoom (sym is) (record {
+        place = (let p = room.place in omega (arith, p));
+        stamp = room.stamp;
+        level = room.level;
+        copy = room.copy ∙ ap (next_text b.process) stage.1 ∙ sym (ap (next_text mid.process) stage.1);
+      })
 
--- the first noted process was struck off
-pub struck : {K : Type 0} (rules : Rules K) (z : TableId) (n : ℕ) (w w' : Worker K) (h : Held K) (notes more : List ℕ) → IsWaking rules z n w h notes → w'.seat.table_id ≡ w.seat.table_id → w'.seat.me ≡ (striking w.seat.me.0, w.seat.me.1) → drop 1 notes ≡ more → IsWaking rules z n w' h more
-struck rules z n w w' h notes more q table view rest =
-    woken rules z n w w' h notes more q table (ap (λ m. m.1) view) (ap (λ m. m.0.shares) view) (ap (λ m. m.0.grab) view) (ap (λ m. m.0.held) view) (ap (λ m. m.0.noted) view ∙ ap (drop 1) q.noted ∙ rest) (ap (λ m. m.0.spare) view ∙ q.spare)
+  -- Once it is, the body has made the turn.
+  pub sent-turn : (h mid : Held K) (d : BodyValue K) (port : Port) (c stamp : ℕ) (packet : Tree) → SendsAt h.body.process.stage port → HandsOut h mid packet → TakesTurn mid.body effects.Sent stamp d → BodyTurn h.body (Sends port.0 c packet) stamp d
+  sent-turn h mid d port c stamp packet stage out takes =
+      let event : Sends port.0 c packet ≡ sent_event port.0 c (packet_wished h.body.process) = ap (sent_event port.0 c) (sym out.2) in
+      let found = left-wished (packet_at h.body.process.held.packets) (id_sent h.body.process.stage) stage.0 packet (ap id_sent stage.1) out.2 in
+      (send-deed h.body mid.body d port c stamp stage.0 any_channel (record any_channel { packets = packet ∷ []; puts = 0 + 1 }) packet (Sends port.0 c packet) event stage.1 found out.3 (let room : 0 < 1 = omega arith in room) refl takes).0
 
--- a step was only counted
-pub unstruck : {K : Type 0} (rules : Rules K) (z : TableId) (n : ℕ) (w w' : Worker K) (h : Held K) (notes : List ℕ) → IsWaking rules z n w h notes → w'.seat.table_id ≡ w.seat.table_id → w'.seat.me ≡ (counting w.seat.me.0, w.seat.me.1) → IsWaking rules z n w' h notes
-unstruck rules z n w w' h notes q table view =
-    woken rules z n w w' h notes notes q table (ap (λ m. m.1) view) (ap (λ m. m.0.shares) view) (ap (λ m. m.0.grab) view) (ap (λ m. m.0.held) view) (ap (λ m. m.0.noted) view ∙ q.noted) (ap (λ m. m.0.spare) view ∙ q.spare)
+module _ {K : Type 0} (rules : Rules K) (lawful : Lawful rules) where
+  sound-first : (x : Process K) (packets : List Tree) (packet : Tree) → slice_get packets 0 ≡ Some packet → GetsSound x packets → Sound (with_packet x.held packet)
+  sound-first x [] packet is sound = absurd (cc)
+  sound-first x (y ∷ ys) packet is sound = subst (λ (t : Tree). Sound (with_packet x.held t)) (some_Some y packet is) sound
 
--- a body took a turn at no connection
-pub held-turned : {K : Type 0} (rules : Rules K) (z : TableId) (n : ℕ) (w w' : Worker K) (h h' : Held K) (r : ℕ) (e : Event) (f : BodyValue K → BodyValue K) → IsHeldBy rules z n w h → w'.seat.table_id ≡ w.seat.table_id → w'.seat.me.0 ≡ stamping w.seat.me.0 r e f
-    → w'.seat.me.1 ≡ w.seat.me.1 → ((b : BodyValue K) → f b ≡ h.body) → BodyTurn h.body e r h'.body → h'.process ≡ h.process → IsHeldBy rules z n w' h'
-held-turned rules z n w w' h h' r e f q table view slots after turn process = record {
-  calm = record {
-    table = table ∙ q.calm.table;
-    share = subst (λ m. 0 < m) (sym (ap (λ (v : View _). v.shares) view)) q.calm.share;
-    grab = ap (λ (v : View _). v.grab) view ∙ ap (grab_after e) q.calm.grab;
-    noted = ap (λ (v : View _). v.noted) view ∙ q.calm.noted;
-    spare = ap (λ (v : View _). v.spare) view ∙ q.calm.spare;
-  };
-  below = subst (λ m. m < n) (sym process) q.below;
-  agrees = agrees-turned rules w w' h h' r e f q.agrees view after turn process;
-  slots = slots ∙ q.slots ∙ ap (λ m. (m, slot.Vacant) ∷ []) (sym process);
-}
-
--- a turn at no connection fits a seat that holds none
-pub alone-at : (grab : Option (ℕ × ChannelShown)) (e d : Event) → grab ≡ None → e ≡ d → ((cs : List ChannelShown) → all_shown_after d cs ≡ cs) → At e grab
-alone-at grab e d none is same = subst (At e) (sym none) (subst (λ (x : Event). (cs : List ChannelShown) → all_shown_after x cs ≡ cs) (sym is) same)
-
--- An event that equals one that happens happens.
-pub happens-as : {K : Type 0} (fits : NetValue K → Type 0) (n m p : ℕ) (d : BodyValue K) (grab : Option (ℕ × ChannelShown)) (seen : List Look) (e e' : Event) → grab ≡ None → e ≡ e' → Happens fits n m p d None seen e' → Happens fits n m p d grab seen e
-happens-as fits n m p d grab seen e e' none is happens now fit there grabs all len = let t = happens now fit there tt all len in (t.0, t.1 ∙ ap (λ (x : Event). let r : Option Event = Some x in r) (sym is))
-
--- A process that wishes its deactivation has it.
-pub sleeps-happens : {K : Type 0} (fits : NetValue K → Type 0) (n m p : ℕ) (d : BodyValue K) (seen : List Look) → d.process.stage ≡ stages.Wishing wishes.Deactivate → Happens fits n m p d None seen Sleeps
-sleeps-happens fits n m p d seen stage now fit there grabs all len = (0, ap (stage_event (looks_of now.channels) d.process 0) stage)
-
-sent-is : (port c : ℕ) (found : Option Tree) (k : ChannelShown) → IsSome found → length k.packets < k.capacity → sent port c found (Some (look_shown k)) ≡ Some (sent_event port c found)
-sent-is port c (Some packet) k there room = (let z : nat_lt (length k.packets) k.capacity ≡ true = grind (arith, nat_tests) in ap (λ b. cond b (Some (Sends port c packet)) None) z)
-sent-is port c None k there room = absurd (cc)
-
--- A send happens at the connection that is held.
-pub send-at : (grab : Option (ℕ × ChannelShown)) (port c : ℕ) (found : Option Tree) (k : ChannelShown) (e : Event) → grab ≡ Some (c, k) → e ≡ sent_event port c found → At e grab
-send-at grab port c found k e is e_is = subst (At e) (sym is) (subst (IsOn c) (sym e_is) (on found))
-  where
-    on : (found : Option Tree) → IsOn c (sent_event port c found)
-    on (Some packet) = refl
-    on None = tt
-
--- Sending onto the held connection is what the machine has the process do.
-pub send-happens : {K : Type 0} (fits : NetValue K → Type 0) (n m p c : ℕ) (port : Port) (d : BodyValue K) (grab : Option (ℕ × ChannelShown)) (seen : List Look) (k : ChannelShown) (e : Event) → grab ≡ Some (c, k) → e ≡ sent_event port.0 c (packet_wished d.process)
-    → SendsAt d.process.stage port → output_at d.process port.0 ≡ Some c → IsSome (packet_wished d.process) → length k.packets < k.capacity → Happens fits n m p d grab seen e
-send-happens fits n m p c port d grab seen k e is e_is stage output there room now fit held grabs all len =
-    let at : slice_get now.channels c ≡ Some k = subst (GrabIn now) is grabs in
-    (0, sends now.channels d.process 0 c port stage.0 k stage.1 output at ∙ sent-is port.0 c (packet_wished d.process) k there room ∙ ap (λ (x : Event). let t : Option Event = Some x in t) (sym e_is))
-
--- Sending changes body and connection as that event does.
-pub send-deed : {K : Type 0} (b mid d : BodyValue K) (port : Port) (c r id : ℕ) (k k' : ChannelShown) (packet : Tree) (e : Event) → e ≡ sent_event port.0 c (packet_wished b.process) → b.process.stage ≡ stages.Wishing (wishes.Send port id)
-    → IfSome (id_sent b.process.stage) (λ id. packet_at b.process.held.packets id ≡ Some packet) → IfSome (id_sent b.process.stage) (λ id. mid ≡ left_behind b packet id) → length k.packets < k.capacity → k' ≡ record k { packets = k.packets ++ packet ∷ []; puts = k.puts + 1 }
-    → TakesTurn mid effects.Sent r d → BodyTurn b e r d × (k' ≡ shown_after e k) × (length k'.packets ≤ k.capacity) × (k'.open_senders ≡ k.open_senders)
-send-deed {K} b mid d port c r id k k' packet e e_is stage found left room put takes =
-    let t = sent-off b mid d k k' port c id r Dormant packet stage found left room put takes in
-    let ev = t.1 in
-    let same : Some ev.0 ≡ Some (sent_event port.0 c (packet_wished b.process)) = sym ev.1 ∙ sent-is port.0 c (packet_wished b.process) k wished room in
-    let is : ev.0 ≡ e = some_Some ev.0 (sent_event port.0 c (packet_wished b.process)) same ∙ sym e_is in
-    subst (λ (x : Event). BodyTurn b x r d × (k' ≡ shown_after x k) × (length k'.packets ≤ k.capacity) × (k'.open_senders ≡ k.open_senders)) is
-    (ev.2, ev.3, omega (arith, ap (λ (x : ChannelShown). length x.packets) put, length-append k.packets (packet ∷ []), room), ap (λ (x : ChannelShown). x.open_senders) put)
-  where
-    wished : IsSome (packet_wished b.process)
-    wished = let at : packet_at b.process.held.packets id ≡ Some packet = (let Q : Option ℕ → Type 0 = λ o. IfSome o (λ id. packet_at b.process.held.packets id ≡ Some packet) in subst Q (ap id_sent stage) found) in
-        subst (λ (x : Option Tree). IsSome x) (sym (ap (option_and_then (packet_at b.process.held.packets)) (ap id_sent stage) ∙ at)) refl
-
--- Learning a level happens at the connection that is held.
-pub learn-at : (grab : Option (ℕ × ChannelShown)) (port l c : ℕ) (k : ChannelShown) (e : Event) → grab ≡ Some (c, k) → e ≡ Learns port l → At e grab
-learn-at grab port l c k e is e_is = subst (At e) (sym is) (subst (IsOn c) (sym e_is) tt)
-
--- Learning the level of the held connection is what the machine has the process do.
-pub learn-happens : {K : Type 0} (fits : NetValue K → Type 0) (n m p c : ℕ) (port : Port) (d : BodyValue K) (grab : Option (ℕ × ChannelShown)) (seen : List Look) (k : ChannelShown) (e : Event) → grab ≡ Some (c, k) → e ≡ Learns port.0 (length k.packets)
-    → d.process.stage ≡ stages.Wishing (wishes.Level port) → output_at d.process port.0 ≡ Some c → length k.packets ≤ k.capacity → Happens fits n m p d grab seen e
-learn-happens fits n m p c port d grab seen k e is e_is stage output within now fit held grabs all len =
-    let at : slice_get now.channels c ≡ Some k = subst (GrabIn now) is grabs in
-    let le : length k.packets ≤ length k.packets = omega arith in
-    (length k.packets, learns now.channels d.process (length k.packets) c port k stage output at ∙ told-some port.0 (length k.packets) k le within ∙ ap (λ (x : Event). let t : Option Event = Some x in t) (sym e_is))
-
--- The connection that is closed is that of an output.
-pub closed-is : (found : Option Outlet) (c : ℕ) → option_map (λ (o : Outlet). o.connection) found ≡ Some c → (o : Outlet) × (found ≡ Some o) × (o.connection ≡ c)
-closed-is (Some o) c is = (o, refl, some_Some o.connection c is)
-closed-is None c is = absurd (cc)
-
-pub close-at : (grab : Option (ℕ × ChannelShown)) (found : Option Outlet) (c : ℕ) (k : ChannelShown) (e : Event) → grab ≡ Some (c, k) → e ≡ closed_event found → option_map (λ (o : Outlet). o.connection) found ≡ Some c → At e grab
-close-at grab found c k e is e_is outlet = let o = closed-is found c outlet in subst (At e) (sym is) (subst (IsOn c) (sym (e_is ∙ ap closed_event o.1)) o.2)
-
-pub close-happens : {K : Type 0} (fits : NetValue K → Type 0) (n m p c i : ℕ) (d : BodyValue K) (grab : Option (ℕ × ChannelShown)) (seen : List Look) (e : Event) → e ≡ closed_event (slice_get (outlets d.process) i) → d.process.stage ≡ stages.Closing i
-    → option_map (λ (o : Outlet). o.connection) (slice_get (outlets d.process) i) ≡ Some c → Happens fits n m p d grab seen e
-close-happens fits n m p c i d grab seen e e_is stage outlet now fit held grabs all len =
-    let o = closed-is (slice_get (outlets d.process) i) c outlet in
-    (0, close-turn now.channels d.process 0 o.0.connection i o.0 stage o.1 refl ∙ ap (λ (x : Event). let t : Option Event = Some x in t) (sym (e_is ∙ ap closed_event o.1)))
-
--- Closing an output changes body and connection as that event does.
-pub close-deed : {K : Type 0} (b d : BodyValue K) (found : Option Outlet) (c r : ℕ) (k k' : ChannelShown) (e : Event) → e ≡ closed_event found → option_map (λ (o : Outlet). o.connection) found ≡ Some c → k' ≡ record k { open_senders = k.open_senders - 1 } → TakesTurn b effects.Closed r d
-    → BodyTurn b e r d × (k' ≡ shown_after e k) × (k'.packets ≡ k.packets) × (k'.open_senders ≤ k.open_senders)
-close-deed {K} b d found c r k k' e e_is outlet closed takes =
-    let o = closed-is found c outlet in
-    let is : e ≡ Closes o.0.output o.0.connection = e_is ∙ ap closed_event o.1 in
-    subst (λ (x : Event). BodyTurn b x r d × (k' ≡ shown_after x k) × (k'.packets ≡ k.packets) × (k'.open_senders ≤ k.open_senders)) (sym is)
-    (body-turn b d effects.Closed r (Closes o.0.output o.0.connection) takes refl refl refl, closed, ap (λ (x : ChannelShown). x.packets) closed, omega (arith, ap (λ (x : ChannelShown). x.open_senders) closed))
-
--- Learning a level changes the body as that event does, and no connection.
-pub learn-deed : {K : Type 0} (b d : BodyValue K) (port l m r : ℕ) (k : ChannelShown) (e : Event) → e ≡ Learns port m → l ≡ m → TakesTurn b (effects.Level l) r d → BodyTurn b e r d × (k ≡ shown_after e k)
-learn-deed {K} b d port l m r k e e_is same takes =
-    subst (λ (x : Event). BodyTurn b x r d × (k ≡ shown_after x k)) (sym e_is) (subst (λ n. BodyTurn b (Learns port n) r d) same (body-turn b d (effects.Level l) r (Learns port l) takes refl refl refl), refl)
-
--- where nobody is noted any more the worker owes nothing
-pub waking-none : {K : Type 0} (rules : Rules K) (z : TableId) (n : ℕ) (w : Worker K) (h : Held K) → IsWaking rules z n w h [] → IsHeldBy rules z n w h
-waking-none rules z n w h q = record { calm = record { table = q.table; share = q.share; grab = q.grab; noted = q.noted; spare = q.spare }; below = q.below; agrees = q.agrees; slots = q.slots }
-
--- Where the word of a connection stays as it was nobody has to be noted.
-pub nobody-notes : {K : Type 0} (start : NetValue K) (c word : ℕ) (k : ChannelShown) (noted : List ℕ) → length k.packets < FIELD → k.open_senders < FIELD → level_in word ≡ length k.packets → senders_in word ≤ k.open_senders → Notes start c word (free_word (length k.packets) k.open_senders) noted
-nobody-notes start c word k noted small few level opens = let says = level-of (length k.packets) k.open_senders small few in let open_says = senders-of (length k.packets) k.open_senders small few in record {
-  receiver = inl (omega (arith, says, level), omega (arith, open_says, opens));
-  senders = inl (omega (arith, says, level));
-}
-
--- Where its level doesn't fall the process that receives there has to be.
-pub receiver-notes : {K : Type 0} (start : NetValue K) (wired : ∥ IsPlanned start ∥₁) (connections : List Connection) → connections ≡ start.connections → (c word : ℕ) (x : Connection) (k : ChannelShown) (noted : List ℕ) → slice_get connections c ≡ Some x → length k.packets < FIELD → k.open_senders < FIELD → level_in word ≤ length k.packets
-    → Notes start c word (free_word (length k.packets) k.open_senders) (receiver_at connections c ++ noted)
-receiver-notes start wired connections same c word x k noted at small few level = let there_at = ap (λ (xs : List Connection). slice_get xs c) (sym same) ∙ at in let says = level-of (length k.packets) k.open_senders small few in let open_says = senders-of (length k.packets) k.open_senders small few in record {
-  receiver = inr (λ q b there input. subst (λ (ps : List ℕ). Contains (ps ++ noted) q) (sym (receiver_at-is connections c x at ∙ ap (λ (p : ℕ). p ∷ []) (receiver-is start wired q c b x there_at there input))) (contains-here q noted));
-  senders = inl (omega (arith, says, level));
-}
-
--- Where it doesn't rise, and no sender closes, those that send there have to be.
-pub senders-notes : {K : Type 0} (start : NetValue K) (wired : ∥ IsPlanned start ∥₁) (connections : List Connection) → connections ≡ start.connections → (c word : ℕ) (x : Connection) (k : ChannelShown) (noted : List ℕ) → slice_get connections c ≡ Some x → length k.packets < FIELD → k.open_senders < FIELD → length k.packets ≤ level_in word → senders_in word ≤ k.open_senders
-    → Notes start c word (free_word (length k.packets) k.open_senders) (senders_at connections c ++ noted)
-senders-notes start wired connections same c word x k noted at small few level opens = let there_at = ap (λ (xs : List Connection). slice_get xs c) (sym same) ∙ at in let says = level-of (length k.packets) k.open_senders small few in let open_says = senders-of (length k.packets) k.open_senders small few in record {
-  receiver = inl (omega (arith, says, level), omega (arith, open_says, opens));
-  senders = inr (λ q b there output. Contains-append_left (senders_at connections c) noted q (subst (λ (ps : List ℕ). Contains ps q) (sym (senders_at-is connections c x at)) (sends-there start wired q c b x there_at there output)));
-}
-
--- A send doesn't lower the level.
-pub sent-longer : (port c : ℕ) (found : Option Tree) (k k' : ChannelShown) → k' ≡ shown_after (sent_event port c found) k → length k.packets ≤ length k'.packets
-sent-longer port c (Some packet) k k' is = omega (arith, ap (λ (x : ChannelShown). length x.packets) is, length-append k.packets (packet ∷ []))
-sent-longer port c None k k' is = omega (arith, ap (λ (x : ChannelShown). length x.packets) is)
-
--- A packet that is taken from the automatic input doesn't raise it, and no sender closes.
-pub signalled-left : (c : ℕ) (k k' : ChannelShown) → k' ≡ shown_after (signalled_event c k.packets) k → (length k'.packets ≤ length k.packets) × (k'.open_senders ≡ k.open_senders)
-signalled-left c k k' after = left k.packets refl
-  where
-    left : (ps : List Tree) → k.packets ≡ ps → (length k'.packets ≤ length k.packets) × (k'.open_senders ≡ k.open_senders)
-    left [] is =
-        let same : k' ≡ k = after ∙ ap (λ (xs : List Tree). shown_after (signalled_event c xs) k) is in
-        (omega (arith, ap (λ (x : ChannelShown). length x.packets) same), ap (λ (x : ChannelShown). x.open_senders) same)
-    left (packet ∷ rest) is =
-        let same : k' ≡ shown_after (Signals c packet) k = after ∙ ap (λ (xs : List Tree). shown_after (signalled_event c xs) k) is in
-        let shorter : length k'.packets ≡ length rest = ap (λ (x : ChannelShown). length x.packets) same ∙ ap (λ (xs : List Tree). length (drop 1 xs)) is in
-        (omega (arith, shorter, ap (λ (xs : List Tree). length xs) is), ap (λ (x : ChannelShown). x.open_senders) same)
-
--- A close leaves the packets.
-pub closed-kept : (found : Option Outlet) (k k' : ChannelShown) → k' ≡ shown_after (closed_event found) k → length k'.packets ≡ length k.packets
-closed-kept (Some outlet) k k' is = ap (λ (x : ChannelShown). length x.packets) is
-closed-kept None k k' is = ap (λ (x : ChannelShown). length x.packets) is
-
--- Of those that a worker has noted it wakes the first, and then the others.
-pub first-noted : {K : Type 0} (rules : Rules K) (z : TableId) (n : ℕ) (w : Worker K) (h : Held K) (q : ℕ) (notes more : List ℕ) → notes ≡ q ∷ more → IsWaking rules z n w h notes → IsWaking rules z n w h (q ∷ drop 1 w.seat.me.0.noted)
-first-noted rules z n w h q notes more is waking = subst (IsWaking rules z n w h) (is ∙ ap (λ (xs : List ℕ). q ∷ drop 1 xs) (sym (waking.noted ∙ is))) waking
-
-pub rest-noted : {K : Type 0} (rules : Rules K) (z : TableId) (n : ℕ) (w w' : Worker K) (h : Held K) (q : ℕ) (notes more : List ℕ) → notes ≡ q ∷ more → IsWaking rules z n w h notes → IsWaking rules z n w' h (drop 1 w.seat.me.0.noted) → IsWaking rules z n w' h more
-rest-noted rules z n w w' h q notes more is waking = subst (IsWaking rules z n w' h) (ap (drop 1) (waking.noted ∙ is))
-
--- The same of a worker that is this one.
-pub waking-as : {K : Type 0} (rules : Rules K) (z : TableId) (n : ℕ) (w u : Worker K) (h : Held K) (notes : List ℕ) → w ≡ u → IsWaking rules z n u h notes → IsWaking rules z n w h notes
-waking-as rules z n w u h notes is = subst (λ (x : Worker _). IsWaking rules z n x h notes) (sym is)
+  -- The hands of a process stay sound with the packet that its worker drew.
+  pub sound-drawn : (v : View K) (p c : ℕ) (port : Port) (b d : BodyValue K) (packet : Tree) → WouldBeThere rules v [] c packet → v.receiving ≡ None → v.held ≡ Some (p, b) → Rests rules b d → d.process.stage ≡ stages.Wishing (wishes.Receive port)
+      → slice_get d.process.inputs port.0 ≡ Some (From c) → Sound (with_packet d.process.held packet)
+  sound-drawn v p c port b d packet (r, was) none holds rests stage input =
+      let now = was.0 in
+      let k = was.1 in
+      let there : slice_get now.bodies p ≡ Some b = subst (HeldIn now) holds was.5 in
+      let first : slice_get k.packets 0 ≡ Some packet = ap (slice_get k.packets) (sym (ap drawn_count none)) ∙ was.4 in
+      sound-first d.process k.packets packet first (sound-got rules (with_body now p d) p c port d k (rest-fit rules lawful now p b d there rests was.2) (slice_get-set_same now.bodies p b d there) stage input was.3)

@@ -1,5 +1,5 @@
 -- What stays of the second half of the rule where one seat steps.
-use Rattle.std.proofs.Common.{◌≡◌, ◌≢◌, ℕ, zero, suc, ◌+◌, ◌<◌, ◌≤◌, Bool, true, false, cond, List, [], ◌∷◌, length, get_or, set, sym, refl, ap, ◌∙◌, subst, arith, Some, slice_get, ◌⊎◌, inl, inr, nat_eq, Contains}
+use Rattle.std.proofs.Common.{◌≡◌, ◌≢◌, ℕ, zero, suc, ◌+◌, ◌<◌, ◌≤◌, List, [], ◌∷◌, length, get_or, set, sym, refl, ap, ◌∙◌, subst, arith, Some, slice_get, ◌⊎◌, inl, inr, Contains, Bool, true, false, cond, nat_eq}
 use Rattle.std.specs.Prelude.{sum_by, ◌||◌}
 use Rattle.std.proofs.lemmas.List.Sums.{sum_by-cons}
 use mathlib.Core.Logic.{dite}
@@ -8,18 +8,21 @@ use mathlib.Core.Option.{some, some-ne-none, some-injective}
 use lib.ListN.{get_elem?}
 use Rattle.atomic_table.proofs.Lists.{set_here, set_else}
 use Rattle.flow_component.specs.declared.Wish.TheVariants as wishes
-use Rattle.flow_model.specs.declared.Stage.{Stage}
-use Rattle.flow_model.specs.declared.Stage.TheVariants as stages
 use Rattle.flow_model.specs.Stages.{IsThoughtStage}
 use Rattle.flow_model.specs.Stands.{ChannelShown}
+use Rattle.flow_model.specs.declared.Stage.{Stage}
+use Rattle.flow_model.specs.declared.Stage.TheVariants as stages
 use Rattle.flow_machine.specs.Values.{BodyValue, NetValue}
 use Rattle.flow_ring.specs.Words.{level_in, senders_in}
 use Rattle.flow_floor.specs.declared.board.View.{View}
 use Rattle.flow_floor.specs.declared.board.Look.{Look}
+use Rattle.flow_floor.specs.Ends.{capacities_of}
 use Rattle.flow_floor.specs.Law.{Beside}
+use Rattle.flow_floor.specs.Waking.{live_in, WordsBlock, IsWiredAs, IsNoted, AllBlock, Keeps, Wakes, counts, IsEmptyAt, IsOpenAt}
 use Rattle.flow_floor.specs.Wired.{IsInput, IsOutput}
-use Rattle.flow_floor.specs.Waking.{counts, live_in, IsEmptyAt, IsOpenAt, IsNoted, WordsBlock, AllBlock, IsWiredAs, Keeps, Wakes}
-use Rattle.flow_floor.proofs.Seats.{at_inside, St, Homes, state, seats_stay}
+use Rattle.flow_floor.proofs.Seats.{seats_stay}
+use Rattle.flow_floor.proofs.Lists.{at_inside}
+use Rattle.flow_floor.proofs.Cells.{St, Homes, state}
 
 -- one process word of the first n changes
 pub live-set : (n i y : ℕ) (ws : List ℕ) → i < n → i < length ws → live_in n (set ws i y) + counts (get_or ws i 0) ≡ live_in n ws + counts y
@@ -58,21 +61,6 @@ live-most (suc n) [] = omega arith
 live-most (suc n) (w ∷ ws) = let r = live-most n ws in let c = counts-most w in let a : counts w + live_in n ws ≤ suc n = omega (arith, r, c) in a
 
 module _ {K : Type 0} where
-  -- a sum over the views after a change of one
-  pub total_set : (f : View K → ℕ) (vs : List (View K)) (id : ℕ) (v w : View K) → get_elem? vs id ≡ some v → sum_by f (set vs id w) + f v ≡ sum_by f vs + f w
-  total_set f [] id v w at = absurd (some-ne-none v (sym at))
-  total_set f (u ∷ us) zero v w at = let same = some-injective u v at in let e : f u ≡ f v = ap f same in omega (arith, e, sum_by-cons f w us, sum_by-cons f u us)
-  total_set f (u ∷ us) (suc id) v w at = let r = total_set f us id v w at in omega (arith, r, sum_by-cons f u (set us id w), sum_by-cons f u us)
-
-  pub total_le : (f h : View K → ℕ) (vs : List (View K)) → ((j : ℕ) (v : View K) → get_elem? vs j ≡ some v → f v ≤ h v) → sum_by f vs ≤ sum_by h vs
-  total_le f h [] each = omega arith
-  total_le f h (u ∷ us) each = let r = total_le f h us (λ j v e. each (suc j) v e) in let a = each 0 u refl in omega (arith, r, a, sum_by-cons f u us, sum_by-cons h u us)
-
-  pub total_one : (f : View K → ℕ) (vs : List (View K)) (j : ℕ) (v : View K) → get_elem? vs j ≡ some v → f v ≤ sum_by f vs
-  total_one f [] j v at = absurd (some-ne-none v (sym at))
-  total_one f (u ∷ us) zero v at = let e : f u ≡ f v = ap f (some-injective u v at) in omega (arith, e, sum_by-cons f u us)
-  total_one f (u ∷ us) (suc j) v at = let r = total_one f us j v at in omega (arith, r, sum_by-cons f u us)
-
   -- No word became one that blocks this process less.
   abbrev pub Calm : ℕ → BodyValue K → List ℕ → List ℕ → Type 0
   Calm n b ws ws' = (c : ℕ) → (IsInput b c → (level_in (get_or ws' (n + c) 0) ≤ level_in (get_or ws (n + c) 0)) × (senders_in (get_or ws (n + c) 0) ≤ senders_in (get_or ws' (n + c) 0)))
@@ -115,6 +103,25 @@ module _ {K : Type 0} where
   block-calm n channels ws ws' b stages.Ended calm x = x
   block-calm n channels ws ws' b (stages.Failed cause) calm x = x
 
+  -- the same words are calm
+  pub calm-same : (n : ℕ) (b : BodyValue K) (ws ws' : List ℕ) → ((c : ℕ) → (level_in (get_or ws' (n + c) 0) ≡ level_in (get_or ws (n + c) 0)) × (senders_in (get_or ws' (n + c) 0) ≡ senders_in (get_or ws (n + c) 0))) → Calm n b ws ws'
+  calm-same n b ws ws' same c = (λ input. (omega (arith, (same c).0), omega (arith, (same c).1)), λ output. omega (arith, (same c).0))
+
+  -- a sum over the views after a change of one
+  pub total_set : (f : View K → ℕ) (vs : List (View K)) (id : ℕ) (v w : View K) → get_elem? vs id ≡ some v → sum_by f (set vs id w) + f v ≡ sum_by f vs + f w
+  total_set f [] id v w at = absurd (some-ne-none v (sym at))
+  total_set f (u ∷ us) zero v w at = let same = some-injective u v at in let e : f u ≡ f v = ap f same in omega (arith, e, sum_by-cons f w us, sum_by-cons f u us)
+  total_set f (u ∷ us) (suc id) v w at = let r = total_set f us id v w at in omega (arith, r, sum_by-cons f u (set us id w), sum_by-cons f u us)
+
+  pub total_le : (f h : View K → ℕ) (vs : List (View K)) → ((j : ℕ) (v : View K) → get_elem? vs j ≡ some v → f v ≤ h v) → sum_by f vs ≤ sum_by h vs
+  total_le f h [] each = omega arith
+  total_le f h (u ∷ us) each = let r = total_le f h us (λ j v e. each (suc j) v e) in let a = each 0 u refl in omega (arith, r, a, sum_by-cons f u us, sum_by-cons h u us)
+
+  pub total_one : (f : View K → ℕ) (vs : List (View K)) (j : ℕ) (v : View K) → get_elem? vs j ≡ some v → f v ≤ sum_by f vs
+  total_one f [] j v at = absurd (some-ne-none v (sym at))
+  total_one f (u ∷ us) zero v at = let e : f u ≡ f v = ap f (some-injective u v at) in omega (arith, e, sum_by-cons f u us)
+  total_one f (u ∷ us) (suc j) v at = let r = total_one f us j v at in omega (arith, r, sum_by-cons f u us)
+
   pub still-calm : (n : ℕ) (channels : List ChannelShown) (ws ws' : List ℕ) (b : BodyValue K) (seen : List Look) → Calm n b ws ws' → AllBlock n channels ws b seen → AllBlock n channels ws' b seen
   still-calm n channels ws ws' b [] calm all = tt
   still-calm n channels ws ws' b (look ∷ seen) calm (first, rest) = (
@@ -124,10 +131,6 @@ module _ {K : Type 0} where
     ),
     still-calm n channels ws ws' b seen calm rest,
   )
-
-  -- the same words are calm
-  pub calm-same : (n : ℕ) (b : BodyValue K) (ws ws' : List ℕ) → ((c : ℕ) → (level_in (get_or ws' (n + c) 0) ≡ level_in (get_or ws (n + c) 0)) × (senders_in (get_or ws' (n + c) 0) ≡ senders_in (get_or ws (n + c) 0))) → Calm n b ws ws'
-  calm-same n b ws ws' same c = (λ input. (omega (arith, (same c).0), omega (arith, (same c).1)), λ output. omega (arith, (same c).0))
 
   -- where a note that a seat had is still there, or its process was poked
   noted-keep : (s : St K) (ws' : List ℕ) (id q : ℕ) (v w : View K) → get_elem? s.views id ≡ some v → (Contains v.noted q → Contains w.noted q ⊎ (1 < get_or ws' q 0)) → IsNoted s.views q → IsNoted (set s.views id w) q ⊎ (1 < get_or ws' q 0)
@@ -144,10 +147,10 @@ module _ {K : Type 0} where
     P = length start.bodies
 
     abbrev C : ℕ
-    C = length start.channels
+    C = length (capacities_of start)
 
     abbrev L : ℕ
-    L = P + C + 1
+    L = P + C + C + 1
 
     -- One seat steps. Each process that was blocked stays blocked, is noted, or was poked; and what the seat itself parks, holds or counts is told.
     pub wakes-keep : (s : St K) (g g' : Beside K) (ws' : List ℕ) (hs' : Homes K) (id : ℕ) (v w : View K) → Wakes start s g → get_elem? s.views id ≡ some v → IsWiredAs start g'.now

@@ -1,6 +1,7 @@
 -- Each kind of step keeps the second half of the rule.
 use Rattle.std.proofs.Common.{◌≡◌, ◌≢◌, ℕ, zero, suc, ◌+◌, ◌<◌, ◌≤◌, true, List, [], ◌∷◌, length, get_or, set, sym, refl, ap, ◌∙◌, subst, arith, Option, Some, None, slice_get, slice_set, length-set, get_or-set_other, get_or-set_same, ◌⊎◌, inl, inr, Contains}
 use Rattle.std.specs.Prelude.{option_and_then}
+use Rattle.std.proofs.lemmas.List.{length-map}
 use mathlib.Core.Option.{some, some-injective}
 use lib.ListN.{get_elem?}
 use Rattle.atomic_table.proofs.Lists.{set_here, set_else}
@@ -17,15 +18,16 @@ use Rattle.flow_machine.proofs.FitLemmas.{same-turns, channels-len}
 use Rattle.flow_ring.specs.Words.{level_in, senders_in}
 use Rattle.flow_floor.specs.declared.board.View.{View}
 use Rattle.flow_floor.specs.declared.board.Look.{Look}
-use Rattle.flow_floor.specs.Law.{IsTaken, IsFree, Rests, Stands, Holds, Beside, Flow}
+use Rattle.flow_floor.specs.Law.{IsTaken, IsFree, Rests, Holds, Stands, Beside, Flow}
+use Rattle.flow_floor.specs.Ends.{capacities_of}
 use Rattle.flow_floor.specs.Wired.{IsInput, IsOutput}
-use Rattle.flow_floor.specs.Ahead.{turned_body}
-use Rattle.flow_floor.specs.Turning.{with_body, turned_net}
-use Rattle.flow_floor.specs.Waking.{counts, live_in, IsNoted, WordsBlock, StillBlocks, AllBlock, IsWiredAs, Keeps, Notes, Wakes}
+use Rattle.flow_floor.specs.Turning.{turned_body, with_body, turned_net}
+use Rattle.flow_floor.specs.Waking.{counts, live_in, WordsBlock, IsWiredAs, Notes, IsNoted, StillBlocks, AllBlock, Keeps, Wakes}
 use Rattle.flow_floor.proofs.Numbers.{contains-none, contains-cases}
-use Rattle.flow_floor.proofs.Seats.{at_inside, some_Some, get-exists, get-within, St, Homes, state}
+use Rattle.flow_floor.proofs.Lists.{at_inside, some_Some, get-exists, get-within}
+use Rattle.flow_floor.proofs.Cells.{St, Homes, state}
 use Rattle.flow_floor.proofs.Channels.{SameInputs, input-same}
-use Rattle.flow_floor.proofs.Wakes.{live-set, live-other, total_set, Calm, block-calm, still-calm, calm-same, wakes-keep}
+use Rattle.flow_floor.proofs.Wakes.{live-set, live-other, Calm, block-calm, calm-same, total_set, still-calm, wakes-keep}
 use Rattle.flow_model.specs.Turns.{change_of}
 use Rattle.flow_model.proofs.Changes.{get-one}
 use Rattle.flow_model.proofs.Moves.{capacity-shown}
@@ -66,10 +68,10 @@ module _ {K : Type 0} (rules : Rules K) (lawful : Lawful rules)
   P = length start.bodies
 
   abbrev C : ℕ
-  C = length start.channels
+  C = length (capacities_of start)
 
   abbrev L : ℕ
-  L = P + C + 1
+  L = P + C + C + 1
 
   holds-of : (s : St K) (g : Beside K) (j q : ℕ) (u : View K) (b : BodyValue K) → F s g → get_elem? s.views j ≡ some u → u.held ≡ Some (q, b) → (g.holder q ≡ Some j) × (slice_get g.now.bodies q ≡ Some b)
   holds-of s g j q u b f at is = subst (Holds g.holder g.now j) is (f.each_seat j u at).holds
@@ -233,7 +235,7 @@ module _ {K : Type 0} (rules : Rules K) (lawful : Lawful rules)
     where
       input-below : (g : Beside K) (q c : ℕ) (x : BodyValue K) → F s g → IsWiredAs start g.now → slice_get g.now.bodies q ≡ Some x → IsInput x c → c < C
       input-below g q c x f wires there (inl i) = omega (arith, (f.fit.wired q x there).inputs i.0 c i.1, f.same.1)
-      input-below g q c x f wires there (inr z) = wires.signals q c x there z
+      input-below g q c x f wires there (inr z) = omega (arith, wires.signals q c x there z, length-map start.channels (λ (k : ChannelShown). k.capacity))
 
   -- notes that a seat keeps
   pub notes-kept : (s : St K) (id q : ℕ) (v w : View K) → get_elem? s.views id ≡ some v → (Contains v.noted q → Contains w.noted q) → IsNoted s.views q → IsNoted (set s.views id w) q
@@ -269,11 +271,11 @@ module _ {K : Type 0} (rules : Rules K) (lawful : Lawful rules)
 
   -- a turn
   pub wakes-stamp : (s : St K) (g g' : Beside K) (id p m y : ℕ) (v w : View K) (b : BodyValue K) (e : Event) → F s g → W s g → get_elem? s.views id ≡ some v → v.held ≡ Some (p, b) → g'.now ≡ turned_net g.now p b e m
-      → w.held ≡ Some (p, turned_body e m b) → w.shares ≡ v.shares → w.spare ≡ v.spare → w.noted ≡ v.noted → w.read_zero ≡ v.read_zero → w.seen ≡ [] → W (state (set s.words (P + C) y) s.homes (set s.views id w)) g'
+      → w.held ≡ Some (p, turned_body e m b) → w.shares ≡ v.shares → w.spare ≡ v.spare → w.noted ≡ v.noted → w.read_zero ≡ v.read_zero → w.seen ≡ [] → W (state (set s.words (P + C + C) y) s.homes (set s.views id w)) g'
   wakes-stamp s g g' id p m y v w b e f k at holds now held shares spare noted zeros seen =
       let mine = holds-of s g id p v b f at holds in
       let d = turned_body e m b in
-      let i : ℕ = P + C in
+      let i : ℕ = P + C + C in
       let ws' = set s.words i y in
       let ks = k.each id v at in
       let same_live = get_or-set_other s.words i L y 0 (λ e. omega arith) in

@@ -8,6 +8,8 @@ use Rattle.flow_ring.specs.Words.{level_in, senders_in}
 use Rattle.flow_floor.specs.declared.board.Look.{Look}
 use Rattle.flow_floor.specs.declared.floor.Saw.{Saw}
 use Rattle.flow_floor.specs.declared.floor.Saw.TheVariants as saw
+use Rattle.flow_floor.specs.declared.floor.Signalled.{Signalled}
+use Rattle.flow_floor.specs.declared.floor.Signalled.TheVariants as signalled
 use Rattle.flow_floor.specs.declared.floor.Idling.{Idling}
 use Rattle.flow_floor.specs.declared.floor.Idling.TheVariants as idling
 use Rattle.flow_floor.specs.Waking.{HasWorked}
@@ -65,11 +67,18 @@ SawEnd n since inputs seen = AllSaw (SawOver n since) (length inputs) inputs see
 abbrev pub SawReleased : {K : Type 0} → ℕ → ℕ → Process K → List Look → Type 0
 SawReleased n since x seen = (x.signalled ≡ true) ⊎ SawEnd n since (signal_input x.signal) seen
 
--- What a look for its release came to: it isn't released, and this was seen at its automatic input; or it is.
-abbrev pub SawHeld : {K : Type 0} → ℕ → ℕ → Process K → List Look → Saw → Type 0
-SawHeld n since x seen saw.Packet = (x.signalled ≡ false) × Saws n since (signal_input x.signal) seen saw.Packet
-SawHeld n since x seen (saw.Sender w) = (x.signalled ≡ false) × Saws n since (signal_input x.signal) seen (saw.Sender w)
-SawHeld n since x seen saw.Over = SawReleased n since x seen
+-- What was found at this automatic input: a packet came out of it; or none is there, and this is its word, with an open sender; or it is over, or has no
+-- connection.
+abbrev pub Finds : ℕ → ℕ → Option ℕ → List Look → Signalled → Type 0
+Finds n since signal seen (signalled.Packet c packet) = signal ≡ Some c
+Finds n since signal seen (signalled.Sender w) = Saws n since (signal_input signal) seen (saw.Sender w)
+Finds n since signal seen signalled.Over = Saws n since (signal_input signal) seen saw.Over
+
+-- What a look for its release came to: it isn't released, and this was found at its automatic input; or it is.
+abbrev pub FindsHeld : {K : Type 0} → ℕ → ℕ → Process K → List Look → Signalled → Type 0
+FindsHeld n since x seen (signalled.Packet c packet) = (x.signalled ≡ false) × Finds n since x.signal seen (signalled.Packet c packet)
+FindsHeld n since x seen (signalled.Sender w) = (x.signalled ≡ false) × Finds n since x.signal seen (signalled.Sender w)
+FindsHeld n since x seen signalled.Over = SawReleased n since x seen
 
 -- An idle process waits at its automatic input alone: no packet came there before, or its stream inputs were seen over, if it has some or has run.
 abbrev pub WaitsAlone : {K : Type 0} → ℕ → ℕ → Process K → List Look → Type 0
@@ -86,14 +95,10 @@ pub record IsDormant {K : Type 0} (n since : ℕ) (x : Process K) (seen : List L
   pub none_in : AllSaw (SawNone n since) (length inputs) inputs seen
   pub first : FirstOpen n since inputs seen w
 
--- An idle process takes a packet from its automatic input: one was seen there, and it waits there alone.
-abbrev pub MaySignal : {K : Type 0} → ℕ → ℕ → Process K → List Look → Type 0
-MaySignal n since x seen = SawOne (SawPacket n since) (signal_input x.signal) seen × WaitsAlone n since x seen
-
--- What an idle process does by what was looked at. It starts where it is released, and a packet was seen at a stream input, or it has none and hasn't
--- run; it goes to its end where all was seen over.
+-- What an idle process does by what was looked at. It takes the packet that came out of its automatic input where it waits there alone; it starts where it
+-- is released, and a packet was seen at a stream input, or it has none and hasn't run; it goes to its end where all was seen over.
 abbrev pub Idles : {K : Type 0} → ℕ → ℕ → Process K → List Look → Idling → Type 0
-Idles n since x seen idling.Signal = MaySignal n since x seen
+Idles n since x seen (idling.Signal c packet) = (x.signal ≡ Some c) × WaitsAlone n since x seen
 Idles n since x seen (idling.Dormant w) = IsDormant n since x seen w
 Idles n since x seen idling.Start = SawReleased n since x seen × (SawOne (SawPacket n since) x.inputs seen ⊎ ((list_any is_connected x.inputs ≡ false) × (x.has_run ≡ false)))
 Idles n since x seen idling.Finish = SawEnd n since x.inputs seen × SawEnd n since (signal_input x.signal) seen × HasWorked x

@@ -1,5 +1,5 @@
 -- Which connections stand at the ports of a process.
-use Rattle.std.specs.Prelude.{◌≡◌, ℕ, ◌<◌, ◌⊎◌, Option, Some, None, slice_get}
+use Rattle.std.specs.Prelude.{◌≡◌, ℕ, ◌<◌, ◌⊎◌, Some, slice_get}
 use Rattle.flow_model.specs.States.{From, output_at}
 use Rattle.flow_machine.specs.Values.{BodyValue}
 
@@ -17,8 +17,3 @@ module _ {K : Type 0} where
     pub inputs : (i c : ℕ) → slice_get b.process.inputs i ≡ Some (From c) → c < channels
     pub outputs : (o c : ℕ) → output_at b.process o ≡ Some c → c < channels
     pub signal : (c : ℕ) → b.process.signal ≡ Some c → c < channels
-
-  -- The process that is held receives from the connection.
-  abbrev pub Receives : Option (ℕ × BodyValue K) → ℕ → Type 0
-  Receives None c = ⊥
-  Receives (Some held) c = IsInput held.1 c

@@ -1,25 +1,26 @@
 -- What clauses say of a worker and of what it holds.
-use Rattle.std.specs.Prelude.{◌≡◌, ℕ, ◌+◌, ◌<◌, ◌≤◌, List, [], ◌∷◌, ◌++◌, length, None, Some}
-use Rattle.flow_ring.specs.declared.TheConstants.{FIELD}
+use Rattle.std.specs.Prelude.{◌≡◌, ℕ, ◌+◌, ◌<◌, ◌≤◌, List, [], ◌∷◌, ◌++◌, length, IfSome, None, Some}
 use Rattle.atomic_table.specs.Seated.{TableId}
+use Rattle.flow_packet.specs.Tree.{Tree, kind_of}
+use Rattle.flow_packet.specs.Held.{without_packet}
 use Rattle.flow_component.specs.Laws.{Rules}
-use Rattle.flow_model.specs.Stands.{ChannelShown}
+use Rattle.flow_model.specs.Stages.{IsThoughtStage}
+use Rattle.flow_machine.specs.Effects.{id_sent}
+use Rattle.flow_machine.specs.Nets.{packet_wished}
 use Rattle.flow_machine.specs.Values.{BodyValue, NetValue}
+use Rattle.flow_floor.specs.Law.{Rests}
+use Rattle.flow_floor.specs.Waking.{WordsBlock, AllBlock}
+use Rattle.flow_floor.specs.declared.board.Look.{Look}
 use Rattle.flow_floor.specs.declared.board.Slot.TheVariants as slot
 use Rattle.flow_floor.specs.declared.board.View.{View}
-use Rattle.flow_floor.specs.declared.floor.Worker.{Worker}
-use Rattle.flow_floor.specs.declared.floor.Held.{Held}
 use Rattle.flow_floor.specs.declared.floor.Claim.{Claim}
 use Rattle.flow_floor.specs.declared.floor.Claim.TheVariants as claim
-use Rattle.flow_floor.specs.declared.floor.Grabbed.{Grabbed}
-use Rattle.flow_floor.specs.declared.floor.Grabbed.TheVariants as grabbed
-use Rattle.flow_ring.specs.Words.{level_in, senders_in}
-use Rattle.flow_model.specs.Stages.{IsThoughtStage}
-use Rattle.flow_floor.specs.declared.board.Look.{Look}
-use Rattle.flow_floor.specs.Waking.{AllBlock, WordsBlock}
-use Rattle.flow_floor.specs.Law.{Rests}
-use Rattle.flow_floor.specs.Plays.{WasSo}
-use Rattle.flow_floor.specs.Views.{grabbing}
+use Rattle.flow_floor.specs.declared.floor.Drawn.{Drawn}
+use Rattle.flow_floor.specs.declared.floor.Drawn.TheVariants as drawn
+use Rattle.flow_floor.specs.declared.floor.Held.{Held}
+use Rattle.flow_floor.specs.declared.floor.Placed.{Placed}
+use Rattle.flow_floor.specs.declared.floor.Placed.TheVariants as placed
+use Rattle.flow_floor.specs.declared.floor.Worker.{Worker}
 
 module _ {K : Type 0} where
   abbrev pub view : Worker K → View K
@@ -29,11 +30,22 @@ module _ {K : Type 0} where
   abbrev pub woken_of : Worker K → List ℕ
   woken_of w = w.woken.names.items
 
-  -- The worker is a seat of this table, and owes nothing: it holds no connection, has noted no process, and has no spare token.
+  -- The worker is a seat of this table, which has n processes, and holds the process of this body: its place in the table is out, and no other is.
+  pub record IsSeated (z : TableId) (n : ℕ) (w : Worker K) (h : Held K) : Type 0 where
+    pub table : w.seat.table_id ≡ z
+    pub share : 0 < w.seat.me.0.shares
+    pub spare : w.seat.me.0.spare ≡ 0
+    pub below : h.process < n
+    pub base : BodyValue K
+    pub held : w.seat.me.0.held ≡ Some (h.process, base)
+    pub slots : w.seat.me.1 ≡ (h.process, slot.Vacant) ∷ []
+
+  -- The worker is a seat of this table, and owes nothing: it is at no end of a connection, has noted no process, and has no spare token.
   pub record IsCalm (z : TableId) (w : Worker K) : Type 0 where
     pub table : w.seat.table_id ≡ z
     pub share : 0 < w.seat.me.0.shares
-    pub grab : w.seat.me.0.grab ≡ None
+    pub sending : w.seat.me.0.sending ≡ None
+    pub receiving : w.seat.me.0.receiving ≡ None
     pub noted : w.seat.me.0.noted ≡ []
     pub spare : w.seat.me.0.spare ≡ 0
 
@@ -43,7 +55,7 @@ module _ {K : Type 0} where
     pub held : w.seat.me.0.held ≡ None
     pub slots : w.seat.me.1 ≡ []
 
-  -- The body agrees with what the machine has, or is what its thought made of that by a work that isn't in the list yet.
+  -- The body agrees with what the machine has, or is what its thought made of that by a work that isn't in the list yet. So all its turns are stamped.
   pub record Agrees (rules : Rules K) (w : Worker K) (h : Held K) : Type 0 where
     pub base : BodyValue K
     pub held : w.seat.me.0.held ≡ Some (h.process, base)
@@ -57,39 +69,17 @@ module _ {K : Type 0} where
     pub agrees : Agrees rules w h
     pub slots : w.seat.me.1 ≡ (h.process, slot.Vacant) ∷ []
 
-  -- The body is this worker's, which has noted these processes, and holds no connection.
+  -- The body is this worker's, which has noted these processes, and is at no end of a connection.
   pub record IsWaking (rules : Rules K) (z : TableId) (n : ℕ) (w : Worker K) (h : Held K) (notes : List ℕ) : Type 0 where
     pub table : w.seat.table_id ≡ z
     pub share : 0 < w.seat.me.0.shares
-    pub grab : w.seat.me.0.grab ≡ None
+    pub sending : w.seat.me.0.sending ≡ None
+    pub receiving : w.seat.me.0.receiving ≡ None
     pub noted : w.seat.me.0.noted ≡ notes
     pub spare : w.seat.me.0.spare ≡ 0
     pub below : h.process < n
     pub agrees : Agrees rules w h
     pub slots : w.seat.me.1 ≡ (h.process, slot.Vacant) ∷ []
-
-  -- The worker holds connection c too, whose channel is this.
-  pub record IsGrabbing (rules : Rules K) (z : TableId) (n : ℕ) (w : Worker K) (h : Held K) (c : ℕ) (k : ChannelShown) : Type 0 where
-    pub table : w.seat.table_id ≡ z
-    pub share : 0 < w.seat.me.0.shares
-    pub noted : w.seat.me.0.noted ≡ []
-    pub spare : w.seat.me.0.spare ≡ 0
-    pub below : h.process < n
-    pub agrees : Agrees rules w h
-    pub grab : w.seat.me.0.grab ≡ Some (c, k)
-    pub slots : w.seat.me.1 ≡ (n + c, slot.Vacant) ∷ (h.process, slot.Vacant) ∷ []
-    pub level : length k.packets < FIELD
-    pub senders : k.open_senders < FIELD
-
-  -- The connection was just taken: the word that was found has the channel's level and open senders, and at that moment the machine had both this
-  -- channel and the body that is held, and what was seen for that was so.
-  pub record HasGrabbed (rules : Rules K) (old new : Worker K) (n c most word : ℕ) (k : ChannelShown) : Type 0 where
-    pub level : level_in word ≡ length k.packets
-    pub senders : senders_in word ≡ k.open_senders
-    pub capacity : k.capacity ≡ most
-    pub so : WasSo rules n old.seat.me.0.held old.seat.me.0.seen c k
-    pub view : new.seat.me.0 ≡ grabbing old.seat.me.0 (n + c) word c k
-    pub woken : woken_of new ≡ woken_of old
 
   -- Beside the process at hand all stays: the worker's shares, whether it has read 0, and what it asked for.
   pub record IsSameSeat (old new : View K) : Type 0 where
@@ -108,7 +98,8 @@ module _ {K : Type 0} where
   pub record IsDone (z : TableId) (w : Worker K) (tokens : ℕ) : Type 0 where
     pub table : w.seat.table_id ≡ z
     pub share : 0 < w.seat.me.0.shares
-    pub grab : w.seat.me.0.grab ≡ None
+    pub sending : w.seat.me.0.sending ≡ None
+    pub receiving : w.seat.me.0.receiving ≡ None
     pub noted : w.seat.me.0.noted ≡ []
     pub spare : w.seat.me.0.spare ≡ tokens
     pub held : w.seat.me.0.held ≡ None
@@ -122,7 +113,16 @@ module _ {K : Type 0} where
   MatchClaim (claim.Held h) P Q = P h
   MatchClaim (claim.NotReady n) P Q = Q n
 
--- What holds of an answer to a grab, by its cases.
-abbrev pub MatchGrabbed : Grabbed → (ℕ → Type 0) → (ℕ → ChannelShown → Type 0) → Type 0
-MatchGrabbed (grabbed.Busy w) P Q = P w
-MatchGrabbed (grabbed.Got w k) P Q = Q w k
+-- What holds of a look to receive, by its cases.
+abbrev pub MatchDrawn : Drawn → (ℕ → Type 0) → (ℕ → Tree → Type 0) → Type 0
+MatchDrawn (drawn.Nothing word) P Q = P word
+MatchDrawn (drawn.Packet place packet) P Q = Q place packet
+
+-- What holds of a look to send, by its cases.
+abbrev pub MatchPlaced : Placed → (ℕ → Type 0) → Type 0 → Type 0
+MatchPlaced (placed.Full word) P Q = P word
+MatchPlaced placed.Put P Q = Q
+
+-- The packet of its wish has left the body that is held, and nothing else has changed.
+abbrev pub HandsOut : {K : Type 0} → Held K → Held K → Tree → Type 0
+HandsOut old new packet = (new.process ≡ old.process) × (new.starved ≡ old.starved) × (packet_wished old.body.process ≡ Some packet) × IfSome (id_sent old.body.process.stage) (λ id. new.body ≡ record old.body { process = record old.body.process { held = without_packet old.body.process.held id }; leaving = Some (kind_of packet); places = old.body.places + 1 })

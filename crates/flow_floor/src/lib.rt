@@ -1,30 +1,42 @@
-//! The shared object on which workers run a network. `flow_runner` has its workers claim processes on it and make their
-//! turns. The contracts are those of the methods of `Floor`, and behind them stands the rule of `specs/Rule.antt`,
-//! which each step of each worker keeps: at each moment the floor is a net that a schedule leads to.
+//! The shared object on which workers run a network, whose connections have two ends: one worker sends at the one while
+//! another receives at the other. `flow_runner` has its workers claim processes on it and make their turns. The contracts
+//! are those of the methods of `Floor`, and behind them stands the rule of `specs/Rule.antt`, which each step of each
+//! worker keeps: at each moment the floor is a net that a schedule leads to.
 #![tactic(auto)]
 
-mod alone;
 mod back;
 mod board;
-mod claims;
+mod burst;
 mod crew;
+mod ends;
 mod floor;
+mod gates;
+mod held;
 mod idle;
-mod laws;
+mod inputs;
+mod layout;
+mod lays;
 mod open;
+mod packets;
 mod plays;
 mod receive;
+mod refill;
 mod roll;
 mod rooms;
 mod send;
+mod settle;
 mod shut;
+mod solo;
 mod steps;
+mod still;
+mod tells;
+mod told;
 mod turn;
-mod turns;
 mod wake;
+mod words;
 
 pub use board::{Lawful, Slot, View};
-pub use floor::{Claim, Floor, Held, Turned, Worker};
-pub use laws::no_process_moves_once_a_worker_has_read_zero;
+pub use floor::{Burst, Claim, Floor, Held, Turned, Worker};
 pub use open::{OpenStop, Opened};
 pub use rooms::Rooms;
+pub use still::no_process_moves_once_a_worker_has_read_zero;

@@ -1,20 +1,22 @@
 //! How a floor is opened.
-ghost use Rattle.std.specs.Prelude.{◌≡◌, ◌+◌, ◌++◌, ◌≤◌, [], length, map, All, IfOk, IfErr, vec_capacity};
+ghost use Rattle.std.specs.Prelude.{◌≡◌, ◌+◌, ◌≤◌, [], length, All, IfOk, IfErr, vec_capacity};
 ghost use Rattle.flow_limits.specs.declared.TheConstants.{CONNECTION_LIMIT, WORKER_LIMIT};
-ghost use Rattle.flow_floor.specs.declared.board.Slot.TheVariants as Slot;
-ghost use Rattle.flow_floor.specs.Opening.{FirstWords, FewSenders};
-ghost use Rattle.flow_floor.specs.Rooms.{HasRooms};
+ghost use Rattle.flow_floor.specs.Ends.{capacities_of};
+ghost use Rattle.flow_floor.specs.Places.{slot_count};
+ghost use Rattle.flow_floor.specs.Opening.{AreSound, FirstWords};
 ghost use Rattle.flow_floor.specs.Floors.{opened_net, process_count, HasRoomsFor, IsCrewOf, IsNewWorker};
 
 use crate::back::join_again;
 use crate::board::Slot;
 use crate::floor::{Floor, Worker};
+use crate::layout::Layout;
+use crate::lays::first_slots;
 use crate::roll::Roll;
 use crate::rooms::Rooms;
+use crate::words::first_words;
 use atomic_table::Table;
 use flow_component::Component;
-use flow_machine::{Body, Channel, Net, Parts};
-use flow_ring::{Layout, pack};
+use flow_machine::{Body, Net, Parts};
 use std::alloc::{AllocError, Global};
 use std::snapshot::Snapshot;
 
@@ -35,57 +37,33 @@ pub struct Opened<K: Component> {
 fn measured<K: Component>(net: Net<K>) -> Net<K>
     ensures same { result ≡ net }
     ensures few { length result.channels ≤ CONNECTION_LIMIT }
-    ensures senders { FewSenders result.channels }
+    ensures sound { AreSound result.channels }
 {
     net.split().join()
 }
 
-/// The words at the start.
-fn first_words<K: Component>(alloc: Global, net: &Net<K>) -> Result<Vec<u64>, AllocError>
-    requires few { length net.now.channels ≤ CONNECTION_LIMIT }
-    requires senders { FewSenders net.now.channels }
-    ensures { IfOk result (λ words. FirstWords net.now words.items) }
+/// The capacity of each connection.
+fn capacities<K: Component>(alloc: Global, net: &Net<K>) -> Result<Vec<u32>, AllocError>
+    requires { length net.now.channels ≤ CONNECTION_LIMIT }
+    ensures { IfOk result (λ capacities. capacities.items ≡ capacities_of net.now) }
 {
-    let layout = Layout::of(net.processes() as usize, net.connections());
-    let mut words = vec![in alloc; 0u64; layout.words()]?;
-    for process in 0..net.processes() {
-        words[layout.process_word(process as usize)] = 2;
-    }
+    let mut capacities = Vec::with_capacity(alloc, net.connections())?;
     for connection in 0..net.connections() {
         let channel = net.channel(connection as u32);
-        let word = pack(channel.level() as u32, channel.open_senders(), false);
-        words[layout.connection_word(connection)] = word;
+        capacities.push_reserved(channel.capacity());
     }
-    words[layout.clock()] = net.turns_made() as u64;
-    words[layout.live()] = net.processes() as u64;
-    Ok(words)
+    Ok(capacities)
 }
 
-/// Puts the bodies into slots.
-fn put_bodies<K: Component>(bodies: Vec<Body<K>>, mut slots: Vec<Slot<K>>) -> Vec<Slot<K>>
-    requires room { length slots.items + length bodies.items ≤ vec_capacity slots }
-    ensures items { result.items ≡ slots.items ++ map Slot.Body bodies.items }
-    ensures room { vec_capacity result ≡ vec_capacity slots }
+/// Where the words and slots of a net's floor lie.
+fn layout_of<K: Component>(alloc: Global, net: &Net<K>) -> Result<Layout, AllocError>
+    requires few { length net.now.channels ≤ CONNECTION_LIMIT }
+    requires sound { AreSound net.now.channels }
+    ensures processes { IfOk result (λ l. l.processes ≡ length net.now.bodies) }
+    ensures capacities { IfOk result (λ l. l.capacities.items ≡ capacities_of net.now) }
 {
-    let mut left = bodies.into_iter();
-    while let Some(body) = left.next() {
-        slots.push_reserved(Slot::Body(body));
-    }
-    left.destroy_empty();
-    slots
-}
-
-/// Puts the channels into slots.
-fn put_channels<K: Component>(channels: Vec<Channel>, mut slots: Vec<Slot<K>>) -> Vec<Slot<K>>
-    requires room { length slots.items + length channels.items ≤ vec_capacity slots }
-    ensures items { result.items ≡ slots.items ++ map Slot.Channel channels.items }
-{
-    let mut left = channels.into_iter();
-    while let Some(channel) = left.next() {
-        slots.push_reserved(Slot::Channel(channel));
-    }
-    left.destroy_empty();
-    slots
+    let capacities = capacities(alloc, net)?;
+    Layout::of(alloc, net.processes() as usize, capacities)
 }
 
 /// A roll for the first worker, and one for each of the others.
@@ -102,39 +80,46 @@ fn rolls(alloc: Global, workers: u32) -> Result<(Roll, Vec<Roll>), AllocError>
 
 /// What is taken before a net is taken apart.
 struct Laid<K: Component> {
+    layout: Layout,
     words: Vec<u64>,
     crew: Vec<Worker<K>>,
     rolls: (Roll, Vec<Roll>),
+    starved: Vec<u32>,
+    bodies: Vec<Body<K>>,
     slots: Vec<Slot<K>>,
-    rooms: Rooms<K>,
 }
 
 /// Takes all that a floor needs.
 fn lay<K: Component>(alloc: Global, net: &Net<K>, workers: u32) -> Result<Laid<K>, AllocError>
     requires least { 1 ≤ workers }
     requires few { length net.now.channels ≤ CONNECTION_LIMIT }
-    requires few_senders { FewSenders net.now.channels }
+    requires sound { AreSound net.now.channels }
+    ensures layout { IfOk result (λ l. (l.layout.processes ≡ length net.now.bodies) × (l.layout.capacities.items ≡ capacities_of net.now)) }
     ensures words { IfOk result (λ l. FirstWords net.now l.words.items) }
     ensures crew { IfOk result (λ l. (l.crew.items ≡ []) × (workers ≤ vec_capacity l.crew)) }
     ensures rolls { IfOk result (λ l. length l.rolls.1.items + 1 ≡ workers) }
-    ensures slots { IfOk result (λ l. (l.slots.items ≡ []) × (length net.now.bodies + length net.now.channels ≤ vec_capacity l.slots)) }
-    ensures rooms { IfOk result (λ l. HasRooms (length net.now.bodies) (length net.now.channels) l.rooms) }
+    ensures starved { IfOk result (λ l. (length l.starved.items ≡ 0) × (length net.now.bodies ≤ vec_capacity l.starved)) }
+    ensures bodies { IfOk result (λ l. (length l.bodies.items ≡ 0) × (length net.now.bodies ≤ vec_capacity l.bodies)) }
+    ensures slots { IfOk result (λ l. (l.slots.items ≡ []) × (slot_count l.layout.processes l.layout.capacities.items ≤ vec_capacity l.slots)) }
 {
-    let words = first_words(alloc, net)?;
+    let layout = layout_of(alloc, net)?;
+    let words = first_words(alloc, &layout, net)?;
     let crew = Vec::with_capacity(alloc, workers as usize)?;
     let rolls = rolls(alloc, workers)?;
-    let rooms = Rooms::new(alloc, net.processes() as usize, net.connections())?;
-    let layout = Layout::of(net.processes() as usize, net.connections());
+    let starved = Vec::with_capacity(alloc, layout.processes)?;
+    let bodies = Vec::with_capacity(alloc, layout.processes)?;
     let Ok(slots) = Vec::with_capacity(alloc, layout.slots()) else {
-        rooms.discard();
+        bodies.destroy_empty();
         return Err(AllocError);
     };
     Ok(Laid {
+        layout,
         words,
         crew,
         rolls,
+        starved,
+        bodies,
         slots,
-        rooms,
     })
 }
 
@@ -147,12 +132,15 @@ fn begin<K: Component>(
 ) -> Result<Opened<K>, OpenStop<K>>
     requires least { 1 ≤ workers }
     requires most { workers ≤ WORKER_LIMIT }
-    requires few { (length net.channels ≤ CONNECTION_LIMIT) × FewSenders net.channels }
+    requires few { length net.channels ≤ CONNECTION_LIMIT }
+    requires sound { AreSound net.channels }
+    requires layout { (laid.layout.processes ≡ length net.bodies) × (laid.layout.capacities.items ≡ capacities_of net) }
     requires words { FirstWords net laid.words.items }
     requires crew { (laid.crew.items ≡ []) × (workers ≤ vec_capacity laid.crew) }
     requires rolls { length laid.rolls.1.items + 1 ≡ workers }
-    requires slots { (laid.slots.items ≡ []) × (length net.bodies + length net.channels ≤ vec_capacity laid.slots) }
-    requires rooms { HasRooms (length net.bodies) (length net.channels) laid.rooms }
+    requires starved { (length laid.starved.items ≡ 0) × (length net.bodies ≤ vec_capacity laid.starved) }
+    requires bodies { (length laid.bodies.items ≡ 0) × (length net.bodies ≤ vec_capacity laid.bodies) }
+    requires slots { (laid.slots.items ≡ []) × (slot_count laid.layout.processes laid.layout.capacities.items ≤ vec_capacity laid.slots) }
     ensures opened { IfOk result (λ o. opened_net o.floor ≡ net) }
     ensures crew { IfOk result (λ o. IsCrewOf o.floor o.workers.items × (length o.workers.items ≡ workers)) }
     ensures fresh { IfOk result (λ o. All IsNewWorker o.workers.items) }
@@ -160,28 +148,31 @@ fn begin<K: Component>(
     ensures refused { IfErr result (λ stop. stop.net ≡ net) }
 {
     let Laid {
+        layout,
         words,
         crew,
         rolls: (woken, others),
+        starved,
+        bodies: room,
         slots,
-        rooms,
     } = laid;
-    let processes = net.processes() as usize;
-    let connections = net.connections();
     let about = Snapshot::of(&net);
     let Parts {
         bodies,
         channels,
         connections: plan,
     } = net.split();
-    let slots = put_bodies(bodies, slots);
-    let slots = put_channels(channels, slots);
+    let (slots, channels) = first_slots(&layout, bodies, channels, slots);
+    let rooms = Rooms {
+        bodies: room,
+        channels,
+        starved,
+    };
     match Table::new(alloc, words.as_slice(), slots, &about) {
         Ok((table, seat)) => {
             let floor = Floor {
                 table,
-                processes,
-                connections,
+                layout,
                 plan,
             };
             let workers = floor.hire(crew, others, Worker { seat, woken }, workers);
@@ -192,8 +183,7 @@ fn begin<K: Component>(
             })
         }
         Err(refused) => {
-            let slots = refused.slots;
-            let net = join_again(&about, slots, rooms, plan, processes, connections);
+            let net = join_again(&about, &layout, refused.slots, rooms, plan);
             Err(OpenStop { net })
         }
     }
@@ -218,18 +208,10 @@ impl<K: Component> Floor<K> {
         }
     }
 
-    /// Where its words and slots lie.
-    pub(crate) fn layout(&self) -> Layout
-        ensures processes { result.processes ≡ self.now.processes }
-        ensures connections { result.connections ≡ self.now.connections }
-    {
-        Layout::of(self.processes, self.connections)
-    }
-
     /// How many processes it has.
     pub fn processes(&self) -> usize
         ensures { result ≡ process_count self.now }
     {
-        self.processes
+        self.layout.processes
     }
 }

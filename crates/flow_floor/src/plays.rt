@@ -1,17 +1,19 @@
 //! What each step tells.
-ghost use Rattle.flow_floor.specs.Plays.{ordered, claimed, grabbed, saw, stamped, released, left, parked, retired, glanced, nudged, raised, poked, lowered, told_live};
+ghost use Rattle.flow_floor.specs.Plays.{ordered, claimed, gated, came, saw, learned, placed, filled, drew, emptied, stamped, all_stamped, published, subtracted, withdrew, exited, left, parked, retired, glanced, nudged, raised, poked, lowered, told_live};
 
 use crate::board::{Slot, View};
 use atomic_table::{Join, Play, Split};
 use flow_component::Component;
 use std::marker::{Brand, PhantomData};
 
-/// Which connection a step is at, the capacity that it had at the start, and how many processes there are; or how many connections there are. Each
-/// call picks it.
+/// Which connection a step is at, in a floor of so many processes and of connections with these capacities, and how many packets it takes. Each call picks
+/// it.
 pub trait Spot {
-    ghost use Rattle.std.specs.Prelude.{ℕ};
+    ghost use Rattle.std.specs.Prelude.{ℕ, List};
 
     ghost processes: { ℕ };
+
+    ghost capacities: { List ℕ };
 
     ghost connection: { ℕ };
 
@@ -19,33 +21,66 @@ pub trait Spot {
 }
 
 impl Spot for Brand {
+    ghost use Rattle.std.specs.Prelude.{[]};
+
     ghost processes = { 0 };
+
+    ghost capacities = { [] };
 
     ghost connection = { 0 };
 
     ghost most = { 0 };
 }
 
-/// Which turn a step is, what the held body has become of the one that the machine has, and the net that was opened. Each call picks it.
+/// The packet that a step places. Each call picks it.
+pub trait Parcel {
+    ghost use Rattle.flow_packet.specs.Tree.{Tree};
+
+    ghost packet: { Tree };
+}
+
+impl Parcel for Brand {
+    ghost use Rattle.flow_floor.specs.Parcels.{no_packet};
+
+    ghost packet = { no_packet };
+}
+
+/// The pending turns of the process that is held, and the net that was opened. Each call picks them.
 pub trait Deed<T> {
-    ghost use Rattle.flow_model.specs.Events.{Event};
-    ghost use Rattle.flow_machine.specs.Values.{BodyValue, NetValue};
+    ghost use Rattle.std.specs.Prelude.{List};
+    ghost use Rattle.flow_machine.specs.Values.{NetValue};
+    ghost use Rattle.flow_floor.specs.Views.{Move};
 
-    ghost event: { Event };
-
-    ghost after: { BodyValue T → BodyValue T };
+    ghost turns: { List (Move T) };
 
     ghost start: { NetValue T };
 }
 
 impl<T> Deed<T> for Brand {
-    ghost use Rattle.flow_model.specs.Events.{Starts};
-    ghost use Rattle.flow_machine.specs.Values.{net_of};
     ghost use Rattle.std.specs.Prelude.{[]};
+    ghost use Rattle.flow_machine.specs.Values.{net_of};
 
-    ghost event = { Starts };
+    ghost turns = { [] };
 
-    ghost after = { λ b. b };
+    ghost start = { net_of [] [] };
+}
+
+/// What is known of the pending turns of the process that is held, and the net that was opened. Each call picks them.
+pub trait Deeds<T> {
+    ghost use Rattle.std.specs.Prelude.{List};
+    ghost use Rattle.flow_machine.specs.Values.{NetValue};
+    ghost use Rattle.flow_floor.specs.Views.{Move};
+
+    ghost are: { List (Move T) → Type 0 };
+
+    ghost start: { NetValue T };
+}
+
+impl<T> Deeds<T> for Brand {
+    ghost use Rattle.std.specs.Prelude.{[]};
+    ghost use Rattle.flow_machine.specs.Values.{net_of};
+
+    ghost are = { λ _. Unit {0} };
 
     ghost start = { net_of [] [] };
 }
@@ -71,12 +106,22 @@ impl<K: Component, S: Spot> Play<Slot<K>, View<K>> for Take<S> {
     ghost then = { λ st. claimed S.connection (ordered st) };
 }
 
-pub struct Grab<S: Spot> {
+/// Takes the gate of a connection into which several send.
+pub struct Enter<S: Spot> {
     spot: PhantomData<S>,
 }
 
-impl<K: Component, S: Spot> Play<Slot<K>, View<K>> for Grab<S> {
-    ghost then = { λ st. grabbed K.rules S.processes S.connection S.most (ordered st) };
+impl<K: Component, S: Spot> Play<Slot<K>, View<K>> for Enter<S> {
+    ghost then = { λ st. gated S.connection (ordered st) };
+}
+
+/// Comes to the sending end of a connection into which one process sends.
+pub struct Come<S: Spot> {
+    spot: PhantomData<S>,
+}
+
+impl<K: Component, S: Spot> Play<Slot<K>, View<K>> for Come<S> {
+    ghost then = { came S.connection };
 }
 
 pub struct Look;
@@ -85,20 +130,95 @@ impl<K: Component> Play<Slot<K>, View<K>> for Look {
     ghost then = { λ st. saw (ordered st) };
 }
 
+/// Looks at the level, to be told it.
+pub struct Learn<S: Spot> {
+    spot: PhantomData<S>,
+}
+
+impl<K: Component, S: Spot> Play<Slot<K>, View<K>> for Learn<S> {
+    ghost then = { λ st. learned S.most (ordered st) };
+}
+
+/// Looks at the level, to place a packet.
+pub struct Place<S: Spot, B: Parcel> {
+    spot: PhantomData<(S, B)>,
+}
+
+impl<K: Component, S: Spot, B: Parcel> Play<Slot<K>, View<K>> for Place<S, B> {
+    ghost then = { λ st. placed K.rules S.processes S.capacities S.connection S.most B.packet (ordered st) };
+}
+
+/// Gives a cell back with the packet that was placed.
+pub struct Fill;
+
+impl<K: Component> Play<Slot<K>, View<K>> for Fill {
+    ghost then = { filled };
+}
+
+/// Looks at the level, to draw a packet.
+pub struct Draw<S: Spot> {
+    spot: PhantomData<S>,
+}
+
+impl<K: Component, S: Spot> Play<Slot<K>, View<K>> for Draw<S> {
+    ghost then = { λ st. drew K.rules S.processes S.capacities S.connection (ordered st) };
+}
+
+/// Gives a cell back from which the packet was drawn.
+pub struct Empty;
+
+impl<K: Component> Play<Slot<K>, View<K>> for Empty {
+    ghost then = { emptied };
+}
+
+/// Stamps the pending turns.
 pub struct Stamp<D> {
     deed: PhantomData<D>,
 }
 
 impl<K: Component, D: Deed<K>> Play<Slot<K>, View<K>> for Stamp<D> {
-    ghost then = { stamped K.rules D.start D.event D.after };
+    ghost then = { stamped K.rules D.start D.turns };
 }
 
-pub struct Release<N: Noting> {
+/// Stamps pending turns of which something is known.
+pub struct StampAll<D> {
+    deeds: PhantomData<D>,
+}
+
+impl<K: Component, D: Deeds<K>> Play<Slot<K>, View<K>> for StampAll<D> {
+    ghost then = { all_stamped K.rules D.start D.are };
+}
+
+pub struct Publish<N: Noting> {
     noting: PhantomData<N>,
 }
 
-impl<K: Component, N: Noting> Play<Slot<K>, View<K>> for Release<N> {
-    ghost then = { released N.notes };
+impl<K: Component, N: Noting> Play<Slot<K>, View<K>> for Publish<N> {
+    ghost then = { published N.notes };
+}
+
+/// Takes a closed sender out of the level word.
+pub struct Subtract<N: Noting> {
+    noting: PhantomData<N>,
+}
+
+impl<K: Component, N: Noting> Play<Slot<K>, View<K>> for Subtract<N> {
+    ghost then = { subtracted N.notes };
+}
+
+pub struct Withdraw<N: Noting> {
+    noting: PhantomData<N>,
+}
+
+impl<K: Component, N: Noting> Play<Slot<K>, View<K>> for Withdraw<N> {
+    ghost then = { withdrew N.notes };
+}
+
+/// Goes from the sending end.
+pub struct Exit;
+
+impl<K: Component> Play<Slot<K>, View<K>> for Exit {
+    ghost then = { exited };
 }
 
 pub struct Leave;

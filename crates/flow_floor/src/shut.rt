@@ -1,23 +1,23 @@
 //! How a floor is taken apart.
-ghost use Rattle.std.specs.Prelude.{◌≡◌, ℕ, ◌+◌, ◌<◌, ◌≤◌, All, [], length, map, take, drop, Some, None, true, vec_len, vec_capacity, slice_index_or, false};
+ghost use Rattle.std.specs.Prelude.{◌≡◌, ℕ, ◌<◌, ◌≤◌, [], All, length, true, vec_capacity, slice_index_or, false};
 ghost use Rattle.std.specs.Mem.Slots.{slots_items, slots_filled, slots_len, IsFull};
-ghost use Rattle.flow_ring.specs.Places.{word_count};
-ghost use Rattle.flow_ring.specs.Spaced.{ranked};
 ghost use Rattle.flow_limits.specs.declared.TheConstants.{PROCESS_LIMIT, WORKER_LIMIT};
+ghost use Rattle.flow_machine.specs.Quiet.{AllUnset, EndedAreTold, IsQuietNet};
+ghost use Rattle.flow_ring.specs.Spaced.{ranked};
+ghost use Rattle.flow_floor.specs.Shut.{IsShut, ListsStarved, starves, listed, HasBodies, BodiesIn};
 ghost use Rattle.flow_floor.specs.Crew.{made_by};
 ghost use Rattle.flow_floor.specs.Floors.{opened_net, HasReadZero, SomeReadZero, HasRoomsFor, IsCrewOf, IsIdleAt, turns_of};
-ghost use Rattle.flow_machine.specs.Quiet.{AllUnset, EndedAreTold, IsQuietNet};
-ghost use Rattle.flow_model.specs.Stages.{is_over_stage};
-ghost use Rattle.flow_floor.specs.Shut.{HasBodies, HasChannels, BodiesIn, ChannelsIn, IsShut, ListsStarved, starves, listed};
+ghost use Rattle.flow_floor.specs.Places.{word_count};
 ghost use Rattle.flow_floor.specs.Workers.{view};
 
 use crate::board::Slot;
 use crate::floor::{Floor, Worker};
+use crate::layout::Layout;
+use crate::refill::refill_all;
 use crate::rooms::Rooms;
 use atomic_table::Closed;
 use flow_component::Component;
-use flow_machine::{Body, Channel, Closed as Shut, Parts, Stage};
-use flow_ring::Layout;
+use flow_machine::{Body, Closed as Shut, Parts};
 use std::alloc::Global;
 
 const DONE: u64 = 4;
@@ -50,31 +50,6 @@ fn take_bodies<K: Component>(
     bodies
 }
 
-/// Takes the channels out of the slots behind them.
-fn take_channels<K: Component>(
-    closed: &mut Closed<Slot<K>, Global>,
-    first: usize,
-    count: usize,
-    mut channels: Vec<Channel>,
-) -> Vec<Channel>
-    requires gone { (k : ℕ) → k < first → slice_index_or (slots_filled closed.old.slots) k false ≡ false }
-    requires left { (k : ℕ) → first ≤ k → k < slots_len closed.old.slots → slice_index_or (slots_filled closed.old.slots) k false ≡ true }
-    requires stocked { HasChannels first count (slots_items closed.old.slots) }
-    requires range { slots_len closed.old.slots ≡ first + count }
-    requires room { (length channels.items ≡ 0) × (count ≤ vec_capacity channels) }
-    ensures channels { ChannelsIn first count (slots_items closed.old.slots) result.items }
-    ensures all { (k : ℕ) → k < slots_len closed.new.slots → slice_index_or (slots_filled closed.new.slots) k false ≡ false }
-{
-    for c in 0..count {
-        let slot = closed.take(first + c);
-        let Slot::Channel(channel) = slot else {
-            unreachable!()
-        };
-        channels.push_reserved(channel);
-    }
-    channels
-}
-
 /// A process with this word is done, and not over. One that is ready isn't starved: a floor may be paused.
 fn starves<K: Component>(word: u64, body: &Body<K>) -> bool
     ensures { result ≡ starves word body.now.process.stage }
@@ -101,13 +76,13 @@ fn with_starved(mut starved: Vec<u32>, process: u32, is: bool) -> Vec<u32>
 /// The processes that are done and not over.
 fn list_starved<K: Component>(
     closed: &Closed<Slot<K>, Global>,
-    layout: Layout,
+    layout: &Layout,
     bodies: &[Body<K>],
     mut starved: Vec<u32>,
 ) -> Vec<u32>
     requires full { IsFull closed.now.words }
-    requires bodies { length bodies.now ≡ layout.processes }
-    requires range { slots_len closed.now.words ≡ word_count layout.processes layout.connections }
+    requires bodies { length bodies.now ≡ layout.now.processes }
+    requires range { slots_len closed.now.words ≡ word_count layout.now.processes layout.now.connections }
     requires few { length bodies.now ≤ PROCESS_LIMIT }
     requires room { (length starved.items ≡ 0) × (length bodies.now ≤ vec_capacity starved) }
     ensures { ListsStarved (ranked (slots_items closed.now.words)) bodies.now (length bodies.now) result.items }
@@ -132,11 +107,9 @@ impl<K: Component> Floor<K> {
         ensures quiet { HasReadZero worker → result.starved.items ≡ [] → IsQuietNet result.net }
     {
         let Worker { seat, woken: _ } = worker;
-        let layout = self.layout();
         let Floor {
             table,
-            processes,
-            connections,
+            layout,
             plan,
         } = self;
         let Rooms {
@@ -145,9 +118,9 @@ impl<K: Component> Floor<K> {
             starved,
         } = rooms;
         let mut closed = table.close_with(seat);
-        let bodies = take_bodies(&mut closed, processes, bodies);
-        let starved = list_starved(&closed, layout, bodies.as_slice(), starved);
-        let channels = take_channels(&mut closed, processes, connections, channels);
+        let bodies = take_bodies(&mut closed, layout.processes, bodies);
+        let starved = list_starved(&closed, &layout, bodies.as_slice(), starved);
+        let channels = refill_all(&mut closed, &layout, channels);
         closed.free();
         let parts = Parts {
             connections: plan,

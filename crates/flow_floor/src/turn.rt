@@ -42,7 +42,7 @@ impl<K: Component> Floor<K> {
     }
 
     /// A turn of the held body, if it has one now.
-    fn take_turn(&self, worker: &mut Worker<K>, held: &mut Held<K>) -> Turned
+    pub(crate) fn take_turn(&self, worker: &mut Worker<K>, held: &mut Held<K>) -> Turned
         requires held { IsHeldAt K.rules self.now worker.old held.old }
         requires wired { IsWiredAt self.now held.old }
         requires set { IsSet held.old.body }

@@ -1,5 +1,6 @@
--- What an attempt at a turn says of the process.
-use Rattle.std.proofs.Common.{◌≡◌, ap, sym, subst, ◌∙◌, Some}
+-- What an attempt at turns says of the process.
+use Rattle.std.proofs.Common.{◌≡◌, ℕ, ◌+◌, List, ◌++◌, length, length-append, ap, sym, subst, ◌∙◌, Some, arith}
+use Rattle.std.proofs.lemmas.List.FromFn.{length-map-range_with_len}
 use Rattle.flow_machine.specs.Answers.{case_of}
 use Rattle.flow_machine.specs.declared.answers.Over.{Over}
 use Rattle.flow_machine.specs.declared.answers.Over.TheVariants as overs
@@ -10,6 +11,7 @@ use Rattle.flow_floor.specs.declared.board.View.{View}
 use Rattle.flow_floor.specs.declared.floor.Floor.{Floor}
 use Rattle.flow_floor.specs.declared.floor.Worker.{Worker}
 use Rattle.flow_floor.specs.declared.floor.Held.{Held}
+use Rattle.flow_floor.specs.Bursts.{turns_from}
 use Rattle.flow_floor.specs.Floors.{IsOverAs, IsStuckAt}
 use Rattle.flow_floor.specs.Workers.{IsSameSeat}
 
@@ -18,6 +20,13 @@ pub over-as : {K : Type 0} (over : Over) (h : Held K) → IsSet h.body → case_
 over-as overs.Ended h set is = (case-is h.body.process (cases.Over overs.Ended) is, set)
 over-as overs.Failed h set is = (case-is h.body.process (cases.Over overs.Failed) is, set)
 over-as overs.Starved h set is = absurd (case-is h.body.process (cases.Over overs.Starved) is)
+
+-- The turns of a burst are as many turns more.
+pub burst-adds : (p first count : ℕ) (old new : List (ℕ × ℕ)) → new ≡ old ++ turns_from p first count → length new ≡ length old + count
+burst-adds p first count old new is =
+    let at : ℕ → ℕ × ℕ = λ stamp. (stamp, p) in
+    let many : length (turns_from p first count) ≡ count = length-map-range_with_len at first count in
+    omega (arith, ap (λ (xs : List (ℕ × ℕ)). length xs) is, length-append old (turns_from p first count), many)
 
 module _ {K : Type 0} where
   -- What blocked a body still does after a call that left the body as it was.

@@ -24,11 +24,11 @@ use Rattle.flow_packet.specs.contracts.hands.Hands as Hands
 use Rattle.flow_plan.specs.contracts.plan.Connection as Connection
 use Rattle.flow_machine.specs.contracts.inlet.Inlet as Inlet
 use Rattle.flow_machine.specs.contracts.body.Body as Body
-use Rattle.flow_machine.specs.contracts.channel.Channel as Channel
 use Rattle.flow_floor.specs.contracts.board.Slot as Slot
 use Rattle.flow_floor.specs.contracts.board.View as View
 use Rattle.flow_floor.specs.contracts.floor.Worker as Worker
 use Rattle.flow_floor.specs.contracts.roll.Roll as Roll
+use Rattle.flow_floor.specs.contracts.layout.Layout as Layout
 use Rattle.flow_floor.specs.contracts.floor.Floor as Floor
 use Rattle.flow_runner.specs.contracts.line.Line as Line
 use Rattle.flow_runner.specs.contracts.line.LinePass as LinePass
@@ -44,14 +44,11 @@ packet-send = search (sendable, crosses, PacketLaws.send-Packet) depth 20
 hands-send : IsSend Hands.the_row
 hands-send = search (sendable, crosses, packet-send) depth 20
 
-channel-send : IsSend Channel.the_row
-channel-send = search (sendable, crosses, packet-send) depth 20
-
 body-send : (K : RattleType) (g : Component.Ghosts K.Denot) → IsSend K → IsSend (Body.the_row K g)
 body-send K g s = search (sendable, crosses, inlet-send, hands-send) depth 40 fits 10000
 
 slot-send : (K : RattleType) (g : Component.Ghosts K.Denot) → IsSend K → IsSend (Slot.the_row K g)
-slot-send K g s = search (sendable, body-send, channel-send) depth 20
+slot-send K g s = search (sendable, body-send, packet-send) depth 20
 
 -- A list of processes.
 roll-send : IsSend Roll.the_row
@@ -75,9 +72,13 @@ connection-sync = search (sendable, crosses) depth 20
 connections-sync : IsSync (Vec.the_row Connection.the_row Heap.the_row ghosts)
 connections-sync = search (sendable, crosses, connection-sync) depth 20
 
--- A floor has the table and the plan's connections.
+-- Where words and slots lie.
+layout-sync : IsSync (Layout.the_field).row
+layout-sync = search (sendable, crosses) depth 20
+
+-- A floor has the table, where its words and slots lie, and the plan's connections.
 pub floor-sync : (K : RattleType) (g : Component.Ghosts K.Denot) → IsSend K → IsSync (Floor.the_row K g)
-floor-sync K g s = let slot = slot-send K g s in search (sendable, table-sync, connections-sync) depth 20
+floor-sync K g s = let slot = slot-send K g s in search (sendable, table-sync, layout-sync, connections-sync) depth 20
 
 -- A pass of the line.
 pass-send : IsSend LinePass.the_row

@@ -3,7 +3,7 @@ use Rattle.std.proofs.Common.{◌≡◌, ℕ, ◌+◌, List, [], ◌∷◌, ◌+
 use Rattle.std.specs.Prelude.{sum_by}
 use Rattle.std.proofs.lemmas.List.Sums.{sum_by-append, sum_by_push}
 use Rattle.flow_floor.proofs.Crews.{all-push}
-use Rattle.flow_floor.proofs.Shutting.{All-front, All-last}
+use Rattle.flow_floor.proofs.Lists.{All-front, All-last}
 use Rattle.flow_runner.specs.declared.line.Line.{Line}
 use Rattle.flow_runner.specs.declared.line.LinePass.{LinePass}
 use Rattle.flow_runner.specs.Fair.{times}

@@ -1,4 +1,4 @@
--- What an attempt at a turn says of the process.
+-- What an attempt at turns says of the process.
 use Rattle.std.specs.Prelude.{◌≡◌, ℕ, ◌+◌, ◌≤◌, ◌⊎◌, List, length}
 use Rattle.flow_floor.specs.declared.floor.Floor.{Floor}
 use Rattle.flow_floor.specs.declared.floor.Worker.{Worker}
@@ -12,15 +12,15 @@ module _ {K : Type 0} where
   abbrev pub MayGo : Floor K → Worker K → Held K → Attempt → Type 0
   MayGo floor w h attempts.Blocked = IsStuckAt floor w h
   MayGo floor w h (attempts.Over over) = IsOverAs over h
-  MayGo floor w h attempts.Made = Unit {0}
+  MayGo floor w h (attempts.Made count) = Unit {0}
   MayGo floor w h attempts.Busy = Unit {0}
 
--- The turns of a worker before an attempt and after it: one more where one was made, and else the same.
-abbrev pub Adds : Attempt → List (ℕ × ℕ) → List (ℕ × ℕ) → Type 0
-Adds attempts.Made old new = length new ≡ length old + 1
-Adds attempts.Busy old new = new ≡ old
-Adds attempts.Blocked old new = new ≡ old
-Adds (attempts.Over over) old new = new ≡ old
+-- The turns of a worker before an attempt at so many and after it: as many more as were made, at least one and no more than those; and else the same.
+abbrev pub Adds : ℕ → Attempt → List (ℕ × ℕ) → List (ℕ × ℕ) → Type 0
+Adds most (attempts.Made count) old new = (length new ≡ length old + count) × (1 ≤ count) × (count ≤ most)
+Adds most attempts.Busy old new = new ≡ old
+Adds most attempts.Blocked old new = new ≡ old
+Adds most (attempts.Over over) old new = new ≡ old
 
 -- Each turn that was made is one less that is left.
 abbrev pub Spends : List (ℕ × ℕ) → ℕ → List (ℕ × ℕ) → ℕ → Type 0

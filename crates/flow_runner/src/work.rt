@@ -1,24 +1,27 @@
 //! What a worker does with one process.
-ghost use Rattle.flow_floor.specs.Floors.{IsHeldAt, IsIdleAt, IsSameWorker, IsWiredAt, HasSameShare, Readies, TurnsAt, asked_of, process_count, turns_of};
+ghost use Rattle.flow_floor.specs.Floors.{BurstsAt, IsHeldAt, IsIdleAt, IsSameWorker, IsWiredAt, HasSameShare, Readies, asked_of, process_count, turns_of};
 ghost use Rattle.flow_machine.specs.Thoughts.{IsSet, PassesFirst};
 ghost use Rattle.flow_runner.specs.Attempts.{Adds, MayGo, Spends};
 ghost use Rattle.flow_runner.specs.Lines.{IsPassAt};
 ghost use Rattle.flow_runner.specs.Serving.{IsLineFor, Pushes};
-ghost use Rattle.std.specs.Prelude.{◌≡◌, ◌<◌, ◌++◌, [], ◌∷◌};
+ghost use Rattle.std.specs.Prelude.{◌≡◌, ◌<◌, ◌≤◌, ◌++◌, [], ◌∷◌};
 
 use crate::line::{Line, LinePass};
 use crate::readied::push_woken;
 use flow_component::{Component, Gate};
-use flow_floor::{Claim, Floor, Held, Turned, Worker};
+use flow_floor::{Burst, Claim, Floor, Held, Worker};
 use flow_limits::RUN_LIMIT;
 use flow_machine::{Over, Thought};
 use std::sync::Wait;
 
-/// What an attempt at a turn of a held process came to.
+/// The most turns that a worker makes of one process before it stamps them and tells the others of them.
+const BURST_LIMIT: u64 = 256;
+
+/// What an attempt at turns of a held process came to.
 pub(crate) enum Attempt {
-    /// The turn was made.
-    Made,
-    /// Another worker holds the connection of the turn.
+    /// So many turns were made.
+    Made(u32),
+    /// Another worker is at the sending end of the turn's connection.
     Busy,
     /// The process waits for others.
     Blocked,
@@ -26,33 +29,8 @@ pub(crate) enum Attempt {
     Over(Over),
 }
 
-/// A turn of the held process, if it has one now. Those whom it made ready are pushed.
-fn make_turn<K: Component, R: Wait>(
-    rt: &R,
-    floor: &Floor<K>,
-    line: &Line,
-    worker: &mut Worker<K>,
-    pass: &mut LinePass,
-    held: &mut Held<K>,
-) -> Turned
-    requires held { IsHeldAt K.rules floor.now worker.old held.old }
-    requires wired { IsWiredAt floor.now held.old }
-    requires set { IsSet held.old.body }
-    requires line { IsLineFor floor.now line.now }
-    requires pass { IsPassAt line.now pass.old }
-    ensures held { IsHeldAt K.rules floor.now worker.new held.new }
-    ensures wired { IsWiredAt floor.now held.new }
-    ensures turned { TurnsAt K.rules floor.now held.old worker.old held.new worker.new result }
-    ensures same { IsSameWorker worker.old worker.new }
-    ensures pushes { Pushes line.now worker.old pass.old worker.new pass.new }
-{
-    let turned = floor.turn(worker, held);
-    push_woken(rt, line, worker, pass);
-    turned
-}
-
-/// Has the held process think, and makes its turn if it has one now.
-fn try_turn<K: Component, G: Gate, R: Wait>(
+/// Turns of the held process, so many at most, if it has one now. Those whom they made ready are pushed.
+fn make_burst<K: Component, G: Gate, R: Wait>(
     rt: &R,
     floor: &Floor<K>,
     line: &Line,
@@ -60,7 +38,37 @@ fn try_turn<K: Component, G: Gate, R: Wait>(
     pass: &mut LinePass,
     held: &mut Held<K>,
     gate: &G,
+    most: u32,
+) -> Burst
+    requires most { 1 ≤ most }
+    requires held { IsHeldAt K.rules floor.now worker.old held.old }
+    requires wired { IsWiredAt floor.now held.old }
+    requires set { IsSet held.old.body }
+    requires line { IsLineFor floor.now line.now }
+    requires pass { IsPassAt line.now pass.old }
+    ensures held { IsHeldAt K.rules floor.now worker.new held.new }
+    ensures wired { IsWiredAt floor.now held.new }
+    ensures burst { BurstsAt K.rules floor.now most held.old worker.old held.new worker.new result }
+    ensures same { IsSameWorker worker.old worker.new }
+    ensures pushes { Pushes line.now worker.old pass.old worker.new pass.new }
+{
+    let burst = floor.burst(worker, held, gate, most);
+    push_woken(rt, line, worker, pass);
+    burst
+}
+
+/// Has the held process think, and makes turns of it, so many at most, if it has one now.
+fn try_turns<K: Component, G: Gate, R: Wait>(
+    rt: &R,
+    floor: &Floor<K>,
+    line: &Line,
+    worker: &mut Worker<K>,
+    pass: &mut LinePass,
+    held: &mut Held<K>,
+    gate: &G,
+    most: u32,
 ) -> Attempt
+    requires most { 1 ≤ most }
     requires held { IsHeldAt K.rules floor.now worker.old held.old }
     requires wired { IsWiredAt floor.now held.old }
     requires line { IsLineFor floor.now line.now }
@@ -69,16 +77,16 @@ fn try_turn<K: Component, G: Gate, R: Wait>(
     ensures wired { IsWiredAt floor.now held.new }
     ensures may { MayGo floor.now worker.new held.new result }
     ensures same { IsSameWorker worker.old worker.new }
-    ensures adds { Adds result (turns_of worker.old) (turns_of worker.new) }
+    ensures adds { Adds most result (turns_of worker.old) (turns_of worker.new) }
     ensures passed { PassesFirst (G.has_passed gate.now) held.old.body }
     ensures pushes { Pushes line.now worker.old pass.old worker.new pass.new }
 {
     match held.think(gate) {
-        Thought::Wishing => match make_turn(rt, floor, line, worker, pass, held) {
-            Turned::Made(_) => Attempt::Made,
-            Turned::Busy(_, _) => Attempt::Busy,
-            Turned::Blocked(_, _) => Attempt::Blocked,
-            Turned::Over(over) => Attempt::Over(over),
+        Thought::Wishing => match make_burst(rt, floor, line, worker, pass, held, gate, most) {
+            Burst::Made { first: _, count } => Attempt::Made(count),
+            Burst::Busy(_, _) => Attempt::Busy,
+            Burst::Blocked(_, _) => Attempt::Blocked,
+            Burst::Over(over) => Attempt::Over(over),
         },
         Thought::Failed(_) => Attempt::Over(Over::Failed),
         Thought::NoMemory => Attempt::Over(Over::Starved),
@@ -106,18 +114,19 @@ fn work<K: Component, G: Gate, R: Wait>(
     ensures spends { Spends (turns_of worker.old) left.old (turns_of worker.new) left.new }
     ensures pushes { Pushes line.now worker.old pass.old worker.new pass.new }
 {
-    for _turn in 0..RUN_LIMIT {
+    for _burst in 0..RUN_LIMIT {
         if *left == 0 {
-            return Attempt::Made;
+            return Attempt::Made(0);
         }
-        match try_turn(rt, floor, line, worker, pass, held, gate) {
-            Attempt::Made => *left -= 1,
+        let most = (*left).min(BURST_LIMIT) as u32;
+        match try_turns(rt, floor, line, worker, pass, held, gate, most) {
+            Attempt::Made(count) => *left -= count as u64,
             Attempt::Busy => return Attempt::Busy,
             Attempt::Blocked => return Attempt::Blocked,
             Attempt::Over(over) => return Attempt::Over(over),
         }
     }
-    Attempt::Made
+    Attempt::Made(0)
 }
 
 /// Lets the process go, as the last attempt asks for: blocked, it is parked; over, it is retired; else it is ready for the next worker.
@@ -130,14 +139,14 @@ fn let_go<K: Component>(floor: &Floor<K>, worker: &mut Worker<K>, held: Held<K>,
     ensures readies { Readies floor.now worker.old worker.new }
 {
     match last {
-        Attempt::Made => floor.hand_back(worker, held),
+        Attempt::Made(_) => floor.hand_back(worker, held),
         Attempt::Busy => floor.hand_back(worker, held),
         Attempt::Blocked => floor.park(worker, held),
         Attempt::Over(over) => floor.retire(worker, held, over),
     }
 }
 
-/// Claims the process, which was popped, and makes turns of it; whoever is ready by that is pushed. False: it was left to the worker that holds its connection.
+/// Claims the process, which was popped, and makes turns of it; whoever is ready by that is pushed. False: it was left, since another worker is at its sending end.
 pub(crate) fn tend<K: Component, G: Gate, R: Wait>(
     rt: &R,
     floor: &Floor<K>,

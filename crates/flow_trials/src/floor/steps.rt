@@ -67,7 +67,7 @@ pub(crate) fn makes<K: Component>(
     };
     match floor.turn(worker, held) {
         Turned::Made(made) => assert_eq!(rt; made, stamp),
-        Turned::Busy(_, _) => panic!(rt; "a connection is held"),
+        Turned::Busy(_, _) => panic!(rt; "another worker is at its sending end"),
         Turned::Blocked(_, _) => panic!(rt; "blocked"),
         Turned::Over(_) => panic!(rt; "over"),
     }
@@ -96,7 +96,7 @@ pub(crate) fn stays_dormant<K: Component>(
             assert_eq!(rt; found, word);
         }
         Turned::Made(_) => panic!(rt; "a turn"),
-        Turned::Busy(_, _) => panic!(rt; "a connection is held"),
+        Turned::Busy(_, _) => panic!(rt; "another worker is at its sending end"),
         Turned::Over(_) => panic!(rt; "over"),
     }
 }

@@ -1,24 +1,39 @@
-use Rattle.std.proofs.Common.{◌∙◌, ◌++◌, ◌∷◌, [], sym, ap, arith, map, length, length-append}
-use mathlib.Core.Option.{some-injective}
-use lib.ListN.{get_elem?}
-use Rattle.std.specs.Vec.Iter.{into_iter_items}
+use Rattle.std.proofs.Common.{◌≡◌, ◌+◌, ◌∙◌, ◌++◌, ◌∷◌, [], suc, Some, ap, refl, arith, length, length-set, slice_get, take}
+use Rattle.atomic_table.proofs.Lists.{set_else}
+use Rattle.flow_machine.specs.Values.{BodyValue}
+use Rattle.flow_floor.proofs.Lists.{get-exists}
 use Rattle.flow_floor.specs.declared.board.Slot.TheVariants as slot
-use Rattle.flow_floor.proofs.Backs.{first-of, back-more, something}
+use Rattle.flow_floor.proofs.Slots.{body-is}
+use Rattle.flow_floor.proofs.Filling.{found-in, take-all, take-next}
 use Rattle.flow_floor.proofs.back.take_back_bodies.Goals as goal
+use Rattle.flow_floor.proofs.back.take_back_bodies.Goals.{In-loop-p, After-index_mut}
+
+-- It is the turn of this body, which lies in its slot.
+body-of : (g : _) (c : In-loop-p g) → (b : BodyValue g.row.K.Denot) × (slice_get c.args.about.now.value.bodies c.loop-p.p ≡ Some b)
+body-of g c = get-exists c.args.about.now.value.bodies c.loop-p.p (omega (arith, c.loop-p-test.true, c.requires.count))
+
+found-of : (g : _) (c : After-index_mut g) (b : BodyValue g.row.K.Denot) → slice_get c.args.about.now.value.bodies c.loop-p.p ≡ Some b → c.index_mut.result.now ≡ slot.Body b
+found-of g c b there = let p = c.loop-p.p in found-in c.loop-p.slots.items p p c.index_mut.result.now (slot.Body b) refl c.index_mut.ensures.value (c.loop-p.invariant.others p (omega arith) ∙ c.requires.there p b there)
 
 pub unreachable-requires : goal.unreachable-requires
-unreachable-requires g c = something c.next.result (c.next.ensures.variant.1 (omega (arith, c.loop-p.invariant.left, c.loop-p-test.true, c.requires.range))) c.in_default.not-Some
-
-pub unreachable-requires-in_default-slot : goal.unreachable-requires-in_default-slot
-unreachable-requires-in_default-slot g c = let i = c.loop-p.invariant in let e = c.in-Some.ensures.cases in let b = c.requires.stocked c.loop-p._p c.loop-p-test.true in
-    let at = first-of slot.Body c.loop-p.bodies.items c.in-Some.slot (into_iter_items c.next.new.self) c.loop-p._p (sym i.long) in
-    let there = ap (λ xs. get_elem? (map slot.Body c.loop-p.bodies.items ++ xs) c.loop-p._p) (sym e.0) ∙ ap (λ xs. get_elem? xs c.loop-p._p) i.items in
-    c.in_default-slot.not-Body b.0 (some-injective c.in-Some.slot (slot.Body b.0) (sym at ∙ there ∙ b.1))
+unreachable-requires g c = let all = goal.at.unreachable-requires g c in let b = body-of g all.In-loop-p in c.in_default.not-Body b.0 (c.replace-slot.ensures.value ∙ found-of g all.After-index_mut b.0 b.1)
 
 pub loop-p-preserved : goal.loop-p-preserved
-loop-p-preserved g c = let i = c.loop-p.invariant in let e = c.in-Some.ensures.cases in let rest = into_iter_items c.next.new.self in record {
-  items = (λ j. map slot.Body (c.push_reserved.ensures.items j) ++ rest) ∙ back-more slot.Body c.loop-p.bodies.items c.in-Body.body c.in-Some.slot rest c.in-Body.is ∙ ap (λ xs. map slot.Body c.loop-p.bodies.items ++ xs) (sym e.0) ∙ i.items;
-  long = omega (arith, i.long, ap (λ ys. length ys) c.push_reserved.ensures.items, length-append c.loop-p.bodies.items (c.in-Body.body ∷ []));
-  left = omega (arith, i.left, e.1);
-  room = c.push_reserved.ensures.capacity ∙ i.room;
-}
+loop-p-preserved g c =
+    let all = goal.at.loop-p-preserved g c in
+    let b = body-of g all.In-loop-p in
+    let inv = c.loop-p.invariant in
+    let p = c.loop-p.p in
+    let xs = c.loop-p.slots.items in
+    let bs = c.args.about.now.value.bodies in
+    let same : c.in-Body.body ≡ b.0 = body-is c.replace-slot.result c.in-Body.body b.0 c.in-Body.is (c.replace-slot.ensures.value ∙ found-of g all.After-index_mut b.0 b.1) in
+    record {
+      bodies = c.push_reserved.ensures.items ∙ (λ j. inv.bodies j ++ same j ∷ []) ∙ take-next bs p b.0 b.1 ∙ ap (λ n. take n bs) (let e : suc p ≡ p + 1 = omega arith in e);
+      others = λ x high. set_else xs p x c.replace-slot.new.dest (λ e. omega (arith, e, high)) ∙ inv.others x (omega (arith, high));
+      deep = length-set xs p c.replace-slot.new.dest ∙ inv.deep;
+      room = c.push_reserved.ensures.capacity ∙ inv.room;
+    }
+
+pub returns-clause-bodies : goal.returns-clause-bodies
+returns-clause-bodies g c = let bs = c.args.about.now.value.bodies in
+    c.loop-p.invariant.bodies ∙ ap (λ n. take n bs) (let e : c.loop-p.p ≡ length bs = omega (arith, c.loop-p-test.false, c.loop-p.auto, c.requires.count) in e) ∙ take-all bs

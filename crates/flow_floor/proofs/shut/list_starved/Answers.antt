@@ -3,7 +3,8 @@ use Rattle.std.proofs.lemmas.Option.{slice_get-get_or}
 use Rattle.std.specs.Mem.Slots.{slots_items}
 use Rattle.flow_machine.specs.Values.{BodyValue}
 use Rattle.flow_floor.specs.Shut.{ListsStarved, starves, listed}
-use Rattle.flow_floor.proofs.Shutting.{lists-more, listed-few, word-at}
+use Rattle.flow_floor.proofs.Shutting.{lists-more, listed-few}
+use Rattle.flow_floor.proofs.Lists.{word-at}
 use Rattle.flow_ring.specs.Spaced.{ranked}
 use Rattle.flow_ring.proofs.Spaced.{ranked-at}
 use Rattle.flow_floor.proofs.shut.list_starved.Goals as goal

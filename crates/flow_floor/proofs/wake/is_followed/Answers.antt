@@ -2,7 +2,7 @@ use Rattle.std.proofs.Common.{◌+◌, ◌∙◌, nat_eq, get_or, sym, ap}
 use Rattle.std.proofs.lemmas.List.{drop_more}
 use Rattle.std.proofs.lemmas.Option.{get_or_from_slice_get}
 use Rattle.flow_plan.specs.declared.plan.Sender.{Sender}
-use Rattle.flow_floor.specs.Sending.{is_followed}
+use Rattle.flow_floor.specs.Plans.{is_followed}
 use Rattle.flow_floor.proofs.wake.is_followed.Goals as goal
 
 pub returns-then-i-senders : goal.returns-then-i-senders

@@ -1,8 +1,7 @@
 use Rattle.std.proofs.Common.{◌∙◌, ◌++◌, ◌∷◌, [], All, sym, ap, subst, arith, length, length-append, append-nil}
 use Rattle.std.specs.Vec.Iter.{into_iter_items}
-use Rattle.flow_floor.proofs.Backs.{one-more}
+use Rattle.flow_floor.proofs.Lists.{one-more, All-front, All-last}
 use Rattle.flow_floor.proofs.Crews.{all-push}
-use Rattle.flow_floor.proofs.Shutting.{All-front, All-last}
 use Rattle.flow_runner.specs.declared.server.Server.{Server}
 use Rattle.flow_runner.specs.Lines.{IsPassAt}
 use Rattle.flow_runner.specs.Serving.{workers_at}

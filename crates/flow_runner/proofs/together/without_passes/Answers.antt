@@ -1,6 +1,6 @@
 use Rattle.std.proofs.Common.{◌∙◌, ◌++◌, ◌∷◌, [], sym, ap, arith, length, length-append}
 use Rattle.std.specs.Vec.Iter.{into_iter_items}
-use Rattle.flow_floor.proofs.Backs.{one-more}
+use Rattle.flow_floor.proofs.Lists.{one-more}
 use Rattle.flow_runner.specs.Serving.{workers_at}
 use Rattle.flow_runner.proofs.together.without_passes.Goals as goal
 

@@ -6,10 +6,11 @@ use Rattle.flow_floor.specs.declared.board.Slot.TheVariants as slot
 use Rattle.flow_floor.specs.Plays.{claimed}
 use Rattle.flow_floor.specs.Views.{claiming}
 use Rattle.flow_floor.specs.Wired.{IsWiredIn}
-use Rattle.flow_floor.proofs.Keeps.{claims}
-use Rattle.flow_floor.proofs.Spacing.{apart, took, told}
+use Rattle.flow_floor.proofs.Claims.{claims}
+use Rattle.flow_floor.proofs.Spacing.{took, told, apart}
 use Rattle.flow_floor.proofs.Going.{rests-same}
-use Rattle.flow_floor.proofs.Slots.{head-is, body-is}
+use Rattle.flow_floor.proofs.Lists.{head-is}
+use Rattle.flow_floor.proofs.Slots.{body-is}
 use Rattle.flow_floor.proofs.floor.Floor.claim_at.Goals as goal
 use Rattle.flow_floor.proofs.floor.Floor.claim_at.Goals.{After-compare_exchange-found}
 
@@ -45,12 +46,12 @@ returns g c = let q = c.requires.worker in let e = c.compare_exchange-found.ensu
     let me1 : c.exchange-old.new.seat.me.1 ≡ (c.args.process, slot.Vacant) ∷ [] = ap (λ m. m.1) x.3 ∙ (λ j. (i j, slot.Vacant) ∷ rest (ap (λ m. m.1) t.3 j)) ∙ ap (λ cs. (c.args.process, slot.Vacant) ∷ cs) q.slots in (
       refl,
       record {
-        calm = record { table = x.0 ∙ e.0 ∙ q.calm.table; share = subst (λ n. 0 < n) (sym (ap (λ v. v.shares) me0)) q.calm.share; grab = ap (λ v. v.grab) me0 ∙ q.calm.grab; noted = ap (λ v. v.noted) me0 ∙ q.calm.noted; spare = ap (λ v. v.spare) me0 ∙ q.calm.spare };
+        calm = record { table = x.0 ∙ e.0 ∙ q.calm.table; share = subst (λ n. 0 < n) (sym (ap (λ v. v.shares) me0)) q.calm.share; sending = ap (λ v. v.sending) me0 ∙ q.calm.sending; receiving = ap (λ v. v.receiving) me0 ∙ q.calm.receiving; noted = ap (λ v. v.noted) me0 ∙ q.calm.noted; spare = ap (λ v. v.spare) me0 ∙ q.calm.spare };
         below = c.requires.range;
         agrees = record { base = b; held = ap (λ v. v.held) me0; rests = rests-same g.K.Component.rules b c.in-Body.body body_is; whole = subst (λ z. z.leaving ≡ None) body_is t.1 };
         slots = me1;
       },
-      subst (λ z. IsWiredIn c.args.self.now.connections z) body_is (subst (λ n. IsWiredIn n b) c.requires.spot t.2),
+      subst (λ z. IsWiredIn c.args.self.now.layout.connections z) body_is (subst (λ n. IsWiredIn n b) c.requires.spot t.2),
       me0 ∙ ap (λ z. claiming c.args.worker.now.seat.me.0 c.args.process z) body_is,
       refl,
     )
@@ -63,7 +64,7 @@ returns-then-found-ne-READY g c = let q = c.requires.worker in let e = c.compare
     let v = ap (λ x. x.0) m in (
       other,
       record {
-        calm = record { table = e.0 ∙ q.calm.table; share = subst (λ n. 0 < n) (sym (ap (λ y. y.shares) v)) q.calm.share; grab = ap (λ y. y.grab) v ∙ q.calm.grab; noted = ap (λ y. y.noted) v ∙ q.calm.noted; spare = ap (λ y. y.spare) v ∙ q.calm.spare };
+        calm = record { table = e.0 ∙ q.calm.table; share = subst (λ n. 0 < n) (sym (ap (λ y. y.shares) v)) q.calm.share; sending = ap (λ y. y.sending) v ∙ q.calm.sending; receiving = ap (λ y. y.receiving) v ∙ q.calm.receiving; noted = ap (λ y. y.noted) v ∙ q.calm.noted; spare = ap (λ y. y.spare) v ∙ q.calm.spare };
         held = ap (λ y. y.held) v ∙ q.held;
         slots = ap (λ x. x.1) m ∙ q.slots;
       },

@@ -1,28 +1,32 @@
-use Rattle.std.proofs.Common.{refl, sym, subst}
-use Rattle.flow_model.specs.Events.{Event, Sleeps}
-use Rattle.flow_machine.specs.Nets.{BodyTurn}
+use Rattle.std.proofs.Common.{[], None, length, refl, ap}
+use Rattle.flow_model.specs.Events.{Sleeps}
 use Rattle.flow_machine.specs.declared.answers.Effect.TheVariants as effects
 use Rattle.flow_machine.proofs.Pairs.{body-turn}
-use Rattle.flow_floor.proofs.Turnings.{held-turned, alone-at, happens-as, sleeps-happens}
-use Rattle.flow_floor.specs.Workers.{view}
-use Rattle.flow_floor.proofs.Aheads.{unturned-none}
+use Rattle.flow_floor.proofs.Holding.{held-seated}
+use Rattle.flow_floor.proofs.Midways.{held-midway, makes-one, may-one, midway-held, midway-turned}
+use Rattle.flow_floor.proofs.Turnings.{sleeps-happens}
 use Rattle.flow_floor.proofs.floor.Floor.deactivate_as.Goals as goal
 
-pub stamp-stamp-requires-clause-at : goal.stamp-stamp-requires-clause-at
-stamp-stamp-requires-clause-at g c = alone-at _ g.D.Deed.event Sleeps c.requires.held.calm.grab c.requires.event (λ cs. refl)
+pub stamp-stamp-requires-clause-count : goal.stamp-stamp-requires-clause-count
+stamp-stamp-requires-clause-count g c = ap (λ ts. length ts) c.requires.deed.0
 
-pub stamp-stamp-requires-clause-first : goal.stamp-stamp-requires-clause-first
-stamp-stamp-requires-clause-first g c = unturned-none (view c.args.worker.now) c.requires.held.calm.grab
+pub stamp-stamp-requires-clause-seated : goal.stamp-stamp-requires-clause-seated
+stamp-stamp-requires-clause-seated g c = let f = c.args.self.now in held-seated g.K.Component.rules f.table.shared.table_id f.layout.processes c.args.worker.now c.args.held.now c.requires.held
 
-pub stamp-stamp-requires-clause-happens : goal.stamp-stamp-requires-clause-happens
-stamp-stamp-requires-clause-happens g c = happens-as _ _ _ _ c.args.held.now.body _ _ g.D.Deed.event Sleeps c.requires.held.calm.grab c.requires.event (sleeps-happens _ _ _ _ c.args.held.now.body _ c.requires.stage)
+pub stamp-stamp-requires-clause-pending : goal.stamp-stamp-requires-clause-pending
+stamp-stamp-requires-clause-pending g c = let f = c.args.self.now in let h = c.args.held.now in
+    may-one g.K.Component.rules f.table.shared.table_id f.layout.processes f.layout.connections c.args.worker.now h None None [] Sleeps g.D.Deed.turns
+    (midway-held g.K.Component.rules f.table.shared.table_id f.layout.processes c.args.worker.now h c.requires.held) c.requires.deed.0 tt
+    (sleeps-happens _ _ _ _ h.body None None _ c.requires.stage)
 
 pub returns-clause-held : goal.returns-clause-held
-returns-clause-held g c = let f = c.args.self.now in let s = c.stamp-stamp.ensures in
-    let turn = body-turn c.args.held.now.body c.effect.new.self effects.Deactivate c.stamp-stamp.result Sleeps c.effect.ensures refl refl refl in
-    held-turned g.K.Component.rules f.table.shared.table_id f.processes c.args.worker.now c.stamp-stamp.new.worker c.args.held.now _ _ _ _ c.requires.held s.table s.view s.slots c.requires.deed.0 (subst (λ (e : Event). BodyTurn c.args.held.now.body e c.stamp-stamp.result c.effect.new.self) (sym c.requires.event) turn) refl
+returns-clause-held g c = let f = c.args.self.now in let h = c.args.held.now in let s = c.stamp-stamp.ensures in
+    let turn = body-turn h.body c.effect.new.self effects.Deactivate c.stamp-stamp.result Sleeps c.effect.ensures refl refl refl in
+    held-midway g.K.Component.rules f.table.shared.table_id f.layout.processes c.stamp-stamp.new.worker _
+    (midway-turned g.K.Component.rules f.table.shared.table_id f.layout.processes c.args.worker.now c.stamp-stamp.new.worker h (record h { body = c.effect.new.self }) None None [] Sleeps c.stamp-stamp.result g.D.Deed.turns
+    (midway-held g.K.Component.rules f.table.shared.table_id f.layout.processes c.args.worker.now h c.requires.held) s.seated c.requires.deed.0 s.view turn refl)
 
 pub returns-clause-turn : goal.returns-clause-turn
-returns-clause-turn g c = let s = c.stamp-stamp.ensures in
-    let turn = body-turn c.args.held.now.body c.effect.new.self effects.Deactivate c.stamp-stamp.result Sleeps c.effect.ensures refl refl refl in
-    record { process = refl; body = subst (λ (e : Event). BodyTurn c.args.held.now.body e c.stamp-stamp.result c.effect.new.self) (sym c.requires.event) turn; machine = s.machine; above = s.above; view = s.view; woken = s.woken }
+returns-clause-turn g c = let h = c.args.held.now in let s = c.stamp-stamp.ensures in
+    let turn = body-turn h.body c.effect.new.self effects.Deactivate c.stamp-stamp.result Sleeps c.effect.ensures refl refl refl in
+    makes-one g.K.Component.rules c.args.self.now.table.shared.key.value c.args.worker.now c.stamp-stamp.new.worker h (record h { body = c.effect.new.self }) Sleeps c.stamp-stamp.result g.D.Deed.turns c.requires.held.agrees c.requires.deed.0 s.view s.above s.machine s.woken turn refl

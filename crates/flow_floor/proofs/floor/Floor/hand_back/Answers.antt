@@ -13,5 +13,5 @@ swap-requires g c = let f = c.args.self.now in let q = c.requires in let s = c.e
       x.0 ∙ q.calm.table,
       omega (arith, f.words, place, q.below),
       apart g.K.Component.rules f.table.shared.key.value f.table.shared.table_id.slots s.id s.me h.process c.process_word-place.result (λ _. 2) (λ i. left (step f.table.shared.table_id.slots i 2 0 none) s.me) place
-          (leaves g.K.Component.rules g.met.K.Component.lawful f.table.shared.key.value _ h.process _ _ q.agrees.base h.body _ (ap (λ y. y.held) v ∙ q.agrees.held) q.agrees.rests (ap (λ y. y.grab) v ∙ q.calm.grab) (ap (λ y. y.noted) v ∙ q.calm.noted) carried),
+          (leaves g.K.Component.rules g.met.K.Component.lawful f.table.shared.key.value _ h.process _ _ q.agrees.base h.body _ (ap (λ y. y.held) v ∙ q.agrees.held) q.agrees.rests (ap (λ y. y.sending) v ∙ q.calm.sending) (ap (λ y. y.receiving) v ∙ q.calm.receiving) (ap (λ y. y.noted) v ∙ q.calm.noted) carried),
     )

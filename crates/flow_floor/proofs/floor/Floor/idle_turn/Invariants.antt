@@ -1,18 +1,13 @@
-use Rattle.flow_model.specs.Events.{Starts, Finishes}
-use Rattle.flow_floor.specs.Waking.{capacity_at}
-use Rattle.flow_floor.specs.Turning.{signalled_event}
+use Rattle.std.proofs.Common.{[], ◌∷◌}
+use Rattle.flow_model.specs.Events.{Finishes, Signals, Starts}
 use Rattle.flow_floor.proofs.floor.Floor.idle_turn.Given as goal
 
 abbrev pub ghosts-start_as : goal.ghosts-start_as
-ghosts-start_as g a = record { event = Starts; after = λ b. a.held.now.body; start = a.self.now.table.shared.key.value }
+ghosts-start_as g a = record { turns = record { body = a.held.now.body; event = Starts } ∷ []; start = a.self.now.table.shared.key.value }
 
 abbrev pub ghosts-finish_as : goal.ghosts-finish_as
-ghosts-finish_as g a = record { event = Finishes; after = λ b. a.held.now.body; start = a.self.now.table.shared.key.value }
+ghosts-finish_as g a = record { turns = record { body = a.held.now.body; event = Finishes } ∷ []; start = a.self.now.table.shared.key.value }
 
--- the connection, with its capacity
-abbrev pub ghosts-grab : goal.ghosts-grab
-ghosts-grab g a = record { processes = a.self.now.processes; connection = a.connection; most = capacity_at a.self.now.table.shared.key.value.channels a.connection }
-
--- its oldest packet is taken
+-- the packet that was drawn is taken
 abbrev pub ghosts-signal_as : goal.ghosts-signal_as
-ghosts-signal_as g a = record { event = signalled_event a.connection a.channel.now.packets; after = λ b. a.held.now.body; start = a.self.now.table.shared.key.value }
+ghosts-signal_as g a = record { turns = record { body = a.held.now.body; event = Signals a.connection a.packet } ∷ []; start = a.self.now.table.shared.key.value }

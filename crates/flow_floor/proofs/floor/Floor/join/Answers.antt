@@ -1,7 +1,7 @@
 use Rattle.std.proofs.Common.{arith, sym, ◌∙◌}
 use Rattle.atomic_table.proofs.Lists.{set_else}
 use Rattle.flow_floor.specs.Rule.{in_order}
-use Rattle.flow_floor.proofs.Ends.{joins}
+use Rattle.flow_floor.proofs.Begins.{joins}
 use Rattle.flow_floor.proofs.floor.Floor.join.Goals as goal
 
 pub join_seat-requires : goal.join_seat-requires

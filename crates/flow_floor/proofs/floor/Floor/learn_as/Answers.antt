@@ -1,19 +1,32 @@
-use Rattle.std.proofs.Common.{refl, length}
-use Rattle.flow_floor.proofs.Turnings.{grabbing-turned, learn-at, learn-happens, learn-deed}
+use Rattle.std.proofs.Common.{[], None, Some, length, refl, ap}
+use Rattle.flow_model.specs.Events.{Learns}
+use Rattle.flow_machine.specs.declared.answers.Effect.TheVariants as effects
+use Rattle.flow_machine.proofs.Pairs.{body-turn}
+use Rattle.flow_floor.specs.Midway.{learnt_at}
+use Rattle.flow_floor.proofs.Midways.{makes-one, may-one, midway-seated, midway-turned}
+use Rattle.flow_floor.proofs.Turnings.{learn-happens}
 use Rattle.flow_floor.proofs.floor.Floor.learn_as.Goals as goal
 
-pub stamp-stamp-requires-clause-at : goal.stamp-stamp-requires-clause-at
-stamp-stamp-requires-clause-at g c = learn-at _ c.args.port.0 (length c.args.channel.now.packets) c.args.connection c.args.channel.now g.D.Deed.event c.requires.held.grab c.requires.event
+pub stamp-stamp-requires-clause-count : goal.stamp-stamp-requires-clause-count
+stamp-stamp-requires-clause-count g c = ap (λ ts. length ts) c.requires.deed.0
 
-pub stamp-stamp-requires-clause-happens : goal.stamp-stamp-requires-clause-happens
-stamp-stamp-requires-clause-happens g c = learn-happens _ _ _ _ c.args.connection c.args.port c.args.held.now.body _ _ c.args.channel.now g.D.Deed.event c.requires.held.grab c.requires.event c.requires.stage c.requires.output c.requires.within
+pub stamp-stamp-requires-clause-seated : goal.stamp-stamp-requires-clause-seated
+stamp-stamp-requires-clause-seated g c = let f = c.args.self.now in midway-seated g.K.Component.rules f.table.shared.table_id f.layout.processes c.args.worker.now c.args.held.now _ _ _ c.requires.held
+
+pub stamp-stamp-requires-clause-pending : goal.stamp-stamp-requires-clause-pending
+stamp-stamp-requires-clause-pending g c = let f = c.args.self.now in let h = c.args.held.now in
+    may-one g.K.Component.rules f.table.shared.table_id f.layout.processes f.layout.connections c.args.worker.now h (Some (learnt_at c.args.connection c.args.level)) None [] (Learns c.args.port.0 c.args.level) g.D.Deed.turns c.requires.held c.requires.deed.0 tt
+    (learn-happens _ _ _ _ c.args.connection c.args.port h.body _ c.args.level None c.requires.stage c.requires.output)
+
+pub effect-requires-clause-effect : goal.effect-requires-clause-effect
+effect-requires-clause-effect g c = (c.requires.held.agrees.whole, (c.args.port, c.requires.stage), c.requires.small)
 
 pub returns-clause-held : goal.returns-clause-held
-returns-clause-held g c = let f = c.args.self.now in let q = c.requires.held in let s = c.stamp-stamp.ensures in
-    let t = learn-deed c.args.held.now.body c.effect.new.self c.args.port.0 c.level.result (length c.args.channel.now.packets) c.stamp-stamp.result c.args.channel.now g.D.Deed.event c.requires.event c.level.ensures c.effect.ensures in
-    grabbing-turned g.K.Component.rules f.table.shared.table_id f.processes c.args.worker.now c.stamp-stamp.new.worker c.args.held.now _ c.args.connection c.args.channel.now c.args.channel.now _ _ _ q s.table s.view s.slots c.requires.deed.0 t.0 refl t.1 q.level q.senders
+returns-clause-held g c = let f = c.args.self.now in let h = c.args.held.now in let n = c.stamp-stamp.ensures in
+    let turn = body-turn h.body c.effect.new.self (effects.Level c.args.level) c.stamp-stamp.result (Learns c.args.port.0 c.args.level) c.effect.ensures refl refl refl in
+    midway-turned g.K.Component.rules f.table.shared.table_id f.layout.processes c.args.worker.now c.stamp-stamp.new.worker h (record h { body = c.effect.new.self }) (Some (learnt_at c.args.connection c.args.level)) None [] (Learns c.args.port.0 c.args.level) c.stamp-stamp.result g.D.Deed.turns c.requires.held n.seated c.requires.deed.0 n.view turn refl
 
 pub returns-clause-turn : goal.returns-clause-turn
-returns-clause-turn g c = let s = c.stamp-stamp.ensures in
-    let t = learn-deed c.args.held.now.body c.effect.new.self c.args.port.0 c.level.result (length c.args.channel.now.packets) c.stamp-stamp.result c.args.channel.now g.D.Deed.event c.requires.event c.level.ensures c.effect.ensures in
-    record { process = refl; body = t.0; machine = s.machine; above = s.above; view = s.view; woken = s.woken }
+returns-clause-turn g c = let h = c.args.held.now in let n = c.stamp-stamp.ensures in
+    let turn = body-turn h.body c.effect.new.self (effects.Level c.args.level) c.stamp-stamp.result (Learns c.args.port.0 c.args.level) c.effect.ensures refl refl refl in
+    makes-one g.K.Component.rules c.args.self.now.table.shared.key.value c.args.worker.now c.stamp-stamp.new.worker h (record h { body = c.effect.new.self }) (Learns c.args.port.0 c.args.level) c.stamp-stamp.result g.D.Deed.turns c.requires.held.agrees c.requires.deed.0 n.view n.above n.machine n.woken turn refl

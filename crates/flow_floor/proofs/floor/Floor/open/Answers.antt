@@ -3,11 +3,11 @@ use Rattle.flow_machine.specs.Values.{NetValue}
 use Rattle.flow_floor.specs.Floors.{opened_net}
 use Rattle.flow_floor.proofs.floor.Floor.open.Goals as goal
 
-pub lay-requires-clause-few_senders : goal.lay-requires-clause-few_senders
-lay-requires-clause-few_senders g c = c.measured-net.ensures.senders
+pub lay-requires-clause-sound : goal.lay-requires-clause-sound
+lay-requires-clause-sound g c = c.measured-net.ensures.sound
 
-pub begin-requires-clause-few : goal.begin-requires-clause-few
-begin-requires-clause-few g c = (c.measured-net.ensures.few, c.measured-net.ensures.senders)
+pub begin-requires-clause-sound : goal.begin-requires-clause-sound
+begin-requires-clause-sound g c = c.measured-net.ensures.sound
 
 pub returns-in-Ok-clause-opened : goal.returns-in-Ok-clause-opened
 returns-in-Ok-clause-opened g c = subst (λ (n : NetValue _). IfOk c.begin.result (λ o. opened_net o.floor ≡ n)) c.measured-net.ensures.same c.begin.ensures.opened

@@ -14,7 +14,7 @@ compare_exchange-found-requires g c = let f = c.args.self.now in let q = c.requi
       x.0 ∙ q.calm.table,
       omega (arith, f.words, place, q.below),
       apart g.K.Component.rules f.table.shared.key.value f.table.shared.table_id.slots s.id s.me h.process c.process_word-place.result (λ n. either (n == 1) 0 n) (λ i. parked (step f.table.shared.table_id.slots i 1 0 none) s.me) place
-          (parks g.K.Component.rules g.met.K.Component.lawful f.table.shared.key.value _ h.process _ _ q.agrees.base h.body _ (ap (λ y. y.held) v ∙ q.agrees.held) q.agrees.rests (ap (λ y. y.grab) v ∙ q.calm.grab) (ap (λ y. y.noted) v ∙ q.calm.noted) (ap (λ y. y.spare) v ∙ q.calm.spare) (subst (λ n. 0 < n) (sym (ap (λ y. y.shares) v)) q.calm.share) carried (rw v c.requires.blocked)),
+          (parks g.K.Component.rules g.met.K.Component.lawful f.table.shared.key.value _ h.process _ _ q.agrees.base h.body _ (ap (λ y. y.held) v ∙ q.agrees.held) q.agrees.rests (ap (λ y. y.sending) v ∙ q.calm.sending) (ap (λ y. y.receiving) v ∙ q.calm.receiving) (ap (λ y. y.noted) v ∙ q.calm.noted) (ap (λ y. y.spare) v ∙ q.calm.spare) (subst (λ n. 0 < n) (sym (ap (λ y. y.shares) v)) q.calm.share) carried (rw v c.requires.blocked)),
     )
 
 pub swap-requires : goal.swap-requires
@@ -28,5 +28,5 @@ swap-requires g c = let f = c.args.self.now in let q = c.requires.held in let s 
       omega (arith, f.words, place, q.below),
       apart g.K.Component.rules f.table.shared.key.value f.table.shared.table_id.slots s.id s.me h.process c.process_word-place.result (λ _. 2) (λ i. left (step f.table.shared.table_id.slots i 2 0 none) s.me) place
           (leaves g.K.Component.rules g.met.K.Component.lawful f.table.shared.key.value _ h.process _ _ q.agrees.base h.body _
-          (ap (λ y. y.held) v ∙ ap (λ y. y.held) v0 ∙ q.agrees.held) q.agrees.rests (ap (λ y. y.grab) v ∙ ap (λ y. y.grab) v0 ∙ q.calm.grab) (ap (λ y. y.noted) v ∙ ap (λ y. y.noted) v0 ∙ q.calm.noted) carried),
+          (ap (λ y. y.held) v ∙ ap (λ y. y.held) v0 ∙ q.agrees.held) q.agrees.rests (ap (λ y. y.sending) v ∙ ap (λ y. y.sending) v0 ∙ q.calm.sending) (ap (λ y. y.receiving) v ∙ ap (λ y. y.receiving) v0 ∙ q.calm.receiving) (ap (λ y. y.noted) v ∙ ap (λ y. y.noted) v0 ∙ q.calm.noted) carried),
     )

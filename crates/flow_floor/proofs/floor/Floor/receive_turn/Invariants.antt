@@ -1,10 +1,16 @@
-use Rattle.flow_floor.specs.Waking.{capacity_at}
-use Rattle.flow_floor.specs.Turning.{received_event}
+use Rattle.std.proofs.Common.{[], ◌∷◌}
+use Rattle.flow_model.specs.Events.{Gets, Hears_end}
+use Rattle.flow_floor.specs.Ends.{capacities_of}
 use Rattle.flow_floor.proofs.floor.Floor.receive_turn.Given as goal
 
-abbrev pub ghosts-grab : goal.ghosts-grab
-ghosts-grab g a = record { processes = a.self.now.processes; connection = a.connection; most = capacity_at a.self.now.table.shared.key.value.channels a.connection }
+-- the connection
+abbrev pub ghosts-draw : goal.ghosts-draw
+ghosts-draw g a = record { processes = a.self.now.layout.processes; capacities = capacities_of a.self.now.table.shared.key.value; connection = a.connection; most = 0 }
 
--- the turn that the packets in the connection lead to, of the body as it is
-abbrev pub ghosts-receive_as : goal.ghosts-receive_as
-ghosts-receive_as g a = record { event = received_event a.port.0 a.connection a.channel.now.packets; after = λ b. a.held.now.body; start = a.self.now.table.shared.key.value }
+-- it hears the end
+abbrev pub ghosts-end_as : goal.ghosts-end_as
+ghosts-end_as g a = record { turns = record { body = a.held.now.body; event = Hears_end a.port.0 } ∷ []; start = a.self.now.table.shared.key.value }
+
+-- it gets the packet that was drawn
+abbrev pub ghosts-got_as : goal.ghosts-got_as
+ghosts-got_as g a = record { turns = record { body = a.held.now.body; event = Gets a.port.0 a.connection a.packet } ∷ []; start = a.self.now.table.shared.key.value }

@@ -5,7 +5,7 @@ use Rattle.flow_floor.specs.declared.board.Slot.TheVariants as slot
 use Rattle.flow_floor.specs.Plays.{retired}
 use Rattle.flow_floor.proofs.Leaves.{retires}
 use Rattle.flow_floor.proofs.Spacing.{apart}
-use Rattle.flow_floor.proofs.Retires.{retires-as}
+use Rattle.flow_floor.proofs.Holding.{retires-as}
 use Rattle.flow_floor.proofs.floor.Floor.retire.Goals as goal
 
 pub swap-requires : goal.swap-requires
@@ -14,5 +14,5 @@ swap-requires g c = let f = c.args.self.now in let q = c.requires.held in let s 
       x.0 ∙ q.calm.table,
       omega (arith, f.words, place, q.below),
       apart g.K.Component.rules f.table.shared.key.value f.table.shared.table_id.slots s.id s.me h.process c.process_word-place.result (λ _. 4) (λ i. retired (step f.table.shared.table_id.slots i 4 0 none) s.me) place
-          (retires g.K.Component.rules g.met.K.Component.lawful f.table.shared.key.value _ h.process _ _ q.agrees.base h.body _ (retires-as c.args.over h c.requires.over) (ap (λ y. y.held) v ∙ q.agrees.held) q.agrees.rests (ap (λ y. y.grab) v ∙ q.calm.grab) (ap (λ y. y.noted) v ∙ q.calm.noted) (ap (λ y. y.spare) v ∙ q.calm.spare) (subst (λ n. 0 < n) (sym (ap (λ y. y.shares) v)) q.calm.share) carried),
+          (retires g.K.Component.rules g.met.K.Component.lawful f.table.shared.key.value _ h.process _ _ q.agrees.base h.body _ (retires-as c.args.over h c.requires.over) (ap (λ y. y.held) v ∙ q.agrees.held) q.agrees.rests (ap (λ y. y.sending) v ∙ q.calm.sending) (ap (λ y. y.receiving) v ∙ q.calm.receiving) (ap (λ y. y.noted) v ∙ q.calm.noted) (ap (λ y. y.spare) v ∙ q.calm.spare) (subst (λ n. 0 < n) (sym (ap (λ y. y.shares) v)) q.calm.share) carried),
     )

@@ -1,6 +1,6 @@
 use Rattle.std.proofs.Common.{arith}
 use Rattle.flow_floor.specs.Rule.{in_order}
-use Rattle.flow_floor.proofs.Ends.{splits}
+use Rattle.flow_floor.proofs.Begins.{splits}
 use Rattle.flow_floor.proofs.floor.Floor.split.Goals as goal
 
 pub split_seat-seat-requires : goal.split_seat-seat-requires

@@ -8,7 +8,7 @@ use Rattle.flow_floor.specs.Workers.{IsWaking}
 use Rattle.flow_floor.proofs.Spacing.{apart}
 use Rattle.flow_floor.proofs.Rolls.{wakes-none, wakes-after}
 use Rattle.flow_floor.proofs.Strikes.{glances, nudges}
-use Rattle.flow_floor.proofs.Turnings.{first-noted, rest-noted, struck, unstruck, waking-as}
+use Rattle.flow_floor.proofs.Holding.{first-noted, rest-noted, struck, unstruck, waking-as}
 use Rattle.flow_floor.proofs.floor.Floor.wake.Goals as goal
 use Rattle.flow_floor.proofs.floor.Floor.wake.Goals.{then-seen-eq-HELD+else-found-ne-PARKED, else-seen-eq-HELD}
 
@@ -44,7 +44,7 @@ pub rouse-requires-clause-waking : goal.rouse-requires-clause-waking
 rouse-requires-clause-waking g c = let f = c.args.self.now in let e = c.load-seen.ensures in
     let q = unstruck _ _ _ c.args.worker.now (record { seat = c.load-seen.new.seat; woken = c.args.worker.now.woken }) c.args.held.now _ c.requires.waking e.0 (e.2.1 c.if-seen-gt-HELD.false) in
     let more = drop 1 c.args.worker.now.seat.me.0.noted in
-    let still : IsWaking g.K.Component.rules f.table.shared.table_id f.processes c.if-seen-eq-HELD.worker c.args.held.now (c.args.process ∷ more) = elim c.if-seen-eq-HELD.branch [
+    let still : IsWaking g.K.Component.rules f.table.shared.table_id f.layout.processes c.if-seen-eq-HELD.worker c.args.held.now (c.args.process ∷ more) = elim c.if-seen-eq-HELD.branch [
       | then-seen-eq-HELD+else-found-ne-PARKED w ↦ (let d = w.compare_exchange-found.ensures in waking-as _ _ _ c.if-seen-eq-HELD.worker (record { seat = w.compare_exchange-found.new.seat; woken = c.args.worker.now.woken }) c.args.held.now _ w.worker-is
           (unstruck _ _ _ (record { seat = c.load-seen.new.seat; woken = c.args.worker.now.woken }) (record { seat = w.compare_exchange-found.new.seat; woken = c.args.worker.now.woken }) c.args.held.now _ q d.0 (d.2.1 w.if-found-ne-PARKED.false)))
       | else-seen-eq-HELD w ↦ waking-as _ _ _ c.if-seen-eq-HELD.worker (record { seat = c.load-seen.new.seat; woken = c.args.worker.now.woken }) c.args.held.now _ w.worker-is q
@@ -55,7 +55,7 @@ pub returns-clause-waking : goal.returns-clause-waking
 returns-clause-waking g c = let f = c.args.self.now in let e = c.load-seen.ensures in
     let q = unstruck _ _ _ c.args.worker.now (record { seat = c.load-seen.new.seat; woken = c.args.worker.now.woken }) c.args.held.now _ c.requires.waking e.0 (e.2.1 c.if-seen-gt-HELD.false) in
     let more = drop 1 c.args.worker.now.seat.me.0.noted in
-    let still : IsWaking g.K.Component.rules f.table.shared.table_id f.processes c.if-seen-eq-HELD.worker c.args.held.now (c.args.process ∷ more) = elim c.if-seen-eq-HELD.branch [
+    let still : IsWaking g.K.Component.rules f.table.shared.table_id f.layout.processes c.if-seen-eq-HELD.worker c.args.held.now (c.args.process ∷ more) = elim c.if-seen-eq-HELD.branch [
       | then-seen-eq-HELD+else-found-ne-PARKED w ↦ (let d = w.compare_exchange-found.ensures in waking-as _ _ _ c.if-seen-eq-HELD.worker (record { seat = w.compare_exchange-found.new.seat; woken = c.args.worker.now.woken }) c.args.held.now _ w.worker-is
           (unstruck _ _ _ (record { seat = c.load-seen.new.seat; woken = c.args.worker.now.woken }) (record { seat = w.compare_exchange-found.new.seat; woken = c.args.worker.now.woken }) c.args.held.now _ q d.0 (d.2.1 w.if-found-ne-PARKED.false)))
       | else-seen-eq-HELD w ↦ waking-as _ _ _ c.if-seen-eq-HELD.worker (record { seat = c.load-seen.new.seat; woken = c.args.worker.now.woken }) c.args.held.now _ w.worker-is q

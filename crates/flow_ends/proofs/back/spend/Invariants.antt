@@ -1,4 +1,0 @@
-use Rattle.flow_ends.proofs.back.spend.Given as goal
-
-abbrev pub decreases-loop-slot : goal.decreases-loop-slot
-decreases-loop-slot g l = goal.left-loop-slot g l

@@ -1,6 +1,0 @@
-use Rattle.flow_ends.specs.Ends.{capacities_of}
-use Rattle.flow_ends.proofs.floor.Floor.draw_signal.Given as goal
-
--- the connection at the automatic input
-abbrev pub ghosts-draw-S-Spot : goal.ghosts-draw-S-Spot
-ghosts-draw-S-Spot g a = record { processes = a.self.now.layout.processes; capacities = capacities_of a.self.now.table.shared.key.value; connection = a.connection; most = 0 }

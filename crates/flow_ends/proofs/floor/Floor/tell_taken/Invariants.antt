@@ -1,6 +1,0 @@
-use Rattle.flow_floor.specs.Sending.{senders_at}
-use Rattle.flow_ends.proofs.floor.Floor.tell_taken.Given as goal
-
--- those that send there are noted
-abbrev pub ghosts-withdraw : goal.ghosts-withdraw
-ghosts-withdraw g a = record { notes = senders_at a.self.now.plan.items a.connection }

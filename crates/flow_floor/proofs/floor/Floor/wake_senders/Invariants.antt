@@ -1,9 +1,0 @@
-use Rattle.std.proofs.Common.{◌≡◌, ◌≤◌, drop, length}
-use Rattle.flow_floor.specs.Floors.{woken_of, IsSameWorker, IsWakingAt, Readies}
-use Rattle.flow_floor.specs.Sending.{sending_processes}
-use Rattle.flow_floor.specs.Workers.{view}
-use Rattle.flow_floor.proofs.floor.Floor.wake_senders.Given as goal
-
--- the processes of those from i on are still noted
-abbrev pub invariant-loop-i : goal.invariant-loop-i
-invariant-loop-i g l = IsWakingAt g.K.Component.rules l.fn.self l.worker l.fn.held (sending_processes (drop l.i l.fn.senders)) × ((view l.worker).made ≡ (view l.fn.worker).made) × IsSameWorker l.fn.worker l.worker × Readies l.fn.self l.fn.worker l.worker × (length (woken_of l.worker) ≤ l.i)
