@@ -17,6 +17,7 @@ pub mod Rooms
 pub mod Shut
 pub mod Still
 pub mod Laying
+pub mod Lent
 pub mod Looks
 pub mod Parcels
 pub mod Midway

@@ -16,6 +16,7 @@ mod idle;
 mod inputs;
 mod layout;
 mod lays;
+mod lent;
 mod open;
 mod packets;
 mod plays;

@@ -9,7 +9,6 @@ ghost use Rattle.flow_floor.specs.Views.{drawing, emptying, filling, placing, se
 ghost use Rattle.flow_floor.specs.Floors.{connection_count, opened_net, process_count, woken_of, IsSeatedAt};
 ghost use Rattle.flow_floor.specs.Workers.{view, HandsOut, MatchDrawn, MatchPlaced};
 
-use crate::board::Slot;
 use crate::floor::{Drawn, Floor, Held, Placed, Worker};
 use crate::plays::{Draw, Empty, Fill, Parcel, Place, Spot};
 use flow_component::Component;
@@ -42,19 +41,10 @@ impl<K: Component> Floor<K> {
             return Drawn::Nothing(word);
         }
         let (_, slot) = self.layout.end_slots(connection);
-        let old = shared.exchange(&mut worker.seat, slot, Slot::Vacant);
-        let Slot::Count(place) = old else {
-            unreachable!()
-        };
-        let old = shared.exchange(&mut worker.seat, slot, Slot::Count(place + 1));
-        let Slot::Vacant = old else { unreachable!() };
+        let place = self.count_up(&mut worker.seat, slot);
         worker.seat.turn();
         let cell = self.layout.cell(connection, place);
-        let old = shared.exchange(&mut worker.seat, cell, Slot::Cell(None));
-        let Slot::Cell(found) = old else {
-            unreachable!()
-        };
-        let Some(packet) = found else { unreachable!() };
+        let packet = self.take_out(&mut worker.seat, cell);
         worker.seat.turn();
         worker.seat.turn();
         shared.load::<Empty>(&mut worker.seat, word_at);
@@ -92,20 +82,11 @@ impl<K: Component> Floor<K> {
             return Placed::Full(word);
         }
         let (slot, _) = self.layout.end_slots(connection);
-        let old = shared.exchange(&mut worker.seat, slot, Slot::Vacant);
-        let Slot::Count(place) = old else {
-            unreachable!()
-        };
-        let old = shared.exchange(&mut worker.seat, slot, Slot::Count(place + 1));
-        let Slot::Vacant = old else { unreachable!() };
+        let place = self.count_up(&mut worker.seat, slot);
         worker.seat.turn();
         let cell = self.layout.cell(connection, place);
         let packet = held.body.outgoing();
-        let old = shared.exchange(&mut worker.seat, cell, Slot::Cell(Some(packet)));
-        let Slot::Cell(found) = old else {
-            unreachable!()
-        };
-        let None = found else { unreachable!() };
+        self.put_in(&mut worker.seat, cell, packet);
         worker.seat.turn();
         worker.seat.turn();
         shared.load::<Fill>(&mut worker.seat, word_at);

@@ -40,12 +40,12 @@ returns-then-level-drawn-clause-seated g c = let f = c.args.self.now in
     let few = (told-of g (goal.at.returns-then-level-drawn-clause-seated g c).After-load-word).1 (omega (arith, c.level.ensures.word, c.requires.count, c.if-level-drawn.true)) in
     seated-next f.table.shared.table_id f.layout.processes c.args.worker.now (record { seat = c.load-word.new.seat; woken = c.args.worker.now.woken }) c.args.held.now (seeing (view c.args.worker.now) (f.layout.processes + c.args.connection) c.load-word.result) c.requires.seated c.load-word.ensures.0 few refl refl refl
 
-pub exchange-old-requires : goal.exchange-old-requires
-exchange-old-requires g c = let f = c.args.self.now in
-    let t = (told-of g (goal.at.exchange-old-requires g c).After-load-word).0 (omega (arith, c.level.ensures.word, c.requires.count, c.if-level-drawn.false)) in
+pub count_up-place-requires : goal.count_up-place-requires
+count_up-place-requires g c = let f = c.args.self.now in
+    let t = (told-of g (goal.at.count_up-place-requires g c).After-load-word).0 (omega (arith, c.level.ensures.word, c.requires.count, c.if-level-drawn.false)) in
     let ts = takes_slot f.layout.processes (length (capacities_of f.table.shared.key.value)) c.args.connection in
     let at : c.end_slots-slot.result.1 ≡ ts = c.end_slots-slot.ensures.takes ∙ (λ i. takes_slot f.layout.processes (length (f.capacities i)) c.args.connection) in
-    (c.load-word.ensures.0 ∙ c.requires.seated.table, (slot.Count t.0, took _ _ ts c.end_slots-slot.result.1 (slot.Count t.0) at (ap (λ m. m.1) t.4)))
+    record { table = c.load-word.ensures.0 ∙ c.requires.seated.table; number = (t.0, omega (arith, t.1), took _ _ ts c.end_slots-slot.result.1 (slot.Count t.0) at (ap (λ m. m.1) t.4)) }
 
 -- What came out: the number of takes and the packet; what the step told; and the slots, the packet's first.
 record Out {K : Type 0} (rules : Rules K) (v w : View K) (capacities : List ℕ) (n c p place cell at : ℕ) (slots : List (ℕ × Slot K)) : Type 0 where
@@ -59,8 +59,8 @@ record Out {K : Type 0} (rules : Rules K) (v w : View K) (capacities : List ℕ)
   at_is : at ≡ takes_slot n (length capacities) c
 
 out-of : (g : _) (c : After-cell-cell g) → drew g.K.Component.rules c.args.self.now.layout.processes (capacities_of c.args.self.now.table.shared.key.value) c.args.connection (step c.args.self.now.table.shared.table_id.slots (c.args.self.now.layout.processes + c.args.connection) 0 0 none) c.args.worker.now.seat.me c.load-word.result c.load-word.new.seat.me
-    → Out g.K.Component.rules c.args.worker.now.seat.me.0 c.turn.new.self.me.0 (capacities_of c.args.self.now.table.shared.key.value) c.args.self.now.layout.processes c.args.connection c.args.held.now.process c.in-Count.place c.cell-cell.result c.end_slots-slot.result.1 c.turn.new.self.me.1
-out-of g c found = let f = c.args.self.now in let q = c.requires.seated in let x = c.exchange-old.ensures in let x2 = c.exchange-old-2.ensures in let n = c.in-Count.place in
+    → Out g.K.Component.rules c.args.worker.now.seat.me.0 c.turn.new.self.me.0 (capacities_of c.args.self.now.table.shared.key.value) c.args.self.now.layout.processes c.args.connection c.args.held.now.process c.count_up-place.result c.cell-cell.result c.end_slots-slot.result.1 c.turn.new.self.me.1
+out-of g c found = let f = c.args.self.now in let q = c.requires.seated in let x = c.count_up-place.ensures in let n = c.count_up-place.result in
     let p = c.args.held.now.process in
     let at_slot = c.end_slots-slot.result.1 in
     let t = found.0 (omega (arith, c.level.ensures.word, c.requires.count, c.if-level-drawn.false)) in
@@ -68,18 +68,17 @@ out-of g c found = let f = c.args.self.now in let q = c.requires.seated in let x
     let ps = place_slot f.layout.processes (capacities_of f.table.shared.key.value) c.args.connection t.0 in
     let at : at_slot ≡ ts = c.end_slots-slot.ensures.takes ∙ (λ i. takes_slot f.layout.processes (length (f.capacities i)) c.args.connection) in
     let l0 : c.load-word.new.seat.me.1 ≡ (ts, slot.Count t.0) ∷ (ps, slot.Cell (Some t.2)) ∷ (p, slot.Vacant) ∷ [] = ap (λ m. m.1) t.4 ∙ ap (λ xs. (ts, slot.Count t.0) ∷ (ps, slot.Cell (Some t.2)) ∷ xs) q.slots in
-    let listed : (ts, c.exchange-old.result) ∷ rest c.load-word.new.seat.me.1 ≡ (ts, slot.Count t.0) ∷ (ps, slot.Cell (Some t.2)) ∷ (p, slot.Vacant) ∷ [] = (λ j. (sym at j, c.exchange-old.result) ∷ rest c.load-word.new.seat.me.1) ∙ sym x.2 ∙ l0 in
-    let slot_is : c.exchange-old.result ≡ slot.Count t.0 = head-is ts c.exchange-old.result (slot.Count t.0) (rest c.load-word.new.seat.me.1) ((ps, slot.Cell (Some t.2)) ∷ (p, slot.Vacant) ∷ []) listed in
-    let n_is : t.0 ≡ n = count-is c.exchange-old.result t.0 n slot_is c.in-Count.is in
+    let listed : (ts, slot.Count n) ∷ rest c.load-word.new.seat.me.1 ≡ (ts, slot.Count t.0) ∷ (ps, slot.Cell (Some t.2)) ∷ (p, slot.Vacant) ∷ [] = (λ j. (sym at j, slot.Count n) ∷ rest c.load-word.new.seat.me.1) ∙ sym x.found ∙ l0 in
+    let slot_is : slot.Count n ≡ slot.Count t.0 = head-is ts (slot.Count n) (slot.Count t.0) (rest c.load-word.new.seat.me.1) ((ps, slot.Cell (Some t.2)) ∷ (p, slot.Vacant) ∷ []) listed in
+    let n_is : t.0 ≡ n = count-is (slot.Count n) t.0 n slot_is refl in
     let cell : c.cell-cell.result ≡ ps = c.cell-cell.ensures ∙ (λ i. place_slot f.layout.processes (f.capacities i) c.args.connection (sym n_is i)) in
-    let l1 : c.exchange-old.new.seat.me.1 ≡ (at_slot, slot.Vacant) ∷ (ps, slot.Cell (Some t.2)) ∷ (p, slot.Vacant) ∷ [] = ap (λ m. m.1) x.3 ∙ (λ j. (at_slot, slot.Vacant) ∷ rest (l0 j)) in
-    let l2 : c.exchange-old-2.new.seat.me.1 ≡ (at_slot, slot.Count (n + 1)) ∷ (ps, slot.Cell (Some t.2)) ∷ (p, slot.Vacant) ∷ [] = ap (λ m. m.1) x2.3 ∙ (λ j. (at_slot, slot.Count (n + 1)) ∷ rest (l1 j)) in
+    let l2 : c.count_up-place.new.seat.me.1 ≡ (at_slot, slot.Count (n + 1)) ∷ (ps, slot.Cell (Some t.2)) ∷ (p, slot.Vacant) ∷ [] = ap (λ m. m.1) x.me ∙ (λ j. (at_slot, slot.Count (n + 1)) ∷ rest (l0 j)) in
     let l3 : c.turn.new.self.me.1 ≡ (c.cell-cell.result, slot.Cell (Some t.2)) ∷ (p, slot.Vacant) ∷ (at_slot, slot.Count (n + 1)) ∷ [] = ap (λ m. m.1) c.turn.ensures.2 ∙ ap turned l2 ∙ (λ j. (sym cell j, slot.Cell (Some t.2)) ∷ (p, slot.Vacant) ∷ (at_slot, slot.Count (n + 1)) ∷ []) in
-    record { takes = t.0; packet = t.2; takes_is = n_is; would = t.3; view_is = ap (λ m. m.0) c.turn.ensures.2 ∙ ap (λ m. m.0) x2.3 ∙ ap (λ m. m.0) x.3 ∙ ap (λ m. m.0) t.4; slots_are = l3; cell_is = cell; at_is = at }
+    record { takes = t.0; packet = t.2; takes_is = n_is; would = t.3; view_is = ap (λ m. m.0) c.turn.ensures.2 ∙ ap (λ m. m.0) x.me ∙ ap (λ m. m.0) t.4; slots_are = l3; cell_is = cell; at_is = at }
 
-pub exchange-old-requires-3 : goal.exchange-old-requires-3
-exchange-old-requires-3 g c = let o = out-of g (goal.at.exchange-old-requires-3 g c).After-cell-cell (told-of g (goal.at.exchange-old-requires-3 g c).After-load-word) in
-    (c.turn.ensures.0 ∙ c.exchange-old-2.ensures.0 ∙ c.exchange-old.ensures.0 ∙ c.load-word.ensures.0 ∙ c.requires.seated.table, (slot.Cell (Some o.packet), took _ _ c.cell-cell.result c.cell-cell.result (slot.Cell (Some o.packet)) refl o.slots_are))
+pub take_out-packet-requires : goal.take_out-packet-requires
+take_out-packet-requires g c = let all = goal.at.take_out-packet-requires g c in let o = out-of g all.After-cell-cell (told-of g all.After-load-word) in
+    record { table = c.turn.ensures.0 ∙ c.count_up-place.ensures.table ∙ c.load-word.ensures.0 ∙ c.requires.seated.table; packet = (o.packet, took _ _ c.cell-cell.result c.cell-cell.result (slot.Cell (Some o.packet)) refl o.slots_are) }
 
 some-is : {A : Type 0} (x y : A) → Some x ≡ Some y → x ≡ y
 some-is x y e = cc
@@ -90,20 +89,21 @@ record Back {K : Type 0} (v w : View K) (capacities : List ℕ) (n c p takes : �
   view_is : w ≡ drawing v c takes drawn
   slots_are : slots ≡ (takes_slot n (length capacities) c, slot.Count (takes + 1)) ∷ (place_slot n capacities c takes, slot.Cell None) ∷ (p, slot.Vacant) ∷ []
 
-back-of : (g : _) (c : After-turn-3 g) (o : Out g.K.Component.rules c.args.worker.now.seat.me.0 c.turn.new.self.me.0 (capacities_of c.args.self.now.table.shared.key.value) c.args.self.now.layout.processes c.args.connection c.args.held.now.process c.in-Count.place c.cell-cell.result c.end_slots-slot.result.1 c.turn.new.self.me.1)
-    → Back c.args.worker.now.seat.me.0 c.turn-3.new.self.me.0 (capacities_of c.args.self.now.table.shared.key.value) c.args.self.now.layout.processes c.args.connection c.args.held.now.process o.takes o.packet c.in-Some.packet c.turn-3.new.self.me.1
-back-of g c o = let f = c.args.self.now in let x = c.exchange-old-3.ensures in
+back-of : (g : _) (c : After-turn-3 g) (o : Out g.K.Component.rules c.args.worker.now.seat.me.0 c.turn.new.self.me.0 (capacities_of c.args.self.now.table.shared.key.value) c.args.self.now.layout.processes c.args.connection c.args.held.now.process c.count_up-place.result c.cell-cell.result c.end_slots-slot.result.1 c.turn.new.self.me.1)
+    → Back c.args.worker.now.seat.me.0 c.turn-3.new.self.me.0 (capacities_of c.args.self.now.table.shared.key.value) c.args.self.now.layout.processes c.args.connection c.args.held.now.process o.takes o.packet c.take_out-packet.result c.turn-3.new.self.me.1
+back-of g c o = let f = c.args.self.now in let x = c.take_out-packet.ensures in
     let cell = c.cell-cell.result in
     let at = c.end_slots-slot.result.1 in
     let p = c.args.held.now.process in
-    let n = c.in-Count.place in
-    let listed : (cell, c.exchange-old-3.result) ∷ rest c.turn.new.self.me.1 ≡ (cell, slot.Cell (Some o.packet)) ∷ (p, slot.Vacant) ∷ (at, slot.Count (n + 1)) ∷ [] = sym x.2 ∙ o.slots_are in
-    let slot_is : c.exchange-old-3.result ≡ slot.Cell (Some o.packet) = head-is cell c.exchange-old-3.result (slot.Cell (Some o.packet)) (rest c.turn.new.self.me.1) ((p, slot.Vacant) ∷ (at, slot.Count (n + 1)) ∷ []) listed in
-    let l3 : c.exchange-old-3.new.seat.me.1 ≡ (cell, slot.Cell None) ∷ (p, slot.Vacant) ∷ (at, slot.Count (n + 1)) ∷ [] = ap (λ m. m.1) x.3 ∙ (λ j. (cell, slot.Cell None) ∷ rest (o.slots_are j)) in
+    let n = c.count_up-place.result in
+    let came = c.take_out-packet.result in
+    let listed : (cell, slot.Cell (Some came)) ∷ rest c.turn.new.self.me.1 ≡ (cell, slot.Cell (Some o.packet)) ∷ (p, slot.Vacant) ∷ (at, slot.Count (n + 1)) ∷ [] = sym x.found ∙ o.slots_are in
+    let slot_is : slot.Cell (Some came) ≡ slot.Cell (Some o.packet) = head-is cell (slot.Cell (Some came)) (slot.Cell (Some o.packet)) (rest c.turn.new.self.me.1) ((p, slot.Vacant) ∷ (at, slot.Count (n + 1)) ∷ []) listed in
+    let l3 : c.take_out-packet.new.seat.me.1 ≡ (cell, slot.Cell None) ∷ (p, slot.Vacant) ∷ (at, slot.Count (n + 1)) ∷ [] = ap (λ m. m.1) x.me ∙ (λ j. (cell, slot.Cell None) ∷ rest (o.slots_are j)) in
     let l5 : c.turn-3.new.self.me.1 ≡ (at, slot.Count (n + 1)) ∷ (cell, slot.Cell None) ∷ (p, slot.Vacant) ∷ [] = ap (λ m. m.1) c.turn-3.ensures.2 ∙ ap turned (ap (λ m. m.1) c.turn-2.ensures.2 ∙ ap turned l3) in
     record {
-      packet_is = some-is o.packet c.in-Some.packet (cell-is c.exchange-old-3.result (Some o.packet) c.in-Cell.found slot_is c.in-Cell.is ∙ c.in-Some.is);
-      view_is = ap (λ m. m.0) c.turn-3.ensures.2 ∙ ap (λ m. m.0) c.turn-2.ensures.2 ∙ ap (λ m. m.0) x.3 ∙ o.view_is;
+      packet_is = some-is o.packet came (cell-is (slot.Cell (Some came)) (Some o.packet) (Some came) slot_is refl);
+      view_is = ap (λ m. m.0) c.turn-3.ensures.2 ∙ ap (λ m. m.0) c.turn-2.ensures.2 ∙ ap (λ m. m.0) x.me ∙ o.view_is;
       slots_are = l5 ∙ (λ j. (o.at_is j, slot.Count (sym o.takes_is j + 1)) ∷ (o.cell_is j, slot.Cell None) ∷ (p, slot.Vacant) ∷ []);
     }
 
@@ -113,7 +113,7 @@ load-requires g c = let f = c.args.self.now in let q = c.requires.seated in let 
     let o = out-of g all.After-cell-cell (told-of g all.After-load-word) in
     let k = back-of g all.After-turn-3 o in
     let y = received_at (view c.args.worker.now) c.args.connection in (
-      c.turn-3.ensures.0 ∙ c.turn-2.ensures.0 ∙ c.exchange-old-3.ensures.0 ∙ c.turn.ensures.0 ∙ c.exchange-old-2.ensures.0 ∙ c.exchange-old.ensures.0 ∙ c.load-word.ensures.0 ∙ q.table,
+      c.turn-3.ensures.0 ∙ c.turn-2.ensures.0 ∙ c.take_out-packet.ensures.table ∙ c.turn.ensures.0 ∙ c.count_up-place.ensures.table ∙ c.load-word.ensures.0 ∙ q.table,
       omega (arith, f.words, place, c.requires.range),
       apart g.K.Component.rules f.table.shared.key.value f.table.shared.table_id.slots s.id s.me (f.layout.processes + c.args.connection) c.level_word-word_at.result (λ n. n) (λ i. emptied (step f.table.shared.table_id.slots i 0 0 none) s.me) (omega (arith, place))
           (empties g.K.Component.rules g.met.K.Component.lawful f.table.shared.key.value f.table.shared.table_id.slots _ s.id c.args.held.now.process c.args.connection o.takes s.me q.base (record y { drawn = y.drawn ++ o.packet ∷ []; out = Some o.takes }) _ (omega (arith, f.channels, c.requires.range))
@@ -128,7 +128,7 @@ returns-clause-seated g c = let f = c.args.self.now in
     let k = back-of g all.After-turn-3 o in
     let e = c.load.ensures in
     seated-with f.table.shared.table_id f.layout.processes c.args.worker.now (record { seat = c.load.new.seat; woken = c.args.worker.now.woken }) c.args.held.now (emptying (drawing (view c.args.worker.now) c.args.connection o.takes o.packet)) c.requires.seated
-    (e.0 ∙ c.turn-3.ensures.0 ∙ c.turn-2.ensures.0 ∙ c.exchange-old-3.ensures.0 ∙ c.turn.ensures.0 ∙ c.exchange-old-2.ensures.0 ∙ c.exchange-old.ensures.0 ∙ c.load-word.ensures.0)
+    (e.0 ∙ c.turn-3.ensures.0 ∙ c.turn-2.ensures.0 ∙ c.take_out-packet.ensures.table ∙ c.turn.ensures.0 ∙ c.count_up-place.ensures.table ∙ c.load-word.ensures.0)
     (ap (λ m. m.0) e.2 ∙ ap emptying k.view_is) (ap (λ m. m.1) e.2 ∙ ap (λ xs. rest (rest xs)) k.slots_are) refl refl refl
 
 pub returns-clause-drawn : goal.returns-clause-drawn
@@ -137,6 +137,6 @@ returns-clause-drawn g c = let f = c.args.self.now in
     let o = out-of g all.After-cell-cell (told-of g all.After-load-word) in
     let k = back-of g all.After-turn-3 o in
     let v = view c.args.worker.now in (
-      subst (λ (m : ℕ). WouldAlwaysBeThere g.K.Component.rules f.layout.processes m v c.args.connection c.in-Some.packet) f.channels (subst (WouldAlwaysBeThere g.K.Component.rules f.layout.processes (length (capacities_of f.table.shared.key.value)) v c.args.connection) k.packet_is o.would),
+      subst (λ (m : ℕ). WouldAlwaysBeThere g.K.Component.rules f.layout.processes m v c.args.connection c.take_out-packet.result) f.channels (subst (WouldAlwaysBeThere g.K.Component.rules f.layout.processes (length (capacities_of f.table.shared.key.value)) v c.args.connection) k.packet_is o.would),
       ap (λ m. m.0) c.load.ensures.2 ∙ ap emptying (k.view_is ∙ (λ j. drawing v c.args.connection (o.takes_is j) (k.packet_is j))),
     )

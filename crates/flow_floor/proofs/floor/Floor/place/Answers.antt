@@ -50,11 +50,11 @@ returns-then-level-most-clause-seated g c = let f = c.args.self.now in
     let full = (told-of g (goal.at.returns-then-level-most-clause-seated g c).After-load-word).1 (omega (arith, c.level.ensures.word, c.requires.count, c.requires.fits, c.if-level-most.true)) in
     seated-next f.table.shared.table_id f.layout.processes c.args.worker.now (record { seat = c.load-word.new.seat; woken = c.args.worker.now.woken }) c.args.held.now (seeing (view c.args.worker.now) (f.layout.processes + c.args.connection) c.load-word.result) c.requires.seated c.load-word.ensures.0 full refl refl refl
 
-pub exchange-old-requires : goal.exchange-old-requires
-exchange-old-requires g c = let f = c.args.self.now in
-    let t = (told-of g (goal.at.exchange-old-requires g c).After-load-word).0 (omega (arith, c.level.ensures.word, c.requires.count, c.requires.fits, c.if-level-most.false)) in
+pub count_up-place-requires : goal.count_up-place-requires
+count_up-place-requires g c = let f = c.args.self.now in
+    let t = (told-of g (goal.at.count_up-place-requires g c).After-load-word).0 (omega (arith, c.level.ensures.word, c.requires.count, c.requires.fits, c.if-level-most.false)) in
     let ps = puts_slot f.layout.processes c.args.connection in
-    (c.load-word.ensures.0 ∙ c.requires.seated.table, (slot.Count t.0, took _ _ ps c.end_slots-slot.result.0 (slot.Count t.0) c.end_slots-slot.ensures.puts (ap (λ m. m.1) t.3)))
+    record { table = c.load-word.ensures.0 ∙ c.requires.seated.table; number = (t.0, omega (arith, t.1), took _ _ ps c.end_slots-slot.result.0 (slot.Count t.0) c.end_slots-slot.ensures.puts (ap (λ m. m.1) t.3)) }
 
 -- What came out: the number of puts, and an empty cell; what the step told; and the slots, the cell's first.
 record Out {K : Type 0} (rules : Rules K) (v w : View K) (capacities : List ℕ) (n c p place cell at : ℕ) (packet : Tree) (slots : List (ℕ × Slot K)) : Type 0 where
@@ -67,8 +67,8 @@ record Out {K : Type 0} (rules : Rules K) (v w : View K) (capacities : List ℕ)
   at_is : at ≡ puts_slot n c
 
 out-of : (g : _) (c : After-outgoing-packet g) → placed g.K.Component.rules c.args.self.now.layout.processes (capacities_of c.args.self.now.table.shared.key.value) c.args.connection c.args.most g.B.Parcel.packet (step c.args.self.now.table.shared.table_id.slots (c.args.self.now.layout.processes + c.args.connection) 0 0 none) c.args.worker.now.seat.me c.load-word.result c.load-word.new.seat.me
-    → Out g.K.Component.rules c.args.worker.now.seat.me.0 c.turn.new.self.me.0 (capacities_of c.args.self.now.table.shared.key.value) c.args.self.now.layout.processes c.args.connection c.args.held.now.process c.in-Count.place c.cell-cell.result c.end_slots-slot.result.0 g.B.Parcel.packet c.turn.new.self.me.1
-out-of g c found = let f = c.args.self.now in let q = c.requires.seated in let x = c.exchange-old.ensures in let x2 = c.exchange-old-2.ensures in let n = c.in-Count.place in
+    → Out g.K.Component.rules c.args.worker.now.seat.me.0 c.turn.new.self.me.0 (capacities_of c.args.self.now.table.shared.key.value) c.args.self.now.layout.processes c.args.connection c.args.held.now.process c.count_up-place.result c.cell-cell.result c.end_slots-slot.result.0 g.B.Parcel.packet c.turn.new.self.me.1
+out-of g c found = let f = c.args.self.now in let q = c.requires.seated in let x = c.count_up-place.ensures in let n = c.count_up-place.result in
     let p = c.args.held.now.process in
     let at_slot = c.end_slots-slot.result.0 in
     let t = found.0 (omega (arith, c.level.ensures.word, c.requires.count, c.requires.fits, c.if-level-most.false)) in
@@ -76,18 +76,17 @@ out-of g c found = let f = c.args.self.now in let q = c.requires.seated in let x
     let ps = place_slot f.layout.processes (capacities_of f.table.shared.key.value) c.args.connection t.0 in
     let at : at_slot ≡ us = c.end_slots-slot.ensures.puts in
     let l0 : c.load-word.new.seat.me.1 ≡ (us, slot.Count t.0) ∷ (ps, slot.Cell None) ∷ (p, slot.Vacant) ∷ [] = ap (λ m. m.1) t.3 ∙ ap (λ xs. (us, slot.Count t.0) ∷ (ps, slot.Cell None) ∷ xs) q.slots in
-    let listed : (us, c.exchange-old.result) ∷ rest c.load-word.new.seat.me.1 ≡ (us, slot.Count t.0) ∷ (ps, slot.Cell None) ∷ (p, slot.Vacant) ∷ [] = (λ j. (sym at j, c.exchange-old.result) ∷ rest c.load-word.new.seat.me.1) ∙ sym x.2 ∙ l0 in
-    let slot_is : c.exchange-old.result ≡ slot.Count t.0 = head-is us c.exchange-old.result (slot.Count t.0) (rest c.load-word.new.seat.me.1) ((ps, slot.Cell None) ∷ (p, slot.Vacant) ∷ []) listed in
-    let n_is : t.0 ≡ n = count-is c.exchange-old.result t.0 n slot_is c.in-Count.is in
+    let listed : (us, slot.Count n) ∷ rest c.load-word.new.seat.me.1 ≡ (us, slot.Count t.0) ∷ (ps, slot.Cell None) ∷ (p, slot.Vacant) ∷ [] = (λ j. (sym at j, slot.Count n) ∷ rest c.load-word.new.seat.me.1) ∙ sym x.found ∙ l0 in
+    let slot_is : slot.Count n ≡ slot.Count t.0 = head-is us (slot.Count n) (slot.Count t.0) (rest c.load-word.new.seat.me.1) ((ps, slot.Cell None) ∷ (p, slot.Vacant) ∷ []) listed in
+    let n_is : t.0 ≡ n = count-is (slot.Count n) t.0 n slot_is refl in
     let cell : c.cell-cell.result ≡ ps = c.cell-cell.ensures ∙ (λ i. place_slot f.layout.processes (f.capacities i) c.args.connection (sym n_is i)) in
-    let l1 : c.exchange-old.new.seat.me.1 ≡ (at_slot, slot.Vacant) ∷ (ps, slot.Cell None) ∷ (p, slot.Vacant) ∷ [] = ap (λ m. m.1) x.3 ∙ (λ j. (at_slot, slot.Vacant) ∷ rest (l0 j)) in
-    let l2 : c.exchange-old-2.new.seat.me.1 ≡ (at_slot, slot.Count (n + 1)) ∷ (ps, slot.Cell None) ∷ (p, slot.Vacant) ∷ [] = ap (λ m. m.1) x2.3 ∙ (λ j. (at_slot, slot.Count (n + 1)) ∷ rest (l1 j)) in
+    let l2 : c.count_up-place.new.seat.me.1 ≡ (at_slot, slot.Count (n + 1)) ∷ (ps, slot.Cell None) ∷ (p, slot.Vacant) ∷ [] = ap (λ m. m.1) x.me ∙ (λ j. (at_slot, slot.Count (n + 1)) ∷ rest (l0 j)) in
     let l3 : c.turn.new.self.me.1 ≡ (c.cell-cell.result, slot.Cell None) ∷ (p, slot.Vacant) ∷ (at_slot, slot.Count (n + 1)) ∷ [] = ap (λ m. m.1) c.turn.ensures.2 ∙ ap turned l2 ∙ (λ j. (sym cell j, slot.Cell None) ∷ (p, slot.Vacant) ∷ (at_slot, slot.Count (n + 1)) ∷ []) in
-    record { puts = t.0; puts_is = n_is; would = t.2; view_is = ap (λ m. m.0) c.turn.ensures.2 ∙ ap (λ m. m.0) x2.3 ∙ ap (λ m. m.0) x.3 ∙ ap (λ m. m.0) t.3; slots_are = l3; cell_is = cell; at_is = at }
+    record { puts = t.0; puts_is = n_is; would = t.2; view_is = ap (λ m. m.0) c.turn.ensures.2 ∙ ap (λ m. m.0) x.me ∙ ap (λ m. m.0) t.3; slots_are = l3; cell_is = cell; at_is = at }
 
-pub exchange-old-requires-3 : goal.exchange-old-requires-3
-exchange-old-requires-3 g c = let all = goal.at.exchange-old-requires-3 g c in let o = out-of g all.After-outgoing-packet (told-of g all.After-load-word) in
-    (c.turn.ensures.0 ∙ c.exchange-old-2.ensures.0 ∙ c.exchange-old.ensures.0 ∙ c.load-word.ensures.0 ∙ c.requires.seated.table, (slot.Cell None, took _ _ c.cell-cell.result c.cell-cell.result (slot.Cell None) refl o.slots_are))
+pub put_in-requires : goal.put_in-requires
+put_in-requires g c = let all = goal.at.put_in-requires g c in let o = out-of g all.After-outgoing-packet (told-of g all.After-load-word) in
+    record { table = c.turn.ensures.0 ∙ c.count_up-place.ensures.table ∙ c.load-word.ensures.0 ∙ c.requires.seated.table; empty = took _ _ c.cell-cell.result c.cell-cell.result (slot.Cell None) refl o.slots_are }
 
 -- The packet that is found is the one that is wished.
 found-there : (f : ℕ → Option Tree) (o : Option ℕ) (id : ℕ) (x : Tree) → o ≡ Some id → IfSome o (λ n. f n ≡ Some x) → option_and_then f o ≡ Some x
@@ -102,22 +101,22 @@ record Back {K : Type 0} (v w : View K) (capacities : List ℕ) (n c p puts : �
   view_is : w ≡ placing v puts packet
   slots_are : slots ≡ (puts_slot n c, slot.Count (puts + 1)) ∷ (place_slot n capacities c puts, slot.Cell (Some packet)) ∷ (p, slot.Vacant) ∷ []
 
-back-of : (g : _) (c : After-turn-3 g) (o : Out g.K.Component.rules c.args.worker.now.seat.me.0 c.turn.new.self.me.0 (capacities_of c.args.self.now.table.shared.key.value) c.args.self.now.layout.processes c.args.connection c.args.held.now.process c.in-Count.place c.cell-cell.result c.end_slots-slot.result.0 g.B.Parcel.packet c.turn.new.self.me.1)
+back-of : (g : _) (c : After-turn-3 g) (o : Out g.K.Component.rules c.args.worker.now.seat.me.0 c.turn.new.self.me.0 (capacities_of c.args.self.now.table.shared.key.value) c.args.self.now.layout.processes c.args.connection c.args.held.now.process c.count_up-place.result c.cell-cell.result c.end_slots-slot.result.0 g.B.Parcel.packet c.turn.new.self.me.1)
     → Back c.args.worker.now.seat.me.0 c.turn-3.new.self.me.0 (capacities_of c.args.self.now.table.shared.key.value) c.args.self.now.layout.processes c.args.connection c.args.held.now.process o.puts g.B.Parcel.packet c.outgoing-packet.result c.turn-3.new.self.me.1
-back-of g c o = let f = c.args.self.now in let x = c.exchange-old-3.ensures in
+back-of g c o = let f = c.args.self.now in let x = c.put_in.ensures in
     let cell = c.cell-cell.result in
     let at = c.end_slots-slot.result.0 in
     let p = c.args.held.now.process in
-    let n = c.in-Count.place in
+    let n = c.count_up-place.result in
     let came = c.outgoing-packet.result in
     let body = c.args.held.now.body.process in
     let wish = c.requires.wishes in
     let packet_is : came ≡ g.B.Parcel.packet = agree (packet_at body.held.packets) (id_sent body.stage) wish.1 came g.B.Parcel.packet (ap id_sent wish.2) c.outgoing-packet.ensures.packet c.requires.parcel in
-    let l3 : c.exchange-old-3.new.seat.me.1 ≡ (cell, slot.Cell (Some came)) ∷ (p, slot.Vacant) ∷ (at, slot.Count (n + 1)) ∷ [] = ap (λ m. m.1) x.3 ∙ (λ j. (cell, slot.Cell (Some came)) ∷ rest (o.slots_are j)) in
+    let l3 : c.put_in.new.seat.me.1 ≡ (cell, slot.Cell (Some came)) ∷ (p, slot.Vacant) ∷ (at, slot.Count (n + 1)) ∷ [] = ap (λ m. m.1) x.me ∙ (λ j. (cell, slot.Cell (Some came)) ∷ rest (o.slots_are j)) in
     let l5 : c.turn-3.new.self.me.1 ≡ (at, slot.Count (n + 1)) ∷ (cell, slot.Cell (Some came)) ∷ (p, slot.Vacant) ∷ [] = ap (λ m. m.1) c.turn-3.ensures.2 ∙ ap turned (ap (λ m. m.1) c.turn-2.ensures.2 ∙ ap turned l3) in
     record {
       packet_is = packet_is;
-      view_is = ap (λ m. m.0) c.turn-3.ensures.2 ∙ ap (λ m. m.0) c.turn-2.ensures.2 ∙ ap (λ m. m.0) x.3 ∙ o.view_is;
+      view_is = ap (λ m. m.0) c.turn-3.ensures.2 ∙ ap (λ m. m.0) c.turn-2.ensures.2 ∙ ap (λ m. m.0) x.me ∙ o.view_is;
       slots_are = l5 ∙ (λ j. (o.at_is j, slot.Count (sym o.puts_is j + 1)) ∷ (o.cell_is j, slot.Cell (Some (packet_is j))) ∷ (p, slot.Vacant) ∷ []);
     }
 
@@ -128,7 +127,7 @@ load-requires g c = let f = c.args.self.now in let q = c.requires.seated in let 
     let k = back-of g all.After-turn-3 o in
     let h = place-here c.args.connection (view c.args.worker.now).sending c.requires.may in
     let packet = g.B.Parcel.packet in (
-      c.turn-3.ensures.0 ∙ c.turn-2.ensures.0 ∙ c.exchange-old-3.ensures.0 ∙ c.turn.ensures.0 ∙ c.exchange-old-2.ensures.0 ∙ c.exchange-old.ensures.0 ∙ c.load-word.ensures.0 ∙ q.table,
+      c.turn-3.ensures.0 ∙ c.turn-2.ensures.0 ∙ c.put_in.ensures.table ∙ c.turn.ensures.0 ∙ c.count_up-place.ensures.table ∙ c.load-word.ensures.0 ∙ q.table,
       omega (arith, f.words, place, c.requires.range),
       apart g.K.Component.rules f.table.shared.key.value f.table.shared.table_id.slots s.id s.me (f.layout.processes + c.args.connection) c.level_word-word_at.result (λ n. n) (λ i. filled (step f.table.shared.table_id.slots i 0 0 none) s.me) (omega (arith, place))
           (fills g.K.Component.rules g.met.K.Component.lawful f.table.shared.key.value f.table.shared.table_id.slots _ s.id c.args.held.now.process c.args.connection o.puts s.me q.base (record h.0 { placed = h.0.placed ++ packet ∷ []; out = Some o.puts }) h.0.placed packet _ (omega (arith, f.channels, c.requires.range))
@@ -144,7 +143,7 @@ returns-clause-seated g c = let f = c.args.self.now in
     let e = c.load.ensures in
     seated-out f.table.shared.table_id f.layout.processes (record { seat = c.load.new.seat; woken = c.args.worker.now.woken }) c.args.held.now _ refl
     (seated-with f.table.shared.table_id f.layout.processes c.args.worker.now (record { seat = c.load.new.seat; woken = c.args.worker.now.woken }) c.args.held.now (filling (placing (view c.args.worker.now) o.puts g.B.Parcel.packet)) c.requires.seated
-    (e.0 ∙ c.turn-3.ensures.0 ∙ c.turn-2.ensures.0 ∙ c.exchange-old-3.ensures.0 ∙ c.turn.ensures.0 ∙ c.exchange-old-2.ensures.0 ∙ c.exchange-old.ensures.0 ∙ c.load-word.ensures.0)
+    (e.0 ∙ c.turn-3.ensures.0 ∙ c.turn-2.ensures.0 ∙ c.put_in.ensures.table ∙ c.turn.ensures.0 ∙ c.count_up-place.ensures.table ∙ c.load-word.ensures.0)
     (ap (λ m. m.0) e.2 ∙ ap filling k.view_is) (ap (λ m. m.1) e.2 ∙ ap (λ xs. rest (rest xs)) k.slots_are) refl refl refl)
 
 pub returns-then-level-most-clause-placed : goal.returns-then-level-most-clause-placed
