@@ -69,6 +69,7 @@ impl Layout {
         (self.processes + 2 * self.connections + 2) * SPACING
     }
 
+    #[inline(always)]
     pub fn process_word(&self, process: usize) -> usize
         requires { process < self.now.processes }
         ensures { result ≡ process_at process }
@@ -77,6 +78,7 @@ impl Layout {
     }
 
     /// The word with the level and the open senders of the connection.
+    #[inline(always)]
     pub fn level_word(&self, connection: usize) -> usize
         requires { connection < self.now.connections }
         ensures { result ≡ word_at self.now.processes self.now.connections (level connection) }
@@ -129,6 +131,7 @@ impl Layout {
     }
 
     /// The slots of the number of puts and of the number of takes.
+    #[inline(always)]
     pub fn end_slots(&self, connection: usize) -> (usize, usize)
         requires { connection < self.now.connections }
         ensures puts { result.0 ≡ puts_slot self.now.processes connection }
@@ -139,6 +142,7 @@ impl Layout {
     }
 
     /// The cell of this place: places go round the cells of their connection.
+    #[inline(always)]
     pub fn cell(&self, connection: usize, place: u64) -> usize
         requires { connection < self.now.connections }
         ensures { result ≡ place_slot self.now.processes self.now.capacities.items connection place }

@@ -13,6 +13,7 @@ use flow_packet::Packet;
 use std::mem;
 
 /// Counts the number in a slot up by one. What it was.
+#[inline(always)]
 fn counted_up<K: Component>(slot: &mut Slot<K>) -> u64
     requires { (n : ℕ) × (n + 1 < 2 ^ 64) × (slot.old ≡ Slot.Count n) }
     ensures { (slot.old ≡ Slot.Count result) × (slot.new ≡ Slot.Count (result + 1)) }
@@ -26,6 +27,7 @@ fn counted_up<K: Component>(slot: &mut Slot<K>) -> u64
 }
 
 /// The packet in a cell, out of it.
+#[inline(always)]
 fn taken_out<K: Component>(slot: &mut Slot<K>) -> Packet
     requires { (packet : Tree) × (slot.old ≡ Slot.Cell (Some packet)) }
     ensures { (slot.old ≡ Slot.Cell (Some result)) × (slot.new ≡ Slot.Cell None) }
@@ -39,6 +41,7 @@ fn taken_out<K: Component>(slot: &mut Slot<K>) -> Packet
 }
 
 /// Puts a packet into a cell, which is empty.
+#[inline(always)]
 fn put_into<K: Component>(slot: &mut Slot<K>, packet: Packet)
     requires { slot.old ≡ Slot.Cell None }
     ensures { slot.new ≡ Slot.Cell (Some packet) }
@@ -52,6 +55,7 @@ fn put_into<K: Component>(slot: &mut Slot<K>, packet: Packet)
 
 impl<K: Component> Floor<K> {
     /// Counts the number in the slot that the seat took last up by one. What it was.
+    #[inline(always)]
     pub(crate) fn count_up(&self, seat: &mut Seat<Slot<K>, View<K>>, slot: usize) -> u64
         requires table { seat.old.table_id ≡ self.now.table.shared.table_id }
         requires number { (n : ℕ) × (n + 1 < 2 ^ 64) × (seat.old.me.1 ≡ (slot, Slot.Count n) ∷ rest seat.old.me.1) }
@@ -61,6 +65,7 @@ impl<K: Component> Floor<K> {
     }
 
     /// The packet in the cell that the seat took last, out of it.
+    #[inline(always)]
     pub(crate) fn take_out(&self, seat: &mut Seat<Slot<K>, View<K>>, slot: usize) -> Packet
         requires table { seat.old.table_id ≡ self.now.table.shared.table_id }
         requires packet { (packet : Tree) × (seat.old.me.1 ≡ (slot, Slot.Cell (Some packet)) ∷ rest seat.old.me.1) }
@@ -70,6 +75,7 @@ impl<K: Component> Floor<K> {
     }
 
     /// Puts a packet into the cell that the seat took last, which is empty.
+    #[inline(always)]
     pub(crate) fn put_in(&self, seat: &mut Seat<Slot<K>, View<K>>, slot: usize, packet: Packet)
         requires table { seat.old.table_id ≡ self.now.table.shared.table_id }
         requires empty { seat.old.me.1 ≡ (slot, Slot.Cell None) ∷ rest seat.old.me.1 }

@@ -16,6 +16,7 @@ use flow_ring::level;
 
 impl<K: Component> Floor<K> {
     /// Draws the oldest packet that the worker hasn't drawn, where the level counts one: it has drawn so many.
+    #[inline(always)]
     pub(crate) fn draw<S: Spot>(
         &self,
         worker: &mut Worker<K>,
@@ -52,6 +53,7 @@ impl<K: Component> Floor<K> {
     }
 
     /// Places the packet of the body's wish behind all packets, where there is room: the worker has placed so many that aren't stamped.
+    #[inline(always)]
     pub(crate) fn place<S: Spot, B: Parcel>(
         &self,
         worker: &mut Worker<K>,

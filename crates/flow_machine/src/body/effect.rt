@@ -144,6 +144,7 @@ fn add_level(levels: &mut Vec<(u32, u16)>, stamp: u32, level: u16)
 
 impl<K: Component> Body<K> {
     /// Changes the process alone, as a turn with this effect does. Takes no memory: the room of the turn is used up.
+    #[inline(always)]
     pub fn effect(&mut self, effect: Effect, stamp: u32)
         requires room { HasRoom self.old }
         requires effect { IsEffectFor self.old.process self.old.leaving effect }
