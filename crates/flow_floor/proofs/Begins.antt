@@ -23,7 +23,7 @@ use Rattle.flow_machine.specs.Joins.{IsPlanned, input_in}
 use Rattle.flow_machine.proofs.Standings.{get-map}
 use Rattle.flow_machine.proofs.SoloLemmas.{remember-none}
 use Rattle.flow_ring.specs.Words.{free_word}
-use Rattle.flow_floor.specs.Places.{gate_rank, rank_count, puts_slot, takes_slot, place_slot, slot_count}
+use Rattle.flow_ring.specs.Places.{gate_rank, rank_count, puts_slot, takes_slot, place_slot, slot_count}
 use Rattle.flow_floor.specs.declared.board.Slot.{Slot}
 use Rattle.flow_floor.specs.declared.board.Slot.TheVariants as slot
 use Rattle.flow_floor.specs.declared.board.View.{View}

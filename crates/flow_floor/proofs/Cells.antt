@@ -3,8 +3,8 @@ use Rattle.std.proofs.Common.{◌≡◌, ◌≢◌, ℕ, zero, suc, ◌+◌, ◌
 use Rattle.std.proofs.lemmas.Nat.{mod_below}
 use mathlib.Core.Option as maybe
 use Rattle.atomic_table.specs.Table.{State}
-use Rattle.flow_floor.specs.Places.{puts_slot, takes_slot, cell_slot, place_slot, slot_count}
-use Rattle.flow_floor.proofs.Rounds.{cells-apart, cells-within, mod-apart}
+use Rattle.flow_ring.specs.Places.{puts_slot, takes_slot, cell_slot, place_slot, slot_count}
+use Rattle.flow_ring.proofs.Rounds.{cells-apart, cells-within, mod-apart}
 use Rattle.flow_floor.specs.declared.board.Slot.{Slot}
 use Rattle.flow_floor.specs.declared.board.View.{View}
 

@@ -44,7 +44,7 @@ use Rattle.flow_floor.specs.declared.board.Slot.{Slot}
 use Rattle.flow_floor.specs.declared.board.Slot.TheVariants as slot
 use Rattle.flow_floor.specs.declared.board.View.{View}
 use Rattle.flow_floor.specs.Ends.{capacities_of}
-use Rattle.flow_floor.specs.Places.{live_rank, slot_count}
+use Rattle.flow_ring.specs.Places.{live_rank, slot_count}
 use Rattle.flow_floor.specs.Opening.{emptied}
 use Rattle.flow_floor.proofs.Cells.{St}
 use Rattle.flow_floor.proofs.Begins.{closes, LiesFree}

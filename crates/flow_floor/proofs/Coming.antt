@@ -11,7 +11,7 @@ use Rattle.flow_machine.specs.Values.{BodyValue, NetValue}
 use Rattle.flow_ring.specs.declared.TheConstants.{FIELD}
 use Rattle.std.proofs.lemmas.List.{length-map}
 use Rattle.flow_ring.specs.Words.{free_word, level_in, senders_in}
-use Rattle.flow_floor.specs.Places.{level_rank, gate_rank}
+use Rattle.flow_ring.specs.Places.{level_rank, gate_rank}
 use Rattle.flow_ring.proofs.Words.{level-of, senders-of}
 use Rattle.flow_floor.specs.Waking.{live_in, AllBlock}
 use Rattle.flow_floor.specs.Wired.{IsInput, IsOutput}

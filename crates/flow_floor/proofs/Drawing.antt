@@ -15,7 +15,7 @@ use Rattle.flow_model.specs.Stands.{ChannelShown}
 use Rattle.flow_machine.specs.Values.{BodyValue, NetValue}
 use Rattle.flow_machine.proofs.FitLemmas.{turns-most}
 use Rattle.flow_ring.specs.Words.{level_in}
-use Rattle.flow_floor.specs.Places.{puts_slot, takes_slot, place_slot}
+use Rattle.flow_ring.specs.Places.{puts_slot, takes_slot, place_slot}
 use Rattle.flow_floor.specs.Wired.{IsInput}
 use Rattle.flow_floor.proofs.Lists.{some_Some, get-exists}
 use Rattle.flow_floor.specs.declared.board.Slot.{Slot}

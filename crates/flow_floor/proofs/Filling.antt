@@ -11,12 +11,12 @@ use Rattle.flow_packet.specs.Tree.{Tree}
 use Rattle.flow_model.specs.Stands.{ChannelShown}
 use Rattle.flow_machine.specs.Values.{BodyValue}
 use Rattle.flow_floor.proofs.Lists.{some_Some, at_inside, get-within, at-front, at-back}
-use Rattle.flow_floor.specs.Places.{puts_slot, takes_slot, cell_slot, place_slot, slot_count, cells_before}
+use Rattle.flow_ring.specs.Places.{puts_slot, takes_slot, cell_slot, place_slot, slot_count, cells_before}
 use Rattle.flow_floor.specs.declared.board.Slot.{Slot}
 use Rattle.flow_floor.specs.declared.board.Slot.TheVariants as slot
 use Rattle.flow_floor.specs.Opening.{AreSameButCells, HasCells, HasPackets, IsIn}
 use Rattle.flow_floor.specs.Laying.{AreLaid, AreLaidFrom, AreSameBelow, AreSameFrom}
-use Rattle.flow_floor.proofs.Rounds.{cells-apart, cells-within}
+use Rattle.flow_ring.proofs.Rounds.{cells-apart, cells-within}
 use Rattle.flow_floor.proofs.Cells.{own-within, place-own, place-else, push-assoc-all}
 
 module _ {A : Type 0} where

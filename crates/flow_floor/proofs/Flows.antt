@@ -14,7 +14,7 @@ use Rattle.flow_machine.specs.Nets.{looks_of}
 use Rattle.flow_machine.specs.Logs.{turns_made}
 use Rattle.flow_machine.proofs.FitLemmas.{fit-turn, same-turns, channels-len}
 use Rattle.flow_machine.proofs.SoloLemmas.{turn-count}
-use Rattle.flow_floor.specs.Places.{level_rank, gate_rank}
+use Rattle.flow_ring.specs.Places.{level_rank, gate_rank}
 use Rattle.flow_floor.specs.Turning.{turned_body, with_body, turned_net, logged}
 use Rattle.flow_floor.specs.Law.{IsTaken, IsFree, Rests, Holds, Stands, SeenTrue, AllSeen, Knows, Lies, Beside, Flow}
 use Rattle.flow_floor.specs.Made.{turns_by}

@@ -10,7 +10,7 @@ use Rattle.flow_model.specs.Stands.{ChannelShown, all_shown_after}
 use Rattle.flow_machine.specs.Values.{BodyValue, NetValue}
 use Rattle.flow_machine.specs.Nets.{looks_of}
 use Rattle.flow_ring.specs.Words.{level_in, senders_in}
-use Rattle.flow_floor.specs.Places.{level_rank, gate_rank}
+use Rattle.flow_ring.specs.Places.{level_rank, gate_rank}
 use Rattle.flow_floor.specs.Turning.{turned_body, with_body, turned_net, logged}
 use Rattle.flow_floor.specs.Law.{IsTaken, IsFree, Rests, AllSeen, Beside, Lies}
 use Rattle.flow_floor.specs.Waking.{live_in, AllRetired, IsDoneWord, Notes, AllBlock}

@@ -9,7 +9,6 @@ pub mod Numbers
 pub mod Plans
 pub mod Retires
 pub mod Thinking
-pub mod Rounds
 pub mod Cells
 pub mod Lying
 pub mod Seats

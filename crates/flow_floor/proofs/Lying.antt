@@ -11,8 +11,8 @@ use Rattle.flow_model.specs.Stands.{ChannelShown, shown_changed}
 use Rattle.flow_machine.specs.Values.{NetValue}
 use Rattle.flow_ring.specs.declared.TheConstants.{FIELD}
 use Rattle.flow_ring.specs.Words.{free_word}
-use Rattle.flow_floor.specs.Places.{level_rank, puts_slot, takes_slot, cell_slot, place_slot, slot_count}
-use Rattle.flow_floor.proofs.Rounds.{mod-round}
+use Rattle.flow_ring.specs.Places.{level_rank, puts_slot, takes_slot, cell_slot, place_slot, slot_count}
+use Rattle.flow_ring.proofs.Rounds.{mod-round}
 use Rattle.flow_floor.specs.declared.board.Slot.TheVariants as slot
 use Rattle.flow_floor.specs.declared.board.Sending.{Sending}
 use Rattle.flow_floor.specs.declared.board.Receiving.{Receiving}

@@ -8,7 +8,7 @@ use Rattle.flow_ring.specs.Places.{spaced}
 use Rattle.flow_ring.specs.Words.{free_word}
 use Rattle.flow_floor.proofs.Lists.{some_Some, get-within}
 use Rattle.flow_floor.specs.Ends.{capacities_of}
-use Rattle.flow_floor.specs.Places.{level_rank, gate_rank, clock_rank, live_rank, word_count}
+use Rattle.flow_ring.specs.Places.{level_rank, gate_rank, clock_rank, live_rank, word_count}
 use Rattle.flow_floor.specs.Opening.{AreReady, AreSameBut, FirstWords, HaveLevels}
 
 -- One word is written at its place, and the others stay.

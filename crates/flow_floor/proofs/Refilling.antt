@@ -5,10 +5,10 @@ use mathlib.Core.Logic.{dite}
 use native.Mathlib.Decide.{ℕ_discrete, dec_lt}
 use Rattle.flow_packet.specs.Tree.{Tree}
 use Rattle.flow_model.specs.Stands.{ChannelShown}
-use Rattle.flow_floor.specs.Places.{Slot as Place, body, puts, takes, cell, IsSlot, puts_slot, takes_slot, cell_slot, place_slot, slot_at, slot_count, cells_before}
+use Rattle.flow_ring.specs.Places.{Slot as Place, body, puts, takes, cell, IsSlot, puts_slot, takes_slot, cell_slot, place_slot, slot_at, slot_count, cells_before}
 use Rattle.flow_floor.specs.declared.board.Slot.{Slot}
 use Rattle.flow_floor.specs.Shut.{packet_list, with_found, RestsAs, AreEmpty, HasItsCells, IsFullAt, IsGoneAt, TakesCells, IsFrom, AreLeft}
-use Rattle.flow_floor.proofs.Rounds.{cells-apart, slots-within}
+use Rattle.flow_ring.proofs.Rounds.{cells-apart, slots-within}
 use Rattle.flow_floor.proofs.Cells.{place-else}
 
 -- Of no packets one takes none.

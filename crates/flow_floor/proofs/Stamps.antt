@@ -18,7 +18,7 @@ use Rattle.flow_machine.specs.FitNets.{FitNet}
 use Rattle.flow_machine.specs.Nets.{looks_of}
 use Rattle.flow_machine.specs.Logs.{turns_made, Logged}
 use Rattle.flow_machine.proofs.FitLemmas.{turns-most}
-use Rattle.flow_floor.specs.Places.{level_rank, gate_rank}
+use Rattle.flow_ring.specs.Places.{level_rank, gate_rank}
 use Rattle.flow_floor.specs.Turning.{turned_body, MachineTurn, sent_by, received_by, sent_after, received_after, sending_after, receiving_after, HasComeFor, MayChange, Happens, SendingIn, ReceivingIn}
 use Rattle.flow_floor.specs.Made.{turns_by, Below}
 use Rattle.flow_floor.proofs.Functions.{put, put_here, put_else}

@@ -14,7 +14,7 @@ use Rattle.flow_machine.proofs.Standings.{get-map}
 use Rattle.flow_floor.proofs.Lists.{some_Some, get-exists, get-within}
 use Rattle.flow_ring.specs.Spaced.{ranked}
 use Rattle.flow_ring.proofs.Spaced.{ranked-at, ranked-length}
-use Rattle.flow_floor.specs.Places.{level_rank, gate_rank, clock_rank, live_rank, rank_count, cells_before}
+use Rattle.flow_ring.specs.Places.{level_rank, gate_rank, clock_rank, live_rank, rank_count, cells_before}
 use Rattle.flow_floor.specs.declared.board.Slot.{Slot}
 use Rattle.flow_floor.specs.Ends.{capacities_of}
 use Rattle.flow_floor.specs.Opening.{AreSound, FirstSlots, FirstWords}

@@ -9,7 +9,7 @@ use Rattle.flow_component.specs.Laws.{Rules, Lawful}
 use Rattle.flow_machine.specs.Values.{BodyValue, NetValue}
 use Rattle.flow_ring.specs.declared.TheConstants.{FIELD}
 use Rattle.flow_ring.specs.Words.{free_word, level_in, senders_in}
-use Rattle.flow_floor.specs.Places.{gate_rank}
+use Rattle.flow_ring.specs.Places.{gate_rank}
 use Rattle.flow_ring.proofs.Words.{level-of, senders-of}
 use Rattle.flow_floor.proofs.Functions.{put}
 use Rattle.flow_floor.proofs.Lists.{some_Some, get-exists}

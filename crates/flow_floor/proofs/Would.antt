@@ -12,7 +12,7 @@ use Rattle.flow_model.specs.Stands.{ChannelShown}
 use Rattle.flow_machine.specs.Values.{BodyValue, NetValue}
 use Rattle.flow_machine.proofs.FitLemmas.{same-turns}
 use Rattle.flow_ring.specs.Words.{level_in}
-use Rattle.flow_floor.specs.Places.{takes_slot, place_slot}
+use Rattle.flow_ring.specs.Places.{takes_slot, place_slot}
 use Rattle.flow_floor.specs.Turning.{turned_body, received_by, received_after, HasComeFor, MayChange}
 use Rattle.flow_floor.specs.Law.{Holds, Rests, Beside, CountLies, LiesSo}
 use Rattle.flow_floor.specs.Plays.{HeldIn, drawn_count, WouldBeThere, WouldHold}

@@ -12,7 +12,7 @@ use Rattle.flow_machine.specs.Solo.{GoesBy, reached}
 use Rattle.flow_machine.specs.Thoughts.{SameBody, WorkedBody, KeepsTurns}
 use Rattle.flow_ring.specs.declared.TheConstants.{FIELD}
 use Rattle.flow_ring.specs.Words.{free_word, level_in, senders_in}
-use Rattle.flow_floor.specs.Places.{level_rank, gate_rank, clock_rank, rank_count, puts_slot, takes_slot, place_slot, slot_count}
+use Rattle.flow_ring.specs.Places.{level_rank, gate_rank, clock_rank, rank_count, puts_slot, takes_slot, place_slot, slot_count}
 use Rattle.flow_floor.specs.Made.{turns_by}
 use Rattle.flow_floor.specs.Wired.{IsInput}
 use Rattle.flow_floor.specs.declared.board.Slot.{Slot}

@@ -1,7 +1,6 @@
 pub mod Made
 pub mod Plans
 pub mod Wired
-pub mod Places
 pub mod Seats
 pub mod Ends
 pub mod Law

@@ -10,7 +10,7 @@ use Rattle.flow_machine.specs.Logs.{turns_made}
 use Rattle.flow_ring.specs.declared.TheConstants.{FIELD}
 use Rattle.flow_ring.specs.Places.{spaced}
 use Rattle.flow_ring.specs.Words.{free_word}
-use Rattle.flow_floor.specs.Places.{level_rank, gate_rank, clock_rank, live_rank, word_count, puts_slot, takes_slot, cell_slot, place_slot, slot_count}
+use Rattle.flow_ring.specs.Places.{level_rank, gate_rank, clock_rank, live_rank, word_count, puts_slot, takes_slot, cell_slot, place_slot, slot_count}
 use Rattle.flow_floor.specs.Ends.{capacities_of}
 use Rattle.flow_floor.specs.declared.board.Slot.{Slot}
 use Rattle.flow_floor.specs.declared.board.Slot.TheVariants as slot

@@ -10,7 +10,7 @@ use Rattle.flow_machine.specs.FitNets.{FitNet}
 use Rattle.flow_ring.specs.declared.TheConstants.{FIELD}
 use Rattle.flow_ring.specs.declared.layout.TheConstants.{SPACING}
 use Rattle.flow_ring.specs.Words.{level_in}
-use Rattle.flow_floor.specs.Places.{puts_slot, takes_slot, place_slot}
+use Rattle.flow_ring.specs.Places.{puts_slot, takes_slot, place_slot}
 use Rattle.flow_floor.specs.Made.{Below}
 use Rattle.flow_floor.specs.Wired.{IsWiredIn}
 use Rattle.flow_floor.specs.declared.board.Slot.{Slot}

@@ -13,7 +13,7 @@ use Rattle.flow_machine.specs.Values.{BodyValue, NetValue}
 use Rattle.flow_machine.specs.Logs.{Logged, turns_made}
 use Rattle.flow_machine.specs.Solo.{GoesBy, reached}
 use Rattle.flow_ring.specs.Words.{senders_in}
-use Rattle.flow_floor.specs.Places.{Slot as Place, body, puts, takes, cell, IsSlot, level_rank, cell_slot, slot_at}
+use Rattle.flow_ring.specs.Places.{Slot as Place, body, puts, takes, cell, IsSlot, level_rank, cell_slot, slot_at}
 use Rattle.flow_floor.specs.declared.board.Slot.{Slot}
 use Rattle.flow_floor.specs.declared.board.Slot.TheVariants as slot
 use Rattle.flow_floor.specs.Opening.{HasCells, HasPackets}

@@ -23,7 +23,7 @@ use Rattle.flow_floor.specs.declared.floor.Turned.{Turned}
 use Rattle.flow_floor.specs.declared.floor.Turned.TheVariants as turned
 use Rattle.flow_floor.specs.Ends.{capacities_of, is_shared}
 use Rattle.flow_floor.specs.Looks.{InSeen, IsLook, IsDormant}
-use Rattle.flow_floor.specs.Places.{gate_rank}
+use Rattle.flow_ring.specs.Places.{gate_rank}
 use Rattle.flow_floor.specs.Workers.{view, SeenBlocks}
 
 -- The connection into which a turn sends, whose level it asks for, or which it closes.

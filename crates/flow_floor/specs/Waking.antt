@@ -15,7 +15,7 @@ use Rattle.flow_model.specs.declared.Stage.TheVariants as stages
 use Rattle.flow_machine.specs.Values.{BodyValue, NetValue}
 use Rattle.flow_machine.specs.Thoughts.{IsNotOver, IsSet, IsUnset}
 use Rattle.flow_ring.specs.Words.{level_in, senders_in}
-use Rattle.flow_floor.specs.Places.{level_rank, live_rank}
+use Rattle.flow_ring.specs.Places.{level_rank, live_rank}
 use Rattle.flow_floor.specs.Wired.{IsInput, IsOutput}
 use Rattle.flow_floor.specs.declared.board.Slot.{Slot}
 use Rattle.flow_floor.specs.declared.board.View.{View}

@@ -5,17 +5,17 @@ ghost use Rattle.flow_machine.specs.Joins.{Joins};
 ghost use Rattle.flow_machine.specs.Values.{BodyValue};
 ghost use Rattle.flow_floor.specs.declared.board.Slot.TheVariants as Slot;
 ghost use Rattle.flow_floor.specs.Ends.{capacities_of};
-ghost use Rattle.flow_floor.specs.Places.{slot_count};
+ghost use Rattle.flow_ring.specs.Places.{slot_count};
 ghost use Rattle.flow_floor.specs.Laying.{AreLaidFrom, AreSameFrom};
 ghost use Rattle.flow_floor.specs.Opening.{emptied, AreSameButCells, AreSound, FirstSlots, HasCells, HasPackets, IsIn};
 ghost use Rattle.flow_floor.specs.Rooms.{HasRooms};
 
 use crate::board::Slot;
-use crate::layout::Layout;
 use crate::rooms::Rooms;
 use flow_component::Component;
 use flow_machine::{Body, Channel, Net, Parts};
 use flow_plan::Connection;
+use flow_ring::Layout;
 use std::mem;
 use std::snapshot::Snapshot;
 

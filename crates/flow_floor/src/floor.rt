@@ -2,17 +2,17 @@
 ghost use Rattle.std.specs.Prelude.{◌≡◌, ◌≤◌, length};
 ghost use Rattle.flow_limits.specs.declared.TheConstants.{CONNECTION_LIMIT, PROCESS_LIMIT};
 ghost use Rattle.flow_machine.specs.Joins.{IsPlanned};
-ghost use Rattle.flow_floor.specs.Places.{slot_count, word_count};
+ghost use Rattle.flow_ring.specs.Places.{slot_count, word_count};
 ghost use Rattle.flow_floor.specs.Ends.{capacities_of};
 
 use crate::board::{Lawful, Slot, View};
-use crate::layout::Layout;
 use crate::roll::Roll;
 use atomic_table::{Seat, Table};
 use flow_component::Component;
 use flow_machine::{Block, Body, Net, Over};
 use flow_packet::Packet;
 use flow_plan::Connection;
+use flow_ring::Layout;
 use std::alloc::Global;
 use std::snapshot::Snapshot;
 

@@ -1,15 +1,15 @@
 //! The slots with which a floor begins.
 ghost use Rattle.std.specs.Prelude.{◌≡◌, ℕ, ◌+◌, ◌++◌, ◌≤◌, ◌<◌, [], length, map, replicate, slice_index, vec_capacity, None, Some, slice_get};
 ghost use Rattle.flow_floor.specs.declared.board.Slot.TheVariants as Slot;
-ghost use Rattle.flow_floor.specs.Places.{slot_count};
+ghost use Rattle.flow_ring.specs.Places.{slot_count};
 ghost use Rattle.flow_floor.specs.Opening.{emptied, AreSameButCells, AreSound, FirstSlots, HasCells, IsIn};
 ghost use Rattle.flow_floor.specs.Laying.{AreLaid, AreSameBelow};
 ghost use Rattle.flow_machine.specs.Values.{net_of, BodyValue};
 
 use crate::board::Slot;
-use crate::layout::Layout;
 use flow_component::Component;
 use flow_machine::{Body, Channel};
+use flow_ring::Layout;
 use std::mem;
 
 /// Puts the bodies into slots.

@@ -14,7 +14,6 @@ mod gates;
 mod held;
 mod idle;
 mod inputs;
-mod layout;
 mod lays;
 mod lent;
 mod open;

@@ -2,14 +2,13 @@
 ghost use Rattle.std.specs.Prelude.{◌≡◌, ◌+◌, ◌≤◌, [], length, All, IfOk, IfErr, vec_capacity};
 ghost use Rattle.flow_limits.specs.declared.TheConstants.{CONNECTION_LIMIT, WORKER_LIMIT};
 ghost use Rattle.flow_floor.specs.Ends.{capacities_of};
-ghost use Rattle.flow_floor.specs.Places.{slot_count};
+ghost use Rattle.flow_ring.specs.Places.{slot_count};
 ghost use Rattle.flow_floor.specs.Opening.{AreSound, FirstWords};
 ghost use Rattle.flow_floor.specs.Floors.{opened_net, process_count, HasRoomsFor, IsCrewOf, IsNewWorker};
 
 use crate::back::join_again;
 use crate::board::Slot;
 use crate::floor::{Floor, Worker};
-use crate::layout::Layout;
 use crate::lays::first_slots;
 use crate::roll::Roll;
 use crate::rooms::Rooms;
@@ -17,6 +16,7 @@ use crate::words::first_words;
 use atomic_table::Table;
 use flow_component::Component;
 use flow_machine::{Body, Net, Parts};
+use flow_ring::Layout;
 use std::alloc::{AllocError, Global};
 use std::snapshot::Snapshot;
 

@@ -6,17 +6,16 @@ ghost use Rattle.flow_packet.specs.Tree.{Tree};
 ghost use Rattle.flow_model.specs.Stands.{ChannelShown};
 ghost use Rattle.flow_ring.specs.Spaced.{ranked};
 ghost use Rattle.flow_floor.specs.declared.board.Slot.TheVariants as Slot;
-ghost use Rattle.flow_floor.specs.Places.{slot_count, word_count};
+ghost use Rattle.flow_ring.specs.Places.{slot_count, word_count};
 ghost use Rattle.flow_floor.specs.Opening.{IsIn};
 ghost use Rattle.flow_floor.specs.Shut.{AreEmpty, AreLeft, ChannelsIn, EachRests, HasItsCells, HoldsPackets, IsFullAt, RestsAs, TakesCells, with_found};
 
 use crate::board::Slot;
-use crate::layout::Layout;
 use atomic_table::Closed;
 use flow_component::Component;
 use flow_machine::Channel;
 use flow_packet::Packet;
-use flow_ring::senders;
+use flow_ring::{Layout, senders};
 use std::alloc::Global;
 
 /// Takes the number out of a slot.

@@ -7,17 +7,17 @@ ghost use Rattle.flow_ring.specs.Spaced.{ranked};
 ghost use Rattle.flow_floor.specs.Shut.{IsShut, ListsStarved, starves, listed, HasBodies, BodiesIn};
 ghost use Rattle.flow_floor.specs.Crew.{made_by};
 ghost use Rattle.flow_floor.specs.Floors.{opened_net, HasReadZero, SomeReadZero, HasRoomsFor, IsCrewOf, IsIdleAt, turns_of};
-ghost use Rattle.flow_floor.specs.Places.{word_count};
+ghost use Rattle.flow_ring.specs.Places.{word_count};
 ghost use Rattle.flow_floor.specs.Workers.{view};
 
 use crate::board::Slot;
 use crate::floor::{Floor, Worker};
-use crate::layout::Layout;
 use crate::refill::refill_all;
 use crate::rooms::Rooms;
 use atomic_table::Closed;
 use flow_component::Component;
 use flow_machine::{Body, Closed as Shut, Parts};
+use flow_ring::Layout;
 use std::alloc::Global;
 
 const DONE: u64 = 4;

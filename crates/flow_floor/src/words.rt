@@ -1,13 +1,13 @@
 //! The words with which a floor begins.
 ghost use Rattle.std.specs.Prelude.{◌≡◌, ◌+◌, ◌≤◌, length, IfOk};
 ghost use Rattle.flow_limits.specs.declared.TheConstants.{CONNECTION_LIMIT};
-ghost use Rattle.flow_floor.specs.Places.{word_count};
+ghost use Rattle.flow_ring.specs.Places.{word_count};
 ghost use Rattle.flow_floor.specs.Ends.{capacities_of};
 ghost use Rattle.flow_floor.specs.Opening.{AreReady, AreSameBut, AreSound, FirstWords, HaveLevels};
 
-use crate::layout::{Layout, pack};
 use flow_component::Component;
 use flow_machine::Net;
+use flow_ring::{Layout, pack};
 use std::alloc::{AllocError, Global};
 
 const READY: u64 = 2;

@@ -1,3 +1,3 @@
-pub mod Apart
+pub mod Rounds
 pub mod Spaced
 pub mod Words

@@ -1,7 +1,7 @@
--- What the word of a connection says.
+-- What a level word says.
 use Rattle.std.proofs.Common.{◌≡◌, ℕ, ◌+◌, ◌<◌, arith}
 use Rattle.flow_ring.specs.declared.TheConstants.{FIELD}
-use Rattle.flow_ring.specs.Words.{free_word, held_bit, level_in, senders_in}
+use Rattle.flow_ring.specs.Words.{free_word, level_in, senders_in}
 
 -- A word that was made of a level and a number of senders gives that level back.
 pub level-of : (level senders : ℕ) → level < FIELD → senders < FIELD → level_in (free_word level senders) ≡ level
@@ -10,11 +10,3 @@ level-of level senders low few = omega (arith, low, few)
 -- It gives that number back.
 pub senders-of : (level senders : ℕ) → level < FIELD → senders < FIELD → senders_in (free_word level senders) ≡ senders
 senders-of level senders low few = omega (arith, low, few)
-
--- The held bit doesn't change the level of a word.
-pub level-held : (word : ℕ) → level_in (word + held_bit) ≡ level_in word
-level-held word = omega arith
-
--- The held bit doesn't change the senders of a word.
-pub senders-held : (word : ℕ) → senders_in (word + held_bit) ≡ senders_in word
-senders-held word = omega arith

@@ -3,28 +3,24 @@
 //! unpacking of a word.
 #![tactic(auto)]
 
-ghost use Rattle.std.specs.Prelude.{◌≡◌, ◌<◌, nat_le};
-ghost use Rattle.flow_ring.specs.Words.{packed, level_in, senders_in, held_bit};
+ghost use Rattle.std.specs.Prelude.{◌≡◌, ◌<◌};
+ghost use Rattle.flow_ring.specs.Words.{free_word, level_in, senders_in};
 ghost use Rattle.flow_ring.specs.declared.TheConstants.{FIELD};
 
 mod layout;
 
 pub use layout::{Layout, SPACING};
 
-/// The bit of a connection word that is set while a worker holds the connection.
-pub const HELD_BIT: u64 = 1 << 63;
-
-/// The level and the number of open senders have 16 bits of a connection word each, so each is below this.
+/// The level and the number of open senders have 16 bits of a level word each, so each is below this.
 pub const FIELD: u32 = 65_536;
 
-/// The word of a connection.
-pub fn pack(level: u32, senders: u32, held: bool) -> u64
+/// A level word: the packets in a connection, and its open senders.
+pub fn pack(level: u32, senders: u32) -> u64
     requires level { level < FIELD }
     requires senders { senders < FIELD }
-    ensures { result ≡ packed level senders held }
+    ensures { result ≡ free_word level senders }
 {
-    let word = level as u64 + senders as u64 * FIELD as u64;
-    if held { word + HELD_BIT } else { word }
+    level as u64 + senders as u64 * FIELD as u64
 }
 
 /// How many packets are in the connection.
@@ -41,11 +37,4 @@ pub fn senders(word: u64) -> u32
     ensures small { result < FIELD }
 {
     (word / FIELD as u64 % FIELD as u64) as u32
-}
-
-/// A worker holds the connection.
-pub fn is_held(word: u64) -> bool
-    ensures { result ≡ nat_le held_bit word }
-{
-    word >= HELD_BIT
 }

@@ -1,7 +1,7 @@
 use Rattle.std.proofs.Common.{◌∙◌, sym, arith, length, subst}
 use Rattle.flow_machine.specs.Joins.{Joins}
 use Rattle.flow_floor.proofs.Shutting.{whole-net}
-use Rattle.flow_floor.specs.Places.{slot_count}
+use Rattle.flow_ring.specs.Places.{slot_count}
 use Rattle.flow_floor.specs.Ends.{capacities_of}
 use Rattle.flow_floor.proofs.Filling.{laid-again}
 use Rattle.flow_floor.proofs.back.join_again.Goals as goal

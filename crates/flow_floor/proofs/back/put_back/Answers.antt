@@ -3,7 +3,7 @@ use Rattle.std.proofs.lemmas.List.{length-map}
 use Rattle.flow_model.specs.Stands.{ChannelShown}
 use Rattle.flow_floor.proofs.Lists.{get-exists}
 use Rattle.flow_floor.specs.declared.board.Slot.TheVariants as slot
-use Rattle.flow_floor.specs.Places.{place_slot}
+use Rattle.flow_ring.specs.Places.{place_slot}
 use Rattle.flow_floor.proofs.Cells.{own-within, place-own}
 use Rattle.flow_floor.proofs.Slots.{cell-is}
 use Rattle.flow_floor.proofs.Filling.{cells-left, found-in, put-next, same-next, take-all, take-few}

@@ -1,7 +1,7 @@
 use Rattle.std.proofs.Common.{◌≡◌, ℕ, ◌+◌, ◌-◌, ◌<◌, ◌≤◌, Some, get_or, length, slice_get, take}
 use Rattle.flow_model.specs.Stands.{ChannelShown}
 use Rattle.flow_floor.specs.Opening.{AreSameButCells, IsIn}
-use Rattle.flow_floor.specs.Places.{place_slot}
+use Rattle.flow_ring.specs.Places.{place_slot}
 use Rattle.flow_floor.specs.declared.board.Slot.TheVariants as slot
 use Rattle.flow_floor.proofs.back.put_back.Given as goal
 

@@ -2,7 +2,7 @@ use Rattle.std.proofs.Common.{ℕ, ◌∙◌, List, ap, arith, length, subst}
 use Rattle.std.proofs.lemmas.List.{length-map}
 use Rattle.flow_model.specs.Stands.{ChannelShown}
 use Rattle.flow_floor.proofs.Lists.{get-within}
-use Rattle.flow_floor.specs.Places.{slot_count}
+use Rattle.flow_ring.specs.Places.{slot_count}
 use Rattle.flow_floor.specs.Opening.{HasPackets}
 use Rattle.flow_floor.specs.Laying.{AreLaid}
 use Rattle.flow_floor.proofs.lays.first_slots.Goals as goal

@@ -1,6 +1,6 @@
 use Rattle.std.proofs.Common.{◌≡◌, ◌-◌, ◌<◌, ◌≤◌, ◌∙◌, [], Some, None, ap, refl, sym, arith, get_or, length, length-drop, length-set, set, slice_get, subst, take, drop}
 use Rattle.flow_floor.specs.declared.board.Slot.TheVariants as slot
-use Rattle.flow_floor.specs.Places.{place_slot}
+use Rattle.flow_ring.specs.Places.{place_slot}
 use Rattle.flow_floor.specs.Opening.{HasCells, IsIn}
 use Rattle.flow_floor.proofs.Cells.{own-within, place-own}
 use Rattle.flow_floor.proofs.Slots.{cell-is}

@@ -3,7 +3,7 @@ use Rattle.std.proofs.lemmas.List.{length-map}
 use lib.ListN.{get_elem?}
 use Rattle.flow_model.specs.Stands.{ChannelShown}
 use Rattle.flow_floor.specs.declared.board.Slot.{Slot}
-use Rattle.flow_floor.specs.Places.{cells_before}
+use Rattle.flow_ring.specs.Places.{cells_before}
 use Rattle.flow_floor.specs.Laying.{AreLaid}
 use Rattle.flow_floor.proofs.Filling.{bare, bare-bodies, bare-deep, bare-laid, no_packet, of_body, of_puts, of_takes, regroup}
 use Rattle.flow_floor.proofs.lays.put_all.Goals as goal

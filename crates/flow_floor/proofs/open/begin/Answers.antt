@@ -9,7 +9,7 @@ use Rattle.flow_machine.specs.Values.{BodyValue, NetValue, net_with}
 use Rattle.flow_machine.specs.Joins.{IsPlanned, Joins}
 use Rattle.flow_floor.proofs.Shutting.{whole-net}
 use Rattle.flow_ring.specs.Spaced.{ranked}
-use Rattle.flow_floor.specs.Places.{slot_count, word_count}
+use Rattle.flow_ring.specs.Places.{slot_count, word_count}
 use Rattle.flow_floor.specs.Rule.{TableLaw}
 use Rattle.flow_floor.specs.Seats.{newcomer}
 use Rattle.flow_floor.specs.Ends.{capacities_of}

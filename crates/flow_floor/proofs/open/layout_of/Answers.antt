@@ -1,7 +1,7 @@
 use Rattle.std.proofs.Common.{ℕ, ◌<◌, All, List, ap, arith, length, subst, sym}
 use Rattle.std.proofs.lemmas.List.{length-map}
 use Rattle.flow_model.specs.Stands.{ChannelShown}
-use Rattle.flow_floor.specs.Places.{cells_before}
+use Rattle.flow_ring.specs.Places.{cells_before}
 use Rattle.flow_floor.proofs.Starting.{few-cells, some-rooms}
 use Rattle.flow_floor.proofs.open.layout_of.Goals as goal
 

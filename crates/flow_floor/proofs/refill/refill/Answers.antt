@@ -7,7 +7,7 @@ use Rattle.flow_ring.specs.Words.{senders_in}
 use Rattle.flow_ring.proofs.Spaced.{ranked-at}
 use Rattle.flow_floor.proofs.Lists.{word-at}
 use Rattle.flow_floor.specs.declared.board.Slot.TheVariants as slot
-use Rattle.flow_floor.specs.Places.{puts, takes, level_rank, puts_slot, takes_slot, place_slot}
+use Rattle.flow_ring.specs.Places.{puts, takes, level_rank, puts_slot, takes_slot, place_slot}
 use Rattle.flow_floor.specs.Shut.{HasItsCells, HoldsPackets, TakesCells}
 use Rattle.flow_floor.proofs.Cells.{own-within}
 use Rattle.flow_floor.proofs.Slots.{count-is}

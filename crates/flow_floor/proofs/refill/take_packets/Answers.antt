@@ -4,7 +4,7 @@ use mathlib.Core.Option.{some-injective}
 use lib.ListN.{get_elem?}
 use Rattle.std.specs.Mem.Slots.{slots_filled, slots_counts}
 use Rattle.flow_floor.specs.declared.board.Slot.TheVariants as slot
-use Rattle.flow_floor.specs.Places.{place_slot}
+use Rattle.flow_ring.specs.Places.{place_slot}
 use Rattle.flow_floor.specs.Shut.{packet_list}
 use Rattle.flow_floor.proofs.Cells.{own-within, place-own}
 use Rattle.flow_floor.proofs.Slots.{cell-is}

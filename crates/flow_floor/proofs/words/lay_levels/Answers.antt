@@ -1,7 +1,7 @@
 use Rattle.std.proofs.Common.{◌≡◌, ◌+◌, ◌<◌, ◌∙◌, length, length-set, set, arith}
 use Rattle.flow_ring.specs.Places.{spaced}
 use Rattle.flow_ring.specs.Words.{free_word}
-use Rattle.flow_floor.specs.Places.{level_rank}
+use Rattle.flow_ring.specs.Places.{level_rank}
 use Rattle.flow_floor.proofs.Openings.{levels-more, same-more}
 use Rattle.flow_floor.proofs.words.lay_levels.Goals as goal
 

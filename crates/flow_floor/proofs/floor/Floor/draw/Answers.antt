@@ -2,7 +2,7 @@ use Rattle.std.proofs.Common.{◌≡◌, ◌+◌, ℕ, List, [], ◌∷◌, ◌+
 use mathlib.Core.Option.{none}
 use Rattle.atomic_table.specs.Table.{step, rest, turned}
 use Rattle.flow_packet.specs.Tree.{Tree}
-use Rattle.flow_floor.specs.Places.{takes_slot, place_slot}
+use Rattle.flow_ring.specs.Places.{takes_slot, place_slot}
 use Rattle.flow_floor.proofs.Lists.{head-is}
 use Rattle.flow_floor.proofs.Spacing.{took, told, apart}
 use Rattle.flow_component.specs.Laws.{Rules}

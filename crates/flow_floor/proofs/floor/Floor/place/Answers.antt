@@ -9,7 +9,7 @@ use Rattle.flow_packet.specs.Hands.{packet_at}
 use Rattle.flow_machine.specs.Effects.{id_sent}
 use Rattle.flow_machine.specs.Nets.{packet_wished}
 use Rattle.flow_machine.proofs.NetTurns.{if_some}
-use Rattle.flow_floor.specs.Places.{puts_slot, place_slot}
+use Rattle.flow_ring.specs.Places.{puts_slot, place_slot}
 use Rattle.flow_floor.proofs.Lists.{head-is}
 use Rattle.flow_floor.proofs.Spacing.{took, told, apart}
 use Rattle.flow_component.specs.Laws.{Rules}

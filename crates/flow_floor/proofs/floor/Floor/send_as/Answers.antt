@@ -9,7 +9,7 @@ use Rattle.flow_floor.specs.Plays.{placed_count}
 use Rattle.flow_floor.specs.Views.{filling, placing, seeing}
 use Rattle.flow_floor.specs.Workers.{view, IsSeated}
 use Rattle.flow_floor.proofs.Midways.{makes-after, makes-one, may-one, midway-next, midway-seated, midway-turned, placed-there}
-use Rattle.flow_floor.proofs.Rounds.{get-default}
+use Rattle.flow_ring.proofs.Rounds.{get-default}
 use Rattle.flow_floor.proofs.Seated.{seated-out}
 use Rattle.flow_floor.proofs.Turnings.{send-happens, sent-may, sent-roomy, sent-turn}
 use Rattle.flow_floor.proofs.floor.Floor.send_as.Goals as goal

@@ -6,7 +6,7 @@ use Rattle.flow_floor.specs.Views.{seeing}
 use Rattle.flow_floor.specs.Workers.{view, IsSeated}
 use Rattle.flow_floor.proofs.Bursting.{burst-looked, burst-sent, fits-at}
 use Rattle.flow_floor.proofs.Further.{seeing-further}
-use Rattle.flow_floor.proofs.Rounds.{get-default}
+use Rattle.flow_ring.proofs.Rounds.{get-default}
 use Rattle.flow_floor.proofs.Turnings.{sent-may}
 use Rattle.flow_floor.proofs.floor.Floor.send_on.Goals as goal
 use Rattle.flow_floor.proofs.floor.Floor.send_on.Goals.{After-index-most}

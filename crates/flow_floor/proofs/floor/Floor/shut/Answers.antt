@@ -4,7 +4,7 @@ use Rattle.flow_model.specs.Stands.{ChannelShown}
 use Rattle.flow_machine.specs.Values.{net_with}
 use Rattle.flow_ring.specs.Spaced.{ranked}
 use Rattle.flow_floor.specs.Shut.{ListsStarved, HasBodies, BodiesIn, AreEmpty}
-use Rattle.flow_floor.specs.Places.{slot_count}
+use Rattle.flow_ring.specs.Places.{slot_count}
 use Rattle.flow_floor.proofs.Closing.{Closes, closing, final-ranked, has-bodies, each-rests, each-same, channels-same, emptied-empty, pieces, is-shut, join-pieces, starved-unset, over-told, quiet-none}
 use Rattle.flow_floor.proofs.Refilling.{left-first}
 use Rattle.flow_floor.proofs.floor.Floor.shut.Goals as goal

@@ -1,9 +1,9 @@
 use Rattle.std.proofs.Common.{◌%◌, ◌<◌, arith, ap, ◌∙◌}
 use Rattle.std.proofs.lemmas.List.Elements.{All-get_or}
 use Rattle.std.proofs.lemmas.Nat.{mod_below}
-use Rattle.flow_floor.specs.Places.{cells_before}
-use Rattle.flow_floor.proofs.Rounds.{cells-within, get-default}
-use Rattle.flow_floor.proofs.layout.Layout.cell.Goals as goal
+use Rattle.flow_ring.specs.Places.{cells_before}
+use Rattle.flow_ring.proofs.Rounds.{cells-within, get-default}
+use Rattle.flow_ring.proofs.layout.Layout.cell.Goals as goal
 
 pub overflow_add-result-2 : goal.overflow_add-result-2
 overflow_add-result-2 c =

@@ -1,6 +1,6 @@
 use Rattle.std.proofs.Common.{◌≡◌, ℕ, ◌<◌, length, slice_index, vec_capacity}
-use Rattle.flow_floor.specs.Places.{cells_before}
-use Rattle.flow_floor.proofs.layout.first_cells.Given as goal
+use Rattle.flow_ring.specs.Places.{cells_before}
+use Rattle.flow_ring.proofs.layout.first_cells.Given as goal
 
 abbrev pub invariant-loop-c : goal.invariant-loop-c
 invariant-loop-c l = record {

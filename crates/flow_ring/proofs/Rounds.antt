@@ -4,7 +4,7 @@ use Rattle.std.proofs.lemmas.Nat.{div-add-mod', mod-mul-add, mod_below}
 use mathlib.Core.Logic.{dite}
 use native.Mathlib.Decide.{dec_lt}
 use Rattle.flow_ring.specs.declared.layout.TheConstants.{SPACING}
-use Rattle.flow_floor.specs.Places.{Word, process, level, gate, clock, live, body, puts, takes, cell, IsWord, rank_of, cells_before, OneLineEach, WordsWithin, OnePlaceEach, SlotsWithin, CellsApart}
+use Rattle.flow_ring.specs.Places.{Word, process, level, gate, clock, live, body, puts, takes, cell, IsWord, rank_of, cells_before, OneLineEach, WordsWithin, OnePlaceEach, SlotsWithin, CellsApart}
 
 -- the words on one line have one rank
 one-rank : (first i j : ℕ) → (first + i * SPACING) / 8 ≡ (first + j * SPACING) / 8 → i ≡ j

@@ -1,6 +1,6 @@
 use Rattle.std.proofs.Common.{◌+◌, [], ◌∷◌, length, arith, ap, sym, length-append}
-use Rattle.flow_floor.proofs.Rounds.{cells-more, cells-most, cells-none, pushed}
-use Rattle.flow_floor.proofs.layout.first_cells.Goals as goal
+use Rattle.flow_ring.proofs.Rounds.{cells-more, cells-most, cells-none, pushed}
+use Rattle.flow_ring.proofs.layout.first_cells.Goals as goal
 
 pub loop-c-init : goal.loop-c-init
 loop-c-init c = record {
