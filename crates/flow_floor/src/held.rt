@@ -25,6 +25,7 @@ const PARKED: u64 = 0;
 const DONE: u64 = 4;
 
 impl<K: Component> Floor<K> {
+    #[inline(always)]
     fn claim_at<S: Spot>(&self, worker: &mut Worker<K>, process: usize) -> Claim<K>
         requires spot { S.connection ≡ connection_count self.now }
         requires worker { IsIdleAt self.now worker.old }
@@ -50,6 +51,7 @@ impl<K: Component> Floor<K> {
     }
 
     /// Claims the process if it is ready. `NotReady` has what this call's exchange read.
+    #[inline(always)]
     pub fn claim(&self, worker: &mut Worker<K>, process: usize) -> Claim<K>
         requires worker { IsIdleAt self.now worker.old }
         requires range { process < process_count self.now }
@@ -61,6 +63,7 @@ impl<K: Component> Floor<K> {
     }
 
     /// The process is ready again.
+    #[inline(always)]
     pub fn hand_back(&self, worker: &mut Worker<K>, held: Held<K>)
         requires { IsHeldAt K.rules self.now worker.old held }
         ensures idle { IsIdleAt self.now worker.new }
@@ -83,6 +86,7 @@ impl<K: Component> Floor<K> {
     }
 
     /// The process is done: it is over and was told its end, or its last thought found no memory.
+    #[inline(always)]
     pub fn retire(&self, worker: &mut Worker<K>, held: Held<K>, over: Over)
         requires held { IsHeldAt K.rules self.now worker.old held }
         requires over { IsOverAs over held }
@@ -109,6 +113,7 @@ impl<K: Component> Floor<K> {
     }
 
     /// The process is parked, unless it was poked since it was claimed. Then it is ready again.
+    #[inline(always)]
     pub fn park(&self, worker: &mut Worker<K>, held: Held<K>)
         requires held { IsHeldAt K.rules self.now worker.old held }
         requires blocked { IsStuckAt self.now worker.old held }
@@ -183,6 +188,7 @@ impl<K: Component> Held<K> {
     }
 
     /// The body's think: does the pending work, if any, and takes the room of the next turn. It stays its worker's.
+    #[inline(always)]
     pub fn think<G: Gate>(&mut self, gate: &G) -> Thought
         requires { self.old.body.leaving ≡ None }
         ensures thinks { Thinks K.rules self.old.body result self.new.body }

@@ -30,6 +30,7 @@ pub(crate) enum Attempt {
 }
 
 /// Turns of the held process, so many at most, if it has one now. Those whom they made ready are pushed.
+#[inline(always)]
 fn make_burst<K: Component, G: Gate, R: Wait>(
     rt: &R,
     floor: &Floor<K>,
@@ -58,6 +59,7 @@ fn make_burst<K: Component, G: Gate, R: Wait>(
 }
 
 /// Has the held process think, and makes turns of it, so many at most, if it has one now.
+#[inline(always)]
 fn try_turns<K: Component, G: Gate, R: Wait>(
     rt: &R,
     floor: &Floor<K>,
@@ -94,6 +96,7 @@ fn try_turns<K: Component, G: Gate, R: Wait>(
 }
 
 /// Makes turns of the held process, no more than are left, while it has them. No run has more than `RUN_LIMIT`.
+#[inline(always)]
 fn work<K: Component, G: Gate, R: Wait>(
     rt: &R,
     floor: &Floor<K>,
@@ -130,6 +133,7 @@ fn work<K: Component, G: Gate, R: Wait>(
 }
 
 /// Lets the process go, as the last attempt asks for: blocked, it is parked; over, it is retired; else it is ready for the next worker.
+#[inline(always)]
 fn let_go<K: Component>(floor: &Floor<K>, worker: &mut Worker<K>, held: Held<K>, last: Attempt)
     requires held { IsHeldAt K.rules floor.now worker.old held }
     requires may { MayGo floor.now worker.old held last }
