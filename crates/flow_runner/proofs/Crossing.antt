@@ -28,7 +28,7 @@ use Rattle.flow_floor.specs.contracts.board.Slot as Slot
 use Rattle.flow_floor.specs.contracts.board.View as View
 use Rattle.flow_floor.specs.contracts.floor.Worker as Worker
 use Rattle.flow_floor.specs.contracts.roll.Roll as Roll
-use Rattle.flow_floor.specs.contracts.layout.Layout as Layout
+use Rattle.flow_ring.specs.contracts.layout.Layout as Layout
 use Rattle.flow_floor.specs.contracts.floor.Floor as Floor
 use Rattle.flow_runner.specs.contracts.line.Line as Line
 use Rattle.flow_runner.specs.contracts.line.LinePass as LinePass
