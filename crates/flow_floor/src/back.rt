@@ -40,7 +40,7 @@ fn take_back_bodies<K: Component>(
         let Slot::Body(body) = slot else {
             unreachable!()
         };
-        bodies.push_reserved(body);
+        bodies.push_reserved(body.into_body());
     }
     bodies
 }
@@ -140,7 +140,7 @@ fn spend<K: Component>(mut slots: Vec<Slot<K>>) {
     while let Some(slot) = slots.pop() {
         match slot {
             Slot::Vacant => {}
-            Slot::Body(body) => body.discard(),
+            Slot::Body(body) => body.into_body().discard(),
             Slot::Count(_) => {}
             Slot::Cell(found) => {
                 if let Some(packet) = found {

@@ -1,6 +1,7 @@
 //! The table that the workers share. In their order the words are the n processes', the m levels, the m gates, the clock and the live word; the layout
 //! says how far apart they lie. The slots are the n bodies, the m numbers of puts, the m numbers of takes, and the cells of each connection.
 
+use crate::rack::Rack;
 use atomic_table::TableRule;
 use flow_component::Component;
 use flow_machine::{Body, Net};
@@ -12,7 +13,7 @@ use std::snapshot::Snapshot;
 pub enum Slot<K: Component> {
     /// Nothing, while a worker has what lies there.
     Vacant,
-    Body(Body<K>),
+    Body(Rack<K>),
     /// How many packets were put, or taken.
     Count(u64),
     /// A cell, with the packet in it.

@@ -6,10 +6,11 @@ ghost use Rattle.flow_ring.specs.Places.{slot_count, word_count};
 ghost use Rattle.flow_floor.specs.Ends.{capacities_of};
 
 use crate::board::{Lawful, Slot, View};
+use crate::rack::Rack;
 use crate::roll::Roll;
 use atomic_table::{Seat, Table};
 use flow_component::Component;
-use flow_machine::{Block, Body, Net, Over};
+use flow_machine::{Block, Net, Over};
 use flow_packet::Packet;
 use flow_plan::Connection;
 use flow_ring::Layout;
@@ -41,7 +42,7 @@ pub struct Worker<K: Component> {
 
 /// A body that a worker claimed. It must be spent.
 pub struct Held<K: Component> {
-    pub(crate) body: Body<K>,
+    pub(crate) body: Rack<K>,
     pub(crate) process: usize,
     /// Whether its last thought since the claim found no memory.
     pub(crate) starved: bool,

@@ -7,13 +7,14 @@ ghost use Rattle.flow_floor.specs.Laying.{AreLaid, AreSameBelow};
 ghost use Rattle.flow_machine.specs.Values.{net_of, BodyValue};
 
 use crate::board::Slot;
+use crate::rack::Rack;
 use flow_component::Component;
-use flow_machine::{Body, Channel};
+use flow_machine::Channel;
 use flow_ring::Layout;
 use std::mem;
 
 /// Puts the bodies into slots.
-fn put_bodies<K: Component>(bodies: Vec<Body<K>>, mut slots: Vec<Slot<K>>) -> Vec<Slot<K>>
+fn put_bodies<K: Component>(bodies: Vec<Rack<K>>, mut slots: Vec<Slot<K>>) -> Vec<Slot<K>>
     requires room { length slots.items + length bodies.items ≤ vec_capacity slots }
     ensures items { result.items ≡ slots.items ++ map Slot.Body bodies.items }
     ensures room { vec_capacity result ≡ vec_capacity slots }
@@ -116,7 +117,7 @@ fn lay_all_packets<K: Component>(
 /// Puts the bodies into slots, and for each connection its numbers and its cells, which are empty.
 fn put_all<K: Component>(
     layout: &Layout,
-    bodies: Vec<Body<K>>,
+    bodies: Vec<Rack<K>>,
     channels: &[Channel],
     slots: Vec<Slot<K>>,
 ) -> Vec<Slot<K>>
@@ -136,7 +137,7 @@ fn put_all<K: Component>(
 /// The slots at the start, and the connections without their packets.
 pub(crate) fn first_slots<K: Component>(
     layout: &Layout,
-    bodies: Vec<Body<K>>,
+    bodies: Vec<Rack<K>>,
     channels: Vec<Channel>,
     slots: Vec<Slot<K>>,
 ) -> (Vec<Slot<K>>, Vec<Channel>)

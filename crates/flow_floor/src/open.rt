@@ -1,6 +1,8 @@
 //! How a floor is opened.
 ghost use Rattle.std.specs.Prelude.{◌≡◌, ◌+◌, ◌≤◌, [], length, All, IfOk, IfErr, vec_capacity};
 ghost use Rattle.flow_limits.specs.declared.TheConstants.{CONNECTION_LIMIT, WORKER_LIMIT};
+ghost use Rattle.flow_machine.specs.Joins.{Joins};
+ghost use Rattle.flow_machine.specs.Values.{net_with};
 ghost use Rattle.flow_floor.specs.Ends.{capacities_of};
 ghost use Rattle.flow_ring.specs.Places.{slot_count};
 ghost use Rattle.flow_floor.specs.Opening.{AreSound, FirstWords};
@@ -10,12 +12,14 @@ use crate::back::join_again;
 use crate::board::Slot;
 use crate::floor::{Floor, Worker};
 use crate::lays::first_slots;
+use crate::rack::{Rack, racked};
 use crate::roll::Roll;
 use crate::rooms::Rooms;
 use crate::words::first_words;
 use atomic_table::Table;
 use flow_component::Component;
-use flow_machine::{Body, Net, Parts};
+use flow_machine::{Body, Channel, Net, Parts};
+use flow_plan::Connection;
 use flow_ring::Layout;
 use std::alloc::{AllocError, Global};
 use std::snapshot::Snapshot;
@@ -86,6 +90,7 @@ struct Laid<K: Component> {
     rolls: (Roll, Vec<Roll>),
     starved: Vec<u32>,
     bodies: Vec<Body<K>>,
+    racks: Vec<Rack<K>>,
     slots: Vec<Slot<K>>,
 }
 
@@ -100,6 +105,7 @@ fn lay<K: Component>(alloc: Global, net: &Net<K>, workers: u32) -> Result<Laid<K
     ensures rolls { IfOk result (λ l. length l.rolls.1.items + 1 ≡ workers) }
     ensures starved { IfOk result (λ l. (length l.starved.items ≡ 0) × (length net.now.bodies ≤ vec_capacity l.starved)) }
     ensures bodies { IfOk result (λ l. (length l.bodies.items ≡ 0) × (length net.now.bodies ≤ vec_capacity l.bodies)) }
+    ensures racks { IfOk result (λ l. (l.racks.items ≡ []) × (length net.now.bodies ≤ vec_capacity l.racks)) }
     ensures slots { IfOk result (λ l. (l.slots.items ≡ []) × (slot_count l.layout.processes l.layout.capacities.items ≤ vec_capacity l.slots)) }
 {
     let layout = layout_of(alloc, net)?;
@@ -108,8 +114,13 @@ fn lay<K: Component>(alloc: Global, net: &Net<K>, workers: u32) -> Result<Laid<K
     let rolls = rolls(alloc, workers)?;
     let starved = Vec::with_capacity(alloc, layout.processes)?;
     let bodies = Vec::with_capacity(alloc, layout.processes)?;
+    let Ok(racks) = Vec::with_capacity(alloc, layout.processes) else {
+        bodies.destroy_empty();
+        return Err(AllocError);
+    };
     let Ok(slots) = Vec::with_capacity(alloc, layout.slots()) else {
         bodies.destroy_empty();
+        racks.destroy_empty();
         return Err(AllocError);
     };
     Ok(Laid {
@@ -119,11 +130,32 @@ fn lay<K: Component>(alloc: Global, net: &Net<K>, workers: u32) -> Result<Laid<K
         rolls,
         starved,
         bodies,
+        racks,
         slots,
     })
 }
 
-/// A floor of a net for which all was taken.
+/// A net whose bodies found no memory for the heap, put together again.
+fn unopened<K: Component>(
+    plan: Vec<Connection>,
+    bodies: Vec<Body<K>>,
+    channels: Vec<Channel>,
+    slots: Vec<Slot<K>>,
+) -> OpenStop<K>
+    requires joins { Joins K.rules (net_with plan.items bodies.items channels.items) }
+    requires slots { slots.items ≡ [] }
+    ensures { result.net ≡ net_with plan.items bodies.items channels.items }
+{
+    slots.destroy_empty();
+    let parts = Parts {
+        connections: plan,
+        bodies,
+        channels,
+    };
+    OpenStop { net: parts.join() }
+}
+
+/// A floor of a net for which all but the bodies' places on the heap was taken.
 fn begin<K: Component>(
     alloc: Global,
     net: Net<K>,
@@ -140,6 +172,7 @@ fn begin<K: Component>(
     requires rolls { length laid.rolls.1.items + 1 ≡ workers }
     requires starved { (length laid.starved.items ≡ 0) × (length net.bodies ≤ vec_capacity laid.starved) }
     requires bodies { (length laid.bodies.items ≡ 0) × (length net.bodies ≤ vec_capacity laid.bodies) }
+    requires racks { (laid.racks.items ≡ []) × (length net.bodies ≤ vec_capacity laid.racks) }
     requires slots { (laid.slots.items ≡ []) × (slot_count laid.layout.processes laid.layout.capacities.items ≤ vec_capacity laid.slots) }
     ensures opened { IfOk result (λ o. opened_net o.floor ≡ net) }
     ensures crew { IfOk result (λ o. IsCrewOf o.floor o.workers.items × (length o.workers.items ≡ workers)) }
@@ -154,6 +187,7 @@ fn begin<K: Component>(
         rolls: (woken, others),
         starved,
         bodies: room,
+        racks,
         slots,
     } = laid;
     let about = Snapshot::of(&net);
@@ -162,7 +196,11 @@ fn begin<K: Component>(
         channels,
         connections: plan,
     } = net.split();
-    let (slots, channels) = first_slots(&layout, bodies, channels, slots);
+    let (racks, room) = match racked(alloc, bodies, racks, room) {
+        Ok(both) => both,
+        Err(bodies) => return Err(unopened(plan, bodies, channels, slots)),
+    };
+    let (slots, channels) = first_slots(&layout, racks, channels, slots);
     let rooms = Rooms {
         bodies: room,
         channels,

@@ -45,7 +45,7 @@ fn take_bodies<K: Component>(
         let Slot::Body(body) = slot else {
             unreachable!()
         };
-        bodies.push_reserved(body);
+        bodies.push_reserved(body.into_body());
     }
     bodies
 }

@@ -25,8 +25,8 @@ use Rattle.flow_plan.specs.contracts.plan.Connection as Connection
 use Rattle.flow_machine.specs.contracts.inlet.Inlet as Inlet
 use Rattle.flow_machine.specs.contracts.body.Body as Body
 use Rattle.flow_floor.specs.contracts.board.Slot as Slot
-use Rattle.flow_floor.specs.contracts.board.View as View
 use Rattle.flow_floor.specs.contracts.floor.Worker as Worker
+use Rattle.flow_floor.specs.contracts.rack.Rack as Rack
 use Rattle.flow_floor.specs.contracts.roll.Roll as Roll
 use Rattle.flow_ring.specs.contracts.layout.Layout as Layout
 use Rattle.flow_floor.specs.contracts.floor.Floor as Floor
@@ -47,8 +47,12 @@ hands-send = search (sendable, crosses, packet-send) depth 20
 body-send : (K : RattleType) (g : Component.Ghosts K.Denot) → IsSend K → IsSend (Body.the_row K g)
 body-send K g s = search (sendable, crosses, inlet-send, hands-send) depth 40 fits 10000
 
+-- A body on the heap.
+rack-send : (K : RattleType) (g : Component.Ghosts K.Denot) → IsSend K → IsSend (Rack.the_row K g)
+rack-send K g s = search (sendable, crosses, body-send) depth 20
+
 slot-send : (K : RattleType) (g : Component.Ghosts K.Denot) → IsSend K → IsSend (Slot.the_row K g)
-slot-send K g s = search (sendable, body-send, packet-send) depth 20
+slot-send K g s = search (sendable, rack-send, packet-send) depth 20
 
 -- A list of processes.
 roll-send : IsSend Roll.the_row

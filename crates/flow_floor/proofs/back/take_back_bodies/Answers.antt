@@ -26,7 +26,7 @@ loop-p-preserved g c =
     let p = c.loop-p.p in
     let xs = c.loop-p.slots.items in
     let bs = c.args.about.now.value.bodies in
-    let same : c.in-Body.body ≡ b.0 = body-is c.replace-slot.result c.in-Body.body b.0 c.in-Body.is (c.replace-slot.ensures.value ∙ found-of g all.After-index_mut b.0 b.1) in
+    let same : c.into_body.result ≡ b.0 = c.into_body.ensures ∙ body-is c.replace-slot.result c.in-Body.body b.0 c.in-Body.is (c.replace-slot.ensures.value ∙ found-of g all.After-index_mut b.0 b.1) in
     record {
       bodies = c.push_reserved.ensures.items ∙ (λ j. inv.bodies j ++ same j ∷ []) ∙ take-next bs p b.0 b.1 ∙ ap (λ n. take n bs) (let e : suc p ≡ p + 1 = omega arith in e);
       others = λ x high. set_else xs p x c.replace-slot.new.dest (λ e. omega (arith, e, high)) ∙ inv.others x (omega (arith, high));

@@ -1,4 +1,4 @@
-use Rattle.std.proofs.Common.{◌+◌, false, get_or, set, sym, ap, ◌∙◌, arith, get_or-set_same, get_or-set_other, subst}
+use Rattle.std.proofs.Common.{◌+◌, ◌++◌, ◌∷◌, [], false, get_or, set, sym, ap, ◌∙◌, arith, get_or-set_same, get_or-set_other, subst}
 use mathlib.Core.Logic.{dite}
 use native.Mathlib.Decide.{ℕ_discrete}
 use mathlib.Core.Option.{some, some-injective}
@@ -29,7 +29,7 @@ loop-p-preserved g c =
       left = λ q low high. ap (λ fs. get_or fs q false) h.1 ∙ (get_or-set_other fs₀ p q false false (λ e. omega (arith, e, low)) ∙ inv.left q (omega (arith, low)) (omega (arith, high, ap (λ s. s) h.2)));
       room = omega (arith, inv.room, c.push_reserved.ensures.capacity);
       count = c.push_reserved.ensures.len ∙ ap (λ n. n + 1) inv.count;
-      made = subst (λ bs. BodiesIn (p + 1) (slots_items c.args.closed.now.slots) bs) (sym c.push_reserved.ensures.items)
+      made = subst (λ bs. BodiesIn (p + 1) (slots_items c.args.closed.now.slots) bs) (sym (c.push_reserved.ensures.items ∙ (λ j. c.loop-p.bodies.items ++ c.into_body.ensures j ∷ [])))
           (bodies-more p (slots_items c.args.closed.now.slots) c.loop-p.bodies.items c.in-Body.body inv.made (ap (λ xs. get_elem? xs p) (sym inv.same) ∙ c.take-slot.ensures.value ∙ ap (λ s. some s) c.in-Body.is));
     }
 
