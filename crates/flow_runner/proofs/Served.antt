@@ -1,5 +1,5 @@
 -- What workers who served came to, each by itself and together.
-use Rattle.std.proofs.Common.{◌≡◌, ℕ, zero, suc, ◌<◌, List, [], ◌∷◌, ◌++◌, All, refl, length, get_or, map, ap, subst, ◌∙◌, arith, inl, inr, Option, Some, None, sym}
+use Rattle.std.proofs.Common.{◌≡◌, ℕ, zero, suc, ◌<◌, List, [], ◌∷◌, ◌++◌, All, refl, length, get_or, ap, subst, ◌∙◌, arith, inl, inr, Option, Some, None, sym}
 use Rattle.std.proofs.lemmas.List.{length-map}
 use Rattle.flow_floor.specs.declared.floor.Floor.{Floor}
 use Rattle.flow_floor.specs.declared.floor.Worker.{Worker}

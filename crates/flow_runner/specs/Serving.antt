@@ -1,10 +1,11 @@
 -- What a worker that serves a line has done: what it asked for is what it popped, and what it made ready is what it pushed.
-use Rattle.std.specs.Prelude.{◌≡◌, ℕ, List, ◌++◌, map, Option, Some, None}
+use Rattle.std.specs.Prelude.{◌≡◌, ℕ, ◌<◌, List, ◌++◌, All, map, Option, Some, None}
 use Rattle.flow_floor.specs.declared.floor.Floor.{Floor}
 use Rattle.flow_floor.specs.declared.floor.Worker.{Worker}
 use Rattle.flow_floor.specs.Floors.{asked_of, readied_of, process_count, HasReadZero, IsIdleAt}
 use Rattle.flow_runner.specs.declared.line.Line.{Line}
 use Rattle.flow_runner.specs.declared.line.LinePass.{LinePass}
+use Rattle.flow_runner.specs.declared.readied.Unpushed.{Unpushed}
 use Rattle.flow_runner.specs.declared.server.Server.{Server}
 use Rattle.flow_runner.specs.Attempts.{HasMade, HasSpent}
 use Rattle.flow_runner.specs.Lines.{line_room, parts_of, pops_of, pushes_of, IsPassAt}
@@ -14,6 +15,14 @@ pub record GrowAlike (xs xs' ys ys' : List ℕ) : Type 0 where
   pub more : List ℕ
   pub first : xs' ≡ xs ++ more
   pub second : ys' ≡ ys ++ more
+
+-- The processes that a worker made ready and hasn't pushed yet, in order.
+abbrev pub names_of : Unpushed → List ℕ
+names_of unpushed = unpushed.names.items
+
+-- All these may stand in the line.
+abbrev pub MayStandIn : Line → List ℕ → Type 0
+MayStandIn line names = All (λ q. q < line_room line) names
 
 -- The pass is still the line's, and the same part of it.
 abbrev pub KeepsPass : Line → LinePass → LinePass → Type 0
@@ -35,6 +44,15 @@ module _ {K : Type 0} where
     pub pass : KeepsPass line p p'
     pub popped : pops_of p' ≡ pops_of p
     pub readied : GrowAlike (readied_of w) (readied_of w') (pushes_of p) (pushes_of p')
+
+  -- It popped nothing. What it hadn't pushed before, and then what it made ready meanwhile, it pushed, in order, but for the last of them, which it hasn't
+  -- pushed now.
+  pub record PushesBut (line : Line) (w : Worker K) (p : LinePass) (left : List ℕ) (w' : Worker K) (p' : LinePass) (left' : List ℕ) : Type 0 where
+    pub pass : KeepsPass line p p'
+    pub popped : pops_of p' ≡ pops_of p
+    pub more : List ℕ
+    pub readied : readied_of w' ≡ readied_of w ++ more
+    pub pushed : pushes_of p' ++ left' ≡ (pushes_of p ++ left) ++ more
 
   -- A worker has served: it has read 0; or it has made all turns that it was to make, where that is a number. It made no more.
   abbrev pub HasServed : Option ℕ → Worker K → Worker K → Type 0

@@ -1,13 +1,36 @@
 //! How a worker tells the line whom it made ready.
 ghost use Rattle.flow_floor.specs.Floors.{woken_of};
 ghost use Rattle.flow_runner.specs.Lines.{IsPassAt, line_room, pops_of, pushes_of};
-ghost use Rattle.flow_runner.specs.Serving.{KeepsPass};
+ghost use Rattle.flow_runner.specs.Serving.{names_of, KeepsPass, MayStandIn};
 ghost use Rattle.std.specs.Prelude.{◌≡◌, ◌<◌, ◌++◌, [], ◌∷◌, All};
 
 use crate::line::{Line, LinePass};
+use arrayvec::ArrayVec;
 use flow_component::Component;
 use flow_floor::Worker;
 use std::sync::Wait;
+
+/// After so many turns of one process those are pushed whom they made ready. Were each pushed at once, another worker would claim it for a packet or two,
+/// where the process that is held sends to several by turns.
+const PUSHED_AFTER: u32 = 20;
+
+/// The processes that a worker made ready and hasn't pushed yet, in order, and how many turns of the process that it holds it made since it pushed any.
+#[derive(Drop)]
+pub(crate) struct Unpushed {
+    names: ArrayVec<u32, 32>,
+    turns: u32,
+}
+
+impl Unpushed {
+    pub(crate) fn none() -> Unpushed
+        ensures { names_of result ≡ [] }
+    {
+        Unpushed {
+            names: ArrayVec::new(),
+            turns: 0,
+        }
+    }
+}
 
 /// Pushes the process, again and again until it is in the line.
 pub(crate) fn push_surely<R: Wait>(rt: &R, line: &Line, pass: &mut LinePass, process: u32)
@@ -41,5 +64,55 @@ pub(crate) fn push_woken<K: Component, R: Wait>(
     let woken = worker.woken();
     for i in 0..woken.len() {
         push_surely(rt, line, pass, woken[i]);
+    }
+}
+
+/// Pushes all those who weren't pushed yet.
+pub(crate) fn push_all<R: Wait>(rt: &R, line: &Line, pass: &mut LinePass, unpushed: &mut Unpushed)
+    requires pass { IsPassAt line.now pass.old }
+    requires below { MayStandIn line.now (names_of unpushed.old) }
+    ensures pass { KeepsPass line.now pass.old pass.new }
+    ensures pushed { pushes_of pass.new ≡ pushes_of pass.old ++ names_of unpushed.old }
+    ensures popped { pops_of pass.new ≡ pops_of pass.old }
+    ensures none { names_of unpushed.new ≡ [] }
+{
+    let names = unpushed.names.as_slice();
+    for i in 0..names.len() {
+        push_surely(rt, line, pass, names[i]);
+    }
+    unpushed.names.clear();
+    unpushed.turns = 0;
+}
+
+/// Keeps those whom the worker's last call made ready, which made so many turns, behind those who weren't pushed yet. Where that is due, or there is no room
+/// for them, all are pushed.
+pub(crate) fn keep_woken<K: Component, R: Wait>(
+    rt: &R,
+    line: &Line,
+    worker: &Worker<K>,
+    pass: &mut LinePass,
+    unpushed: &mut Unpushed,
+    made: u32,
+)
+    requires pass { IsPassAt line.now pass.old }
+    requires below { MayStandIn line.now (names_of unpushed.old) }
+    requires woken { MayStandIn line.now (woken_of worker.now) }
+    ensures pass { KeepsPass line.now pass.old pass.new }
+    ensures pushed { pushes_of pass.new ++ names_of unpushed.new ≡ (pushes_of pass.old ++ names_of unpushed.old) ++ woken_of worker.now }
+    ensures popped { pops_of pass.new ≡ pops_of pass.old }
+    ensures below { MayStandIn line.now (names_of unpushed.new) }
+{
+    unpushed.turns = unpushed.turns.saturating_add(made);
+    if unpushed
+        .names
+        .try_extend_from_slice(worker.woken())
+        .is_err()
+    {
+        push_all(rt, line, pass, unpushed);
+        push_woken(rt, line, worker, pass);
+        return;
+    }
+    if unpushed.turns >= PUSHED_AFTER {
+        push_all(rt, line, pass, unpushed);
     }
 }

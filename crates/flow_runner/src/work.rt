@@ -3,11 +3,11 @@ ghost use Rattle.flow_floor.specs.Floors.{BurstsAt, IsHeldAt, IsIdleAt, IsSameWo
 ghost use Rattle.flow_machine.specs.Thoughts.{IsSet, PassesFirst};
 ghost use Rattle.flow_runner.specs.Attempts.{Adds, MayGo, Spends};
 ghost use Rattle.flow_runner.specs.Lines.{IsPassAt};
-ghost use Rattle.flow_runner.specs.Serving.{IsLineFor, Pushes};
+ghost use Rattle.flow_runner.specs.Serving.{names_of, IsLineFor, MayStandIn, Pushes, PushesBut};
 ghost use Rattle.std.specs.Prelude.{◌≡◌, ◌<◌, ◌≤◌, ◌++◌, [], ◌∷◌};
 
 use crate::line::{Line, LinePass};
-use crate::readied::push_woken;
+use crate::readied::{Unpushed, keep_woken, push_all, push_woken};
 use flow_component::{Component, Gate};
 use flow_floor::{Burst, Claim, Floor, Held, Worker};
 use flow_limits::RUN_LIMIT;
@@ -29,7 +29,7 @@ pub(crate) enum Attempt {
     Over(Over),
 }
 
-/// Turns of the held process, so many at most, if it has one now. Those whom they made ready are pushed.
+/// Turns of the held process, so many at most, if it has one now. Those whom they made ready are pushed soon.
 #[inline(always)]
 fn make_burst<K: Component, G: Gate, R: Wait>(
     rt: &R,
@@ -37,6 +37,7 @@ fn make_burst<K: Component, G: Gate, R: Wait>(
     line: &Line,
     worker: &mut Worker<K>,
     pass: &mut LinePass,
+    unpushed: &mut Unpushed,
     held: &mut Held<K>,
     gate: &G,
     most: u32,
@@ -47,14 +48,20 @@ fn make_burst<K: Component, G: Gate, R: Wait>(
     requires set { IsSet held.old.body }
     requires line { IsLineFor floor.now line.now }
     requires pass { IsPassAt line.now pass.old }
+    requires left { MayStandIn line.now (names_of unpushed.old) }
     ensures held { IsHeldAt K.rules floor.now worker.new held.new }
     ensures wired { IsWiredAt floor.now held.new }
     ensures burst { BurstsAt K.rules floor.now most held.old worker.old held.new worker.new result }
     ensures same { IsSameWorker worker.old worker.new }
-    ensures pushes { Pushes line.now worker.old pass.old worker.new pass.new }
+    ensures pushes { PushesBut line.now worker.old pass.old (names_of unpushed.old) worker.new pass.new (names_of unpushed.new) }
+    ensures left { MayStandIn line.now (names_of unpushed.new) }
 {
     let burst = floor.burst(worker, held, gate, most);
-    push_woken(rt, line, worker, pass);
+    let made = match &burst {
+        Burst::Made { first: _, count } => *count,
+        _ => 0,
+    };
+    keep_woken(rt, line, worker, pass, unpushed, made);
     burst
 }
 
@@ -66,6 +73,7 @@ fn try_turns<K: Component, G: Gate, R: Wait>(
     line: &Line,
     worker: &mut Worker<K>,
     pass: &mut LinePass,
+    unpushed: &mut Unpushed,
     held: &mut Held<K>,
     gate: &G,
     most: u32,
@@ -75,16 +83,20 @@ fn try_turns<K: Component, G: Gate, R: Wait>(
     requires wired { IsWiredAt floor.now held.old }
     requires line { IsLineFor floor.now line.now }
     requires pass { IsPassAt line.now pass.old }
+    requires left { MayStandIn line.now (names_of unpushed.old) }
     ensures held { IsHeldAt K.rules floor.now worker.new held.new }
     ensures wired { IsWiredAt floor.now held.new }
     ensures may { MayGo floor.now worker.new held.new result }
     ensures same { IsSameWorker worker.old worker.new }
     ensures adds { Adds most result (turns_of worker.old) (turns_of worker.new) }
     ensures passed { PassesFirst (G.has_passed gate.now) held.old.body }
-    ensures pushes { Pushes line.now worker.old pass.old worker.new pass.new }
+    ensures pushes { PushesBut line.now worker.old pass.old (names_of unpushed.old) worker.new pass.new (names_of unpushed.new) }
+    ensures left { MayStandIn line.now (names_of unpushed.new) }
 {
     match held.think(gate) {
-        Thought::Wishing => match make_burst(rt, floor, line, worker, pass, held, gate, most) {
+        Thought::Wishing => match make_burst(
+            rt, floor, line, worker, pass, unpushed, held, gate, most,
+        ) {
             Burst::Made { first: _, count } => Attempt::Made(count),
             Burst::Busy(_, _) => Attempt::Busy,
             Burst::Blocked(_, _) => Attempt::Blocked,
@@ -103,6 +115,7 @@ fn work<K: Component, G: Gate, R: Wait>(
     line: &Line,
     worker: &mut Worker<K>,
     pass: &mut LinePass,
+    unpushed: &mut Unpushed,
     held: &mut Held<K>,
     gate: &G,
     left: &mut u64,
@@ -111,18 +124,20 @@ fn work<K: Component, G: Gate, R: Wait>(
     requires wired { IsWiredAt floor.now held.old }
     requires line { IsLineFor floor.now line.now }
     requires pass { IsPassAt line.now pass.old }
+    requires left { MayStandIn line.now (names_of unpushed.old) }
     ensures held { IsHeldAt K.rules floor.now worker.new held.new }
     ensures may { MayGo floor.now worker.new held.new result }
     ensures same { IsSameWorker worker.old worker.new }
     ensures spends { Spends (turns_of worker.old) left.old (turns_of worker.new) left.new }
-    ensures pushes { Pushes line.now worker.old pass.old worker.new pass.new }
+    ensures pushes { PushesBut line.now worker.old pass.old (names_of unpushed.old) worker.new pass.new (names_of unpushed.new) }
+    ensures left { MayStandIn line.now (names_of unpushed.new) }
 {
     for _burst in 0..RUN_LIMIT {
         if *left == 0 {
             return Attempt::Made(0);
         }
         let most = (*left).min(BURST_LIMIT) as u32;
-        match try_turns(rt, floor, line, worker, pass, held, gate, most) {
+        match try_turns(rt, floor, line, worker, pass, unpushed, held, gate, most) {
             Attempt::Made(count) => *left -= count as u64,
             Attempt::Busy => return Attempt::Busy,
             Attempt::Blocked => return Attempt::Blocked,
@@ -173,9 +188,21 @@ pub(crate) fn tend<K: Component, G: Gate, R: Wait>(
 {
     match floor.claim(worker, process) {
         Claim::Held(mut held) => {
-            let last = work(rt, floor, line, worker, pass, &mut held, gate, left);
+            let mut unpushed = Unpushed::none();
+            let last = work(
+                rt,
+                floor,
+                line,
+                worker,
+                pass,
+                &mut unpushed,
+                &mut held,
+                gate,
+                left,
+            );
             let waits = matches!(&last, Attempt::Busy);
             let_go(floor, worker, held, last);
+            push_all(rt, line, pass, &mut unpushed);
             push_woken(rt, line, worker, pass);
             !waits
         }

@@ -1,6 +1,5 @@
 use denote.Param.Send.{sendable}
-use Rattle.std.proofs.Common.{◌<◌, length, get_or, arith, ap, sym, subst}
-use Rattle.std.proofs.lemmas.List.{length-map}
+use Rattle.std.proofs.Common.{◌<◌, length, get_or, arith, ap}
 use Rattle.flow_floor.proofs.Crews.{crew-each}
 use Rattle.flow_floor.specs.Floors.{IsIdleAt, HasSameShare}
 use Rattle.flow_runner.specs.Serving.{HasServed, workers_at}

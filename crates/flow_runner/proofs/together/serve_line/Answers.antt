@@ -1,4 +1,4 @@
-use Rattle.std.proofs.Common.{◌∙◌, All, length, length-append, rules, sym, ap, subst}
+use Rattle.std.proofs.Common.{◌∙◌, All, length, rules, sym, ap, subst}
 use Rattle.flow_floor.specs.Floors.{IsCrewOf, IsNewWorker}
 use Rattle.flow_runner.specs.Serving.{HasDone, IsAtLine, workers_at}
 use Rattle.flow_runner.proofs.Crews.{written}

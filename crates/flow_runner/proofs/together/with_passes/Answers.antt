@@ -1,4 +1,4 @@
-use Rattle.std.proofs.Common.{◌∙◌, ◌++◌, ◌∷◌, [], All, sym, ap, subst, arith, length, length-append, append-nil}
+use Rattle.std.proofs.Common.{◌∙◌, ◌++◌, ◌∷◌, [], All, sym, ap, subst, arith, length, length-append}
 use Rattle.std.specs.Vec.Iter.{into_iter_items}
 use Rattle.flow_floor.proofs.Lists.{one-more, All-front, All-last}
 use Rattle.flow_floor.proofs.Crews.{all-push}
